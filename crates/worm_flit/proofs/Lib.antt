@@ -1,0 +1,4 @@
+pub mod Packets
+pub mod Worming
+pub mod Owners
+pub mod Packed

@@ -1,0 +1,6 @@
+pub mod Kinds
+pub mod Stamps
+pub mod Packets
+pub mod Worms
+pub mod Channels
+pub mod Packing
