@@ -1,0 +1,9 @@
+pub mod Legs
+pub mod Onward
+pub mod Track
+pub mod PlaceLemmas
+pub mod DigitCrossing
+pub mod CrossingLemmas
+pub mod MachineLemmas
+pub mod LaneSteps
+mod Worked

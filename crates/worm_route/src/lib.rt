@@ -1,0 +1,68 @@
+//! Dimension-order routing on a k-ary n-mesh (Dally and Towles, chapter 8): the lowest dimension in which a node differs from
+//! the destination is corrected first, so a route depends on its source and destination alone, and is as short as any.
+//!
+//! One idea carries it: a route is one list of addresses, written leg by leg, and the code's single hop is shown to walk it.
+//! From the route come the places of a lane, that is of the flits from one source to one destination: the buffers and links
+//! that they pass, from the sink back; and the lane machine, the list of all its flits with a cut between each two places, of
+//! which a hop raises one cut. What a link has to know, whether a route crosses it, is a test by digits that is true exactly
+//! where the route has that hop.
+//!
+//! A route's list is never made in the code. Adaptive and randomized routing stand nowhere here, nor do channels or flits.
+#![tactic(auto)]
+
+ghost use Rattle.std.specs.Prelude.{ℕ, true, ◌≡◌, ◌≢◌, ◌+◌, ◌*◌, ◌<◌, ◌≤◌, ◌↔◌, List, length};
+ghost use Rattle.worm_mesh.specs.Address.{IsMesh, node_count};
+ghost use Rattle.worm_route.specs.Crossing.{Follows, crosses};
+ghost use Rattle.worm_route.specs.Places.{ArePlaces, places_of};
+ghost use Rattle.worm_route.specs.Route.{LeadsOn, hops_of, port_of, route_of, walk};
+
+use worm_mesh::Mesh;
+
+/// The port by which the route to `dst` leaves `here`: `2d` is the minus side of dimension `d`, `2d + 1` its plus side. At
+/// `dst` itself it is the terminal, twice the number of dimensions. Both are nodes of the mesh.
+pub fn next_port(mesh: &Mesh, here: u8, dst: u8) -> u8
+    requires here_in { here < node_count mesh.now }
+    requires dst_in { dst < node_count mesh.now }
+    ensures value { result ≡ port_of mesh.now here dst }
+    ensures port { result ≤ 2 * length mesh.now }
+    ensures arrived { here ≡ dst → result ≡ 2 * length mesh.now }
+    ensures onward { here ≢ dst → LeadsOn mesh.now here result dst }
+{
+    for d in 0..mesh.dims() {
+        let at = mesh.digit(here, d);
+        let goal = mesh.digit(dst, d);
+        if at < goal {
+            return 2 * d + 1;
+        }
+        if at > goal {
+            return 2 * d;
+        }
+    }
+    2 * mesh.dims()
+}
+
+/// How many links the route from `src` to `dst` takes, 0 where they are one node: the sum of the distances of their digits.
+/// Both are nodes of the mesh.
+pub fn hops(mesh: &Mesh, src: u8, dst: u8) -> u8
+    requires src_in { src < node_count mesh.now }
+    requires dst_in { dst < node_count mesh.now }
+    ensures value { result ≡ hops_of mesh.now src dst }
+    ensures walked { walk mesh.now dst result src ≡ route_of mesh.now src dst }
+    ensures nodes { length (route_of mesh.now src dst) ≡ result + 1 }
+    ensures places { ArePlaces mesh.now src dst (places_of mesh.now src dst) }
+{
+    let mut hops = 0;
+    for d in 0..mesh.dims() {
+        hops += mesh.digit(src, d).abs_diff(mesh.digit(dst, d));
+    }
+    hops
+}
+
+/// A law, with nothing to run: the test whether a route crosses a link is true exactly where the route has the link's two nodes
+/// one after the other. It holds for each node and port, also for those that the mesh does not have.
+pub fn crossing_is_exact()
+    ensures { (ks : List ℕ) (node port src dst : ℕ) → IsMesh ks → src < node_count ks → dst < node_count ks → ((crosses ks node port src dst ≡ true) ↔ Follows ks node port src dst) }
+{}
+
+#[cfg(test)]
+mod tests;
