@@ -25,7 +25,7 @@ pub use packing::{pack, unpack};
 
 /// A source node, a destination node and a message class: whose flits arrive in the order in which they were
 /// offered, where the class owns one channel. The packets of a lane are numbered from 0.
-#[derive(Clone, Copy, Debug, PartialEq, Eq)]
+#[derive(Clone, Copy, Debug, PartialEq, Eq, PartialOrd, Ord)]
 pub struct Lane {
     /// The node whose source offers the packets.
     pub src: u8,

@@ -1,0 +1,196 @@
+//! The fields of a line, read from the left.
+
+ghost use Rattle.std.specs.Prelude.{◌≡◌, ◌<◌, ◌^◌, ◌↔◌, IsTrue, [], ◌∷◌, length, position, ◌==◌, MatchOption, Bool, true, false, Some, None, nat_le, if◌then◌else◌, List, ℕ};
+ghost use Rattle.worm_text.specs.Lines.{cut, space, fields_left};
+ghost use Rattle.worm_text.specs.Numerals.{is_digit, is_numeral, value_of, is_name, is_lower_or_digit};
+ghost use Rattle.std.specs.List.{list_all};
+ghost use Rattle.worm_text.specs.Reading.{Reads, Gives, number_at, name_at, word_at, key_at, no_more};
+
+use worm_core::Name;
+use crate::fault::Why;
+use crate::key::Key;
+use std::marker::Model;
+
+fn position_of(bytes: &[u8], end: u8) -> Option<usize>
+    ensures { result ≡ position (λ b. b == end) bytes.now }
+{
+    bytes.iter().position(|b| *b == end)
+}
+
+/// The bytes before the first `end`, and those after it.
+pub fn cut_first(bytes: &[u8], end: u8) -> Option<(&[u8], &[u8])>
+    ensures parts { MatchOption result (cut end bytes.now ≡ bytes.now ∷ []) (λ p. cut end bytes.now ≡ p.0.now ∷ cut end p.1.now) }
+    ensures shorter { MatchOption result (Unit {0}) (λ p. length p.1.now < length bytes.now) }
+{
+    match position_of(bytes, end) {
+        None => None,
+        Some(at) => Some((&bytes[..at], &bytes[at + 1..])),
+    }
+}
+
+fn are_digits(field: &[u8]) -> bool
+    ensures { result ≡ list_all is_digit field.now }
+{
+    field.iter().all(|b| *b >= b'0' && *b <= b'9')
+}
+
+/// Whether a field is `0`, or digits of which the first is not 0.
+pub fn is_number(field: &[u8]) -> bool
+    ensures { result ≡ is_numeral field.now }
+{
+    match field {
+        [] => false,
+        [first, others @ ..] => { are_digits(field) && (*first != b'0' || others.is_empty()) }
+    }
+}
+
+/// The value of digits, if it is at most `high`.
+pub fn value_within(digits: &[u8], high: u32) -> Option<u32>
+    requires { IsTrue (list_all is_digit digits.now) }
+    ensures { result ≡ (if nat_le (value_of digits.now) high then Some (value_of digits.now) else None) }
+{
+    let mut value: u64 = 0;
+    for digit in digits {
+        value = value * 10 + u64::from(*digit - b'0');
+        if value > u64::from(high) {
+            return None;
+        }
+    }
+    Some(value as u32)
+}
+
+fn is_name_text(field: &[u8]) -> bool
+    ensures { result ≡ is_name field.now }
+{
+    match field {
+        [] => false,
+        [first, others @ ..] => {
+            *first >= b'a' && *first <= b'z' && are_name_bytes(others) && others.len() <= 15
+        }
+    }
+}
+
+fn are_name_bytes(bytes: &[u8]) -> bool
+    ensures { result ≡ list_all is_lower_or_digit bytes.now }
+{
+    bytes
+        .iter()
+        .all(|b| *b >= b'a' && *b <= b'z' || *b >= b'0' && *b <= b'9')
+}
+
+/// The name that a field is, if it is one.
+pub fn name_of(field: &[u8]) -> Option<Name>
+    ensures { MatchOption result (is_name field.now ≡ false) (λ name. (is_name field.now ≡ true) × (name.bytes ≡ field.now)) }
+{
+    if !is_name_text(field) {
+        return None;
+    }
+    let mut name = Name::new();
+    for byte in field {
+        name.push(char::from(*byte));
+    }
+    Some(name)
+}
+
+/// The fields that are left of a line.
+#[derive(Drop)]
+pub struct Fields<'a> {
+    rest: Option<&'a [u8]>,
+}
+
+impl<'a> Model for Fields<'a> {
+    ghost Value = { List (List ℕ) };
+
+    ghost view = { λ s. fields_left s.rest };
+}
+
+impl<'a> Fields<'a> {
+    pub fn new(line: &'a [u8]) -> Self
+        ensures { result ≡ cut space line.now }
+    {
+        Fields { rest: Some(line) }
+    }
+
+    pub fn is_over(&self) -> bool
+        ensures { result ≡ (length self.now == 0) }
+    {
+        self.rest.is_none()
+    }
+
+    /// The next field.
+    pub fn next(&mut self) -> Option<&'a [u8]>
+        ensures { MatchOption result ((self.old ≡ []) × (self.new ≡ [])) (λ f. self.old ≡ f.now ∷ self.new) }
+    {
+        let rest = self.rest?;
+        match cut_first(rest, b' ') {
+            None => {
+                self.rest = None;
+                Some(rest)
+            }
+            Some((field, after)) => {
+                self.rest = Some(after);
+                Some(field)
+            }
+        }
+    }
+
+    /// A number from `low` to `high`.
+    pub fn number(&mut self, low: u32, high: u32) -> Result<u32, Why>
+        ensures { Reads (λ x. x) result self.new (number_at low high self.old) }
+    {
+        let Some(field) = self.next() else {
+            return Err(Why::Missing);
+        };
+        if !is_number(field) {
+            return Err(Why::Number);
+        }
+        match value_within(field, high) {
+            Some(value) if low <= value => Ok(value),
+            _ => Err(Why::Range),
+        }
+    }
+
+    /// A name.
+    pub fn name(&mut self) -> Result<Name, Why>
+        ensures { Reads (λ name. name.bytes) result self.new (name_at self.old) }
+    {
+        let Some(field) = self.next() else {
+            return Err(Why::Missing);
+        };
+        match name_of(field) {
+            Some(name) => Ok(name),
+            None => Err(Why::Name),
+        }
+    }
+
+    /// This word.
+    pub fn word(&mut self, word: &[u8]) -> Result<(), Why>
+        ensures { Gives (λ _. self.new) result (word_at word.now self.old) }
+    {
+        match self.next() {
+            None => Err(Why::Missing),
+            Some(field) if field == word => Ok(()),
+            Some(_) => Err(Why::UnknownWord),
+        }
+    }
+
+    /// The word that begins the line.
+    pub fn key(&mut self) -> Result<Key, Why>
+        ensures { Reads (λ x. x) result self.new (key_at self.old) }
+    {
+        let Some(field) = self.next() else {
+            return Err(Why::Missing);
+        };
+        Key::of(field).ok_or(Why::UnknownWord)
+    }
+
+    /// No further field.
+    pub fn end(&mut self) -> Result<(), Why>
+        ensures { Gives (λ _. []) result (no_more self.old) }
+    {
+        match self.next() {
+            None => Ok(()),
+            Some(_) => Err(Why::TooMany),
+        }
+    }
+}

@@ -1,0 +1,309 @@
+//! The text of the traffic, line by line.
+
+ghost use Rattle.std.specs.Prelude.{◌≡◌, ◌≤◌, ◌<◌, ◌-◌, ◌^◌, [], ◌∷◌, ◌==◌, length, MatchOption, position, Some, None, OnOk, IfOk, Ok, List, ◌||◌, All, map, false};
+ghost use Rattle.worm_text.specs.TrafficText.{AreEntries, traffic_text};
+ghost use Rattle.worm_text.specs.ScriptView.{said_of};
+ghost use Rattle.std.specs.Option.{option_map};
+ghost use Rattle.std.specs.Str.{bytes_eq};
+ghost use Rattle.std.specs.BTreeSet.{contains};
+ghost use Rattle.worm_text.specs.Reading.{Reads, Gives};
+ghost use Rattle.worm_text.specs.Network.{view, nodes_of, names_of, Keeps};
+ghost use Rattle.worm_text.specs.declared.format.Format.{Format};
+ghost use Rattle.worm_text.specs.Traffic.{Said, class_at, turn_at, lane_at, words_at, send_at, close_at, entry_at, is_closed, entry_view, said, same_lane, lane_cmp, closes, read_entries, traffic_of, AnswersOrFull};
+ghost use Rattle.worm_text.specs.Lines.{cut, space, newline};
+
+
+use crate::fault::{TextFault, Why};
+use crate::fields::{Fields, cut_first};
+use worm_core::{Act, Config, Entry, Name, Script};
+use worm_flit::{Lane, Packet};
+use arrayvec::ArrayVec;
+use std::alloc::{AllocError, Global};
+use std::collections::BTreeSet;
+
+fn place_of(name: &[u8], classes: &[Name]) -> Option<usize>
+    ensures { result ≡ position (λ c. bytes_eq c.bytes name.now) classes.now }
+{
+    classes
+        .iter()
+        .position(|class| class.as_str().as_bytes() == name)
+}
+
+#[tactic(auto, unfolding(crate::specs::Traffic::turn_at))]
+fn turn(last: u32, fields: &mut Fields<'_>) -> Result<u32, Why>
+    ensures { Reads (λ x. x) result fields.new (turn_at last fields.old) }
+{
+    let turn = fields.number(0, 1_000_000)?;
+    if turn < last {
+        return Err(Why::OrderOfTurns);
+    }
+    Ok(turn)
+}
+
+fn words(fields: &mut Fields<'_>) -> Result<ArrayVec<u32, 32>, Why>
+    ensures read { Gives (λ v. v.items) result (words_at [] fields.old) }
+    ensures some { IfOk result (λ v. 1 ≤ length v.items) }
+    ensures few { IfOk result (λ v. length v.items ≤ 32) }
+{
+    let mut words = ArrayVec::new();
+    while !fields.is_over() {
+        if words.is_full() {
+            return Err(Why::TooMany);
+        }
+        words.push(fields.number(0, u32::MAX)?);
+    }
+    if words.is_empty() {
+        return Err(Why::Missing);
+    }
+    Ok(words)
+}
+
+#[derive(Drop)]
+struct ClosedLanes {
+    lanes: BTreeSet<Lane>,
+}
+
+impl ClosedLanes {
+    fn new(alloc: Global) -> Self
+        ensures { (lane : Lane) → contains lane_cmp result.lanes lane ≡ false }
+    {
+        ClosedLanes {
+            lanes: BTreeSet::new(alloc),
+        }
+    }
+
+    fn contains(&self, lane: Lane) -> bool
+        ensures { result ≡ contains lane_cmp self.now.lanes lane }
+    {
+        self.lanes.contains(&lane)
+    }
+
+    fn add(&mut self, lane: Lane) -> Result<(), AllocError>
+        ensures added { OnOk result ((other : Lane) → contains lane_cmp self.new.lanes other ≡ (same_lane other lane || contains lane_cmp self.old.lanes other)) }
+    {
+        self.lanes.insert(lane)?;
+        Ok(())
+    }
+
+    /// The lane of a close entry is closed from then on.
+    fn note(&mut self, entry: &Entry) -> Result<(), AllocError>
+        ensures noted { OnOk result ((other : Lane) → contains lane_cmp self.new.lanes other ≡ (closes other (entry_view entry.now) || contains lane_cmp self.old.lanes other)) }
+    {
+        match &entry.act {
+            Act::Offer(_) => Ok(()),
+            Act::Close(lane) => self.add(*lane),
+        }
+    }
+}
+
+fn class(classes: &[Name], fields: &mut Fields<'_>) -> Result<u8, Why>
+    requires { length classes.now ≤ 4 }
+    ensures { Reads (λ x. x) result fields.new (class_at (names_of classes.now) fields.old) }
+{
+    let Some(name) = fields.next() else {
+        return Err(Why::Missing);
+    };
+    match place_of(name, classes) {
+        Some(at) => Ok(at as u8),
+        None => Err(Why::Name),
+    }
+}
+
+#[tactic(auto, unfolding(crate::specs::Traffic::lane_at))]
+fn lane(config: &Config, nodes: u32, fields: &mut Fields<'_>) -> Result<Lane, Why>
+    requires counted { nodes ≡ nodes_of config.now.radices.items }
+    requires some { 1 ≤ nodes }
+    requires few { nodes ≤ 256 }
+    ensures { Reads (λ x. x) result fields.new (lane_at (view config.now) fields.old) }
+{
+    let src = fields.number(0, nodes - 1)? as u8;
+    let dst = fields.number(0, nodes - 1)? as u8;
+    let class = class(config.classes.as_slice(), fields)?;
+    Ok(Lane { src, dst, class })
+}
+
+#[tactic(auto, unfolding(crate::specs::Traffic::send_at))]
+fn send(
+    config: &Config,
+    nodes: u32,
+    last: u32,
+    closed: &ClosedLanes,
+    fields: &mut Fields<'_>,
+) -> Result<Entry, Why>
+    requires counted { nodes ≡ nodes_of config.now.radices.items }
+    requires some { 1 ≤ nodes }
+    requires few { nodes ≤ 256 }
+    ensures { Gives entry_view result (send_at (view config.now) last (contains lane_cmp closed.now.lanes) fields.old) }
+{
+    let turn = turn(last, fields)?;
+    let lane = lane(config, nodes, fields)?;
+    if closed.contains(lane) {
+        return Err(Why::LaneClosed);
+    }
+    let words = words(fields)?;
+    match Packet::new(lane, words.as_slice()) {
+        Ok(packet) => Ok(Entry {
+            turn,
+            act: Act::Offer(packet),
+        }),
+        Err(_) => unreachable!(),
+    }
+}
+
+#[tactic(auto, unfolding(crate::specs::Traffic::close_at))]
+fn close(
+    config: &Config,
+    nodes: u32,
+    last: u32,
+    closed: &ClosedLanes,
+    fields: &mut Fields<'_>,
+) -> Result<Entry, Why>
+    requires counted { nodes ≡ nodes_of config.now.radices.items }
+    requires some { 1 ≤ nodes }
+    requires few { nodes ≤ 256 }
+    ensures { Gives entry_view result (close_at (view config.now) last (contains lane_cmp closed.now.lanes) fields.old) }
+{
+    let turn = turn(last, fields)?;
+    let lane = lane(config, nodes, fields)?;
+    if config.channels.as_slice().get(lane.class as usize).copied() != Some(1) {
+        return Err(Why::ManyChannels);
+    }
+    if closed.contains(lane) {
+        return Err(Why::LaneClosed);
+    }
+    fields.end()?;
+    Ok(Entry {
+        turn,
+        act: Act::Close(lane),
+    })
+}
+
+/// The entry that a line says, or none at the end line.
+#[tactic(auto, unfolding(crate::specs::Traffic::entry_at))]
+fn entry(
+    config: &Config,
+    nodes: u32,
+    count: usize,
+    last: u32,
+    closed: &ClosedLanes,
+    line: &[u8],
+) -> Result<Option<Entry>, Why>
+    requires counted { nodes ≡ nodes_of config.now.radices.items }
+    requires some { 1 ≤ nodes }
+    requires few { nodes ≤ 256 }
+    ensures { Gives (option_map entry_view) result (entry_at (view config.now) count last (contains lane_cmp closed.now.lanes) (cut space line.now)) }
+{
+    let mut fields = Fields::new(line);
+    let Some(word) = fields.next() else {
+        return Err(Why::Missing);
+    };
+    if word == b"send".as_slice() {
+        if count >= 10_000 {
+            return Err(Why::TooMany);
+        }
+        Ok(Some(send(config, nodes, last, closed, &mut fields)?))
+    } else if word == b"close".as_slice() {
+        if count >= 10_000 {
+            return Err(Why::TooMany);
+        }
+        Ok(Some(close(config, nodes, last, closed, &mut fields)?))
+    } else if word == b"end".as_slice() {
+        fields.end()?;
+        Ok(None)
+    } else {
+        Err(Why::UnknownWord)
+    }
+}
+
+fn node_count(radices: &[u8]) -> u32
+    requires each { All (λ k. 1 ≤ k) radices.now }
+    requires few { nodes_of radices.now ≤ 256 }
+    ensures { result ≡ nodes_of radices.now }
+{
+    let mut nodes = 1;
+    for radix in radices {
+        nodes *= u32::from(*radix);
+    }
+    nodes
+}
+
+fn read_entries(
+    alloc: Global,
+    rest: &[u8],
+    config: &Config,
+    nodes: u32,
+) -> Result<Script, TextFault>
+    requires counted { nodes ≡ nodes_of config.now.radices.items }
+    requires some { 1 ≤ nodes }
+    requires few { nodes ≤ 256 }
+    ensures { AnswersOrFull said_of result (read_entries (view config.now) [] 2 (cut newline rest.now)) }
+{
+    let mut script = Script::empty(alloc);
+    let mut closed = ClosedLanes::new(alloc);
+    let mut last = 0;
+    let mut line = 2;
+    let mut rest = rest;
+    while let Some((front, after)) = cut_first(rest, b'\n') {
+        match entry(config, nodes, script.entries().len(), last, &closed, front) {
+            Err(why) => return Err(TextFault { line, why }),
+            Ok(None) => {
+                return if after.is_empty() {
+                    Ok(script)
+                } else {
+                    Err(TextFault {
+                        line: line + 1,
+                        why: Why::AfterEnd,
+                    })
+                };
+            }
+            Ok(Some(entry)) => {
+                last = entry.turn;
+                if closed.note(&entry).is_err() || script.push(entry).is_err() {
+                    return Err(TextFault {
+                        line,
+                        why: Why::NoMemory,
+                    });
+                }
+            }
+        }
+        line += 1;
+        rest = after;
+    }
+    Err(TextFault {
+        line,
+        why: Why::NoEnd,
+    })
+}
+
+fn read_script(alloc: Global, bytes: &[u8], config: &Config) -> Result<Script, TextFault>
+    requires { (f : Format) × Keeps f (view config.now) }
+    ensures { AnswersOrFull said_of result (traffic_of (view config.now) bytes.now) }
+{
+    let nodes = node_count(config.radices.as_slice());
+    let Some((header, rest)) = cut_first(bytes, b'\n') else {
+        return Err(TextFault {
+            line: 1,
+            why: Why::NoEnd,
+        });
+    };
+    if header != b"wormtraffic 1".as_slice() {
+        return Err(TextFault {
+            line: 1,
+            why: Why::Header,
+        });
+    }
+    read_entries(alloc, rest, config, nodes)
+}
+
+/// Reads a traffic text for a network.
+pub fn read_traffic(alloc: Global, bytes: &[u8], config: &Config) -> Result<Script, TextFault>
+    requires { (f : Format) × Keeps f (view config.now) }
+    // What is read is the text of what is answered.
+    ensures found { IfOk result (λ script. AreEntries (view config.now) [] (said_of script) × (bytes.now ≡ traffic_text (view config.now) (said_of script))) }
+    // Each such text is read, unless memory runs out.
+    ensures only { (entries : List Said) → AreEntries (view config.now) [] entries → bytes.now ≡ traffic_text (view config.now) entries → AnswersOrFull said_of result (Ok entries) }
+    // Which fault it is.
+    ensures exact { AnswersOrFull said_of result (traffic_of (view config.now) bytes.now) }
+{
+    read_script(alloc, bytes, config)
+}
