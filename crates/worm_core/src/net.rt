@@ -1,3 +1,5 @@
+ghost use Rattle.std.specs.Prelude.{◌≤◌};
+
 use crate::config::Config;
 use crate::fault::{NetFault, OfferFault, StepFault};
 use crate::node::{Node, NodeSize};
@@ -78,7 +80,9 @@ impl Net {
     }
 
     /// The number of nodes.
-    pub fn nodes(&self) -> u16 {
+    pub fn nodes(&self) -> u16
+        ensures { result ≤ 256 }
+    {
         self.mesh.nodes()
     }
 

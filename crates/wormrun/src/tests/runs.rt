@@ -1,0 +1,259 @@
+use crate::fault::ProgramFault;
+use crate::joined::network_end;
+use crate::program::{run_alone, run_joined};
+use crate::reading::{MOST_BYTES, ReadFault, read_text};
+use crate::words::Options;
+use std::alloc::Global;
+use std::io;
+use std::io::Read;
+use std::process::Abort;
+use std::test::Fail;
+
+/// Two nodes, one class with one channel.
+const TWO_NODES: &[u8] = b"wormnet 1\nradix 2\ndims 1\ndepth 2\nclass data\nend\n";
+
+/// The same with buffers of one flit.
+const SHALLOW: &[u8] = b"wormnet 1\nradix 2\ndims 1\ndepth 1\nclass data\nend\n";
+
+const TWO_WORDS: &[u8] = b"wormtraffic 1\nsend 0 0 1 data 17 18\nend\n";
+
+/// Gives a number of bytes `x`.
+#[derive(Drop)]
+struct Crosses {
+    left: usize,
+}
+
+impl Read for Crosses {
+    fn read(&mut self, buf: &mut [u8]) -> io::Result<usize> {
+        let count = self.left.min(buf.len());
+        buf[..count].fill(b'x');
+        self.left -= count;
+        Ok(count)
+    }
+}
+
+/// Fails at its first read.
+#[derive(Drop)]
+struct Broken;
+
+impl Read for Broken {
+    fn read(&mut self, _buf: &mut [u8]) -> io::Result<usize> {
+        Err(io::Error::from(io::ErrorKind::Interrupted))
+    }
+}
+
+fn reports(
+    rt: &impl Abort,
+    alloc: Global,
+    network: &[u8],
+    traffic: &[u8],
+    options: (u64, u64),
+    wanted: &str,
+) {
+    let (turns, drain) = options;
+    let options = Options {
+        turns,
+        workers: 1,
+        drain,
+    };
+    let mut network = network;
+    let mut traffic = traffic;
+    let mut out = Vec::new(alloc);
+    let ran = run_alone(alloc, &mut network, &mut traffic, &options, &mut out);
+    assert!(rt; ran.is_ok());
+    assert_eq!(rt; out.as_slice(), wanted.as_bytes());
+}
+
+fn is_refused(
+    rt: &impl Abort,
+    alloc: Global,
+    network: &[u8],
+    traffic: &[u8],
+    status: u8,
+    line: &str,
+) -> Result<(), Fail> {
+    let options = Options {
+        turns: 1,
+        workers: 1,
+        drain: 0,
+    };
+    let mut network = network;
+    let mut traffic = traffic;
+    let mut out = Vec::new(alloc);
+    match run_alone(alloc, &mut network, &mut traffic, &options, &mut out) {
+        Ok(()) => panic!(rt; "not refused"),
+        Err(fault) => {
+            assert_eq!(rt; fault.status(), status);
+            assert_eq!(rt; format!(in alloc; "{fault}")?.as_str(), line);
+        }
+    }
+    assert!(rt; out.is_empty());
+    Ok(())
+}
+
+#[test]
+fn no_turn_offers_nothing(rt: HostRuntime) {
+    reports(
+        &rt,
+        rt.alloc(),
+        TWO_NODES,
+        TWO_WORDS,
+        (0, 0),
+        "wormreport 1\nturns 0 workers 1 drain 0\nnot offered 1\ntotal injected 0 delivered 0 underway 0\n",
+    );
+}
+
+#[test]
+fn the_first_flit_arrives_in_the_first_turn(rt: HostRuntime) {
+    reports(
+        &rt,
+        rt.alloc(),
+        TWO_NODES,
+        TWO_WORDS,
+        (1, 0),
+        "wormreport 1\nturns 1 workers 1 drain 0\ndelivered 1 from 0 class 0 packet 0 flit 0 word 17\nunderway 0 1 class 0 packet 0 flit 1 source\nnot offered 0\ntotal injected 2 delivered 1 underway 1\n",
+    );
+    reports(
+        &rt,
+        rt.alloc(),
+        TWO_NODES,
+        TWO_WORDS,
+        (1, 5),
+        "wormreport 1\nturns 1 workers 1 drain 5\ndelivered 1 from 0 class 0 packet 0 flit 0 word 17\ndelivered 1 from 0 class 0 packet 0 flit 1 word 18\nnot offered 0\ntotal injected 2 delivered 2 underway 0\n",
+    );
+}
+
+#[test]
+fn a_flit_waits_on_the_link_for_a_lower_node(rt: HostRuntime) {
+    reports(
+        &rt,
+        rt.alloc(),
+        TWO_NODES,
+        b"wormtraffic 1\nsend 0 1 0 data 17 18\nend\n",
+        (1, 0),
+        "wormreport 1\nturns 1 workers 1 drain 0\nunderway 1 0 class 0 packet 0 flit 0 link 1 0 0\nunderway 1 0 class 0 packet 0 flit 1 source\nnot offered 0\ntotal injected 2 delivered 0 underway 2\n",
+    );
+}
+
+#[test]
+fn four_words_pass_buffers_of_one_flit(rt: HostRuntime) {
+    reports(
+        &rt,
+        rt.alloc(),
+        SHALLOW,
+        b"wormtraffic 1\nsend 0 0 1 data 1 2 3 4\nend\n",
+        (4, 0),
+        "wormreport 1\nturns 4 workers 1 drain 0\ndelivered 1 from 0 class 0 packet 0 flit 0 word 1\ndelivered 1 from 0 class 0 packet 0 flit 1 word 2\ndelivered 1 from 0 class 0 packet 0 flit 2 word 3\ndelivered 1 from 0 class 0 packet 0 flit 3 word 4\nnot offered 0\ntotal injected 4 delivered 4 underway 0\n",
+    );
+}
+
+#[test]
+fn a_packet_for_its_own_node_arrives(rt: HostRuntime) {
+    reports(
+        &rt,
+        rt.alloc(),
+        TWO_NODES,
+        b"wormtraffic 1\nsend 0 1 1 data 5\nend\n",
+        (1, 0),
+        "wormreport 1\nturns 1 workers 1 drain 0\ndelivered 1 from 1 class 0 packet 0 flit 0 word 5\nnot offered 0\ntotal injected 1 delivered 1 underway 0\n",
+    );
+}
+
+#[test]
+fn faults_have_status_and_line(rt: HostRuntime) -> Result<(), Fail> {
+    let cut = &TWO_NODES[..TWO_NODES.len() - 1];
+    is_refused(
+        &rt,
+        rt.alloc(),
+        b"",
+        TWO_WORDS,
+        3,
+        "wormrun: network line 1: no end",
+    )?;
+    is_refused(
+        &rt,
+        rt.alloc(),
+        cut,
+        TWO_WORDS,
+        3,
+        "wormrun: network line 6: no end",
+    )?;
+    is_refused(
+        &rt,
+        rt.alloc(),
+        b"wormnet 1\nradix 2\ndims 1\ndepth 2\nclass data\nend\n\n",
+        TWO_WORDS,
+        3,
+        "wormrun: network line 7: after end",
+    )?;
+    is_refused(
+        &rt,
+        rt.alloc(),
+        TWO_NODES,
+        b"wormtraffic 1\nclose 0 0 1 data\nsend 0 0 1 data 5\nend\n",
+        4,
+        "wormrun: traffic line 3: lane closed",
+    )?;
+    is_refused(
+        &rt,
+        rt.alloc(),
+        TWO_NODES,
+        b"wormtraffic 1\nsend 0 0 2 data 1\nend\n",
+        4,
+        "wormrun: traffic line 2: range",
+    )?;
+    is_refused(
+        &rt,
+        rt.alloc(),
+        TWO_NODES,
+        b"wormtraffic 1\nrecv 0 0 1 data\nend\n",
+        4,
+        "wormrun: traffic line 2: unknown word",
+    )
+}
+
+#[test]
+fn readers_that_fail_give_nothing(rt: HostRuntime) {
+    let mut out = Vec::new(rt.alloc());
+    let ran = run_joined(rt.alloc(), &mut Broken, &mut out);
+    assert_eq!(rt; ran, Err(ProgramFault::ReadNetwork));
+    assert_eq!(rt; ProgramFault::ReadNetwork.status(), 5);
+    assert!(rt; out.is_empty());
+    match read_text(rt.alloc(), &mut Crosses { left: MOST_BYTES }) {
+        Ok(text) => assert_eq!(rt; text.len(), MOST_BYTES),
+        Err(fault) => panic!(rt; "{fault:?}"),
+    }
+    let mut long = Crosses {
+        left: MOST_BYTES + 1,
+    };
+    match read_text(rt.alloc(), &mut long) {
+        Err(ReadFault::Unreadable) => (),
+        _ => panic!(rt; "not refused"),
+    }
+}
+
+#[test]
+fn writers_that_fail_take_a_prefix(rt: HostRuntime) {
+    let mut room = [0u8; 20];
+    let options = Options {
+        turns: 0,
+        workers: 1,
+        drain: 0,
+    };
+    let mut network = TWO_NODES;
+    let mut traffic = TWO_WORDS;
+    let mut out = room.as_mut_slice();
+    let ran = run_alone(rt.alloc(), &mut network, &mut traffic, &options, &mut out);
+    assert_eq!(rt; ran, Err(ProgramFault::Write));
+    assert_eq!(rt; ProgramFault::Write.status(), 8);
+    assert_eq!(rt; room.as_slice(), b"wormreport 1\nturns 0".as_slice());
+}
+
+#[test]
+fn joined_texts_are_cut(rt: HostRuntime) {
+    assert_eq!(rt; network_end(b"a\nend\nb\nend\n"), 6);
+    assert_eq!(rt; network_end(b"end\nend\n"), 4);
+    assert_eq!(rt; network_end(b"a\nend \n"), 7);
+    assert_eq!(rt; network_end(b"a\nend"), 5);
+    assert_eq!(rt; network_end(b""), 0);
+}

@@ -1,0 +1,111 @@
+//! The words of the command line.
+
+ghost use Rattle.std.specs.Prelude.{◌<◌, ◌≤◌, length, IfOk, IfSome};
+ghost use Rattle.wormrun.specs.Ranges.{InRange};
+
+use clap::error::ErrorKind;
+use clap::{Arg, ArgAction, ArgMatches, Command, Error, value_parser};
+use std::alloc::{AllocError, Global};
+
+#[derive(Clone, Copy, PartialEq, Eq, Debug)]
+pub struct Options {
+    pub turns: u64,
+    pub workers: usize,
+    pub drain: u64,
+}
+
+#[derive(Drop, Debug)]
+pub struct Words<'a> {
+    pub network: &'a str,
+    pub traffic: &'a str,
+    pub options: Options,
+}
+
+#[derive(Drop, Debug)]
+pub enum WordsFault {
+    Words(Error),
+    NoMemory,
+}
+
+impl From<AllocError> for WordsFault {
+    fn from(_error: AllocError) -> WordsFault {
+        WordsFault::NoMemory
+    }
+}
+
+impl From<Error> for WordsFault {
+    fn from(error: Error) -> WordsFault {
+        if error.kind() == ErrorKind::OutOfMemory {
+            WordsFault::NoMemory
+        } else {
+            WordsFault::Words(error)
+        }
+    }
+}
+
+fn command<'a>(alloc: Global) -> Result<Command<'a>, AllocError> {
+    let network = Arg::new(alloc, "NETWORK")
+        .required(true)
+        .action(ArgAction::Set);
+    let traffic = Arg::new(alloc, "TRAFFIC")
+        .required(true)
+        .action(ArgAction::Set);
+    let turns = Arg::new(alloc, "turns")
+        .long("turns")
+        .required(true)
+        .action(ArgAction::Set)
+        .value_parser(value_parser!(u64).range(0..=1_000_000));
+    let workers = Arg::new(alloc, "workers")
+        .long("workers")
+        .action(ArgAction::Set)
+        .default_value("1")
+        .value_parser(value_parser!(usize).range(1..=1));
+    let drain = Arg::new(alloc, "drain")
+        .long("drain")
+        .action(ArgAction::Set)
+        .default_value("0")
+        .value_parser(value_parser!(u64).range(0..=1_000_000));
+    Command::new(alloc, "wormrun")
+        .disable_help_flag(true)
+        .disable_version_flag(true)
+        .arg(network)?
+        .arg(traffic)?
+        .arg(turns)?
+        .arg(workers)?
+        .arg(drain)
+}
+
+fn words_in<'a>(matches: &ArgMatches<'a>) -> Option<Words<'a>>
+    ensures { IfSome result (λ w. InRange w.options) }
+{
+    let turns = matches.get_one::<u64>("turns").filter(|t| *t <= 1_000_000)?;
+    let workers = matches
+        .get_one::<usize>("workers")
+        .filter(|w| 1 <= *w && *w <= 16)?;
+    let drain = matches.get_one::<u64>("drain").filter(|d| *d <= 1_000_000)?;
+    Some(Words {
+        network: matches.get_str("NETWORK")?,
+        traffic: matches.get_str("TRAFFIC")?,
+        options: Options {
+            turns,
+            workers,
+            drain,
+        },
+    })
+}
+
+/// Reads the words, the program's name first.
+pub fn read_words<'a>(alloc: Global, words: &'a [&'a str]) -> Result<Words<'a>, WordsFault>
+    requires { 0 < length words.now }
+    ensures { IfOk result (λ w. InRange w.options) }
+{
+    let mut command = command(alloc)?;
+    let matches = command.try_get_matches_from_mut(words)?;
+    match words_in(&matches) {
+        Some(words) => Ok(words),
+        None => Err(WordsFault::from(command.error(
+            ErrorKind::ValueValidation,
+            "a number is out of range",
+        )?)),
+    }
+}
