@@ -11,7 +11,7 @@ use crate::writing::put_bytes;
 use std::alloc::Global;
 use std::io::{Read, Write};
 use worm_core::{Net, NetFault, Script};
-use worm_text::{Why, read_network, read_traffic};
+use worm_text::{TextFault, Why, read_network, read_traffic};
 
 /// Runs the network and the traffic that two readers give, on this thread, and writes the report.
 pub fn run_alone<N: Read, F: Read, W: Write>(
@@ -67,6 +67,9 @@ fn run_and_report<W: Write>(
         Ok(config) => config,
         Err(fault) => return Err(ProgramFault::Network(fault)),
     };
+    if let Some(fault) = channel_fault(config.channels.as_slice()) {
+        return Err(ProgramFault::Network(fault));
+    }
     let script = match read_traffic(alloc, traffic, &config) {
         Ok(script) => script,
         Err(fault) if fault.why == Why::NoMemory => return Err(ProgramFault::NoMemory),
@@ -84,6 +87,22 @@ fn run_and_report<W: Write>(
         Ok(()) => Ok(()),
         Err(_) => Err(ProgramFault::Write),
     }
+}
+
+/// Today's network gives each class one channel: the first class with more is out of range, at its line. The
+/// lines of classes begin with the fifth.
+fn channel_fault(channels: &[u8]) -> Option<TextFault> {
+    let mut line = 5u32;
+    for count in channels {
+        if *count != 1 {
+            return Some(TextFault {
+                line,
+                why: Why::Range,
+            });
+        }
+        line = line.saturating_add(1);
+    }
+    None
 }
 
 /// The turns with the script, and then, where none was stopped, the drain: turns with no entries, until nothing
