@@ -1,18 +1,14 @@
 -- The links that leave the nodes below a node, counted by digits.
-use Rattle.std.proofs.Common.{ℕ, zero, suc, ◌≡◌, ◌+◌, ◌-◌, ◌*◌, ◌/◌, ◌%◌, ◌<◌, ◌≤◌, ⊎_elim, Bool, true, false, cond, ltb, eqb, List, [], ◌∷◌, length, get_or, drop, arith, refl, ap, sym, ◌∙◌}
+use Rattle.std.proofs.Common.{ℕ, zero, suc, ◌≡◌, ◌+◌, ◌-◌, ◌*◌, ◌/◌, ◌%◌, ◌<◌, ◌≤◌, ⊎_elim, Bool, true, false, cond, ltb, List, [], ◌∷◌, length, get_or, drop, arith, refl, ap, sym, ◌∙◌}
 use Rattle.std.specs.Prelude.{All}
 use Rattle.std.proofs.lemmas.List.Elements.{All-head}
 use Rattle.std.proofs.Math.Nat.{div-add-mod, mod-lt, mul_comm, zero-div, zero-mod, mul_assoc}
 use Rattle.std.proofs.lemmas.Nat.{div-mul-add, mod-mul-add}
 use Rattle.std.proofs.lemmas.Bool.{cases_lt, lt-ltb, le-ltb}
-use Rattle.worm_mesh.specs.Address.{node_count, digit_of, has_neighbour, IsRadix}
+use Rattle.worm_mesh.specs.Address.{node_count, has_room, has_neighbour, IsRadix}
 use Rattle.worm_mesh.specs.Links.{count_below, sum_below, degree_of, sides_of, degree_by_digits, links_in_rows, link_count, channels_in}
 use Rattle.worm_mesh.proofs.Digits.{AreLarge, step_mod, step_div}
 use Rattle.worm_mesh.proofs.Numbers.{sum_below-le}
-
--- the test of a port of a node
-port_test : List ℕ → ℕ → ℕ → Bool
-port_test ks x p = cond (eqb (p % 2) 0) (ltb 0 (digit_of ks x (p / 2))) (ltb (digit_of ks x (p / 2) + 1) (get_or ks (p / 2) 0))
 
 count_below_same : (f g : ℕ → Bool) (n : ℕ) → ((p : ℕ) → p < n → f p ≡ g p) → count_below f n ≡ count_below g n
 count_below_same f g zero h = refl
@@ -22,27 +18,25 @@ count_below_two : (f : ℕ → Bool) (n : ℕ) → count_below f (suc (suc n)) �
 count_below_two f zero = omega arith
 count_below_two f (suc n) = omega (arith, count_below_two f n)
 
-port_test_later : (k : ℕ) (ks : List ℕ) (x p : ℕ) → port_test (k ∷ ks) x (suc (suc p)) ≡ port_test ks (x / k) p
-unfolding port_test
-port_test_later k ks x p =
+has_room_later : (k : ℕ) (ks : List ℕ) (x p : ℕ) → has_room (k ∷ ks) x (suc (suc p)) ≡ has_room ks (x / k) p
+has_room_later k ks x p =
     let half : suc (suc p) / 2 ≡ suc (p / 2) = omega arith in
     let rest : suc (suc p) % 2 ≡ p % 2 = omega arith in
     rw (half, rest) refl
 
-degree_by_ports : (ks : List ℕ) (x : ℕ) → count_below (port_test ks x) (2 * length ks) ≡ degree_by_digits ks x
+degree_by_ports : (ks : List ℕ) (x : ℕ) → count_below (has_room ks x) (2 * length ks) ≡ degree_by_digits ks x
 degree_by_ports [] x = refl
 degree_by_ports (k ∷ ks) x =
     let two : 2 * suc (length ks) ≡ suc (suc (2 * length ks)) = omega arith in
-    let first : cond (port_test (k ∷ ks) x 0) 1 0 + cond (port_test (k ∷ ks) x 1) 1 0 ≡ sides_of k (x % k) = unfold port_test in refl in
-    rw two (count_below_two (port_test (k ∷ ks) x) (2 * length ks) ∙ omega (arith, first, count_below_same (λ p. port_test (k ∷ ks) x (suc (suc p))) (port_test ks (x / k)) (2 * length ks) (λ p lt. port_test_later k ks x p), degree_by_ports ks (x / k)))
+    let first : cond (has_room (k ∷ ks) x 0) 1 0 + cond (has_room (k ∷ ks) x 1) 1 0 ≡ sides_of k (x % k) = refl in
+    rw two (count_below_two (has_room (k ∷ ks) x) (2 * length ks) ∙ omega (arith, first, count_below_same (λ p. has_room (k ∷ ks) x (suc (suc p))) (has_room ks (x / k)) (2 * length ks) (λ p lt. has_room_later k ks x p), degree_by_ports ks (x / k)))
 
-tested : (ks : List ℕ) (x p : ℕ) → x < node_count ks → p < 2 * length ks → has_neighbour ks x p ≡ port_test ks x p
-unfolding port_test
+tested : (ks : List ℕ) (x p : ℕ) → x < node_count ks → p < 2 * length ks → has_neighbour ks x p ≡ has_room ks x p
 tested ks x p n lt = rw (lt-ltb x (node_count ks) n, lt-ltb p (2 * length ks) lt) refl
 
 pub degree_of_is : (ks : List ℕ) (x : ℕ) → x < node_count ks → degree_of ks x ≡ degree_by_digits ks x
 degree_of_is ks x n =
-    count_below_same (has_neighbour ks x) (port_test ks x) (2 * length ks) (λ p lt. tested ks x p n lt) ∙ degree_by_ports ks x
+    count_below_same (has_neighbour ks x) (has_room ks x) (2 * length ks) (λ p lt. tested ks x p n lt) ∙ degree_by_ports ks x
 
 pub sum_below_same : (f g : ℕ → ℕ) (n : ℕ) → ((x : ℕ) → x < n → f x ≡ g x) → sum_below f n ≡ sum_below g n
 sum_below_same f g zero h = refl

@@ -1,9 +1,9 @@
 -- Neighbours by their addresses.
-use Rattle.std.proofs.Common.{ℕ, ◌≡◌, ◌≢◌, ◌+◌, ◌-◌, ◌*◌, ◌/◌, ◌%◌, ◌<◌, ◌≤◌, ◌⊎◌, ⊎_elim, inl, inr, Bool, true, false, cond, ltb, eqb, ◌&&◌, Option, Some, None, List, length, get_or, set, arith, refl, ap, sym, ◌∙◌, subst, length-set, get_or-set_same, get_or-set_other}
+use Rattle.std.proofs.Common.{ℕ, ◌≡◌, ◌≢◌, ◌+◌, ◌-◌, ◌*◌, ◌/◌, ◌%◌, ◌<◌, ◌≤◌, ◌⊎◌, ⊎_elim, inl, inr, Bool, true, false, ltb, ◌&&◌, Option, Some, None, List, length, get_or, set, arith, refl, ap, sym, ◌∙◌, subst, length-set, get_or-set_same, get_or-set_other}
 use Rattle.std.proofs.Math.Nat.{div-add-mod}
 use Rattle.std.proofs.lemmas.Bool.{lt-ltb, le-ltb, and_from, and_parts, ltb-true, and_left, and_right, true≢false, cases_eq}
 use Rattle.std.proofs.lemmas.List.{ext_get_or}
-use Rattle.worm_mesh.specs.Address.{node_count, stride_of, number_of, address_of, digit_of, IsAddress, Shifts, Joins, AreNeighbours, has_neighbour, neighbour_of, opposite_of}
+use Rattle.worm_mesh.specs.Address.{node_count, stride_of, number_of, address_of, digit_of, IsAddress, Shifts, Joins, AreNeighbours, has_room, has_neighbour, neighbour_of, opposite_of}
 use Rattle.worm_mesh.specs.Links.{IsLink}
 use Rattle.worm_mesh.proofs.Digits.{AreLarge, length-address_of, digit_of_lt, address_up, address_down, number_up, stride_le, number_of-address_of, address_of-number_of, same_node}
 
@@ -131,16 +131,26 @@ joined ks x y h =
     (λ e. joined_plus ks x y h.one_digit.0 h.from_node h.to_node h.one_digit.1 e h.one_digit.2.others)
     h.one_digit.2.by_one
 
+-- and what stands at a port is a neighbour
+pub AreNeighbours-from_Joins : (ks : List ℕ) (x port y : ℕ) → Joins ks x port y → AreNeighbours ks x y
+AreNeighbours-from_Joins ks x port y p =
+    let fits : port / 2 < length ks = omega (arith, div-add-mod port 2, p.mesh_port) in
+    record {
+      from_node = p.from_node;
+      to_node = p.to_node;
+      one_digit = (port / 2, fits, record { by_one = ⊎_elim (λ even. inl (omega (arith, p.shifted))) (λ odd. inr (omega (arith, p.shifted))) (odd_or_even port); others = p.others });
+    }
+
 -- what the test says, by the side of the port
 record Parts (ks : List ℕ) (x port : ℕ) : Type 0 where
   node : x < node_count ks
   mesh_port : port < 2 * length ks
-  side : cond (eqb (port % 2) 0) (ltb 0 (digit_of ks x (port / 2))) (ltb (digit_of ks x (port / 2) + 1) (get_or ks (port / 2) 0)) ≡ true
+  side : has_room ks x port ≡ true
 
 parts : (ks : List ℕ) (x port : ℕ) → has_neighbour ks x port ≡ true → Parts ks x port
 parts ks x port e =
-    let first = and_parts (ltb x (node_count ks)) (ltb port (2 * length ks) && cond (eqb (port % 2) 0) (ltb 0 (digit_of ks x (port / 2))) (ltb (digit_of ks x (port / 2) + 1) (get_or ks (port / 2) 0))) e in
-    let second = and_parts (ltb port (2 * length ks)) (cond (eqb (port % 2) 0) (ltb 0 (digit_of ks x (port / 2))) (ltb (digit_of ks x (port / 2) + 1) (get_or ks (port / 2) 0))) first.1 in
+    let first = and_parts (ltb x (node_count ks)) (ltb port (2 * length ks) && has_room ks x port) e in
+    let second = and_parts (ltb port (2 * length ks)) (has_room ks x port) first.1 in
     record { node = ltb-true _ _ first.0; mesh_port = ltb-true _ _ second.0; side = second.1 }
 
 pub down : (ks : List ℕ) (x port : ℕ) → AreLarge ks → has_neighbour ks x port ≡ true → port % 2 ≡ 0 → (stride_of ks (port / 2) ≤ x) × Joins ks x port (x - stride_of ks (port / 2))

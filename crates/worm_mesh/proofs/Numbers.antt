@@ -1,10 +1,10 @@
 -- The numbers of links.
-use Rattle.std.proofs.Common.{ℕ, zero, suc, ◌≡◌, ◌+◌, ◌*◌, ◌<◌, ◌≤◌, inl, inr, Bool, true, false, cond, List, length, arith, refl, ap, add-one}
+use Rattle.std.proofs.Common.{ℕ, zero, suc, ◌≡◌, ◌+◌, ◌*◌, ◌<◌, ◌≤◌, inl, inr, Bool, true, false, cond, Option, Some, None, List, length, arith, refl, ap, add-one}
 use Rattle.std.proofs.lemmas.Bool.{cases_lt, cases_order}
-use Rattle.worm_mesh.specs.Address.{node_count, has_neighbour}
+use Rattle.worm_mesh.specs.Address.{node_count, number_of, address_of, shifted, has_neighbour, neighbour_of}
 use Rattle.worm_mesh.specs.Links.{count_below, sum_below, degree_of, links_before, link_count, IsLink}
 use Rattle.worm_mesh.proofs.Digits.{AreLarge}
-use Rattle.worm_mesh.proofs.Neighbours.{has_neighbour-from_Joins}
+use Rattle.worm_mesh.proofs.Neighbours.{has_neighbour-from_Joins, neighbour_of-none}
 
 -- the steps of the two counts, as a loop takes them
 pub count_below_yes : (test : ℕ → Bool) (n : ℕ) → test n ≡ true → count_below test (n + 1) ≡ count_below test n + 1
@@ -23,6 +23,27 @@ count_below-le test (suc n) = elim (test n) as (λ b. count_below test n + cond 
 pub sum_below-le : (f : ℕ → ℕ) (m n : ℕ) → ((k : ℕ) → f k ≤ m) → sum_below f n ≤ m * n
 sum_below-le f m zero h = omega arith
 sum_below-le f m (suc n) h = omega (arith, sum_below-le f m n h, h n)
+
+-- the next port has a link where it has a neighbour
+pub links_before-some : (ks : List ℕ) (x p y : ℕ) → neighbour_of ks x p ≡ Some y → links_before ks x (p + 1) ≡ links_before ks x p + 1
+links_before-some ks x p y e = by_test (has_neighbour ks x p) refl
+  where
+    by_test : (b : Bool) → has_neighbour ks x p ≡ b → links_before ks x (p + 1) ≡ links_before ks x p + 1
+    by_test true t = omega (arith, count_below_yes (has_neighbour ks x) p t)
+    by_test false t =
+        let none : neighbour_of ks x p ≡ None = neighbour_of-none ks x p t in
+        let clash : ◌≡◌ {A = Option ℕ} None (Some y) = cc in
+        cc
+
+pub links_before-none : (ks : List ℕ) (x p : ℕ) → neighbour_of ks x p ≡ None → links_before ks x (p + 1) ≡ links_before ks x p
+links_before-none ks x p e = by_test (has_neighbour ks x p) refl
+  where
+    by_test : (b : Bool) → has_neighbour ks x p ≡ b → links_before ks x (p + 1) ≡ links_before ks x p
+    by_test true t =
+        let some : neighbour_of ks x p ≡ Some (number_of ks (shifted p (address_of ks x))) = rw t refl in
+        let clash : ◌≡◌ {A = Option ℕ} None (Some (number_of ks (shifted p (address_of ks x)))) = cc in
+        cc
+    by_test false t = omega (arith, count_below_no (has_neighbour ks x) p t)
 
 -- a count that goes further is larger
 pub count_below_past : (test : ℕ → Bool) (m n : ℕ) → m < n → test m ≡ true → count_below test m + 1 ≤ count_below test n

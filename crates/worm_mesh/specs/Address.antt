@@ -71,11 +71,14 @@ pub record AreNeighbours (ks : List ℕ) (from to : ℕ) : Type 0 where
   pub to_node : to < node_count ks
   pub one_digit : (d : ℕ) × (d < length ks) × DifferInOne (address_of ks from) (address_of ks to) d
 
--- whether `node` has a neighbour at `port`: on the minus side where its digit is above 0, on the plus side where its
--- digit is not the last one
+-- whether the digit of the port's dimension can step to the port's side: down where it is above 0, up where it is not the last
+abbrev pub has_room : List ℕ → ℕ → ℕ → Bool
+has_room ks node port =
+    cond (nat_eq (port % 2) 0) (nat_lt 0 (digit_of ks node (port / 2))) (nat_lt (digit_of ks node (port / 2) + 1) (slice_index ks (port / 2)))
+
+-- whether `node` has a neighbour at `port`, both of them the mesh's
 abbrev pub has_neighbour : List ℕ → ℕ → ℕ → Bool
-has_neighbour ks node port =
-    nat_lt node (node_count ks) && (nat_lt port (2 * length ks) && cond (nat_eq (port % 2) 0) (nat_lt 0 (digit_of ks node (port / 2))) (nat_lt (digit_of ks node (port / 2) + 1) (slice_index ks (port / 2))))
+has_neighbour ks node port = nat_lt node (node_count ks) && (nat_lt port (2 * length ks) && has_room ks node port)
 
 -- the address that leaving an address by `port` leads to
 abbrev pub shifted : ℕ → List ℕ → List ℕ

@@ -6,7 +6,7 @@
 //! one bijection. So the code computes with numbers, by division and remainder, while contracts speak of digits: two nodes
 //! are neighbours where their addresses differ by one in exactly one digit.
 //!
-//! All calls take a few steps, whatever the size of the mesh, but for `link_ends`, which passes over the links. Nothing
+//! All calls take a few steps, whatever the size of the mesh, but for `link_ends`, which goes through the nodes. Nothing
 //! allocates. There is no torus here: at the edge of a mesh there is no neighbour. Routes stand in `worm_route`.
 #![tactic(auto)]
 

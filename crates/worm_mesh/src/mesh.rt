@@ -189,6 +189,7 @@ impl Mesh {
     pub fn radix(&self, d: u8) -> u8
         requires { d < length self.now }
         ensures value { result ≡ slice_index self.now d }
+        ensures limits { IsRadix result }
         ensures mesh { IsMesh self.now }
     {
         self.radices[usize::from(d)]
@@ -242,6 +243,7 @@ impl Mesh {
     pub fn neighbour(&self, node: u8, port: u8) -> Option<u8>
         ensures value { result ≡ neighbour_of self.now node port }
         ensures joins { MatchOption result ((to : ℕ) → ¬ Joins self.now node port to) (Joins self.now node port) }
+        ensures neighbours { IfSome result (AreNeighbours self.now node) }
         ensures each { (to : ℕ) → AreNeighbours self.now node to → (p : ℕ) × Joins self.now node p to }
     {
         if !self.has_neighbour(node, port) {
@@ -313,28 +315,39 @@ impl Mesh {
         Some(self.links_below_node(u16::from(node)) + self.links_below_port(node, port))
     }
 
-    /// The ends of the link with this number; None at `links()` and above. It passes over the links before it, so it is not
-    /// for a turn: there, name a link by its node and port.
+    /// The ends of the link with this number; None at `links()` and above. It goes through the nodes, so it is not for a turn:
+    /// there, name a link by its node and port.
     pub fn link_ends(&self, number: u16) -> Option<LinkEnds>
         ensures { MatchOption result (link_count self.now ≤ number) (AreEndsOf self.now number) }
     {
-        let ports = 2 * self.dims();
-        let mut count = 0;
         for node in 0..self.nodes() {
-            let from = node as u8;
-            for out_port in 0..ports {
-                if let Some(to) = self.neighbour(from, out_port) {
-                    if count == number {
-                        let in_port = self.opposite(out_port);
-                        return Some(LinkEnds {
-                            from,
-                            out_port,
-                            to,
-                            in_port,
-                        });
-                    }
-                    count += 1;
+            let ends = self.link_ends_at(node as u8, number);
+            if ends.is_some() {
+                return ends;
+            }
+        }
+        None
+    }
+
+    // The ends of the link with this number, if it is one of those that leave `from`.
+    fn link_ends_at(&self, from: u8, number: u16) -> Option<LinkEnds>
+        requires in_mesh { from < node_count self.now }
+        requires reached { sum_below (degree_of self.now) from ≤ number }
+        ensures { MatchOption result (sum_below (degree_of self.now) (from + 1) ≤ number) (AreEndsOf self.now number) }
+    {
+        let mut before = self.links_below_node(u16::from(from));
+        for out_port in 0..2 * self.dims() {
+            if let Some(to) = self.neighbour(from, out_port) {
+                if before == number {
+                    let in_port = self.opposite(out_port);
+                    return Some(LinkEnds {
+                        from,
+                        out_port,
+                        to,
+                        in_port,
+                    });
                 }
+                before += 1;
             }
         }
         None

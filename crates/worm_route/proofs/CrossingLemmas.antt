@@ -1,6 +1,6 @@
 -- The test is true exactly where the nodes of the route follow one another so.
-use Rattle.std.proofs.Common.{ℕ, zero, suc, ◌≡◌, ◌≢◌, ◌<◌, ◌⊎◌, inl, inr, true, List, [], ◌∷◌, ◌++◌, arith, refl, ap, sym, ◌∙◌, subst}
-use Rattle.std.specs.Prelude.{◌↔◌}
+use Rattle.std.proofs.Common.{ℕ, zero, suc, ◌≡◌, ◌≢◌, ◌<◌, ◌⊎◌, inl, inr, Bool, true, List, [], ◌∷◌, ◌++◌, arith, refl, ap, sym, ◌∙◌, subst}
+use Rattle.std.specs.Prelude.{◌↔◌, IsTrue}
 use Rattle.std.proofs.lemmas.Bool.{cases_eq}
 use Rattle.worm_mesh.specs.Address.{node_count, address_of, Joins}
 use Rattle.worm_mesh.proofs.Digits.{AreLarge, same_node}
@@ -10,13 +10,13 @@ use Rattle.worm_route.specs.Crossing.{crosses, Follows}
 use Rattle.worm_route.proofs.Onward.{onward, address_of-onward, hops_nearer, route_arrived, begins, addresses_differ, same_length}
 use Rattle.worm_route.proofs.DigitCrossing.{not_crossed, crossed_first, crossed_later, crossed_here, crosses-crossed, crossed-crosses, crosses-inside}
 
--- a route of one node has no two
+-- a route of one node has no two after one another
 too_short : (before : List ℕ) (a x to : ℕ) (later : List ℕ) → a ∷ [] ≡ before ++ x ∷ to ∷ later → ⊥
 too_short [] a x to later h = cc
 too_short (b ∷ []) a x to later h = cc
 too_short (b ∷ c ∷ before) a x to later h = cc
 
-heads : (a b : ℕ) (xs ys : List ℕ) → a ∷ xs ≡ b ∷ ys → (a ≡ b) × (xs ≡ ys)
+pub heads : (a b : ℕ) (xs ys : List ℕ) → a ∷ xs ≡ b ∷ ys → (a ≡ b) × (xs ≡ ys)
 heads a b xs ys e = (cc, cc)
 
 module _ (ks : List ℕ) (l : AreLarge ks) where
@@ -73,7 +73,7 @@ module _ (ks : List ℕ) (l : AreLarge ks) where
         ]
       ]
 
-  not_last : (before : List ℕ) (s t x to : ℕ) (later : List ℕ) → t < node_count ks → route_of ks s t ≡ before ++ x ∷ to ∷ later → s ≢ t
+  pub not_last : (before : List ℕ) (s t x to : ℕ) (later : List ℕ) → t < node_count ks → route_of ks s t ≡ before ++ x ∷ to ∷ later → s ≢ t
   not_last before s t x to later q e same =
       too_short before t x to later (sym (ap (λ v. route_of ks v t) same ∙ route_arrived ks l t q) ∙ e)
 
@@ -97,3 +97,7 @@ module _ (ks : List ℕ) (l : AreLarge ks) where
   pub crosses_exactly : (x port s t : ℕ) → s < node_count ks → t < node_count ks → (crosses ks x port s t ≡ true) ↔ Follows ks x port s t
   crosses_exactly x port s t p q =
       (λ h. crosses-follows (hops_of ks s t) x port s t p q refl h, λ f. follows-crosses f.before x port s t f.to f.later p q f.joined f.route)
+
+  -- the same of an answer that is the test's
+  pub exact_from : (answer : Bool) (x port s t : ℕ) → s < node_count ks → t < node_count ks → answer ≡ crosses ks x port s t → IsTrue answer ↔ Follows ks x port s t
+  exact_from answer x port s t p q e = rw e (crosses_exactly x port s t p q)

@@ -8,7 +8,7 @@ use Rattle.worm_mesh.proofs.Digits.{AreLarge, same_node}
 use Rattle.worm_route.specs.Route.{port_from}
 use Rattle.worm_route.proofs.Legs.{next_address, tail_differs}
 use Rattle.worm_route.proofs.Onward.{port_from_up}
-use Rattle.worm_route.specs.Crossing.{crosses}
+use Rattle.worm_route.specs.Crossing.{steps_down, steps_up, crosses}
 
 -- the address agrees with t below the port's dimension and with s above, and there lies from s to t, t itself left out
 abbrev pub IsCrossed : ℕ → List ℕ → List ℕ → List ℕ → Type 0
@@ -153,15 +153,15 @@ crosses-crossed (k ∷ ks) x port s t h =
     elim (cases_eq port 0) [
       | inl is_minus ↦
           let g = rw (eq-eqb port 0 is_minus) at h in
-          let one = and_parts (leb (x % k) (s % k)) (ltb (t % k) (x % k) && eqb (x / k) (s / k)) g in
-          let two = and_parts (ltb (t % k) (x % k)) (eqb (x / k) (s / k)) one.1 in
-          inl (is_minus, leb-true (x % k) (s % k) one.0, ltb-true (t % k) (x % k) two.0, ap (address_of ks) (eqb-true (x / k) (s / k) two.1))
+          let one = and_parts (steps_down (x % k) (s % k) (t % k)) (eqb (x / k) (s / k)) g in
+          let two = and_parts (leb (x % k) (s % k)) (ltb (t % k) (x % k)) one.0 in
+          inl (is_minus, leb-true (x % k) (s % k) two.0, ltb-true (t % k) (x % k) two.1, ap (address_of ks) (eqb-true (x / k) (s / k) one.1))
       | inr not_minus ↦ elim (cases_eq port 1) [
         | inl is_plus ↦
             let g = rw (ne_eqb port 0 not_minus, eq-eqb port 1 is_plus) at h in
-            let one = and_parts (leb (s % k) (x % k)) (ltb (x % k) (t % k) && eqb (x / k) (s / k)) g in
-            let two = and_parts (ltb (x % k) (t % k)) (eqb (x / k) (s / k)) one.1 in
-            inr (inl (is_plus, leb-true (s % k) (x % k) one.0, ltb-true (x % k) (t % k) two.0, ap (address_of ks) (eqb-true (x / k) (s / k) two.1)))
+            let one = and_parts (steps_up (x % k) (s % k) (t % k)) (eqb (x / k) (s / k)) g in
+            let two = and_parts (leb (s % k) (x % k)) (ltb (x % k) (t % k)) one.0 in
+            inr (inl (is_plus, leb-true (s % k) (x % k) two.0, ltb-true (x % k) (t % k) two.1, ap (address_of ks) (eqb-true (x / k) (s / k) one.1)))
         | inr not_plus ↦
             let g = rw (ne_eqb port 0 not_minus, ne_eqb port 1 not_plus) at h in
             let one = and_parts (eqb (x % k) (t % k)) (crosses ks (x / k) (port - 2) (s / k) (t / k)) g in
@@ -177,11 +177,11 @@ crossed-crosses [] x port s t l p q h = absurd h
 crossed-crosses (k ∷ ks) x port s t l p q h =
     let above : address_of ks (x / k) ≡ address_of ks (s / k) → x / k ≡ s / k = λ e. same_node ks (x / k) (s / k) l.1 (below_next k ks x l.0 p) (below_next k ks s l.0 q) e in
     elim h [
-      | inl m ↦ rw (eq-eqb port 0 m.0) (and_from (leb (x % k) (s % k)) (ltb (t % k) (x % k) && eqb (x / k) (s / k)) (le-leb (x % k) (s % k) m.1) (and_from (ltb (t % k) (x % k)) (eqb (x / k) (s / k)) (lt-ltb (t % k) (x % k) m.2) (eq-eqb (x / k) (s / k) (above m.3))))
+      | inl m ↦ rw (eq-eqb port 0 m.0) (and_from (steps_down (x % k) (s % k) (t % k)) (eqb (x / k) (s / k)) (and_from (leb (x % k) (s % k)) (ltb (t % k) (x % k)) (le-leb (x % k) (s % k) m.1) (lt-ltb (t % k) (x % k) m.2)) (eq-eqb (x / k) (s / k) (above m.3)))
       | inr g ↦ elim g [
         | inl m ↦
             let num = m.0 in
-            rw (ne_eqb port 0 (λ e. absurd (omega arith)), eq-eqb port 1 num) (and_from (leb (s % k) (x % k)) (ltb (x % k) (t % k) && eqb (x / k) (s / k)) (le-leb (s % k) (x % k) m.1) (and_from (ltb (x % k) (t % k)) (eqb (x / k) (s / k)) (lt-ltb (x % k) (t % k) m.2) (eq-eqb (x / k) (s / k) (above m.3))))
+            rw (ne_eqb port 0 (λ e. absurd (omega arith)), eq-eqb port 1 num) (and_from (steps_up (x % k) (s % k) (t % k)) (eqb (x / k) (s / k)) (and_from (leb (s % k) (x % k)) (ltb (x % k) (t % k)) (le-leb (s % k) (x % k) m.1) (lt-ltb (x % k) (t % k) m.2)) (eq-eqb (x / k) (s / k) (above m.3)))
         | inr m ↦
             let num = m.1 in
             let back : port - 2 ≡ m.0 = omega arith in
@@ -197,15 +197,13 @@ crosses-inside (k ∷ ks) x port s t l q h =
     elim (cases_eq port 0) [
       | inl is_minus ↦
           let g = rw (eq-eqb port 0 is_minus) at h in
-          let one = and_parts (leb (x % k) (s % k)) (ltb (t % k) (x % k) && eqb (x / k) (s / k)) g in
-          let two = and_parts (ltb (t % k) (x % k)) (eqb (x / k) (s / k)) one.1 in
-          inside (rw (eqb-true (x / k) (s / k) two.1) (below_next k ks s l.0 q))
+          let one = and_parts (steps_down (x % k) (s % k) (t % k)) (eqb (x / k) (s / k)) g in
+          inside (rw (eqb-true (x / k) (s / k) one.1) (below_next k ks s l.0 q))
       | inr not_minus ↦ elim (cases_eq port 1) [
         | inl is_plus ↦
             let g = rw (ne_eqb port 0 not_minus, eq-eqb port 1 is_plus) at h in
-            let one = and_parts (leb (s % k) (x % k)) (ltb (x % k) (t % k) && eqb (x / k) (s / k)) g in
-            let two = and_parts (ltb (x % k) (t % k)) (eqb (x / k) (s / k)) one.1 in
-            inside (rw (eqb-true (x / k) (s / k) two.1) (below_next k ks s l.0 q))
+            let one = and_parts (steps_up (x % k) (s % k) (t % k)) (eqb (x / k) (s / k)) g in
+            inside (rw (eqb-true (x / k) (s / k) one.1) (below_next k ks s l.0 q))
         | inr not_plus ↦
             let g = rw (ne_eqb port 0 not_minus, ne_eqb port 1 not_plus) at h in
             let one = and_parts (eqb (x % k) (t % k)) (crosses ks (x / k) (port - 2) (s / k) (t / k)) g in

@@ -1,3 +1,4 @@
+pub mod DistinctLemmas
 pub mod Legs
 pub mod Onward
 pub mod Track

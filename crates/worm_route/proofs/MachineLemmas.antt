@@ -6,6 +6,7 @@ use Rattle.std.proofs.lemmas.List.{map-append, append-nil}
 use Rattle.std.proofs.lemmas.List.Concat.{flat_map-append}
 use Rattle.worm_route.specs.Distinct.{IsNotIn, IsDistinct}
 use Rattle.worm_route.specs.LaneMachine.{RisesTo, IsMachine, Raises, Appends, cuts_from, machine_of, IsMoved, IsTaken, IsPut}
+use Rattle.worm_route.proofs.DistinctLemmas.{not_in_front, second_not_in_front, distinct_back}
 
 -- places that agree hold the same
 module _ {P F : Type 0} (old new : P → List F) where
@@ -29,33 +30,6 @@ module _ {P F : Type 0} (old new : P → List F) where
   agrees_apart_two a b [] h m n = tt
   agrees_apart_two a b (p ∷ ps) h m n =
       (h p (λ e. m.0 (sym e)) (λ e. n.0 (sym e)), agrees_apart_two a b ps h m.1 n.1)
-
--- what stands in a distinct list is not elsewhere in it
-pub apart_within : {P : Type 0} (p b : P) (front back : List P) → IsNotIn p (front ++ b ∷ back) → p ≢ b
-apart_within p b [] back n = n.0
-apart_within p b (q ∷ front) back n = apart_within p b front back n.1
-
-pub not_in_front : {P : Type 0} (front back : List P) (b : P) → IsDistinct (front ++ b ∷ back) → IsNotIn b front
-not_in_front [] back b d = tt
-not_in_front (p ∷ front) back b d =
-    ((λ e. apart_within p b front back d.0 (sym e)), not_in_front front back b d.1)
-
-pub not_in_back : {P : Type 0} (front back : List P) (b : P) → IsDistinct (front ++ b ∷ back) → IsNotIn b back
-not_in_back [] back b d = d.0
-not_in_back (p ∷ front) back b d = not_in_back front back b d.1
-
-second_apart : {P : Type 0} (p a b : P) (front back : List P) → IsNotIn p (front ++ a ∷ b ∷ back) → p ≢ b
-second_apart p a b [] back n = n.1.0
-second_apart p a b (q ∷ front) back n = second_apart p a b front back n.1
-
-pub second_not_in_front : {P : Type 0} (front back : List P) (a b : P) → IsDistinct (front ++ a ∷ b ∷ back) → IsNotIn b front
-second_not_in_front [] back a b d = tt
-second_not_in_front (p ∷ front) back a b d =
-    ((λ e. second_apart p a b front back d.0 (sym e)), second_not_in_front front back a b d.1)
-
-pub distinct_back : {P : Type 0} (front back : List P) → IsDistinct (front ++ back) → IsDistinct back
-distinct_back [] back d = d
-distinct_back (p ∷ front) back d = distinct_back front back d.1
 
 -- cuts over joined pieces
 cuts_begun : ℕ → List ℕ → List ℕ

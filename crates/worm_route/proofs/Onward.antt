@@ -1,5 +1,5 @@
 -- Each hop of a route, by nodes.
-use Rattle.std.proofs.Common.{ℕ, zero, suc, ◌≡◌, ◌≢◌, ◌+◌, ◌-◌, ◌*◌, ◌/◌, ◌%◌, ◌<◌, ◌≤◌, ⊎_elim, true, false, cond, eqb, ltb, Option, Some, None, List, [], ◌∷◌, length, drop, map, get_or, set, arith, refl, ap, sym, ◌∙◌}
+use Rattle.std.proofs.Common.{ℕ, zero, suc, ◌≡◌, ◌≢◌, ◌+◌, ◌-◌, ◌*◌, ◌/◌, ◌%◌, ◌<◌, ◌≤◌, inl, inr, true, false, cond, eqb, ltb, Option, Some, None, List, [], ◌∷◌, length, drop, map, get_or, set, arith, refl, ap, sym, ◌∙◌}
 use Rattle.std.proofs.lemmas.Bool.{cases_order, cases_eq, lt-ltb, le-ltb, eq-eqb, ne_eqb}
 use Rattle.std.proofs.lemmas.List.{drop_all}
 use Rattle.worm_mesh.specs.Address.{node_count, stride_of, number_of, address_of, digit_of, neighbour_of, Joins}
@@ -43,25 +43,24 @@ first_differs port [] [] e ne = absurd (ne refl)
 first_differs port [] (b ∷ t) e ne = absurd (omega arith)
 first_differs port (a ∷ s) [] e ne = absurd (omega arith)
 first_differs port (a ∷ s) (b ∷ t) e ne =
-    ⊎_elim
-    (λ same.
-    let rest = first_differs (port + 2) s t (omega arith) (tail_differs a b s t same ne) in
-    record {
-      d = suc rest.d;
-      fits = omega (arith, rest.fits);
-      differs = rest.differs;
-      port_is = rw (eq-eqb a b same) (rw rest.port_is (omega arith));
-      next_is = rw (eq-eqb a b same) (ap (λ r. a ∷ r) rest.next_is);
-    })
-    (λ differ.
-    record {
-      d = 0;
-      fits = omega arith;
-      differs = differ;
-      port_is = rw (ne_eqb a b differ) (port_side a b port);
-      next_is = rw (ne_eqb a b differ) refl;
-    })
-    (cases_eq a b)
+    elim (cases_eq a b) [
+      | inl same ↦
+          let rest = first_differs (port + 2) s t (omega arith) (tail_differs a b s t same ne) in
+          record {
+            d = suc rest.d;
+            fits = omega (arith, rest.fits);
+            differs = rest.differs;
+            port_is = rw (eq-eqb a b same) (rw rest.port_is (omega arith));
+            next_is = rw (eq-eqb a b same) (ap (λ r. a ∷ r) rest.next_is);
+          }
+      | inr differ ↦ record {
+        d = 0;
+        fits = omega arith;
+        differs = differ;
+        port_is = rw (ne_eqb a b differ) (port_side a b port);
+        next_is = rw (ne_eqb a b differ) refl;
+      }
+    ]
 
 -- the next node of the route to t, behind `port` of x
 pub record Hop (ks : List ℕ) (x port t : ℕ) : Type 0 where
@@ -103,16 +102,19 @@ module _ (ks : List ℕ) (l : AreLarge ks) where
   hop x t p q ne =
       let first = first_differs 0 (address_of ks x) (address_of ks t) (same_length x t) (addresses_differ x t p q ne) in
       let fits : first.d < length ks = omega (arith, first.fits, length-address_of ks x) in
-      ⊎_elim (λ same. absurd (first.differs same))
-      (λ differ. ⊎_elim
-      (λ lt.
-      let port : port_of ks x t ≡ 2 * first.d + 1 = first.port_is ∙ rw (lt-ltb (digit_of ks x first.d) (digit_of ks t first.d) lt) (omega arith) in
-      hop_up x t (port_of ks x t) first.d p fits (omega arith) (omega arith) lt (first.next_is ∙ rw (lt-ltb (digit_of ks x first.d) (digit_of ks t first.d) lt) refl))
-      (λ gt.
-      let port : port_of ks x t ≡ 2 * first.d = first.port_is ∙ rw (le-ltb (digit_of ks x first.d) (digit_of ks t first.d) (omega arith)) (omega arith) in
-      hop_down x t (port_of ks x t) first.d p fits (omega arith) (omega arith) gt (first.next_is ∙ rw (le-ltb (digit_of ks x first.d) (digit_of ks t first.d) (omega arith)) refl))
-      differ)
-      (cases_order (digit_of ks x first.d) (digit_of ks t first.d))
+      elim (cases_order (digit_of ks x first.d) (digit_of ks t first.d)) [
+        | inl same ↦ absurd (first.differs same)
+        | inr differ ↦ elim differ [
+          | inl lt ↦
+              let test = lt-ltb (digit_of ks x first.d) (digit_of ks t first.d) lt in
+              let port : port_of ks x t ≡ 2 * first.d + 1 = first.port_is ∙ rw test (omega arith) in
+              hop_up x t (port_of ks x t) first.d p fits (omega arith) (omega arith) lt (first.next_is ∙ rw test refl)
+          | inr gt ↦
+              let test = le-ltb (digit_of ks x first.d) (digit_of ks t first.d) (omega arith) in
+              let port : port_of ks x t ≡ 2 * first.d = first.port_is ∙ rw test (omega arith) in
+              hop_down x t (port_of ks x t) first.d p fits (omega arith) (omega arith) gt (first.next_is ∙ rw test refl)
+        ]
+      ]
 
   route_is : (x t : ℕ) → route_of ks x t ≡ map (number_of ks) (legs (address_of ks x) (address_of ks t))
   route_is x t =
@@ -144,10 +146,10 @@ module _ (ks : List ℕ) (l : AreLarge ks) where
   -- a route begins with its source
   pub begins : (s t : ℕ) → s < node_count ks → t < node_count ks → (later : List ℕ) × (route_of ks s t ≡ s ∷ later)
   begins s t p q =
-      ⊎_elim
-      (λ same. ([], ap (λ v. route_of ks v t) same ∙ (route_arrived t q ∙ ap (λ v. v ∷ []) (sym same))))
-      (λ ne. let on = onward s t p q ne in (route_of ks on.to t, on.route))
-      (cases_eq s t)
+      elim (cases_eq s t) [
+        | inl same ↦ ([], ap (λ v. route_of ks v t) same ∙ (route_arrived t q ∙ ap (λ v. v ∷ []) (sym same)))
+        | inr ne ↦ let on = onward s t p q ne in (route_of ks on.to t, on.route)
+      ]
 
   -- the next node is the neighbour at the next port
   pub next_node : (x t y : ℕ) (p : x < node_count ks) (q : t < node_count ks) (ne : x ≢ t) → neighbour_of ks x (port_of ks x t) ≡ Some y → (onward x t p q ne).to ≡ y
@@ -178,14 +180,18 @@ module _ (ks : List ℕ) (l : AreLarge ks) where
   -- walking by ports is the route
   pub walk_is : (n x t : ℕ) → x < node_count ks → t < node_count ks → hops_of ks x t ≡ n → walk ks t n x ≡ route_of ks x t
   walk_is zero x t p q e =
-      ⊎_elim (λ same. rw same (sym (route_arrived t q))) (λ ne. absurd (omega (arith, hops_nearer x t p q ne))) (cases_eq x t)
+      elim (cases_eq x t) [
+        | inl same ↦ rw same (sym (route_arrived t q))
+        | inr ne ↦ absurd (omega (arith, hops_nearer x t p q ne))
+      ]
   walk_is (suc n) x t p q e =
-      ⊎_elim (λ same. absurd (omega (arith, hops_arrived t, ap (λ v. hops_of ks v t) same)))
-      (λ ne.
-      let on = onward x t p q ne in
-      let next : neighbour_of ks x (port_of ks x t) ≡ Some on.to = neighbour_of-some ks x (port_of ks x t) on.to l on.joined in
-      rw next (ap (λ r. x ∷ r) (walk_is n on.to t on.joined.to_node q (omega (arith, hops_nearer x t p q ne))) ∙ sym on.route))
-      (cases_eq x t)
+      elim (cases_eq x t) [
+        | inl same ↦ absurd (omega (arith, hops_arrived t, ap (λ v. hops_of ks v t) same))
+        | inr ne ↦
+            let on = onward x t p q ne in
+            let next : neighbour_of ks x (port_of ks x t) ≡ Some on.to = neighbour_of-some ks x (port_of ks x t) on.to l on.joined in
+            rw next (ap (λ r. x ∷ r) (walk_is n on.to t on.joined.to_node q (omega (arith, hops_nearer x t p q ne))) ∙ sym on.route)
+      ]
 
 -- a loop over the digits, past the last one
 pub port_from-past : (port n : ℕ) (s t : List ℕ) → length s ≤ n → port_from port (drop n s) (drop n t) ≡ port

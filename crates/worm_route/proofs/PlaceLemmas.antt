@@ -1,5 +1,5 @@
 -- The places of a lane, by the nodes of its route.
-use Rattle.std.proofs.Common.{ℕ, ◌≡◌, ◌+◌, ◌*◌, ◌<◌, ◌⊎◌, ⊎_elim, inl, inr, List, [], ◌∷◌, ◌++◌, length, reverse, arith, refl, ap, sym, ◌∙◌, append_assoc}
+use Rattle.std.proofs.Common.{ℕ, ◌≡◌, ◌+◌, ◌*◌, ◌<◌, ◌⊎◌, inl, inr, List, [], ◌∷◌, ◌++◌, length, reverse, arith, refl, ap, sym, ◌∙◌, append_assoc}
 use Rattle.std.proofs.lemmas.List.{length-reverse}
 use Rattle.worm_mesh.specs.Address.{node_count, opposite_of}
 use Rattle.worm_mesh.proofs.Digits.{AreLarge}
@@ -7,14 +7,17 @@ use Rattle.worm_route.specs.Route.{route_of, hops_of, port_of}
 use Rattle.worm_route.specs.Distinct.{IsNotIn, IsDistinct}
 use Rattle.worm_route.specs.Places.{Place, Source, Buffer, Link, places_along, places_of, moved_to, IsChain, IsLast, ArePlaces}
 use Rattle.worm_route.proofs.Track.{IsWay, IsWay-route, EndsIn, BeginsWith, IsChain-places, IsDistinct-places, length-places_along, link_not_in}
-use Rattle.worm_route.proofs.MachineLemmas.{apart_within}
+use Rattle.worm_route.proofs.DistinctLemmas.{apart_within}
 
 -- in a chain what stands before a place is where its flits move to
 chain_before : (ks : List ℕ) (s t : ℕ) (front back : List Place) (b : Place) → IsChain ks s t (front ++ b ∷ back) → (front ≡ []) ⊎ ((nearer : List Place) × (front ≡ nearer ++ moved_to ks s t b ∷ []))
 chain_before ks s t [] back b h = inl refl
 chain_before ks s t (a ∷ []) back b h = inr ([], ap (λ p. p ∷ []) h.0)
 chain_before ks s t (a ∷ c ∷ front) back b h =
-    ⊎_elim (λ e. absurd (not_empty c front e)) (λ r. inr (a ∷ r.0, ap (λ ps. a ∷ ps) r.1)) (chain_before ks s t (c ∷ front) back b h.1)
+    elim (chain_before ks s t (c ∷ front) back b h.1) [
+      | inl e ↦ absurd (not_empty c front e)
+      | inr r ↦ inr (a ∷ r.0, ap (λ ps. a ∷ ps) r.1)
+    ]
   where
     not_empty : (p : Place) (ps : List Place) → p ∷ ps ≡ [] → ⊥
     not_empty p ps e = cc
@@ -55,22 +58,23 @@ module _ (ks : List ℕ) (l : AreLarge ks) (s t : ℕ) (p : s < node_count ks) (
   moves_to front back b e not_last =
       let chain : IsChain ks s t (front ++ b ∷ back) = rw e at (IsChain-places ks l s t nodes way.track way.ends) in
       let first = first_is ks t nodes way.begins in
-      ⊎_elim
-      (λ none.
-      let at : Buffer t first.0 ≡ b = head_of (Buffer t first.0) b first.1 back (sym first.2 ∙ (e ∙ ap (λ ps. ps ++ b ∷ back) none)) in
-      absurd (not_last (rw (← at) refl)))
-      (λ r. r)
-      (chain_before ks s t front back b chain)
+      elim (chain_before ks s t front back b chain) [
+        | inl none ↦
+            let at : Buffer t first.0 ≡ b = head_of (Buffer t first.0) b first.1 back (sym first.2 ∙ (e ∙ ap (λ ps. ps ++ b ∷ back) none)) in
+            absurd (not_last (rw (← at) refl))
+        | inr r ↦ r
+      ]
 
   pub delivered_from : (front back : List Place) (b : Place) → places_of ks s t ≡ front ++ b ∷ back → IsLast t b → front ≡ []
   delivered_from front back b e last =
       let chain : IsChain ks s t (front ++ b ∷ back) = rw e at (IsChain-places ks l s t nodes way.track way.ends) in
-      ⊎_elim (λ none. none)
-      (λ r.
-      let none : IsNotIn (Link t (port_of ks t t)) (places_of ks s t) = no_link_at_end ks t (port_of ks t t) nodes way.begins way.distinct in
-      let split : places_of ks s t ≡ r.0 ++ Link t (port_of ks t t) ∷ b ∷ back = e ∙ (ap (λ ps. ps ++ b ∷ back) (r.1 ∙ ap (λ v. r.0 ++ v ∷ []) (last_moves ks s t b last)) ∙ append_assoc r.0 (Link t (port_of ks t t) ∷ []) (b ∷ back)) in
-      absurd (apart_within (Link t (port_of ks t t)) (Link t (port_of ks t t)) r.0 (b ∷ back) (rw split at none) refl))
-      (chain_before ks s t front back b chain)
+      elim (chain_before ks s t front back b chain) [
+        | inl none ↦ none
+        | inr r ↦
+            let none : IsNotIn (Link t (port_of ks t t)) (places_of ks s t) = no_link_at_end ks t (port_of ks t t) nodes way.begins way.distinct in
+            let split : places_of ks s t ≡ r.0 ++ Link t (port_of ks t t) ∷ b ∷ back = e ∙ (ap (λ ps. ps ++ b ∷ back) (r.1 ∙ ap (λ v. r.0 ++ v ∷ []) (last_moves ks s t b last)) ∙ append_assoc r.0 (Link t (port_of ks t t) ∷ []) (b ∷ back)) in
+            absurd (apart_within (Link t (port_of ks t t)) (Link t (port_of ks t t)) r.0 (b ∷ back) (rw split at none) refl)
+      ]
 
   pub nodes_of : length (route_of ks s t) ≡ hops_of ks s t + 1
   nodes_of = sym (length-reverse (route_of ks s t)) ∙ way.nodes

@@ -1,5 +1,5 @@
 -- The nodes of a route from the last to the first, and its places.
-use Rattle.std.proofs.Common.{ℕ, zero, suc, ◌≡◌, ◌≢◌, ◌+◌, ◌*◌, ◌<◌, ◌≤◌, ⊎_elim, List, [], ◌∷◌, ◌++◌, length, reverse, arith, refl, ap, sym, ◌∙◌, length-append}
+use Rattle.std.proofs.Common.{ℕ, zero, suc, ◌≡◌, ◌+◌, ◌*◌, ◌<◌, ◌≤◌, inl, inr, List, [], ◌∷◌, ◌++◌, length, reverse, arith, refl, ap, sym, ◌∙◌, length-append}
 use Rattle.std.proofs.lemmas.Bool.{cases_eq}
 use Rattle.std.proofs.lemmas.List.{reverse-append}
 use Rattle.worm_mesh.specs.Address.{node_count, opposite_of, Joins}
@@ -8,16 +8,8 @@ use Rattle.worm_mesh.proofs.Neighbours.{neighbour_of-some}
 use Rattle.worm_route.specs.Route.{route_of, hops_of, port_of}
 use Rattle.worm_route.specs.Distinct.{IsNotIn, IsDistinct}
 use Rattle.worm_route.specs.Places.{Buffer, Link, places_along, moved_to, IsChain}
+use Rattle.worm_route.proofs.DistinctLemmas.{IsDistinct-push}
 use Rattle.worm_route.proofs.Onward.{onward, hops_nearer, hops_arrived, route_arrived}
-
--- one more at the end of a list
-pub IsNotIn-push : {X : Type 0} (x y : X) (xs : List X) → IsNotIn x xs → x ≢ y → IsNotIn x (xs ++ y ∷ [])
-IsNotIn-push x y [] h ne = (ne, tt)
-IsNotIn-push x y (z ∷ xs) h ne = (h.0, IsNotIn-push x y xs h.1 ne)
-
-pub IsDistinct-push : {X : Type 0} (xs : List X) (y : X) → IsDistinct xs → IsNotIn y xs → IsDistinct (xs ++ y ∷ [])
-IsDistinct-push [] y h n = (tt, tt)
-IsDistinct-push (x ∷ xs) y h n = (IsNotIn-push x y xs h.0 (λ e. n.0 (sym e)), IsDistinct-push xs y h.1 n.1)
 
 -- each node is what the port of the node after it in the list leads to
 abbrev pub IsTrack : List ℕ → ℕ → List ℕ → Type 0
@@ -76,30 +68,31 @@ pub record IsWay (ks : List ℕ) (src dst : ℕ) (way : List ℕ) : Type 0 where
 module _ (ks : List ℕ) (l : AreLarge ks) where
   way_of : (n x t : ℕ) → x < node_count ks → t < node_count ks → hops_of ks x t ≡ n → IsWay ks x t (reverse (route_of ks x t))
   way_of zero x t p q e =
-      ⊎_elim
-      (λ same.
-      let one : reverse (route_of ks x t) ≡ t ∷ [] = ap (λ v. reverse (route_of ks v t)) same ∙ ap reverse (route_arrived ks l t q) in
-      rw one (record { track = tt; distinct = (tt, tt); near = (omega (arith, hops_arrived ks l t), tt); ends = sym same; begins = refl; nodes = omega (arith, e) }))
-      (λ ne. absurd (omega (arith, hops_nearer ks l x t p q ne)))
-      (cases_eq x t)
+      elim (cases_eq x t) [
+        | inl same ↦
+            let one : reverse (route_of ks x t) ≡ t ∷ [] = ap (λ v. reverse (route_of ks v t)) same ∙ ap reverse (route_arrived ks l t q) in
+            rw one (record { track = tt; distinct = (tt, tt); near = (omega (arith, hops_arrived ks l t), tt); ends = sym same; begins = refl; nodes = omega (arith, e) })
+        | inr ne ↦ absurd (omega (arith, hops_nearer ks l x t p q ne))
+      ]
   way_of (suc n) x t p q e =
-      ⊎_elim (λ same. absurd (omega (arith, hops_arrived ks l t, ap (λ v. hops_of ks v t) same)))
-      (λ ne.
-      let on = onward ks l x t p q ne in
-      let nearer = hops_nearer ks l x t p q ne in
-      let rest = way_of n on.to t on.joined.to_node q (omega arith) in
-      let past = reverse (route_of ks on.to t) in
-      let split : reverse (route_of ks x t) ≡ past ++ x ∷ [] = ap reverse on.route ∙ reverse-append (x ∷ []) (route_of ks on.to t) in
-      let near : AreNear ks t (hops_of ks on.to t + 1) (past ++ x ∷ []) = AreNear-push ks t (hops_of ks on.to t) x past rest.near (omega arith) in
-      rw split (record {
-        track = IsTrack-push ks t on.to x past rest.track rest.ends on.joined;
-        distinct = IsDistinct-push past x rest.distinct (far_not_in ks t (hops_of ks on.to t) x past rest.near (omega arith));
-        near = rw nearer near;
-        ends = EndsIn-push x past;
-        begins = BeginsWith-push t x past rest.begins;
-        nodes = omega (arith, length-append past (x ∷ []), rest.nodes);
-      }))
-      (cases_eq x t)
+      elim (cases_eq x t) [
+        | inl same ↦ absurd (omega (arith, hops_arrived ks l t, ap (λ v. hops_of ks v t) same))
+        | inr ne ↦
+            let on = onward ks l x t p q ne in
+            let nearer = hops_nearer ks l x t p q ne in
+            let rest = way_of n on.to t on.joined.to_node q (omega arith) in
+            let past = reverse (route_of ks on.to t) in
+            let split : reverse (route_of ks x t) ≡ past ++ x ∷ [] = ap reverse on.route ∙ reverse-append (x ∷ []) (route_of ks on.to t) in
+            let near : AreNear ks t (hops_of ks on.to t + 1) (past ++ x ∷ []) = AreNear-push ks t (hops_of ks on.to t) x past rest.near (omega arith) in
+            rw split (record {
+              track = IsTrack-push ks t on.to x past rest.track rest.ends on.joined;
+              distinct = IsDistinct-push past x rest.distinct (far_not_in ks t (hops_of ks on.to t) x past rest.near (omega arith));
+              near = rw nearer near;
+              ends = EndsIn-push x past;
+              begins = BeginsWith-push t x past rest.begins;
+              nodes = omega (arith, length-append past (x ∷ []), rest.nodes);
+            })
+      ]
 
   pub IsWay-route : (x t : ℕ) → x < node_count ks → t < node_count ks → IsWay ks x t (reverse (route_of ks x t))
   IsWay-route x t p q = way_of (hops_of ks x t) x t p q refl

@@ -53,5 +53,6 @@ pub record ArePlaces (ks : List ℕ) (src dst : ℕ) (places : List Place) : Typ
   pub count : length places ≡ 2 * hops_of ks src dst + 2
   pub farthest : (front : List Place) × (places ≡ front ++ Buffer src (2 * length ks) ∷ Source ∷ [])
   pub nearest : (port : ℕ) × (back : List Place) × (places ≡ Buffer dst port ∷ back)
-  pub moves : (front back : List Place) (place : Place) → places ≡ front ++ place ∷ back → (IsLast dst place → ⊥) → (nearer : List Place) × (front ≡ nearer ++ moved_to ks src dst place ∷ [])
+  pub moves : (front back : List Place) (place : Place) → places ≡ front ++ place ∷ back → (IsLast dst place → ⊥) →
+      (nearer : List Place) × (front ≡ nearer ++ moved_to ks src dst place ∷ [])
   pub delivers : (front back : List Place) (place : Place) → places ≡ front ++ place ∷ back → IsLast dst place → front ≡ []

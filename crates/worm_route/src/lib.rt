@@ -7,12 +7,13 @@
 //! which a hop raises one cut. What a link has to know, whether a route crosses it, is a test by digits that is true exactly
 //! where the route has that hop.
 //!
-//! A route's list is never made in the code. Adaptive and randomized routing stand nowhere here, nor do channels or flits.
+//! A route's list is never made in the code: each call looks once at each dimension. Adaptive and randomized routing stand
+//! nowhere here, nor do channels or flits.
 #![tactic(auto)]
 
-ghost use Rattle.std.specs.Prelude.{ℕ, true, ◌≡◌, ◌≢◌, ◌+◌, ◌*◌, ◌<◌, ◌≤◌, ◌↔◌, List, length};
-ghost use Rattle.worm_mesh.specs.Address.{IsMesh, node_count};
-ghost use Rattle.worm_route.specs.Crossing.{Follows, crosses};
+ghost use Rattle.std.specs.Prelude.{◌≡◌, ◌≢◌, ◌+◌, ◌*◌, ◌%◌, ◌<◌, ◌≤◌, ◌==◌, ◌↔◌, if◌then◌else◌, length, IsTrue};
+ghost use Rattle.worm_mesh.specs.Address.{node_count};
+ghost use Rattle.worm_route.specs.Crossing.{Follows, crosses, steps_down, steps_up};
 ghost use Rattle.worm_route.specs.Places.{ArePlaces, places_of};
 ghost use Rattle.worm_route.specs.Route.{LeadsOn, hops_of, port_of, route_of, walk};
 
@@ -58,11 +59,42 @@ pub fn hops(mesh: &Mesh, src: u8, dst: u8) -> u8
     hops
 }
 
-/// A law, with nothing to run: the test whether a route crosses a link is true exactly where the route has the link's two nodes
-/// one after the other. It holds for each node and port, also for those that the mesh does not have.
-pub fn crossing_is_exact()
-    ensures { (ks : List ℕ) (node port src dst : ℕ) → IsMesh ks → src < node_count ks → dst < node_count ks → ((crosses ks node port src dst ≡ true) ↔ Follows ks node port src dst) }
-{}
+/// Whether the route from `src` to `dst` crosses the link that leaves `node` by `port`: whether it has the link's two nodes one
+/// after the other. False for a node or a port that the mesh does not have; `src` and `dst` are nodes of the mesh.
+pub fn crosses(mesh: &Mesh, node: u8, port: u8, src: u8, dst: u8) -> bool
+    requires src_in { src < node_count mesh.now }
+    requires dst_in { dst < node_count mesh.now }
+    ensures value { result ≡ crosses mesh.now node port src dst }
+    ensures exact { IsTrue result ↔ Follows mesh.now node port src dst }
+{
+    // What is left of the three addresses, as numbers, above the dimensions that were looked at.
+    let (mut at, mut first, mut last) = (node, src, dst);
+    for d in 0..mesh.dims() {
+        let radix = mesh.radix(d);
+        if d == port / 2 {
+            return steps_by(port, at % radix, first % radix, last % radix)
+                && at / radix == first / radix;
+        }
+        if at % radix != last % radix {
+            return false;
+        }
+        at /= radix;
+        first /= radix;
+        last /= radix;
+    }
+    false
+}
+
+// Whether a digit that runs from `first` to `last`, which it does not leave, steps from `at` to this side.
+fn steps_by(port: u8, at: u8, first: u8, last: u8) -> bool
+    ensures { result ≡ (if port % 2 == 0 then steps_down at first last else steps_up at first last) }
+{
+    if port % 2 == 0 {
+        at <= first && last < at
+    } else {
+        first <= at && at < last
+    }
+}
 
 #[cfg(test)]
 mod tests;

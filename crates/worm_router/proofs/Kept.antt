@@ -1,0 +1,74 @@
+-- What a change of one input channel and one output channel leaves sound.
+use Rattle.std.proofs.Common.{ℕ, ◌+◌, ◌-◌, ◌*◌, ◌≤◌, ◌<◌, ◌≡◌, List, length, drop, sum, slice_set, get_or, All, Bool, true, false, arith, inl, inr, refl, sym, subst, ap, ◌∙◌, if◌then◌else◌}
+use Rattle.std.proofs.Math.ListN.{length-set}
+use Rattle.std.proofs.lemmas.Grind.{common_steps, elements, get_or-set_at}
+use Rattle.std.proofs.lemmas.Bool.{cases_eq, eq-eqb}
+use Rattle.std.proofs.lemmas.Nat.{same_from_place}
+use Rattle.std.proofs.lemmas.List.{get_or-set_other, get_or_default}
+use Rattle.std.proofs.lemmas.List.Elements.{All-set}
+use Rattle.worm_flit.specs.declared.Flit.{Flit}
+use Rattle.worm_flit.specs.Kinds.{closes}
+use Rattle.worm_records.specs.declared.InRecord.{InRecord}
+use Rattle.worm_records.specs.declared.InRecord.TheVariants.{Idle}
+use Rattle.worm_records.specs.declared.OutRecord.{OutRecord}
+use Rattle.worm_router.specs.Router.{IsRouter, IsChannel, ChannelState, StateFits, RouterState, terminal, width, credit_of, router_state, free_output, let_out}
+
+pub both_set_sound : (mesh : List ℕ) (node : ℕ) (channels : List ℕ) (depth : ℕ) (inputs : List ChannelState) (outputs : List OutRecord) (i o : ℕ) (c : ChannelState) (u : OutRecord)
+    → IsRouter (router_state mesh node channels depth inputs outputs)
+    → IsChannel mesh channels depth c
+    → u.credits ≤ depth
+    → ((vc : ℕ) → vc < sum channels → (get_or (slice_set outputs o u) (2 * length mesh * sum channels + vc) (free_output depth)).credits ≡ depth)
+    → IsRouter (router_state mesh node channels depth (slice_set inputs i c) (slice_set outputs o u))
+both_set_sound mesh node channels depth inputs outputs i o c u sound channel_sound fits full = record {
+  node_in = sound.node_in;
+  depth_in = sound.depth_in;
+  all_inputs = rw length-set sound.all_inputs;
+  all_outputs = rw length-set sound.all_outputs;
+  inputs_sound = All-set (IsChannel mesh channels depth) inputs i c channel_sound sound.inputs_sound;
+  credits_fit = All-set (λ (v : OutRecord). v.credits ≤ depth) outputs o u fits sound.credits_fit;
+  terminal_full = full;
+}
+
+idle_or_same : (closing : Bool) (terminal width : ℕ) (s : InRecord) → StateFits terminal width s → StateFits terminal width (if closing then Idle else s)
+idle_or_same true terminal width s fits = tt
+idle_or_same false terminal width s fits = fits
+
+pub let_out_sound : (mesh channels : List ℕ) (depth : ℕ) (c : ChannelState) (f : Flit) (more : ℕ)
+    → IsChannel mesh channels depth c → c.owed + more ≤ depth → IsChannel mesh channels depth (let_out c f more)
+let_out_sound mesh channels depth c f more sound room = record {
+  same_depth = sound.same_depth;
+  fits = let less : length (drop 1 c.buffer) ≤ length c.buffer = grind (arith, common_steps) in let fits = sound.fits in omega arith;
+  bound_for_nodes = let all = sound.bound_for_nodes in grind (arith, elements);
+  state_fits = idle_or_same (closes f.kind) (2 * length mesh) (sum channels) c.state sound.state_fits;
+  owed_fits = room;
+}
+
+-- a write of one output channel leaves the terminal's credits whole, where it leaves them so in that channel
+pub full_after : (outputs : List OutRecord) (t w depth o : ℕ) (u d : OutRecord)
+    → o < length outputs
+    → ((vc : ℕ) → vc < w → (get_or outputs (t * w + vc) d).credits ≡ depth)
+    → ((vc : ℕ) → vc < w → t * w + vc ≡ o → u.credits ≡ depth)
+    → (vc : ℕ) → vc < w → (get_or (slice_set outputs o u) (t * w + vc) d).credits ≡ depth
+full_after outputs t w depth o u d within full here vc below =
+    elim (cases_eq (t * w + vc) o) [
+      inl same ↦ rw (get_or-set_at outputs o (t * w + vc) u d same within) (here vc below same)
+    | inr other ↦ rw (get_or-set_other outputs o (t * w + vc) u d other) (full vc below)
+    ]
+
+-- what was read at an index of the terminal has all credits
+pub full_before : (outputs : List OutRecord) (i o depth : ℕ) (had d : OutRecord)
+    → o < length outputs → had ≡ get_or outputs o had → i ≡ o → (get_or outputs i d).credits ≡ depth → had.credits ≡ depth
+full_before outputs i o depth had d within read same full =
+    let e : (get_or outputs o d).credits ≡ depth = subst (λ k. (get_or outputs k d).credits ≡ depth) same full in
+    ap (λ (v : OutRecord). v.credits) (read ∙ get_or_default outputs o had d within) ∙ e
+
+-- a flit that leaves by the terminal costs no credit
+pub no_credit : (r : RouterState) (out v t w vc place spent : ℕ)
+    → v < width r → t ≡ terminal r → w ≡ width r → vc < w
+    → t * w + vc ≡ place → place ≡ out * width r + v → spent ≡ credit_of r out → spent ≡ 0
+no_credit r out v t w vc place spent v_in is_terminal is_width vc_in same is_place is_spent =
+    let row : t * w + vc ≡ out * w + v = same ∙ is_place ∙ ap (λ (n : ℕ). out * n + v) (sym is_width) in
+    let v_below : v < w = omega arith in
+    let here : t ≡ out = (same_from_place t vc out v w vc_in v_below row).0 in
+    let e : out ≡ terminal r = sym here ∙ is_terminal in
+    is_spent ∙ rw (eq-eqb out (terminal r) e) refl

@@ -1,0 +1,4 @@
+pub mod ShapeOf
+pub mod Standing
+pub mod LaneMoves
+pub mod PacketPlaces

@@ -1,0 +1,375 @@
+-- Lemmas on a pass of the switch allocator.
+use Rattle.std.proofs.Common.{◌≡◌, ℕ, ◌+◌, ◌<◌, ◌≤◌, Bool, true, false, List, [], Option, Some, None, is_some, refl, sym, ap, ◌∙◌, arith, slice_index_or, slice_set, length, inl, inr, ltb, cond, replicate, ◌&&◌, bit_or, ◌^◌, subst, get_or-set_same, get_or-set_other}
+use Rattle.std.specs.Option.{option_map}
+use Rattle.std.proofs.lemmas.Bool.{cases_eq, cases_lt, cases_Bool, lt-ltb, le-ltb, ltb-true, eqb-true, eq-eqb, ne_eqb, and_parts, and_from, and_right, true≢false}
+use Rattle.std.proofs.lemmas.List.{length-set, ext_get_or, get_or-replicate, length-replicate, get_or_past, get_or_default}
+use Rattle.std.proofs.lemmas.Nat.{one_shl}
+use Rattle.worm_vcalloc.proofs.LineLemmas.{LinesBelow, lines_none, line_set_at, line_unset_at}
+use Rattle.worm_vcalloc.specs.Arbiter.{ArbiterState, no_arbiter, winner, after_pick, line_requests}
+use Rattle.worm_vcalloc.specs.Table.{cell}
+use Rattle.worm_vcalloc.proofs.ArbiterLemmas.{winner_same, winner_none, winner_requests, winner_none_requests}
+use Rattle.worm_swalloc.specs.declared.grant.SwGrant.{SwGrant}
+use Rattle.worm_swalloc.specs.SwAlloc.{SwAllocState, IsSwReady, IsSwMatching, with_front, request_of, named_channel, named, all_named, is_for, chosen, with_choice, is_line, if_chosen, granted, sw_grants, sw_after, output_after, input_after}
+use Rattle.worm_swalloc.proofs.FrontLemmas.{with_front_zero, slice_set-with_front, with_front_more, length-with_front, slice_index_or-with_front_below, slice_index_or-with_front_past, with_front_same, with_front_kept}
+
+-- the winner among lines that stand for a test
+pub winner_of_lines : (a : ArbiterState) (width lines : ℕ) (asks : ℕ → Bool) → a.width ≡ width → a.pointer < width
+    → ((line : ℕ) → line < width → line_requests lines line ≡ asks line)
+    → winner a (line_requests lines) ≡ winner a asks
+winner_of_lines a width lines asks wide low same = winner_same a (line_requests lines) asks (omega arith) (λ i l. same i (omega arith))
+
+-- the channel that an input arbiter names, from the lines that the code gathers
+pub named_is : (s : SwAllocState) (ready : List (List (Option ℕ))) (port lines : ℕ) (d : ArbiterState) (w : Option ℕ) → IsSwReady s.ports s.channels s.inputs s.outputs → port < s.ports → port < length s.inputs
+    → ((line : ℕ) → line < s.channels → line_requests lines line ≡ is_some (cell ready port line None))
+    → w ≡ winner (slice_index_or s.inputs port d) (line_requests lines) → w ≡ named_channel s ready port
+named_is s ready port lines d w r lp within same e =
+    let few = r.few_ports in
+    e ∙ ap (λ a. winner a (line_requests lines)) (get_or_default s.inputs port d no_arbiter within)
+    ∙ winner_of_lines (slice_index_or s.inputs port no_arbiter) s.channels lines (λ vc. is_some (cell ready port vc None)) (r.input_width port (omega arith)) (r.input_pointer port (omega arith)) same
+
+-- the input port that an output arbiter chooses, likewise
+pub chosen_is : (s : SwAllocState) (requests : List (Option SwGrant)) (out lines : ℕ) (d : ArbiterState) (w : Option ℕ) → IsSwReady s.ports s.channels s.inputs s.outputs → out < s.ports → out < length s.outputs
+    → ((line : ℕ) → line < s.ports → line_requests lines line ≡ is_for (slice_index_or requests line None) out)
+    → w ≡ winner (slice_index_or s.outputs out d) (line_requests lines) → w ≡ chosen s requests out
+chosen_is s requests out lines d w r lo within same e =
+    let few = r.few_ports in
+    e ∙ ap (λ a. winner a (line_requests lines)) (get_or_default s.outputs out d no_arbiter within)
+    ∙ winner_of_lines (slice_index_or s.outputs out no_arbiter) s.ports lines (λ port. is_for (slice_index_or requests port None) out) (r.output_width out (omega arith)) (r.output_pointer out (omega arith)) same
+
+-- an arbiter that has moved past its winner
+pub moved_is : (arbiters : List ArbiterState) (i : ℕ) (d new : ArbiterState) (w w' : Option ℕ) → i < length arbiters → w ≡ w'
+    → new ≡ after_pick (slice_index_or arbiters i d) w → new ≡ after_pick (slice_index_or arbiters i no_arbiter) w'
+moved_is arbiters i d new w w' within same e =
+    e ∙ ap (λ a. after_pick a w) (get_or_default arbiters i d no_arbiter within) ∙ ap (after_pick (slice_index_or arbiters i no_arbiter)) same
+
+-- what one choice leaves of the grants and of the allocator
+pub choice_is : (s : SwAllocState) (requests grants : List (Option SwGrant)) (out lines : ℕ) (d new : ArbiterState) (w : Option ℕ) → IsSwReady s.ports s.channels s.inputs s.outputs → out < s.ports → out < length s.outputs
+    → ((line : ℕ) → line < s.ports → line_requests lines line ≡ is_for (slice_index_or requests line None) out)
+    → w ≡ winner (slice_index_or s.outputs out d) (line_requests lines) → new ≡ after_pick (slice_index_or s.outputs out d) w
+    → (with_choice grants requests w ≡ with_choice grants requests (chosen s requests out))
+    × (◌≡◌ {A = SwAllocState} (record s { outputs = slice_set s.outputs out new }) (record s { outputs = slice_set s.outputs out (output_after s requests out) }))
+choice_is s requests grants out lines d new w r lo within same won moved =
+    let choice = chosen_is s requests out lines d w r lo within same won in (
+      ap (with_choice grants requests) choice,
+      ap (λ a. record s { outputs = slice_set s.outputs out a }) (moved_is s.outputs out d new w (chosen s requests out) within choice moved),
+    )
+
+-- ---- the lines of the output arbiters
+
+-- the requests of the input ports below n, by output port
+abbrev pub GatheredBelow : List (Option SwGrant) → ℕ → List ℕ → Type 0
+GatheredBelow requests n lines = (out : ℕ) → out < 7 → LinesBelow (λ line. is_for (slice_index_or requests line None) out) n (slice_index_or lines out 0)
+
+pub gathered_none : (requests : List (Option SwGrant)) → GatheredBelow requests 0 (replicate 7 0)
+gathered_none requests out l =
+    subst (LinesBelow (λ line. is_for (slice_index_or requests line None) out) 0) (sym (get_or-replicate 7 out 0 0 l)) (lines_none (λ line. is_for (slice_index_or requests line None) out))
+
+pub gathered_more : (requests : List (Option SwGrant)) (n : ℕ) (lines next : List ℕ) → GatheredBelow requests n lines → n < 7
+    → ((out : ℕ) → out < 7 → slice_index_or next out 0 ≡ cond (is_for (slice_index_or requests n None) out) (bit_or (slice_index_or lines out 0) (2 ^ n)) (slice_index_or lines out 0))
+    → GatheredBelow requests (n + 1) next
+gathered_more requests n lines next b few e out l =
+    elim (cases_Bool (is_for (slice_index_or requests n None) out)) [
+      | inl t ↦
+          line_set_at _ n (n + 1) (slice_index_or lines out 0) (slice_index_or next out 0) (b out l) refl
+          (e out l ∙ ap (λ t. cond t (bit_or (slice_index_or lines out 0) (2 ^ n)) (slice_index_or lines out 0)) t ∙ ap (bit_or (slice_index_or lines out 0)) (sym (one_shl n 64 (omega arith)))) (omega arith) t
+      | inr f ↦
+          line_unset_at _ n (n + 1) (slice_index_or lines out 0) (slice_index_or next out 0) (b out l) refl
+          (e out l ∙ ap (λ t. cond t (bit_or (slice_index_or lines out 0) (2 ^ n)) (slice_index_or lines out 0)) f) f
+    ]
+
+-- ---- the output arbiters
+
+-- the allocator once the output ports below n have chosen
+abbrev pub after_choices : SwAllocState → List (Option SwGrant) → ℕ → SwAllocState
+after_choices s requests n = record s { outputs = with_front n (output_after s requests) s.outputs }
+
+-- the output ports below n have chosen
+pub record ChosenBelow (s : SwAllocState) (requests : List (Option SwGrant)) (n : ℕ) (now : SwAllocState) (grants : List (Option SwGrant)) : Type 0 where
+  pub state : now ≡ after_choices s requests n
+  pub grants_are : grants ≡ with_front s.ports (granted s requests n) (replicate 7 None)
+
+-- a request keeps its state where output port n does not choose its input port
+if_chosen_same : (s : SwAllocState) (requests : List (Option SwGrant)) (n port : ℕ) (o : Option SwGrant)
+    → ((g : SwGrant) → o ≡ Some g → g.out ≡ n → is_line (chosen s requests n) port ≡ false)
+    → if_chosen s requests n port o ≡ if_chosen s requests (n + 1) port o
+if_chosen_same s requests n port None h = refl
+if_chosen_same s requests n port (Some g) h =
+    elim (cases_eq g.out n) [
+      | inl same ↦
+          let not_this : is_line (chosen s requests g.out) port ≡ false = ap (λ k. is_line (chosen s requests k) port) same ∙ h g refl same in
+          ap (λ b. cond b (Some g) None) (and_right (ltb g.out n) _ not_this ∙ sym (and_right (ltb g.out (n + 1)) _ not_this))
+      | inr other ↦ elim (cases_lt g.out n) [
+        | inl below ↦ ap (λ b. cond (b && is_line (chosen s requests g.out) port) (Some g) None) (lt-ltb g.out n below ∙ sym (lt-ltb g.out (n + 1) (omega arith)))
+        | inr above ↦ ap (λ b. cond (b && is_line (chosen s requests g.out) port) (Some g) None) (le-ltb g.out n above ∙ sym (le-ltb g.out (n + 1) (omega arith)))
+      ]
+    ]
+
+-- the request of the chosen input port is granted
+if_chosen_here : (s : SwAllocState) (requests : List (Option SwGrant)) (n port : ℕ) (o : Option SwGrant)
+    → is_for o n ≡ true → chosen s requests n ≡ Some port → o ≡ if_chosen s requests (n + 1) port o
+if_chosen_here s requests n port None e w = refl
+if_chosen_here s requests n port (Some g) e w =
+    let same : g.out ≡ n = eqb-true g.out n e in
+    let here : is_line (chosen s requests g.out) port ≡ true = ap (λ k. is_line (chosen s requests k) port) same ∙ ap (λ o. is_line o port) w ∙ eq-eqb port port refl in
+    ap (λ b. cond b (Some g) None) (sym (and_from (ltb g.out (n + 1)) (is_line (chosen s requests g.out) port) (lt-ltb g.out (n + 1) (omega arith)) here))
+
+-- the grants once output port n has chosen too
+choice_granted : (s : SwAllocState) (requests : List (Option SwGrant)) (n : ℕ) → s.ports ≤ 7
+    → (slice_index_or s.outputs n no_arbiter).width ≡ s.ports → (slice_index_or s.outputs n no_arbiter).pointer < s.ports
+    → (w : Option ℕ) → chosen s requests n ≡ w
+    → with_choice (with_front s.ports (granted s requests n) (replicate 7 None)) requests w ≡ with_front s.ports (granted s requests (n + 1)) (replicate 7 None)
+choice_granted s requests n few wide low None e =
+    with_front_same s.ports (granted s requests n) (granted s requests (n + 1)) (replicate 7 None) None few
+    (λ i l. if_chosen_same s requests n i (slice_index_or requests i None) (λ g _ _. ap (λ o. is_line o i) e))
+choice_granted s requests n few wide low (Some q) e =
+    let won = winner_requests (slice_index_or s.outputs n no_arbiter) (λ port. is_for (slice_index_or requests port None) n) q (omega arith) e in
+    let before : List (Option SwGrant) = with_front s.ports (granted s requests n) (replicate 7 None) in
+    let after : List (Option SwGrant) = with_front s.ports (granted s requests (n + 1)) (replicate 7 None) in
+    let long : length before ≡ 7 = length-with_front s.ports (granted s requests n) (replicate 7 None) few in
+    let long' : length after ≡ 7 = length-with_front s.ports (granted s requests (n + 1)) (replicate 7 None) few in
+    let set_long : length (slice_set before q (slice_index_or requests q None)) ≡ length before = length-set before q (slice_index_or requests q None) in
+    ext_get_or None (slice_set before q (slice_index_or requests q None)) after (set_long ∙ long ∙ sym long')
+    (λ i _. elim (cases_eq i q) [
+      | inl here ↦
+          ap (λ k. slice_index_or (slice_set before q (slice_index_or requests q None)) k None) here
+          ∙ get_or-set_same before q (slice_index_or requests q None) None (omega (arith, won.0))
+          ∙ if_chosen_here s requests n q (slice_index_or requests q None) won.1 e
+          ∙ sym (slice_index_or-with_front_below s.ports q (granted s requests (n + 1)) (replicate 7 None) None (omega (arith, won.0)))
+          ∙ ap (λ k. slice_index_or after k None) (sym here)
+      | inr other ↦
+          get_or-set_other before q i (slice_index_or requests q None) None other
+          ∙ elim (cases_lt i s.ports) [
+            | inl below ↦
+                slice_index_or-with_front_below s.ports i (granted s requests n) (replicate 7 None) None below
+                ∙ if_chosen_same s requests n i (slice_index_or requests i None) (λ g _ _. ap (λ o. is_line o i) e ∙ ne_eqb q i (λ same. other (sym same)))
+                ∙ sym (slice_index_or-with_front_below s.ports i (granted s requests (n + 1)) (replicate 7 None) None below)
+            | inr past ↦
+                slice_index_or-with_front_past s.ports i (granted s requests n) (replicate 7 None) None past
+                ∙ sym (slice_index_or-with_front_past s.ports i (granted s requests (n + 1)) (replicate 7 None) None past)
+          ]
+    ])
+
+-- before the first choice
+pub chosen_none : (s : SwAllocState) (requests : List (Option SwGrant)) → s.ports ≤ 7 → ChosenBelow s requests 0 s (replicate 7 None)
+chosen_none s requests few = record {
+  state = ap (λ o. record s { outputs = o }) (sym (with_front_zero (output_after s requests) s.outputs));
+  grants_are =
+      ext_get_or None (replicate 7 None) (with_front s.ports (granted s requests 0) (replicate 7 None)) (sym (length-with_front s.ports (granted s requests 0) (replicate 7 None) few))
+      (λ i l. elim (cases_lt i s.ports) [
+        | inl below ↦ get_or-replicate 7 i None None l ∙ none_below i (slice_index_or requests i None) ∙ sym (slice_index_or-with_front_below s.ports i (granted s requests 0) (replicate 7 None) None below)
+        | inr past ↦ sym (slice_index_or-with_front_past s.ports i (granted s requests 0) (replicate 7 None) None past)
+      ]);
+} where
+  none_below : (i : ℕ) (o : Option SwGrant) → None ≡ if_chosen s requests 0 i o
+  none_below i None = refl
+  none_below i (Some g) = ap (λ b. cond (b && is_line (chosen s requests g.out) i) (Some g) None) (sym (le-ltb g.out 0 (omega arith)))
+
+-- one more choice
+pub chosen_more : (s : SwAllocState) (requests : List (Option SwGrant)) (n : ℕ) (now next : SwAllocState) (grants grants' : List (Option SwGrant))
+    → ChosenBelow s requests n now grants → s.ports ≤ 7 → n < length s.outputs
+    → (slice_index_or s.outputs n no_arbiter).width ≡ s.ports → (slice_index_or s.outputs n no_arbiter).pointer < s.ports
+    → grants' ≡ with_choice grants requests (chosen now requests n)
+    → next ≡ record now { outputs = slice_set now.outputs n (output_after now requests n) }
+    → ChosenBelow s requests (n + 1) next grants'
+chosen_more s requests n now next grants grants' b few within wide low g e =
+    let same : slice_index_or (with_front n (output_after s requests) s.outputs) n no_arbiter ≡ slice_index_or s.outputs n no_arbiter
+    = slice_index_or-with_front_past n n (output_after s requests) s.outputs no_arbiter (omega arith) in
+    let choice : chosen now requests n ≡ chosen s requests n =
+    ap (λ (t : SwAllocState). chosen t requests n) b.state ∙ ap (λ a. winner a (λ port. is_for (slice_index_or requests port None) n)) same in
+    let moved : output_after now requests n ≡ output_after s requests n =
+    ap (λ (t : SwAllocState). after_pick (slice_index_or t.outputs n no_arbiter) (chosen now requests n)) b.state
+    ∙ ap (λ a. after_pick a (chosen now requests n)) same
+    ∙ ap (after_pick (slice_index_or s.outputs n no_arbiter)) choice in
+    record {
+      state = e
+          ∙ ap (λ a. record now { outputs = slice_set now.outputs n a }) moved
+          ∙ ap (λ (t : SwAllocState). record t { outputs = slice_set t.outputs n (output_after s requests n) }) b.state
+          ∙ ap (λ o. record s { outputs = o }) (slice_set-with_front n (output_after s requests) s.outputs no_arbiter within);
+      grants_are = g
+          ∙ ap (λ w. with_choice grants requests w) choice
+          ∙ ap (λ r. with_choice r requests (chosen s requests n)) b.grants_are
+          ∙ choice_granted s requests n few wide low (chosen s requests n) refl;
+    }
+
+-- ---- the input arbiters
+
+-- the allocator once the granted input ports below n have moved
+abbrev pub committed : SwAllocState → List (List (Option ℕ)) → List (Option SwGrant) → ℕ → SwAllocState
+committed s ready grants n = record s { inputs = with_front n (input_after s ready grants) s.inputs }
+
+pub committed_none : (s : SwAllocState) (ready : List (List (Option ℕ))) (grants : List (Option SwGrant)) → s ≡ committed s ready grants 0
+committed_none s ready grants = ap (λ i. record s { inputs = i }) (sym (with_front_zero (input_after s ready grants) s.inputs))
+
+-- a granted input port moves
+pub committed_granted : (s : SwAllocState) (ready : List (List (Option ℕ))) (grants : List (Option SwGrant)) (n : ℕ) (now next : SwAllocState)
+    → now ≡ committed s ready grants n → n < length s.inputs → is_some (slice_index_or grants n None) ≡ true
+    → next ≡ record now { inputs = slice_set now.inputs n (after_pick (slice_index_or now.inputs n no_arbiter) (named_channel now ready n)) }
+    → next ≡ committed s ready grants (n + 1)
+committed_granted s ready grants n now next is within some e =
+    let same : slice_index_or (with_front n (input_after s ready grants) s.inputs) n no_arbiter ≡ slice_index_or s.inputs n no_arbiter
+    = slice_index_or-with_front_past n n (input_after s ready grants) s.inputs no_arbiter (omega arith) in
+    let asks : ℕ → Bool = λ vc. is_some (cell ready n vc None) in
+    e
+    ∙ ap (λ (t : SwAllocState). record t { inputs = slice_set t.inputs n (after_pick (slice_index_or t.inputs n no_arbiter) (winner (slice_index_or t.inputs n no_arbiter) asks)) }) is
+    ∙ ap (λ a. record s { inputs = slice_set (with_front n (input_after s ready grants) s.inputs) n (after_pick a (winner a asks)) }) same
+    ∙ ap (λ a. record s { inputs = slice_set (with_front n (input_after s ready grants) s.inputs) n a })
+    (sym (ap (λ b. cond b (after_pick (slice_index_or s.inputs n no_arbiter) (named_channel s ready n)) (slice_index_or s.inputs n no_arbiter)) some))
+    ∙ ap (λ i. record s { inputs = i }) (slice_set-with_front n (input_after s ready grants) s.inputs no_arbiter within)
+
+-- another input port stays
+pub committed_other : (s : SwAllocState) (ready : List (List (Option ℕ))) (grants : List (Option SwGrant)) (n : ℕ) (now next : SwAllocState)
+    → now ≡ committed s ready grants n → n < length s.inputs → is_some (slice_index_or grants n None) ≡ false
+    → next ≡ now
+    → next ≡ committed s ready grants (n + 1)
+committed_other s ready grants n now next is within none e =
+    e ∙ is
+    ∙ ap (λ i. record s { inputs = i })
+    (with_front_more n (input_after s ready grants) s.inputs no_arbiter within
+    (sym (ap (λ b. cond b (after_pick (slice_index_or s.inputs n no_arbiter) (named_channel s ready n)) (slice_index_or s.inputs n no_arbiter)) none)))
+
+-- ---- the matching
+
+granted_parts : (s : SwAllocState) (requests : List (Option SwGrant)) (n port : ℕ) (o : Option SwGrant) (g : SwGrant)
+    → if_chosen s requests n port o ≡ Some g → (o ≡ Some g) × (g.out < n) × (chosen s requests g.out ≡ Some port)
+granted_parts s requests n port None g e = absurd (cc)
+granted_parts s requests n port (Some h) g e =
+    elim (cases_Bool (ltb h.out n && is_line (chosen s requests h.out) port)) [
+      | inl t ↦
+          let same : Some h ≡ Some g = sym (ap (λ b. cond b (Some h) None) t) ∙ e in
+          let hg : h ≡ g = cc in
+          let parts = and_parts _ _ t in (
+            same,
+            let l = ltb-true h.out n parts.0 in let o : h.out ≡ g.out = ap (λ x. x.out) hg in omega arith,
+            line_is (chosen s requests g.out) (ap (λ x. is_line (chosen s requests x.out) port) (sym hg) ∙ parts.1),
+          )
+      | inr f ↦ let no : None ≡ Some g = sym (ap (λ b. cond b (Some h) None) f) ∙ e in absurd (cc)
+    ] where
+      line_is : (o : Option ℕ) → is_line o port ≡ true → o ≡ Some port
+      line_is None e = absurd (cc)
+      line_is (Some q) e = ap Some (eqb-true q port e)
+
+-- a named request is a ready channel with its output port
+request_parts : (row : List (Option ℕ)) (vc : Option ℕ) (g : SwGrant) → request_of row vc ≡ Some g → (vc ≡ Some g.vc) × (slice_index_or row g.vc None ≡ Some g.out)
+request_parts row None g e = absurd (cc)
+request_parts row (Some v) g e = go (slice_index_or row v None) refl where
+  go : (o : Option ℕ) → slice_index_or row v None ≡ o → (Some v ≡ Some g.vc) × (slice_index_or row g.vc None ≡ Some g.out)
+  go None n = let no : None ≡ Some g = sym (ap (option_map (λ out. record { vc = v; out = out })) n) ∙ e in absurd (cc)
+  go (Some out) n =
+      let same : ◌≡◌ {A = Option SwGrant} (Some (record { vc = v; out = out })) (Some g) = sym (ap (option_map (λ out. record { vc = v; out = out })) n) ∙ e in
+      let hg : ◌≡◌ {A = SwGrant} (record { vc = v; out = out }) g = cc in
+      let ev : v ≡ g.vc = ap (λ x. x.vc) hg in
+      let eo : out ≡ g.out = ap (λ x. x.out) hg in
+      (ap Some ev, ap (λ k. slice_index_or row k None) (sym ev) ∙ n ∙ ap Some eo)
+
+get_or-replicate_same : {X : Type 0} (n i : ℕ) (x : X) → slice_index_or (replicate n x) i x ≡ x
+get_or-replicate_same n i x = elim (cases_lt i n) [
+  | inl within ↦ get_or-replicate n i x x within
+  | inr past ↦ get_or_past (replicate n x) i x (let e = length-replicate n x in omega arith)
+]
+
+-- a grant is that of a port that is there
+grant_within : (s : SwAllocState) (requests : List (Option SwGrant)) (port : ℕ) (g : SwGrant)
+    → slice_index_or (with_front s.ports (granted s requests s.ports) (replicate 7 None)) port None ≡ Some g
+    → (port < s.ports) × (granted s requests s.ports port ≡ Some g)
+grant_within s requests port g e =
+    elim (cases_lt port s.ports) [
+      | inl below ↦ (below, sym (slice_index_or-with_front_below s.ports port (granted s requests s.ports) (replicate 7 None) None below) ∙ e)
+      | inr past ↦
+          let nothing : slice_index_or (replicate 7 None) port None ≡ None = get_or-replicate_same 7 port None in
+          let no : None ≡ Some g = sym nothing ∙ sym (slice_index_or-with_front_past s.ports port (granted s requests s.ports) (replicate 7 None) None past) ∙ e in absurd (cc)
+    ]
+
+-- the grants of a pass are a matching
+pub matching : (s : SwAllocState) (ready : List (List (Option ℕ))) → IsSwReady s.ports s.channels s.inputs s.outputs → IsSwMatching s ready (sw_grants s ready)
+matching s ready r = record {
+  requested = λ port g e.
+      let w = grant_within s (all_named s ready) port g e in
+      let p = granted_parts s (all_named s ready) s.ports port (slice_index_or (all_named s ready) port None) g w.1 in
+      let few = r.few_ports in
+      let is_named : named s ready port ≡ Some g = sym (slice_index_or-with_front_below s.ports port (named s ready) (replicate 7 None) None w.0) ∙ p.0 in
+      let q = request_parts (slice_index_or ready port []) (named_channel s ready port) g is_named in
+      let wide : (slice_index_or s.inputs port no_arbiter).width ≡ s.channels = r.input_width port (omega (arith, w.0)) in
+      let low : (slice_index_or s.inputs port no_arbiter).pointer < s.channels = r.input_pointer port (omega (arith, w.0)) in
+      let v = winner_requests (slice_index_or s.inputs port no_arbiter) (λ vc. is_some (cell ready port vc None)) g.vc (omega arith) q.0 in
+      (q.1, w.0, omega (arith, v.0), p.1);
+  once = λ port port' g g' e e' same.
+      let w = grant_within s (all_named s ready) port g e in
+      let w' = grant_within s (all_named s ready) port' g' e' in
+      let p = granted_parts s (all_named s ready) s.ports port (slice_index_or (all_named s ready) port None) g w.1 in
+      let p' = granted_parts s (all_named s ready) s.ports port' (slice_index_or (all_named s ready) port' None) g' w'.1 in
+      let both : Some port ≡ Some port' = sym p.2 ∙ ap (chosen s (all_named s ready)) same ∙ p'.2 in
+      cc;
+  complete = λ port g within e below. go port g within e below (chosen s (all_named s ready) g.out) refl;
+} where
+  go : (port : ℕ) (g : SwGrant) → port < s.ports → named s ready port ≡ Some g → g.out < s.ports
+      → (w : Option ℕ) → chosen s (all_named s ready) g.out ≡ w
+      → (port' : ℕ) × (g' : SwGrant) × (slice_index_or (sw_grants s ready) port' None ≡ Some g') × (g'.out ≡ g.out)
+  go port g within e below None is =
+      let wide : (slice_index_or s.outputs g.out no_arbiter).width ≡ s.ports = r.output_width g.out (let few = r.few_ports in omega arith) in
+      let low : (slice_index_or s.outputs g.out no_arbiter).pointer < s.ports = r.output_pointer g.out (let few = r.few_ports in omega arith) in
+      let no = winner_none_requests (slice_index_or s.outputs g.out no_arbiter) (λ p. is_for (slice_index_or (all_named s ready) p None) g.out) (omega arith) is port (omega arith) in
+      let yes : is_for (slice_index_or (all_named s ready) port None) g.out ≡ true =
+      ap (λ o. is_for o g.out) (slice_index_or-with_front_below s.ports port (named s ready) (replicate 7 None) None within ∙ e) ∙ eq-eqb g.out g.out refl in
+      absurd (true≢false (sym yes ∙ no))
+  go port g within e below (Some q) is =
+      let wide : (slice_index_or s.outputs g.out no_arbiter).width ≡ s.ports = r.output_width g.out (let few = r.few_ports in omega arith) in
+      let low : (slice_index_or s.outputs g.out no_arbiter).pointer < s.ports = r.output_pointer g.out (let few = r.few_ports in omega arith) in
+      let won = winner_requests (slice_index_or s.outputs g.out no_arbiter) (λ p. is_for (slice_index_or (all_named s ready) p None) g.out) q (omega arith) is in
+      request (slice_index_or (all_named s ready) q None) refl won.1 (omega (arith, won.0)) where
+        request : (o : Option SwGrant) → slice_index_or (all_named s ready) q None ≡ o → is_for (slice_index_or (all_named s ready) q None) g.out ≡ true → q < s.ports
+            → (port' : ℕ) × (g' : SwGrant) × (slice_index_or (sw_grants s ready) port' None ≡ Some g') × (g'.out ≡ g.out)
+        request None n asked lq = absurd (true≢false (sym asked ∙ ap (λ o. is_for o g.out) n))
+        request (Some g') n asked lq =
+            let same : g'.out ≡ g.out = eqb-true g'.out g.out (ap (λ o. is_for o g.out) (sym n) ∙ asked) in
+            let here : is_line (chosen s (all_named s ready) g'.out) q ≡ true = ap (λ k. is_line (chosen s (all_named s ready) k) q) same ∙ ap (λ o. is_line o q) is ∙ eq-eqb q q refl in (
+              q,
+              g',
+              slice_index_or-with_front_below s.ports q (granted s (all_named s ready) s.ports) (replicate 7 None) None lq
+                  ∙ ap (if_chosen s (all_named s ready) s.ports q) n
+                  ∙ ap (λ b. cond b (Some g') None) (and_from (ltb g'.out s.ports) (is_line (chosen s (all_named s ready) g'.out) q) (lt-ltb g'.out s.ports (omega arith)) here),
+              same,
+            )
+
+-- ---- where nothing is ready
+
+-- no input port names a channel
+named_none : (s : SwAllocState) (ready : List (List (Option ℕ))) → IsSwReady s.ports s.channels s.inputs s.outputs → ((p v : ℕ) → p < 7 → v < 8 → cell ready p v None ≡ None)
+    → (port : ℕ) → port < s.ports → named s ready port ≡ None
+named_none s ready r none port lp =
+    let few = r.few_ports in
+    let few' = r.few_channels in
+    let wide = r.input_width port (omega arith) in
+    let low = r.input_pointer port (omega arith) in
+    ap (request_of (slice_index_or ready port []))
+    (winner_none (slice_index_or s.inputs port no_arbiter) (λ vc. is_some (cell ready port vc None)) (omega arith) (λ vc l. ap is_some (none port vc (omega arith) (omega arith))))
+
+all_named_none : (s : SwAllocState) (ready : List (List (Option ℕ))) → IsSwReady s.ports s.channels s.inputs s.outputs → ((p v : ℕ) → p < 7 → v < 8 → cell ready p v None ≡ None)
+    → all_named s ready ≡ replicate 7 None
+all_named_none s ready r none =
+    with_front_kept s.ports (named s ready) (replicate 7 None) None r.few_ports
+    (λ i l. named_none s ready r none i l ∙ sym (get_or-replicate_same 7 i None))
+
+-- nothing is granted
+pub sw_grants_none : (s : SwAllocState) (ready : List (List (Option ℕ))) → IsSwReady s.ports s.channels s.inputs s.outputs → ((p v : ℕ) → p < 7 → v < 8 → cell ready p v None ≡ None)
+    → sw_grants s ready ≡ replicate 7 None
+sw_grants_none s ready r none =
+    with_front_kept s.ports (granted s (all_named s ready) s.ports) (replicate 7 None) None r.few_ports
+    (λ i l. ap (if_chosen s (all_named s ready) s.ports i) (ap (λ xs. slice_index_or xs i None) (all_named_none s ready r none) ∙ get_or-replicate_same 7 i None) ∙ sym (get_or-replicate_same 7 i None))
+
+-- no arbiter moves
+pub sw_after_none : (s : SwAllocState) (ready : List (List (Option ℕ))) → IsSwReady s.ports s.channels s.inputs s.outputs → s.ports ≤ length s.inputs → s.ports ≤ length s.outputs
+    → ((p v : ℕ) → p < 7 → v < 8 → cell ready p v None ≡ None)
+    → sw_after s ready ≡ s
+sw_after_none s ready r long long' none =
+    ap (λ i. record s { inputs = i; outputs = with_front s.ports (output_after s (all_named s ready)) s.outputs })
+    (with_front_kept s.ports (input_after s ready (sw_grants s ready)) s.inputs no_arbiter long
+    (λ i l. ap (λ o. cond (is_some o) (after_pick (slice_index_or s.inputs i no_arbiter) (named_channel s ready i)) (slice_index_or s.inputs i no_arbiter)) (ap (λ xs. slice_index_or xs i None) (sw_grants_none s ready r none) ∙ get_or-replicate_same 7 i None)))
+    ∙ ap (λ o. record s { outputs = o })
+    (with_front_kept s.ports (output_after s (all_named s ready)) s.outputs no_arbiter long'
+    (λ i l.
+    let few = r.few_ports in
+    let wide = r.output_width i (omega arith) in
+    let low = r.output_pointer i (omega arith) in
+    ap (after_pick (slice_index_or s.outputs i no_arbiter))
+    (winner_none (slice_index_or s.outputs i no_arbiter) (λ port. is_for (slice_index_or (all_named s ready) port None) i) (omega arith)
+    (λ port l'. ap (λ o. is_for o i) (ap (λ xs. slice_index_or xs port None) (all_named_none s ready r none) ∙ get_or-replicate_same 7 port None)))))

@@ -1,0 +1,33 @@
+use Rattle.std.proofs.Common.{◌≡◌, ℕ, ◌<◌, sym, ◌∙◌, ap, subst, None, replicate, arith}
+use Rattle.worm_vcalloc.specs.Table.{cell}
+use Rattle.worm_vcalloc.proofs.PassLemmas.{none_where_not_some}
+use Rattle.worm_vcalloc.proofs.SetLemmas.{has-empty}
+use Rattle.worm_swalloc.specs.SwAlloc.{SwAllocState, sw_grants, IsSwMatching, granted, with_front}
+use Rattle.worm_swalloc.proofs.SwLemmas.{matching, sw_grants_none, sw_after_none}
+use Rattle.worm_swalloc.proofs.sw_alloc.SwAlloc.grant.Goals as goal
+
+-- where no channel is ready
+nothing_ready : (c : goal.Then-is_empty) (p v : ℕ) → p < 7 → v < 8 → cell c.args.ready.now p v None ≡ None
+nothing_ready c p v lp lv = none_where_not_some (cell c.args.ready.now p v None) (sym (c.keys.ensures p v lp lv) ∙ has-empty c.keys.result p v (sym c.is_empty.ensures ∙ c.if-is_empty.true))
+
+pub returns-then-is_empty-clause-grants : goal.returns-then-is_empty-clause-grants
+returns-then-is_empty-clause-grants c =
+    let s : SwAllocState = record { ports = c.self.inside.ports; channels = c.self.inside.channels; inputs = c.self.inside.inputs; outputs = c.self.inside.outputs } in
+    rw (← c.self.view_is) (sym (sw_grants_none s c.args.ready.now c.self.invariant (nothing_ready c)))
+
+pub returns-then-is_empty-clause-after : goal.returns-then-is_empty-clause-after
+returns-then-is_empty-clause-after c =
+    let s : SwAllocState = record { ports = c.self.inside.ports; channels = c.self.inside.channels; inputs = c.self.inside.inputs; outputs = c.self.inside.outputs } in
+    let few = c.self.invariant.few_ports in
+    rw (← c.self.view_is) (sym (sw_after_none s c.args.ready.now c.self.invariant (omega arith) (omega arith) (nothing_ready c)))
+
+pub returns-then-is_empty-clause-matching : goal.returns-then-is_empty-clause-matching
+returns-then-is_empty-clause-matching c =
+    let s : SwAllocState = record { ports = c.self.inside.ports; channels = c.self.inside.channels; inputs = c.self.inside.inputs; outputs = c.self.inside.outputs } in
+    rw (← c.self.view_is) (subst (IsSwMatching s c.args.ready.now) (sw_grants_none s c.args.ready.now c.self.invariant (nothing_ready c)) (matching s c.args.ready.now c.self.invariant))
+
+pub returns-clause-matching : goal.returns-clause-matching
+returns-clause-matching c =
+    let is : c.choose-grants.result ≡ sw_grants c.args.self.now c.args.ready.now =
+    c.choose-grants.ensures.grants ∙ ap (λ r. with_front c.args.self.now.ports (granted c.args.self.now r c.args.self.now.ports) (replicate 7 None)) c.requests-requests.ensures.named in
+    subst (IsSwMatching c.args.self.now c.args.ready.now) (sym is) (matching c.args.self.now c.args.ready.now c.requests-requests.ensures.ready)

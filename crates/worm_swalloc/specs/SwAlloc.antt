@@ -1,0 +1,105 @@
+-- One pass of switch allocation, input first.
+use Rattle.std.specs.Prelude.{◌≡◌, ℕ, ◌<◌, ◌≤◌, ◌==◌, ◌&&◌, nat_lt, Bool, false, if◌then◌else◌, List, [], ◌++◌, Option, Some, None, is_some, map, replicate, slice_index_or, slice_set, drop}
+use Rattle.std.specs.Option.{option_map}
+use Rattle.std.specs.List.{range_with_len}
+use Rattle.worm_vcalloc.specs.Arbiter.{ArbiterState, no_arbiter, winner, after_pick}
+use Rattle.worm_vcalloc.specs.Table.{cell}
+use Rattle.worm_swalloc.specs.declared.grant.SwGrant.{SwGrant}
+
+-- an allocator: an arbiter for each input port and for each output port
+pub record SwAllocState : Type 0 where
+  pub ports : ℕ
+  pub channels : ℕ
+  pub inputs : List ArbiterState
+  pub outputs : List ArbiterState
+
+-- between passes: each input arbiter has a line for each channel, each output arbiter one for each input port
+pub record IsSwReady (ports channels : ℕ) (inputs outputs : List ArbiterState) : Type 0 where
+  pub some_port : 0 < ports
+  pub few_ports : ports ≤ 7
+  pub some_channel : 0 < channels
+  pub few_channels : channels ≤ 8
+  pub input_width : (i : ℕ) → i < 7 → (slice_index_or inputs i no_arbiter).width ≡ channels
+  pub input_pointer : (i : ℕ) → i < 7 → (slice_index_or inputs i no_arbiter).pointer < channels
+  pub output_width : (i : ℕ) → i < 7 → (slice_index_or outputs i no_arbiter).width ≡ ports
+  pub output_pointer : (i : ℕ) → i < 7 → (slice_index_or outputs i no_arbiter).pointer < ports
+
+-- the list whose first n elements are f 0, f 1, .., and the others those of xs
+unfoldable pub with_front : {X : Type 0} → ℕ → (ℕ → X) → List X → List X
+with_front n f xs = map f (range_with_len 0 n) ++ drop n xs
+
+-- the channel that the arbiter of an input port names: its first ready one
+abbrev pub named_channel : SwAllocState → List (List (Option ℕ)) → ℕ → Option ℕ
+named_channel s ready port = winner (slice_index_or s.inputs port no_arbiter) (λ vc. is_some (cell ready port vc None))
+
+-- the request of an input port for the output port of its named channel
+abbrev pub request_of : List (Option ℕ) → Option ℕ → Option SwGrant
+request_of row None = None
+request_of row (Some vc) = option_map (λ out. record { vc = vc; out = out }) (slice_index_or row vc None)
+
+abbrev pub named : SwAllocState → List (List (Option ℕ)) → ℕ → Option SwGrant
+named s ready port = request_of (slice_index_or ready port []) (named_channel s ready port)
+
+-- what each input port names
+abbrev pub all_named : SwAllocState → List (List (Option ℕ)) → List (Option SwGrant)
+all_named s ready = with_front s.ports (named s ready) (replicate 7 None)
+
+-- whether a request is for an output port
+abbrev pub is_for : Option SwGrant → ℕ → Bool
+is_for None out = false
+is_for (Some g) out = g.out == out
+
+-- the input port that the arbiter of an output port chooses
+abbrev pub chosen : SwAllocState → List (Option SwGrant) → ℕ → Option ℕ
+chosen s requests out = winner (slice_index_or s.outputs out no_arbiter) (λ port. is_for (slice_index_or requests port None) out)
+
+-- the grants with the chosen port's request added
+abbrev pub with_choice : List (Option SwGrant) → List (Option SwGrant) → Option ℕ → List (Option SwGrant)
+with_choice grants requests None = grants
+with_choice grants requests (Some port) = slice_set grants port (slice_index_or requests port None)
+
+-- whether the choice is this port
+abbrev pub is_line : Option ℕ → ℕ → Bool
+is_line None port = false
+is_line (Some line) port = line == port
+
+-- a request is granted where its output port, below n, chose its input port
+abbrev pub if_chosen : SwAllocState → List (Option SwGrant) → ℕ → ℕ → Option SwGrant → Option SwGrant
+if_chosen s requests n port None = None
+if_chosen s requests n port (Some g) = if nat_lt g.out n && is_line (chosen s requests g.out) port then Some g else None
+
+abbrev pub granted : SwAllocState → List (Option SwGrant) → ℕ → ℕ → Option SwGrant
+granted s requests n port = if_chosen s requests n port (slice_index_or requests port None)
+
+-- the grants of a pass
+abbrev pub sw_grants : SwAllocState → List (List (Option ℕ)) → List (Option SwGrant)
+sw_grants s ready = with_front s.ports (granted s (all_named s ready) s.ports) (replicate 7 None)
+
+-- the arbiter of an output port afterwards
+abbrev pub output_after : SwAllocState → List (Option SwGrant) → ℕ → ArbiterState
+output_after s requests out = after_pick (slice_index_or s.outputs out no_arbiter) (chosen s requests out)
+
+-- the arbiter of an input port afterwards: it moves only where its request was granted
+abbrev pub input_after : SwAllocState → List (List (Option ℕ)) → List (Option SwGrant) → ℕ → ArbiterState
+input_after s ready grants port =
+    if is_some (slice_index_or grants port None)
+    then after_pick (slice_index_or s.inputs port no_arbiter) (named_channel s ready port)
+    else slice_index_or s.inputs port no_arbiter
+
+-- the allocator after a pass
+abbrev pub sw_after : SwAllocState → List (List (Option ℕ)) → SwAllocState
+sw_after s ready = record s {
+  inputs = with_front s.ports (input_after s ready (sw_grants s ready)) s.inputs;
+  outputs = with_front s.ports (output_after s (all_named s ready)) s.outputs;
+}
+
+-- the grants of a pass match input ports to output ports
+pub record IsSwMatching (s : SwAllocState) (ready : List (List (Option ℕ))) (grants : List (Option SwGrant)) : Type 0 where
+  -- each grant is a ready channel with its output port
+  pub requested : (port : ℕ) (g : SwGrant) → slice_index_or grants port None ≡ Some g
+      → (cell ready port g.vc None ≡ Some g.out) × (port < s.ports) × (g.vc < s.channels) × (g.out < s.ports)
+  -- no output port is granted twice
+  pub once : (port port' : ℕ) (g g' : SwGrant) → slice_index_or grants port None ≡ Some g → slice_index_or grants port' None ≡ Some g' → g.out ≡ g'.out → port ≡ port'
+  -- an output port that some input arbiter named has a winner
+  pub complete : (port : ℕ) (g : SwGrant) → port < s.ports → named s ready port ≡ Some g → g.out < s.ports
+      → (port' : ℕ) × (g' : SwGrant) × (slice_index_or grants port' None ≡ Some g') × (g'.out ≡ g.out)

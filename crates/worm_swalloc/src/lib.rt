@@ -1,0 +1,20 @@
+//! The allocator of the switch: which ready input channels send in a turn (Dally and Towles,
+//! chapter 19).
+//!
+//! It is separable and input first: the arbiter of each input port names one ready channel, then the
+//! arbiter of each output port chooses one of the input ports that named it. An output arbiter moves at
+//! its choice; an input arbiter moves only where its request was granted, so a channel that was named in
+//! vain is named again.
+//!
+//! Ready channels come as a map that knows its keys, so a pass in which nothing is ready is one load, and
+//! an input port's lines are a shift and a mask. What each output port is asked for is gathered in one
+//! look over the named requests.
+//!
+//! It makes one pass and no second for the ports left over, so its matching need not be a largest one.
+#![tactic(auto)]
+
+mod grant;
+mod sw_alloc;
+
+pub use grant::{ReadyOuts, SwGrant, SwGrants};
+pub use sw_alloc::SwAlloc;

@@ -1,0 +1,96 @@
+ghost use Rattle.std.specs.Prelude.{◌≡◌, ◌+◌, ◌≤◌, ◌<◌, [], ◌∷◌, ◌++◌, length, OnOk, OnErr, IsSome};
+ghost use Rattle.worm_flit.specs.Packets.{packet_flits};
+ghost use Rattle.worm_term.specs.Queue.{empty_queue, appended, waiting, one_fed};
+
+use std::alloc::{AllocError, Global};
+use std::marker::Model;
+use worm_flit::{Flit, Packet, flit_at};
+
+/// The flits of one class, as accepted, and how many of them were fed.
+#[derive(Drop)]
+pub struct Queue {
+    injected: Vec<Flit>,
+    fed: usize,
+}
+
+impl Model for Queue {
+    ghost use Rattle.std.specs.Prelude.{◌≤◌, length};
+    ghost use Rattle.worm_term.specs.Queue.{QueueState};
+
+    ghost Value = { QueueState };
+
+    ghost view = { λ q. record { injected = q.injected.items; fed = q.fed } };
+
+    ghost invariant = { λ q. q.fed ≤ length q.injected.items };
+}
+
+/// Appends the packet's flits. Room for all of them is made first.
+fn push_flits(flits: &mut Vec<Flit>, packet: &Packet, number: u16) -> Result<(), AllocError>
+    ensures ok { OnOk result (flits.new.items ≡ flits.old.items ++ packet_flits packet.now.lane number packet.now.words) }
+    ensures err { OnErr result (flits.new.items ≡ flits.old.items) }
+    ensures some { 1 ≤ length packet.now.words }
+    ensures few { length packet.now.words ≤ 32 }
+{
+    let count = packet.words().len() as u8;
+    flits.reserve(usize::from(count))?;
+    for i in 0..count {
+        let _ = flits.push(flit_at(packet, number, i));
+    }
+    Ok(())
+}
+
+impl Queue {
+    pub fn new(alloc: Global) -> Queue
+        ensures { result ≡ empty_queue }
+    {
+        Queue {
+            injected: Vec::new(alloc),
+            fed: 0,
+        }
+    }
+
+    /// Appends the packet's flits, or nothing.
+    pub fn append_packet(&mut self, packet: &Packet, number: u16) -> Result<(), AllocError>
+        ensures ok { OnOk result (self.new ≡ appended self.old (packet_flits packet.now.lane number packet.now.words)) }
+        ensures err { OnErr result (self.new ≡ self.old) }
+        ensures some { 1 ≤ length packet.now.words }
+        ensures few { length packet.now.words ≤ 32 }
+    {
+        push_flits(&mut self.injected, packet, number)
+    }
+
+    pub fn append(&mut self, flit: Flit) -> Result<(), AllocError>
+        ensures ok { OnOk result (self.new ≡ appended self.old (flit ∷ [])) }
+        ensures err { OnErr result (self.new ≡ self.old) }
+    {
+        self.injected.push(flit)?;
+        Ok(())
+    }
+
+    /// The first flit that is not fed.
+    pub fn front(&self) -> Option<Flit>
+        ensures { result ≡ waiting self.now }
+    {
+        self.injected.get(self.fed).copied()
+    }
+
+    pub fn feed(&mut self)
+        requires { IsSome (waiting self.old) }
+        ensures { self.new ≡ one_fed self.old }
+    {
+        self.fed += 1;
+    }
+
+    pub fn injected(&self) -> &[Flit]
+        ensures { result.now ≡ self.now.injected }
+    {
+        self.injected.as_slice()
+    }
+
+    pub fn fed(&self) -> usize
+        ensures value { result ≡ self.now.fed }
+        ensures bound { result ≤ length self.now.injected }
+    {
+        self.fed
+    }
+}

@@ -1,0 +1,216 @@
+ghost use Rattle.std.specs.Prelude.{ℕ, ◌≡◌, ◌+◌, ◌≤◌, ◌<◌, length, IfOk, IfErr, OnOk, OnErr, IsSome, None, Some, unwrap_or, true, false, replicate, All};
+ghost use Rattle.worm_flit.specs.Channels.{AreChannels};
+ghost use Rattle.worm_term.specs.Queue.{empty_queue, waiting};
+ghost use Rattle.worm_flit.specs.Stamps.{of_lane};
+ghost use Rattle.worm_term.specs.Lanes.{IsPackets, lane_of};
+ghost use Rattle.worm_term.specs.Source.{SourceState, fresh_lane, fresh_source, lane_at, lane_line, queue_at, refusal, next_number, after_offer, after_close, front_of, after_fed, classes, IsOpen, IsFrom};
+
+use crate::queue::Queue;
+use std::alloc::{AllocError, Global};
+use std::marker::Model;
+use worm_flit::{ClassChannels, Flit, Lane, Packet, close_flit};
+
+/// Memory was refused.
+#[derive(Clone, Copy, Debug, PartialEq, Eq)]
+pub struct NoMemory;
+
+impl From<AllocError> for NoMemory {
+    fn from(_error: AllocError) -> NoMemory {
+        NoMemory
+    }
+}
+
+/// Why a source takes no packet or mark.
+#[derive(Clone, Copy, Debug, PartialEq, Eq)]
+pub enum OfferFault {
+    WrongSource,
+    NoSuchNode,
+    NoSuchClass,
+    LaneClosed,
+    LaneFull,
+    NoMemory,
+    ManyChannels,
+}
+
+/// How many packets of a lane were accepted, its mark too, and whether the mark was.
+#[derive(Clone, Copy, Debug, PartialEq, Eq)]
+pub struct LaneState {
+    pub next: u16,
+    pub closed: bool,
+}
+
+/// Where a node's packets come in.
+#[derive(Drop)]
+pub struct Source {
+    node: u8,
+    nodes: u16,
+    classes: ClassChannels,
+    queues: Vec<Queue>,
+    lanes: Vec<LaneState>,
+}
+
+impl Model for Source {
+    ghost use Rattle.worm_term.specs.Source.{SourceState, IsSource, source_state};
+
+    ghost Value = { SourceState };
+
+    ghost view = { λ s. source_state s.node s.nodes s.classes s.queues.items s.lanes.items };
+
+    ghost invariant = { λ s. IsSource (source_state s.node s.nodes s.classes s.queues.items s.lanes.items) };
+}
+
+fn make_queues(alloc: Global, count: u8) -> Result<Vec<Queue>, AllocError>
+    ensures { IfOk result (λ v. v.items ≡ replicate count empty_queue) }
+{
+    let mut queues = Vec::with_capacity(alloc, usize::from(count))?;
+    for _i in 0..count {
+        queues.push(Queue::new(alloc))?;
+    }
+    Ok(queues)
+}
+
+fn make_lanes(alloc: Global, count: usize) -> Result<Vec<LaneState>, AllocError>
+    ensures { IfOk result (λ v. v.items ≡ replicate count fresh_lane) }
+{
+    let mut lanes = Vec::with_capacity(alloc, count)?;
+    for _i in 0..count {
+        lanes.push(LaneState { next: 0, closed: false })?;
+    }
+    Ok(lanes)
+}
+
+impl Source {
+    pub fn new(alloc: Global, node: u8, nodes: u16, channels: &[u8]) -> Result<Source, NoMemory>
+        requires node { node < nodes }
+        requires nodes { nodes ≤ 256 }
+        requires channels { AreChannels channels.now }
+        ensures { IfOk result (λ s. s ≡ fresh_source node nodes channels.now) }
+    {
+        let classes = ClassChannels::new(channels);
+        let count = classes.classes();
+        let queues = make_queues(alloc, count)?;
+        let lanes = make_lanes(alloc, usize::from(nodes) * usize::from(count))?;
+        Ok(Source {
+            node,
+            nodes,
+            classes,
+            queues,
+            lanes,
+        })
+    }
+
+    /// Where the lane's counter stands.
+    fn line(&self, lane: Lane) -> usize
+        requires dst { lane.dst < self.now.nodes }
+        requires class { lane.class < classes self.now }
+        ensures value { result ≡ lane_line self.now lane }
+        ensures bound { result < length self.now.lanes }
+    {
+        usize::from(lane.dst) * usize::from(self.classes.classes()) + usize::from(lane.class)
+    }
+
+    /// Where the counter of a lane stands that takes a packet, or its mark, now.
+    fn admit(&self, lane: Lane, is_mark: bool) -> Result<usize, OfferFault>
+        ensures value { IfOk result (λ i. i ≡ lane_line self.now lane) }
+        ensures bound { IfOk result (λ i. i < length self.now.lanes) }
+        ensures open { OnOk result (IsOpen self.now lane) }
+        ensures taken { OnOk result (refusal self.now lane is_mark ≡ None) }
+        ensures fault { IfErr result (λ e. refusal self.now lane is_mark ≡ Some e) }
+    {
+        if lane.src != self.node {
+            return Err(OfferFault::WrongSource);
+        }
+        if u16::from(lane.dst) >= self.nodes {
+            return Err(OfferFault::NoSuchNode);
+        }
+        if lane.class >= self.classes.classes() {
+            return Err(OfferFault::NoSuchClass);
+        }
+        if is_mark && self.classes.count(lane.class) > 1 {
+            return Err(OfferFault::ManyChannels);
+        }
+        let i = self.line(lane);
+        let state = self.lanes[i];
+        if state.closed {
+            return Err(OfferFault::LaneClosed);
+        }
+        if state.next >= 65_535 {
+            return Err(OfferFault::LaneFull);
+        }
+        Ok(i)
+    }
+
+    /// Takes the packet in, and answers its number in its lane.
+    pub fn offer(&mut self, packet: &Packet) -> Result<u16, OfferFault>
+        ensures ok { IfOk result (λ n. (refusal self.old packet.now.lane false ≡ None) × (n ≡ next_number self.old packet.now.lane) × (self.new ≡ after_offer self.old packet.now)) }
+        ensures fault { IfErr result (λ e. e ≡ unwrap_or (refusal self.old packet.now.lane false) OfferFault.NoMemory) }
+        ensures err { OnErr result (self.new ≡ self.old) }
+    {
+        let lane = packet.lane();
+        let i = self.admit(lane, false)?;
+        let number = self.lanes[i].next;
+        let queue = &mut self.queues[usize::from(lane.class)];
+        if queue.append_packet(packet, number).is_err() {
+            return Err(OfferFault::NoMemory);
+        }
+        self.lanes[i] = LaneState { next: number + 1, closed: false };
+        Ok(number)
+    }
+
+    /// Takes the lane's close mark in, and answers its number.
+    pub fn close(&mut self, lane: Lane) -> Result<u16, OfferFault>
+        ensures ok { IfOk result (λ n. (refusal self.old lane true ≡ None) × (n ≡ next_number self.old lane) × (self.new ≡ after_close self.old lane)) }
+        ensures fault { IfErr result (λ e. e ≡ unwrap_or (refusal self.old lane true) OfferFault.NoMemory) }
+        ensures err { OnErr result (self.new ≡ self.old) }
+    {
+        let i = self.admit(lane, true)?;
+        let number = self.lanes[i].next;
+        let queue = &mut self.queues[usize::from(lane.class)];
+        if queue.append(close_flit(lane, number)).is_err() {
+            return Err(OfferFault::NoMemory);
+        }
+        self.lanes[i] = LaneState { next: number + 1, closed: true };
+        Ok(number)
+    }
+
+    /// The class's first flit that is not fed, on the class's first channel.
+    pub fn front(&self, class: u8) -> Option<Flit>
+        requires { class < classes self.now }
+        ensures { result ≡ front_of self.now class }
+    {
+        let vc = self.classes.first(class);
+        let queue = &self.queues[usize::from(class)];
+        queue.front().map(|flit| Flit { vc, ..flit })
+    }
+
+    /// The front went into the injection buffer.
+    pub fn fed(&mut self, class: u8)
+        requires class { class < classes self.old }
+        requires front { IsSome (waiting (queue_at self.old class)) }
+        ensures { self.new ≡ after_fed self.old class }
+    {
+        let queue = &mut self.queues[usize::from(class)];
+        queue.feed();
+    }
+
+    /// All flits of the class that were accepted, in order.
+    pub fn injected(&self, class: u8) -> &[Flit]
+        requires { class < classes self.now }
+        ensures value { result.now ≡ (queue_at self.now class).injected }
+        ensures owned { All (IsFrom self.now.node self.now.nodes class) result.now }
+        ensures in_order { (dst : ℕ) → dst < self.now.nodes → IsPackets (lane_of self.now.node dst class) (next_number self.now (lane_of self.now.node dst class)) (lane_at self.now (lane_of self.now.node dst class)).closed (of_lane (lane_of self.now.node dst class) result.now) }
+    {
+        let queue = &self.queues[usize::from(class)];
+        queue.injected()
+    }
+
+    /// How many of them were fed.
+    pub fn fed_count(&self, class: u8) -> usize
+        requires { class < classes self.now }
+        ensures value { result ≡ (queue_at self.now class).fed }
+        ensures bound { result ≤ length (queue_at self.now class).injected }
+    {
+        let queue = &self.queues[usize::from(class)];
+        queue.fed()
+    }
+}

@@ -1,0 +1,12 @@
+pub mod Worm
+pub mod Shape
+pub mod Network
+pub mod Steps
+pub mod Sound
+pub mod WormFormed
+pub mod Cut
+pub mod PacketCut
+pub mod ChannelCut
+pub mod OpenPast
+pub mod Growth
+pub mod Marks

@@ -1,0 +1,127 @@
+-- Lemmas on sets of channels: what the operations on words do to their members.
+use Rattle.std.proofs.Common.{◌≡◌, ℕ, ◌+◌, ◌-◌, ◌*◌, ◌/◌, ◌%◌, ◌^◌, ◌<◌, ◌≤◌, true, false, ◌==◌, not, ◌&&◌, bit_and, bit_or, min, sym, ap, ◌∙◌, subst, arith, inl, inr}
+use Rattle.std.specs.Int.{bit_at, bit_not, trailing_zeros, w64}
+use Rattle.std.proofs.lemmas.Bool.{cases_eq, cases_lt, eq-eqb, eqb-true, ne_eqb, and_from, and_right}
+use Rattle.std.proofs.lemmas.Nat.{one_shl, or_lt, and_le_l, shr-shr, pow_below}
+use Rattle.std.proofs.lemmas.Nat.Bits.{bit_at_and, bit_at_not, bit_at_ones, bit_at-lt, bit_at_set_same, bit_at_set_other, bit_at_clear_same, bit_at_clear_other, bit_at_above, bit_at-trailing_zeros}
+use Rattle.worm_vcalloc.specs.Arbiter.{line_requests}
+use Rattle.worm_vcalloc.specs.ChannelSet.{has, IsPut, IsFirst}
+
+-- ---- tests of bits
+
+-- a bit that is set passes
+bit_set : (n i : ℕ) → bit_at n i ≡ 1 → (bit_at n i == 1) ≡ true
+bit_set n i e = eq-eqb (bit_at n i) 1 e
+
+-- a bit that is not set does not pass
+bit_unset : (n i : ℕ) → bit_at n i ≡ 0 → (bit_at n i == 1) ≡ false
+bit_unset n i e = ne_eqb (bit_at n i) 1 (λ one. absurd (omega arith))
+
+-- the lower of two bits is set where both are
+both_set : (x y : ℕ) → x < 2 → y < 2 → (min x y == 1) ≡ ((x == 1) && (y == 1))
+both_set x y lx ly = elim (cases_eq x 1) [
+  | inl ex ↦ elim (cases_eq y 1) [
+    | inl ey ↦ eq-eqb (min x y) 1 (omega arith) ∙ sym (and_from (x == 1) (y == 1) (eq-eqb x 1 ex) (eq-eqb y 1 ey))
+    | inr ny ↦ ne_eqb (min x y) 1 (λ e. ny (omega arith)) ∙ sym (and_right (x == 1) (y == 1) (ne_eqb y 1 ny))
+  ]
+  | inr nx ↦ ne_eqb (min x y) 1 (λ e. nx (omega arith)) ∙ sym (ap (λ t. t && (y == 1)) (ne_eqb x 1 nx))
+]
+
+-- a bit turned round is set where it was not
+turned : (y : ℕ) → y < 2 → ((1 - y) == 1) ≡ not (y == 1)
+turned y ly = elim (cases_eq y 1) [
+  | inl e ↦ ne_eqb (1 - y) 1 (λ one. absurd (omega arith)) ∙ ap not (sym (eq-eqb y 1 e))
+  | inr ne ↦ eq-eqb (1 - y) 1 (omega arith) ∙ ap not (sym (ne_eqb y 1 ne))
+]
+
+-- ---- one channel
+
+-- no channel is in the empty set
+pub has-zero : (p c : ℕ) → has 0 p c ≡ false
+has-zero p c = bit_unset 0 (8 * p + c) (bit_at_above 0 0 (8 * p + c) (omega arith) (omega arith))
+
+-- nor in a set that is tested to be empty
+pub has-empty : (set p c : ℕ) → (set == 0) ≡ true → has set p c ≡ false
+has-empty set p c e = ap (λ s. has s p c) (eqb-true set 0 e) ∙ has-zero p c
+
+pub put_in_fits : (bits port channel : ℕ) → bits < 2 ^ 56 → port < 7 → channel < 8 → bit_or bits (1 * 2 ^ (8 * port + channel) % 2 ^ 64) < 2 ^ 56
+put_in_fits bits port channel fits lp lc =
+    let bit = one_shl (8 * port + channel) 64 (omega arith) in
+    let low = pow_below (8 * port + channel) 56 (omega arith) in
+    or_lt 56 bits (1 * 2 ^ (8 * port + channel) % 2 ^ 64) fits (omega arith)
+
+pub put_in : (bits port channel : ℕ) → bits < 2 ^ 56 → port < 7 → channel < 8 → IsPut bits (bit_or bits (1 * 2 ^ (8 * port + channel) % 2 ^ 64)) port channel true
+put_in bits port channel fits lp lc = record {
+  here = bit_set _ _ (bit_at_set_same w64 bits (8 * port + channel) (omega arith));
+  elsewhere = λ p c _ l apart. ap (λ b. b == 1) (bit_at_set_other w64 bits (8 * port + channel) (omega arith) (8 * p + c) (λ e. apart (omega arith) (omega arith)));
+  small = put_in_fits bits port channel fits lp lc;
+}
+
+pub put_out : (bits port channel : ℕ) → bits < 2 ^ 56 → port < 7 → channel < 8 → IsPut bits (bit_and bits (bit_not w64 (1 * 2 ^ (8 * port + channel) % 2 ^ 64))) port channel false
+put_out bits port channel fits lp lc = record {
+  here = bit_unset _ _ (bit_at_clear_same w64 bits (8 * port + channel) (omega arith));
+  elsewhere = λ p c l l' apart. ap (λ b. b == 1) (bit_at_clear_other w64 bits (8 * port + channel) (omega arith) (8 * p + c) (omega arith) (λ e. apart (omega arith) (omega arith)));
+  small = let below = and_le_l bits (bit_not w64 (1 * 2 ^ (8 * port + channel) % 2 ^ 64)) in omega arith;
+}
+
+-- ---- two sets
+
+pub has_both : (a b p c : ℕ) → has (bit_and a b) p c ≡ (has a p c && has b p c)
+has_both a b p c =
+    ap (λ x. x == 1) (bit_at_and a b (8 * p + c))
+    ∙ both_set (bit_at a (8 * p + c)) (bit_at b (8 * p + c)) (bit_at-lt a (8 * p + c)) (bit_at-lt b (8 * p + c))
+
+pub has_first_alone : (a b p c : ℕ) → b < 2 ^ 64 → p < 7 → c < 8 → has (bit_and a (bit_not w64 b)) p c ≡ (has a p c && not (has b p c))
+has_first_alone a b p c fits lp lc =
+    has_both a (bit_not w64 b) p c
+    ∙ ap (λ t. has a p c && t) (ap (λ x. x == 1) (bit_at_not w64 b (8 * p + c) fits (omega arith)) ∙ turned (bit_at b (8 * p + c)) (bit_at-lt b (8 * p + c)))
+
+-- ---- the first channel
+
+-- the lowest bit of a set stands for a channel
+pub lowest_within : (bits : ℕ) → 0 < bits → bits < 2 ^ 56 → trailing_zeros w64 bits < 56
+lowest_within bits some fits =
+    let lowest = bit_at-trailing_zeros w64 bits some (omega arith) in
+    elim (cases_lt (trailing_zeros w64 bits) 56) [
+      | inl l ↦ l
+      | inr g ↦ let none = bit_at_above bits 56 (trailing_zeros w64 bits) fits g in absurd (omega (arith, lowest.1))
+    ]
+
+pub first_taken : (bits : ℕ) → 0 < bits → bits < 2 ^ 56
+    → IsFirst bits (bit_and bits (bit_not w64 (1 * 2 ^ trailing_zeros w64 bits % 2 ^ 64))) (trailing_zeros w64 bits / 8) (trailing_zeros w64 bits % 8)
+first_taken bits some fits = record {
+  port_in = let low = within in omega arith;
+  channel_in = omega arith;
+  was_in = ap (λ i. bit_at bits i == 1) same ∙ bit_set bits (trailing_zeros w64 bits) lowest.1;
+  none_before = λ p c l before. bit_unset bits (8 * p + c) (lowest.2 (8 * p + c) (omega arith));
+  taken =
+      subst (λ i. IsPut bits (bit_and bits (bit_not w64 (1 * 2 ^ i % 2 ^ 64))) (trailing_zeros w64 bits / 8) (trailing_zeros w64 bits % 8) false) same
+      (put_out bits (trailing_zeros w64 bits / 8) (trailing_zeros w64 bits % 8) fits (let low = within in omega arith) (omega arith));
+  fewer =
+      let below = and_le_l bits (bit_not w64 (1 * 2 ^ trailing_zeros w64 bits % 2 ^ 64)) in
+      elim (cases_eq (bit_and bits (bit_not w64 (1 * 2 ^ trailing_zeros w64 bits % 2 ^ 64))) bits) [
+        | inl e ↦ let gone = bit_at_clear_same w64 bits (trailing_zeros w64 bits) lowest.0 in let kept = ap (λ n. bit_at n (trailing_zeros w64 bits)) e in absurd (omega (arith, lowest.1))
+        | inr ne ↦ omega arith
+      ];
+} where
+  within : trailing_zeros w64 bits < 56
+  within = lowest_within bits some fits
+
+  lowest : (trailing_zeros w64 bits < 64) × (bit_at bits (trailing_zeros w64 bits) ≡ 1) × ((i : ℕ) → i < trailing_zeros w64 bits → bit_at bits i ≡ 0)
+  lowest = bit_at-trailing_zeros w64 bits some (omega arith)
+
+  same : 8 * (trailing_zeros w64 bits / 8) + trailing_zeros w64 bits % 8 ≡ trailing_zeros w64 bits
+  same = omega arith
+
+-- ---- rows
+
+-- the row of a port, as lines
+pub row_lines : (bits port channels channel : ℕ) → channels ≤ 8 → channel < channels
+    → line_requests (bit_and (bits / 2 ^ (8 * port)) (1 * 2 ^ channels % 2 ^ 64 - 1)) channel ≡ has bits port channel
+row_lines bits port channels channel few l =
+    let ones : 1 * 2 ^ channels % 2 ^ 64 ≡ 2 ^ channels = one_shl channels 64 (omega arith) in
+    ap (λ m. bit_at (bit_and (bits / 2 ^ (8 * port)) (m - 1)) channel == 1) ones
+    ∙ ap (λ b. b == 1) (bit_at_and (bits / 2 ^ (8 * port)) (2 ^ channels - 1) channel)
+    ∙ ap (λ y. min (bit_at (bits / 2 ^ (8 * port)) channel) y == 1) (bit_at_ones channels channel l)
+    ∙ ap (λ b. b == 1) (let one = bit_at-lt (bits / 2 ^ (8 * port)) channel in let e : min (bit_at (bits / 2 ^ (8 * port)) channel) 1 ≡ bit_at (bits / 2 ^ (8 * port)) channel = omega arith in e)
+    ∙ ap (λ n. (n % 2) == 1) (shr-shr bits (8 * port) channel)

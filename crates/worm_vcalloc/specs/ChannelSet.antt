@@ -1,0 +1,24 @@
+-- Sets of the channels of a router, seen as one number.
+use Rattle.std.specs.Prelude.{◌≡◌, ℕ, ◌+◌, ◌*◌, ◌<◌, ◌^◌, ◌==◌, Bool, false, IsTrue}
+use Rattle.std.specs.Int.{bit_at}
+
+-- whether a channel of a port is in the set: a bit for each, eight to a port
+abbrev pub has : ℕ → ℕ → ℕ → Bool
+has set port channel = bit_at set (8 * port + channel) == 1
+
+-- the set has changed at one channel alone, which is now in it or not
+pub record IsPut (old new port channel : ℕ) (within : Bool) : Type 0 where
+  pub here : has new port channel ≡ within
+  pub elsewhere : (p c : ℕ) → p < 7 → c < 8 → ((p ≡ port) → (c ≡ channel) → ⊥) → has new p c ≡ has old p c
+  -- nothing but channels is in it
+  pub small : new < 2 ^ 56
+
+-- the first channel of the set, by rising port and then channel, has been taken out
+pub record IsFirst (old new port channel : ℕ) : Type 0 where
+  pub port_in : port < 7
+  pub channel_in : channel < 8
+  pub was_in : IsTrue (has old port channel)
+  pub none_before : (p c : ℕ) → c < 8 → 8 * p + c < 8 * port + channel → has old p c ≡ false
+  pub taken : IsPut old new port channel false
+  -- the sets of a loop that takes channels out are ever smaller numbers
+  pub fewer : new < old

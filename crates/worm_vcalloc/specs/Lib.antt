@@ -1,0 +1,7 @@
+pub mod Arbiter
+pub mod ChannelSet
+pub mod Table
+pub mod Places
+pub mod VcRequest
+pub mod Filed
+pub mod VcAlloc

@@ -1,0 +1,100 @@
+ghost use Rattle.std.specs.Prelude.{◌≡◌, ◌^◌, ◌<◌, ◌≤◌, IfSome, MatchOption};
+ghost use Rattle.worm_vcalloc.specs.Arbiter.{ArbiterState, winner, line_requests, after_pick, IsFirstRequester, NoRequester};
+
+use std::marker::Model;
+
+/// A round-robin arbiter over 1 to 64 lines (Dally and Towles, chapter 18).
+///
+/// The first requester at its pointer or after it, cyclically, wins; the pointer then stands one
+/// past the winner. Without a requester it stays. The lines are bits of one word, so a choice is
+/// a shift and a count of zeros.
+///
+/// ```text
+/// let mut arbiter = Arbiter::new(3);
+/// arbiter.pick(0b101) // Some(0); the pointer is now 1
+/// arbiter.pick(0b101) // Some(2); the pointer is now 0
+/// ```
+#[derive(Clone, Copy)]
+pub struct Arbiter {
+    /// The number of lines.
+    width: u8,
+    /// The line that is asked first.
+    pointer: u8,
+}
+
+impl Model for Arbiter {
+    ghost Value = { ArbiterState };
+
+    ghost view = { λ a. record { width = a.width; pointer = a.pointer } };
+
+    ghost invariant = { λ a. (a.pointer < a.width) × (a.width ≤ 64) };
+
+    ghost inverse = { λ v. record { width = v.width; pointer = v.pointer } };
+}
+
+impl Arbiter {
+    /// An arbiter of `width` lines, whose pointer stands at the first.
+    pub fn new(width: u8) -> Self
+        requires some { 0 < width }
+        requires few { width ≤ 64 }
+        ensures { result ≡ record { width = width; pointer = 0 } }
+    {
+        Arbiter { width, pointer: 0 }
+    }
+
+    /// The line that is asked first.
+    pub fn pointer(&self) -> u8
+        ensures { result ≡ self.now.pointer }
+    {
+        self.pointer
+    }
+
+    /// The line that `pick` would choose among `requests`, where bit i stands for line i.
+    pub fn peek(&self, requests: u64) -> Option<u8>
+        requires { requests < 2 ^ self.now.width }
+        ensures winner { result ≡ winner self.now (line_requests requests) }
+        ensures first { MatchOption result (NoRequester self.now (line_requests requests)) (IsFirstRequester self.now (line_requests requests)) }
+        ensures within { IfSome result (λ line. line < self.now.width) }
+    {
+        let ahead = requests >> self.pointer;
+        if ahead != 0 {
+            Some(self.pointer + ahead.trailing_zeros() as u8)
+        } else if requests != 0 {
+            Some(requests.trailing_zeros() as u8)
+        } else {
+            None
+        }
+    }
+
+    /// Chooses the first of `requests` at the pointer or after it, and moves the pointer past it.
+    pub fn pick(&mut self, requests: u64) -> Option<u8>
+        requires { requests < 2 ^ self.old.width }
+        ensures winner { result ≡ winner self.old (line_requests requests) }
+        ensures pointer { self.new ≡ after_pick self.old result }
+        ensures within { IfSome result (λ line. line < self.old.width) }
+    {
+        let line = self.peek(requests)?;
+        let next = line + 1;
+        self.pointer = if next < self.width { next } else { 0 };
+        Some(line)
+    }
+}
+
+#[cfg(test)]
+mod tests {
+    use super::*;
+
+    #[test]
+    fn winners_go_round(rt: HostRuntime) {
+        let mut arbiter = Arbiter::new(3);
+        assert_eq!(rt; arbiter.pick(0b101), Some(0));
+        assert_eq!(rt; arbiter.pointer(), 1);
+        assert_eq!(rt; arbiter.peek(0b101), Some(2));
+        assert_eq!(rt; arbiter.pick(0b101), Some(2));
+        assert_eq!(rt; arbiter.pointer(), 0);
+        assert_eq!(rt; arbiter.pick(0), None);
+        assert_eq!(rt; arbiter.pointer(), 0);
+        assert_eq!(rt; arbiter.pick(0b010), Some(1));
+        assert_eq!(rt; arbiter.pointer(), 2);
+    }
+}

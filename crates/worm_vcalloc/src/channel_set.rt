@@ -1,0 +1,122 @@
+ghost use Rattle.std.specs.Prelude.{◌≡◌, ℕ, ◌+◌, ◌*◌, ◌/◌, ◌%◌, ◌^◌, ◌<◌, ◌≤◌, ◌==◌, ◌&&◌, MatchOption, not};
+ghost use Rattle.worm_vcalloc.specs.Arbiter.{line_requests};
+ghost use Rattle.worm_vcalloc.specs.ChannelSet.{has, IsPut, IsFirst};
+
+use std::marker::Model;
+
+/// A set of the channels of a router, of up to 7 ports by 8 channels, in one word.
+///
+/// ```text
+/// let mut waiting = ChannelSet::new();
+/// waiting.put(2, 0, true);
+/// waiting.pop_first() // Some((2, 0))
+/// ```
+#[derive(Clone, Copy)]
+pub struct ChannelSet {
+    /// Bit `8 * port + channel` is 1 where the channel is in the set.
+    bits: u64,
+}
+
+impl Model for ChannelSet {
+    ghost Value = { ℕ };
+
+    ghost view = { λ s. s.bits };
+
+    ghost invariant = { λ s. s.bits < 2 ^ 56 };
+
+    ghost inverse = { λ v. record { bits = v } };
+}
+
+impl ChannelSet {
+    /// The set without a channel.
+    pub fn new() -> Self
+        ensures { result ≡ 0 }
+    {
+        ChannelSet { bits: 0 }
+    }
+
+    /// Whether no channel is in the set.
+    pub fn is_empty(&self) -> bool
+        ensures { result ≡ (self.now == 0) }
+    {
+        self.bits == 0
+    }
+
+    /// Whether a channel is in the set.
+    pub fn contains(&self, port: u8, channel: u8) -> bool
+        requires port { port < 7 }
+        requires channel { channel < 8 }
+        ensures { result ≡ has self.now port channel }
+    {
+        self.bits >> (8 * port + channel) & 1 == 1
+    }
+
+    /// Puts a channel into the set, or takes it out where `within` is false.
+    pub fn put(&mut self, port: u8, channel: u8, within: bool)
+        requires port { port < 7 }
+        requires channel { channel < 8 }
+        ensures { IsPut self.old self.new port channel within }
+    {
+        let bit = 1 << (8 * port + channel);
+        if within {
+            self.bits |= bit;
+        } else {
+            self.bits &= !bit;
+        }
+    }
+
+    /// Takes out the first channel, by rising port and then channel; None where the set is empty.
+    pub fn pop_first(&mut self) -> Option<(u8, u8)>
+        ensures { MatchOption result ((self.old ≡ 0) × (self.new ≡ 0)) (λ place. IsFirst self.old self.new place.0 place.1) }
+    {
+        if self.bits == 0 {
+            return None;
+        }
+        let bit = self.bits.trailing_zeros() as u8;
+        self.bits &= !(1 << bit);
+        Some((bit / 8, bit % 8))
+    }
+
+    /// The channels that are in both sets.
+    pub fn intersection(&self, other: &ChannelSet) -> ChannelSet
+        ensures { (p c : ℕ) → has result p c ≡ (has self.now p c && has other.now p c) }
+    {
+        ChannelSet {
+            bits: self.bits & other.bits,
+        }
+    }
+
+    /// The channels that are in this set and not in the other.
+    pub fn difference(&self, other: &ChannelSet) -> ChannelSet
+        ensures { (p c : ℕ) → p < 7 → c < 8 → has result p c ≡ (has self.now p c && not (has other.now p c)) }
+    {
+        ChannelSet {
+            bits: self.bits & !other.bits,
+        }
+    }
+
+    /// The channels of one port below `channels`, as the lines of an arbiter: bit `channel`.
+    pub fn row(&self, port: u8, channels: u8) -> u64
+        requires port { port < 7 }
+        requires channels { channels ≤ 8 }
+        ensures few { result < 2 ^ channels }
+        ensures lines { (channel : ℕ) → channel < channels → line_requests result channel ≡ has self.now port channel }
+    {
+        self.bits >> (8 * port) & ((1 << channels) - 1)
+    }
+
+    /// The channels of the ports below `ports`, as the lines of an arbiter: bit
+    /// `port * channels + channel`.
+    pub fn lines(&self, ports: u8, channels: u8) -> u64
+        requires ports { ports ≤ 7 }
+        requires channels { channels ≤ 8 }
+        ensures few { result < 2 ^ (ports * channels) }
+        ensures lines { (line : ℕ) → line < ports * channels → line_requests result line ≡ has self.now (line / channels) (line % channels) }
+    {
+        let mut lines = 0;
+        for port in 0..ports {
+            lines |= self.row(port, channels) << (port * channels);
+        }
+        lines
+    }
+}

@@ -1,0 +1,27 @@
+//! Round-robin arbiters, and the allocator of output channels that stands on them (Dally and
+//! Towles, chapters 18 and 19).
+//!
+//! An [`Arbiter`] picks the first requester at its pointer or after it. [`VcAlloc`] makes one pass over
+//! the output ports and their channels, both rising, and gives each free one to the requester that its
+//! arbiter picks.
+//!
+//! The definition of a pass looks at every input channel for every output channel; the code does not.
+//! [`VcRequests`] keeps beside the table of requests who asks for which port and who takes which channel,
+//! each a [`ChannelSet`] of one word, so a pass in which nothing waits is one load, and an output
+//! channel finds its requesters by three `&`. A [`ChannelMap`] likewise knows its keys without a scan.
+//!
+//! No allocator here is fair over several turns or finds a largest matching, and none claims it: what is
+//! promised is the exact pass, and that its grants are a matching.
+#![tactic(auto)]
+
+mod arbiter;
+mod channel_map;
+mod channel_set;
+mod request;
+mod vc_alloc;
+
+pub use arbiter::Arbiter;
+pub use channel_map::ChannelMap;
+pub use channel_set::ChannelSet;
+pub use request::{VcRequest, VcRequests};
+pub use vc_alloc::{FreeChannels, VcAlloc, VcGrants};

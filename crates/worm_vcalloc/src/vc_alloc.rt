@@ -1,0 +1,177 @@
+ghost use Rattle.std.specs.Prelude.{◌≡◌, ℕ, ◌+◌, ◌*◌, ◌^◌, ◌<◌, ◌≤◌, ◌/◌, ◌%◌, IfSome, None, length, replicate};
+ghost use Rattle.worm_vcalloc.specs.Arbiter.{ArbiterState, line_requests};
+ghost use Rattle.worm_vcalloc.specs.VcAlloc.{VcAllocState, VcPass, IsReady, IsMatching, is_requester, offered, port_pass, vc_pass};
+
+use crate::arbiter::Arbiter;
+use crate::channel_map::ChannelMap;
+use crate::request::VcRequests;
+use std::marker::Model;
+
+/// Whether each output channel is free, by port and channel.
+pub type FreeChannels = [[bool; 8]; 7];
+
+/// The output channel that each input channel was granted, by port and channel.
+pub type VcGrants = ChannelMap;
+
+/// The allocator of output channels to the input channels that wait for one (Dally and Towles,
+/// chapter 19).
+///
+/// Each output channel has an arbiter over the input channels, line `port * channels + vc`.
+///
+/// ```text
+/// let mut alloc = VcAlloc::new(5, 2);
+/// let grants = alloc.grant(&waiting, &free);
+/// ```
+#[derive(Clone, Copy)]
+pub struct VcAlloc {
+    /// The ports of the router, 1 to 7.
+    ports: u8,
+    /// The channels of a port, 1 to 8.
+    channels: u8,
+    /// The arbiter of each output channel, by port and channel.
+    arbiters: [[Arbiter; 8]; 7],
+}
+
+impl Model for VcAlloc {
+    ghost Value = { VcAllocState };
+
+    ghost view = { λ a. record { ports = a.ports; channels = a.channels; arbiters = a.arbiters } };
+
+    ghost invariant = { λ a. IsReady a.ports a.channels a.arbiters };
+
+    ghost inverse = { λ v. record { ports = v.ports; channels = v.channels; arbiters = v.arbiters } };
+}
+
+impl VcAlloc {
+    /// An allocator for a router of so many ports, 1 to 7, and channels a port, 1 to 8. Its
+    /// pointers stand at the first line.
+    pub fn new(ports: u8, channels: u8) -> Self
+        requires some_port { 0 < ports }
+        requires few_ports { ports ≤ 7 }
+        requires some_channel { 0 < channels }
+        requires few_channels { channels ≤ 8 }
+        ensures { result ≡ record { ports = ports; channels = channels; arbiters = replicate 7 (replicate 8 (record { width = ports * channels; pointer = 0 })) } }
+    {
+        VcAlloc {
+            ports,
+            channels,
+            arbiters: [[Arbiter::new(ports * channels); 8]; 7],
+        }
+    }
+
+    /// One pass: each free output channel, by rising port and then channel, goes to the requester
+    /// that its arbiter picks among the input channels that may use it and have no grant yet.
+    pub fn grant(&mut self, waiting: &VcRequests, free: &FreeChannels) -> VcGrants
+        ensures pass { record { alloc = self.new; grants = result } ≡ vc_pass waiting.now free.now (record { alloc = self.old; grants = replicate 7 (replicate 8 None) }) }
+        ensures matching { IsMatching self.old.ports self.old.channels waiting.now free.now result }
+        ensures ports { self.new.ports ≡ self.old.ports }
+        ensures channels { self.new.channels ≡ self.old.channels }
+    {
+        let ports = self.ports;
+        let mut grants = VcGrants::new();
+        if waiting.waiting().is_empty() {
+            return grants;
+        }
+        for out in 0..ports {
+            self.grant_port(out, waiting, free, &mut grants);
+        }
+        grants
+    }
+
+    /// Offers the free channels of one output port, rising.
+    fn grant_port(
+        &mut self,
+        out: u8,
+        waiting: &VcRequests,
+        free: &FreeChannels,
+        grants: &mut VcGrants,
+    )
+        requires { out < self.old.ports }
+        ensures pass { record { alloc = self.new; grants = grants.new } ≡ port_pass waiting.now free.now (record { alloc = self.old; grants = grants.old }) out }
+        ensures ports { self.new.ports ≡ self.old.ports }
+        ensures channels { self.new.channels ≡ self.old.channels }
+    {
+        let channels = self.channels;
+        if waiting.asking_port(out).is_empty() {
+            return;
+        }
+        for channel in 0..channels {
+            if free[out as usize][channel as usize] {
+                self.offer(out, channel, waiting, grants);
+            }
+        }
+    }
+
+    /// Offers one free output channel to its requesters.
+    fn offer(&mut self, out: u8, channel: u8, waiting: &VcRequests, grants: &mut VcGrants)
+        requires out { out < self.old.ports }
+        requires channel { channel < self.old.channels }
+        ensures pass { record { alloc = self.new; grants = grants.new } ≡ offered waiting.now (record { alloc = self.old; grants = grants.old }) out channel }
+        ensures ports { self.new.ports ≡ self.old.ports }
+        ensures channels { self.new.channels ≡ self.old.channels }
+    {
+        let requests = self.requests_for(out, channel, waiting, grants);
+        if let Some(line) = self.arbiters[out as usize][channel as usize].pick(requests) {
+            grants.set(line / self.channels, line % self.channels, Some(channel));
+        }
+    }
+
+    /// The lines of the input channels that wait for this output channel and have no grant yet.
+    fn requests_for(&self, out: u8, channel: u8, waiting: &VcRequests, grants: &VcGrants) -> u64
+        requires out { out < self.now.ports }
+        requires channel { channel < self.now.channels }
+        ensures few { result < 2 ^ (self.now.ports * self.now.channels) }
+        ensures lines { (line : ℕ) → line < self.now.ports * self.now.channels → line_requests result line ≡ is_requester waiting.now grants.now out channel (line / self.now.channels) (line % self.now.channels) }
+    {
+        let (ports, channels) = (self.ports, self.channels);
+        let ungranted = waiting.asking(out, channel).difference(&grants.keys());
+        if ungranted.is_empty() {
+            return 0;
+        }
+        ungranted.lines(ports, channels)
+    }
+}
+
+#[cfg(test)]
+mod tests {
+    use super::*;
+    use crate::request::VcRequest;
+
+    fn asks(out: u8, allowed: u8) -> Option<VcRequest> {
+        Some(VcRequest { out, allowed })
+    }
+
+    #[test]
+    fn one_channel_goes_round(rt: HostRuntime) {
+        let mut alloc = VcAlloc::new(3, 2);
+        let mut waiting = VcRequests::new();
+        waiting.set(0, 0, asks(1, 1));
+        waiting.set(0, 1, asks(1, 1));
+        waiting.set(2, 0, asks(1, 1));
+        let mut free = [[false; 8]; 7];
+        free[1][0] = true;
+
+        let grants = alloc.grant(&waiting, &free);
+        assert_eq!(rt; grants.get(0, 0), Some(0));
+        assert_eq!(rt; grants.get(0, 1), None);
+        assert_eq!(rt; grants.get(2, 0), None);
+        let grants = alloc.grant(&waiting, &free);
+        assert_eq!(rt; grants.get(0, 1), Some(0));
+        let grants = alloc.grant(&waiting, &free);
+        assert_eq!(rt; grants.get(2, 0), Some(0));
+        let grants = alloc.grant(&waiting, &free);
+        assert_eq!(rt; grants.get(0, 0), Some(0));
+    }
+
+    #[test]
+    fn a_granted_channel_gets_no_second(rt: HostRuntime) {
+        let mut alloc = VcAlloc::new(3, 2);
+        let mut waiting = VcRequests::new();
+        waiting.set(0, 0, asks(1, 3));
+        waiting.set(2, 1, asks(1, 3));
+        let free = [[true; 8]; 7];
+        let grants = alloc.grant(&waiting, &free);
+        assert_eq!(rt; grants.get(0, 0), Some(0));
+        assert_eq!(rt; grants.get(2, 1), Some(1));
+    }
+}
