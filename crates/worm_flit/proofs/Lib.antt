@@ -1,4 +1,5 @@
 pub mod Packets
 pub mod Worming
 pub mod Owners
+pub mod Masks
 pub mod Packed

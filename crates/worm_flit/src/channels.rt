@@ -1,5 +1,6 @@
-ghost use Rattle.std.specs.Prelude.{◌≡◌, ◌<◌, ◌≤◌, ◌+◌, ◌↔◌, IsTrue, length, sum, slice_index};
-ghost use Rattle.worm_flit.specs.Channels.{AreChannels, first_channel, owner_of, owns};
+ghost use Rattle.std.specs.Prelude.{◌≡◌, ℕ, ◌<◌, ◌≤◌, ◌+◌, ◌↔◌, ◌==◌, IsTrue, length, sum, slice_index};
+ghost use Rattle.std.specs.Int.{bit_at};
+ghost use Rattle.worm_flit.specs.Channels.{AreChannels, class_bits, first_channel, owner_of, owns};
 
 use arrayvec::ArrayVec;
 use std::marker::Model;
@@ -114,6 +115,19 @@ impl ClassChannels {
             class += 1;
         }
         class
+    }
+
+    /// The channels of the class, as a bit for each: bit `c` is 1 where channel `c` is the class's.
+    pub fn mask(&self, class: u8) -> u8
+        ensures value { result ≡ class_bits self.now class }
+        ensures bits { (channel : ℕ) → channel < 8 → (bit_at result channel == 1) ≡ owns self.now class channel }
+    {
+        if class >= self.classes() {
+            return 0;
+        }
+        let first = self.first(class);
+        let count = self.counts[usize::from(class)];
+        (((1u16 << count) - 1) << first) as u8
     }
 
     /// Whether the channel is one of the class's; no channel is of a class that is not there.

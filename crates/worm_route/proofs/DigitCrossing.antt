@@ -1,5 +1,5 @@
 -- Links that routes cross, by the digits of addresses: a relation on lists of digits, and the test that says it.
-use Rattle.std.proofs.Common.{ℕ, ◌≡◌, ◌≢◌, ◌+◌, ◌-◌, ◌*◌, ◌/◌, ◌%◌, ◌<◌, ◌≤◌, ◌⊎◌, inl, inr, true, eqb, ltb, leb, ◌&&◌, List, [], ◌∷◌, length, arith, refl, ap, sym, ◌∙◌}
+use Rattle.std.proofs.Common.{ℕ, ◌≡◌, ◌≢◌, ◌+◌, ◌-◌, ◌*◌, ◌/◌, ◌%◌, ◌<◌, ◌≤◌, ◌⊎◌, inl, inr, true, eqb, ltb, leb, List, [], ◌∷◌, length, arith, refl, ap, sym, ◌∙◌}
 use Rattle.std.proofs.Math.Nat.{mul_comm, div-add-mod, mod-lt, mul-le-mul_left}
 use Rattle.std.proofs.lemmas.Nat.{div_below}
 use Rattle.std.proofs.lemmas.Bool.{cases_eq, cases_order, eq-eqb, ne_eqb, lt-ltb, le-ltb, le-leb, and_parts, and_from, ltb-true, leb-true, eqb-true}
