@@ -1,12 +1,11 @@
 -- A fresh router is sound.
-use Rattle.std.proofs.Common.{ℕ, ◌+◌, ◌*◌, ◌≤◌, ◌<◌, ◌≡◌, List, length, sum, replicate, All, arith, refl, subst, sym, [], lit≤}
-use Rattle.std.proofs.lemmas.Grind.{common_steps, elements}
+use Rattle.std.proofs.Common.{ℕ, ◌+◌, ◌*◌, ◌≤◌, ◌<◌, ◌≡◌, List, length, sum, replicate, arith, refl}
 use Rattle.std.proofs.lemmas.List.{length-replicate, get_or-replicate}
 use Rattle.std.proofs.lemmas.Nat.{mul-add-lt}
 use Rattle.std.proofs.lemmas.List.Elements.{All-replicate}
 use Rattle.worm_mesh.specs.Address.{node_count}
 use Rattle.worm_records.specs.declared.OutRecord.{OutRecord}
-use Rattle.worm_router.specs.Router.{IsRouter, IsChannel, ChannelState, router_state, fresh_channel, free_output}
+use Rattle.worm_router.specs.Router.{HasLists, IsChannel, ChannelState, fresh_channel, free_output}
 
 fresh_channel_sound : (mesh channels : List ℕ) (depth : ℕ) → IsChannel mesh channels depth (fresh_channel depth)
 fresh_channel_sound mesh channels depth = record {
@@ -17,13 +16,13 @@ fresh_channel_sound mesh channels depth = record {
   owed_fits = omega arith;
 }
 
-pub fresh_sound : (mesh : List ℕ) (node : ℕ) (channels : List ℕ) (depth count : ℕ) (inputs : List ChannelState) (outputs : List OutRecord)
+pub fresh_lists : (mesh : List ℕ) (node : ℕ) (channels : List ℕ) (depth count : ℕ) (inputs : List ChannelState) (outputs : List OutRecord)
     → node < node_count mesh → depth ≤ 16
     → count ≡ (2 * length mesh + 1) * sum channels
     → inputs ≡ replicate count (fresh_channel depth)
     → outputs ≡ replicate count (free_output depth)
-    → IsRouter (router_state mesh node channels depth inputs outputs)
-fresh_sound mesh node channels depth count inputs outputs node_in depth_in counted all_fresh all_free = record {
+    → HasLists mesh node channels depth inputs outputs
+fresh_lists mesh node channels depth count inputs outputs node_in depth_in counted all_fresh all_free = record {
   node_in = node_in;
   depth_in = depth_in;
   all_inputs = rw all_fresh (rw length-replicate counted);

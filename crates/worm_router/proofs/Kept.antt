@@ -1,5 +1,5 @@
 -- What a change of one input channel and one output channel leaves sound.
-use Rattle.std.proofs.Common.{ℕ, ◌+◌, ◌-◌, ◌*◌, ◌≤◌, ◌<◌, ◌≡◌, List, length, drop, sum, slice_set, get_or, All, Bool, true, false, arith, inl, inr, refl, sym, subst, ap, ◌∙◌, if◌then◌else◌}
+use Rattle.std.proofs.Common.{ℕ, ◌+◌, ◌*◌, ◌≤◌, ◌<◌, ◌≡◌, List, length, drop, sum, slice_set, get_or, Bool, true, false, arith, inl, inr, refl, sym, subst, ap, ◌∙◌, if◌then◌else◌}
 use Rattle.std.proofs.Math.ListN.{length-set}
 use Rattle.std.proofs.lemmas.Grind.{common_steps, elements, get_or-set_at}
 use Rattle.std.proofs.lemmas.Bool.{cases_eq, eq-eqb}
@@ -11,14 +11,14 @@ use Rattle.worm_flit.specs.Kinds.{closes}
 use Rattle.worm_records.specs.declared.InRecord.{InRecord}
 use Rattle.worm_records.specs.declared.InRecord.TheVariants.{Idle}
 use Rattle.worm_records.specs.declared.OutRecord.{OutRecord}
-use Rattle.worm_router.specs.Router.{IsRouter, IsChannel, ChannelState, StateFits, RouterState, terminal, width, credit_of, router_state, free_output, let_out}
+use Rattle.worm_router.specs.Router.{HasLists, IsChannel, ChannelState, StateFits, RouterState, terminal, width, credit_of, free_output, let_out}
 
 pub both_set_sound : (mesh : List ℕ) (node : ℕ) (channels : List ℕ) (depth : ℕ) (inputs : List ChannelState) (outputs : List OutRecord) (i o : ℕ) (c : ChannelState) (u : OutRecord)
-    → IsRouter (router_state mesh node channels depth inputs outputs)
+    → HasLists mesh node channels depth inputs outputs
     → IsChannel mesh channels depth c
     → u.credits ≤ depth
     → ((vc : ℕ) → vc < sum channels → (get_or (slice_set outputs o u) (2 * length mesh * sum channels + vc) (free_output depth)).credits ≡ depth)
-    → IsRouter (router_state mesh node channels depth (slice_set inputs i c) (slice_set outputs o u))
+    → HasLists mesh node channels depth (slice_set inputs i c) (slice_set outputs o u)
 both_set_sound mesh node channels depth inputs outputs i o c u sound channel_sound fits full = record {
   node_in = sound.node_in;
   depth_in = sound.depth_in;
@@ -51,8 +51,8 @@ pub full_after : (outputs : List OutRecord) (t w depth o : ℕ) (u d : OutRecord
     → (vc : ℕ) → vc < w → (get_or (slice_set outputs o u) (t * w + vc) d).credits ≡ depth
 full_after outputs t w depth o u d within full here vc below =
     elim (cases_eq (t * w + vc) o) [
-      inl same ↦ rw (get_or-set_at outputs o (t * w + vc) u d same within) (here vc below same)
-    | inr other ↦ rw (get_or-set_other outputs o (t * w + vc) u d other) (full vc below)
+      | inl same ↦ rw (get_or-set_at outputs o (t * w + vc) u d same within) (here vc below same)
+      | inr other ↦ rw (get_or-set_other outputs o (t * w + vc) u d other) (full vc below)
     ]
 
 -- what was read at an index of the terminal has all credits

@@ -9,6 +9,8 @@ use Rattle.worm_route.specs.Route.{port_of}
 use Rattle.worm_records.specs.declared.InRecord.{InRecord}
 use Rattle.worm_records.specs.declared.InRecord.TheVariants.{Idle, Waiting, Active}
 use Rattle.worm_records.specs.declared.OutRecord.{OutRecord}
+use Rattle.worm_vcalloc.specs.VcAlloc.{VcAllocState}
+use Rattle.worm_swalloc.specs.SwAlloc.{SwAllocState}
 
 -- an input channel: its flits, front first, how many fit, its record, the credits that it owes, and the flit that left last
 pub record ChannelState : Type 0 where
@@ -26,6 +28,9 @@ pub record RouterState : Type 0 where
   pub depth : ℕ
   pub inputs : List ChannelState
   pub outputs : List OutRecord
+  -- the arbiters of the two allocators
+  pub channel_alloc : VcAllocState
+  pub switch_alloc : SwAllocState
 
 abbrev pub terminal : RouterState → ℕ
 terminal r = 2 * length r.mesh
@@ -38,9 +43,9 @@ width r = sum r.channels
 abbrev pub places : RouterState → ℕ
 places r = (terminal r + 1) * width r
 
-abbrev pub router_state : List ℕ → ℕ → List ℕ → ℕ → List ChannelState → List OutRecord → RouterState
-router_state mesh node channels depth inputs outputs =
-    record { mesh = mesh; node = node; channels = channels; depth = depth; inputs = inputs; outputs = outputs }
+abbrev pub router_state : List ℕ → ℕ → List ℕ → ℕ → List ChannelState → List OutRecord → VcAllocState → SwAllocState → RouterState
+router_state mesh node channels depth inputs outputs channel_alloc switch_alloc =
+    record { mesh = mesh; node = node; channels = channels; depth = depth; inputs = inputs; outputs = outputs; channel_alloc = channel_alloc; switch_alloc = switch_alloc }
 
 -- where a channel of a port stands in the lists
 abbrev pub line : RouterState → ℕ → ℕ → ℕ
@@ -69,11 +74,22 @@ with_input r port vc c = record r { inputs = slice_set r.inputs (line r port vc)
 abbrev pub with_output : RouterState → ℕ → ℕ → OutRecord → RouterState
 with_output r out vc o = record r { outputs = slice_set r.outputs (line r out vc) o }
 
+-- allocators whose pointers stand at the first line
+abbrev pub fresh_vc_alloc : ℕ → ℕ → VcAllocState
+fresh_vc_alloc ports channels =
+    record { ports = ports; channels = channels; arbiters = replicate 7 (replicate 8 (record { width = ports * channels; pointer = 0 })) }
+
+abbrev pub fresh_sw_alloc : ℕ → ℕ → SwAllocState
+fresh_sw_alloc ports channels =
+    record { ports = ports; channels = channels; inputs = replicate 7 (record { width = channels; pointer = 0 }); outputs = replicate 7 (record { width = ports; pointer = 0 }) }
+
 -- a router with empty buffers, every output free and every credit there
 abbrev pub fresh_router : List ℕ → ℕ → List ℕ → ℕ → RouterState
 fresh_router mesh node channels depth =
-    let n : ℕ = (2 * length mesh + 1) * sum channels in
+    let ports : ℕ = 2 * length mesh + 1 in
+    let n : ℕ = ports * sum channels in
     router_state mesh node channels depth (replicate n (fresh_channel depth)) (replicate n (free_output depth))
+    (fresh_vc_alloc ports (sum channels)) (fresh_sw_alloc ports (sum channels))
 
 -- Accept
 
@@ -207,11 +223,23 @@ pub record IsChannel (mesh channels : List ℕ) (depth : ℕ) (c : ChannelState)
   pub state_fits : StateFits (2 * length mesh) (sum channels) c.state
   pub owed_fits : c.owed ≤ depth
 
+-- what holds of the input and output channels of a router: its mesh, node, channels and depth, and both lists
+pub record HasLists (mesh : List ℕ) (node : ℕ) (channels : List ℕ) (depth : ℕ) (inputs : List ChannelState) (outputs : List OutRecord) : Type 0 where
+  pub node_in : node < node_count mesh
+  pub depth_in : depth ≤ 16
+  pub all_inputs : length inputs ≡ (2 * length mesh + 1) * sum channels
+  pub all_outputs : length outputs ≡ (2 * length mesh + 1) * sum channels
+  pub inputs_sound : All (IsChannel mesh channels depth) inputs
+  pub credits_fit : All (λ o. o.credits ≤ depth) outputs
+  pub terminal_full : (vc : ℕ) → vc < sum channels → (slice_index_or outputs (2 * length mesh * sum channels + vc) (free_output depth)).credits ≡ depth
+
+-- the allocators are for so many ports and channels
+pub record HasAllocators (ports channels : ℕ) (channel_alloc : VcAllocState) (switch_alloc : SwAllocState) : Type 0 where
+  pub channel_ports : channel_alloc.ports ≡ ports
+  pub channel_channels : channel_alloc.channels ≡ channels
+  pub switch_ports : switch_alloc.ports ≡ ports
+  pub switch_channels : switch_alloc.channels ≡ channels
+
 pub record IsRouter (r : RouterState) : Type 0 where
-  pub node_in : r.node < node_count r.mesh
-  pub depth_in : r.depth ≤ 16
-  pub all_inputs : length r.inputs ≡ places r
-  pub all_outputs : length r.outputs ≡ places r
-  pub inputs_sound : All (IsChannel r.mesh r.channels r.depth) r.inputs
-  pub credits_fit : All (λ o. o.credits ≤ r.depth) r.outputs
-  pub terminal_full : (vc : ℕ) → vc < width r → (output_at r (terminal r) vc).credits ≡ r.depth
+  pub lists : HasLists r.mesh r.node r.channels r.depth r.inputs r.outputs
+  pub allocators : HasAllocators (terminal r + 1) (width r) r.channel_alloc r.switch_alloc

@@ -1,41 +1,47 @@
-ghost use Rattle.std.specs.Prelude.{◌≡◌, ◌+◌, ◌*◌, ◌≤◌, ◌<◌, ◌^◌, ◌↔◌, length, sum, IfOk, IfErr, OnOk, OnErr, IsOk, IsErr, IsSome, IfSome, IfNone, ℕ, is_some, slice_get, replicate, if◌then◌else◌};
+ghost use Rattle.std.specs.Prelude.{◌≡◌, ◌+◌, ◌*◌, ◌≤◌, ◌<◌, ◌^◌, ◌↔◌, length, sum, IfOk, IfErr, OnOk, OnErr, IsOk, IsErr, IsSome, IfSome, IfNone, None, Some, ℕ, is_some, slice_get, replicate, if◌then◌else◌};
 ghost use Rattle.worm_flit.specs.Channels.{AreChannels};
 ghost use Rattle.worm_mesh.specs.Address.{node_count};
-ghost use Rattle.worm_router.specs.Router.{IsPlace, IsRouter, line, fresh_channel, free_output, fresh_router, input_at, output_at, terminal, width, after_accept, can_route, after_route, can_grant, after_grant, leaving, MayLeave, passed, credit_of, after_send, after_gave, after_credit};
+ghost use Rattle.worm_router.specs.Router.{IsPlace, IsRouter, line, fresh_channel, free_output, fresh_router, input_at, output_at, terminal, width, after_accept, can_route, after_route, can_grant, after_grant, after_granting, leaving, MayLeave, passed, credit_of, after_send, after_gave, after_credit};
+
+mod allocation;
 
 use crate::channel::InputChannel;
+use crate::fault::{RouterFault, TooMany};
 use std::alloc::{AllocError, Global};
 use std::marker::Model;
 use worm_flit::{ClassChannels, Flit, is_closing, is_opening};
 use worm_mesh::Mesh;
 use worm_records::{InRecord, OutRecord};
 use worm_route::next_port;
+use worm_swalloc::SwAlloc;
+use worm_vcalloc::VcAlloc;
 
-/// Why a router was not made.
-#[derive(Clone, Copy, Debug, PartialEq, Eq)]
-pub enum RouterFault {
-    NoMemory,
-}
-
-impl From<AllocError> for RouterFault {
-    fn from(_error: AllocError) -> RouterFault {
-        RouterFault::NoMemory
-    }
-}
-
-/// The credit count is the depth already.
-#[derive(Clone, Copy, Debug, PartialEq, Eq)]
-pub struct TooMany;
-
-/// The router of one node: its input channels and its output channels, by rising port, then channel.
+/// The router of one node: its input channels and its output channels, each by rising port, then channel.
+///
+/// ```text
+/// router.accept(0, flit)?;            // a flit comes in by port 0
+/// router.route(0, flit.vc);           // the front packet's output port is found
+/// let grants = router.allocate();     // it gets a channel there
+/// if let Some((out, flit)) = router.ready(0, 0) { router.sent(0, 0); .. }
+/// ```
 #[derive(Drop)]
 pub struct Router {
+    /// The mesh that it stands in.
     mesh: Mesh,
+    /// Its node.
     node: u8,
+    /// The channels that classes own.
     classes: ClassChannels,
+    /// How many flits each buffer holds, 1 to 16.
     depth: u8,
+    /// The input channels.
     inputs: Vec<InputChannel>,
+    /// The records of the output channels. The terminal's always have `depth` credits.
     outputs: Vec<OutRecord>,
+    /// The allocator of output channels.
+    channel_alloc: VcAlloc,
+    /// The allocator of the switch.
+    switch_alloc: SwAlloc,
 }
 
 impl Model for Router {
@@ -43,11 +49,12 @@ impl Model for Router {
 
     ghost Value = { RouterState };
 
-    ghost view = { λ r. router_state r.mesh r.node r.classes r.depth r.inputs.items r.outputs.items };
+    ghost view = { λ r. router_state r.mesh r.node r.classes r.depth r.inputs.items r.outputs.items r.channel_alloc r.switch_alloc };
 
-    ghost invariant = { λ r. IsRouter (router_state r.mesh r.node r.classes r.depth r.inputs.items r.outputs.items) };
+    ghost invariant = { λ r. IsRouter (router_state r.mesh r.node r.classes r.depth r.inputs.items r.outputs.items r.channel_alloc r.switch_alloc) };
 }
 
+/// So many input channels with empty buffers.
 fn make_inputs(alloc: Global, count: usize, depth: u8) -> Result<Vec<InputChannel>, AllocError>
     ensures { IfOk result (λ v. v.items ≡ replicate count (fresh_channel depth)) }
 {
@@ -58,12 +65,16 @@ fn make_inputs(alloc: Global, count: usize, depth: u8) -> Result<Vec<InputChanne
     Ok(inputs)
 }
 
+/// So many free output channels with all their credits.
 fn make_outputs(alloc: Global, count: usize, depth: u8) -> Result<Vec<OutRecord>, AllocError>
     ensures { IfOk result (λ v. v.items ≡ replicate count (free_output depth)) }
 {
     let mut outputs = Vec::with_capacity(alloc, count)?;
     for _i in 0..count {
-        outputs.push(OutRecord { holder: None, credits: depth })?;
+        outputs.push(OutRecord {
+            holder: None,
+            credits: depth,
+        })?;
     }
     Ok(outputs)
 }
@@ -80,6 +91,8 @@ fn pass(output: &mut OutRecord, flit: Flit, spent: u8)
 }
 
 impl Router {
+    /// The router of a node of the mesh, with so many channels for each class and buffers of this depth, 1 to 16. All its
+    /// buffers are made here, and no other call takes memory. `NoMemory` where there is none.
     pub fn new(
         alloc: Global,
         mesh: &Mesh,
@@ -93,8 +106,9 @@ impl Router {
         ensures { IfOk result (λ r. r ≡ fresh_router mesh.now node channels.now depth) }
     {
         let classes = ClassChannels::new(channels);
-        let ports = 2 * usize::from(mesh.dims()) + 1;
-        let count = ports * usize::from(classes.total());
+        let ports = 2 * mesh.dims() + 1;
+        let total = classes.total();
+        let count = usize::from(ports) * usize::from(total);
         let inputs = make_inputs(alloc, count, depth)?;
         let outputs = make_outputs(alloc, count, depth)?;
         Ok(Router {
@@ -104,6 +118,8 @@ impl Router {
             depth,
             inputs,
             outputs,
+            channel_alloc: VcAlloc::new(ports, total),
+            switch_alloc: SwAlloc::new(ports, total),
         })
     }
 
@@ -133,7 +149,7 @@ impl Router {
         if port == self.terminal() { 0 } else { 1 }
     }
 
-    /// The flit at place `i` of the buffer, counted from the front.
+    /// The flit at place `i` of an input buffer, counted from the front.
     pub fn buffer_at(&self, port: u8, vc: u8, i: usize) -> Option<Flit>
         requires { IsPlace self.now port vc }
         ensures value { result ≡ slice_get (input_at self.now port vc).buffer i }
@@ -143,6 +159,7 @@ impl Router {
         channel.flit_at(i)
     }
 
+    /// What the input channel does with the packet at its front.
     pub fn in_record(&self, port: u8, vc: u8) -> InRecord
         requires { IsPlace self.now port vc }
         ensures { result ≡ (input_at self.now port vc).state }
@@ -151,6 +168,7 @@ impl Router {
         channel.state()
     }
 
+    /// Who holds the output channel, and how many credits it has.
     pub fn out_record(&self, port: u8, vc: u8) -> OutRecord
         requires { IsPlace self.now port vc }
         ensures value { result ≡ output_at self.now port vc }
@@ -177,7 +195,8 @@ impl Router {
         channel.owed()
     }
 
-    /// Puts the flit into the buffer of its channel, if that is not full.
+    /// Puts a flit that came in by the port at the end of its channel's buffer. It comes back exactly where the buffer is
+    /// full; the router is then as it was.
     pub fn accept(&mut self, port: u8, flit: Flit) -> Result<(), Flit>
         requires place { IsPlace self.old port flit.vc }
         requires node { flit.lane.dst < node_count self.old.mesh }
@@ -190,7 +209,8 @@ impl Router {
         channel.put(flit)
     }
 
-    /// Finds the out port for the packet whose opening flit is at the front of an idle channel.
+    /// Route computation: an idle channel with an opening flit at its front comes to wait for the output port that the
+    /// packet's route takes. False, and nothing done, where it is not idle or has no such flit.
     pub fn route(&mut self, port: u8, vc: u8) -> bool
         requires { IsPlace self.old port vc }
         ensures enabled { result ≡ can_route self.old port vc }
@@ -213,33 +233,60 @@ impl Router {
         true
     }
 
-    /// Gives a waiting channel the output channel that it asks for, if that is free and of its packet's class.
+    /// The output port that the channel waits for, where it may be granted this channel of it.
+    fn grantable(&self, port: u8, vc: u8, out_vc: u8) -> Option<u8>
+        requires place { IsPlace self.now port vc }
+        requires out_channel { out_vc < width self.now }
+        ensures value { result ≡ can_grant self.now port vc out_vc }
+        ensures there { IfSome result (λ out. out ≤ terminal self.now) }
+        ensures free { IfSome result (λ out. (output_at self.now out out_vc).holder ≡ None) }
+    {
+        let channel = &self.inputs[self.line(port, vc)];
+        let InRecord::Waiting { out } = channel.state() else {
+            return None;
+        };
+        let front = channel.flit_at(0)?;
+        let output = self.outputs[self.line(out, out_vc)];
+        if output.holder.is_some() || !self.classes.owns(front.lane.class, out_vc) {
+            return None;
+        }
+        Some(out)
+    }
+
+    /// Writes a grant into both records.
+    fn hold(&mut self, port: u8, vc: u8, out: u8, out_vc: u8)
+        requires place { IsPlace self.old port vc }
+        requires out_place { IsPlace self.old out out_vc }
+        requires free { (output_at self.old out out_vc).holder ≡ None }
+        ensures { self.new ≡ after_granting self.old port vc out_vc (Some out) }
+    {
+        let i = self.line(port, vc);
+        let o = self.line(out, out_vc);
+        let channel = &mut self.inputs[i];
+        channel.set_state(InRecord::Active { out, out_vc });
+        let output = &mut self.outputs[o];
+        output.grant(port, vc);
+    }
+
+    /// A waiting channel gets channel `out_vc` of the port that it waits for, where that is free and owned by the class of
+    /// the packet at its front. False, and nothing done, where it is not.
     pub fn grant(&mut self, port: u8, vc: u8, out_vc: u8) -> bool
         requires place { IsPlace self.old port vc }
         requires out_channel { out_vc < width self.old }
         ensures enabled { result ≡ is_some (can_grant self.old port vc out_vc) }
         ensures after { self.new ≡ after_grant self.old port vc out_vc }
     {
-        let i = self.line(port, vc);
-        let channel = &self.inputs[i];
-        let InRecord::Waiting { out } = channel.state() else {
-            return false;
-        };
-        let Some(front) = channel.flit_at(0) else {
-            return false;
-        };
-        let o = self.line(out, out_vc);
-        if self.outputs[o].holder.is_some() || !self.classes.owns(front.lane.class, out_vc) {
-            return false;
+        match self.grantable(port, vc, out_vc) {
+            None => false,
+            Some(out) => {
+                self.hold(port, vc, out, out_vc);
+                true
+            }
         }
-        let channel = &mut self.inputs[i];
-        channel.set_state(InRecord::Active { out, out_vc });
-        let output = &mut self.outputs[o];
-        output.grant(port, vc);
-        true
     }
 
-    /// The out port and the flit that may leave now, as it would leave.
+    /// The output port and the flit that may leave now, as it would leave: on the channel that it was granted, where there is
+    /// a credit for it, and room for one more owed.
     pub fn ready(&self, port: u8, vc: u8) -> Option<(u8, Flit)>
         requires { IsPlace self.now port vc }
         ensures leaves { result ≡ leaving self.now port vc }
@@ -257,13 +304,19 @@ impl Router {
         let has_credit = out == terminal || self.outputs[self.line(out, out_vc)].credits > 0;
         let may_owe = port == terminal || channel.owed() < self.depth;
         if has_credit && may_owe {
-            Some((out, Flit { vc: out_vc, ..front }))
+            Some((
+                out,
+                Flit {
+                    vc: out_vc,
+                    ..front
+                },
+            ))
         } else {
             None
         }
     }
 
-    /// The flit that `ready` names has left. What waits for it is done: the credits, the records and `last_out`.
+    /// The flit that `ready` names has left. A credit is spent for it and one is owed; a closing flit frees both channels.
     pub fn sent(&mut self, port: u8, vc: u8)
         requires place { IsPlace self.old port vc }
         requires ready { IsSome (leaving self.old port vc) }
@@ -282,7 +335,7 @@ impl Router {
         pass(output, flit, spent);
     }
 
-    /// The lowest channel of the port that owes a credit.
+    /// The lowest channel of the port that owes a credit upstream.
     pub fn owed(&self, port: u8) -> Option<u8>
         requires { port ≤ terminal self.now }
         ensures found { IfSome result (λ vc. (vc < width self.now) × (0 < (input_at self.now port vc).owed)) }
@@ -308,7 +361,8 @@ impl Router {
         channel.give();
     }
 
-    /// A credit has come back for this output channel.
+    /// A credit has come back for this output channel. `TooMany` exactly where its count is the depth, as at the terminal; the
+    /// router is then as it was.
     pub fn credit(&mut self, out_port: u8, vc: u8) -> Result<(), TooMany>
         requires { IsPlace self.old out_port vc }
         ensures full { IsErr result ↔ ((output_at self.old out_port vc).credits ≡ self.old.depth) }

@@ -4,7 +4,7 @@ use Rattle.std.specs.List.{range_with_len}
 use Rattle.std.proofs.lemmas.List.{drop_more, set_at, get_or_append_left, get_or-append_right, get_or-drop, ext_get_or}
 use Rattle.std.proofs.lemmas.List.FromFn.{length-map-range_with_len, map-range_with_len_more, get_or-map-range_with_len}
 use Rattle.std.proofs.lemmas.Bool.{cases_lt}
-use Rattle.worm_swalloc.specs.SwAlloc.{with_front}
+use Rattle.worm_swalloc.specs.Front.{with_front}
 
 pub with_front_zero : {X : Type 0} (f : ℕ → X) (xs : List X) → with_front 0 f xs ≡ xs
 unfolding with_front

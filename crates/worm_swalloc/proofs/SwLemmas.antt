@@ -9,7 +9,8 @@ use Rattle.worm_vcalloc.specs.Arbiter.{ArbiterState, no_arbiter, winner, after_p
 use Rattle.worm_vcalloc.specs.Table.{cell}
 use Rattle.worm_vcalloc.proofs.ArbiterLemmas.{winner_same, winner_none, winner_requests, winner_none_requests}
 use Rattle.worm_swalloc.specs.declared.grant.SwGrant.{SwGrant}
-use Rattle.worm_swalloc.specs.SwAlloc.{SwAllocState, IsSwReady, IsSwMatching, with_front, request_of, named_channel, named, all_named, is_for, chosen, with_choice, is_line, if_chosen, granted, sw_grants, sw_after, output_after, input_after}
+use Rattle.worm_swalloc.specs.Front.{with_front}
+use Rattle.worm_swalloc.specs.SwAlloc.{SwAllocState, IsSwAlloc, IsSwitchMatching, request_of, named_channel, named, all_named, is_for, chosen, with_choice, is_line, if_chosen, granted, sw_grants, sw_after, output_after, input_after}
 use Rattle.worm_swalloc.proofs.FrontLemmas.{with_front_zero, slice_set-with_front, with_front_more, length-with_front, slice_index_or-with_front_below, slice_index_or-with_front_past, with_front_same, with_front_kept}
 
 -- the winner among lines that stand for a test
@@ -19,7 +20,7 @@ pub winner_of_lines : (a : ArbiterState) (width lines : ℕ) (asks : ℕ → Boo
 winner_of_lines a width lines asks wide low same = winner_same a (line_requests lines) asks (omega arith) (λ i l. same i (omega arith))
 
 -- the channel that an input arbiter names, from the lines that the code gathers
-pub named_is : (s : SwAllocState) (ready : List (List (Option ℕ))) (port lines : ℕ) (d : ArbiterState) (w : Option ℕ) → IsSwReady s.ports s.channels s.inputs s.outputs → port < s.ports → port < length s.inputs
+pub named_is : (s : SwAllocState) (ready : List (List (Option ℕ))) (port lines : ℕ) (d : ArbiterState) (w : Option ℕ) → IsSwAlloc s.ports s.channels s.inputs s.outputs → port < s.ports → port < length s.inputs
     → ((line : ℕ) → line < s.channels → line_requests lines line ≡ is_some (cell ready port line None))
     → w ≡ winner (slice_index_or s.inputs port d) (line_requests lines) → w ≡ named_channel s ready port
 named_is s ready port lines d w r lp within same e =
@@ -28,7 +29,7 @@ named_is s ready port lines d w r lp within same e =
     ∙ winner_of_lines (slice_index_or s.inputs port no_arbiter) s.channels lines (λ vc. is_some (cell ready port vc None)) (r.input_width port (omega arith)) (r.input_pointer port (omega arith)) same
 
 -- the input port that an output arbiter chooses, likewise
-pub chosen_is : (s : SwAllocState) (requests : List (Option SwGrant)) (out lines : ℕ) (d : ArbiterState) (w : Option ℕ) → IsSwReady s.ports s.channels s.inputs s.outputs → out < s.ports → out < length s.outputs
+pub chosen_is : (s : SwAllocState) (requests : List (Option SwGrant)) (out lines : ℕ) (d : ArbiterState) (w : Option ℕ) → IsSwAlloc s.ports s.channels s.inputs s.outputs → out < s.ports → out < length s.outputs
     → ((line : ℕ) → line < s.ports → line_requests lines line ≡ is_for (slice_index_or requests line None) out)
     → w ≡ winner (slice_index_or s.outputs out d) (line_requests lines) → w ≡ chosen s requests out
 chosen_is s requests out lines d w r lo within same e =
@@ -43,7 +44,7 @@ moved_is arbiters i d new w w' within same e =
     e ∙ ap (λ a. after_pick a w) (get_or_default arbiters i d no_arbiter within) ∙ ap (after_pick (slice_index_or arbiters i no_arbiter)) same
 
 -- what one choice leaves of the grants and of the allocator
-pub choice_is : (s : SwAllocState) (requests grants : List (Option SwGrant)) (out lines : ℕ) (d new : ArbiterState) (w : Option ℕ) → IsSwReady s.ports s.channels s.inputs s.outputs → out < s.ports → out < length s.outputs
+pub choice_is : (s : SwAllocState) (requests grants : List (Option SwGrant)) (out lines : ℕ) (d new : ArbiterState) (w : Option ℕ) → IsSwAlloc s.ports s.channels s.inputs s.outputs → out < s.ports → out < length s.outputs
     → ((line : ℕ) → line < s.ports → line_requests lines line ≡ is_for (slice_index_or requests line None) out)
     → w ≡ winner (slice_index_or s.outputs out d) (line_requests lines) → new ≡ after_pick (slice_index_or s.outputs out d) w
     → (with_choice grants requests w ≡ with_choice grants requests (chosen s requests out))
@@ -280,7 +281,7 @@ grant_within s requests port g e =
     ]
 
 -- the grants of a pass are a matching
-pub matching : (s : SwAllocState) (ready : List (List (Option ℕ))) → IsSwReady s.ports s.channels s.inputs s.outputs → IsSwMatching s ready (sw_grants s ready)
+pub matching : (s : SwAllocState) (ready : List (List (Option ℕ))) → IsSwAlloc s.ports s.channels s.inputs s.outputs → IsSwitchMatching s ready (sw_grants s ready)
 matching s ready r = record {
   requested = λ port g e.
       let w = grant_within s (all_named s ready) port g e in
@@ -333,7 +334,7 @@ matching s ready r = record {
 -- ---- where nothing is ready
 
 -- no input port names a channel
-named_none : (s : SwAllocState) (ready : List (List (Option ℕ))) → IsSwReady s.ports s.channels s.inputs s.outputs → ((p v : ℕ) → p < 7 → v < 8 → cell ready p v None ≡ None)
+named_none : (s : SwAllocState) (ready : List (List (Option ℕ))) → IsSwAlloc s.ports s.channels s.inputs s.outputs → ((p v : ℕ) → p < 7 → v < 8 → cell ready p v None ≡ None)
     → (port : ℕ) → port < s.ports → named s ready port ≡ None
 named_none s ready r none port lp =
     let few = r.few_ports in
@@ -343,21 +344,21 @@ named_none s ready r none port lp =
     ap (request_of (slice_index_or ready port []))
     (winner_none (slice_index_or s.inputs port no_arbiter) (λ vc. is_some (cell ready port vc None)) (omega arith) (λ vc l. ap is_some (none port vc (omega arith) (omega arith))))
 
-all_named_none : (s : SwAllocState) (ready : List (List (Option ℕ))) → IsSwReady s.ports s.channels s.inputs s.outputs → ((p v : ℕ) → p < 7 → v < 8 → cell ready p v None ≡ None)
+all_named_none : (s : SwAllocState) (ready : List (List (Option ℕ))) → IsSwAlloc s.ports s.channels s.inputs s.outputs → ((p v : ℕ) → p < 7 → v < 8 → cell ready p v None ≡ None)
     → all_named s ready ≡ replicate 7 None
 all_named_none s ready r none =
     with_front_kept s.ports (named s ready) (replicate 7 None) None r.few_ports
     (λ i l. named_none s ready r none i l ∙ sym (get_or-replicate_same 7 i None))
 
 -- nothing is granted
-pub sw_grants_none : (s : SwAllocState) (ready : List (List (Option ℕ))) → IsSwReady s.ports s.channels s.inputs s.outputs → ((p v : ℕ) → p < 7 → v < 8 → cell ready p v None ≡ None)
+pub sw_grants_none : (s : SwAllocState) (ready : List (List (Option ℕ))) → IsSwAlloc s.ports s.channels s.inputs s.outputs → ((p v : ℕ) → p < 7 → v < 8 → cell ready p v None ≡ None)
     → sw_grants s ready ≡ replicate 7 None
 sw_grants_none s ready r none =
     with_front_kept s.ports (granted s (all_named s ready) s.ports) (replicate 7 None) None r.few_ports
     (λ i l. ap (if_chosen s (all_named s ready) s.ports i) (ap (λ xs. slice_index_or xs i None) (all_named_none s ready r none) ∙ get_or-replicate_same 7 i None) ∙ sym (get_or-replicate_same 7 i None))
 
 -- no arbiter moves
-pub sw_after_none : (s : SwAllocState) (ready : List (List (Option ℕ))) → IsSwReady s.ports s.channels s.inputs s.outputs → s.ports ≤ length s.inputs → s.ports ≤ length s.outputs
+pub sw_after_none : (s : SwAllocState) (ready : List (List (Option ℕ))) → IsSwAlloc s.ports s.channels s.inputs s.outputs → s.ports ≤ length s.inputs → s.ports ≤ length s.outputs
     → ((p v : ℕ) → p < 7 → v < 8 → cell ready p v None ≡ None)
     → sw_after s ready ≡ s
 sw_after_none s ready r long long' none =

@@ -1,9 +1,9 @@
--- One pass of switch allocation, input first.
-use Rattle.std.specs.Prelude.{◌≡◌, ℕ, ◌<◌, ◌≤◌, ◌==◌, ◌&&◌, nat_lt, Bool, false, if◌then◌else◌, List, [], ◌++◌, Option, Some, None, is_some, map, replicate, slice_index_or, slice_set, drop}
+-- One pass of switch allocation, separable and input first (Dally and Towles, chapter 19).
+use Rattle.std.specs.Prelude.{◌≡◌, ℕ, ◌<◌, ◌≤◌, ◌==◌, ◌&&◌, nat_lt, Bool, false, if◌then◌else◌, List, [], Option, Some, None, is_some, replicate, slice_index_or, slice_set}
 use Rattle.std.specs.Option.{option_map}
-use Rattle.std.specs.List.{range_with_len}
 use Rattle.worm_vcalloc.specs.Arbiter.{ArbiterState, no_arbiter, winner, after_pick}
 use Rattle.worm_vcalloc.specs.Table.{cell}
+use Rattle.worm_swalloc.specs.Front.{with_front}
 use Rattle.worm_swalloc.specs.declared.grant.SwGrant.{SwGrant}
 
 -- an allocator: an arbiter for each input port and for each output port
@@ -14,7 +14,7 @@ pub record SwAllocState : Type 0 where
   pub outputs : List ArbiterState
 
 -- between passes: each input arbiter has a line for each channel, each output arbiter one for each input port
-pub record IsSwReady (ports channels : ℕ) (inputs outputs : List ArbiterState) : Type 0 where
+pub record IsSwAlloc (ports channels : ℕ) (inputs outputs : List ArbiterState) : Type 0 where
   pub some_port : 0 < ports
   pub few_ports : ports ≤ 7
   pub some_channel : 0 < channels
@@ -23,10 +23,6 @@ pub record IsSwReady (ports channels : ℕ) (inputs outputs : List ArbiterState)
   pub input_pointer : (i : ℕ) → i < 7 → (slice_index_or inputs i no_arbiter).pointer < channels
   pub output_width : (i : ℕ) → i < 7 → (slice_index_or outputs i no_arbiter).width ≡ ports
   pub output_pointer : (i : ℕ) → i < 7 → (slice_index_or outputs i no_arbiter).pointer < ports
-
--- the list whose first n elements are f 0, f 1, .., and the others those of xs
-unfoldable pub with_front : {X : Type 0} → ℕ → (ℕ → X) → List X → List X
-with_front n f xs = map f (range_with_len 0 n) ++ drop n xs
 
 -- the channel that the arbiter of an input port names: its first ready one
 abbrev pub named_channel : SwAllocState → List (List (Option ℕ)) → ℕ → Option ℕ
@@ -94,7 +90,7 @@ sw_after s ready = record s {
 }
 
 -- the grants of a pass match input ports to output ports
-pub record IsSwMatching (s : SwAllocState) (ready : List (List (Option ℕ))) (grants : List (Option SwGrant)) : Type 0 where
+pub record IsSwitchMatching (s : SwAllocState) (ready : List (List (Option ℕ))) (grants : List (Option SwGrant)) : Type 0 where
   -- each grant is a ready channel with its output port
   pub requested : (port : ℕ) (g : SwGrant) → slice_index_or grants port None ≡ Some g
       → (cell ready port g.vc None ≡ Some g.out) × (port < s.ports) × (g.vc < s.channels) × (g.out < s.ports)

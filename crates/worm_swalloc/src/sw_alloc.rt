@@ -1,7 +1,8 @@
 ghost use Rattle.std.specs.Prelude.{◌≡◌, ℕ, ◌+◌, ◌^◌, ◌<◌, ◌≤◌, None, bit_or, if◌then◌else◌, is_some, replicate, slice_index_or, slice_set};
 ghost use Rattle.worm_vcalloc.specs.Arbiter.{no_arbiter, line_requests, winner, after_pick};
 ghost use Rattle.worm_vcalloc.specs.Table.{cell};
-ghost use Rattle.worm_swalloc.specs.SwAlloc.{SwAllocState, IsSwReady, IsSwMatching, request_of, named, named_channel, all_named, is_for, chosen, granted, sw_grants, sw_after, output_after, input_after, with_front, with_choice};
+ghost use Rattle.worm_swalloc.specs.Front.{with_front};
+ghost use Rattle.worm_swalloc.specs.SwAlloc.{SwAllocState, IsSwAlloc, IsSwitchMatching, request_of, named, named_channel, all_named, is_for, chosen, granted, sw_grants, sw_after, output_after, input_after, with_choice};
 
 use crate::grant::{ReadyOuts, SwGrant, SwGrants};
 use std::marker::Model;
@@ -31,7 +32,7 @@ impl Model for SwAlloc {
 
     ghost view = { λ a. record { ports = a.ports; channels = a.channels; inputs = a.inputs; outputs = a.outputs } };
 
-    ghost invariant = { λ a. IsSwReady a.ports a.channels a.inputs a.outputs };
+    ghost invariant = { λ a. IsSwAlloc a.ports a.channels a.inputs a.outputs };
 
     ghost inverse = { λ v. record { ports = v.ports; channels = v.channels; inputs = v.inputs; outputs = v.outputs } };
 }
@@ -59,7 +60,7 @@ impl SwAlloc {
     pub fn grant(&mut self, ready: &ReadyOuts) -> SwGrants
         ensures grants { result ≡ sw_grants self.old ready.now }
         ensures after { self.new ≡ sw_after self.old ready.now }
-        ensures matching { IsSwMatching self.old ready.now result }
+        ensures matching { IsSwitchMatching self.old ready.now result }
     {
         // The proof of the first answer needs the widths of the arbiters.
         let _ = &self.ports;
@@ -75,7 +76,7 @@ impl SwAlloc {
     /// What each input port names.
     fn requests(&self, ready: &ReadyOuts) -> SwGrants
         ensures named { result ≡ all_named self.now ready.now }
-        ensures ready { IsSwReady self.now.ports self.now.channels self.now.inputs self.now.outputs }
+        ensures ready { IsSwAlloc self.now.ports self.now.channels self.now.inputs self.now.outputs }
     {
         let mut requests = [None; 7];
         for port in 0..self.ports {

@@ -1,6 +1,6 @@
 -- How a source keeps each lane's flits in order.
-use Rattle.std.proofs.Common.{ℕ, zero, suc, ◌+◌, ◌*◌, ◌≤◌, ◌<◌, ◌≡◌, ◌≢◌, ◌==◌, Bool, true, false, ◌&&◌, List, [], ◌∷◌, ◌++◌, length, filter, slice_index_or, slice_set, get_or, replicate, All, refl, ap, sym, ◌∙◌, subst, arith, append-nil, ◌⊎◌, inl, inr}
-use Rattle.std.proofs.lemmas.Grind.{common_steps, elements, get_or-set_at}
+use Rattle.std.proofs.Common.{ℕ, zero, suc, ◌+◌, ◌*◌, ◌≤◌, ◌<◌, ◌≡◌, ◌≢◌, ◌==◌, Bool, true, false, ◌&&◌, List, [], ◌∷◌, ◌++◌, length, slice_index_or, slice_set, replicate, All, refl, ap, sym, subst, arith, append-nil, inl, inr}
+use Rattle.std.proofs.lemmas.Grind.{get_or-set_at}
 use Rattle.std.proofs.lemmas.Bool.{eq-eqb, ne_eqb, cases_eq}
 use Rattle.std.proofs.lemmas.Nat.{same_from_place, rows}
 use Rattle.std.proofs.Math.ListN.{length-set}
@@ -86,44 +86,44 @@ module _ (node nodes classes : ℕ) (queues : List QueueState) (lanes : List Lan
 
   -- the lane of the packet
   own_lane : d0 < nodes → c0 < classes → length queues ≡ classes → d0 * classes + c0 < length lanes
-    → OfLane (lane_of node d0 c0) fs
-    → ((xs : List Flit) → IsPackets (lane_of node d0 c0) had_lane.next had_lane.closed xs → IsPackets (lane_of node d0 c0) (had_lane.next + 1) is_last (xs ++ fs))
-    → InOrder node nodes classes queues lanes
-    → AfterIt d0 c0
+      → OfLane (lane_of node d0 c0) fs
+      → ((xs : List Flit) → IsPackets (lane_of node d0 c0) had_lane.next had_lane.closed xs → IsPackets (lane_of node d0 c0) (had_lane.next + 1) is_last (xs ++ fs))
+      → InOrder node nodes classes queues lanes
+      → AfterIt d0 c0
   own_lane d_in c_in all_queues line_in own more before =
-    let queue_in : c0 < length queues = omega arith in
-    rw (get_or-set_same queues c0 (appended had_queue fs) empty_queue queue_in, get_or-set_same lanes (d0 * classes + c0) new_lane fresh_lane line_in, of_lane-append (lane_of node d0 c0) had_queue.injected fs, keeps_own (lane_of node d0 c0) fs own)
-    (more (of_lane (lane_of node d0 c0) had_queue.injected) (before d0 c0 d_in c_in))
+      let queue_in : c0 < length queues = omega arith in
+      rw (get_or-set_same queues c0 (appended had_queue fs) empty_queue queue_in, get_or-set_same lanes (d0 * classes + c0) new_lane fresh_lane line_in, of_lane-append (lane_of node d0 c0) had_queue.injected fs, keeps_own (lane_of node d0 c0) fs own)
+      (more (of_lane (lane_of node d0 c0) had_queue.injected) (before d0 c0 d_in c_in))
 
   -- another lane of the class
   beside_it : (dst : ℕ) → dst < nodes → c0 < classes → length queues ≡ classes → dst ≢ d0
-    → OfLane (lane_of node d0 c0) fs
-    → InOrder node nodes classes queues lanes
-    → AfterIt dst c0
+      → OfLane (lane_of node d0 c0) fs
+      → InOrder node nodes classes queues lanes
+      → AfterIt dst c0
   beside_it dst dst_in c_in all_queues other own before =
-    let queue_in : c0 < length queues = omega arith in
-    let elsewhere : dst * classes + c0 ≢ d0 * classes + c0 = λ e. other (same_from_place dst c0 d0 c0 classes c_in c_in e).0 in
-    let not_here : d0 ≢ dst = λ e. other (sym e) in
-    rw (get_or-set_same queues c0 (appended had_queue fs) empty_queue queue_in, get_or-set_other lanes (d0 * classes + c0) (dst * classes + c0) new_lane fresh_lane elsewhere, of_lane-append (lane_of node dst c0) had_queue.injected fs, drops_other (lane_of node d0 c0) (lane_of node dst c0) fs (differs_by_dst node d0 dst c0 not_here) own, append-nil)
-    (before dst c0 dst_in c_in)
+      let queue_in : c0 < length queues = omega arith in
+      let elsewhere : dst * classes + c0 ≢ d0 * classes + c0 = λ e. other (same_from_place dst c0 d0 c0 classes c_in c_in e).0 in
+      let not_here : d0 ≢ dst = λ e. other (sym e) in
+      rw (get_or-set_same queues c0 (appended had_queue fs) empty_queue queue_in, get_or-set_other lanes (d0 * classes + c0) (dst * classes + c0) new_lane fresh_lane elsewhere, of_lane-append (lane_of node dst c0) had_queue.injected fs, drops_other (lane_of node d0 c0) (lane_of node dst c0) fs (differs_by_dst node d0 dst c0 not_here) own, append-nil)
+      (before dst c0 dst_in c_in)
 
   pub offered_in_order : d0 < nodes → c0 < classes → length queues ≡ classes → d0 * classes + c0 < length lanes
-    → OfLane (lane_of node d0 c0) fs
-    → ((xs : List Flit) → IsPackets (lane_of node d0 c0) had_lane.next had_lane.closed xs → IsPackets (lane_of node d0 c0) (had_lane.next + 1) is_last (xs ++ fs))
-    → InOrder node nodes classes queues lanes
-    → InOrder node nodes classes new_queues new_lanes
+      → OfLane (lane_of node d0 c0) fs
+      → ((xs : List Flit) → IsPackets (lane_of node d0 c0) had_lane.next had_lane.closed xs → IsPackets (lane_of node d0 c0) (had_lane.next + 1) is_last (xs ++ fs))
+      → InOrder node nodes classes queues lanes
+      → InOrder node nodes classes new_queues new_lanes
   offered_in_order d_in c_in all_queues line_in own more before dst class dst_in class_in =
-    elim (cases_eq class c0) [
-      inr other ↦
-        let elsewhere : dst * classes + class ≢ d0 * classes + c0 = λ e. other (same_from_place dst class d0 c0 classes class_in c_in e).1 in
-        rw (get_or-set_other queues c0 class (appended had_queue fs) empty_queue other, get_or-set_other lanes (d0 * classes + c0) (dst * classes + class) new_lane fresh_lane elsewhere) (before dst class dst_in class_in)
-    | inl same ↦
-        subst (λ k. AfterIt dst k) (sym same)
-        (elim (cases_eq dst d0) [
-          inr other ↦ beside_it dst dst_in c_in all_queues other own before
-        | inl here ↦ subst (λ d. AfterIt d c0) (sym here) (own_lane d_in c_in all_queues line_in own more before)
-        ])
-    ]
+      elim (cases_eq class c0) [
+        | inr other ↦
+            let elsewhere : dst * classes + class ≢ d0 * classes + c0 = λ e. other (same_from_place dst class d0 c0 classes class_in c_in e).1 in
+            rw (get_or-set_other queues c0 class (appended had_queue fs) empty_queue other, get_or-set_other lanes (d0 * classes + c0) (dst * classes + class) new_lane fresh_lane elsewhere) (before dst class dst_in class_in)
+        | inl same ↦
+            subst (λ k. AfterIt dst k) (sym same)
+            (elim (cases_eq dst d0) [
+              | inr other ↦ beside_it dst dst_in c_in all_queues other own before
+              | inl here ↦ subst (λ d. AfterIt d c0) (sym here) (own_lane d_in c_in all_queues line_in own more before)
+            ])
+      ]
 
 all_from : (node nodes class : ℕ) (lane : Lane) (fs : List Flit) → lane.src ≡ node → lane.dst < nodes → lane.class ≡ class → OfLane lane fs → All (IsFrom node nodes class) fs
 all_from node nodes class lane [] here there same all k d below = absurd (omega (arith, below))
@@ -135,12 +135,12 @@ offered_owned : (node nodes classes : ℕ) (queues : List QueueState) (lane : La
     → (class : ℕ) → class < classes → All (IsFrom node nodes class) (slice_index_or (slice_set queues lane.class (appended (slice_index_or queues lane.class empty_queue) fs)) class empty_queue).injected
 offered_owned node nodes classes queues lane fs here there class_in all before class below =
     elim (cases_eq class lane.class) [
-      inr other ↦ rw (get_or-set_other queues lane.class class (appended (slice_index_or queues lane.class empty_queue) fs) empty_queue other) (before class below)
-    | inl same ↦
-        rw (get_or-set_at queues lane.class class (appended (slice_index_or queues lane.class empty_queue) fs) empty_queue same class_in)
-        (All-append (IsFrom node nodes class) (slice_index_or queues lane.class empty_queue).injected fs
-        (subst (λ k. All (IsFrom node nodes class) (slice_index_or queues k empty_queue).injected) same (before class below))
-        (all_from node nodes class lane fs here there (sym same) all))
+      | inr other ↦ rw (get_or-set_other queues lane.class class (appended (slice_index_or queues lane.class empty_queue) fs) empty_queue other) (before class below)
+      | inl same ↦
+          rw (get_or-set_at queues lane.class class (appended (slice_index_or queues lane.class empty_queue) fs) empty_queue same class_in)
+          (All-append (IsFrom node nodes class) (slice_index_or queues lane.class empty_queue).injected fs
+          (subst (λ k. All (IsFrom node nodes class) (slice_index_or queues k empty_queue).injected) same (before class below))
+          (all_from node nodes class lane fs here there (sym same) all))
     ]
 
 pub offered_sound : (s : SourceState) (lane : Lane) (fs : List Flit) (is_last : Bool)
@@ -158,10 +158,10 @@ offered_sound s lane fs is_last sound is_open own more = record {
       offered_in_order s.node s.nodes (classes s) s.queues s.lanes lane.dst lane.class fs is_last is_open.dst_in is_open.class_in sound.all_queues line_in
       (subst (λ l. OfLane l fs) from_here own)
       (λ xs before.
-          let had : IsPackets lane (next_number s lane) false xs =
-              subst (λ b. IsPackets lane (next_number s lane) b xs) is_open.open_yet
-              (subst (λ l. IsPackets l (next_number s lane) (lane_at s lane).closed xs) (sym from_here) before) in
-          subst (λ l. IsPackets l (next_number s lane + 1) is_last (xs ++ fs)) from_here (more xs had))
+      let had : IsPackets lane (next_number s lane) false xs =
+      subst (λ b. IsPackets lane (next_number s lane) b xs) is_open.open_yet
+      (subst (λ l. IsPackets l (next_number s lane) (lane_at s lane).closed xs) (sym from_here) before) in
+      subst (λ l. IsPackets l (next_number s lane + 1) is_last (xs ++ fs)) from_here (more xs had))
       sound.in_order;
   owned =
       let class_in : lane.class < length s.queues = let below = is_open.class_in in let all = sound.all_queues in omega arith in

@@ -1,7 +1,6 @@
 -- What a contract sees of the flits of one class.
-use Rattle.std.specs.Prelude.{ℕ, ◌+◌, List, [], ◌++◌, Option, slice_get, option_map}
+use Rattle.std.specs.Prelude.{ℕ, ◌+◌, List, [], ◌++◌, Option, slice_get}
 use Rattle.worm_flit.specs.declared.Flit.{Flit}
-use Rattle.worm_flit.specs.Stamps.{with_channel}
 
 -- all flits that the source accepted, and how many of them were fed
 pub record QueueState : Type 0 where

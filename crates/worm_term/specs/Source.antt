@@ -4,8 +4,8 @@ use Rattle.worm_flit.specs.declared.Lane.{Lane}
 use Rattle.worm_flit.specs.declared.Flit.{Flit}
 use Rattle.worm_flit.specs.Channels.{first_channel}
 use Rattle.worm_flit.specs.Packets.{PacketState, packet_flits, mark}
-use Rattle.worm_term.specs.declared.source.OfferFault.{OfferFault}
-use Rattle.worm_term.specs.declared.source.OfferFault.TheVariants.{WrongSource, NoSuchNode, NoSuchClass, ManyChannels, LaneClosed, LaneFull}
+use Rattle.worm_term.specs.declared.fault.OfferFault.{OfferFault}
+use Rattle.worm_term.specs.declared.fault.OfferFault.TheVariants.{WrongSource, NoSuchNode, NoSuchClass, ManyChannels, LaneClosed, LaneFull}
 use Rattle.worm_term.specs.declared.source.LaneState.{LaneState}
 use Rattle.worm_flit.specs.Stamps.{of_lane, with_channel}
 use Rattle.worm_term.specs.Lanes.{lane_of, IsPackets}

@@ -9,7 +9,9 @@ use worm_flit::{Flit, Packet, flit_at};
 /// The flits of one class, as accepted, and how many of them were fed.
 #[derive(Drop)]
 pub struct Queue {
+    /// The flits, in the order in which they were accepted.
     injected: Vec<Flit>,
+    /// How many of them, from the first, were fed.
     fed: usize,
 }
 
@@ -40,6 +42,7 @@ fn push_flits(flits: &mut Vec<Flit>, packet: &Packet, number: u16) -> Result<(),
 }
 
 impl Queue {
+    /// A queue without a flit.
     pub fn new(alloc: Global) -> Queue
         ensures { result ≡ empty_queue }
     {
@@ -59,6 +62,7 @@ impl Queue {
         push_flits(&mut self.injected, packet, number)
     }
 
+    /// Appends one flit, or nothing.
     pub fn append(&mut self, flit: Flit) -> Result<(), AllocError>
         ensures ok { OnOk result (self.new ≡ appended self.old (flit ∷ [])) }
         ensures err { OnErr result (self.new ≡ self.old) }
@@ -74,6 +78,7 @@ impl Queue {
         self.injected.get(self.fed).copied()
     }
 
+    /// The first flit that was not fed is fed.
     pub fn feed(&mut self)
         requires { IsSome (waiting self.old) }
         ensures { self.new ≡ one_fed self.old }
@@ -81,12 +86,14 @@ impl Queue {
         self.fed += 1;
     }
 
+    /// All flits that were accepted.
     pub fn injected(&self) -> &[Flit]
         ensures { result.now ≡ self.now.injected }
     {
         self.injected.as_slice()
     }
 
+    /// How many were fed.
     pub fn fed(&self) -> usize
         ensures value { result ≡ self.now.fed }
         ensures bound { result ≤ length self.now.injected }

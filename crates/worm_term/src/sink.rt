@@ -7,10 +7,12 @@ use std::alloc::Global;
 use std::marker::Model;
 use worm_flit::{Flit, Kind, Lane};
 
-/// Where the packets for a node come out.
+/// Where the packets for a node come out: the list of what arrived.
 #[derive(Drop)]
 pub struct Sink {
+    /// The node where its lanes end.
     node: u8,
+    /// The flits, in order of arrival.
     delivered: Vec<Flit>,
 }
 
@@ -22,6 +24,7 @@ impl Model for Sink {
     ghost view = { λ s. record { node = s.node; delivered = s.delivered.items } };
 }
 
+/// Whether the flit is the mark that closes the lane.
 fn is_mark_of(flit: Flit, lane: Lane) -> bool
     ensures { result ≡ (is_mark flit.kind && is_of_lane lane flit) }
 {
@@ -32,6 +35,7 @@ fn is_mark_of(flit: Flit, lane: Lane) -> bool
 }
 
 impl Sink {
+    /// The sink of a node, at which nothing has arrived.
     pub fn new(alloc: Global, node: u8) -> Sink
         ensures { result ≡ record { node = node; delivered = [] } }
     {
@@ -41,7 +45,7 @@ impl Sink {
         }
     }
 
-    /// Takes a flit for this node. It comes back where memory was refused.
+    /// Takes a flit for this node in. Where memory was refused it comes back, and the sink is as it was.
     pub fn take(&mut self, flit: Flit) -> Result<(), Flit>
         requires { flit.lane.dst ≡ self.old.node }
         ensures ok { OnOk result (self.new ≡ after_take self.old flit) }
@@ -53,14 +57,14 @@ impl Sink {
         }
     }
 
-    /// The flits that came, in order.
+    /// The flits that arrived, in order of arrival.
     pub fn delivered(&self) -> &[Flit]
         ensures { result.now ≡ self.now.delivered }
     {
         self.delivered.as_slice()
     }
 
-    /// Whether the lane's close mark has come.
+    /// Whether the lane's close mark has arrived here.
     pub fn closed(&self, lane: Lane) -> bool
         ensures { result ≡ has_mark self.now lane }
     {

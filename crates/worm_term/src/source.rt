@@ -5,47 +5,33 @@ ghost use Rattle.worm_flit.specs.Stamps.{of_lane};
 ghost use Rattle.worm_term.specs.Lanes.{IsPackets, lane_of};
 ghost use Rattle.worm_term.specs.Source.{SourceState, fresh_lane, fresh_source, lane_at, lane_line, queue_at, refusal, next_number, after_offer, after_close, front_of, after_fed, classes, IsOpen, IsFrom};
 
+use crate::fault::{NoMemory, OfferFault};
 use crate::queue::Queue;
 use std::alloc::{AllocError, Global};
 use std::marker::Model;
 use worm_flit::{ClassChannels, Flit, Lane, Packet, close_flit};
 
-/// Memory was refused.
-#[derive(Clone, Copy, Debug, PartialEq, Eq)]
-pub struct NoMemory;
-
-impl From<AllocError> for NoMemory {
-    fn from(_error: AllocError) -> NoMemory {
-        NoMemory
-    }
-}
-
-/// Why a source takes no packet or mark.
-#[derive(Clone, Copy, Debug, PartialEq, Eq)]
-pub enum OfferFault {
-    WrongSource,
-    NoSuchNode,
-    NoSuchClass,
-    LaneClosed,
-    LaneFull,
-    NoMemory,
-    ManyChannels,
-}
-
-/// How many packets of a lane were accepted, its mark too, and whether the mark was.
+/// How far a lane has come.
 #[derive(Clone, Copy, Debug, PartialEq, Eq)]
 pub struct LaneState {
+    /// How many packets and marks were accepted, 0 to 65,535: the number of the next one.
     pub next: u16,
+    /// Whether the mark was accepted.
     pub closed: bool,
 }
 
-/// Where a node's packets come in.
+/// Where a node's packets come in: what it accepted, and how much of it was fed.
 #[derive(Drop)]
 pub struct Source {
+    /// The node where its lanes begin.
     node: u8,
+    /// The number of nodes, 1 to 256.
     nodes: u16,
+    /// The channels that classes own.
     classes: ClassChannels,
+    /// The flits of each class.
     queues: Vec<Queue>,
+    /// The lanes by destination, then class.
     lanes: Vec<LaneState>,
 }
 
@@ -74,12 +60,17 @@ fn make_lanes(alloc: Global, count: usize) -> Result<Vec<LaneState>, AllocError>
 {
     let mut lanes = Vec::with_capacity(alloc, count)?;
     for _i in 0..count {
-        lanes.push(LaneState { next: 0, closed: false })?;
+        lanes.push(LaneState {
+            next: 0,
+            closed: false,
+        })?;
     }
     Ok(lanes)
 }
 
 impl Source {
+    /// The source of a node, one of so many, which has accepted nothing. `NoMemory` where there is none for its
+    /// lists.
     pub fn new(alloc: Global, node: u8, nodes: u16, channels: &[u8]) -> Result<Source, NoMemory>
         requires node { node < nodes }
         requires nodes { nodes ≤ 256 }
@@ -140,7 +131,9 @@ impl Source {
         Ok(i)
     }
 
-    /// Takes the packet in, and answers its number in its lane.
+    /// Accepts the packet, all its flits or none, and answers its number in its lane. What refuses it, in this
+    /// order: `WrongSource`, `NoSuchNode`, `NoSuchClass`, `LaneClosed`, `LaneFull`, `NoMemory`; the source is
+    /// then as it was.
     pub fn offer(&mut self, packet: &Packet) -> Result<u16, OfferFault>
         ensures ok { IfOk result (λ n. (refusal self.old packet.now.lane false ≡ None) × (n ≡ next_number self.old packet.now.lane) × (self.new ≡ after_offer self.old packet.now)) }
         ensures fault { IfErr result (λ e. e ≡ unwrap_or (refusal self.old packet.now.lane false) OfferFault.NoMemory) }
@@ -153,11 +146,16 @@ impl Source {
         if queue.append_packet(packet, number).is_err() {
             return Err(OfferFault::NoMemory);
         }
-        self.lanes[i] = LaneState { next: number + 1, closed: false };
+        self.lanes[i] = LaneState {
+            next: number + 1,
+            closed: false,
+        };
         Ok(number)
     }
 
-    /// Takes the lane's close mark in, and answers its number.
+    /// Accepts the lane's close mark, and answers its number; from then on nothing of the lane is accepted. What
+    /// refuses it, in this order: `WrongSource`, `NoSuchNode`, `NoSuchClass`, `ManyChannels`, `LaneClosed`,
+    /// `LaneFull`, `NoMemory`; the source is then as it was.
     pub fn close(&mut self, lane: Lane) -> Result<u16, OfferFault>
         ensures ok { IfOk result (λ n. (refusal self.old lane true ≡ None) × (n ≡ next_number self.old lane) × (self.new ≡ after_close self.old lane)) }
         ensures fault { IfErr result (λ e. e ≡ unwrap_or (refusal self.old lane true) OfferFault.NoMemory) }
@@ -169,11 +167,14 @@ impl Source {
         if queue.append(close_flit(lane, number)).is_err() {
             return Err(OfferFault::NoMemory);
         }
-        self.lanes[i] = LaneState { next: number + 1, closed: true };
+        self.lanes[i] = LaneState {
+            closed: true,
+            next: number + 1,
+        };
         Ok(number)
     }
 
-    /// The class's first flit that is not fed, on the class's first channel.
+    /// The class's first flit that is not fed, on the class's first channel: the one to go into the injection buffer.
     pub fn front(&self, class: u8) -> Option<Flit>
         requires { class < classes self.now }
         ensures { result ≡ front_of self.now class }
@@ -183,7 +184,7 @@ impl Source {
         queue.front().map(|flit| Flit { vc, ..flit })
     }
 
-    /// The front went into the injection buffer.
+    /// The class's front has gone into the injection buffer.
     pub fn fed(&mut self, class: u8)
         requires class { class < classes self.old }
         requires front { IsSome (waiting (queue_at self.old class)) }

@@ -7,7 +7,7 @@ use Rattle.worm_vcalloc.specs.declared.request.VcRequest.{VcRequest}
 use Rattle.worm_vcalloc.specs.Arbiter.{ArbiterState, after_pick, no_arbiter}
 use Rattle.worm_vcalloc.specs.Table.{cell, with_cell, IsTable}
 use Rattle.worm_vcalloc.specs.VcRequest.{may_use, is_for}
-use Rattle.worm_vcalloc.specs.VcAlloc.{VcAllocState, VcPass, IsReady, HasWon, IsMatching, with_grant, is_requester, vc_winner, offered, vc_step, port_pass, vc_pass}
+use Rattle.worm_vcalloc.specs.VcAlloc.{VcAllocState, VcPass, IsVcAlloc, HasWon, IsChannelMatching, with_grant, is_requester, vc_winner, offered, vc_step, port_pass, vc_pass}
 use Rattle.worm_vcalloc.proofs.TableLemmas.{IsTable-replicate, IsTable-with_cell, cell-with_cell_same, cell-with_cell_other, cell-with_cell_keeps, cell-replicate}
 use Rattle.worm_vcalloc.proofs.ArbiterLemmas.{winner_requests, winner_none_requests}
 use Rattle.worm_vcalloc.proofs.LineLemmas.{at_line, line_within, line_port}
@@ -303,7 +303,7 @@ matching_ports ports channels waiting free pass (suc n) m few_ports few_channels
     (matching_port ports channels waiting free (fold (port_pass waiting free) pass (range_with_len 0 n)) n r few_ports few_channels ln)
 
 -- before a pass
-matching_start : (waiting : List (List (Option VcRequest))) (free : List (List Bool)) (s : VcAllocState) → IsReady s.ports s.channels s.arbiters
+matching_start : (waiting : List (List (Option VcRequest))) (free : List (List Bool)) (s : VcAllocState) → IsVcAlloc s.ports s.channels s.arbiters
     → IsMatchingBelow s.ports s.channels waiting free 0 (record { alloc = s; grants = replicate 7 (replicate 8 None) })
 matching_start waiting free s ready = record {
   ports_stay = refl;
@@ -316,8 +316,8 @@ matching_start waiting free s ready = record {
 }
 
 -- the grants of a whole pass are a matching
-pub matching_pass : (waiting : List (List (Option VcRequest))) (free : List (List Bool)) (s : VcAllocState) → IsReady s.ports s.channels s.arbiters
-    → IsMatching s.ports s.channels waiting free (vc_pass waiting free (record { alloc = s; grants = replicate 7 (replicate 8 None) })).grants
+pub matching_pass : (waiting : List (List (Option VcRequest))) (free : List (List Bool)) (s : VcAllocState) → IsVcAlloc s.ports s.channels s.arbiters
+    → IsChannelMatching s.ports s.channels waiting free (vc_pass waiting free (record { alloc = s; grants = replicate 7 (replicate 8 None) })).grants
 unfolding vc_pass
 matching_pass waiting free s ready =
     let m = matching_ports s.ports s.channels waiting free (record { alloc = s; grants = replicate 7 (replicate 8 None) }) s.ports (matching_start waiting free s ready) ready.few_ports ready.few_channels (omega arith) in
@@ -328,8 +328,8 @@ matching_pass waiting free s ready =
     }
 
 -- and so are grants that are those of a pass
-pub matching_of : (waiting : List (List (Option VcRequest))) (free : List (List Bool)) (s new : VcAllocState) (grants : List (List (Option ℕ))) → IsReady s.ports s.channels s.arbiters
+pub matching_of : (waiting : List (List (Option VcRequest))) (free : List (List Bool)) (s new : VcAllocState) (grants : List (List (Option ℕ))) → IsVcAlloc s.ports s.channels s.arbiters
     → record { alloc = new; grants = grants } ≡ vc_pass waiting free (record { alloc = s; grants = replicate 7 (replicate 8 None) })
-    → IsMatching s.ports s.channels waiting free grants
+    → IsChannelMatching s.ports s.channels waiting free grants
 matching_of waiting free s new grants ready e =
-    subst (IsMatching s.ports s.channels waiting free) (sym (ap (λ (p : VcPass). p.grants) e)) (matching_pass waiting free s ready)
+    subst (IsChannelMatching s.ports s.channels waiting free) (sym (ap (λ (p : VcPass). p.grants) e)) (matching_pass waiting free s ready)

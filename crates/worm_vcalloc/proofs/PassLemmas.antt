@@ -5,7 +5,7 @@ use Rattle.std.specs.List.{range_with_len}
 use Rattle.worm_vcalloc.specs.declared.request.VcRequest.{VcRequest}
 use Rattle.worm_vcalloc.specs.Arbiter.{ArbiterState, winner, after_pick, line_requests, no_arbiter}
 use Rattle.worm_vcalloc.specs.Table.{cell, with_cell}
-use Rattle.worm_vcalloc.specs.VcAlloc.{VcAllocState, VcPass, IsReady, with_grant, is_requester, vc_winner, offered, vc_step, port_pass, vc_pass}
+use Rattle.worm_vcalloc.specs.VcAlloc.{VcAllocState, VcPass, IsVcAlloc, with_grant, is_requester, vc_winner, offered, vc_step, port_pass, vc_pass}
 use Rattle.worm_vcalloc.specs.ChannelSet.{has}
 use Rattle.worm_vcalloc.specs.VcRequest.{is_for, allows, may_use}
 use Rattle.worm_vcalloc.proofs.ArbiterLemmas.{winner_same, winner_none}
@@ -109,7 +109,7 @@ port_passed waiting free first start here there out r is same_ports same_channel
 -- ---- where nobody asks
 
 -- an output channel that nobody asks for is offered in vain
-offered_unasked : (waiting : List (List (Option VcRequest))) (pass : VcPass) (out channel : ℕ) → IsReady pass.alloc.ports pass.alloc.channels pass.alloc.arbiters
+offered_unasked : (waiting : List (List (Option VcRequest))) (pass : VcPass) (out channel : ℕ) → IsVcAlloc pass.alloc.ports pass.alloc.channels pass.alloc.arbiters
     → out < pass.alloc.ports → channel < pass.alloc.channels
     → ((p v : ℕ) → p < 7 → v < 8 → is_for (cell waiting p v None) out ≡ false)
     → offered waiting pass out channel ≡ pass
@@ -134,7 +134,7 @@ offered_unasked waiting pass out channel r lo lc none =
     ∙ ap (λ arbiters. record { alloc = record { ports = pass.alloc.ports; channels = pass.alloc.channels; arbiters = arbiters }; grants = pass.grants }) (with_cell_same pass.alloc.arbiters out channel no_arbiter)
 
 -- an output port that nobody asks for is passed over
-pub port_pass_unasked : (waiting : List (List (Option VcRequest))) (free : List (List Bool)) (pass : VcPass) (out : ℕ) → IsReady pass.alloc.ports pass.alloc.channels pass.alloc.arbiters
+pub port_pass_unasked : (waiting : List (List (Option VcRequest))) (free : List (List Bool)) (pass : VcPass) (out : ℕ) → IsVcAlloc pass.alloc.ports pass.alloc.channels pass.alloc.arbiters
     → out < pass.alloc.ports
     → ((p v : ℕ) → p < 7 → v < 8 → is_for (cell waiting p v None) out ≡ false)
     → port_pass waiting free pass out ≡ pass
@@ -155,7 +155,7 @@ none_where_not_some None e = refl
 none_where_not_some (Some x) e = absurd (cc)
 
 -- a pass in which nothing waits leaves all as it is
-pub vc_pass_unasked : (waiting : List (List (Option VcRequest))) (free : List (List Bool)) (pass : VcPass) → IsReady pass.alloc.ports pass.alloc.channels pass.alloc.arbiters
+pub vc_pass_unasked : (waiting : List (List (Option VcRequest))) (free : List (List Bool)) (pass : VcPass) → IsVcAlloc pass.alloc.ports pass.alloc.channels pass.alloc.arbiters
     → ((p v : ℕ) → p < 7 → v < 8 → cell waiting p v None ≡ None)
     → vc_pass waiting free pass ≡ pass
 unfolding vc_pass

@@ -1,4 +1,4 @@
--- One pass of channel allocation.
+-- One pass of virtual-channel allocation (Dally and Towles, chapter 19).
 use Rattle.std.specs.Prelude.{◌≡◌, ℕ, ◌*◌, ◌/◌, ◌%◌, ◌<◌, ◌≤◌, ◌&&◌, Bool, false, if◌then◌else◌, List, Option, Some, None, is_none, IsTrue, fold}
 use Rattle.std.specs.List.{range_with_len}
 use Rattle.worm_vcalloc.specs.declared.request.VcRequest.{VcRequest}
@@ -61,7 +61,7 @@ unfoldable pub vc_pass : List (List (Option VcRequest)) → List (List Bool) →
 vc_pass waiting free pass = fold (port_pass waiting free) pass (range_with_len 0 pass.alloc.ports)
 
 -- between passes: one to seven ports, one to eight channels, and each arbiter has a line for each input channel
-pub record IsReady (ports channels : ℕ) (arbiters : List (List ArbiterState)) : Type 0 where
+pub record IsVcAlloc (ports channels : ℕ) (arbiters : List (List ArbiterState)) : Type 0 where
   pub some_port : 0 < ports
   pub few_ports : ports ≤ 7
   pub some_channel : 0 < channels
@@ -75,7 +75,7 @@ pub record HasWon (waiting : List (List (Option VcRequest))) (grants : List (Lis
   pub granted : cell grants port vc None ≡ Some channel
 
 -- the grants of a pass match requests to free output channels
-pub record IsMatching (ports channels : ℕ) (waiting : List (List (Option VcRequest))) (free : List (List Bool)) (grants : List (List (Option ℕ))) : Type 0 where
+pub record IsChannelMatching (ports channels : ℕ) (waiting : List (List (Option VcRequest))) (free : List (List Bool)) (grants : List (List (Option ℕ))) : Type 0 where
   -- each grant is a request, for a free channel of the port that is waited for
   pub requested : (port vc channel : ℕ) → cell grants port vc None ≡ Some channel
       → (out : ℕ) × HasWon waiting grants port vc out channel × IsTrue (cell free out channel false) × (port < ports) × (vc < channels) × (out < ports) × (channel < channels)

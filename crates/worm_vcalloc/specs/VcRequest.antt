@@ -1,4 +1,4 @@
--- What an input channel waits for.
+-- What an input channel waits for (Dally and Towles, chapter 16).
 use Rattle.std.specs.Prelude.{ℕ, ◌==◌, ◌&&◌, Bool, false, Option, Some, None}
 use Rattle.std.specs.Int.{bit_at}
 use Rattle.worm_vcalloc.specs.declared.request.VcRequest.{VcRequest}

@@ -120,3 +120,38 @@ impl ChannelSet {
         lines
     }
 }
+
+#[cfg(test)]
+mod tests {
+    use super::*;
+
+    #[test]
+    fn channels_come_out_in_order(rt: HostRuntime) {
+        let mut set = ChannelSet::new();
+        assert!(rt; set.is_empty());
+        set.put(4, 1, true);
+        set.put(0, 6, true);
+        set.put(4, 0, true);
+        set.put(4, 0, false);
+        assert!(rt; set.contains(4, 1));
+        assert!(rt; !set.contains(4, 0));
+        assert_eq!(rt; set.pop_first(), Some((0, 6)));
+        assert_eq!(rt; set.pop_first(), Some((4, 1)));
+        assert_eq!(rt; set.pop_first(), None);
+    }
+
+    // Of 3 ports by 2 channels, channel 1 of port 0 is line 1 and channel 0 of port 1 line 2.
+    #[test]
+    fn sets_become_lines(rt: HostRuntime) {
+        let mut some = ChannelSet::new();
+        some.put(0, 1, true);
+        some.put(1, 0, true);
+        some.put(2, 2, true);
+        let mut other = ChannelSet::new();
+        other.put(1, 0, true);
+        assert_eq!(rt; some.lines(3, 2), 0b000110);
+        assert_eq!(rt; some.row(2, 3), 0b100);
+        assert_eq!(rt; some.intersection(&other).lines(3, 2), 0b000100);
+        assert_eq!(rt; some.difference(&other).lines(3, 2), 0b000010);
+    }
+}

@@ -92,7 +92,8 @@ impl VcRequests {
         self.table.rows[port as usize][vc as usize]
     }
 
-    /// From now on the input channel waits for this; None where it waits no more.
+    /// From now on the input channel waits for this; None where it waits no more. A request for
+    /// a port or channel that the router does not have is kept and never met.
     pub fn set(&mut self, port: u8, vc: u8, request: Option<VcRequest>)
         requires port { port < 7 }
         requires vc { vc < 8 }
@@ -113,7 +114,7 @@ impl VcRequests {
     }
 
     /// The input channels that wait for a channel of an output port.
-    pub fn asking_port(&self, out: u8) -> ChannelSet
+    pub(crate) fn asking_port(&self, out: u8) -> ChannelSet
         requires { out < 7 }
         ensures { (p v : ℕ) → p < 7 → v < 8 → has result p v ≡ is_for (cell self.now p v None) out }
     {
@@ -121,7 +122,7 @@ impl VcRequests {
     }
 
     /// The input channels that wait for an output port and may use this channel of it.
-    pub fn asking(&self, out: u8, channel: u8) -> ChannelSet
+    pub(crate) fn asking(&self, out: u8, channel: u8) -> ChannelSet
         requires out { out < 7 }
         requires channel { channel < 8 }
         ensures { (p v : ℕ) → p < 7 → v < 8 → has result p v ≡ may_use (cell self.now p v None) out channel }
@@ -162,5 +163,36 @@ fn put_each(sets: &mut [ChannelSet], port: u8, vc: u8, bits: u8)
 {
     for i in 0..sets.len() {
         sets[i].put(port, vc, bits >> i & 1 == 1);
+    }
+}
+
+#[cfg(test)]
+mod tests {
+    use super::*;
+
+    #[test]
+    fn requests_are_found_by_what_they_ask(rt: HostRuntime) {
+        let mut waiting = VcRequests::new();
+        let request = VcRequest {
+            out: 2,
+            allowed: 0b10,
+        };
+        waiting.set(1, 3, Some(request));
+        waiting.set(
+            0,
+            5,
+            Some(VcRequest {
+                out: 2,
+                allowed: 0b01,
+            }),
+        );
+        assert_eq!(rt; waiting.get(1, 3), Some(request));
+        assert!(rt; waiting.asking_port(3).is_empty());
+        let mut asking = waiting.asking(2, 1);
+        assert_eq!(rt; asking.pop_first(), Some((1, 3)));
+        assert!(rt; asking.is_empty());
+        waiting.set(1, 3, None);
+        assert!(rt; waiting.asking(2, 1).is_empty());
+        assert_eq!(rt; waiting.waiting().pop_first(), Some((0, 5)));
     }
 }

@@ -1,6 +1,6 @@
 ghost use Rattle.std.specs.Prelude.{◌≡◌, ℕ, ◌+◌, ◌*◌, ◌^◌, ◌<◌, ◌≤◌, ◌/◌, ◌%◌, IfSome, None, length, replicate};
 ghost use Rattle.worm_vcalloc.specs.Arbiter.{ArbiterState, line_requests};
-ghost use Rattle.worm_vcalloc.specs.VcAlloc.{VcAllocState, VcPass, IsReady, IsMatching, is_requester, offered, port_pass, vc_pass};
+ghost use Rattle.worm_vcalloc.specs.VcAlloc.{VcAllocState, VcPass, IsVcAlloc, IsChannelMatching, is_requester, offered, port_pass, vc_pass};
 
 use crate::arbiter::Arbiter;
 use crate::channel_map::ChannelMap;
@@ -37,7 +37,7 @@ impl Model for VcAlloc {
 
     ghost view = { λ a. record { ports = a.ports; channels = a.channels; arbiters = a.arbiters } };
 
-    ghost invariant = { λ a. IsReady a.ports a.channels a.arbiters };
+    ghost invariant = { λ a. IsVcAlloc a.ports a.channels a.arbiters };
 
     ghost inverse = { λ v. record { ports = v.ports; channels = v.channels; arbiters = v.arbiters } };
 }
@@ -63,7 +63,7 @@ impl VcAlloc {
     /// that its arbiter picks among the input channels that may use it and have no grant yet.
     pub fn grant(&mut self, waiting: &VcRequests, free: &FreeChannels) -> VcGrants
         ensures pass { record { alloc = self.new; grants = result } ≡ vc_pass waiting.now free.now (record { alloc = self.old; grants = replicate 7 (replicate 8 None) }) }
-        ensures matching { IsMatching self.old.ports self.old.channels waiting.now free.now result }
+        ensures matching { IsChannelMatching self.old.ports self.old.channels waiting.now free.now result }
         ensures ports { self.new.ports ≡ self.old.ports }
         ensures channels { self.new.channels ≡ self.old.channels }
     {
@@ -124,7 +124,8 @@ impl VcAlloc {
         ensures lines { (line : ℕ) → line < self.now.ports * self.now.channels → line_requests result line ≡ is_requester waiting.now grants.now out channel (line / self.now.channels) (line % self.now.channels) }
     {
         let (ports, channels) = (self.ports, self.channels);
-        let ungranted = waiting.asking(out, channel).difference(&grants.keys());
+        let asking = waiting.asking(out, channel);
+        let ungranted = asking.difference(&grants.keys());
         if ungranted.is_empty() {
             return 0;
         }

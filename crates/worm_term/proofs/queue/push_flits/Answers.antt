@@ -1,6 +1,4 @@
-use Rattle.std.proofs.Common.{◌≡◌, ◌≤◌, ◌<◌, ◌+◌, ◌++◌, [], ◌∷◌, ℕ, List, zero, suc, refl, ap, ◌∙◌, sym, take, slice_get, Some, length, vec_len, vec_capacity, arith, append_assoc, IsOk, is_ok, take_all, Result, Ok, Err, if◌then◌else◌, add-one}
-use Rattle.std.proofs.lemmas.Grind.{common_steps}
-use Rattle.worm_flit.specs.declared.Flit.{Flit}
+use Rattle.std.proofs.Common.{◌≡◌, ◌≤◌, ◌+◌, ◌++◌, [], ◌∷◌, ℕ, List, zero, suc, refl, ap, ◌∙◌, take, slice_get, Some, length, vec_len, vec_capacity, arith, append_assoc, IsOk, is_ok, take_all, Result, Ok, Err, if◌then◌else◌, add-one}
 use Rattle.worm_flit.specs.Packets.{packet_flits}
 use Rattle.worm_flit.proofs.Packets.{length-packet_flits}
 use Rattle.worm_term.proofs.queue.push_flits.Goals as goal

@@ -2,7 +2,8 @@ use Rattle.std.proofs.Common.{◌≡◌, ℕ, ◌<◌, sym, ◌∙◌, ap, subst
 use Rattle.worm_vcalloc.specs.Table.{cell}
 use Rattle.worm_vcalloc.proofs.PassLemmas.{none_where_not_some}
 use Rattle.worm_vcalloc.proofs.SetLemmas.{has-empty}
-use Rattle.worm_swalloc.specs.SwAlloc.{SwAllocState, sw_grants, IsSwMatching, granted, with_front}
+use Rattle.worm_swalloc.specs.Front.{with_front}
+use Rattle.worm_swalloc.specs.SwAlloc.{SwAllocState, sw_grants, IsSwitchMatching, granted}
 use Rattle.worm_swalloc.proofs.SwLemmas.{matching, sw_grants_none, sw_after_none}
 use Rattle.worm_swalloc.proofs.sw_alloc.SwAlloc.grant.Goals as goal
 
@@ -24,10 +25,10 @@ returns-then-is_empty-clause-after c =
 pub returns-then-is_empty-clause-matching : goal.returns-then-is_empty-clause-matching
 returns-then-is_empty-clause-matching c =
     let s : SwAllocState = record { ports = c.self.inside.ports; channels = c.self.inside.channels; inputs = c.self.inside.inputs; outputs = c.self.inside.outputs } in
-    rw (← c.self.view_is) (subst (IsSwMatching s c.args.ready.now) (sw_grants_none s c.args.ready.now c.self.invariant (nothing_ready c)) (matching s c.args.ready.now c.self.invariant))
+    rw (← c.self.view_is) (subst (IsSwitchMatching s c.args.ready.now) (sw_grants_none s c.args.ready.now c.self.invariant (nothing_ready c)) (matching s c.args.ready.now c.self.invariant))
 
 pub returns-clause-matching : goal.returns-clause-matching
 returns-clause-matching c =
     let is : c.choose-grants.result ≡ sw_grants c.args.self.now c.args.ready.now =
     c.choose-grants.ensures.grants ∙ ap (λ r. with_front c.args.self.now.ports (granted c.args.self.now r c.args.self.now.ports) (replicate 7 None)) c.requests-requests.ensures.named in
-    subst (IsSwMatching c.args.self.now c.args.ready.now) (sym is) (matching c.args.self.now c.args.ready.now c.requests-requests.ensures.ready)
+    subst (IsSwitchMatching c.args.self.now c.args.ready.now) (sym is) (matching c.args.self.now c.args.ready.now c.requests-requests.ensures.ready)

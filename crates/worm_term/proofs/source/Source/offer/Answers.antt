@@ -1,6 +1,6 @@
-use Rattle.std.proofs.Common.{◌≡◌, ◌≤◌, ◌+◌, length, slice_set, false, arith, subst}
+use Rattle.std.proofs.Common.{◌≡◌, ◌+◌, slice_set, false, arith, subst}
 use Rattle.std.proofs.lemmas.Grind.{common_steps}
-use Rattle.worm_term.specs.Source.{SourceState, IsSource, IsOpen, source_state, after_offer}
+use Rattle.worm_term.specs.Source.{IsSource, IsOpen, source_state, after_offer}
 use Rattle.worm_term.proofs.Order.{offer_sound}
 use Rattle.worm_term.proofs.source.Source.offer.Goals as goal
 

@@ -1,0 +1,85 @@
+-- What the channels of a router ask of its allocators, and what a pass of each leaves (Dally and Towles, chapters 16 and 19).
+use Rattle.std.specs.Prelude.{ℕ, ◌≡◌, ◌<◌, ◌+◌, ◌&&◌, nat_le, nat_lt, Bool, false, is_none, if◌then◌else◌, List, [], ◌∷◌, Option, None, Some, fold, replicate}
+use Rattle.std.specs.Option.{option_map}
+use Rattle.std.specs.List.{range_with_len}
+use Rattle.worm_flit.specs.declared.Flit.{Flit}
+use Rattle.worm_flit.specs.Channels.{class_bits}
+use Rattle.worm_records.specs.declared.InRecord.{InRecord}
+use Rattle.worm_records.specs.declared.InRecord.TheVariants.{Idle, Waiting, Active}
+use Rattle.worm_vcalloc.specs.declared.request.VcRequest.{VcRequest}
+use Rattle.worm_vcalloc.specs.Table.{cell}
+use Rattle.worm_vcalloc.specs.VcAlloc.{VcPass, vc_pass}
+use Rattle.worm_swalloc.specs.declared.grant.SwGrant.{SwGrant}
+use Rattle.worm_swalloc.specs.SwAlloc.{sw_grants, sw_after}
+use Rattle.worm_router.specs.Tables.{table}
+use Rattle.worm_router.specs.Router.{RouterState, terminal, width, input_at, output_at, after_grant, leaving}
+
+-- what f says of a port and channel of the router; of any other, d
+abbrev pub within : {X : Type 0} → RouterState → X → (ℕ → ℕ → X) → ℕ → ℕ → X
+within r d f port vc = if nat_le port (terminal r) && nat_lt vc (width r) then f port vc else d
+
+-- Channel allocation
+
+-- a waiting channel with a packet at its front asks for a channel of the packet's class at its output port
+abbrev pub asking : RouterState → InRecord → List Flit → Option VcRequest
+asking r Idle fs = None
+asking r (Active o c) fs = None
+asking r (Waiting o) [] = None
+asking r (Waiting o) (f ∷ fs) = Some (record { out = o; allowed = class_bits r.channels f.lane.class })
+
+abbrev pub request_at : RouterState → ℕ → ℕ → Option VcRequest
+request_at r port vc = asking r (input_at r port vc).state (input_at r port vc).buffer
+
+abbrev pub requests : RouterState → List (List (Option VcRequest))
+requests r = table (within r None (request_at r))
+
+abbrev pub is_free : RouterState → ℕ → ℕ → Bool
+is_free r out c = is_none (output_at r out c).holder
+
+abbrev pub free_channels : RouterState → List (List Bool)
+free_channels r = table (within r false (is_free r))
+
+-- one pass of the channel allocator, over the requests and the free channels that the records state
+abbrev pub channel_pass : RouterState → VcPass
+channel_pass r =
+    vc_pass (requests r) (free_channels r) (record { alloc = r.channel_alloc; grants = replicate 7 (replicate 8 None) })
+
+-- each granted channel is one of so many
+abbrev pub GrantsWithin : ℕ → List (List (Option ℕ)) → Type 0
+GrantsWithin channels grants = (port vc out_vc : ℕ) → cell grants port vc None ≡ Some out_vc → out_vc < channels
+
+-- two routers of one mesh and the same channels
+pub record IsSameSize (old new : RouterState) : Type 0 where
+  pub same_mesh : new.mesh ≡ old.mesh
+  pub same_channels : new.channels ≡ old.channels
+
+-- a grant, where there is one, goes into the records
+abbrev pub written : RouterState → ℕ → ℕ → Option ℕ → RouterState
+written r port vc None = r
+written r port vc (Some out_vc) = after_grant r port vc out_vc
+
+-- the grants of one input port, one by one, by rising channel
+unfoldable pub with_port_grants : List (List (Option ℕ)) → RouterState → ℕ → RouterState
+with_port_grants grants r port = fold (λ s vc. written s port vc (cell grants port vc None)) r (range_with_len 0 (width r))
+
+-- all of them, by rising port
+unfoldable pub with_grants : List (List (Option ℕ)) → RouterState → RouterState
+with_grants grants r = fold (with_port_grants grants) r (range_with_len 0 (terminal r + 1))
+
+abbrev pub after_allocate : RouterState → RouterState
+after_allocate r = with_grants (channel_pass r).grants (record r { channel_alloc = (channel_pass r).alloc })
+
+-- Switch allocation
+
+-- the output port of a channel that may send
+abbrev pub ready_at : RouterState → ℕ → ℕ → Option ℕ
+ready_at r port vc = option_map (λ leave. leave.0) (leaving r port vc)
+
+abbrev pub ready_outs : RouterState → List (List (Option ℕ))
+ready_outs r = table (within r None (ready_at r))
+
+abbrev pub switch_grants : RouterState → List (Option SwGrant)
+switch_grants r = sw_grants r.switch_alloc (ready_outs r)
+
+abbrev pub after_choose : RouterState → RouterState
+after_choose r = record r { switch_alloc = sw_after r.switch_alloc (ready_outs r) }

@@ -1,0 +1,175 @@
+//! One pass of each allocator, over what the records state.
+
+ghost use Rattle.std.specs.Prelude.{◌≡◌, ◌+◌, ◌≤◌, ◌<◌, ℕ, None, Some, IfSome, false, replicate};
+ghost use Rattle.worm_vcalloc.specs.Table.{IsTable};
+ghost use Rattle.worm_vcalloc.specs.VcAlloc.{IsMatching};
+ghost use Rattle.worm_swalloc.specs.SwAlloc.{IsSwMatching};
+ghost use Rattle.worm_router.specs.Router.{IsPlace, terminal, width, input_at, output_at, after_grant};
+ghost use Rattle.worm_router.specs.Tables.{PutsRow};
+ghost use Rattle.worm_router.specs.Allocation.{request_at, requests, is_free, free_channels, ready_at, ready_outs, GrantsWithin, written, channel_pass, after_allocate, with_port_grants, with_grants, switch_grants, after_choose};
+ghost use Rattle.worm_router.specs.Allocation.{IsSameSize};
+
+use crate::router::Router;
+use worm_records::InRecord;
+use worm_swalloc::{ReadyOuts, SwGrants};
+use worm_vcalloc::{FreeChannels, VcGrants, VcRequest, VcRequests};
+
+impl Router {
+    /// What an input channel asks for.
+    fn request(&self, port: u8, vc: u8) -> Option<VcRequest>
+        requires { IsPlace self.now port vc }
+        ensures { result ≡ request_at self.now port vc }
+    {
+        let channel = &self.inputs[self.line(port, vc)];
+        let InRecord::Waiting { out } = channel.state() else {
+            return None;
+        };
+        let front = channel.flit_at(0)?;
+        Some(VcRequest {
+            out,
+            allowed: self.classes.mask(front.lane.class),
+        })
+    }
+
+    /// Adds what the channels of a port ask for.
+    fn add_requests(&self, port: u8, waiting: &mut VcRequests)
+        requires port { port ≤ terminal self.now }
+        requires few { port < 7 }
+        requires shape { IsTable waiting.old }
+        ensures { PutsRow None (request_at self.now port) (width self.now) port waiting.old waiting.new }
+    {
+        for vc in 0..self.classes.total() {
+            waiting.set(port, vc, self.request(port, vc));
+        }
+    }
+
+    /// What all input channels ask for.
+    fn requests(&self) -> VcRequests
+        ensures { result ≡ requests self.now }
+    {
+        let mut waiting = VcRequests::new();
+        for port in 0..self.terminal() + 1 {
+            self.add_requests(port, &mut waiting);
+        }
+        waiting
+    }
+
+    /// Marks the free channels of an output port.
+    fn add_free(&self, out: u8, free: &mut FreeChannels)
+        requires port { out ≤ terminal self.now }
+        requires few { out < 7 }
+        requires shape { IsTable free.old }
+        ensures { PutsRow false (is_free self.now out) (width self.now) out free.old free.new }
+    {
+        for channel in 0..self.classes.total() {
+            let output = self.outputs[self.line(out, channel)];
+            free[usize::from(out)][usize::from(channel)] = output.holder.is_none();
+        }
+    }
+
+    /// Which output channels are free.
+    fn free_channels(&self) -> FreeChannels
+        ensures { result ≡ free_channels self.now }
+    {
+        let mut free = [[false; 8]; 7];
+        for out in 0..self.terminal() + 1 {
+            self.add_free(out, &mut free);
+        }
+        free
+    }
+
+    /// The output port of an input channel that may send.
+    fn ready_out(&self, port: u8, vc: u8) -> Option<u8>
+        requires { IsPlace self.now port vc }
+        ensures { result ≡ ready_at self.now port vc }
+    {
+        match self.ready(port, vc) {
+            None => None,
+            Some((out, _)) => Some(out),
+        }
+    }
+
+    /// Adds the channels of an input port that may send, each with its output port.
+    fn add_ready(&self, port: u8, ready: &mut ReadyOuts)
+        requires port { port ≤ terminal self.now }
+        requires few { port < 7 }
+        requires shape { IsTable ready.old }
+        ensures { PutsRow None (ready_at self.now port) (width self.now) port ready.old ready.new }
+    {
+        for vc in 0..self.classes.total() {
+            ready.set(port, vc, self.ready_out(port, vc));
+        }
+    }
+
+    /// The input channels that may send, each with its output port.
+    fn ready_outs(&self) -> ReadyOuts
+        ensures { result ≡ ready_outs self.now }
+    {
+        let mut ready = ReadyOuts::new();
+        for port in 0..self.terminal() + 1 {
+            self.add_ready(port, &mut ready);
+        }
+        ready
+    }
+
+    /// Writes the grant of an input channel, if it has one, into the records.
+    fn write_grant(&mut self, port: u8, vc: u8, granted: Option<u8>)
+        requires place { IsPlace self.old port vc }
+        requires within { IfSome granted (λ out_vc. out_vc < width self.old) }
+        ensures { self.new ≡ written self.old port vc granted }
+    {
+        if let Some(out_vc) = granted {
+            self.grant(port, vc, out_vc);
+        }
+    }
+
+    /// Writes the grants of an input port into the records, by rising channel.
+    fn write_port(&mut self, grants: &VcGrants, port: u8)
+        requires port { port ≤ terminal self.old }
+        requires few { port < 7 }
+        requires within { GrantsWithin (width self.old) grants.now }
+        ensures after { self.new ≡ with_port_grants grants.now self.old port }
+        ensures same { IsSameSize self.old self.new }
+    {
+        for vc in 0..self.classes.total() {
+            self.write_grant(port, vc, grants.get(port, vc));
+        }
+    }
+
+    /// Writes grants into the records, one by one, by rising input port.
+    fn write(&mut self, grants: &VcGrants)
+        requires within { GrantsWithin (width self.old) grants.now }
+        ensures after { self.new ≡ with_grants grants.now self.old }
+        ensures same { IsSameSize self.old self.new }
+    {
+        for port in 0..self.terminal() + 1 {
+            self.write_port(grants, port);
+        }
+    }
+
+    /// One pass of the channel allocator over the waiting channels and the free ones. Each grant is written into
+    /// the records of the input channel and of the output channel (Dally and Towles, chapters 16 and 19).
+    pub fn allocate(&mut self) -> VcGrants
+        ensures grants { result ≡ (channel_pass self.old).grants }
+        ensures after { self.new ≡ after_allocate self.old }
+        ensures same { IsSameSize self.old self.new }
+        ensures matching { IsMatching (terminal self.old + 1) (width self.old) (requests self.old) (free_channels self.old) result }
+    {
+        let waiting = self.requests();
+        let free = self.free_channels();
+        let grants = self.channel_alloc.grant(&waiting, &free);
+        self.write(&grants);
+        grants
+    }
+
+    /// One pass of the switch allocator over the channels that may send now (Dally and Towles, chapter 19). The
+    /// arbiters of the granted ports move on; nothing is sent.
+    pub fn choose(&mut self) -> SwGrants
+        ensures grants { result ≡ switch_grants self.old }
+        ensures after { self.new ≡ after_choose self.old }
+        ensures matching { IsSwMatching self.old.switch_alloc (ready_outs self.old) result }
+    {
+        let ready = self.ready_outs();
+        self.switch_alloc.grant(&ready)
+    }
+}
