@@ -19,15 +19,15 @@ range_bits : (n k c : ℕ) → (bit_at ((2 ^ n - 1) * 2 ^ k) c == 1) ≡ (nat_le
 range_bits n k c = elim (either c k) [
   | inl low ↦ let out : nat_le k c ≡ false = grind arith in rw (out, bit_below n k c low) refl
   | inr high ↦ elim (either (c - k) n) [
-      | inl inside ↦
-          let a : nat_le k c ≡ true = grind arith in
-          let b : nat_lt c (k + n) ≡ true = grind arith in
-          rw (a, b, bit_from n k c high, bit_at_ones n (c - k) inside) refl
-      | inr outside ↦
-          let a : nat_le k c ≡ true = grind arith in
-          let b : nat_lt c (k + n) ≡ false = grind arith in
-          rw (a, b, bit_from n k c high, bit_at_ones_above n (c - k) outside) refl
-    ]
+    | inl inside ↦
+        let a : nat_le k c ≡ true = grind arith in
+        let b : nat_lt c (k + n) ≡ true = grind arith in
+        rw (a, b, bit_from n k c high, bit_at_ones n (c - k) inside) refl
+    | inr outside ↦
+        let a : nat_le k c ≡ true = grind arith in
+        let b : nat_lt c (k + n) ≡ false = grind arith in
+        rw (a, b, bit_from n k c high, bit_at_ones_above n (c - k) outside) refl
+  ]
 ]
 
 pub class_bits-owns : (counts : List ℕ) (class c : ℕ) → (bit_at (class_bits counts class) c == 1) ≡ owns counts class c

@@ -6,10 +6,10 @@ ghost use Rattle.worm_text.specs.Numerals.{is_digit, is_numeral, value_of, is_na
 ghost use Rattle.std.specs.List.{list_all};
 ghost use Rattle.worm_text.specs.Reading.{Reads, Gives, number_at, name_at, word_at, key_at, no_more};
 
-use worm_core::Name;
 use crate::fault::Why;
 use crate::key::Key;
 use std::marker::Model;
+use worm_core::Name;
 
 fn position_of(bytes: &[u8], end: u8) -> Option<usize>
     ensures { result ≡ position (λ b. b == end) bytes.now }

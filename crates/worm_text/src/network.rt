@@ -12,12 +12,12 @@ ghost use Rattle.worm_text.specs.Words.{word_of};
 ghost use Rattle.worm_text.specs.Reader.{Answers, network_of, IsFaultLine};
 ghost use Rattle.worm_text.specs.StageView.{stage_view};
 
-use crate::format::Format;
-use worm_core::{Config, Name};
 use crate::fault::{TextFault, Why};
 use crate::fields::{Fields, cut_first};
+use crate::format::Format;
 use crate::key::Key;
 use arrayvec::ArrayVec;
+use worm_core::{Config, Name};
 
 /// The line that comes next, and what those before it have said.
 #[derive(Drop)]

@@ -12,14 +12,13 @@ ghost use Rattle.worm_text.specs.declared.format.Format.{Format};
 ghost use Rattle.worm_text.specs.Traffic.{Said, class_at, turn_at, lane_at, words_at, send_at, close_at, entry_at, is_closed, entry_view, said, same_lane, lane_cmp, closes, read_entries, traffic_of, AnswersOrFull};
 ghost use Rattle.worm_text.specs.Lines.{cut, space, newline};
 
-
 use crate::fault::{TextFault, Why};
 use crate::fields::{Fields, cut_first};
-use worm_core::{Act, Config, Entry, Name, Script};
-use worm_flit::{Lane, Packet};
 use arrayvec::ArrayVec;
 use std::alloc::{AllocError, Global};
 use std::collections::BTreeSet;
+use worm_core::{Act, Config, Entry, Name, Script};
+use worm_flit::{Lane, Packet};
 
 fn place_of(name: &[u8], classes: &[Name]) -> Option<usize>
     ensures { result ≡ position (λ c. bytes_eq c.bytes name.now) classes.now }
