@@ -2,8 +2,8 @@
 
 ghost use Rattle.std.specs.Prelude.{◌≡◌, ◌+◌, ◌≤◌, ◌<◌, ℕ, None, Some, IfSome, false, replicate};
 ghost use Rattle.worm_vcalloc.specs.Table.{IsTable};
-ghost use Rattle.worm_vcalloc.specs.VcAlloc.{IsMatching};
-ghost use Rattle.worm_swalloc.specs.SwAlloc.{IsSwMatching};
+ghost use Rattle.worm_vcalloc.specs.VcAlloc.{IsChannelMatching};
+ghost use Rattle.worm_swalloc.specs.SwAlloc.{IsSwitchMatching};
 ghost use Rattle.worm_router.specs.Router.{IsPlace, terminal, width, input_at, output_at, after_grant};
 ghost use Rattle.worm_router.specs.Tables.{PutsRow};
 ghost use Rattle.worm_router.specs.Allocation.{request_at, requests, is_free, free_channels, ready_at, ready_outs, GrantsWithin, written, channel_pass, after_allocate, with_port_grants, with_grants, switch_grants, after_choose};
@@ -153,7 +153,7 @@ impl Router {
         ensures grants { result ≡ (channel_pass self.old).grants }
         ensures after { self.new ≡ after_allocate self.old }
         ensures same { IsSameSize self.old self.new }
-        ensures matching { IsMatching (terminal self.old + 1) (width self.old) (requests self.old) (free_channels self.old) result }
+        ensures matching { IsChannelMatching (terminal self.old + 1) (width self.old) (requests self.old) (free_channels self.old) result }
     {
         let waiting = self.requests();
         let free = self.free_channels();
@@ -167,7 +167,7 @@ impl Router {
     pub fn choose(&mut self) -> SwGrants
         ensures grants { result ≡ switch_grants self.old }
         ensures after { self.new ≡ after_choose self.old }
-        ensures matching { IsSwMatching self.old.switch_alloc (ready_outs self.old) result }
+        ensures matching { IsSwitchMatching self.old.switch_alloc (ready_outs self.old) result }
     {
         let ready = self.ready_outs();
         self.switch_alloc.grant(&ready)
