@@ -8,6 +8,7 @@ ghost use Rattle.wormrun.specs.Ranges.{InRange};
 
 mod fault;
 mod joined;
+mod plain;
 mod program;
 mod reading;
 mod report;

@@ -4,13 +4,14 @@ ghost use Rattle.wormrun.specs.Ranges.{InRange};
 
 use crate::fault::ProgramFault;
 use crate::joined::network_end;
+use crate::plain::{Net, NetFault};
 use crate::reading::{ReadFault, read_text};
 use crate::report::{Ending, report_of};
 use crate::words::Options;
 use crate::writing::put_bytes;
 use std::alloc::Global;
 use std::io::{Read, Write};
-use worm_core::{Net, NetFault, Script};
+use worm_core::Script;
 use worm_text::{TextFault, Why, read_network, read_traffic};
 
 /// Runs the network and the traffic that two readers give, on this thread, and writes the report.

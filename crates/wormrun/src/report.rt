@@ -1,8 +1,8 @@
 //! The text of a report.
 
+use crate::plain::{Held, Net, Place};
 use crate::words::Options;
 use std::alloc::{AllocError, Global};
-use worm_core::{Held, Net, Place};
 use worm_flit::{Flit, Kind};
 
 /// Where the turns ended early, and how many entries were never offered.

@@ -1,11 +1,10 @@
 ghost use Rattle.std.specs.Prelude.{◌≤◌};
 
-use crate::config::Config;
-use crate::fault::{NetFault, OfferFault, StepFault};
-use crate::node::{Node, NodeSize};
-use crate::script::{Act, Script};
+use crate::plain::fault::{NetFault, OfferFault, StepFault};
+use crate::plain::node::{Node, NodeSize};
 use std::alloc::{AllocError, Global};
 use std::collections::VecDeque;
+use worm_core::{Act, Config, Script};
 use worm_flit::{Flit, Lane, is_opening};
 use worm_mesh::Mesh;
 use worm_records::InRecord;

@@ -1,7 +1,7 @@
 //! Which flits cross the switch of a node in a turn, and how they leave.
 
-use crate::fault::StepFault;
-use crate::net::Net;
+use crate::plain::fault::StepFault;
+use crate::plain::net::Net;
 use worm_flit::{Flit, is_closing};
 use worm_records::InRecord;
 

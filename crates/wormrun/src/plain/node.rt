@@ -1,4 +1,4 @@
-use crate::fault::OfferFault;
+use crate::plain::fault::OfferFault;
 use std::alloc::{AllocError, Global};
 use std::collections::VecDeque;
 use worm_flit::{Flit, Packet, close_flit, flit_at};

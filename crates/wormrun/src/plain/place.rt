@@ -1,4 +1,4 @@
-use crate::net::Net;
+use crate::plain::net::Net;
 use std::alloc::{AllocError, Global};
 use worm_flit::Flit;
 
