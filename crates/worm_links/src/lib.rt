@@ -1,0 +1,52 @@
+//! The two queues of a link between neighbouring routers, whose ends lie in any two threads: flits go one way, credits the
+//! other (Dally and Towles, chapters 12 and 13).
+//!
+//! One idea carries both: the sender's end knows all that was sent, the taker's end all that was taken, and one rule of the
+//! queue ties them, whoever runs when: what was sent is what was taken, and then what the queue holds. What was sent is a
+//! history of the link: each flit may cross it, and on each channel they are a worm. So the taker, who never sees what was
+//! sent, has that of what it took, with no check as it takes. Together again, the ends know both lists.
+//!
+//! The queues are lock-free and bounded, and hold a flit as one word of 128 bits. Only making them takes memory. Nothing here
+//! waits for room or for a flit: that a flit is ever taken is not claimed, nor when.
+#![tactic(auto)]
+
+mod credits;
+mod flits;
+mod history;
+#[cfg(test)]
+mod tests;
+
+pub use credits::{CreditEnds, CreditRx, CreditTx, credit_line, reunite_credits};
+pub use flits::{Ends, FlitRx, FlitTx, Opening, link, link_after, reunite};
+use std::alloc::AllocError;
+use worm_mesh::Mesh;
+
+/// The link that leaves a node by a port, and what it may carry.
+#[derive(Clone, Copy, PartialEq, Eq, Debug)]
+pub struct LinkCfg {
+    /// The mesh whose routes may cross it.
+    pub mesh: Mesh,
+    /// The node that sends.
+    pub node: u8,
+    /// The port of that node: `2d` on the minus side of dimension `d`, `2d + 1` on its plus side.
+    pub port: u8,
+    /// How many virtual channels it has: 1 to 8.
+    pub channels: u8,
+    /// How many flits a channel's buffer at its far end holds: 1 to 17.
+    pub depth: u8,
+    /// The class that owns each channel; those past the last channel say nothing.
+    pub owners: [u8; 8],
+}
+
+/// Why there is no link.
+#[derive(Clone, Copy, PartialEq, Eq, Debug)]
+pub enum LinkFault {
+    /// Memory was refused.
+    NoMemory,
+}
+
+impl From<AllocError> for LinkFault {
+    fn from(_: AllocError) -> LinkFault {
+        LinkFault::NoMemory
+    }
+}
