@@ -1,1 +1,10 @@
 pub mod Script
+pub mod Shape
+pub mod State
+pub mod Answers
+pub mod Moves
+pub mod Runs
+pub mod Headline
+pub mod NewNet
+pub mod Turns
+pub mod Totals

@@ -1,8 +1,34 @@
-//! Configurations of a network and scripts of its traffic.
+//! The network as one value: nodes and links by number, on a k-ary n-mesh with wormhole switching and credits
+//! (Dally and Towles, chapters 5, 13 and 16), its steps and runs of them.
+//!
+//! One idea carries the crate: a network's lists stand for functions of places (`network_of`), and each step writes at one
+//! place of the lists what the theory's step writes at one place of the functions. So the theory's laws are the invariant
+//! of the type: no call can make or keep a network that is not sound. `Fabric` has the lists and no invariant; `Net` adds
+//! the test whether a step's place is there, and all that holds of a network.
+//!
+//! Nothing is said of time, nor that anything is ever delivered.
 #![tactic(auto)]
 
 mod config;
+mod fabric;
+mod fault;
+mod fresh;
+mod link;
+mod net;
+mod node;
 mod script;
+mod step;
+#[cfg(test)]
+mod tests;
+mod totals;
+mod turn;
 
 pub use config::{Config, Name};
+pub use fault::{NetFault, StepFault};
+pub use link::LinkState;
+pub use net::{Net, RunSoFar};
+pub use node::Node;
 pub use script::{Act, Entry, Script, ScriptFault};
+pub use step::{Moved, Step};
+pub use totals::Totals;
+pub use worm_term::OfferFault;

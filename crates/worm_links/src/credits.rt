@@ -1,7 +1,7 @@
 //! The ends of a credit line: the queue on which credits, the numbers of channels, go the other way (Dally and Towles,
 //! chapter 13).
-ghost use Rattle.std.specs.Prelude.{◌≡◌, ◌*◌, ◌<◌, ◌≤◌, [], ◌∷◌, ◌++◌, length, List, IfOk, IfSome, IfNone, MatchResult};
-ghost use Rattle.crossbeam_queue.specs.Passes.{view, IsPassOf, IsSamePass, ruled_capacity};
+ghost use Rattle.std.specs.Prelude.{◌≡◌, ◌*◌, ◌<◌, ◌≤◌, [], ◌∷◌, ◌++◌, length, List, IfOk, IfErr, IfSome, IfNone};
+ghost use Rattle.crossbeam_queue.specs.Passes.{view, IsPassOf, IsSamePass};
 ghost use Rattle.worm_links.specs.History.{sender, taker, whole};
 ghost use Rattle.worm_links.specs.Links.{no_link, opened, link_capacity, IsCreditHistory};
 
@@ -205,7 +205,9 @@ impl CreditTx {
     /// depth credits were sent.
     pub fn push<R: Wait>(&mut self, rt: &R, channel: u8) -> Result<(), u8>
         requires { channel < self.old.link.channels }
-        ensures { MatchResult result (λ _. self.new ≡ record self.old { sent = self.old.sent ++ channel ∷ [] }) (λ back. (back ≡ channel) × (self.new ≡ self.old) × (link_capacity self.old.link ≤ length self.old.sent)) }
+        ensures sent { IfOk result (λ _. self.new ≡ record self.old { sent = self.old.sent ++ channel ∷ [] }) }
+        ensures back { IfErr result (λ back. (back ≡ channel) × (self.new ≡ self.old)) }
+        ensures full { IfErr result (λ _. link_capacity self.old.link ≤ length self.old.sent) }
     {
         self.line.push_as::<Sends, R>(rt, &mut self.pass, channel)
     }

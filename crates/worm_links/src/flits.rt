@@ -1,5 +1,5 @@
 //! The ends of a link: the queue on which flits go from a router to its neighbour (Dally and Towles, chapter 13).
-ghost use Rattle.std.specs.Prelude.{◌≡◌, ◌*◌, ◌<◌, ◌≤◌, [], ◌∷◌, ◌++◌, length, List, IfOk, IfSome, IfNone, MatchResult};
+ghost use Rattle.std.specs.Prelude.{◌≡◌, ◌*◌, ◌<◌, ◌≤◌, [], ◌∷◌, ◌++◌, length, List, IfOk, IfErr, IfSome, IfNone, MatchResult};
 ghost use Rattle.crossbeam_queue.specs.Passes.{view, IsPassOf, IsSamePass, ruled_capacity};
 ghost use Rattle.worm_flit.specs.Packing.{flit_of};
 ghost use Rattle.worm_flit.specs.Stamps.{on_channel};
@@ -268,7 +268,9 @@ impl FlitTx {
     pub fn push<R: Wait>(&mut self, rt: &R, flit: Flit) -> Result<(), Flit>
         requires continues { Continues (on_channel flit.vc (self.old.past ++ self.old.sent)) flit }
         requires crossing { MayCross self.old.link flit }
-        ensures { MatchResult result (λ _. self.new ≡ record self.old { sent = self.old.sent ++ flit ∷ [] }) (λ back. (back ≡ flit) × (self.new ≡ self.old) × (link_capacity self.old.link ≤ length self.old.sent)) }
+        ensures sent { IfOk result (λ _. self.new ≡ record self.old { sent = self.old.sent ++ flit ∷ [] }) }
+        ensures back { IfErr result (λ back. (back ≡ flit) × (self.new ≡ self.old)) }
+        ensures full { IfErr result (λ _. link_capacity self.old.link ≤ length self.old.sent) }
     {
         send(rt, &self.line, &mut self.pass, flit)
     }

@@ -1,17 +1,18 @@
 -- What a change of one input channel and one output channel leaves sound.
-use Rattle.std.proofs.Common.{ℕ, ◌+◌, ◌*◌, ◌≤◌, ◌<◌, ◌≡◌, List, length, drop, sum, slice_set, get_or, Bool, true, false, arith, inl, inr, refl, sym, subst, ap, ◌∙◌, if◌then◌else◌}
+use Rattle.std.proofs.Common.{ℕ, ◌+◌, ◌-◌, ◌*◌, ◌≤◌, ◌<◌, ◌≡◌, List, [], ◌∷◌, All, Result, Ok, Err, IsOk, OnOk, IfErr, length, length-append, drop, sum, slice_set, get_or, Bool, true, false, arith, inl, inr, refl, sym, subst, ap, ◌∙◌, if◌then◌else◌}
 use Rattle.std.proofs.Math.ListN.{length-set}
 use Rattle.std.proofs.lemmas.Grind.{common_steps, elements, get_or-set_at}
 use Rattle.std.proofs.lemmas.Bool.{cases_eq, eq-eqb}
 use Rattle.std.proofs.lemmas.Nat.{same_from_place}
 use Rattle.std.proofs.lemmas.List.{get_or-set_other, get_or_default}
-use Rattle.std.proofs.lemmas.List.Elements.{All-set}
+use Rattle.std.proofs.lemmas.List.Elements.{All-set, All-get_or}
 use Rattle.worm_flit.specs.declared.Flit.{Flit}
 use Rattle.worm_flit.specs.Kinds.{closes}
+use Rattle.worm_mesh.specs.Address.{node_count}
 use Rattle.worm_records.specs.declared.InRecord.{InRecord}
-use Rattle.worm_records.specs.declared.InRecord.TheVariants.{Idle}
+use Rattle.worm_records.specs.declared.InRecord.TheVariants.{Idle, Waiting}
 use Rattle.worm_records.specs.declared.OutRecord.{OutRecord}
-use Rattle.worm_router.specs.Router.{HasLists, IsChannel, ChannelState, StateFits, RouterState, terminal, width, credit_of, free_output, let_out}
+use Rattle.worm_router.specs.Router.{HasLists, IsChannel, ChannelState, StateFits, RouterState, terminal, width, credit_of, free_output, fresh_channel, line, input_at, put_in, in_state, let_out}
 
 pub both_set_sound : (mesh : List ℕ) (node : ℕ) (channels : List ℕ) (depth : ℕ) (inputs : List ChannelState) (outputs : List OutRecord) (i o : ℕ) (c : ChannelState) (u : OutRecord)
     → HasLists mesh node channels depth inputs outputs
@@ -72,3 +73,60 @@ no_credit r out v t w vc place spent v_in is_terminal is_width vc_in same is_pla
     let here : t ≡ out = (same_from_place t vc out v w vc_in v_below row).0 in
     let e : out ≡ terminal r = sym here ∙ is_terminal in
     is_spent ∙ rw (eq-eqb out (terminal r) e) refl
+
+-- a write of one input channel
+pub input_set_sound : (mesh : List ℕ) (node : ℕ) (channels : List ℕ) (depth : ℕ) (inputs : List ChannelState) (outputs : List OutRecord) (i : ℕ) (c : ChannelState)
+    → HasLists mesh node channels depth inputs outputs → IsChannel mesh channels depth c → HasLists mesh node channels depth (slice_set inputs i c) outputs
+input_set_sound mesh node channels depth inputs outputs i c sound channel_sound = record {
+  node_in = sound.node_in;
+  depth_in = sound.depth_in;
+  all_inputs = rw length-set sound.all_inputs;
+  all_outputs = sound.all_outputs;
+  inputs_sound = All-set (IsChannel mesh channels depth) inputs i c channel_sound sound.inputs_sound;
+  credits_fit = sound.credits_fit;
+  terminal_full = sound.terminal_full;
+}
+
+-- an input channel that was read at a place
+pub input_read : (r s : RouterState) (port vc i : ℕ) (had : ChannelState) → r ≡ s → had ≡ get_or r.inputs i had → i ≡ line s port vc → i < length s.inputs → had ≡ input_at s port vc
+input_read r s port vc i had same read place within =
+    read ∙ ap (λ (q : RouterState). get_or q.inputs i had) same ∙ get_or_default s.inputs i had (fresh_channel s.depth) within ∙ ap (λ k. get_or s.inputs k (fresh_channel s.depth)) place
+
+pub read_sound : (mesh channels : List ℕ) (depth : ℕ) (inputs : List ChannelState) (i : ℕ) (had : ChannelState)
+    → had ≡ get_or inputs i had → i < length inputs → All (IsChannel mesh channels depth) inputs → IsChannel mesh channels depth had
+read_sound mesh channels depth inputs i had read within all =
+    subst (IsChannel mesh channels depth) (sym read) (All-get_or (IsChannel mesh channels depth) inputs i had within all)
+
+pub put_sound : (mesh channels : List ℕ) (depth : ℕ) (had now : ChannelState) (f : Flit) (put : Result (Unit {0}) Flit)
+    → IsChannel mesh channels depth had → f.lane.dst < node_count mesh → (IsOk put → length had.buffer < had.depth)
+    → OnOk put (now ≡ put_in had f) → IfErr put (λ g. (g ≡ f) × (now ≡ had)) → IsChannel mesh channels depth now
+put_sound mesh channels depth had now f (Ok u) sound bound room is err =
+    let free : length had.buffer < had.depth = room refl in
+    subst (IsChannel mesh channels depth) (sym is) record {
+      same_depth = sound.same_depth;
+      fits = omega (arith, length-append had.buffer (f ∷ []), sound.same_depth);
+      bound_for_nodes = let all = sound.bound_for_nodes in grind (arith, elements);
+      state_fits = sound.state_fits;
+      owed_fits = sound.owed_fits;
+    }
+put_sound mesh channels depth had now f (Err g) sound bound room ok is = subst (IsChannel mesh channels depth) (sym is.1) sound
+
+pub waiting_sound : (mesh channels : List ℕ) (depth : ℕ) (had now : ChannelState) (out : ℕ) → IsChannel mesh channels depth had → out ≤ 2 * length mesh
+    → now ≡ in_state had (Waiting out) → IsChannel mesh channels depth now
+waiting_sound mesh channels depth had now out sound within is = subst (IsChannel mesh channels depth) (sym is) record {
+  same_depth = sound.same_depth;
+  fits = sound.fits;
+  bound_for_nodes = sound.bound_for_nodes;
+  state_fits = within;
+  owed_fits = sound.owed_fits;
+}
+
+pub give_sound : (mesh channels : List ℕ) (depth : ℕ) (had now : ChannelState) → IsChannel mesh channels depth had
+    → now ≡ record had { owed = had.owed - 1 } → IsChannel mesh channels depth now
+give_sound mesh channels depth had now sound is = subst (IsChannel mesh channels depth) (sym is) record {
+  same_depth = sound.same_depth;
+  fits = sound.fits;
+  bound_for_nodes = sound.bound_for_nodes;
+  state_fits = sound.state_fits;
+  owed_fits = let fits = sound.owed_fits in omega arith;
+}

@@ -56,7 +56,7 @@ module _ {X : Type 0} (d : X) where
   }
 
 -- two tables with the same cells are one
-same_tables : {X : Type 0} (d : X) (s t : List (List X)) → IsTable s → IsTable t → ((p v : ℕ) → p < 7 → v < 8 → cell s p v d ≡ cell t p v d) → s ≡ t
+pub same_tables : {X : Type 0} (d : X) (s t : List (List X)) → IsTable s → IsTable t → ((p v : ℕ) → p < 7 → v < 8 → cell s p v d ≡ cell t p v d) → s ≡ t
 same_tables d s t first second same =
     ext_get_or [] s t (first.rows ∙ sym second.rows) (λ p below.
     let p_in : p < 7 = omega (arith, below, first.rows) in

@@ -2,9 +2,11 @@ ghost use Rattle.std.specs.Prelude.{◌≡◌, ◌+◌, ◌*◌, ◌≤◌, ◌<
 ghost use Rattle.worm_flit.specs.Channels.{AreChannels};
 ghost use Rattle.worm_mesh.specs.Address.{node_count};
 ghost use Rattle.worm_router.specs.Router.{IsPlace, IsRouter, line, fresh_channel, free_output, fresh_router, input_at, output_at, terminal, width, after_accept, can_route, after_route, can_grant, after_grant, after_granting, leaving, MayLeave, passed, credit_of, after_send, after_gave, after_credit};
+ghost use Rattle.worm_router.specs.Busy.{IsSetOf, is_occupied, is_waiting, is_active, owes};
 
 mod allocation;
 
+use crate::busy::BusyChannels;
 use crate::channel::InputChannel;
 use crate::fault::{RouterFault, TooMany};
 use std::alloc::{AllocError, Global};
@@ -14,7 +16,7 @@ use worm_mesh::Mesh;
 use worm_records::{InRecord, OutRecord};
 use worm_route::next_port;
 use worm_swalloc::SwAlloc;
-use worm_vcalloc::VcAlloc;
+use worm_vcalloc::{ChannelSet, VcAlloc};
 
 /// The router of one node: its input channels and its output channels, each by rising port, then channel.
 ///
@@ -42,16 +44,19 @@ pub struct Router {
     channel_alloc: VcAlloc,
     /// The allocator of the switch.
     switch_alloc: SwAlloc,
+    /// Which input channels have something to do.
+    busy: BusyChannels,
 }
 
 impl Model for Router {
-    ghost use Rattle.worm_router.specs.Router.{RouterState, IsRouter, router_state};
+    ghost use Rattle.worm_router.specs.Router.{RouterState, router_state};
+    ghost use Rattle.worm_router.specs.Busy.{IsKept};
 
     ghost Value = { RouterState };
 
     ghost view = { λ r. router_state r.mesh r.node r.classes r.depth r.inputs.items r.outputs.items r.channel_alloc r.switch_alloc };
 
-    ghost invariant = { λ r. IsRouter (router_state r.mesh r.node r.classes r.depth r.inputs.items r.outputs.items r.channel_alloc r.switch_alloc) };
+    ghost invariant = { λ r. IsKept (router_state r.mesh r.node r.classes r.depth r.inputs.items r.outputs.items r.channel_alloc r.switch_alloc) r.busy };
 }
 
 /// So many input channels with empty buffers.
@@ -120,6 +125,7 @@ impl Router {
             outputs,
             channel_alloc: VcAlloc::new(ports, total),
             switch_alloc: SwAlloc::new(ports, total),
+            busy: BusyChannels::new(),
         })
     }
 
@@ -129,6 +135,8 @@ impl Router {
         ensures value { result ≡ line self.now port vc }
         ensures in_inputs { result < length self.now.inputs }
         ensures in_outputs { result < length self.now.outputs }
+        ensures few_ports { port < 7 }
+        ensures few_channels { vc < 8 }
     {
         usize::from(port) * usize::from(self.classes.total()) + usize::from(vc)
     }
@@ -147,6 +155,34 @@ impl Router {
         ensures bound { result ≤ 1 }
     {
         if port == self.terminal() { 0 } else { 1 }
+    }
+
+    /// The input channels that have a flit.
+    pub fn occupied(&self) -> ChannelSet
+        ensures { IsSetOf is_occupied self.now result }
+    {
+        self.busy.occupied
+    }
+
+    /// The input channels that wait for an output channel.
+    pub fn waiting(&self) -> ChannelSet
+        ensures { IsSetOf is_waiting self.now result }
+    {
+        self.busy.waiting
+    }
+
+    /// The input channels that hold an output channel.
+    pub fn active(&self) -> ChannelSet
+        ensures { IsSetOf is_active self.now result }
+    {
+        self.busy.active
+    }
+
+    /// The input channels that owe a credit.
+    pub fn owing(&self) -> ChannelSet
+        ensures { IsSetOf owes self.now result }
+    {
+        self.busy.owing
     }
 
     /// The flit at place `i` of an input buffer, counted from the front.
@@ -206,7 +242,9 @@ impl Router {
     {
         let i = self.line(port, flit.vc);
         let channel = &mut self.inputs[i];
-        channel.put(flit)
+        let put = channel.put(flit);
+        self.busy.file(port, flit.vc, channel);
+        put
     }
 
     /// Route computation: an idle channel with an opening flit at its front comes to wait for the output port that the
@@ -230,6 +268,7 @@ impl Router {
         let out = next_port(&self.mesh, self.node, front.lane.dst);
         let channel = &mut self.inputs[i];
         channel.set_state(InRecord::Waiting { out });
+        self.busy.file(port, vc, channel);
         true
     }
 
@@ -264,6 +303,7 @@ impl Router {
         let o = self.line(out, out_vc);
         let channel = &mut self.inputs[i];
         channel.set_state(InRecord::Active { out, out_vc });
+        self.busy.file(port, vc, channel);
         let output = &mut self.outputs[o];
         output.grant(port, vc);
     }
@@ -331,6 +371,7 @@ impl Router {
         let spent = self.credit_of(out);
         let channel = &mut self.inputs[i];
         channel.let_out(flit, more_owed);
+        self.busy.file(port, vc, channel);
         let output = &mut self.outputs[o];
         pass(output, flit, spent);
     }
@@ -342,12 +383,11 @@ impl Router {
         ensures lowest { IfSome result (λ vc. (k : ℕ) → k < vc → (input_at self.now port k).owed ≡ 0) }
         ensures none { IfNone result ((k : ℕ) → k < width self.now → (input_at self.now port k).owed ≡ 0) }
     {
-        for vc in 0..self.classes.total() {
-            if self.owed_count(port, vc) > 0 {
-                return Some(vc);
-            }
+        let lines = self.owing().row(port, self.classes.total());
+        if lines == 0 {
+            return None;
         }
-        None
+        Some(lines.trailing_zeros() as u8)
     }
 
     /// A credit that this channel owed has gone out.
@@ -359,6 +399,7 @@ impl Router {
         let i = self.line(port, vc);
         let channel = &mut self.inputs[i];
         channel.give();
+        self.busy.file(port, vc, channel);
     }
 
     /// A credit has come back for this output channel. `TooMany` exactly where its count is the depth, as at the terminal; the

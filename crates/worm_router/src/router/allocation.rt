@@ -31,27 +31,16 @@ impl Router {
         })
     }
 
-    /// Adds what the channels of a port ask for.
-    fn add_requests(&self, port: u8, waiting: &mut VcRequests)
-        requires port { port ≤ terminal self.now }
-        requires few { port < 7 }
-        requires shape { IsTable waiting.old }
-        ensures { PutsRow None (request_at self.now port) (width self.now) port waiting.old waiting.new }
-    {
-        for vc in 0..self.classes.total() {
-            waiting.set(port, vc, self.request(port, vc));
-        }
-    }
-
-    /// What all input channels ask for.
+    /// What all input channels ask for. Those that do not wait ask for nothing.
     fn requests(&self) -> VcRequests
         ensures { result ≡ requests self.now }
     {
-        let mut waiting = VcRequests::new();
-        for port in 0..self.terminal() + 1 {
-            self.add_requests(port, &mut waiting);
+        let mut asked = VcRequests::new();
+        let mut left = self.waiting();
+        while let Some((port, vc)) = left.pop_first() {
+            asked.set(port, vc, self.request(port, vc));
         }
-        waiting
+        asked
     }
 
     /// Marks the free channels of an output port.
@@ -89,25 +78,15 @@ impl Router {
         }
     }
 
-    /// Adds the channels of an input port that may send, each with its output port.
-    fn add_ready(&self, port: u8, ready: &mut ReadyOuts)
-        requires port { port ≤ terminal self.now }
-        requires few { port < 7 }
-        requires shape { IsTable ready.old }
-        ensures { PutsRow None (ready_at self.now port) (width self.now) port ready.old ready.new }
-    {
-        for vc in 0..self.classes.total() {
-            ready.set(port, vc, self.ready_out(port, vc));
-        }
-    }
-
-    /// The input channels that may send, each with its output port.
+    /// The input channels that may send, each with its output port. Those that hold no output channel or have no flit
+    /// may not.
     fn ready_outs(&self) -> ReadyOuts
         ensures { result ≡ ready_outs self.now }
     {
         let mut ready = ReadyOuts::new();
-        for port in 0..self.terminal() + 1 {
-            self.add_ready(port, &mut ready);
+        let mut left = self.active().intersection(&self.occupied());
+        while let Some((port, vc)) = left.pop_first() {
+            ready.set(port, vc, self.ready_out(port, vc));
         }
         ready
     }
@@ -155,9 +134,12 @@ impl Router {
         ensures same { IsSameSize self.old self.new }
         ensures matching { IsChannelMatching (terminal self.old + 1) (width self.old) (requests self.old) (free_channels self.old) result }
     {
-        let waiting = self.requests();
+        if self.waiting().is_empty() {
+            return VcGrants::new();
+        }
+        let asked = self.requests();
         let free = self.free_channels();
-        let grants = self.channel_alloc.grant(&waiting, &free);
+        let grants = self.channel_alloc.grant(&asked, &free);
         self.write(&grants);
         grants
     }

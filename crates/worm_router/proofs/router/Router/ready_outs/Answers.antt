@@ -1,8 +1,16 @@
-use Rattle.std.proofs.Common.{None, arith}
+use Rattle.std.proofs.Common.{subst, sym}
 use Rattle.worm_router.specs.Allocation.{ready_at}
-use Rattle.worm_router.proofs.TableRows.{rows_are}
+use Rattle.worm_router.proofs.SetFilled.{IsFilled, ready_begin, filled_on, filled_all}
 use Rattle.worm_router.proofs.router.Router.ready_outs.Goals as goal
 
+pub loop-port-init : goal.loop-port-init
+loop-port-init c =
+    subst (IsFilled c.args.self.now (ready_at c.args.self.now) c.intersection-left.result) (sym c.new-ready.ensures)
+    (ready_begin c.args.self.now c.active.result c.occupied.result c.intersection-left.result c.active.ensures c.occupied.ensures c.intersection-left.ensures)
+
+pub loop-port-preserved : goal.loop-port-preserved
+loop-port-preserved c =
+    filled_on c.args.self.now (ready_at c.args.self.now) c.loop-port.left _ c.in-Some.port c.in-Some.vc _ _ c.ready_out.result c.loop-port.invariant c.in-Some.ensures c.ready_out.ensures c.set.ensures
+
 pub returns : goal.returns
-returns c =
-    rows_are c.args.self.now None (ready_at c.args.self.now) c.loop-port.port c.loop-port.ready c.loop-port.invariant (omega (arith, c.terminal-port-end.ensures.value, c.loop-port-test.false, c.loop-port.auto.port-end))
+returns c = filled_all c.args.self.now (ready_at c.args.self.now) c.loop-port.left c.loop-port.ready c.loop-port.invariant c.in_default.ensures.0

@@ -1,0 +1,40 @@
+-- One network is reached from another by steps.
+use Rattle.std.proofs.Common.{◌≡◌, ℕ, List, [], ◌∷◌, ◌++◌, Ok, Err, inl, inr, refl, ap, sym, subst, ◌∙◌}
+use Rattle.std.specs.Prelude.{Result}
+use Rattle.worm_theory.specs.Shape.{Shape}
+use Rattle.worm_theory.specs.Network.{Network}
+use Rattle.worm_theory.specs.Steps.{Step, StepsTo, StepsLead}
+use Rattle.worm_theory.proofs.Lists.{steps-append}
+use Rattle.worm_core.specs.Shape.{net_shape}
+use Rattle.worm_core.specs.declared.step.Moved.{Moved}
+use Rattle.worm_core.specs.declared.step.Moved.TheVariants.{Done, Idle}
+use Rattle.worm_core.specs.declared.fault.StepFault.{StepFault}
+use Rattle.worm_core.specs.declared.fault.StepFault.TheVariants.{NoSuchPlace, Refused, NoMemory}
+use Rattle.worm_core.specs.State.{NetState, IsSameConfig, shape, network_of}
+use Rattle.worm_core.specs.Answers.{Answers}
+use Rattle.worm_core.specs.Turns.{Reaches}
+use Rattle.worm_core.proofs.RunSteps.{steps_to, config_to}
+
+pub reached : (s : NetState) → Reaches s s
+reached s = record { steps = []; led = refl; config = record { mesh = refl; channels = refl; depth = refl } }
+
+pub joined : (old mid new : NetState) → Reaches old mid → Reaches mid new → Reaches old new
+joined old mid new first then =
+    let same_shape : shape mid ≡ shape old = λ t. net_shape (first.config.mesh t) (first.config.channels t) (first.config.depth t) in
+    record {
+      steps = first.steps ++ then.steps;
+      led = steps-append (shape old) first.steps then.steps (network_of old) (network_of mid) (network_of new) first.led
+          (subst (λ (s : Shape). StepsLead s (network_of mid) then.steps (network_of new)) same_shape then.led);
+      config = record { mesh = then.config.mesh ∙ first.config.mesh; channels = then.config.channels ∙ first.config.channels; depth = then.config.depth ∙ first.config.depth };
+    }
+
+-- whatever a step was answered
+pub by_answer : (old new : NetState) (step : Step) (answer : Result Moved StepFault) → Answers old step answer new → Reaches old new
+by_answer old new step (Ok moved) a = record {
+  steps = step ∷ [];
+  led = (network_of new, steps_to old new step moved a, refl);
+  config = config_to old new step moved a;
+}
+by_answer old new step (Err NoSuchPlace) a = subst (λ (s : NetState). Reaches old s) (sym a.1) (reached old)
+by_answer old new step (Err (Refused fault)) a = subst (λ (s : NetState). Reaches old s) (sym a.3) (reached old)
+by_answer old new step (Err NoMemory) a = subst (λ (s : NetState). Reaches old s) (sym a.3) (reached old)

@@ -1,0 +1,5 @@
+use Rattle.worm_core.specs.Turns.{Reaches}
+use Rattle.worm_core.proofs.net.Net.give_credits.Given as goal
+
+abbrev pub invariant-loop-port : goal.invariant-loop-port
+invariant-loop-port l = Reaches l.initial.self l.self

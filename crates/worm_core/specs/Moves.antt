@@ -1,0 +1,108 @@
+-- What the moves of a network make of its lists, in the words of routers, terminals and links.
+use Rattle.std.specs.Prelude.{ℕ, ◌+◌, ◌*◌, ◌<◌, ◌≡◌, ◌==◌, Bool, true, false, nat_lt, if◌then◌else◌, List, [], ◌∷◌, ◌++◌, length, drop, slice_get, Option, Some, None, IsSome, Result, Ok, Err}
+use Rattle.worm_flit.specs.declared.Flit.{Flit}
+use Rattle.worm_mesh.specs.Address.{node_count, neighbour_of, opposite_of}
+use Rattle.worm_mesh.specs.Links.{links_before}
+use Rattle.worm_router.specs.Router.{RouterState, IsPlace, terminal, input_at, output_at, after_accept, leaving, after_send, after_gave, after_credit}
+use Rattle.worm_router.specs.Allocation.{after_choose}
+use Rattle.worm_term.specs.Sink.{after_take as after_sink}
+use Rattle.worm_term.specs.Source.{front_of, after_fed}
+use Rattle.worm_core.specs.State.{NetState, node_at, router_at, source_at, sink_at, link_at, with_node, with_router, with_link}
+use Rattle.worm_core.specs.declared.node.Node.{Node}
+use Rattle.worm_core.specs.declared.step.Moved.{Moved}
+use Rattle.worm_core.specs.declared.step.Moved.TheVariants.{Done, Idle}
+use Rattle.worm_core.specs.declared.fault.StepFault.{StepFault}
+use Rattle.worm_core.specs.declared.fault.StepFault.TheVariants.{NoSuchPlace, Refused, NoMemory}
+
+-- the router after a pass of its switch allocator; kept closed in goals
+unfoldable pub chosen_router : RouterState → RouterState
+chosen_router r = after_choose r
+
+-- the number of the link that comes into a port from this neighbour
+abbrev pub into_from : List ℕ → ℕ → Option ℕ → ℕ
+into_from mesh p None = 0
+into_from mesh p (Some y) = links_before mesh y (opposite_of p)
+
+abbrev pub link_into : NetState → ℕ → ℕ → ℕ
+link_into s x p = into_from s.mesh p (neighbour_of s.mesh x p)
+
+abbrev pub link_out : NetState → ℕ → ℕ → ℕ
+link_out s x o = links_before s.mesh x o
+
+-- the front flit of the link into a port
+abbrev pub front_into : NetState → ℕ → ℕ → Option Flit
+front_into s x p = slice_get (link_at s (link_into s x p)).flits 0
+
+-- this flit, if there is one, may be given to the router at this port
+abbrev pub FrontFits : RouterState → ℕ → Option Flit → Type 0
+FrontFits r p None = Unit {0}
+FrontFits r p (Some f) = IsPlace r p f.vc × (f.lane.dst < node_count r.mesh)
+
+abbrev pub has_room : RouterState → ℕ → Flit → Bool
+has_room r p f = nat_lt (length (input_at r p f.vc).buffer) r.depth
+
+abbrev pub can_enter : RouterState → ℕ → Option Flit → Bool
+can_enter r p None = false
+can_enter r p (Some f) = has_room r p f
+
+-- Take: the front of the link k goes into the node's buffer
+abbrev pub after_take : NetState → ℕ → ℕ → ℕ → Option Flit → NetState
+after_take s x p k None = s
+after_take s x p k (Some f) =
+    with_link (with_router s x (after_accept (router_at s x) p f)) k (record (link_at s k) { flits = drop 1 (link_at s k).flits })
+
+-- Feed: the source's front of the class goes into the injection buffer
+abbrev pub fed_node : Node → ℕ → Option Flit → Node
+fed_node n k None = n
+fed_node n k (Some f) = record n { router = after_accept n.router (terminal n.router) f; source = after_fed n.source k }
+
+-- Send: the front leaves by the port d.0 as the flit d.1, into the sink or onto the link
+abbrev pub delivered_node : Node → ℕ → ℕ → Flit → Node
+delivered_node n p v f = record n { router = after_send n.router p v; sink = after_sink n.sink f }
+
+abbrev pub after_sending : NetState → ℕ → ℕ → ℕ → ℕ × Flit → NetState
+after_sending s x p v d =
+    if d.0 == 2 * length s.mesh then with_node s x (delivered_node (node_at s x) p v d.1)
+    else with_link (with_router s x (after_send (router_at s x) p v)) (link_out s x d.0) (record (link_at s (link_out s x d.0)) { flits = (link_at s (link_out s x d.0)).flits ++ d.1 ∷ [] })
+
+-- there is a way for what leaves: it is at home, or the link out of its port has room
+abbrev pub WayOut : NetState → ℕ → Option (ℕ × Flit) → Type 0
+WayOut s x None = Unit {0}
+WayOut s x (Some d) =
+    ((d.0 == 2 * length s.mesh) ≡ true → d.1.lane.dst ≡ (sink_at s x).node)
+    × ((d.0 == 2 * length s.mesh) ≡ false → IsSome (neighbour_of s.mesh x d.0) × (length (link_at s (link_out s x d.0)).flits < (link_at s (link_out s x d.0)).room))
+
+abbrev pub Sends : NetState → ℕ → ℕ → ℕ → Option (ℕ × Flit) → Result Moved StepFault → NetState → Type 0
+Sends old x p v None (Ok Done) new = ⊥
+Sends old x p v None (Ok Idle) new = new ≡ old
+Sends old x p v None (Err fault) new = ⊥
+Sends old x p v (Some d) (Ok Done) new = new ≡ after_sending old x p v d
+Sends old x p v (Some d) (Ok Idle) new = ⊥
+Sends old x p v (Some d) (Err NoSuchPlace) new = ⊥
+Sends old x p v (Some d) (Err (Refused fault)) new = ⊥
+Sends old x p v (Some d) (Err NoMemory) new = ((d.0 == 2 * length old.mesh) ≡ true) × (new ≡ old)
+
+-- GiveCredit: a credit owed goes to the end of the credits of the link k, which comes into the port
+abbrev pub can_give : NetState → ℕ → ℕ → ℕ → Bool
+can_give s x p v = nat_lt 0 (input_at (router_at s x) p v).owed
+
+abbrev pub after_giving : NetState → ℕ → ℕ → ℕ → ℕ → NetState
+after_giving s x p v k =
+    with_link (with_router s x (after_gave (router_at s x) p v)) k (record (link_at s k) { credits = (link_at s k).credits ++ v ∷ [] })
+
+-- TakeCredit: the front credit of the link out of the port goes to its channel's count
+abbrev pub front_credit : NetState → ℕ → ℕ → Option ℕ
+front_credit s x o = slice_get (link_at s (link_out s x o)).credits 0
+
+abbrev pub CreditFits : RouterState → ℕ → Option ℕ → Type 0
+CreditFits r o None = Unit {0}
+CreditFits r o (Some c) = IsPlace r o c
+
+abbrev pub can_get : RouterState → ℕ → Option ℕ → Bool
+can_get r o None = false
+can_get r o (Some c) = if (output_at r o c).credits == r.depth then false else true
+
+abbrev pub after_getting : NetState → ℕ → ℕ → Option ℕ → NetState
+after_getting s x o None = s
+after_getting s x o (Some c) =
+    with_link (with_router s x (after_credit (router_at s x) o c)) (link_out s x o) (record (link_at s (link_out s x o)) { credits = drop 1 (link_at s (link_out s x o)).credits })

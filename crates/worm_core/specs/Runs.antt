@@ -1,0 +1,22 @@
+-- The steps of the code as steps of the theory, and what a run of them is.
+use Rattle.std.specs.Prelude.{ℕ, List, take, map}
+use Rattle.worm_theory.specs.Steps.{StepsLead, Step as Event, Offer as OfferEvent, CloseLane as CloseEvent, Feed as FeedEvent, Route as RouteEvent, Grant as GrantEvent, Send as SendEvent, Take as TakeEvent, GiveCredit as GiveEvent, TakeCredit as GetEvent}
+use Rattle.worm_core.specs.declared.step.Step.{Step}
+use Rattle.worm_core.specs.declared.step.Step.TheVariants.{Offer, Close, Feed, Route, Grant, Send, Take, GiveCredit, TakeCredit}
+use Rattle.worm_core.specs.State.{NetState, IsSameConfig, shape, network_of}
+
+abbrev pub event_of : Step → Event
+event_of (Offer x packet) = OfferEvent x packet.lane packet.words
+event_of (Close x lane) = CloseEvent x lane
+event_of (Feed x k) = FeedEvent x k
+event_of (Route x p v) = RouteEvent x p v
+event_of (Grant x p v c) = GrantEvent x p v c
+event_of (Send x p v) = SendEvent x p v
+event_of (Take x p) = TakeEvent x p
+event_of (GiveCredit x p v) = GiveEvent x p v
+event_of (TakeCredit x o) = GetEvent x o
+
+-- the first n of the steps lead from the old network to the new, in the theory's words
+pub record IsRun (old new : NetState) (steps : List Step) (n : ℕ) : Type 0 where
+  pub led : StepsLead (shape old) (network_of old) (map event_of (take n steps)) (network_of new)
+  pub config : IsSameConfig old new

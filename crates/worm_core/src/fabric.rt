@@ -1,0 +1,470 @@
+ghost use Rattle.std.specs.Prelude.{true, false, ℕ, IfNone, IfOk, ◌==◌, ◌≡◌, ◌*◌, ◌<◌, ◌≤◌, ◌++◌, ◌∷◌, [], ◌↔◌, IsTrue, IsSome, ◌⊎◌, None, OnOk, OnErr, IfErr, IfSome, unwrap_or, if◌then◌else◌, is_some, length, sum, drop, nat_lt, slice_get};
+ghost use Rattle.worm_flit.specs.Channels.{AreChannels};
+ghost use Rattle.worm_core.specs.NewNet.{IsFresh};
+ghost use Rattle.worm_router.specs.Allocation.{after_allocate, switch_grants};
+ghost use Rattle.worm_mesh.specs.Address.{IsMesh as IsRadices, node_count, neighbour_of};
+ghost use Rattle.worm_mesh.specs.Links.{link_count};
+ghost use Rattle.worm_router.specs.Router.{IsPlace, MayLeave, after_accept, after_credit, after_gave, after_grant, after_route, after_send, can_grant, can_route, input_at, leaving, output_at, terminal, width};
+ghost use Rattle.worm_term.specs.Source.{after_close, after_offer, classes, front_of, refusal};
+ghost use Rattle.worm_core.specs.State.{IsNetPlace, link_at, node_at, router_at, sink_at, source_at, with_link, with_node, with_router, with_source};
+ghost use Rattle.worm_core.specs.Moves.{CreditFits, FrontFits, Sends, WayOut, after_getting, after_giving, after_take, can_enter, can_get, can_give, chosen_router, delivered_node, fed_node, front_credit, front_into, has_room, link_into, link_out};
+
+use crate::fresh::{make_links, make_nodes};
+use crate::{LinkState, Moved, Node, StepFault};
+use std::alloc::{AllocError, Global};
+use std::marker::Model;
+use worm_flit::{ClassChannels, Flit, Lane, Packet};
+use worm_mesh::Mesh;
+use worm_swalloc::SwGrants;
+use worm_term::OfferFault;
+
+/// The nodes by number and the links by number, whatever they hold.
+#[derive(Drop)]
+pub struct Fabric {
+    mesh: Mesh,
+    classes: ClassChannels,
+    depth: u8,
+    nodes: Vec<Node>,
+    links: Vec<LinkState>,
+}
+
+impl Model for Fabric {
+    ghost use Rattle.worm_core.specs.State.{NetState, net_state};
+
+    ghost Value = { NetState };
+
+    ghost view = { λ n. net_state n.mesh n.classes n.depth n.nodes.items n.links.items };
+}
+
+impl Fabric {
+    /// The nodes and links of a new network.
+    pub fn new(alloc: Global, mesh: Mesh, channels: &[u8], depth: u8) -> Result<Fabric, AllocError>
+        requires mesh { IsRadices mesh }
+        requires channels { AreChannels channels.now }
+        requires depth { (1 ≤ depth) × (depth ≤ 16) }
+        ensures { IfOk result (λ f. IsFresh mesh channels.now depth f) }
+    {
+        let classes = ClassChannels::new(channels);
+        let nodes = make_nodes(alloc, &mesh, channels, depth)?;
+        let room = u16::from(classes.total()) * u16::from(depth);
+        let links = make_links(alloc, mesh.links(), room)?;
+        Ok(Fabric {
+            mesh,
+            classes,
+            depth,
+            nodes,
+            links,
+        })
+    }
+
+    /// Whether the mesh has this node.
+    pub fn has_node(&self, node: u8) -> bool
+        ensures { IsTrue result ↔ (node < node_count self.now.mesh) }
+    {
+        u16::from(node) < self.mesh.nodes()
+    }
+
+    /// Whether the mesh has this node, and the network this class.
+    pub fn has_class(&self, node: u8, class: u8) -> bool
+        ensures { IsTrue result ↔ ((node < node_count self.now.mesh) × (class < length self.now.channels)) }
+    {
+        u16::from(node) < self.mesh.nodes() && class < self.classes.classes()
+    }
+
+    /// Whether the node has this port, the terminal or one with a neighbour, and the network this channel.
+    pub fn has_place(&self, node: u8, port: u8, vc: u8) -> bool
+        ensures { IsTrue result ↔ ((node < node_count self.now.mesh) × ((port ≡ 2 * length self.now.mesh) ⊎ IsSome (neighbour_of self.now.mesh node port)) × (vc < sum self.now.channels)) }
+    {
+        u16::from(node) < self.mesh.nodes()
+            && (port == 2 * self.mesh.dims() || self.mesh.neighbour(node, port).is_some())
+            && vc < self.classes.total()
+    }
+
+    /// The same for a channel of an output port beside.
+    pub fn has_grant(&self, node: u8, port: u8, vc: u8, out_vc: u8) -> bool
+        ensures { IsTrue result ↔ ((node < node_count self.now.mesh) × ((port ≡ 2 * length self.now.mesh) ⊎ IsSome (neighbour_of self.now.mesh node port)) × (vc < sum self.now.channels) × (out_vc < sum self.now.channels)) }
+    {
+        self.has_place(node, port, vc) && out_vc < self.classes.total()
+    }
+
+    /// Whether the node has a neighbour at this port.
+    pub fn has_link(&self, node: u8, port: u8) -> bool
+        ensures { IsTrue result ↔ ((node < node_count self.now.mesh) × IsSome (neighbour_of self.now.mesh node port)) }
+    {
+        u16::from(node) < self.mesh.nodes() && self.mesh.neighbour(node, port).is_some()
+    }
+
+    /// The same for a channel of the link into the port.
+    pub fn has_line(&self, node: u8, port: u8, vc: u8) -> bool
+        ensures { IsTrue result ↔ ((node < node_count self.now.mesh) × IsSome (neighbour_of self.now.mesh node port) × (vc < sum self.now.channels)) }
+    {
+        self.has_link(node, port) && vc < self.classes.total()
+    }
+
+    /// The terminal port of each node.
+    pub fn terminal(&self) -> u8
+        ensures value { result ≡ 2 * length self.now.mesh }
+        ensures bound { result ≤ 6 }
+    {
+        2 * self.mesh.dims()
+    }
+
+    /// The number of the link that comes into this port.
+    pub fn link_into(&self, node: u8, port: u8) -> u16
+        requires { IsSome (neighbour_of self.now.mesh node port) }
+        ensures value { result ≡ link_into self.now node port }
+        ensures bound { result < link_count self.now.mesh }
+    {
+        let Some(from) = self.mesh.neighbour(node, port) else {
+            return 0;
+        };
+        let Some(number) = self.mesh.link_number(from, self.mesh.opposite(port)) else {
+            return 0;
+        };
+        number
+    }
+
+    /// The number of the link that goes out of this port.
+    pub fn link_out(&self, node: u8, port: u8) -> u16
+        requires { IsSome (neighbour_of self.now.mesh node port) }
+        ensures value { result ≡ link_out self.now node port }
+        ensures bound { result < link_count self.now.mesh }
+    {
+        let Some(_to) = self.mesh.neighbour(node, port) else {
+            return 0;
+        };
+        let Some(number) = self.mesh.link_number(node, port) else {
+            return 0;
+        };
+        number
+    }
+
+    /// The front flit of the link into this port.
+    pub fn front_into(&self, node: u8, port: u8) -> Option<Flit>
+        requires links { length self.now.links ≡ link_count self.now.mesh }
+        requires linked { IsSome (neighbour_of self.now.mesh node port) }
+        ensures { result ≡ front_into self.now node port }
+    {
+        let link = &self.links[usize::from(self.link_into(node, port))];
+        link.front()
+    }
+
+    /// Gives the flit to the node's buffer of its channel, if that has room.
+    fn accept(&mut self, node: u8, port: u8, flit: Flit) -> bool
+        requires place { IsNetPlace self.old node port flit.vc }
+        requires dst { flit.lane.dst < node_count (router_at self.old node).mesh }
+        ensures done { result ≡ has_room (router_at self.old node) port flit }
+        ensures after { self.new ≡ (if result then with_router self.old node (after_accept (router_at self.old node) port flit) else self.old) }
+    {
+        let node = &mut self.nodes[usize::from(node)];
+        node.router.accept(port, flit).is_ok()
+    }
+
+    /// Drops the front flit of the link.
+    fn pop(&mut self, number: u16)
+        requires { number < length self.old.links }
+        ensures { self.new ≡ with_link self.old number (record (link_at self.old number) { flits = drop 1 (link_at self.old number).flits }) }
+    {
+        let link = &mut self.links[usize::from(number)];
+        link.pop();
+    }
+
+    /// Moves the front of the link into a port to the buffer of its channel.
+    pub fn take(&mut self, node: u8, port: u8) -> bool
+        requires node { node < length self.old.nodes }
+        requires links { length self.old.links ≡ link_count self.old.mesh }
+        requires linked { IsSome (neighbour_of self.old.mesh node port) }
+        requires front { FrontFits (router_at self.old node) port (front_into self.old node port) }
+        ensures enabled { result ≡ can_enter (router_at self.old node) port (front_into self.old node port) }
+        ensures after { self.new ≡ (if result then after_take self.old node port (link_into self.old node port) (front_into self.old node port) else self.old) }
+    {
+        let Some(flit) = self.front_into(node, port) else {
+            return false;
+        };
+        let number = self.link_into(node, port);
+        if !self.accept(node, port, flit) {
+            return false;
+        }
+        self.pop(number);
+        true
+    }
+
+    /// Finds an out port for the opening flit at the front of a buffer.
+    pub fn route(&mut self, node: u8, port: u8, vc: u8) -> bool
+        requires { IsNetPlace self.old node port vc }
+        ensures enabled { result ≡ can_route (router_at self.old node) port vc }
+        ensures after { self.new ≡ (if result then with_router self.old node (after_route (router_at self.old node) port vc) else self.old) }
+    {
+        let node = &mut self.nodes[usize::from(node)];
+        node.router.route(port, vc)
+    }
+
+    /// Gives a waiting input channel an output channel.
+    pub fn grant(&mut self, node: u8, port: u8, vc: u8, out_vc: u8) -> bool
+        requires place { IsNetPlace self.old node port vc }
+        requires out_channel { out_vc < width (router_at self.old node) }
+        ensures enabled { result ≡ is_some (can_grant (router_at self.old node) port vc out_vc) }
+        ensures after { self.new ≡ with_router self.old node (after_grant (router_at self.old node) port vc out_vc) }
+    {
+        let node = &mut self.nodes[usize::from(node)];
+        node.router.grant(port, vc, out_vc)
+    }
+
+    /// The out port and the flit that may leave this buffer now, as it would leave.
+    fn ready(&self, node: u8, port: u8, vc: u8) -> Option<(u8, Flit)>
+        requires { IsNetPlace self.now node port vc }
+        ensures { result ≡ leaving (router_at self.now node) port vc }
+    {
+        let node = &self.nodes[usize::from(node)];
+        node.router.ready(port, vc)
+    }
+
+    /// Lets the ready flit out of its buffer.
+    fn sent(&mut self, node: u8, port: u8, vc: u8)
+        requires place { IsNetPlace self.old node port vc }
+        requires ready { IsSome (leaving (router_at self.old node) port vc) }
+        ensures { self.new ≡ with_router self.old node (after_send (router_at self.old node) port vc) }
+    {
+        let node = &mut self.nodes[usize::from(node)];
+        node.router.sent(port, vc);
+    }
+
+    /// Puts the flit at the end of the link.
+    fn push(&mut self, number: u16, flit: Flit)
+        requires number { number < length self.old.links }
+        requires room { length (link_at self.old number).flits < (link_at self.old number).room }
+        ensures { self.new ≡ with_link self.old number (record (link_at self.old number) { flits = (link_at self.old number).flits ++ flit ∷ [] }) }
+    {
+        let link = &mut self.links[usize::from(number)];
+        link.push(flit);
+    }
+
+    /// Lets the ready flit out into the node's sink, if that can take it.
+    fn deliver(&mut self, node: u8, port: u8, vc: u8, flit: Flit) -> bool
+        requires place { IsNetPlace self.old node port vc }
+        requires ready { IsSome (leaving (router_at self.old node) port vc) }
+        requires home { flit.lane.dst ≡ (sink_at self.old node).node }
+        ensures { self.new ≡ (if result then with_node self.old node (delivered_node (node_at self.old node) port vc flit) else self.old) }
+    {
+        let node = &mut self.nodes[usize::from(node)];
+        node.deliver(port, vc, flit)
+    }
+
+    /// Lets the ready flit out, into the sink or onto the link of its port. `NoMemory` where the sink cannot take it.
+    pub fn send(&mut self, node: u8, port: u8, vc: u8) -> Result<Moved, StepFault>
+        requires place { IsNetPlace self.old node port vc }
+        requires links { length self.old.links ≡ link_count self.old.mesh }
+        requires way { WayOut self.old node (leaving (router_at self.old node) port vc) }
+        ensures { Sends self.old node port vc (leaving (router_at self.old node) port vc) result self.new }
+    {
+        let Some((out, flit)) = self.ready(node, port, vc) else {
+            return Ok(Moved::Idle);
+        };
+        if out == self.terminal() {
+            if !self.deliver(node, port, vc, flit) {
+                return Err(StepFault::NoMemory);
+            }
+            return Ok(Moved::Done);
+        }
+        let number = self.link_out(node, out);
+        self.sent(node, port, vc);
+        self.push(number, flit);
+        Ok(Moved::Done)
+    }
+
+    /// Moves the source's next flit of the class into the injection buffer.
+    pub fn feed(&mut self, node: u8, class: u8) -> bool
+        requires node { node < length self.old.nodes }
+        requires mesh { (router_at self.old node).mesh ≡ self.old.mesh }
+        requires class { class < classes (source_at self.old node) }
+        requires front { FrontFits (router_at self.old node) (terminal (router_at self.old node)) (front_of (source_at self.old node) class) }
+        ensures enabled { result ≡ can_enter (router_at self.old node) (terminal (router_at self.old node)) (front_of (source_at self.old node) class) }
+        ensures after { self.new ≡ (if result then with_node self.old node (fed_node (node_at self.old node) class (front_of (source_at self.old node) class)) else self.old) }
+    {
+        let terminal = self.terminal();
+        let node = &mut self.nodes[usize::from(node)];
+        node.feed(class, terminal)
+    }
+
+    /// Hands the packet to the node's source.
+    pub fn offer(&mut self, node: u8, packet: &Packet) -> Result<u16, OfferFault>
+        requires { node < length self.old.nodes }
+        ensures ok { OnOk result ((refusal (source_at self.old node) packet.now.lane false ≡ None) × (self.new ≡ with_source self.old node (after_offer (source_at self.old node) packet.now))) }
+        ensures fault { IfErr result (λ e. e ≡ unwrap_or (refusal (source_at self.old node) packet.now.lane false) OfferFault.NoMemory) }
+        ensures err { OnErr result (self.new ≡ self.old) }
+        ensures some { 1 ≤ length packet.now.words }
+        ensures few { length packet.now.words ≤ 32 }
+    {
+        let node = &mut self.nodes[usize::from(node)];
+        node.offer(packet)
+    }
+
+    /// Hands the lane's close mark to the node's source.
+    pub fn close(&mut self, node: u8, lane: Lane) -> Result<u16, OfferFault>
+        requires { node < length self.old.nodes }
+        ensures ok { OnOk result ((refusal (source_at self.old node) lane true ≡ None) × (self.new ≡ with_source self.old node (after_close (source_at self.old node) lane))) }
+        ensures fault { IfErr result (λ e. e ≡ unwrap_or (refusal (source_at self.old node) lane true) OfferFault.NoMemory) }
+        ensures err { OnErr result (self.new ≡ self.old) }
+    {
+        let node = &mut self.nodes[usize::from(node)];
+        node.close(lane)
+    }
+
+    /// Whether the input channel owes a credit.
+    fn owes(&self, node: u8, port: u8, vc: u8) -> bool
+        requires { IsNetPlace self.now node port vc }
+        ensures { result ≡ can_give self.now node port vc }
+    {
+        let node = &self.nodes[usize::from(node)];
+        node.router.owed_count(port, vc) > 0
+    }
+
+    /// The input channel owes one credit less.
+    fn gave(&mut self, node: u8, port: u8, vc: u8)
+        requires place { IsNetPlace self.old node port vc }
+        requires owed { 0 < (input_at (router_at self.old node) port vc).owed }
+        ensures { self.new ≡ with_router self.old node (after_gave (router_at self.old node) port vc) }
+    {
+        let node = &mut self.nodes[usize::from(node)];
+        node.router.gave(port, vc);
+    }
+
+    /// Puts a credit of the channel at the end of the link's credits.
+    fn push_credit(&mut self, number: u16, vc: u8)
+        requires number { number < length self.old.links }
+        requires room { length (link_at self.old number).credits < (link_at self.old number).room }
+        ensures { self.new ≡ with_link self.old number (record (link_at self.old number) { credits = (link_at self.old number).credits ++ vc ∷ [] }) }
+    {
+        let link = &mut self.links[usize::from(number)];
+        link.push_credit(vc);
+    }
+
+    /// Gives a credit that the input channel owes to the link into its port.
+    pub fn give(&mut self, node: u8, port: u8, vc: u8) -> bool
+        requires place { IsNetPlace self.old node port vc }
+        requires links { length self.old.links ≡ link_count self.old.mesh }
+        requires linked { IsSome (neighbour_of self.old.mesh node port) }
+        requires room { 0 < (input_at (router_at self.old node) port vc).owed → length (link_at self.old (link_into self.old node port)).credits < (link_at self.old (link_into self.old node port)).room }
+        ensures enabled { result ≡ can_give self.old node port vc }
+        ensures after { self.new ≡ (if result then after_giving self.old node port vc (link_into self.old node port) else self.old) }
+    {
+        if !self.owes(node, port, vc) {
+            return false;
+        }
+        let number = self.link_into(node, port);
+        self.gave(node, port, vc);
+        self.push_credit(number, vc);
+        true
+    }
+
+    /// The front credit of the link out of this port.
+    fn front_credit(&self, node: u8, port: u8) -> Option<u8>
+        requires links { length self.now.links ≡ link_count self.now.mesh }
+        requires linked { IsSome (neighbour_of self.now.mesh node port) }
+        ensures { result ≡ front_credit self.now node port }
+    {
+        let link = &self.links[usize::from(self.link_out(node, port))];
+        link.front_credit()
+    }
+
+    /// Counts a credit more for the output channel, if one is missing.
+    fn credit(&mut self, node: u8, port: u8, vc: u8) -> bool
+        requires { IsNetPlace self.old node port vc }
+        ensures enabled { result ≡ (if (output_at (router_at self.old node) port vc).credits == (router_at self.old node).depth then false else true) }
+        ensures after { self.new ≡ (if result then with_router self.old node (after_credit (router_at self.old node) port vc) else self.old) }
+    {
+        let node = &mut self.nodes[usize::from(node)];
+        node.router.credit(port, vc).is_ok()
+    }
+
+    /// Drops the front credit of the link.
+    fn pop_credit(&mut self, number: u16)
+        requires { number < length self.old.links }
+        ensures { self.new ≡ with_link self.old number (record (link_at self.old number) { credits = drop 1 (link_at self.old number).credits }) }
+    {
+        let link = &mut self.links[usize::from(number)];
+        link.pop_credit();
+    }
+
+    /// Takes the front credit of the link out of this port into its channel's count.
+    pub fn get(&mut self, node: u8, port: u8) -> bool
+        requires node { node < length self.old.nodes }
+        requires links { length self.old.links ≡ link_count self.old.mesh }
+        requires linked { IsSome (neighbour_of self.old.mesh node port) }
+        requires front { CreditFits (router_at self.old node) port (front_credit self.old node port) }
+        ensures enabled { result ≡ can_get (router_at self.old node) port (front_credit self.old node port) }
+        ensures after { self.new ≡ (if result then after_getting self.old node port (front_credit self.old node port) else self.old) }
+    {
+        let Some(vc) = self.front_credit(node, port) else {
+            return false;
+        };
+        let number = self.link_out(node, port);
+        if !self.credit(node, port, vc) {
+            return false;
+        }
+        self.pop_credit(number);
+        true
+    }
+
+    /// The number of nodes.
+    pub fn nodes(&self) -> u16
+        ensures value { result ≡ node_count self.now.mesh }
+        ensures bound { result ≤ 256 }
+    {
+        self.mesh.nodes()
+    }
+
+    /// The number of classes.
+    pub fn classes(&self) -> u8
+        ensures value { result ≡ length self.now.channels }
+        ensures bound { result ≤ 4 }
+    {
+        self.classes.classes()
+    }
+
+    /// The number of channels of a port.
+    pub fn channels(&self) -> u8
+        ensures { result ≡ sum self.now.channels }
+    {
+        self.classes.total()
+    }
+
+    /// One pass of the node's channel allocator, its grants written into the records.
+    pub fn allocate(&mut self, node: u8)
+        requires { node < length self.old.nodes }
+        ensures { self.new ≡ with_router self.old node (after_allocate (router_at self.old node)) }
+    {
+        let node = &mut self.nodes[usize::from(node)];
+        let _grants = node.router.allocate();
+    }
+
+    /// One pass of the node's switch allocator.
+    pub fn choose(&mut self, node: u8) -> SwGrants
+        requires { node < length self.old.nodes }
+        ensures grants { result ≡ switch_grants (router_at self.old node) }
+        ensures after { self.new ≡ with_router self.old node (chosen_router (router_at self.old node)) }
+    {
+        let node = &mut self.nodes[usize::from(node)];
+        node.choose()
+    }
+
+    /// The lowest channel of the port that owes a credit.
+    pub fn lowest_owed(&self, node: u8, port: u8) -> Option<u8>
+        requires node { node < length self.now.nodes }
+        requires port { port ≤ terminal (router_at self.now node) }
+        ensures found { IfSome result (λ vc. (vc < width (router_at self.now node)) × (0 < (input_at (router_at self.now node) port vc).owed)) }
+        ensures lowest { IfSome result (λ vc. (k : ℕ) → k < vc → (input_at (router_at self.now node) port k).owed ≡ 0) }
+        ensures none { IfNone result ((k : ℕ) → k < width (router_at self.now node) → (input_at (router_at self.now node) port k).owed ≡ 0) }
+    {
+        let node = &self.nodes[usize::from(node)];
+        node.router.owed(port)
+    }
+
+    /// The node of this number.
+    pub fn node(&self, node: u8) -> &Node
+        requires { node < length self.now.nodes }
+        ensures { result.now ≡ node_at self.now node }
+    {
+        &self.nodes[usize::from(node)]
+    }
+}

@@ -1,0 +1,21 @@
+use worm_term::OfferFault;
+
+/// Why no network was made.
+#[derive(Clone, Copy, Debug, PartialEq, Eq)]
+pub enum NetFault {
+    /// A number of the configuration is out of its range.
+    BadConfig,
+    /// There was no memory for the network.
+    NoMemory,
+}
+
+/// Why a step was not done, or a turn ended early.
+#[derive(Clone, Copy, Debug, PartialEq, Eq)]
+pub enum StepFault {
+    /// The step names a node, port, channel or class that the network has not.
+    NoSuchPlace,
+    /// A source refused a packet or a mark; never for want of memory.
+    Refused(OfferFault),
+    /// There was no memory for an accepted or a delivered flit.
+    NoMemory,
+}

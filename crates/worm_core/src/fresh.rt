@@ -1,0 +1,73 @@
+ghost use Rattle.std.specs.Prelude.{◌≡◌, ◌↔◌, ◌<◌, ◌≤◌, ◌*◌, IsTrue, IfOk, OnOk, OnErr, Err, length, sum, replicate};
+ghost use Rattle.worm_flit.specs.Channels.{AreChannels};
+ghost use Rattle.worm_mesh.specs.Address.{IsMesh as IsRadices, node_count};
+ghost use Rattle.worm_mesh.specs.Links.{link_count};
+ghost use Rattle.worm_theory.specs.Steps.{empty};
+ghost use Rattle.worm_core.specs.NewNet.{AreFresh, IsConfig, IsFresh, empty_link};
+ghost use Rattle.worm_core.specs.State.{IsNet, fresh_node, network_of, shape};
+
+use crate::{LinkState, Node};
+use std::alloc::{AllocError, Global};
+use worm_mesh::Mesh;
+use worm_router::Router;
+use worm_term::{Sink, Source};
+
+/// The node of this number in a new network.
+fn make_node(
+    alloc: Global,
+    mesh: &Mesh,
+    node: u8,
+    channels: &[u8],
+    depth: u8,
+) -> Result<Node, AllocError>
+    requires node { node < node_count mesh.now }
+    requires few { node_count mesh.now ≤ 256 }
+    requires channels { AreChannels channels.now }
+    requires depth { (1 ≤ depth) × (depth ≤ 16) }
+    ensures { IfOk result (λ n. n ≡ fresh_node mesh.now channels.now depth node) }
+{
+    let Ok(router) = Router::new(alloc, mesh, node, channels, depth) else {
+        return Err(AllocError);
+    };
+    let Ok(source) = Source::new(alloc, node, mesh.nodes(), channels) else {
+        return Err(AllocError);
+    };
+    let sink = Sink::new(alloc, node);
+    Ok(Node {
+        router,
+        source,
+        sink,
+    })
+}
+
+/// The nodes of a new network.
+pub(crate) fn make_nodes(
+    alloc: Global,
+    mesh: &Mesh,
+    channels: &[u8],
+    depth: u8,
+) -> Result<Vec<Node>, AllocError>
+    requires mesh { IsRadices mesh.now }
+    requires channels { AreChannels channels.now }
+    requires depth { (1 ≤ depth) × (depth ≤ 16) }
+    ensures all { IfOk result (λ v. length v.items ≡ node_count mesh.now) }
+    ensures fresh { IfOk result (λ v. AreFresh mesh.now channels.now depth v.items) }
+{
+    let count = mesh.nodes();
+    let mut nodes = Vec::with_capacity(alloc, usize::from(count))?;
+    for node in 0..count {
+        nodes.push(make_node(alloc, mesh, node as u8, channels, depth)?)?;
+    }
+    Ok(nodes)
+}
+
+/// The links of a new network, each with room for so many flits and so many credits.
+pub(crate) fn make_links(alloc: Global, count: u16, room: u16) -> Result<Vec<LinkState>, AllocError>
+    ensures { IfOk result (λ v. v.items ≡ replicate count (empty_link room)) }
+{
+    let mut links = Vec::with_capacity(alloc, usize::from(count))?;
+    for _number in 0..count {
+        links.push(LinkState::new(alloc, room)?)?;
+    }
+    Ok(links)
+}

@@ -1,0 +1,89 @@
+ghost use Rattle.worm_core.specs.NewNet.{empty_link};
+ghost use Rattle.std.specs.Prelude.{◌≡◌, [], ◌∷◌, ◌++◌, ◌<◌, length, drop, slice_get, IfOk};
+
+use std::alloc::{AllocError, Global};
+use std::marker::Model;
+use worm_flit::Flit;
+
+/// What is on a link: its flits, and the credits on their way back over it, front first. There is room for at least
+/// `room` of each without growing.
+#[derive(Drop)]
+pub struct LinkState {
+    flits: Vec<Flit>,
+    credits: Vec<u8>,
+    room: u16,
+}
+
+impl Model for LinkState {
+    ghost use Rattle.std.specs.Prelude.{vec_capacity, ◌≤◌};
+    ghost use Rattle.worm_core.specs.State.{LinkView};
+
+    ghost Value = { LinkView };
+
+    ghost view = { λ l. record { flits = l.flits.items; credits = l.credits.items; room = l.room } };
+
+    ghost invariant = { λ l. (l.room ≤ vec_capacity l.flits) × (l.room ≤ vec_capacity l.credits) };
+}
+
+impl LinkState {
+    /// A link with nothing on it, and room for so many flits and so many credits.
+    pub fn new(alloc: Global, room: u16) -> Result<LinkState, AllocError>
+        ensures { IfOk result (λ l. l ≡ empty_link room) }
+    {
+        let flits = Vec::with_capacity(alloc, usize::from(room))?;
+        let credits = Vec::with_capacity(alloc, usize::from(room))?;
+        Ok(LinkState {
+            flits,
+            credits,
+            room,
+        })
+    }
+
+    /// The front flit, if there is one.
+    pub fn front(&self) -> Option<Flit>
+        ensures { result ≡ slice_get self.now.flits 0 }
+    {
+        self.flits.first().copied()
+    }
+
+    /// Drops the front flit, if there is one.
+    pub fn pop(&mut self)
+        ensures { self.new ≡ record self.old { flits = drop 1 self.old.flits } }
+    {
+        if !self.flits.is_empty() {
+            self.flits.remove(0);
+        }
+    }
+
+    /// Puts the flit at the end.
+    pub fn push(&mut self, flit: Flit)
+        requires { length self.old.flits < self.old.room }
+        ensures { self.new ≡ record self.old { flits = self.old.flits ++ flit ∷ [] } }
+    {
+        let _done = self.flits.push(flit);
+    }
+
+    /// The channel of the front credit, if there is one.
+    pub fn front_credit(&self) -> Option<u8>
+        ensures { result ≡ slice_get self.now.credits 0 }
+    {
+        self.credits.first().copied()
+    }
+
+    /// Drops the front credit, if there is one.
+    pub fn pop_credit(&mut self)
+        ensures { self.new ≡ record self.old { credits = drop 1 self.old.credits } }
+    {
+        if !self.credits.is_empty() {
+            self.credits.remove(0);
+        }
+    }
+
+    /// Puts a credit of the channel at the end.
+    pub fn push_credit(&mut self, vc: u8)
+        requires { length self.old.credits < self.old.room }
+        ensures { self.new ≡ record self.old { credits = self.old.credits ++ vc ∷ [] } }
+    {
+        let _done = self.credits.push(vc);
+    }
+}

@@ -1,0 +1,335 @@
+ghost use Rattle.std.specs.Prelude.{◌≡◌, ◌≤◌, ◌<◌, ◌*◌, ◌↔◌, ℕ, Result, IsTrue, IfNone, IfOk, sum, length, slice_get, IfSome, MatchOption, Err};
+ghost use Rattle.worm_theory.specs.Steps.{Step as Event};
+ghost use Rattle.worm_core.specs.Runs.{IsRun, event_of};
+ghost use Rattle.worm_core.specs.Answers.{Answers, accepted_of, moved_of};
+ghost use Rattle.worm_theory.specs.Steps.{empty};
+ghost use Rattle.worm_core.specs.NewNet.{IsConfig, IsFresh};
+ghost use Rattle.worm_core.specs.Headline.{DeliversInOrder, NothingFollowsMarks};
+ghost use Rattle.worm_core.specs.State.{IsNet, shape, network_of, queue_of, router_at, sink_at, source_at, with_router};
+ghost use Rattle.worm_core.specs.Turns.{Reaches};
+ghost use Rattle.worm_mesh.specs.Address.{node_count};
+ghost use Rattle.worm_router.specs.Router.{input_at, width};
+ghost use Rattle.worm_router.specs.Allocation.{after_allocate, switch_grants};
+ghost use Rattle.worm_core.specs.Moves.{chosen_router};
+
+use crate::fabric::Fabric;
+use crate::{Config, Moved, NetFault, Step, StepFault};
+use std::alloc::Global;
+use std::marker::Model;
+use worm_flit::{Flit, Lane, Packet, are_channels};
+use worm_mesh::Mesh;
+use worm_swalloc::SwGrants;
+use worm_term::{OfferFault, Sink, Source};
+
+/// A sound network.
+#[derive(Drop)]
+pub struct Net {
+    fabric: Fabric,
+}
+
+impl Model for Net {
+    ghost use Rattle.worm_core.specs.State.{NetState, IsNet};
+
+    ghost Value = { NetState };
+
+    ghost view = { λ n. n.fabric };
+
+    ghost invariant = { λ n. IsNet n.fabric };
+}
+
+/// How far a run of steps came.
+#[derive(Clone, Copy, Debug, PartialEq, Eq)]
+pub struct RunSoFar {
+    /// How many of its steps were judged, from the first; those that were not enabled count, too.
+    pub done: usize,
+    /// The fault of the step that follows them, if there was one.
+    pub fault: Option<StepFault>,
+}
+
+fn moved(done: bool) -> Moved
+    ensures { result ≡ moved_of done }
+{
+    if done { Moved::Done } else { Moved::Idle }
+}
+
+fn accepted(answer: Result<u16, OfferFault>) -> Result<Moved, StepFault>
+    ensures { result ≡ accepted_of answer }
+{
+    match answer {
+        Ok(_number) => Ok(Moved::Done),
+        Err(OfferFault::NoMemory) => Err(StepFault::NoMemory),
+        Err(fault) => Err(StepFault::Refused(fault)),
+    }
+}
+
+impl Net {
+    /// An empty network. `BadConfig` where a number of the configuration is out of its range, else `NoMemory` where
+    /// there is none for the nodes, their buffers and the links.
+    pub fn new(alloc: Global, config: &Config) -> Result<Net, NetFault>
+        ensures fresh { IfOk result (λ n. IsFresh config.now.radices.items config.now.channels.items config.now.depth n) }
+        ensures empty { IfOk result (λ n. network_of n ≡ empty (shape n)) }
+        ensures bad { (result ≡ Err NetFault.BadConfig) ↔ (IsConfig config.now.radices.items config.now.channels.items config.now.depth (length config.now.classes.items) → ⊥) }
+    {
+        let Ok(mesh) = Mesh::new(config.radices.as_slice()) else {
+            return Err(NetFault::BadConfig);
+        };
+        let channels = config.channels.as_slice();
+        if !are_channels(channels) || config.classes.len() != channels.len() {
+            return Err(NetFault::BadConfig);
+        }
+        if config.depth == 0 || config.depth > 16 {
+            return Err(NetFault::BadConfig);
+        }
+        let Ok(fabric) = Fabric::new(alloc, mesh, channels, config.depth) else {
+            return Err(NetFault::NoMemory);
+        };
+        Ok(Net { fabric })
+    }
+
+    /// What holds of every network, for whoever has one.
+    pub fn is_sound(&self)
+        ensures sound { IsNet self.now }
+        ensures delivers { DeliversInOrder self.now }
+    {
+        let _fabric = &self.fabric;
+    }
+
+    /// The number of nodes.
+    pub fn nodes(&self) -> u16
+        ensures value { result ≡ node_count self.now.mesh }
+        ensures bound { result ≤ 256 }
+    {
+        self.fabric.nodes()
+    }
+
+    /// The number of classes, 1 to 4.
+    pub fn classes(&self) -> u8
+        ensures value { result ≡ length self.now.channels }
+        ensures bound { result ≤ 4 }
+    {
+        self.fabric.classes()
+    }
+
+    /// The flits that arrived at the node, in order of arrival.
+    pub fn delivered(&self, node: u8) -> &[Flit]
+        requires { node < node_count self.now.mesh }
+        ensures { result.now ≡ (sink_at self.now node).delivered }
+    {
+        self.fabric.node(node).sink.delivered()
+    }
+
+    /// The flits of the class that the node's source accepted, in order.
+    pub(crate) fn accepted_flits(&self, node: u8, class: u8) -> &[Flit]
+        requires node { node < node_count self.now.mesh }
+        requires class { class < length self.now.channels }
+        ensures { result.now ≡ (queue_of self.now node class).injected }
+    {
+        self.fabric.node(node).source.injected(class)
+    }
+
+    /// Where the packets of the node's lanes come in.
+    pub fn source(&self, node: u8) -> &Source
+        requires { node < node_count self.now.mesh }
+        ensures { result.now ≡ source_at self.now node }
+    {
+        &self.fabric.node(node).source
+    }
+
+    /// Where the flits for the node come out.
+    pub fn sink(&self, node: u8) -> &Sink
+        requires { node < node_count self.now.mesh }
+        ensures { result.now ≡ sink_at self.now node }
+    {
+        &self.fabric.node(node).sink
+    }
+
+    /// Whether the network has this lane: its two nodes and its class.
+    pub fn has_lane(&self, lane: Lane) -> bool
+        ensures { IsTrue result ↔ ((lane.src < node_count self.now.mesh) × (lane.dst < node_count self.now.mesh) × (lane.class < length self.now.channels)) }
+    {
+        let nodes = self.nodes();
+        u16::from(lane.src) < nodes && u16::from(lane.dst) < nodes && lane.class < self.classes()
+    }
+
+    /// The terminal port of each node.
+    pub(crate) fn terminal(&self) -> u8
+        ensures value { result ≡ 2 * length self.now.mesh }
+        ensures bound { result ≤ 6 }
+    {
+        self.fabric.terminal()
+    }
+
+    /// The number of channels of a port.
+    pub(crate) fn channels(&self) -> u8
+        ensures { result ≡ sum self.now.channels }
+    {
+        self.fabric.channels()
+    }
+
+    /// One pass of the node's channel allocator, its grants written into the records.
+    pub(crate) fn allocate(&mut self, node: u8)
+        requires { node < node_count self.old.mesh }
+        ensures after { self.new ≡ with_router self.old node (after_allocate (router_at self.old node)) }
+        ensures reaches { Reaches self.old self.new }
+    {
+        self.fabric.allocate(node);
+    }
+
+    /// One pass of the node's switch allocator.
+    pub(crate) fn choose(&mut self, node: u8) -> SwGrants
+        requires { node < node_count self.old.mesh }
+        ensures grants { result ≡ switch_grants (router_at self.old node) }
+        ensures after { self.new ≡ with_router self.old node (chosen_router (router_at self.old node)) }
+        ensures reaches { Reaches self.old self.new }
+    {
+        self.fabric.choose(node)
+    }
+
+    /// The lowest channel of the mesh port that owes a credit.
+    pub(crate) fn lowest_owed(&self, node: u8, port: u8) -> Option<u8>
+        requires node { node < node_count self.now.mesh }
+        requires port { port ≤ 2 * length self.now.mesh }
+        ensures found { IfSome result (λ vc. 0 < (input_at (router_at self.now node) port vc).owed) }
+        ensures lowest { IfSome result (λ vc. (k : ℕ) → k < vc → (input_at (router_at self.now node) port k).owed ≡ 0) }
+        ensures none { IfNone result ((k : ℕ) → k < width (router_at self.now node) → (input_at (router_at self.now node) port k).owed ≡ 0) }
+    {
+        self.fabric.lowest_owed(node, port)
+    }
+
+    pub(crate) fn offer(&mut self, node: u8, packet: &Packet) -> Result<Moved, StepFault>
+        ensures { Answers self.old (Event.Offer node packet.now.lane packet.now.words) result self.new }
+    {
+        if !self.fabric.has_node(node) {
+            return Err(StepFault::NoSuchPlace);
+        }
+        accepted(self.fabric.offer(node, packet))
+    }
+
+    pub(crate) fn close(&mut self, node: u8, lane: Lane) -> Result<Moved, StepFault>
+        ensures { Answers self.old (Event.CloseLane node lane) result self.new }
+    {
+        if !self.fabric.has_node(node) {
+            return Err(StepFault::NoSuchPlace);
+        }
+        accepted(self.fabric.close(node, lane))
+    }
+
+    pub(crate) fn feed(&mut self, node: u8, class: u8) -> Result<Moved, StepFault>
+        ensures { Answers self.old (Event.Feed node class) result self.new }
+    {
+        if !self.fabric.has_class(node, class) {
+            return Err(StepFault::NoSuchPlace);
+        }
+        Ok(moved(self.fabric.feed(node, class)))
+    }
+
+    pub(crate) fn route(&mut self, node: u8, port: u8, vc: u8) -> Result<Moved, StepFault>
+        ensures { Answers self.old (Event.Route node port vc) result self.new }
+    {
+        if !self.fabric.has_place(node, port, vc) {
+            return Err(StepFault::NoSuchPlace);
+        }
+        Ok(moved(self.fabric.route(node, port, vc)))
+    }
+
+    fn grant(&mut self, node: u8, port: u8, vc: u8, out_vc: u8) -> Result<Moved, StepFault>
+        ensures { Answers self.old (Event.Grant node port vc out_vc) result self.new }
+    {
+        if !self.fabric.has_grant(node, port, vc, out_vc) {
+            return Err(StepFault::NoSuchPlace);
+        }
+        Ok(moved(self.fabric.grant(node, port, vc, out_vc)))
+    }
+
+    pub(crate) fn send(&mut self, node: u8, port: u8, vc: u8) -> Result<Moved, StepFault>
+        ensures { Answers self.old (Event.Send node port vc) result self.new }
+    {
+        if !self.fabric.has_place(node, port, vc) {
+            return Err(StepFault::NoSuchPlace);
+        }
+        self.fabric.send(node, port, vc)
+    }
+
+    pub(crate) fn take(&mut self, node: u8, port: u8) -> Result<Moved, StepFault>
+        ensures { Answers self.old (Event.Take node port) result self.new }
+    {
+        if !self.fabric.has_link(node, port) {
+            return Err(StepFault::NoSuchPlace);
+        }
+        Ok(moved(self.fabric.take(node, port)))
+    }
+
+    pub(crate) fn give(&mut self, node: u8, port: u8, vc: u8) -> Result<Moved, StepFault>
+        ensures { Answers self.old (Event.GiveCredit node port vc) result self.new }
+    {
+        if !self.fabric.has_line(node, port, vc) {
+            return Err(StepFault::NoSuchPlace);
+        }
+        Ok(moved(self.fabric.give(node, port, vc)))
+    }
+
+    pub(crate) fn get(&mut self, node: u8, port: u8) -> Result<Moved, StepFault>
+        ensures { Answers self.old (Event.TakeCredit node port) result self.new }
+    {
+        if !self.fabric.has_link(node, port) {
+            return Err(StepFault::NoSuchPlace);
+        }
+        Ok(moved(self.fabric.get(node, port)))
+    }
+
+    /// One step.
+    pub fn step(&mut self, step: &Step) -> Result<Moved, StepFault>
+        ensures { Answers self.old (event_of step.now) result self.new }
+    {
+        match step {
+            Step::Offer { node, packet } => self.offer(*node, packet),
+            Step::Close { node, lane } => self.close(*node, *lane),
+            Step::Feed { node, class } => self.feed(*node, *class),
+            Step::Route { node, port, vc } => self.route(*node, *port, *vc),
+            Step::Grant {
+                node,
+                port,
+                vc,
+                out_vc,
+            } => self.grant(*node, *port, *vc, *out_vc),
+            Step::Send { node, port, vc } => self.send(*node, *port, *vc),
+            Step::Take { node, port } => self.take(*node, *port),
+            Step::GiveCredit { node, port, vc } => self.give(*node, *port, *vc),
+            Step::TakeCredit { node, port } => self.get(*node, *port),
+        }
+    }
+
+    /// The steps in turn, up to the first fault.
+    fn take_steps(&mut self, steps: &[Step]) -> RunSoFar
+        ensures led { IsRun self.old self.new steps.now result.done }
+        ensures stopped { MatchOption result.fault (result.done ≡ length steps.now) (λ fault. IfSome (slice_get steps.now result.done) (λ step. Answers self.new (event_of step) (Err fault) self.new)) }
+    {
+        let mut done = 0;
+        for step in steps {
+            match self.step(step) {
+                Ok(_moved) => done += 1,
+                Err(fault) => {
+                    return RunSoFar {
+                        done,
+                        fault: Some(fault),
+                    };
+                }
+            }
+        }
+        RunSoFar { done, fault: None }
+    }
+
+    /// Takes the steps one after another, up to the first fault; the steps before it stand. After any such run what was
+    /// delivered of a lane, followed by what is under way, is what was injected, and nothing follows a close mark.
+    pub fn run(&mut self, steps: &[Step]) -> RunSoFar
+        ensures led { IsRun self.old self.new steps.now result.done }
+        ensures stopped { MatchOption result.fault (result.done ≡ length steps.now) (λ fault. IfSome (slice_get steps.now result.done) (λ step. Answers self.new (event_of step) (Err fault) self.new)) }
+        ensures delivers { DeliversInOrder self.new }
+        ensures marks { NothingFollowsMarks self.old self.new }
+    {
+        self.is_sound();
+        let so_far = self.take_steps(steps);
+        self.is_sound();
+        so_far
+    }
+}

@@ -1,0 +1,85 @@
+ghost use Rattle.std.specs.Prelude.{true, false, ◌≡◌, ◌<◌, ◌≤◌, IsSome, OnOk, OnErr, IfErr, None, length, unwrap_or, if◌then◌else◌};
+ghost use Rattle.worm_router.specs.Router.{IsPlace, terminal, leaving};
+ghost use Rattle.worm_router.specs.Allocation.{switch_grants};
+ghost use Rattle.worm_term.specs.Source.{classes, front_of, refusal, after_offer, after_close};
+ghost use Rattle.worm_core.specs.Moves.{FrontFits, can_enter, chosen_router, fed_node, delivered_node};
+
+use worm_flit::{Flit, Lane, Packet};
+use worm_router::Router;
+use worm_swalloc::SwGrants;
+use worm_term::{OfferFault, Sink, Source};
+
+/// One node: its router, and the two ends of its lanes.
+#[derive(Drop)]
+pub struct Node {
+    /// The router, whose terminal port is fed by the source and drained by the sink.
+    pub router: Router,
+    /// Where the packets of this node's lanes come in.
+    pub source: Source,
+    /// Where the flits for this node come out.
+    pub sink: Sink,
+}
+
+impl Node {
+    /// Moves the source's next flit of the class into the injection buffer, where there is one and that has room.
+    pub(crate) fn feed(&mut self, class: u8, port: u8) -> bool
+        requires class { class < classes self.old.source }
+        requires port { port ≡ terminal self.old.router }
+        requires front { FrontFits self.old.router (terminal self.old.router) (front_of self.old.source class) }
+        ensures enabled { result ≡ can_enter self.old.router (terminal self.old.router) (front_of self.old.source class) }
+        ensures after { self.new ≡ (if result then fed_node self.old class (front_of self.old.source class) else self.old) }
+    {
+        let Some(flit) = self.source.front(class) else {
+            return false;
+        };
+        if self.router.accept(port, flit).is_err() {
+            return false;
+        }
+        self.source.fed(class);
+        true
+    }
+
+    /// Lets the flit that is ready at this place out into the sink, if that can take it.
+    pub(crate) fn deliver(&mut self, port: u8, vc: u8, flit: Flit) -> bool
+        requires place { IsPlace self.old.router port vc }
+        requires ready { IsSome (leaving self.old.router port vc) }
+        requires home { flit.lane.dst ≡ self.old.sink.node }
+        ensures after { self.new ≡ (if result then delivered_node self.old port vc flit else self.old) }
+    {
+        if self.sink.take(flit).is_err() {
+            return false;
+        }
+        self.router.sent(port, vc);
+        true
+    }
+
+    /// One pass of the switch allocator.
+    #[tactic(auto, unfolding(crate::specs::Moves::chosen_router))]
+    pub(crate) fn choose(&mut self) -> SwGrants
+        ensures grants { result ≡ switch_grants self.old.router }
+        ensures after { self.new ≡ record self.old { router = chosen_router self.old.router } }
+    {
+        self.router.choose()
+    }
+
+    /// Hands the packet to the source.
+    pub(crate) fn offer(&mut self, packet: &Packet) -> Result<u16, OfferFault>
+        ensures ok { OnOk result ((refusal self.old.source packet.now.lane false ≡ None) × (self.new ≡ record self.old { source = after_offer self.old.source packet.now })) }
+        ensures fault { IfErr result (λ e. e ≡ unwrap_or (refusal self.old.source packet.now.lane false) OfferFault.NoMemory) }
+        ensures err { OnErr result (self.new ≡ self.old) }
+        ensures some { 1 ≤ length packet.now.words }
+        ensures few { length packet.now.words ≤ 32 }
+    {
+        let _words = packet.words();
+        self.source.offer(packet)
+    }
+
+    /// Hands the lane's close mark to the source.
+    pub(crate) fn close(&mut self, lane: Lane) -> Result<u16, OfferFault>
+        ensures ok { OnOk result ((refusal self.old.source lane true ≡ None) × (self.new ≡ record self.old { source = after_close self.old.source lane })) }
+        ensures fault { IfErr result (λ e. e ≡ unwrap_or (refusal self.old.source lane true) OfferFault.NoMemory) }
+        ensures err { OnErr result (self.new ≡ self.old) }
+    {
+        self.source.close(lane)
+    }
+}

@@ -1,0 +1,181 @@
+ghost use Rattle.std.specs.Prelude.{◌≡◌, ◌<◌, ◌≤◌, length};
+
+use crate::{
+    Act, Config, Entry, Moved, Name, Net, NetFault, OfferFault, RunSoFar, Script, ScriptFault,
+    Step, StepFault,
+};
+use arrayvec::ArrayVec;
+use std::test::Fail;
+use worm_flit::{Lane, Packet};
+
+/// A configuration with these radices, depth and classes of so many channels.
+fn config(radices: &[u8], depth: u8, channels: &[u8]) -> Config {
+    let mut config = Config {
+        radices: ArrayVec::new(),
+        depth,
+        classes: ArrayVec::new(),
+        channels: ArrayVec::new(),
+    };
+    for radix in radices {
+        let _ = config.radices.try_push(*radix);
+    }
+    for count in channels {
+        let _ = config.channels.try_push(*count);
+        let _ = config.classes.try_push(Name::new());
+    }
+    config
+}
+
+fn lane(src: u8, dst: u8, class: u8) -> Lane {
+    Lane { src, dst, class }
+}
+
+/// The words of the flits that arrived at the node; nothing for a node that is not there.
+fn words(net: &Net, node: u8, rt: HostRuntime) -> Result<Vec<u32>, Fail> {
+    let mut words = Vec::new(rt.alloc());
+    if u16::from(node) < net.nodes() {
+        for flit in net.delivered(node) {
+            words.push(flit.word)?;
+        }
+    }
+    Ok(words)
+}
+
+#[test]
+fn a_line_delivers_in_order(rt: HostRuntime) -> Result<(), Fail> {
+    let mut net = Net::new(rt.alloc(), &config(&[3], 2, &[1]))?;
+    let mut script = Script::empty(rt.alloc());
+    script.push(Entry {
+        turn: 0,
+        act: Act::Offer(Packet::new(lane(0, 2, 0), &[1, 2])?),
+    })?;
+    script.push(Entry {
+        turn: 0,
+        act: Act::Offer(Packet::new(lane(1, 2, 0), &[3, 4])?),
+    })?;
+    for turn in 0..4 {
+        net.turn(turn, &script)?;
+    }
+    let got = words(&net, 2, rt)?;
+    assert_eq!(rt; got.as_slice(), [1, 2, 3, 4].as_slice());
+    Ok(())
+}
+
+#[test]
+fn two_classes_take_turns(rt: HostRuntime) -> Result<(), Fail> {
+    let mut net = Net::new(rt.alloc(), &config(&[3], 2, &[1, 1]))?;
+    let mut script = Script::empty(rt.alloc());
+    script.push(Entry {
+        turn: 0,
+        act: Act::Offer(Packet::new(lane(0, 2, 0), &[1, 2])?),
+    })?;
+    script.push(Entry {
+        turn: 0,
+        act: Act::Offer(Packet::new(lane(1, 2, 1), &[3, 4])?),
+    })?;
+    for turn in 0..4 {
+        net.turn(turn, &script)?;
+    }
+    let got = words(&net, 2, rt)?;
+    assert_eq!(rt; got.as_slice(), [1, 3, 2, 4].as_slice());
+    Ok(())
+}
+
+#[test]
+fn a_closed_lane_takes_nothing(rt: HostRuntime) -> Result<(), Fail> {
+    let mut net = Net::new(rt.alloc(), &config(&[2], 2, &[1]))?;
+    assert_eq!(rt;
+        net.step(&Step::Close {
+            node: 0,
+            lane: lane(0, 1, 0)
+        }),
+        Ok(Moved::Done)
+    );
+    let packet = Packet::new(lane(0, 1, 0), &[5])?;
+    assert_eq!(rt;
+        net.step(&Step::Offer { node: 0, packet }),
+        Err(StepFault::Refused(OfferFault::LaneClosed))
+    );
+    Ok(())
+}
+
+#[test]
+fn places_that_are_not_there(rt: HostRuntime) -> Result<(), Fail> {
+    let mut net = Net::new(rt.alloc(), &config(&[2], 2, &[1]))?;
+    let none = Err(StepFault::NoSuchPlace);
+    assert_eq!(rt; net.step(&Step::Take { node: 0, port: 0 }), none);
+    assert_eq!(rt;
+        net.step(&Step::Send {
+            node: 0,
+            port: 0,
+            vc: 0
+        }),
+        none
+    );
+    assert_eq!(rt;
+        net.step(&Step::Send {
+            node: 0,
+            port: 2,
+            vc: 1
+        }),
+        none
+    );
+    assert_eq!(rt; net.step(&Step::Feed { node: 2, class: 0 }), none);
+    assert_eq!(rt; net.step(&Step::Take { node: 0, port: 2 }), none);
+    assert!(rt;
+        matches!(
+            Net::new(rt.alloc(), &config(&[2], 17, &[1])),
+            Err(NetFault::BadConfig)
+        )
+    );
+    Ok(())
+}
+
+#[test]
+fn a_run_counts_idle_steps(rt: HostRuntime) -> Result<(), Fail> {
+    let mut net = Net::new(rt.alloc(), &config(&[2], 1, &[1]))?;
+    let packet = Packet::new(lane(0, 1, 0), &[17, 18])?;
+    let steps = [
+        Step::Offer { node: 0, packet },
+        Step::Feed { node: 0, class: 0 },
+        Step::Route {
+            node: 0,
+            port: 2,
+            vc: 0,
+        },
+        Step::Grant {
+            node: 0,
+            port: 2,
+            vc: 0,
+            out_vc: 0,
+        },
+        Step::Send {
+            node: 0,
+            port: 2,
+            vc: 0,
+        },
+        Step::Feed { node: 0, class: 0 },
+        Step::Send {
+            node: 0,
+            port: 2,
+            vc: 0,
+        },
+        Step::Take { node: 0, port: 1 },
+    ];
+    assert_eq!(rt;
+        net.run(&steps),
+        RunSoFar {
+            done: 8,
+            fault: None
+        }
+    );
+    assert_eq!(rt;
+        net.step(&Step::Send {
+            node: 0,
+            port: 2,
+            vc: 0
+        }),
+        Ok(Moved::Idle)
+    );
+    Ok(())
+}

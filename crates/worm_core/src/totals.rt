@@ -1,0 +1,82 @@
+ghost use Rattle.std.specs.Prelude.{◌≡◌, ◌<◌, ◌≤◌, ◌*◌, ◌^◌, length};
+ghost use Rattle.worm_mesh.specs.Address.{node_count};
+ghost use Rattle.worm_theory.specs.Steps.{packets_in};
+ghost use Rattle.worm_core.specs.State.{sink_at};
+ghost use Rattle.worm_core.specs.Totals.{accepted_below, accepted_total, delivered_total, injected_below, injected_total};
+
+use crate::Net;
+use worm_flit::{Flit, is_closing};
+
+/// The flits that all sources accepted and all sinks took, and the packets and marks that all sources accepted.
+#[derive(Clone, Copy, Debug, PartialEq, Eq)]
+pub struct Totals {
+    /// Flits accepted, a mark as one.
+    pub injected: u128,
+    /// Flits delivered, a mark as one.
+    pub delivered: u128,
+    /// Packets accepted, and marks.
+    pub accepted: u128,
+}
+
+/// How many packets and marks these flits end.
+fn packets_ended(flits: &[Flit]) -> u64
+    ensures value { result ≡ packets_in flits.now }
+    ensures bound { result ≤ length flits.now }
+{
+    let mut ended = 0u64;
+    for flit in flits {
+        if is_closing(flit.kind) {
+            ended += 1;
+        }
+    }
+    ended
+}
+
+impl Net {
+    /// The sums over all sources and sinks.
+    pub fn totals(&self) -> Totals
+        ensures injected { result.injected ≡ injected_total self.now }
+        ensures delivered { result.delivered ≡ delivered_total self.now }
+        ensures accepted { result.accepted ≡ accepted_total self.now }
+    {
+        let mut totals = Totals {
+            injected: 0,
+            delivered: 0,
+            accepted: 0,
+        };
+        for node in 0..self.nodes() {
+            let here = self.node_totals(node as u8);
+            totals = Totals {
+                injected: totals.injected + here.injected,
+                delivered: totals.delivered + here.delivered,
+                accepted: totals.accepted + here.accepted,
+            };
+        }
+        totals
+    }
+
+    /// The same of one node.
+    fn node_totals(&self, node: u8) -> Totals
+        requires { node < node_count self.now.mesh }
+        ensures injected { result.injected ≡ injected_below self.now node (length self.now.channels) }
+        ensures delivered { result.delivered ≡ length (sink_at self.now node).delivered }
+        ensures accepted { result.accepted ≡ accepted_below self.now node (length self.now.channels) }
+        ensures few_injected { result.injected ≤ 4 * 2 ^ 64 }
+        ensures few_delivered { result.delivered ≤ 2 ^ 64 }
+        ensures few_accepted { result.accepted ≤ 4 * 2 ^ 64 }
+    {
+        let delivered = self.delivered(node).len() as u128;
+        let mut injected = 0u128;
+        let mut accepted = 0u128;
+        for class in 0..self.classes() {
+            let flits = self.accepted_flits(node, class);
+            injected += flits.len() as u128;
+            accepted += u128::from(packets_ended(flits));
+        }
+        Totals {
+            injected,
+            delivered,
+            accepted,
+        }
+    }
+}

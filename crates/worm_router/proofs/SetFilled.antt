@@ -1,0 +1,129 @@
+-- Tables filled for the channels of a set alone, where any other channel has nothing to put there.
+use Rattle.std.proofs.Common.{◌≡◌, ℕ, ◌+◌, ◌<◌, ◌≤◌, ◌&&◌, ◌==◌, Bool, true, false, nat_le, nat_lt, if◌then◌else◌, inl, inr, List, [], ◌∷◌, Option, None, Some, length, replicate, refl, arith, ap, sym, ◌∙◌, subst}
+use Rattle.std.specs.Option.{option_map}
+use Rattle.std.proofs.lemmas.Bool.{cases_eq}
+use Rattle.worm_records.specs.declared.InRecord.{InRecord}
+use Rattle.worm_records.specs.declared.InRecord.TheVariants.{Idle, Waiting, Active}
+use Rattle.worm_flit.specs.declared.Flit.{Flit}
+use Rattle.worm_vcalloc.specs.ChannelSet.{has, IsPut, IsFirst}
+use Rattle.worm_vcalloc.specs.Table.{cell, with_cell, IsTable}
+use Rattle.worm_vcalloc.proofs.SetLemmas.{has-zero, has-empty}
+use Rattle.worm_vcalloc.proofs.TableLemmas.{cell-with_cell_same, cell-with_cell_other, IsTable-with_cell, cell-replicate, IsTable-replicate}
+use Rattle.worm_router.specs.Router.{RouterState, ChannelState, IsPlace, terminal, width, input_at, leaving_by}
+use Rattle.worm_router.specs.Busy.{IsSetOf, waits, holds, is_waiting, is_active, is_occupied}
+use Rattle.worm_router.specs.Tables.{table}
+use Rattle.worm_router.specs.Allocation.{within, asking, request_at, requests, ready_at}
+use Rattle.worm_router.proofs.TableRows.{same_tables, cell-table, IsTable-table}
+
+-- the channels that are left of a set are places of the router, and each other cell is filled
+pub record IsFilled {X : Type 0} (r : RouterState) (f : ℕ → ℕ → Option X) (left : ℕ) (t : List (List (Option X))) : Type 0 where
+  pub shape : IsTable t
+  pub places : (p v : ℕ) → p < 7 → v < 8 → has left p v ≡ true → IsPlace r p v
+  pub filled : (p v : ℕ) → p < 7 → v < 8 → has left p v ≡ false → cell t p v None ≡ within r None f p v
+
+-- what f says of a place
+at_place : {X : Type 0} (r : RouterState) (f : ℕ → ℕ → Option X) (p v : ℕ) → IsPlace r p v → within r None f p v ≡ f p v
+at_place r f p v place =
+    let port_in : nat_le p (terminal r) ≡ true = let e = place.port_in in grind arith in
+    let channel_in : nat_lt v (width r) ≡ true = let e = place.channel_in in grind arith in
+    ap (λ b. if b && nat_lt v (width r) then f p v else None) port_in ∙ ap (λ b. if b then f p v else None) channel_in
+
+-- where f says nothing of any place, it says nothing
+nowhere : {X : Type 0} (r : RouterState) (f : ℕ → ℕ → Option X) (p v : ℕ) → (IsPlace r p v → f p v ≡ None) → within r None f p v ≡ None
+nowhere r f p v none = by_test (nat_le p (terminal r)) (nat_lt v (width r)) refl refl where
+  by_test : (a b : Bool) → nat_le p (terminal r) ≡ a → nat_lt v (width r) ≡ b → (if a && b then f p v else None) ≡ None
+  by_test true true e g = none (record { port_in = grind arith; channel_in = grind arith })
+  by_test true false e g = refl
+  by_test false b e g = refl
+
+pub filled_begins : {X : Type 0} (r : RouterState) (f : ℕ → ℕ → Option X) (all : ℕ)
+    → ((p v : ℕ) → p < 7 → v < 8 → has all p v ≡ true → IsPlace r p v)
+    → ((p v : ℕ) → IsPlace r p v → has all p v ≡ false → f p v ≡ None)
+    → IsFilled r f all (replicate 7 (replicate 8 None))
+filled_begins r f all places none = record {
+  shape = IsTable-replicate None;
+  places = places;
+  filled = λ p v p_in v_in out. cell-replicate 7 8 p v None ∙ sym (nowhere r f p v (λ place. none p v place out));
+}
+
+pub filled_on : {X : Type 0} (r : RouterState) (f : ℕ → ℕ → Option X) (left next port vc : ℕ) (here now : List (List (Option X))) (x : Option X)
+    → IsFilled r f left here → IsFirst left next port vc → x ≡ f port vc → now ≡ with_cell here port vc x → IsFilled r f next now
+filled_on {X = X} r f left next port vc here now x before first is after = record {
+  shape = subst IsTable (sym after) (IsTable-with_cell here port vc x before.shape);
+  places = λ p v p_in v_in inside. elim (cases_eq p port) [
+    | inl a ↦ elim (cases_eq v vc) [
+      | inl b ↦ let no : true ≡ false = sym inside ∙ ap (λ k. has next k v) a ∙ ap (λ k. has next port k) b ∙ first.taken.here in absurd (cc)
+      | inr ne ↦ before.places p v p_in v_in (sym (first.taken.elsewhere p v p_in v_in (λ a b. ne b)) ∙ inside)
+    ]
+    | inr ne ↦ before.places p v p_in v_in (sym (first.taken.elsewhere p v p_in v_in (λ a b. ne a)) ∙ inside)
+  ];
+  filled = λ p v p_in v_in out. ap (λ (t : List (List (Option X))). cell t p v None) after ∙ elim (cases_eq p port) [
+    | inl a ↦ elim (cases_eq v vc) [
+      | inl b ↦
+          ap (λ k. cell (with_cell here port vc x) k v None) a ∙ ap (λ k. cell (with_cell here port vc x) port k None) b
+          ∙ cell-with_cell_same here port vc x None before.shape first.port_in first.channel_in
+          ∙ is ∙ sym (at_place r f port vc (before.places port vc first.port_in first.channel_in first.was_in))
+          ∙ ap (λ k. within r None f k vc) (sym a) ∙ ap (λ k. within r None f p k) (sym b)
+      | inr ne ↦ other p v p_in v_in out (λ a b. ne b)
+    ]
+    | inr ne ↦ other p v p_in v_in out (λ a b. ne a)
+  ];
+} where
+  other : (p v : ℕ) → p < 7 → v < 8 → has next p v ≡ false → ((p ≡ port) → (v ≡ vc) → ⊥) → cell (with_cell here port vc x) p v None ≡ within r None f p v
+  other p v p_in v_in out apart =
+      cell-with_cell_other here port vc p v x None apart
+      ∙ before.filled p v p_in v_in (sym (first.taken.elsewhere p v p_in v_in apart) ∙ out)
+
+pub filled_all : {X : Type 0} (r : RouterState) (f : ℕ → ℕ → Option X) (left : ℕ) (t : List (List (Option X))) → IsFilled r f left t → left ≡ 0 → t ≡ table (within r None f)
+filled_all r f left t done none =
+    same_tables None t (table (within r None f)) done.shape (IsTable-table (within r None f)) (λ p v p_in v_in.
+    done.filled p v p_in v_in (ap (λ s. has s p v) none ∙ has-zero p v) ∙ sym (cell-table (within r None f) p v None p_in v_in))
+
+-- ---- the requests
+
+asks_nothing : (r : RouterState) (s : InRecord) (fs : List Flit) → waits s ≡ false → asking r s fs ≡ None
+asks_nothing r Idle fs e = refl
+asks_nothing r (Active o c) fs e = refl
+asks_nothing r (Waiting o) fs e = absurd (cc)
+
+pub requests_begin : (r : RouterState) (all : ℕ) → IsSetOf is_waiting r all → IsFilled r (request_at r) all (replicate 7 (replicate 8 None))
+requests_begin r all is =
+    filled_begins r (request_at r) all
+    (λ p v p_in v_in inside. let at = is.outside p v p_in v_in inside in record { port_in = at.0; channel_in = at.1 })
+    (λ p v place out. asks_nothing r (input_at r p v).state (input_at r p v).buffer (sym (is.inside p v place.port_in place.channel_in) ∙ out))
+
+-- where no channel waits nothing is asked for
+pub nothing_asked : (r : RouterState) (all : ℕ) → IsSetOf is_waiting r all → (all == 0) ≡ true → requests r ≡ replicate 7 (replicate 8 None)
+nothing_asked r all is none =
+    let e : all ≡ 0 = grind arith in
+    sym (filled_all r (request_at r) all (replicate 7 (replicate 8 None)) (requests_begin r all is) e)
+
+-- ---- the channels that may send
+
+stays_in : (r : RouterState) (port : ℕ) (c : ChannelState) (s : InRecord) (fs : List Flit) → (holds s && nat_lt 0 (length fs)) ≡ false → leaving_by r port c s fs ≡ None
+stays_in r port c Idle fs e = refl
+stays_in r port c (Waiting o) fs e = refl
+stays_in r port c (Active o v) [] e = refl
+stays_in r port c (Active o v) (f ∷ fs) e = absurd (grind arith)
+
+pub ready_begin : (r : RouterState) (active occupied all : ℕ) → IsSetOf is_active r active → IsSetOf is_occupied r occupied
+    → ((p v : ℕ) → has all p v ≡ (has active p v && has occupied p v))
+    → IsFilled r (ready_at r) all (replicate 7 (replicate 8 None))
+ready_begin r active occupied all are_active are_occupied both =
+    filled_begins r (ready_at r) all
+    (λ p v p_in v_in inside.
+    let at = are_active.outside p v p_in v_in (first_of (has active p v) (has occupied p v) (sym (both p v) ∙ inside)) in
+    record { port_in = at.0; channel_in = at.1 })
+    (λ p v place out.
+    let e : (holds (input_at r p v).state && nat_lt 0 (length (input_at r p v).buffer)) ≡ false =
+    ap (λ b. b && nat_lt 0 (length (input_at r p v).buffer)) (sym (are_active.inside p v place.port_in place.channel_in))
+    ∙ ap (λ b. has active p v && b) (sym (are_occupied.inside p v place.port_in place.channel_in))
+    ∙ sym (both p v) ∙ out in
+    ap (λ o. none_of o) (stays_in r p (input_at r p v) (input_at r p v).state (input_at r p v).buffer e))
+  where
+    first_of : (a b : Bool) → (a && b) ≡ true → a ≡ true
+    first_of true b e = refl
+    first_of false b e = absurd (cc)
+
+    none_of : Option (ℕ × Flit) → Option ℕ
+    none_of o = option_map (λ leave. leave.0) o

@@ -1,0 +1,63 @@
+-- Which input channels have something to do: the sets that a router keeps beside its lists, so that a turn skips all others.
+use Rattle.std.specs.Prelude.{ℕ, ◌+◌, ◌*◌, ◌<◌, ◌≤◌, ◌≡◌, nat_lt, Bool, true, false, List, length, slice_index_or}
+use Rattle.worm_records.specs.declared.InRecord.{InRecord}
+use Rattle.worm_records.specs.declared.InRecord.TheVariants.{Idle, Waiting, Active}
+use Rattle.worm_vcalloc.specs.ChannelSet.{has, IsPut}
+use Rattle.worm_router.specs.declared.busy.BusyChannels.{BusyChannels}
+use Rattle.worm_router.specs.Router.{ChannelState, RouterState, IsRouter, terminal, width, fresh_channel}
+
+-- an input channel has a flit
+abbrev pub is_occupied : ChannelState → Bool
+is_occupied c = nat_lt 0 (length c.buffer)
+
+abbrev pub waits : InRecord → Bool
+waits Idle = false
+waits (Waiting o) = true
+waits (Active o c) = false
+
+-- it waits for an output channel
+abbrev pub is_waiting : ChannelState → Bool
+is_waiting c = waits c.state
+
+abbrev pub holds : InRecord → Bool
+holds Idle = false
+holds (Waiting o) = false
+holds (Active o c) = true
+
+-- it holds an output channel
+abbrev pub is_active : ChannelState → Bool
+is_active c = holds c.state
+
+-- it owes a credit
+abbrev pub owes : ChannelState → Bool
+owes c = nat_lt 0 c.owed
+
+-- a set has the input channels that pass a test, and no others
+pub record IsSetIn (test : ChannelState → Bool) (terminal width depth : ℕ) (inputs : List ChannelState) (set : ℕ) : Type 0 where
+  pub inside : (port vc : ℕ) → port ≤ terminal → vc < width → has set port vc ≡ test (slice_index_or inputs (port * width + vc) (fresh_channel depth))
+  pub outside : (port vc : ℕ) → port < 7 → vc < 8 → has set port vc ≡ true → (port ≤ terminal) × (vc < width)
+
+-- a set has those input channels of a router that pass a test, and no others
+abbrev pub IsSetOf : (ChannelState → Bool) → RouterState → ℕ → Type 0
+IsSetOf test r set = IsSetIn test (terminal r) (width r) r.depth r.inputs set
+
+-- the sets of these input channels
+pub record AreBusy (terminal width depth : ℕ) (inputs : List ChannelState) (sets : BusyChannels) : Type 0 where
+  pub few_ports : terminal ≤ 6
+  pub few_channels : width ≤ 8
+  pub occupied : IsSetIn is_occupied terminal width depth inputs sets.occupied
+  pub waiting : IsSetIn is_waiting terminal width depth inputs sets.waiting
+  pub active : IsSetIn is_active terminal width depth inputs sets.active
+  pub owing : IsSetIn owes terminal width depth inputs sets.owing
+
+-- the sets have changed at one channel alone, which is now filed by what it has to do
+pub record IsFiled (old new : BusyChannels) (port vc : ℕ) (c : ChannelState) : Type 0 where
+  pub occupied : IsPut old.occupied new.occupied port vc (is_occupied c)
+  pub waiting : IsPut old.waiting new.waiting port vc (is_waiting c)
+  pub active : IsPut old.active new.active port vc (is_active c)
+  pub owing : IsPut old.owing new.owing port vc (owes c)
+
+-- what a router keeps: what contracts see, and the sets beside it
+pub record IsKept (r : RouterState) (sets : BusyChannels) : Type 0 where
+  pub router : IsRouter r
+  pub busy : AreBusy (terminal r) (width r) r.depth r.inputs sets
