@@ -1,5 +1,5 @@
 -- A pass of an allocator leaves a network as a list of grants does; the arbiters are no part of what it stands for.
-use Rattle.std.proofs.Common.{◌≡◌, ℕ, zero, suc, ◌+◌, ◌*◌, ◌<◌, ◌≤◌, ◌==◌, cond, Bool, true, false, ◌&&◌, if◌then◌else◌, ◌⊎◌, inl, inr, List, [], ◌∷◌, length, sum, drop, Ok, Option, Some, None, is_some, refl, arith, ap, sym, subst, ◌∙◌}
+use Rattle.std.proofs.Common.{◌≡◌, ℕ, zero, suc, ◌+◌, ◌*◌, ◌<◌, ◌≤◌, ◌==◌, cond, Bool, true, false, ◌&&◌, if◌then◌else◌, inl, inr, List, [], ◌∷◌, length, sum, drop, Ok, Option, Some, None, is_some, refl, arith, ap, sym, subst, ◌∙◌}
 use Rattle.std.specs.Prelude.{All, fold, IsSome, is_none}
 use Rattle.std.specs.List.{range_with_len}
 use Rattle.std.proofs.lemmas.List.{set-set}
@@ -9,10 +9,10 @@ use Rattle.std.proofs.lemmas.Bool.{and_parts}
 use Rattle.worm_flit.specs.declared.Lane.{Lane}
 use Rattle.worm_flit.specs.declared.Flit.{Flit}
 use Rattle.worm_flit.specs.Channels.{owns}
-use Rattle.worm_mesh.specs.Address.{node_count, neighbour_of}
+use Rattle.worm_mesh.specs.Address.{node_count}
 use Rattle.worm_records.specs.declared.InRecord.{InRecord}
 use Rattle.worm_records.specs.declared.InRecord.TheVariants.{Idle, Waiting, Active}
-use Rattle.worm_router.specs.Router.{RouterState, IsPlace, width, terminal, input_at, output_at, granting, can_grant, after_grant, after_granting}
+use Rattle.worm_router.specs.Router.{RouterState, width, terminal, input_at, output_at, granting, can_grant, after_grant, after_granting}
 use Rattle.worm_router.specs.Allocation.{written, with_port_grants, with_grants, channel_pass, after_allocate, after_choose}
 use Rattle.worm_shape.proofs.Channels.{owned_by}
 use Rattle.worm_swalloc.specs.SwAlloc.{SwAllocState}
@@ -27,12 +27,12 @@ use Rattle.worm_vcalloc.specs.Table.{cell}
 use Rattle.worm_vcalloc.specs.VcAlloc.{VcAllocState}
 use Rattle.worm_core.specs.Shape.{net_shape}
 use Rattle.worm_core.specs.declared.node.Node.{Node}
-use Rattle.worm_core.specs.State.{NetState, IsNet, IsFramed, IsNetPlace, shape, network_of, node_at, router_at, with_node, with_router, input_of, output_of, queue_of, link_of}
+use Rattle.worm_core.specs.State.{NetState, IsNet, IsNetPlace, shape, network_of, node_at, router_at, with_node, with_router, input_of, output_of, link_of}
 use Rattle.worm_core.specs.Answers.{moved_of}
 use Rattle.worm_core.specs.Moves.{chosen_router}
 use Rattle.worm_core.specs.Turns.{Reaches}
 use Rattle.worm_core.proofs.Bridge.{node_at-put, node_kept}
-use Rattle.worm_core.proofs.Kept.{framed_mesh, node_framed, net_place}
+use Rattle.worm_core.proofs.Kept.{framed_mesh, node_framed}
 use Rattle.worm_core.proofs.There.{buffer_there}
 use Rattle.worm_core.proofs.GrantStep.{grant_answers, with_router_same}
 use Rattle.worm_core.proofs.Reaching.{reached, joined, by_answer}

@@ -1,6 +1,6 @@
 -- The two ends of a link, and the front of a list.
-use Rattle.std.proofs.Common.{◌≡◌, ℕ, zero, suc, ◌+◌, ◌*◌, ◌<◌, ◌≤◌, true, List, [], ◌∷◌, length, drop, Option, Some, None, refl, arith, ap, add-one, ◌∙◌}
-use Rattle.std.specs.Prelude.{IsSome, slice_get}
+use Rattle.std.proofs.Common.{◌≡◌, ℕ, zero, suc, ◌+◌, ◌*◌, ◌<◌, true, List, [], ◌∷◌, length, drop, Option, Some, None, refl, arith, ap, add-one, ◌∙◌}
+use Rattle.std.specs.Prelude.{slice_get}
 use Rattle.worm_mesh.specs.Address.{has_neighbour, neighbour_of, opposite_of}
 use Rattle.worm_mesh.specs.Links.{links_before}
 use Rattle.worm_mesh.proofs.Digits.{AreLarge-from_radices}

@@ -1,25 +1,23 @@
 -- The step Feed.
-use Rattle.std.proofs.Common.{◌≡◌, ℕ, ◌+◌, ◌*◌, ◌<◌, ◌≤◌, ◌==◌, cond, Bool, true, false, if◌then◌else◌, inl, inr, List, [], ◌∷◌, ◌++◌, length, drop, sum, Ok, Option, Some, None, refl, arith, ap, sym, subst, ◌∙◌}
-use Rattle.std.specs.Prelude.{All, IsSome, slice_get, option_map}
+use Rattle.std.proofs.Common.{◌≡◌, ℕ, ◌+◌, ◌*◌, ◌<◌, ◌==◌, Bool, true, false, if◌then◌else◌, inl, inr, List, [], ◌∷◌, ◌++◌, length, drop, sum, Ok, Option, Some, None, refl, arith, ap, sym, subst, ◌∙◌}
+use Rattle.std.specs.Prelude.{All, option_map}
 use Rattle.std.proofs.Math.ListN.{length-set}
 use Rattle.std.proofs.lemmas.List.Elements.{All-head}
 use Rattle.worm_flit.specs.declared.Flit.{Flit}
 use Rattle.worm_flit.specs.Stamps.{with_channel}
 use Rattle.worm_flit.specs.Channels.{first_channel}
-use Rattle.worm_records.specs.declared.OutRecord.{OutRecord}
-use Rattle.worm_router.specs.Router.{ChannelState, RouterState, IsPlace, terminal, width, input_at, put_in, after_accept}
-use Rattle.worm_term.specs.Queue.{QueueState, empty_queue, waiting, one_fed}
-use Rattle.worm_term.specs.Source.{SourceState, IsSource, classes, queue_at, front_of, after_fed}
-use Rattle.worm_theory.specs.Shape.{IsMesh}
-use Rattle.worm_theory.specs.Network.{Network, put2, put3}
+use Rattle.worm_router.specs.Router.{ChannelState, terminal, input_at, put_in}
+use Rattle.worm_term.specs.Queue.{waiting, one_fed}
+use Rattle.worm_term.specs.Source.{front_of}
+use Rattle.worm_theory.specs.Network.{put2, put3}
 use Rattle.worm_theory.specs.Steps.{Feed, IsThere, Enabled, after, fed}
 use Rattle.worm_theory.specs.Sound.{IsFrom}
 use Rattle.worm_core.specs.Shape.{net_shape}
 use Rattle.worm_core.specs.declared.node.Node.{Node}
-use Rattle.worm_core.specs.State.{NetState, IsNet, IsFramed, IsNodeOf, IsNetPlace, shape, network_of, node_at, router_at, source_at, with_node, input_of, output_of, queue_of}
+use Rattle.worm_core.specs.State.{NetState, IsNet, IsFramed, IsNodeOf, IsNetPlace, shape, network_of, node_at, router_at, source_at, with_node, output_of, queue_of}
 use Rattle.worm_core.specs.Answers.{Answers, moved_of}
 use Rattle.worm_core.specs.Moves.{FrontFits, has_room, can_enter, fed_node}
-use Rattle.worm_core.proofs.Bridge.{put2_same, put3_same, node_bridge, itself2, itself3, input_of-put, input_of-there, below_cases}
+use Rattle.worm_core.proofs.Bridge.{put2_same, put3_same, node_bridge, itself3, input_of-put, input_of-there, below_cases}
 use Rattle.worm_core.proofs.There.{buffer_there}
 use Rattle.worm_core.proofs.Kept.{kept, framed_mesh, node_framed}
 use Rattle.worm_core.proofs.Ends.{next_of, end_of}

@@ -1,11 +1,10 @@
 -- The step TakeCredit.
 use Rattle.std.proofs.Common.{◌≡◌, ℕ, ◌+◌, ◌*◌, ◌<◌, ◌≤◌, ◌==◌, Bool, true, false, if◌then◌else◌, inl, inr, List, [], ◌∷◌, length, drop, sum, Ok, Option, Some, None, refl, arith, ap, sym, subst, ◌∙◌}
-use Rattle.std.specs.Prelude.{All, IsSome, slice_get}
+use Rattle.std.specs.Prelude.{All, IsSome}
 use Rattle.std.proofs.Math.ListN.{length-set}
 use Rattle.std.proofs.lemmas.List.Elements.{All-head}
 use Rattle.worm_mesh.specs.Address.{neighbour_of}
-use Rattle.worm_records.specs.declared.OutRecord.{OutRecord}
-use Rattle.worm_router.specs.Router.{IsPlace, output_at, after_credit}
+use Rattle.worm_router.specs.Router.{output_at, after_credit}
 use Rattle.worm_theory.specs.Network.{Network, put2, put3}
 use Rattle.worm_theory.specs.Steps.{TakeCredit, IsThere, Enabled, FrontIs, after, got}
 use Rattle.worm_theory.proofs.Places.{bool_cases}
@@ -13,11 +12,11 @@ use Rattle.worm_core.specs.Shape.{net_shape}
 use Rattle.worm_core.specs.State.{NetState, LinkView, IsNet, IsFramed, IsNetPlace, shape, network_of, router_at, with_router, link_at}
 use Rattle.worm_core.specs.Answers.{Answers, moved_of}
 use Rattle.worm_core.specs.Moves.{link_out, front_credit, CreditFits, can_get, after_getting}
-use Rattle.worm_core.proofs.Bridge.{put2_same, put3_same, output_bridge, output_of-there}
+use Rattle.worm_core.proofs.Bridge.{put2_same, put3_same, output_bridge}
 use Rattle.worm_core.proofs.LinkBridge.{link_bridge, link_framed, out_there, credits_there}
 use Rattle.worm_core.proofs.There.{holder_there, spent_there}
 use Rattle.worm_core.proofs.Kept.{kept, router_framed}
-use Rattle.worm_core.proofs.Ends.{Leader, leader, first_of, none_of}
+use Rattle.worm_core.proofs.Ends.{leader, first_of, none_of}
 
 -- only the credits of an output channel are changed
 credit_bridge : (s : NetState) (x o c : ℕ) → IsFramed s → IsNetPlace s x o c

@@ -1,5 +1,5 @@
 -- The step GiveCredit.
-use Rattle.std.proofs.Common.{◌≡◌, ℕ, ◌+◌, ◌-◌, ◌*◌, ◌<◌, ◌≤◌, ◌==◌, cond, Bool, true, false, if◌then◌else◌, inl, inr, List, [], ◌∷◌, ◌++◌, length, sum, Ok, Option, Some, None, refl, arith, ap, sym, subst, ◌∙◌}
+use Rattle.std.proofs.Common.{◌≡◌, ℕ, ◌+◌, ◌-◌, ◌<◌, ◌≤◌, ◌==◌, cond, Bool, true, false, if◌then◌else◌, inl, inr, List, [], ◌∷◌, ◌++◌, length, sum, Ok, Option, Some, None, refl, arith, ap, sym, ◌∙◌}
 use Rattle.std.specs.Prelude.{All, IsSome}
 use Rattle.std.specs.List.{count_by}
 use Rattle.std.proofs.Math.ListN.{length-set}
@@ -9,7 +9,6 @@ use Rattle.worm_mesh.specs.Links.{sum_below, links_before}
 use Rattle.worm_router.specs.Router.{ChannelState, input_at, after_gave}
 use Rattle.worm_theory.specs.Network.{Network, put2, put3}
 use Rattle.worm_theory.specs.Steps.{GiveCredit, IsThere, Enabled, after, gave, gave_to}
-use Rattle.worm_theory.specs.Shape.{IsMesh}
 use Rattle.worm_theory.proofs.Credit.{count-cons}
 use Rattle.worm_core.specs.Shape.{net_shape}
 use Rattle.worm_core.specs.State.{NetState, LinkView, IsNet, IsFramed, IsNetPlace, shape, network_of, router_at, with_router, link_at}
@@ -17,10 +16,10 @@ use Rattle.worm_core.specs.Answers.{Answers, moved_of}
 use Rattle.worm_core.specs.Moves.{into_from, link_into, can_give, after_giving}
 use Rattle.worm_core.proofs.Bridge.{put2_same, put3_same, input_bridge, input_of-there, below_cases}
 use Rattle.worm_core.proofs.LinkBridge.{link_bridge, link_framed, out_there, credits_there}
-use Rattle.worm_core.proofs.There.{buffer_there, record_there, owed_there}
+use Rattle.worm_core.proofs.There.{owed_there}
 use Rattle.worm_core.proofs.Room.{one_of, sum_none, sum_add, sum_same, bounded_less}
 use Rattle.worm_core.proofs.Kept.{kept, router_framed, framed_mesh, net_place}
-use Rattle.worm_core.proofs.Ends.{Feeder, feeder}
+use Rattle.worm_core.proofs.Ends.{feeder}
 
 -- only what an input channel owes is changed
 owed_bridge : (s : NetState) (x p v : ℕ) → IsFramed s → IsNetPlace s x p v

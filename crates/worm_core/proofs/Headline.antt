@@ -1,5 +1,5 @@
 -- What a network's invariant says in the words of lanes and packets.
-use Rattle.std.proofs.Common.{ℕ, List}
+use Rattle.std.proofs.Common.{List}
 use Rattle.worm_theory.proofs.Credit.{links_fit}
 use Rattle.worm_theory.proofs.Histories.{packets_whole}
 use Rattle.worm_theory.proofs.Marks.{mark_is_last, nothing_more}

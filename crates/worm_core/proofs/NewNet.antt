@@ -1,13 +1,11 @@
 -- A fresh network's lists are framed, and stand for the empty network.
-use Rattle.std.proofs.Common.{◌≡◌, ℕ, zero, suc, ◌+◌, ◌*◌, ◌<◌, ◌≤◌, ◌==◌, cond, nat_lt, Bool, true, false, inl, inr, List, [], ◌∷◌, ◌++◌, length, drop, get_or, sum, replicate, refl, arith, ap, sym, subst, ◌∙◌}
-use Rattle.std.specs.Prelude.{slice_index_or}
-use Rattle.std.proofs.lemmas.List.{get_or-replicate, length-replicate}
-use Rattle.worm_flit.specs.declared.Flit.{Flit}
+use Rattle.std.proofs.Common.{◌≡◌, ℕ, zero, suc, ◌+◌, ◌*◌, ◌<◌, ◌≤◌, ◌==◌, cond, nat_lt, inl, inr, List, [], ◌∷◌, ◌++◌, length, drop, get_or, sum, replicate, refl, arith, ap, sym, subst, ◌∙◌}
+use Rattle.std.proofs.lemmas.List.{length-replicate}
 use Rattle.worm_flit.specs.Channels.{AreChannels}
 use Rattle.worm_mesh.specs.Address.{IsMesh as IsRadices, node_count, has_neighbour}
 use Rattle.worm_mesh.specs.Links.{links_before, link_count}
 use Rattle.worm_records.specs.declared.OutRecord.{OutRecord}
-use Rattle.worm_router.specs.Router.{RouterState, ChannelState, fresh_router, fresh_channel, free_output, width}
+use Rattle.worm_router.specs.Router.{ChannelState, fresh_router, fresh_channel, free_output}
 use Rattle.worm_term.specs.Queue.{QueueState, empty_queue}
 use Rattle.worm_term.specs.Source.{fresh_source, queue_at}
 use Rattle.worm_term.proofs.Order.{fresh_sound}
@@ -25,7 +23,7 @@ use Rattle.worm_theory.proofs.Others.{empty_others}
 use Rattle.worm_theory.proofs.Closed.{empty_closed}
 use Rattle.worm_core.specs.Shape.{net_shape}
 use Rattle.worm_core.specs.declared.node.Node.{Node}
-use Rattle.worm_core.specs.State.{NetState, LinkView, IsNet, IsFramed, IsNodeOf, shape, network_of, node_at, router_at, source_at, link_at, link_of, fresh_node, blank_link, input_of, output_of, queue_of}
+use Rattle.worm_core.specs.State.{NetState, LinkView, IsNet, IsFramed, IsNodeOf, shape, network_of, node_at, router_at, link_at, link_of, fresh_node, blank_link, input_of, output_of, queue_of}
 use Rattle.worm_core.specs.NewNet.{IsFresh, AreFresh, empty_link}
 use Rattle.worm_core.proofs.Kept.{framed_mesh}
 

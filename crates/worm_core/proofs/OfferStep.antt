@@ -1,35 +1,33 @@
 -- The steps Offer and CloseLane.
-use Rattle.std.proofs.Common.{◌≡◌, ℕ, ◌+◌, ◌*◌, ◌<◌, ◌≤◌, ◌==◌, cond, nat_le, nat_lt, ◌&&◌, Bool, true, false, inl, inr, List, [], ◌∷◌, ◌++◌, length, drop, get_or, sum, Ok, Err, Option, Some, None, refl, arith, ap, sym, subst, ◌∙◌}
-use Rattle.std.specs.Prelude.{All, slice_index, Result, unwrap_or, slice_set, OnOk, OnErr, IfErr}
-use Rattle.std.proofs.Math.ListN.{length-set}
+use Rattle.std.proofs.Common.{◌≡◌, ℕ, ◌+◌, ◌*◌, ◌<◌, ◌≤◌, ◌==◌, nat_le, nat_lt, ◌&&◌, Bool, true, false, inl, inr, List, [], ◌∷◌, ◌++◌, length, drop, Ok, Err, Option, Some, None, refl, arith, ap, sym, subst, ◌∙◌}
+use Rattle.std.specs.Prelude.{slice_index, Result, unwrap_or, OnOk, OnErr, IfErr}
 use Rattle.std.proofs.lemmas.List.{drop-append-le}
 use Rattle.worm_flit.specs.declared.Lane.{Lane}
 use Rattle.worm_flit.specs.declared.Flit.{Flit}
 use Rattle.worm_flit.specs.Packets.{PacketState, packet_flits, mark}
 use Rattle.worm_flit.specs.Stamps.{of_lane}
-use Rattle.worm_flit.specs.Channels.{first_channel, owner_of, owns}
+use Rattle.worm_flit.specs.Channels.{first_channel, owns}
 use Rattle.worm_flit.proofs.Owners.{owns-from_owner}
 use Rattle.worm_shape.proofs.Channels.{owned_by}
 use Rattle.worm_term.specs.declared.fault.OfferFault.{OfferFault}
 use Rattle.worm_term.specs.declared.fault.OfferFault.TheVariants.{WrongSource, NoSuchNode, NoSuchClass, ManyChannels, LaneClosed, LaneFull, NoMemory as NoRoom}
 use Rattle.worm_term.specs.Lanes.{lane_of}
-use Rattle.worm_term.specs.Queue.{QueueState, empty_queue, appended}
+use Rattle.worm_term.specs.Queue.{appended}
 use Rattle.worm_term.specs.Source.{SourceState, IsSource, IsOpen, classes, queue_at, lane_at, refusal, next_number as next_of_lane, with_packet, after_offer, after_close}
 use Rattle.worm_term.proofs.Order.{offer_sound, close_sound}
-use Rattle.worm_theory.specs.Shape.{IsMesh, OwnsOne, HasLane}
+use Rattle.worm_theory.specs.Shape.{OwnsOne}
 use Rattle.worm_theory.specs.Network.{Network, put2, put3}
 use Rattle.worm_theory.specs.Steps.{Step, Offer, CloseLane, IsThere, Enabled, Accepts, after, offered, packets_in, has_mark, lane_injected, next_number}
 use Rattle.worm_mesh.specs.Address.{node_count}
 use Rattle.worm_core.specs.Shape.{net_shape}
-use Rattle.worm_core.specs.declared.node.Node.{Node}
 use Rattle.worm_core.specs.declared.step.Moved.{Moved}
 use Rattle.worm_core.specs.declared.step.Moved.TheVariants.{Done}
 use Rattle.worm_core.specs.declared.fault.StepFault.{StepFault}
 use Rattle.worm_core.specs.declared.fault.StepFault.TheVariants.{Refused}
-use Rattle.worm_core.specs.State.{NetState, IsNet, IsFramed, IsNodeOf, IsSameConfig, shape, network_of, node_at, router_at, sink_at, source_at, queue_of, with_source, with_node, input_of, output_of}
+use Rattle.worm_core.specs.State.{NetState, IsNet, IsFramed, IsNodeOf, IsSameConfig, shape, network_of, node_at, router_at, source_at, queue_of, with_source, input_of, output_of}
 use Rattle.worm_core.specs.Answers.{Answers, accepted_of, refusal_of, Grows}
-use Rattle.worm_core.proofs.Bridge.{put2_same, put3_same, node_bridge, itself2, itself3, below_cases}
-use Rattle.worm_core.proofs.Kept.{kept, framed_mesh, node_framed}
+use Rattle.worm_core.proofs.Bridge.{put2_same, put3_same, node_bridge, itself3, below_cases}
+use Rattle.worm_core.proofs.Kept.{kept, node_framed}
 use Rattle.worm_core.proofs.Sources.{counted_packets, queue_grown, within_grown, none_refused, refuses_none, refusal_named}
 
 -- what a source's queue is in the theory

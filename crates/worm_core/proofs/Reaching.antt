@@ -1,16 +1,14 @@
 -- One network is reached from another by steps.
-use Rattle.std.proofs.Common.{◌≡◌, ℕ, List, [], ◌∷◌, ◌++◌, Ok, Err, inl, inr, refl, ap, sym, subst, ◌∙◌}
+use Rattle.std.proofs.Common.{◌≡◌, [], ◌∷◌, ◌++◌, Ok, Err, refl, sym, subst, ◌∙◌}
 use Rattle.std.specs.Prelude.{Result}
 use Rattle.worm_theory.specs.Shape.{Shape}
-use Rattle.worm_theory.specs.Network.{Network}
-use Rattle.worm_theory.specs.Steps.{Step, StepsTo, StepsLead}
+use Rattle.worm_theory.specs.Steps.{Step, StepsLead}
 use Rattle.worm_theory.proofs.Lists.{steps-append}
 use Rattle.worm_core.specs.Shape.{net_shape}
 use Rattle.worm_core.specs.declared.step.Moved.{Moved}
-use Rattle.worm_core.specs.declared.step.Moved.TheVariants.{Done, Idle}
 use Rattle.worm_core.specs.declared.fault.StepFault.{StepFault}
 use Rattle.worm_core.specs.declared.fault.StepFault.TheVariants.{NoSuchPlace, Refused, NoMemory}
-use Rattle.worm_core.specs.State.{NetState, IsSameConfig, shape, network_of}
+use Rattle.worm_core.specs.State.{NetState, shape, network_of}
 use Rattle.worm_core.specs.Answers.{Answers}
 use Rattle.worm_core.specs.Turns.{Reaches}
 use Rattle.worm_core.proofs.RunSteps.{steps_to, config_to}

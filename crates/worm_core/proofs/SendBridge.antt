@@ -15,7 +15,7 @@ use Rattle.worm_theory.specs.Network.{Network, put2, put3}
 use Rattle.worm_theory.specs.Steps.{IsPort, sent_by}
 use Rattle.worm_core.specs.Shape.{net_shape}
 use Rattle.worm_core.specs.State.{NetState, LinkView, IsNet, IsNetPlace, shape, network_of, router_at, with_router, link_at, with_link}
-use Rattle.worm_core.proofs.Bridge.{put2_same, router_bridge, input_of-there, input_of-put, output_of-there, output_of-put}
+use Rattle.worm_core.proofs.Bridge.{put2_same, router_bridge, input_of-put, output_of-put}
 use Rattle.worm_core.proofs.Kept.{router_framed}
 use Rattle.worm_core.proofs.LinkBridge.{link_bridge, out_there, credits_there}
 use Rattle.worm_theory.proofs.Places.{bool_cases}

@@ -10,12 +10,10 @@ use Rattle.worm_route.specs.Route.{port_of, hops_of}
 use Rattle.worm_records.specs.declared.InRecord.{InRecord}
 use Rattle.worm_records.specs.declared.InRecord.TheVariants.{Idle, Waiting, Active}
 use Rattle.worm_records.specs.declared.OutRecord.{OutRecord}
-use Rattle.worm_router.specs.Router.{ChannelState, RouterState, IsPlace, width, terminal, input_at, output_at, with_input, with_output, let_out, passed, credit_of, leaving, leaving_by, after_leaving, after_send}
+use Rattle.worm_router.specs.Router.{ChannelState, RouterState, IsPlace, width, terminal, input_at, output_at, with_input, with_output, let_out, passed, credit_of, leaving, leaving_by, after_leaving}
 use Rattle.worm_term.specs.Source.{queue_at}
-use Rattle.worm_theory.specs.Shape.{IsMesh, Owns}
 use Rattle.worm_theory.specs.Network.{Network, put2, put3}
 use Rattle.worm_theory.specs.Steps.{Send, IsPort, IsThere, IsActiveAt, MaySend, Enabled, after, sent, sent_by}
-use Rattle.worm_theory.specs.Sound.{Passes}
 use Rattle.worm_theory.proofs.Places.{bool_cases}
 use Rattle.worm_theory.proofs.Send.{leading, passing, front_follows}
 use Rattle.worm_core.specs.Shape.{net_shape}
@@ -26,8 +24,8 @@ use Rattle.worm_core.specs.declared.fault.StepFault.{StepFault}
 use Rattle.worm_core.specs.declared.fault.StepFault.TheVariants.{NoSuchPlace, Refused, NoMemory}
 use Rattle.worm_core.specs.State.{NetState, IsNet, IsFramed, IsNetPlace, shape, network_of, node_at, router_at, sink_at, source_at, with_node, with_router, with_link, link_at}
 use Rattle.worm_core.specs.Answers.{Answers, Grows}
-use Rattle.worm_core.specs.Moves.{link_out, delivered_node, after_sending, WayOut, Sends}
-use Rattle.worm_core.proofs.Bridge.{put2_same, node_bridge, itself2, input_of-put, output_of-put, below_cases}
+use Rattle.worm_core.specs.Moves.{link_out, after_sending, WayOut, Sends}
+use Rattle.worm_core.proofs.Bridge.{put2_same, node_bridge, itself2, input_of-put, output_of-put}
 use Rattle.worm_core.proofs.LinkBridge.{link_framed, below_not_same}
 use Rattle.worm_core.proofs.There.{buffer_there, record_there, holder_there, owed_there, spent_there}
 use Rattle.worm_core.proofs.Room.{link_room}

@@ -1,7 +1,6 @@
 -- What a source is after a feed, and after it accepted a packet or a mark.
-use Rattle.std.proofs.Common.{◌≡◌, ◌≢◌, ℕ, zero, suc, ◌+◌, ◌*◌, ◌<◌, ◌≤◌, ◌==◌, cond, Bool, true, false, not, ◌&&◌, nat_lt, nat_le, if◌then◌else◌, inl, inr, List, [], ◌∷◌, ◌++◌, length, drop, get_or, Option, Some, None, refl, arith, ap, sym, subst, ◌∙◌, length-append}
+use Rattle.std.proofs.Common.{◌≡◌, ℕ, zero, suc, ◌<◌, ◌≤◌, ◌==◌, cond, Bool, true, false, not, ◌&&◌, nat_lt, nat_le, if◌then◌else◌, inl, inr, List, [], ◌∷◌, length, Option, Some, None, refl, arith, ap, sym, subst, ◌∙◌, length-append}
 use Rattle.std.specs.Prelude.{All, slice_index, slice_index_or, slice_get, slice_set}
-use Rattle.std.specs.List.{count_by, list_any}
 use Rattle.std.proofs.Math.ListN.{length-set}
 use Rattle.std.proofs.lemmas.List.Folds.{list_any-append}
 use Rattle.std.proofs.lemmas.List.Sums.{sum_by-append}
@@ -19,7 +18,6 @@ use Rattle.worm_theory.specs.Steps.{packets_in, has_mark}
 use Rattle.worm_theory.proofs.Places.{number_cases, bool_cases}
 use Rattle.worm_theory.proofs.Bridge.{get_or-set}
 use Rattle.worm_theory.proofs.Packets.{packet-closes, packet-unmarked}
-use Rattle.worm_core.proofs.Ends.{next_of}
 
 -- Feed
 

@@ -4,11 +4,8 @@ use Rattle.std.specs.Prelude.{All, IsSome, slice_get}
 use Rattle.std.proofs.Math.ListN.{length-set}
 use Rattle.std.proofs.lemmas.List.Elements.{All-head}
 use Rattle.worm_flit.specs.declared.Flit.{Flit}
-use Rattle.worm_mesh.specs.Address.{has_neighbour, neighbour_of, opposite_of, node_count}
+use Rattle.worm_mesh.specs.Address.{neighbour_of, opposite_of, node_count}
 use Rattle.worm_mesh.specs.Links.{links_before}
-use Rattle.worm_mesh.proofs.Digits.{AreLarge-from_radices}
-use Rattle.worm_mesh.proofs.Neighbours.{has_neighbour-from_Joins}
-use Rattle.worm_mesh.proofs.Numbers.{below_count}
 use Rattle.worm_router.specs.Router.{ChannelState, input_at, put_in, after_accept}
 use Rattle.worm_theory.specs.Network.{Network, put2, put3}
 use Rattle.worm_theory.specs.Steps.{Take, IsThere, Enabled, FrontIs, IsLinked, after, taken, taken_from}
@@ -17,8 +14,7 @@ use Rattle.worm_core.specs.Shape.{net_shape}
 use Rattle.worm_core.specs.State.{NetState, LinkView, IsNet, IsFramed, IsNetPlace, shape, network_of, router_at, with_router, link_at}
 use Rattle.worm_core.specs.Answers.{Answers, moved_of}
 use Rattle.worm_core.specs.Moves.{into_from, link_into, front_into, FrontFits, has_room, can_enter, after_take}
-use Rattle.worm_mesh.proofs.Neighbours.{Joins-from, Joins-back}
-use Rattle.worm_core.proofs.Ends.{Feeder, feeder, first_of, none_of}
+use Rattle.worm_core.proofs.Ends.{feeder, first_of, none_of}
 use Rattle.worm_core.proofs.Bridge.{put2_same, put3_same, input_bridge, input_of-there, below_cases}
 use Rattle.worm_core.proofs.LinkBridge.{link_bridge, link_framed, out_there, credits_there}
 use Rattle.worm_core.proofs.Kept.{kept, router_framed}

@@ -1,6 +1,5 @@
 -- What holds of every network: its lanes and packets arrive in order, each flit once, and nothing comes after a close mark
 -- (Dally and Towles, chapters 13 and 16).
-use Rattle.worm_route.specs.Places.{Place}
 use Rattle.worm_theory.specs.Sound.{BuffersFit, LinksFit}
 use Rattle.worm_theory.specs.Cut.{EachOnce}
 use Rattle.worm_theory.specs.Marks.{EndsDelivered, EndsForGood}

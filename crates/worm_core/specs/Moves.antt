@@ -1,13 +1,13 @@
 -- What the moves of a network make of its lists, in the words of routers, terminals and links.
-use Rattle.std.specs.Prelude.{ℕ, ◌+◌, ◌*◌, ◌<◌, ◌≡◌, ◌==◌, Bool, true, false, nat_lt, if◌then◌else◌, List, [], ◌∷◌, ◌++◌, length, drop, slice_get, Option, Some, None, IsSome, Result, Ok, Err}
+use Rattle.std.specs.Prelude.{ℕ, ◌*◌, ◌<◌, ◌≡◌, ◌==◌, Bool, true, false, nat_lt, if◌then◌else◌, List, [], ◌∷◌, ◌++◌, length, drop, slice_get, Option, Some, None, IsSome, Result, Ok, Err}
 use Rattle.worm_flit.specs.declared.Flit.{Flit}
 use Rattle.worm_mesh.specs.Address.{node_count, neighbour_of, opposite_of}
 use Rattle.worm_mesh.specs.Links.{links_before}
-use Rattle.worm_router.specs.Router.{RouterState, IsPlace, terminal, input_at, output_at, after_accept, leaving, after_send, after_gave, after_credit}
+use Rattle.worm_router.specs.Router.{RouterState, IsPlace, terminal, input_at, output_at, after_accept, after_send, after_gave, after_credit}
 use Rattle.worm_router.specs.Allocation.{after_choose}
 use Rattle.worm_term.specs.Sink.{after_take as after_sink}
-use Rattle.worm_term.specs.Source.{front_of, after_fed}
-use Rattle.worm_core.specs.State.{NetState, node_at, router_at, source_at, sink_at, link_at, with_node, with_router, with_link}
+use Rattle.worm_term.specs.Source.{after_fed}
+use Rattle.worm_core.specs.State.{NetState, node_at, router_at, sink_at, link_at, with_node, with_router, with_link}
 use Rattle.worm_core.specs.declared.node.Node.{Node}
 use Rattle.worm_core.specs.declared.step.Moved.{Moved}
 use Rattle.worm_core.specs.declared.step.Moved.TheVariants.{Done, Idle}

@@ -3,10 +3,8 @@ use Rattle.std.specs.Prelude.{ℕ, ◌≡◌, ◌*◌, ◌≤◌, [], List, leng
 use Rattle.worm_flit.specs.Channels.{AreChannels}
 use Rattle.worm_mesh.specs.Address.{IsMesh as IsRadices, node_count}
 use Rattle.worm_mesh.specs.Links.{link_count}
-use Rattle.worm_theory.specs.Steps.{empty}
-use Rattle.worm_core.specs.declared.config.Config.{Config}
 use Rattle.worm_core.specs.declared.node.Node.{Node}
-use Rattle.worm_core.specs.State.{NetState, LinkView, IsSameConfig, fresh_node, node_at, shape, network_of}
+use Rattle.worm_core.specs.State.{NetState, LinkView, fresh_node}
 
 -- the limits of a configuration
 pub record IsConfig (radices channels : List ℕ) (depth names : ℕ) : Type 0 where

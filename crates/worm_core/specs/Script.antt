@@ -1,5 +1,5 @@
 -- The order of a script's entries.
-use Rattle.std.specs.Prelude.{◌≡◌, ℕ, ◌≤◌, ◌+◌, ◌-◌, ◌<◌, List, length, map, slice_index}
+use Rattle.std.specs.Prelude.{ℕ, ◌≤◌, ◌+◌, ◌-◌, ◌<◌, List, length, map, slice_index}
 use Rattle.worm_core.specs.declared.script.Entry.{Entry}
 
 -- the turns of the entries, one after another

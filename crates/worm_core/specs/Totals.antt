@@ -1,5 +1,5 @@
 -- Sums over all sources and sinks.
-use Rattle.std.specs.Prelude.{ℕ, List, length}
+use Rattle.std.specs.Prelude.{ℕ, length}
 use Rattle.worm_mesh.specs.Address.{node_count}
 use Rattle.worm_mesh.specs.Links.{sum_below}
 use Rattle.worm_theory.specs.Steps.{packets_in}

@@ -6,7 +6,7 @@ use Rattle.worm_vcalloc.specs.declared.request.VcRequest.{VcRequest}
 use Rattle.worm_vcalloc.specs.VcRequest.{may_use}
 use Rattle.worm_vcalloc.specs.Arbiter.{ArbiterState, no_arbiter, winner, asked_in_order, after_pick}
 use Rattle.worm_vcalloc.specs.Table.{cell, with_cell}
-use Rattle.worm_vcalloc.specs.VcAlloc.{VcPass, IsChannelMatching, HasWon, is_requester, offered, vc_step, port_pass, vc_pass, with_grant}
+use Rattle.worm_vcalloc.specs.VcAlloc.{VcPass, IsChannelMatching, is_requester, offered, vc_step, port_pass, vc_pass, with_grant}
 use Rattle.worm_vcalloc.proofs.TableLemmas.{with_cell_same, cell-replicate}
 use Rattle.worm_router.specs.Router.{RouterState, terminal, width}
 use Rattle.worm_router.specs.Allocation.{requests, free_channels, channel_pass, written, with_port_grants, with_grants, after_allocate}

@@ -1,13 +1,13 @@
 -- Tables filled for the channels of a set alone, where any other channel has nothing to put there.
-use Rattle.std.proofs.Common.{◌≡◌, ℕ, ◌+◌, ◌<◌, ◌≤◌, ◌&&◌, ◌==◌, Bool, true, false, nat_le, nat_lt, if◌then◌else◌, inl, inr, List, [], ◌∷◌, Option, None, Some, length, replicate, refl, arith, ap, sym, ◌∙◌, subst}
+use Rattle.std.proofs.Common.{◌≡◌, ℕ, ◌<◌, ◌&&◌, ◌==◌, Bool, true, false, nat_le, nat_lt, if◌then◌else◌, inl, inr, List, [], ◌∷◌, Option, None, length, replicate, refl, arith, ap, sym, ◌∙◌, subst}
 use Rattle.std.specs.Option.{option_map}
 use Rattle.std.proofs.lemmas.Bool.{cases_eq}
 use Rattle.worm_records.specs.declared.InRecord.{InRecord}
 use Rattle.worm_records.specs.declared.InRecord.TheVariants.{Idle, Waiting, Active}
 use Rattle.worm_flit.specs.declared.Flit.{Flit}
-use Rattle.worm_vcalloc.specs.ChannelSet.{has, IsPut, IsFirst}
+use Rattle.worm_vcalloc.specs.ChannelSet.{has, IsFirst}
 use Rattle.worm_vcalloc.specs.Table.{cell, with_cell, IsTable}
-use Rattle.worm_vcalloc.proofs.SetLemmas.{has-zero, has-empty}
+use Rattle.worm_vcalloc.proofs.SetLemmas.{has-zero}
 use Rattle.worm_vcalloc.proofs.TableLemmas.{cell-with_cell_same, cell-with_cell_other, IsTable-with_cell, cell-replicate, IsTable-replicate}
 use Rattle.worm_router.specs.Router.{RouterState, ChannelState, IsPlace, terminal, width, input_at, leaving_by}
 use Rattle.worm_router.specs.Busy.{IsSetOf, waits, holds, is_waiting, is_active, is_occupied}

@@ -1,4 +1,4 @@
-use Rattle.std.proofs.Common.{◌≡◌, ℕ, ◌+◌, ◌++◌, ◌∷◌, [], List, length, length-append, ap, sym, subst, ◌∙◌, arith}
+use Rattle.std.proofs.Common.{◌≡◌, ℕ, ◌++◌, ◌∷◌, [], List, length, length-append, ap, sym, subst, ◌∙◌, arith}
 use Rattle.worm_core.specs.NewNet.{AreFresh}
 use Rattle.worm_core.specs.State.{fresh_node}
 use Rattle.worm_core.specs.declared.node.Node.{Node}

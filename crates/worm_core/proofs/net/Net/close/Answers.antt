@@ -2,7 +2,7 @@ use Rattle.std.proofs.Common.{refl, subst}
 use Rattle.worm_theory.specs.Steps.{CloseLane, IsThere}
 use Rattle.worm_core.specs.Shape.{net_shape}
 use Rattle.worm_core.specs.State.{NetState, shape}
-use Rattle.worm_core.specs.Answers.{Answers, accepted_of}
+use Rattle.worm_core.specs.Answers.{Answers}
 use Rattle.worm_core.proofs.OfferStep.{close_answers}
 use Rattle.worm_core.proofs.net.Net.close.Goals as goal
 

@@ -1,4 +1,3 @@
-use Rattle.std.proofs.Common.{sym, subst}
 use Rattle.worm_mesh.specs.Address.{IsMesh as IsRadices}
 use Rattle.worm_core.proofs.NewNet.{fresh_stands, fresh_holds}
 use Rattle.worm_core.proofs.net.Net.new.Goals as goal

@@ -1,4 +1,4 @@
-use Rattle.std.proofs.Common.{◌≡◌, ◌+◌, ◌∙◌, sym, ap, subst}
+use Rattle.std.proofs.Common.{◌+◌, ◌∙◌, sym, ap, subst}
 use Rattle.worm_vcalloc.specs.VcAlloc.{VcPass, IsChannelMatching}
 use Rattle.worm_router.specs.Router.{terminal, width}
 use Rattle.worm_router.specs.Allocation.{requests, free_channels}

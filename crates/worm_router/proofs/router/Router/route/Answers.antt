@@ -1,4 +1,4 @@
-use Rattle.std.proofs.Common.{ap, subst, sym, length, ◌<◌, arith}
+use Rattle.std.proofs.Common.{subst, sym, length, ◌<◌, arith}
 use Rattle.worm_router.specs.Router.{RouterState}
 use Rattle.worm_router.proofs.Kept.{input_set_sound, read_sound, waiting_sound}
 use Rattle.worm_router.proofs.Filed.{filed_in}
