@@ -138,7 +138,8 @@ impl Fabric {
         ensures { OnOk result (held.new.items ≡ held.old.items ++ flat_map (buffer_held self.now lane node port) (channels_of self.now.channels lane.class)) }
     {
         let router = &self.node(node).router;
-        for vc in self.channels_of(lane.class) {
+        let channels = self.channels_of(lane.class);
+        for vc in channels.start..channels.end {
             put_channel(held, lane, router, node, port, vc)?;
         }
         Ok(())
@@ -158,7 +159,8 @@ impl Fabric {
         ensures { OnOk result (held.new.items ≡ held.old.items ++ flat_map (link_held self.now lane node port) (channels_of self.now.channels lane.class)) }
     {
         let link = self.link_from(node, port);
-        for vc in self.channels_of(lane.class) {
+        let channels = self.channels_of(lane.class);
+        for vc in channels.start..channels.end {
             put_line(held, lane, link, node, port, vc)?;
         }
         Ok(())
@@ -177,7 +179,8 @@ impl Fabric {
         };
         self.put_past(held, lane, link.to)?;
         self.put_buffers(held, lane, link.to, link.in_port)?;
-        self.put_lines(held, lane, node, link.out_port)
+        self.put_lines(held, lane, node, link.out_port)?;
+        Ok(())
     }
 
     /// All that is under way of the lane, from the sink back.
