@@ -1,10 +1,10 @@
 -- The places of a lane, walked link by link: those past a node are those past the next one, then its buffer and the link to it.
-use Rattle.std.proofs.Common.{ℕ, ◌≡◌, ◌≢◌, ◌+◌, ◌*◌, ◌<◌, Some, List, [], ◌∷◌, ◌++◌, length, reverse, take, true, arith, refl, ap, sym, ◌∙◌, length-append, append_assoc}
+use Rattle.std.proofs.Common.{ℕ, ◌≡◌, ◌+◌, ◌*◌, ◌<◌, List, [], ◌∷◌, ◌++◌, length, reverse, take, arith, ap, sym, ◌∙◌, length-append, append_assoc}
 use Rattle.std.specs.Prelude.{flat_map}
 use Rattle.std.proofs.Math.Seq.{take-append-add, take-append_seam}
 use Rattle.std.proofs.lemmas.List.{reverse-append, append-nil}
 use Rattle.std.proofs.lemmas.List.Concat.{flat_map-append}
-use Rattle.worm_mesh.specs.Address.{node_count, neighbour_of, opposite_of, Joins}
+use Rattle.worm_mesh.specs.Address.{node_count, opposite_of, Joins}
 use Rattle.worm_mesh.specs.declared.mesh.LinkEnds.{LinkEnds}
 use Rattle.worm_mesh.proofs.Digits.{AreLarge}
 use Rattle.worm_mesh.proofs.Neighbours.{neighbour_of-some}

@@ -1,5 +1,5 @@
 -- What a buffer and a link hold of a lane, in the words of the router and of the list of links that are read.
-use Rattle.std.proofs.Common.{ℕ, ◌≡◌, ◌*◌, ◌<◌, ◌≤◌, List, length, sum, true, arith, ap, sym, ◌∙◌}
+use Rattle.std.proofs.Common.{ℕ, ◌≡◌, ◌*◌, ◌<◌, ◌≤◌, length, sum, true, arith, ap, sym, ◌∙◌}
 use Rattle.worm_flit.specs.declared.Lane.{Lane}
 use Rattle.worm_flit.specs.Stamps.{of_lane, on_channel}
 use Rattle.worm_mesh.specs.Address.{node_count, has_neighbour}

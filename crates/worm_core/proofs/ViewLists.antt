@@ -1,7 +1,7 @@
 -- What is read of a lane, flit by flit and channel by channel: one more adds its own at the end.
-use Rattle.std.proofs.Common.{◌≡◌, ◌≢◌, ℕ, zero, suc, ◌+◌, ◌-◌, ◌<◌, ◌≤◌, ◌==◌, List, [], ◌∷◌, ◌++◌, length, take, sum, map, Option, Some, None, inl, inr, refl, arith, ap, sym, ◌∙◌, add-one, append_assoc}
+use Rattle.std.proofs.Common.{◌≡◌, ◌≢◌, ℕ, zero, suc, ◌+◌, ◌-◌, ◌<◌, ◌≤◌, ◌==◌, List, [], ◌∷◌, ◌++◌, length, take, sum, Option, Some, None, inl, inr, refl, arith, ap, sym, ◌∙◌, add-one, append_assoc}
 use Rattle.std.specs.Prelude.{flat_map, slice_get, slice_index, true, false}
-use Rattle.std.specs.List.{filter, range_with_len}
+use Rattle.std.specs.List.{range_with_len}
 use Rattle.std.proofs.lemmas.Bool.{ne_eqb}
 use Rattle.std.proofs.lemmas.List.{map-append, append-nil, get_or_past}
 use Rattle.std.proofs.lemmas.List.Elements.{filter-append, All-get_or}

@@ -22,17 +22,9 @@ pub enum Place {
     /// In its source, accepted and not yet fed.
     Source,
     /// In an input buffer, named by its node, input port and channel; the injection buffer has the terminal port.
-    Buffer {
-        node: u8,
-        port: u8,
-        vc: u8,
-    },
+    Buffer { node: u8, port: u8, vc: u8 },
     /// On a link, named by the node and the output port that it leaves by, on this channel.
-    Link {
-        node: u8,
-        port: u8,
-        vc: u8,
-    },
+    Link { node: u8, port: u8, vc: u8 },
 }
 
 /// A flit under way, and where it stands.

@@ -1,4 +1,4 @@
-use Rattle.std.proofs.Common.{ℕ, ◌≤◌, ◌*◌, ◌<◌, ◌∷◌, [], length, take, sum, arith, sym, ap, ◌∙◌}
+use Rattle.std.proofs.Common.{◌∷◌, [], take, arith, sym}
 use Rattle.worm_flit.specs.Stamps.{of_lane}
 use Rattle.worm_router.specs.Router.{input_at}
 use Rattle.worm_core.specs.LaneView.{at_place}

@@ -1,4 +1,4 @@
-use Rattle.std.proofs.Common.{ap, sym, refl, ◌∙◌, ◌++◌, [], arith}
+use Rattle.std.proofs.Common.{ap, sym, refl, ◌∙◌, ◌++◌, arith}
 use Rattle.std.specs.Prelude.{flat_map}
 use Rattle.std.proofs.lemmas.List.{append-nil}
 use Rattle.worm_mesh.proofs.Digits.{AreLarge-from_radices}

@@ -1,4 +1,4 @@
-use Rattle.std.proofs.Common.{ap, sym, refl, ◌∙◌, ◌++◌, ◌∷◌, [], drop}
+use Rattle.std.proofs.Common.{ap, sym, ◌∙◌, ◌++◌, ◌∷◌, [], drop}
 use Rattle.std.specs.Prelude.{flat_map}
 use Rattle.worm_flit.specs.Stamps.{of_lane}
 use Rattle.worm_mesh.proofs.Digits.{AreLarge-from_radices}
