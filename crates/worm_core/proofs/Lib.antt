@@ -23,3 +23,4 @@ pub mod ViewLists
 pub mod LanePlaces
 pub mod ReadPlaces
 pub mod ViewCuts
+pub mod Marks
