@@ -18,4 +18,5 @@ pub mod RunSteps
 pub mod Headline
 pub mod NewNet
 pub mod Reaching
+pub mod Pointers
 pub mod Allocating

@@ -1,7 +1,7 @@
 ghost use Rattle.std.specs.Prelude.{◌≡◌, ◌≤◌, ◌<◌, ◌*◌, ◌↔◌, ℕ, Result, IsTrue, IfNone, IfOk, sum, length, slice_get, IfSome, MatchOption, Err};
 ghost use Rattle.worm_theory.specs.Steps.{Step as Event};
 ghost use Rattle.worm_core.specs.Runs.{IsRun, event_of};
-ghost use Rattle.worm_core.specs.Answers.{Answers, accepted_of, moved_of};
+ghost use Rattle.worm_core.specs.Answers.{Answers, ArbitersStand, accepted_of, moved_of};
 ghost use Rattle.worm_theory.specs.Steps.{empty};
 ghost use Rattle.worm_core.specs.NewNet.{IsConfig, IsFresh};
 ghost use Rattle.worm_core.specs.Headline.{DeliversInOrder, NothingFollowsMarks};
@@ -279,7 +279,10 @@ impl Net {
 
     /// One step.
     pub fn step(&mut self, step: &Step) -> Result<Moved, StepFault>
-        ensures { Answers self.old (event_of step.now) result self.new }
+        ensures answers { Answers self.old (event_of step.now) result self.new }
+
+        // Arbiters are for turns alone.
+        ensures pointers { ArbitersStand self.old self.new }
     {
         match step {
             Step::Offer { node, packet } => self.offer(*node, packet),
