@@ -18,6 +18,10 @@ pub mod RunSteps
 pub mod Headline
 pub mod NewNet
 pub mod Reaching
+pub mod Pointers
+pub mod Passages
+pub mod DueEntries
+pub mod Turning
 pub mod Allocating
 pub mod ViewLists
 pub mod LanePlaces
