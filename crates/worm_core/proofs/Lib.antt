@@ -22,4 +22,5 @@ pub mod Pointers
 pub mod Passages
 pub mod DueEntries
 pub mod Turning
+pub mod Determined
 pub mod Allocating
