@@ -18,4 +18,9 @@ pub mod RunSteps
 pub mod Headline
 pub mod NewNet
 pub mod Reaching
+pub mod Pointers
+pub mod Passages
+pub mod DueEntries
+pub mod Turning
+pub mod Determined
 pub mod Allocating

@@ -31,4 +31,5 @@ pub use node::Node;
 pub use script::{Act, Entry, Script, ScriptFault};
 pub use step::{Moved, Step};
 pub use totals::Totals;
+pub use turn::turns_are_determined;
 pub use worm_term::OfferFault;
