@@ -24,3 +24,8 @@ pub mod DueEntries
 pub mod Turning
 pub mod Determined
 pub mod Allocating
+pub mod ViewLists
+pub mod LanePlaces
+pub mod ReadPlaces
+pub mod ViewCuts
+pub mod Marks

@@ -8,3 +8,5 @@ pub mod Headline
 pub mod NewNet
 pub mod Turns
 pub mod Totals
+pub mod LaneView
+pub mod LaneSet

@@ -9,6 +9,7 @@
 //! Nothing is said of time, nor that anything is ever delivered.
 #![tactic(auto)]
 
+mod busy;
 mod config;
 mod fabric;
 mod fault;
@@ -22,7 +23,9 @@ mod step;
 mod tests;
 mod totals;
 mod turn;
+mod view;
 
+pub use busy::LaneSet;
 pub use config::{Config, Name};
 pub use fault::{NetFault, StepFault};
 pub use link::LinkState;
@@ -32,4 +35,5 @@ pub use script::{Act, Entry, Script, ScriptFault};
 pub use step::{Moved, Step};
 pub use totals::Totals;
 pub use turn::turns_are_determined;
-pub use worm_term::OfferFault;
+pub use view::{Held, LaneView, Place};
+pub use worm_term::{NoMemory, OfferFault};
