@@ -1,6 +1,6 @@
 //! The text of the traffic, line by line.
 
-ghost use Rattle.std.specs.Prelude.{◌≡◌, ◌≤◌, ◌<◌, ◌-◌, ◌^◌, [], ◌∷◌, ◌==◌, length, MatchOption, position, Some, None, OnOk, IfOk, Ok, List, ◌||◌, All, map, false};
+ghost use Rattle.std.specs.Prelude.{◌≡◌, ◌≤◌, ◌<◌, ◌-◌, ◌^◌, [], ◌∷◌, ◌==◌, length, MatchOption, position, Some, None, OnOk, IfOk, IfErr, Ok, ◌⊎◌, List, ◌||◌, All, map, false};
 ghost use Rattle.worm_text.specs.TrafficText.{AreEntries, traffic_text};
 ghost use Rattle.worm_text.specs.ScriptView.{said_of};
 ghost use Rattle.std.specs.Option.{option_map};
@@ -9,7 +9,8 @@ ghost use Rattle.std.specs.BTreeSet.{contains};
 ghost use Rattle.worm_text.specs.Reading.{Reads, Gives};
 ghost use Rattle.worm_text.specs.Network.{view, nodes_of, names_of, Keeps};
 ghost use Rattle.worm_text.specs.declared.format.Format.{Format};
-ghost use Rattle.worm_text.specs.Traffic.{Said, class_at, turn_at, lane_at, words_at, send_at, close_at, entry_at, is_closed, entry_view, said, same_lane, lane_cmp, closes, read_entries, traffic_of, AnswersOrFull};
+ghost use Rattle.worm_text.specs.Traffic.{Said, class_at, turn_at, lane_at, words_at, send_at, close_at, entry_at, is_closed, entry_view, said, same_lane, lane_cmp, closes, read_entries, traffic_of};
+ghost use Rattle.worm_text.specs.TrafficFaults.{AnswersOrFull, RanOut, IsEntryLine, IsEntryPiece, IsTrafficFaultLine};
 ghost use Rattle.worm_text.specs.Lines.{cut, space, newline};
 
 use crate::fault::{TextFault, Why};
@@ -235,7 +236,7 @@ fn read_entries(
     requires counted { nodes ≡ nodes_of config.now.radices.items }
     requires some { 1 ≤ nodes }
     requires few { nodes ≤ 256 }
-    ensures { AnswersOrFull said_of result (read_entries (view config.now) [] 2 (cut newline rest.now)) }
+    ensures { AnswersOrFull said_of (IsEntryPiece (view config.now) (cut newline rest.now)) result (read_entries (view config.now) [] 2 (cut newline rest.now)) }
 {
     let mut script = Script::empty(alloc);
     let mut closed = ClosedLanes::new(alloc);
@@ -276,7 +277,7 @@ fn read_entries(
 
 fn read_script(alloc: Global, bytes: &[u8], config: &Config) -> Result<Script, TextFault>
     requires { (f : Format) × Keeps f (view config.now) }
-    ensures { AnswersOrFull said_of result (traffic_of (view config.now) bytes.now) }
+    ensures { AnswersOrFull said_of (IsEntryLine (view config.now) bytes.now) result (traffic_of (view config.now) bytes.now) }
 {
     let nodes = node_count(config.radices.as_slice());
     let Some((header, rest)) = cut_first(bytes, b'\n') else {
@@ -300,9 +301,12 @@ pub fn read_traffic(alloc: Global, bytes: &[u8], config: &Config) -> Result<Scri
     // What is read is the text of what is answered.
     ensures found { IfOk result (λ script. AreEntries (view config.now) [] (said_of script) × (bytes.now ≡ traffic_text (view config.now) (said_of script))) }
     // Each such text is read, unless memory runs out.
-    ensures only { (entries : List Said) → AreEntries (view config.now) [] entries → bytes.now ≡ traffic_text (view config.now) entries → AnswersOrFull said_of result (Ok entries) }
+    ensures only { (entries : List Said) → AreEntries (view config.now) [] entries → bytes.now ≡ traffic_text (view config.now) entries → AnswersOrFull said_of (IsEntryLine (view config.now) bytes.now) result (Ok entries) }
+    // The line of a fault is one more than the longest run of finished lines with which an accepted text begins; memory
+    // runs out at the line of an entry.
+    ensures line { IfErr result (λ fault. RanOut (IsEntryLine (view config.now) bytes.now) fault ⊎ IsTrafficFaultLine (view config.now) bytes.now fault.line) }
     // Which fault it is.
-    ensures exact { AnswersOrFull said_of result (traffic_of (view config.now) bytes.now) }
+    ensures exact { AnswersOrFull said_of (IsEntryLine (view config.now) bytes.now) result (traffic_of (view config.now) bytes.now) }
 {
     read_script(alloc, bytes, config)
 }
