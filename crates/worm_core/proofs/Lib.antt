@@ -19,3 +19,7 @@ pub mod Headline
 pub mod NewNet
 pub mod Reaching
 pub mod Allocating
+pub mod ViewLists
+pub mod LanePlaces
+pub mod ReadPlaces
+pub mod ViewCuts

@@ -8,3 +8,4 @@ pub mod Headline
 pub mod NewNet
 pub mod Turns
 pub mod Totals
+pub mod LaneView

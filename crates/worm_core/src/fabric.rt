@@ -9,6 +9,8 @@ ghost use Rattle.worm_term.specs.Source.{after_close, after_offer, classes, fron
 ghost use Rattle.worm_core.specs.State.{IsNetPlace, link_at, node_at, router_at, sink_at, source_at, with_link, with_node, with_router, with_source};
 ghost use Rattle.worm_core.specs.Moves.{CreditFits, FrontFits, Sends, WayOut, after_getting, after_giving, after_take, can_enter, can_get, can_give, chosen_router, delivered_node, fed_node, front_credit, front_into, has_room, link_into, link_out};
 
+mod readers;
+
 use crate::fresh::{make_links, make_nodes};
 use crate::{LinkState, Moved, Node, StepFault};
 use std::alloc::{AllocError, Global};

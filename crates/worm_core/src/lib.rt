@@ -22,6 +22,7 @@ mod step;
 mod tests;
 mod totals;
 mod turn;
+mod view;
 
 pub use config::{Config, Name};
 pub use fault::{NetFault, StepFault};
@@ -31,4 +32,5 @@ pub use node::Node;
 pub use script::{Act, Entry, Script, ScriptFault};
 pub use step::{Moved, Step};
 pub use totals::Totals;
-pub use worm_term::OfferFault;
+pub use view::{Held, LaneView, Place};
+pub use worm_term::{NoMemory, OfferFault};

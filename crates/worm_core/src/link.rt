@@ -1,5 +1,5 @@
 ghost use Rattle.worm_core.specs.NewNet.{empty_link};
-ghost use Rattle.std.specs.Prelude.{◌≡◌, [], ◌∷◌, ◌++◌, ◌<◌, length, drop, slice_get, IfOk};
+ghost use Rattle.std.specs.Prelude.{◌≡◌, [], ◌∷◌, ◌++◌, ◌<◌, length, drop, slice_get, Some, IfOk};
 
 use std::alloc::{AllocError, Global};
 use std::marker::Model;
@@ -44,6 +44,21 @@ impl LinkState {
         ensures { result ≡ slice_get self.now.flits 0 }
     {
         self.flits.first().copied()
+    }
+
+    /// How many flits are on it.
+    pub fn count(&self) -> usize
+        ensures { result ≡ length self.now.flits }
+    {
+        self.flits.len()
+    }
+
+    /// The flit at place `i`, counted from the front.
+    pub fn flit(&self, i: usize) -> Flit
+        requires { i < length self.now.flits }
+        ensures { slice_get self.now.flits i ≡ Some result }
+    {
+        self.flits[i]
     }
 
     /// Drops the front flit, if there is one.

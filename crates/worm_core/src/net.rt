@@ -94,6 +94,14 @@ impl Net {
         let _fabric = &self.fabric;
     }
 
+    /// The lists of the network, and what holds of them.
+    pub(crate) fn fabric(&self) -> &Fabric
+        ensures same { result.now ≡ self.now }
+        ensures sound { IsNet self.now }
+    {
+        &self.fabric
+    }
+
     /// The number of nodes.
     pub fn nodes(&self) -> u16
         ensures value { result ≡ node_count self.now.mesh }

@@ -1,5 +1,7 @@
 ghost use Rattle.std.specs.Prelude.{◌≡◌, ◌<◌, ◌≤◌, length};
 
+mod view;
+
 use crate::{
     Act, Config, Entry, Moved, Name, Net, NetFault, OfferFault, RunSoFar, Script, ScriptFault,
     Step, StepFault,

@@ -1,0 +1,215 @@
+//! What is read of a lane: which flits of it are under way, and where. A route is walked from the source to the sink by a
+//! recursion that adds the nearer places first.
+
+ghost use Rattle.std.specs.Prelude.{true, ◌≡◌, ◌*◌, ◌<◌, ◌≤◌, [], ◌∷◌, ◌++◌, OnOk, IfOk, length, flat_map, drop};
+ghost use Rattle.worm_flit.specs.Stamps.{is_of_lane, of_lane, on_channel};
+ghost use Rattle.worm_mesh.specs.Address.{node_count, has_neighbour};
+ghost use Rattle.worm_router.specs.Router.{IsPlace, input_at};
+ghost use Rattle.worm_term.specs.Source.{classes, queue_at};
+ghost use Rattle.worm_core.specs.State.{IsFramed, sink_at};
+ghost use Rattle.worm_core.specs.LaneView.{IsLaneCut, ArePacketsCut, at_place, buffer_held, link_held, channels_of, places_past, held_at, delivered_view, underway_view};
+
+use crate::fabric::Fabric;
+use crate::{LinkState, Net, NoMemory};
+use std::alloc::{AllocError, Global};
+use worm_flit::{Flit, Lane};
+use worm_router::Router;
+use worm_term::Source;
+
+/// Where a flit that is under way stands.
+#[derive(Clone, Copy, Debug, PartialEq, Eq)]
+pub enum Place {
+    /// In its source, accepted and not yet fed.
+    Source,
+    /// In an input buffer, named by its node, input port and channel; the injection buffer has the terminal port.
+    Buffer { node: u8, port: u8, vc: u8 },
+    /// On a link, named by the node and the output port that it leaves by, on this channel.
+    Link { node: u8, port: u8, vc: u8 },
+}
+
+/// A flit under way, and where it stands.
+#[derive(Clone, Copy, Debug, PartialEq, Eq)]
+pub struct Held {
+    /// The flit, with the channel number that it has there.
+    pub flit: Flit,
+    /// Its place.
+    pub place: Place,
+}
+
+/// What is read of a lane.
+#[derive(Debug, Drop)]
+pub struct LaneView {
+    /// How many of its flits were delivered.
+    pub delivered: u64,
+    /// Its flits under way, the nearest the sink first; in a place by rising channel, front first in each.
+    pub underway: Vec<Held>,
+}
+
+/// Whether the flit is the lane's.
+fn is_of(flit: &Flit, lane: Lane) -> bool
+    ensures { result ≡ is_of_lane lane flit.now }
+{
+    flit.lane.src == lane.src && flit.lane.dst == lane.dst && flit.lane.class == lane.class
+}
+
+/// Adds the flit, if it is the lane's.
+fn put(held: &mut Vec<Held>, lane: Lane, flit: Flit, place: Place) -> Result<(), AllocError>
+    ensures { OnOk result (held.new.items ≡ held.old.items ++ at_place place (of_lane lane (flit ∷ []))) }
+{
+    if is_of(&flit, lane) {
+        held.push(Held { flit, place })?;
+    }
+    Ok(())
+}
+
+/// Adds what the source has yet to feed of the lane.
+fn put_unfed(held: &mut Vec<Held>, lane: Lane, source: &Source) -> Result<(), AllocError>
+    requires { lane.class < classes source.now }
+    ensures { OnOk result (held.new.items ≡ held.old.items ++ at_place Place.Source (of_lane lane (drop (queue_at source.now lane.class).fed (queue_at source.now lane.class).injected))) }
+{
+    let fed = source.fed_count(lane.class);
+    for flit in &source.injected(lane.class)[fed..] {
+        put(held, lane, *flit, Place::Source)?;
+    }
+    Ok(())
+}
+
+/// Adds what an input channel of the node's router holds of the lane.
+fn put_channel(
+    held: &mut Vec<Held>,
+    lane: Lane,
+    router: &Router,
+    node: u8,
+    port: u8,
+    vc: u8,
+) -> Result<(), AllocError>
+    requires { IsPlace router.now port vc }
+    ensures { OnOk result (held.new.items ≡ held.old.items ++ at_place (Place.Buffer node port vc) (of_lane lane (input_at router.now port vc).buffer)) }
+{
+    let mut i = 0;
+    while let Some(flit) = router.buffer_at(port, vc, i) {
+        put(held, lane, flit, Place::Buffer { node, port, vc })?;
+        i += 1;
+    }
+    Ok(())
+}
+
+/// Adds what a channel of the link out of the node's port holds of the lane.
+fn put_line(
+    held: &mut Vec<Held>,
+    lane: Lane,
+    link: &LinkState,
+    node: u8,
+    port: u8,
+    vc: u8,
+) -> Result<(), AllocError>
+    ensures { OnOk result (held.new.items ≡ held.old.items ++ at_place (Place.Link node port vc) (of_lane lane (on_channel vc link.now.flits))) }
+{
+    for i in 0..link.count() {
+        let flit = link.flit(i);
+        if flit.vc == vc {
+            put(held, lane, flit, Place::Link { node, port, vc })?;
+        }
+    }
+    Ok(())
+}
+
+impl Fabric {
+    /// Adds what the buffers of an input port hold of the lane.
+    fn put_buffers(
+        &self,
+        held: &mut Vec<Held>,
+        lane: Lane,
+        node: u8,
+        port: u8,
+    ) -> Result<(), AllocError>
+        requires framed { IsFramed self.now }
+        requires node { node < node_count self.now.mesh }
+        requires port { port ≤ 2 * length self.now.mesh }
+        requires class { lane.class < length self.now.channels }
+        ensures { OnOk result (held.new.items ≡ held.old.items ++ flat_map (buffer_held self.now lane node port) (channels_of self.now.channels lane.class)) }
+    {
+        let router = &self.node(node).router;
+        let channels = self.channels_of(lane.class);
+        for vc in channels.start..channels.end {
+            put_channel(held, lane, router, node, port, vc)?;
+        }
+        Ok(())
+    }
+
+    /// Adds what the link out of a port holds of the lane.
+    fn put_lines(
+        &self,
+        held: &mut Vec<Held>,
+        lane: Lane,
+        node: u8,
+        port: u8,
+    ) -> Result<(), AllocError>
+        requires framed { IsFramed self.now }
+        requires linked { has_neighbour self.now.mesh node port ≡ true }
+        requires class { lane.class < length self.now.channels }
+        ensures { OnOk result (held.new.items ≡ held.old.items ++ flat_map (link_held self.now lane node port) (channels_of self.now.channels lane.class)) }
+    {
+        let link = self.link_from(node, port);
+        let channels = self.channels_of(lane.class);
+        for vc in channels.start..channels.end {
+            put_line(held, lane, link, node, port, vc)?;
+        }
+        Ok(())
+    }
+
+    /// Adds what is under way of the lane past the node, from the sink back.
+    fn put_past(&self, held: &mut Vec<Held>, lane: Lane, node: u8) -> Result<(), AllocError>
+        requires framed { IsFramed self.now }
+        requires node { node < node_count self.now.mesh }
+        requires dst { lane.dst < node_count self.now.mesh }
+        requires class { lane.class < length self.now.channels }
+        ensures { OnOk result (held.new.items ≡ held.old.items ++ flat_map (held_at self.now lane) (places_past self.now.mesh node lane.dst)) }
+    {
+        let Some(link) = self.next_link(node, lane.dst) else {
+            return Ok(());
+        };
+        self.put_past(held, lane, link.to)?;
+        self.put_buffers(held, lane, link.to, link.in_port)?;
+        self.put_lines(held, lane, node, link.out_port)?;
+        Ok(())
+    }
+
+    /// All that is under way of the lane, from the sink back.
+    fn underway(&self, alloc: Global, lane: Lane) -> Result<Vec<Held>, AllocError>
+        requires framed { IsFramed self.now }
+        requires src { lane.src < node_count self.now.mesh }
+        requires dst { lane.dst < node_count self.now.mesh }
+        requires class { lane.class < length self.now.channels }
+        ensures { IfOk result (λ held. held.items ≡ underway_view self.now lane) }
+    {
+        let mut held = Vec::new(alloc);
+        self.put_past(&mut held, lane, lane.src)?;
+        self.put_buffers(&mut held, lane, lane.src, self.terminal())?;
+        put_unfed(&mut held, lane, &self.node(lane.src).source)?;
+        Ok(held)
+    }
+}
+
+impl Net {
+    /// The lane's flits: how many were delivered, and those under way with their places, from the sink back (Dally and
+    /// Towles, chapters 8 and 13). Condition: [`Net::has_lane`]. `NoMemory` where there is none for the list.
+    pub fn lane_view(&self, alloc: Global, lane: Lane) -> Result<LaneView, NoMemory>
+        requires src { lane.src < node_count self.now.mesh }
+        requires dst { lane.dst < node_count self.now.mesh }
+        requires class { lane.class < length self.now.channels }
+        ensures delivered { IfOk result (λ view. view.delivered ≡ delivered_view self.now lane) }
+        ensures underway { IfOk result (λ view. view.underway.items ≡ underway_view self.now lane) }
+        ensures lane_cut { IfOk result (λ view. IsLaneCut self.now lane view.underway.items) }
+        ensures packets_cut { IfOk result (λ view. ArePacketsCut self.now lane view.underway.items) }
+    {
+        let fabric = self.fabric();
+        let underway = fabric.underway(alloc, lane)?;
+        let delivered = self.delivered(lane.dst);
+        let count = delivered.iter().filter(|flit| is_of(flit, lane)).count();
+        Ok(LaneView {
+            delivered: count as u64,
+            underway,
+        })
+    }
+}
