@@ -16,7 +16,7 @@ use Rattle.worm_text.specs.Traffic.{Said, traffic_of}
 use Rattle.worm_text.specs.TrafficText.{AreEntries, traffic_text, IsTrafficFaultLine}
 use Rattle.worm_text.specs.ScriptView.{said_of}
 use Rattle.worm_report.specs.declared.summary.Summary.{Summary}
-use Rattle.worm_report.specs.NetSeen.{seen}
+use Rattle.worm_report.specs.Seen.{seen}
 use Rattle.worm_report.specs.Report.{report}
 use Rattle.wormrun.specs.declared.fault.ProgramFault.{ProgramFault}
 use Rattle.wormrun.specs.declared.fault.ProgramFault.TheVariants as f

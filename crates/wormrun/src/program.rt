@@ -1,10 +1,10 @@
 //! The program over readers and a writer.
 
-ghost use Rattle.std.specs.Prelude.{◌≡◌, ◌≤◌, ◌-◌, ◌×◌, length, IfOk, IfErr, OnOk};
+ghost use Rattle.std.specs.Prelude.{◌≡◌, ◌≤◌, ◌-◌, length, IfOk, IfErr, OnOk};
 ghost use Rattle.std.specs.Io.KnownBytes.{Keeps};
 ghost use Rattle.worm_core.specs.NewNet.{IsFresh};
 ghost use Rattle.worm_core.specs.Totals.{accepted_total};
-ghost use Rattle.worm_report.specs.NetSeen.{seen};
+ghost use Rattle.worm_report.specs.Seen.{seen};
 ghost use Rattle.worm_report.specs.Report.{report};
 ghost use Rattle.worm_text.specs.Network.{view, Keeps as KeepsRules};
 ghost use Rattle.worm_text.specs.declared.format.Format.{Format};
