@@ -101,7 +101,7 @@ arbiters_moved s x a b net there =
         others = subst (λ (m : Network). OthersIdle (shape s) m) back net.others;
         closed = subst (λ (m : Network). OnesClosed (shape s) m) back net.closed;
       },
-      record { steps = []; led = same; config = record { mesh = refl; channels = refl; depth = refl } },
+      record { steps = []; led = same; config = record { mesh = refl; channels = refl; depth = refl; names = refl } },
     )
 
 -- a port by which a route enters a node is there

@@ -121,7 +121,7 @@ give_at s x p v y net place there e true can same =
     let step = give_done s x p v y net place e can in
     let new = after_giving s x p v (links_before s.mesh y (opposite_of p)) in (
       kept s new.nodes new.links (GiveCredit x p v) net there step.0 step.2 step.1,
-      record { there = there; enabled = step.0; after_it = step.1; config = record { mesh = refl; channels = refl; depth = refl }; exact = same },
+      record { there = there; enabled = step.0; after_it = step.1; config = record { mesh = refl; channels = refl; depth = refl; names = refl }; exact = same },
     )
 give_at s x p v y net place there e false can same = (net, (there, give_idle s x p v place can, refl, refl))
 

@@ -63,9 +63,9 @@ pushed {A} f (x ∷ xs) all (suc i) = pushed (λ (j : ℕ). f (suc j)) xs (λ j.
 pub fresh_push : (mesh channels : List ℕ) (depth : ℕ) (nodes : List Node) → AreFresh mesh channels depth nodes → AreFresh mesh channels depth (nodes ++ fresh_node mesh channels depth (length nodes) ∷ [])
 fresh_push mesh channels depth nodes all = pushed (fresh_node mesh channels depth) nodes all
 
-module _ (mesh channels : List ℕ) (depth : ℕ) (nodes : List Node) (links : List LinkView) (all : AreFresh mesh channels depth nodes) (no_links : links ≡ replicate (link_count mesh) (empty_link (sum channels * depth))) where
+module _ (mesh channels : List ℕ) (depth : ℕ) (names : List (List ℕ)) (nodes : List Node) (links : List LinkView) (all : AreFresh mesh channels depth nodes) (no_links : links ≡ replicate (link_count mesh) (empty_link (sum channels * depth))) where
   abbrev s : NetState
-  s = record { mesh = mesh; channels = channels; depth = depth; nodes = nodes; links = links }
+  s = record { mesh = mesh; channels = channels; depth = depth; names = names; nodes = nodes; links = links }
 
   ins : (x p v : ℕ) → input_of (router_at s x) p v ≡ fresh_channel depth
   ins x p v = ap (λ (n : Node). input_of n.router p v) (all x) ∙ input_fresh mesh x channels depth p v
@@ -154,7 +154,7 @@ module _ (mesh channels : List ℕ) (depth : ℕ) (nodes : List Node) (links : L
         }
 
 -- the same of any network that is fresh
-module _ (mesh channels : List ℕ) (depth : ℕ) (t : NetState) (fresh : IsFresh mesh channels depth t) where
+module _ (mesh channels : List ℕ) (depth : ℕ) (names : List (List ℕ)) (t : NetState) (fresh : IsFresh mesh channels depth names t) where
   nodes_of : AreFresh t.mesh t.channels t.depth t.nodes
   nodes_of = rw (fresh.same_mesh, fresh.same_channels, fresh.same_depth) fresh.nodes
 
@@ -162,11 +162,11 @@ module _ (mesh channels : List ℕ) (depth : ℕ) (t : NetState) (fresh : IsFres
   links_of = fresh.links ∙ (λ i. replicate (link_count (sym fresh.same_mesh i)) (empty_link (sum (sym fresh.same_channels i) * sym fresh.same_depth i)))
 
   pub fresh_stands : network_of t ≡ empty (shape t)
-  fresh_stands = stands_for t.mesh t.channels t.depth t.nodes t.links nodes_of links_of
+  fresh_stands = stands_for t.mesh t.channels t.depth t.names t.nodes t.links nodes_of links_of
 
   pub fresh_holds : IsRadices mesh → AreChannels channels → IsNet t
   fresh_holds radices classes =
       let own_radices : IsRadices t.mesh = rw fresh.same_mesh radices in
       let own_classes : AreChannels t.channels = rw fresh.same_channels classes in
       let count : length t.nodes ≡ node_count t.mesh = rw fresh.same_mesh fresh.all_nodes in
-      fresh_net t.mesh t.channels t.depth t.nodes t.links nodes_of links_of own_radices own_classes count
+      fresh_net t.mesh t.channels t.depth t.names t.nodes t.links nodes_of links_of own_radices own_classes count

@@ -14,7 +14,7 @@ use Rattle.worm_core.specs.Turns.{Reaches}
 use Rattle.worm_core.proofs.RunSteps.{steps_to, config_to}
 
 pub reached : (s : NetState) → Reaches s s
-reached s = record { steps = []; led = refl; config = record { mesh = refl; channels = refl; depth = refl } }
+reached s = record { steps = []; led = refl; config = record { mesh = refl; channels = refl; depth = refl; names = refl } }
 
 pub joined : (old mid new : NetState) → Reaches old mid → Reaches mid new → Reaches old new
 joined old mid new first then =
@@ -23,7 +23,7 @@ joined old mid new first then =
       steps = first.steps ++ then.steps;
       led = steps-append (shape old) first.steps then.steps (network_of old) (network_of mid) (network_of new) first.led
           (subst (λ (s : Shape). StepsLead s (network_of mid) then.steps (network_of new)) same_shape then.led);
-      config = record { mesh = then.config.mesh ∙ first.config.mesh; channels = then.config.channels ∙ first.config.channels; depth = then.config.depth ∙ first.config.depth };
+      config = record { mesh = then.config.mesh ∙ first.config.mesh; channels = then.config.channels ∙ first.config.channels; depth = then.config.depth ∙ first.config.depth; names = then.config.names ∙ first.config.names };
     }
 
 -- whatever a step was answered

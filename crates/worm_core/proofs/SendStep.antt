@@ -275,7 +275,7 @@ module _ (s : NetState) (x p v o c : ℕ) (f : Flit) (rest : List Flit) (net : I
       let r = after_leaving (router_at s x) p v leaves in
       let framed = node_framed s x _ net.framed place.node_in (node_of s.mesh s.channels s.depth x (node_at s x) r.inputs r.outputs ((sink_at s x).delivered ++ with_channel f c ∷ []) (net.framed.each_node x place.node_in) (rw length-set refl) (rw length-set refl)) in (
         kept s at_home.nodes s.links (Send x p v) net there enabled framed step,
-        record { there = there; enabled = enabled; after_it = step; config = record { mesh = refl; channels = refl; depth = refl } },
+        record { there = there; enabled = enabled; after_it = step; config = record { mesh = refl; channels = refl; depth = refl; names = refl } },
       )
 
   made_over : IsThere (shape s) (Send x p v) → may_leave s x p v o c ≡ true → (y : ℕ) → neighbour_of s.mesh x o ≡ Some y → Made on_link
@@ -291,7 +291,7 @@ module _ (s : NetState) (x p v o c : ℕ) (f : Flit) (rest : List Flit) (net : I
       let mid_framed = router_framed s x r.inputs r.outputs net.framed place.node_in (rw length-set refl) (rw length-set refl) in
       let framed = link_framed mid (link_out s x o) (record (link_at s (link_out s x o)) { flits = (link_at s (link_out s x o)).flits ++ with_channel f c ∷ [] }) mid_framed lead.bound refl in (
         kept s on_link.nodes on_link.links (Send x p v) net there enabled framed step,
-        record { there = there; enabled = enabled; after_it = step; config = record { mesh = refl; channels = refl; depth = refl } },
+        record { there = there; enabled = enabled; after_it = step; config = record { mesh = refl; channels = refl; depth = refl; names = refl } },
       )
 
   -- at the terminal or not

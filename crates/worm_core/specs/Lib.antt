@@ -10,3 +10,4 @@ pub mod Turns
 pub mod Totals
 pub mod LaneView
 pub mod LaneSet
+pub mod Parts

@@ -20,10 +20,11 @@ empty_link room = record { flits = []; credits = []; room = room }
 abbrev pub AreFresh : List ℕ → List ℕ → ℕ → List Node → Type 0
 AreFresh mesh channels depth nodes = (x : ℕ) → slice_index_or nodes x (fresh_node mesh channels depth x) ≡ fresh_node mesh channels depth x
 
-pub record IsFresh (mesh channels : List ℕ) (depth : ℕ) (s : NetState) : Type 0 where
+pub record IsFresh (mesh channels : List ℕ) (depth : ℕ) (names : List (List ℕ)) (s : NetState) : Type 0 where
   pub same_mesh : s.mesh ≡ mesh
   pub same_channels : s.channels ≡ channels
   pub same_depth : s.depth ≡ depth
+  pub same_names : s.names ≡ names
   pub all_nodes : length s.nodes ≡ node_count mesh
   pub nodes : AreFresh mesh channels depth s.nodes
   pub links : s.links ≡ replicate (link_count mesh) (empty_link (sum channels * depth))

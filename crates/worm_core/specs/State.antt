@@ -1,5 +1,6 @@
 -- What a contract sees of a network, and the functions of places that it stands for.
-use Rattle.std.specs.Prelude.{ℕ, ◌*◌, ◌<◌, ◌≤◌, ◌≡◌, ◌==◌, cond, nat_lt, List, [], length, drop, sum, slice_index_or, slice_set}
+use Rattle.std.specs.Prelude.{ℕ, ◌*◌, ◌<◌, ◌≤◌, ◌≡◌, ◌==◌, cond, nat_lt, List, [], length, map, drop, sum, slice_index_or, slice_set}
+use Rattle.arrayvec.specs.ArrayString.{ArrayString}
 use Rattle.worm_flit.specs.Channels.{AreChannels}
 use Rattle.worm_mesh.specs.Address.{IsMesh as IsRadices, node_count, has_neighbour}
 use Rattle.worm_mesh.specs.Links.{links_before, link_count}
@@ -23,17 +24,22 @@ pub record LinkView : Type 0 where
   pub credits : List ℕ
   pub room : ℕ
 
--- the nodes by number, and the links by number
+-- the texts of the classes' names
+abbrev pub texts_of : List ArrayString → List (List ℕ)
+texts_of names = map (λ (name : ArrayString). name.bytes) names
+
+-- the configuration, the nodes by number, and the links by number
 pub record NetState : Type 0 where
   pub mesh : List ℕ
   pub channels : List ℕ
   pub depth : ℕ
+  pub names : List (List ℕ)
   pub nodes : List Node
   pub links : List LinkView
 
-abbrev pub net_state : List ℕ → List ℕ → ℕ → List Node → List LinkView → NetState
-net_state mesh channels depth nodes links =
-    record { mesh = mesh; channels = channels; depth = depth; nodes = nodes; links = links }
+abbrev pub net_state : List ℕ → List ℕ → ℕ → List (List ℕ) → List Node → List LinkView → NetState
+net_state mesh channels depth names nodes links =
+    record { mesh = mesh; channels = channels; depth = depth; names = names; nodes = nodes; links = links }
 
 -- a node as a new network has it; also what is read of a node that is not there
 abbrev pub fresh_node : List ℕ → List ℕ → ℕ → ℕ → Node
@@ -148,3 +154,4 @@ pub record IsSameConfig (old new : NetState) : Type 0 where
   pub mesh : new.mesh ≡ old.mesh
   pub channels : new.channels ≡ old.channels
   pub depth : new.depth ≡ old.depth
+  pub names : new.names ≡ old.names

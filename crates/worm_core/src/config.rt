@@ -1,3 +1,6 @@
+ghost use Rattle.std.specs.Prelude.{◌≡◌};
+ghost use Rattle.worm_core.specs.State.{texts_of};
+
 use arrayvec::{ArrayString, ArrayVec};
 
 /// The name of a message class: a lower-case letter, then at most 15 lower-case letters or digits.
@@ -15,4 +18,17 @@ pub struct Config {
     pub classes: ArrayVec<Name, 4>,
     /// How many channels each class owns on every link, one number for each class, each 1 to 8, at most 8 in all.
     pub channels: ArrayVec<u8, 4>,
+}
+
+/// The same names once more.
+pub(crate) fn copy_names(names: &ArrayVec<Name, 4>) -> ArrayVec<Name, 4>
+    ensures { texts_of result.items ≡ texts_of names.now.items }
+{
+    let mut copies = ArrayVec::new();
+    for name in names.as_slice() {
+        let mut copy = Name::new();
+        copy.push_str(name.as_str());
+        copies.push(copy);
+    }
+    copies
 }

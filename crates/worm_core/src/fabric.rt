@@ -6,13 +6,15 @@ ghost use Rattle.worm_mesh.specs.Address.{IsMesh as IsRadices, node_count, neigh
 ghost use Rattle.worm_mesh.specs.Links.{link_count};
 ghost use Rattle.worm_router.specs.Router.{IsPlace, MayLeave, after_accept, after_credit, after_gave, after_grant, after_route, after_send, can_grant, can_route, input_at, leaving, output_at, terminal, width};
 ghost use Rattle.worm_term.specs.Source.{after_close, after_offer, classes, front_of, refusal};
-ghost use Rattle.worm_core.specs.State.{IsNetPlace, link_at, node_at, router_at, sink_at, source_at, with_link, with_node, with_router, with_source};
+ghost use Rattle.worm_core.specs.State.{IsNetPlace, link_at, node_at, router_at, sink_at, source_at, texts_of, with_link, with_node, with_router, with_source};
 ghost use Rattle.worm_core.specs.Moves.{CreditFits, FrontFits, Sends, WayOut, after_getting, after_giving, after_take, can_enter, can_get, can_give, chosen_router, delivered_node, fed_node, front_credit, front_into, has_room, link_into, link_out};
 
+mod parts;
 mod readers;
 
 use crate::fresh::{make_links, make_nodes};
-use crate::{LinkState, Moved, Node, StepFault};
+use crate::{LinkState, Moved, Name, Node, StepFault};
+use arrayvec::ArrayVec;
 use std::alloc::{AllocError, Global};
 use std::marker::Model;
 use worm_flit::{ClassChannels, Flit, Lane, Packet};
@@ -26,25 +28,32 @@ pub struct Fabric {
     mesh: Mesh,
     classes: ClassChannels,
     depth: u8,
+    names: ArrayVec<Name, 4>,
     nodes: Vec<Node>,
     links: Vec<LinkState>,
 }
 
 impl Model for Fabric {
-    ghost use Rattle.worm_core.specs.State.{NetState, net_state};
+    ghost use Rattle.worm_core.specs.State.{NetState, net_state, texts_of};
 
     ghost Value = { NetState };
 
-    ghost view = { λ n. net_state n.mesh n.classes n.depth n.nodes.items n.links.items };
+    ghost view = { λ n. net_state n.mesh n.classes n.depth (texts_of n.names.items) n.nodes.items n.links.items };
 }
 
 impl Fabric {
     /// The nodes and links of a new network.
-    pub fn new(alloc: Global, mesh: Mesh, channels: &[u8], depth: u8) -> Result<Fabric, AllocError>
+    pub fn new(
+        alloc: Global,
+        mesh: Mesh,
+        channels: &[u8],
+        depth: u8,
+        names: ArrayVec<Name, 4>,
+    ) -> Result<Fabric, AllocError>
         requires mesh { IsRadices mesh }
         requires channels { AreChannels channels.now }
         requires depth { (1 ≤ depth) × (depth ≤ 16) }
-        ensures { IfOk result (λ f. IsFresh mesh channels.now depth f) }
+        ensures { IfOk result (λ f. IsFresh mesh channels.now depth (texts_of names.items) f) }
     {
         let classes = ClassChannels::new(channels);
         let nodes = make_nodes(alloc, &mesh, channels, depth)?;
@@ -54,6 +63,7 @@ impl Fabric {
             mesh,
             classes,
             depth,
+            names,
             nodes,
             links,
         })

@@ -17,6 +17,7 @@ mod fresh;
 mod link;
 mod net;
 mod node;
+mod parts;
 mod script;
 mod step;
 #[cfg(test)]
@@ -31,6 +32,7 @@ pub use fault::{NetFault, StepFault};
 pub use link::LinkState;
 pub use net::{Net, RunSoFar};
 pub use node::Node;
+pub use parts::NetParts;
 pub use script::{Act, Entry, Script, ScriptFault};
 pub use step::{Moved, Step};
 pub use totals::Totals;

@@ -1,5 +1,5 @@
 ghost use Rattle.worm_core.specs.NewNet.{empty_link};
-ghost use Rattle.std.specs.Prelude.{◌≡◌, [], ◌∷◌, ◌++◌, ◌<◌, length, drop, slice_get, Some, IfOk};
+ghost use Rattle.std.specs.Prelude.{◌≡◌, [], ◌∷◌, ◌++◌, ◌<◌, length, drop, slice_get, Some, IfOk, ◌≤◌, vec_capacity};
 
 use std::alloc::{AllocError, Global};
 use std::marker::Model;
@@ -37,6 +37,41 @@ impl LinkState {
             credits,
             room,
         })
+    }
+
+    /// The link with these flits and these credits on it, front first, which both have room for so many.
+    pub fn from_lists(flits: Vec<Flit>, credits: Vec<u8>, room: u16) -> LinkState
+        requires flits { room ≤ vec_capacity flits }
+        requires credits { room ≤ vec_capacity credits }
+        ensures { result ≡ record { flits = flits.items; credits = credits.items; room = room } }
+    {
+        LinkState {
+            flits,
+            credits,
+            room,
+        }
+    }
+
+    /// The flits on the link, and the credits on their way back over it, front first, both with the link's room.
+    pub fn into_lists(self) -> (Vec<Flit>, Vec<u8>)
+        ensures flits { result.0.items ≡ self.flits }
+        ensures credits { result.1.items ≡ self.credits }
+        ensures flit_room { self.room ≤ vec_capacity result.0 }
+        ensures credit_room { self.room ≤ vec_capacity result.1 }
+    {
+        let LinkState {
+            flits,
+            credits,
+            room: _,
+        } = self;
+        (flits, credits)
+    }
+
+    /// The room: how many flits, and how many credits, fit without growing.
+    pub fn room(&self) -> u16
+        ensures { result ≡ self.now.room }
+    {
+        self.room
     }
 
     /// The front flit, if there is one.

@@ -5,13 +5,14 @@ ghost use Rattle.worm_core.specs.Answers.{Answers, ArbitersStand, accepted_of, m
 ghost use Rattle.worm_theory.specs.Steps.{empty};
 ghost use Rattle.worm_core.specs.NewNet.{IsConfig, IsFresh};
 ghost use Rattle.worm_core.specs.Headline.{DeliversInOrder, NothingFollowsMarks};
-ghost use Rattle.worm_core.specs.State.{IsNet, shape, network_of, queue_of, router_at, sink_at, source_at, with_router};
+ghost use Rattle.worm_core.specs.State.{IsNet, shape, network_of, queue_of, router_at, sink_at, source_at, texts_of, with_router};
 ghost use Rattle.worm_core.specs.Turns.{Reaches, lowest_owed};
 ghost use Rattle.worm_mesh.specs.Address.{node_count};
 ghost use Rattle.worm_router.specs.Router.{input_at, width};
 ghost use Rattle.worm_router.specs.Allocation.{after_allocate, switch_grants};
 ghost use Rattle.worm_core.specs.Moves.{chosen_router};
 
+use crate::config::copy_names;
 use crate::fabric::Fabric;
 use crate::{Config, Moved, NetFault, Step, StepFault};
 use std::alloc::Global;
@@ -66,7 +67,7 @@ impl Net {
     /// An empty network. `BadConfig` where a number of the configuration is out of its range, else `NoMemory` where
     /// there is none for the nodes, their buffers and the links.
     pub fn new(alloc: Global, config: &Config) -> Result<Net, NetFault>
-        ensures fresh { IfOk result (λ n. IsFresh config.now.radices.items config.now.channels.items config.now.depth n) }
+        ensures fresh { IfOk result (λ n. IsFresh config.now.radices.items config.now.channels.items config.now.depth (texts_of config.now.classes.items) n) }
         ensures empty { IfOk result (λ n. network_of n ≡ empty (shape n)) }
         ensures bad { (result ≡ Err NetFault.BadConfig) ↔ (IsConfig config.now.radices.items config.now.channels.items config.now.depth (length config.now.classes.items) → ⊥) }
     {
@@ -80,7 +81,8 @@ impl Net {
         if config.depth == 0 || config.depth > 16 {
             return Err(NetFault::BadConfig);
         }
-        let Ok(fabric) = Fabric::new(alloc, mesh, channels, config.depth) else {
+        let names = copy_names(&config.classes);
+        let Ok(fabric) = Fabric::new(alloc, mesh, channels, config.depth, names) else {
             return Err(NetFault::NoMemory);
         };
         Ok(Net { fabric })
@@ -100,6 +102,23 @@ impl Net {
         ensures sound { IsNet self.now }
     {
         &self.fabric
+    }
+
+    /// The lists of the network by themselves.
+    pub(crate) fn into_fabric(self) -> Fabric
+        ensures same { result ≡ self }
+        ensures sound { IsNet self }
+    {
+        let Net { fabric } = self;
+        fabric
+    }
+
+    /// The network of these lists.
+    pub(crate) fn from_fabric(fabric: Fabric) -> Net
+        requires { IsNet fabric }
+        ensures { result ≡ fabric }
+    {
+        Net { fabric }
     }
 
     /// The number of nodes.

@@ -6,7 +6,7 @@ pub invariant_of-result : goal.invariant_of-result
 invariant_of-result c =
     let radices : IsRadices c.in-Ok.mesh = rw c.in-Ok.ensures.0 c.in-Ok.ensures.1 in
     let classes = c.are_channels.ensures.0 c.if-not-are_channels.false in
-    fresh_holds c.in-Ok.mesh c.as_slice-channels.result.now c.args.config.now.depth c.in-Ok-new.fabric c.in-Ok-new.ensures radices classes
+    fresh_holds c.in-Ok.mesh c.as_slice-channels.result.now c.args.config.now.depth _ c.in-Ok-new.fabric c.in-Ok-new.ensures radices classes
 
 pub returns-clause-empty : goal.returns-clause-empty
-returns-clause-empty c = fresh_stands c.in-Ok.mesh c.as_slice-channels.result.now c.args.config.now.depth c.in-Ok-new.fabric c.in-Ok-new.ensures
+returns-clause-empty c = fresh_stands c.in-Ok.mesh c.as_slice-channels.result.now c.args.config.now.depth _ c.in-Ok-new.fabric c.in-Ok-new.ensures

@@ -1,0 +1,16 @@
+-- A network taken apart: what its parts stand for.
+use Rattle.std.specs.Prelude.{◌≡◌}
+use Rattle.worm_core.specs.State.{NetState, net_state, texts_of}
+use Rattle.worm_core.specs.declared.config.Config.{Config}
+use Rattle.worm_core.specs.declared.parts.NetParts.{NetParts}
+
+-- the network that these parts make
+abbrev pub parts_state : NetParts → NetState
+parts_state p = net_state p.config.radices.items p.config.channels.items p.config.depth (texts_of p.config.classes.items) p.nodes.items p.links.items
+
+-- the configuration is that of the network
+pub record IsConfigOf (s : NetState) (config : Config) : Type 0 where
+  pub radices : config.radices.items ≡ s.mesh
+  pub channels : config.channels.items ≡ s.channels
+  pub depth : config.depth ≡ s.depth
+  pub names : texts_of config.classes.items ≡ s.names

@@ -1,0 +1,104 @@
+//! A fabric taken apart, and put together again. The configuration's lists have room in themselves, so neither takes memory.
+
+ghost use Rattle.std.specs.Prelude.{◌≡◌};
+ghost use Rattle.worm_flit.specs.Channels.{AreChannels};
+ghost use Rattle.worm_mesh.specs.Address.{IsMesh as IsRadices};
+ghost use Rattle.worm_core.specs.Parts.{IsConfigOf, parts_state};
+
+use super::Fabric;
+use crate::config::copy_names;
+use crate::{Config, NetParts};
+use arrayvec::ArrayVec;
+use worm_flit::ClassChannels;
+use worm_mesh::Mesh;
+
+/// The radices of the mesh.
+fn radices_of(mesh: &Mesh) -> ArrayVec<u8, 3>
+    ensures { result.items ≡ mesh.now }
+{
+    let mut radices = ArrayVec::new();
+    for d in 0..mesh.dims() {
+        radices.push(mesh.radix(d));
+    }
+    radices
+}
+
+/// How many channels each class owns.
+fn counts_of(classes: &ClassChannels) -> ArrayVec<u8, 4>
+    ensures { result.items ≡ classes.now }
+{
+    let mut counts = ArrayVec::new();
+    for class in 0..classes.classes() {
+        counts.push(classes.count(class));
+    }
+    counts
+}
+
+impl Fabric {
+    /// The configuration.
+    pub fn config(&self) -> Config
+        ensures { IsConfigOf self.now result }
+    {
+        Config {
+            radices: radices_of(&self.mesh),
+            depth: self.depth,
+            classes: copy_names(&self.names),
+            channels: counts_of(&self.classes),
+        }
+    }
+
+    /// The parts.
+    pub fn into_parts(self) -> NetParts
+        ensures { parts_state result ≡ self }
+    {
+        let Fabric {
+            mesh,
+            classes,
+            depth,
+            names,
+            nodes,
+            links,
+        } = self;
+        let config = Config {
+            radices: radices_of(&mesh),
+            depth,
+            classes: names,
+            channels: counts_of(&classes),
+        };
+        NetParts {
+            config,
+            nodes,
+            links,
+        }
+    }
+
+    /// The fabric of these parts, whose configuration is within its limits.
+    pub fn from_parts(parts: NetParts) -> Fabric
+        requires radices { IsRadices parts.config.radices.items }
+        requires channels { AreChannels parts.config.channels.items }
+        ensures { result ≡ parts_state parts }
+    {
+        let NetParts {
+            config,
+            nodes,
+            links,
+        } = parts;
+        let Config {
+            radices,
+            depth,
+            classes: names,
+            channels,
+        } = config;
+        let Ok(mesh) = Mesh::new(radices.as_slice()) else {
+            unreachable!()
+        };
+        Fabric {
+            mesh,
+            classes: ClassChannels::new(channels.as_slice()),
+            depth,
+            names,
+            nodes,
+            links,
+        }
+    }
+}

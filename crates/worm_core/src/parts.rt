@@ -1,0 +1,45 @@
+//! A network taken apart into its nodes and links, as its workers hold them, and put together again.
+
+ghost use Rattle.std.specs.Prelude.{◌≡◌};
+ghost use Rattle.worm_core.specs.Parts.{IsConfigOf, parts_state};
+ghost use Rattle.worm_core.specs.State.{IsNet};
+
+use crate::fabric::Fabric;
+use crate::{Config, LinkState, Net, Node};
+
+/// The parts of a network.
+#[derive(Drop)]
+pub struct NetParts {
+    /// What it was made from.
+    pub config: Config,
+    /// The nodes by number.
+    pub nodes: Vec<Node>,
+    /// The links by number, each with room for as many flits and as many credits as all its channels' buffers hold.
+    pub links: Vec<LinkState>,
+}
+
+impl Net {
+    /// The configuration that the network was made from.
+    pub fn config(&self) -> Config
+        ensures { IsConfigOf self.now result }
+    {
+        self.fabric().config()
+    }
+
+    /// The network's parts. It takes no memory.
+    pub fn into_parts(self) -> NetParts
+        ensures parts { parts_state result ≡ self }
+        ensures sound { IsNet (parts_state result) }
+    {
+        self.into_fabric().into_parts()
+    }
+
+    /// The network of these parts, which are those of one: each node at its own number, each link with the room for as many
+    /// flits and as many credits as all its channels' buffers hold, and all together sound, as `into_parts` gives them. It takes no memory.
+    pub fn from_parts(parts: NetParts) -> Net
+        requires { IsNet (parts_state parts) }
+        ensures { result ≡ parts_state parts }
+    {
+        Net::from_fabric(Fabric::from_parts(parts))
+    }
+}
