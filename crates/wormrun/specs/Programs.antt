@@ -75,7 +75,7 @@ pub record IsReported (network traffic : List ℕ) (turns drain : ℕ) (ending :
   pub script : List Entry
   pub of_traffic : SaysTraffic config traffic (said_of script)
   pub opening : NetState
-  pub fresh : IsFresh config.radices config.channels config.depth opening
+  pub fresh : IsFresh config.radices config.channels config.depth config.classes opening
   pub closing : NetState
   pub run : OneThreadRun script turns drain opening ending.stopped ending.fault closing
   pub reported : bytes ≡ report (seen closing) (summary_of turns drain ending (length script - accepted_total closing))

@@ -3,6 +3,7 @@
 ghost use Rattle.std.specs.Prelude.{◌≡◌, ◌≤◌, ◌-◌, length, IfOk, IfErr, OnOk};
 ghost use Rattle.std.specs.Io.KnownBytes.{Keeps};
 ghost use Rattle.worm_core.specs.NewNet.{IsFresh};
+ghost use Rattle.worm_core.specs.State.{texts_of};
 ghost use Rattle.worm_core.specs.Totals.{accepted_total};
 ghost use Rattle.worm_report.specs.Seen.{seen};
 ghost use Rattle.worm_report.specs.Report.{report};
@@ -79,7 +80,7 @@ fn accept(alloc: Global, network: &[u8], traffic: &[u8]) -> Result<Accepted, Pro
 /// The network that an accepted text says, with nothing offered; none where there is no memory for it.
 fn open(alloc: Global, config: &Config) -> Option<Net>
     requires { (format : Format) × KeepsRules format (view config.now) }
-    ensures { IfSome result (IsFresh config.now.radices.items config.now.channels.items config.now.depth) }
+    ensures { IfSome result (IsFresh config.now.radices.items config.now.channels.items config.now.depth (texts_of config.now.classes.items)) }
 {
     match Net::new(alloc, config) {
         Ok(net) => Some(net),
