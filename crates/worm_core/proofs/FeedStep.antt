@@ -16,7 +16,7 @@ use Rattle.worm_core.specs.Shape.{net_shape}
 use Rattle.worm_core.specs.declared.node.Node.{Node}
 use Rattle.worm_core.specs.State.{NetState, IsNet, IsFramed, IsNodeOf, IsNetPlace, shape, network_of, node_at, router_at, source_at, with_node, output_of, queue_of}
 use Rattle.worm_core.specs.Answers.{Answers, moved_of}
-use Rattle.worm_core.specs.Moves.{FrontFits, has_room, can_enter, fed_node}
+use Rattle.worm_core.specs.Moves.{done_step, FrontFits, has_room, can_enter, fed_node}
 use Rattle.worm_core.proofs.Bridge.{put2_same, put3_same, node_bridge, itself3, input_of-put, input_of-there, below_cases}
 use Rattle.worm_core.proofs.There.{buffer_there}
 use Rattle.worm_core.proofs.Kept.{kept, framed_mesh, node_framed}
@@ -196,17 +196,18 @@ Outcome s x k o b =
 
 feed_at : (s : NetState) (x k : ℕ) → IsNet s → x < length s.nodes → k < length s.channels → IsThere (shape s) (Feed x k) → (o : Option Flit) (b : Bool)
     → waiting (queue_of s x k) ≡ o → can_enter (router_at s x) (terminal (router_at s x)) (option_map (λ f. with_channel f (first_channel (source_at s x).channels k)) o) ≡ b
+    → with_node s x (fed_node (node_at s x) k (option_map (λ f. with_channel f (first_channel (source_at s x).channels k)) o)) ≡ done_step s (Feed x k)
     → Outcome s x k (option_map (λ f. with_channel f (first_channel (source_at s x).channels k)) o) b
 unfolding Outcome
-feed_at s x k net x_in k_in there None true next can = absurd (cc)
-feed_at s x k net x_in k_in there None false next can = (net, (there, feed_none s x k next, refl, refl))
-feed_at s x k net x_in k_in there (Some f) true next can =
+feed_at s x k net x_in k_in there None true next can same = absurd (cc)
+feed_at s x k net x_in k_in there None false next can same = (net, (there, feed_none s x k next, refl, refl))
+feed_at s x k net x_in k_in there (Some f) true next can same =
     let step = feed_done s x k f net x_in k_in next can in
     let new = with_node s x (fed_node (node_at s x) k (Some (with_channel f (first_channel (source_at s x).channels k)))) in (
       kept s new.nodes new.links (Feed x k) net there step.0 step.2 step.1,
-      (there, step.0, step.1, record { mesh = refl; channels = refl; depth = refl }),
+      record { there = there; enabled = step.0; after_it = step.1; config = record { mesh = refl; channels = refl; depth = refl }; exact = same },
     )
-feed_at s x k net x_in k_in there (Some f) false next can = (net, (there, feed_full s x k f net x_in k_in next can, refl, refl))
+feed_at s x k net x_in k_in there (Some f) false next can same = (net, (there, feed_full s x k f net x_in k_in next can, refl, refl))
 
 pub feed_answers : (s : NetState) (x k : ℕ) → IsNet s → IsThere (shape s) (Feed x k) → (done : Bool) → done ≡ can_enter (router_at s x) (terminal (router_at s x)) (front_of (source_at s x) k)
     → IsNet (if done then with_node s x (fed_node (node_at s x) k (front_of (source_at s x) k)) else s)
@@ -215,7 +216,7 @@ unfolding net_shape Outcome
 feed_answers s x k net there done e =
     let all = net.framed.all_nodes in
     let node_in = there.0 in
-    rw e (feed_at s x k net (omega arith) there.1 there (waiting (queue_of s x k)) (can_enter (router_at s x) (terminal (router_at s x)) (front_of (source_at s x) k)) refl refl)
+    rw e (feed_at s x k net (omega arith) there.1 there (waiting (queue_of s x k)) (can_enter (router_at s x) (terminal (router_at s x)) (front_of (source_at s x) k)) refl refl refl)
 
 fits_by : (s : NetState) (x k : ℕ) → IsNet s → x < length s.nodes → k < length s.channels → (o : Option Flit) → waiting (queue_of s x k) ≡ o
     → FrontFits (router_at s x) (terminal (router_at s x)) (option_map (λ f. with_channel f (first_channel (source_at s x).channels k)) o)

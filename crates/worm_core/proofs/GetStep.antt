@@ -11,7 +11,7 @@ use Rattle.worm_theory.proofs.Places.{bool_cases}
 use Rattle.worm_core.specs.Shape.{net_shape}
 use Rattle.worm_core.specs.State.{NetState, LinkView, IsNet, IsFramed, IsNetPlace, shape, network_of, router_at, with_router, link_at}
 use Rattle.worm_core.specs.Answers.{Answers, moved_of}
-use Rattle.worm_core.specs.Moves.{link_out, front_credit, CreditFits, can_get, after_getting}
+use Rattle.worm_core.specs.Moves.{done_step, link_out, front_credit, CreditFits, can_get, after_getting}
 use Rattle.worm_core.proofs.Bridge.{put2_same, put3_same, output_bridge}
 use Rattle.worm_core.proofs.LinkBridge.{link_bridge, link_framed, out_there, credits_there}
 use Rattle.worm_core.proofs.There.{holder_there, spent_there}
@@ -105,21 +105,21 @@ Outcome s x o c b =
     IsNet (if b then after_getting s x o c else s) × Answers s (TakeCredit x o) (Ok (moved_of b)) (if b then after_getting s x o c else s)
 
 get_at : (s : NetState) (x o y : ℕ) → IsNet s → x < length s.nodes → IsThere (shape s) (TakeCredit x o) → neighbour_of s.mesh x o ≡ Some y → (c : Option ℕ) (b : Bool)
-    → front_credit s x o ≡ c → can_get (router_at s x) o c ≡ b → Outcome s x o c b
+    → front_credit s x o ≡ c → can_get (router_at s x) o c ≡ b → after_getting s x o c ≡ done_step s (TakeCredit x o) → Outcome s x o c b
 unfolding Outcome
-get_at s x o y net x_in there e None true first can = absurd (cc)
-get_at s x o y net x_in there e (Some c) true first can =
+get_at s x o y net x_in there e None true first can same = absurd (cc)
+get_at s x o y net x_in there e (Some c) true first can same =
     let step = get_done s x o y c net x_in e first can in
     let new = after_getting s x o (Some c) in (
       kept s new.nodes new.links (TakeCredit x o) net there step.0 step.2 step.1,
-      (there, step.0, step.1, record { mesh = refl; channels = refl; depth = refl }),
+      record { there = there; enabled = step.0; after_it = step.1; config = record { mesh = refl; channels = refl; depth = refl }; exact = same },
     )
-get_at s x o y net x_in there e c false first can = (net, (there, get_idle s x o y net x_in e c first can, refl, refl))
+get_at s x o y net x_in there e c false first can same = (net, (there, get_idle s x o y net x_in e c first can, refl, refl))
 
 get_by : (s : NetState) (x o : ℕ) → IsNet s → x < length s.nodes → IsThere (shape s) (TakeCredit x o) → (n : Option ℕ) → neighbour_of s.mesh x o ≡ n → IsSome n
     → Outcome s x o (front_credit s x o) (can_get (router_at s x) o (front_credit s x o))
 get_by s x o net x_in there None e some = absurd (cc)
-get_by s x o net x_in there (Some y) e some = get_at s x o y net x_in there e (front_credit s x o) (can_get (router_at s x) o (front_credit s x o)) refl refl
+get_by s x o net x_in there (Some y) e some = get_at s x o y net x_in there e (front_credit s x o) (can_get (router_at s x) o (front_credit s x o)) refl refl refl
 
 pub get_answers : (s : NetState) (x o : ℕ) → IsNet s → IsThere (shape s) (TakeCredit x o) → (done : Bool) → done ≡ can_get (router_at s x) o (front_credit s x o)
     → IsNet (if done then after_getting s x o (front_credit s x o) else s) × Answers s (TakeCredit x o) (Ok (moved_of done)) (if done then after_getting s x o (front_credit s x o) else s)

@@ -13,7 +13,7 @@ use Rattle.worm_theory.proofs.Credit.{count-cons}
 use Rattle.worm_core.specs.Shape.{net_shape}
 use Rattle.worm_core.specs.State.{NetState, LinkView, IsNet, IsFramed, IsNetPlace, shape, network_of, router_at, with_router, link_at}
 use Rattle.worm_core.specs.Answers.{Answers, moved_of}
-use Rattle.worm_core.specs.Moves.{into_from, link_into, can_give, after_giving}
+use Rattle.worm_core.specs.Moves.{done_step, into_from, link_into, can_give, after_giving}
 use Rattle.worm_core.proofs.Bridge.{put2_same, put3_same, input_bridge, input_of-there, below_cases}
 use Rattle.worm_core.proofs.LinkBridge.{link_bridge, link_framed, out_there, credits_there}
 use Rattle.worm_core.proofs.There.{owed_there}
@@ -115,27 +115,27 @@ Outcome s x p v k b =
     IsNet (if b then after_giving s x p v k else s) × Answers s (GiveCredit x p v) (Ok (moved_of b)) (if b then after_giving s x p v k else s)
 
 give_at : (s : NetState) (x p v y : ℕ) → IsNet s → IsNetPlace s x p v → IsThere (shape s) (GiveCredit x p v) → neighbour_of s.mesh x p ≡ Some y → (b : Bool)
-    → can_give s x p v ≡ b → Outcome s x p v (links_before s.mesh y (opposite_of p)) b
+    → can_give s x p v ≡ b → after_giving s x p v (links_before s.mesh y (opposite_of p)) ≡ done_step s (GiveCredit x p v) → Outcome s x p v (links_before s.mesh y (opposite_of p)) b
 unfolding Outcome
-give_at s x p v y net place there e true can =
+give_at s x p v y net place there e true can same =
     let step = give_done s x p v y net place e can in
     let new = after_giving s x p v (links_before s.mesh y (opposite_of p)) in (
       kept s new.nodes new.links (GiveCredit x p v) net there step.0 step.2 step.1,
-      (there, step.0, step.1, record { mesh = refl; channels = refl; depth = refl }),
+      record { there = there; enabled = step.0; after_it = step.1; config = record { mesh = refl; channels = refl; depth = refl }; exact = same },
     )
-give_at s x p v y net place there e false can = (net, (there, give_idle s x p v place can, refl, refl))
+give_at s x p v y net place there e false can same = (net, (there, give_idle s x p v place can, refl, refl))
 
 give_by : (s : NetState) (x p v : ℕ) → IsNet s → IsNetPlace s x p v → IsThere (shape s) (GiveCredit x p v) → (n : Option ℕ) → neighbour_of s.mesh x p ≡ n → IsSome n
-    → Outcome s x p v (into_from s.mesh p n) (can_give s x p v)
-give_by s x p v net place there None e some = absurd (cc)
-give_by s x p v net place there (Some y) e some = give_at s x p v y net place there e (can_give s x p v) refl
+    → after_giving s x p v (into_from s.mesh p n) ≡ done_step s (GiveCredit x p v) → Outcome s x p v (into_from s.mesh p n) (can_give s x p v)
+give_by s x p v net place there None e some same = absurd (cc)
+give_by s x p v net place there (Some y) e some same = give_at s x p v y net place there e (can_give s x p v) refl same
 
 pub give_answers : (s : NetState) (x p v : ℕ) → IsNet s → IsThere (shape s) (GiveCredit x p v) → (done : Bool) → done ≡ can_give s x p v
     → IsNet (if done then after_giving s x p v (link_into s x p) else s) × Answers s (GiveCredit x p v) (Ok (moved_of done)) (if done then after_giving s x p v (link_into s x p) else s)
 unfolding net_shape Outcome
 give_answers s x p v net there done e =
     let place = net_place s x p v net.framed there.0 (inr there.1) there.2 in
-    rw e (give_by s x p v net place there (neighbour_of s.mesh x p) refl there.1)
+    rw e (give_by s x p v net place there (neighbour_of s.mesh x p) refl there.1 refl)
 
 room_by : (s : NetState) (x p v : ℕ) → IsNet s → IsNetPlace s x p v → v < sum s.channels → (n : Option ℕ) → neighbour_of s.mesh x p ≡ n → IsSome n
     → 0 < (input_at (router_at s x) p v).owed → length (link_at s (into_from s.mesh p n)).credits < (link_at s (into_from s.mesh p n)).room

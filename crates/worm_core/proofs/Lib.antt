@@ -18,8 +18,13 @@ pub mod RunSteps
 pub mod Headline
 pub mod NewNet
 pub mod Reaching
+pub mod Pointers
+pub mod Passages
+pub mod DueEntries
+pub mod Turning
 pub mod Allocating
 pub mod ViewLists
 pub mod LanePlaces
 pub mod ReadPlaces
 pub mod ViewCuts
+pub mod Marks

@@ -33,7 +33,7 @@ all_one {A} zero i v = refl
 all_one {A} (suc n) zero v = refl
 all_one {A} (suc n) (suc i) v = all_one n i v
 
-input_fresh : (mesh : List ℕ) (x : ℕ) (channels : List ℕ) (depth p v : ℕ) → input_of (fresh_router mesh x channels depth) p v ≡ fresh_channel depth
+pub input_fresh : (mesh : List ℕ) (x : ℕ) (channels : List ℕ) (depth p v : ℕ) → input_of (fresh_router mesh x channels depth) p v ≡ fresh_channel depth
 input_fresh mesh x channels depth p v = elim (bool_cases (nat_lt v (sum channels))) [
   | inl within ↦ rw within (all_one ((2 * length mesh + 1) * sum channels) (p * sum channels + v) (fresh_channel depth))
   | inr past ↦ rw past refl

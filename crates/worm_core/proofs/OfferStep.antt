@@ -25,6 +25,7 @@ use Rattle.worm_core.specs.declared.step.Moved.TheVariants.{Done}
 use Rattle.worm_core.specs.declared.fault.StepFault.{StepFault}
 use Rattle.worm_core.specs.declared.fault.StepFault.TheVariants.{Refused}
 use Rattle.worm_core.specs.State.{NetState, IsNet, IsFramed, IsNodeOf, IsSameConfig, shape, network_of, node_at, router_at, source_at, queue_of, with_source, input_of, output_of}
+use Rattle.worm_core.specs.Moves.{done_step}
 use Rattle.worm_core.specs.Answers.{Answers, accepted_of, refusal_of, Grows}
 use Rattle.worm_core.proofs.Bridge.{put2_same, put3_same, node_bridge, itself3, below_cases}
 use Rattle.worm_core.proofs.Kept.{kept, node_framed}
@@ -216,6 +217,7 @@ record Judges (s : NetState) (x : ℕ) (lane : Lane) (is_last : Bool) (step : St
   enables : refusal (source_at s x) lane is_last ≡ None → Enabled (shape s) (network_of s) step
   enabled : Enabled (shape s) (network_of s) step → refusal (source_at s x) lane is_last ≡ None
   grows : Grows (shape s) (network_of s) step
+  exact : after_it ≡ done_step s step
   made : refusal (source_at s x) lane is_last ≡ None → IsNet after_it × (network_of after_it ≡ after (shape s) (network_of s) step) × IsSameConfig s after_it
 
 Outcome : NetState → Step → Result Moved StepFault → NetState → Type 0
@@ -237,7 +239,7 @@ answers : (s : NetState) (x : ℕ) (lane : Lane) (is_last : Bool) (step : Step) 
 unfolding Outcome
 answers s x lane is_last step after_it net there judges (Ok number) new ok fault err =
     let made = judges.made ok.0 in
-    subst (λ (n : NetState). IsNet n × Answers s step (Ok Done) n) (sym ok.1) (made.0, (there, judges.enables ok.0, made.1, made.2))
+    subst (λ (n : NetState). IsNet n × Answers s step (Ok Done) n) (sym ok.1) (made.0, record { there = there; enabled = judges.enables ok.0; after_it = made.1; config = made.2; exact = judges.exact })
 answers s x lane is_last step after_it net there judges (Err e) new ok fault err =
     let at : IsNet s × Answers s step (accepted_of (Err (unwrap_or (refusal (source_at s x) lane is_last) NoRoom))) s = err_answers s x lane is_last step after_it net there judges (refusal (source_at s x) lane is_last) refl in
     subst (λ (n : NetState). IsNet n × Answers s step (accepted_of (Err e)) n) (sym err)
@@ -259,6 +261,7 @@ module _ (s : NetState) (x : ℕ) (net : IsNet s) where
         enables = λ none. (accepts s x p.lane net x_in (none_refused (source_at s x) p.lane false none).0, some, few);
         enabled = λ enabled. refuses_none (source_at s x) p.lane false (opens_to s x p.lane net x_in enabled.0) (λ e. absurd (cc));
         grows = tt;
+        exact = refl;
         made = λ none.
             let is_open = (none_refused (source_at s x) p.lane false none).0 in
             let k_in = class_in p.lane x_in is_open in
@@ -284,6 +287,7 @@ module _ (s : NetState) (x : ℕ) (net : IsNet s) where
         enables = λ none. let found = none_refused (source_at s x) lane true none in (accepts s x lane net x_in found.0, one (found.1 refl));
         enabled = λ enabled. refuses_none (source_at s x) lane true (opens_to s x lane net x_in enabled.0) (λ _. subst (λ (cs : List ℕ). slice_index cs lane.class ≤ 1) (sym same) (one_owned s.channels s.depth s.mesh lane.class enabled.1));
         grows = tt;
+        exact = refl;
         made = λ none.
             let found = none_refused (source_at s x) lane true none in
             let is_open = found.0 in

@@ -19,11 +19,11 @@ steps_push s a b c [] e lead to =
 steps_push s a b c (step ∷ steps) e lead to = (lead.0, lead.1, steps_push s lead.0 b c steps e lead.2 to)
 
 pub steps_to : (mid new : NetState) (e : Event) (moved : Moved) → Answers mid e (Ok moved) new → StepsTo (shape mid) (network_of mid) e (network_of new)
-steps_to mid new e Done a = inl (a.0, a.1, a.2)
+steps_to mid new e Done a = inl (a.there, a.enabled, a.after_it)
 steps_to mid new e Idle a = inr (λ h. a.1 h.1, ap (λ (s : NetState). network_of s) a.3)
 
 pub config_to : (mid new : NetState) (e : Event) (moved : Moved) → Answers mid e (Ok moved) new → IsSameConfig mid new
-config_to mid new e Done a = a.3
+config_to mid new e Done a = a.config
 config_to mid new e Idle a = record {
   mesh = ap (λ (s : NetState). s.mesh) a.3;
   channels = ap (λ (s : NetState). s.channels) a.3;

@@ -13,7 +13,7 @@ use Rattle.worm_records.specs.declared.OutRecord.{OutRecord}
 use Rattle.worm_router.specs.Router.{ChannelState, RouterState, IsPlace, width, terminal, input_at, output_at, with_input, with_output, let_out, passed, credit_of, leaving, leaving_by, after_leaving}
 use Rattle.worm_term.specs.Source.{queue_at}
 use Rattle.worm_theory.specs.Network.{Network, put2, put3}
-use Rattle.worm_theory.specs.Steps.{Send, IsPort, IsThere, IsActiveAt, MaySend, Enabled, after, sent, sent_by}
+use Rattle.worm_theory.specs.Steps.{Step, Send, IsPort, IsThere, IsActiveAt, MaySend, Enabled, after, sent, sent_by}
 use Rattle.worm_theory.proofs.Places.{bool_cases}
 use Rattle.worm_theory.proofs.Send.{leading, passing, front_follows}
 use Rattle.worm_core.specs.Shape.{net_shape}
@@ -22,9 +22,9 @@ use Rattle.worm_core.specs.declared.step.Moved.{Moved}
 use Rattle.worm_core.specs.declared.step.Moved.TheVariants.{Done, Idle as StayedIdle}
 use Rattle.worm_core.specs.declared.fault.StepFault.{StepFault}
 use Rattle.worm_core.specs.declared.fault.StepFault.TheVariants.{NoSuchPlace, Refused, NoMemory}
-use Rattle.worm_core.specs.State.{NetState, IsNet, IsFramed, IsNetPlace, shape, network_of, node_at, router_at, sink_at, source_at, with_node, with_router, with_link, link_at}
-use Rattle.worm_core.specs.Answers.{Answers, Grows}
-use Rattle.worm_core.specs.Moves.{link_out, after_sending, WayOut, Sends}
+use Rattle.worm_core.specs.State.{NetState, IsNet, IsFramed, IsNetPlace, IsSameConfig, shape, network_of, node_at, router_at, sink_at, source_at, with_node, with_router, with_link, link_at}
+use Rattle.worm_core.specs.Answers.{IsDone, Answers, Grows}
+use Rattle.worm_core.specs.Moves.{done_step, link_out, after_ready, after_sending, WayOut, Sends}
 use Rattle.worm_core.proofs.Bridge.{put2_same, node_bridge, itself2, input_of-put, output_of-put}
 use Rattle.worm_core.proofs.LinkBridge.{link_framed, below_not_same}
 use Rattle.worm_core.proofs.There.{buffer_there, record_there, holder_there, owed_there, spent_there}
@@ -164,6 +164,13 @@ of_both false b false d (inl off) k = absurd (cc)
 of_both false b false d (inr e) (inl off) = absurd (cc)
 of_both false b false d (inr e) (inr g) = rw (e, g) refl
 
+-- the step is there and enabled, and these lists stand for what it makes
+pub record Stands (old : NetState) (step : Step) (new : NetState) : Type 0 where
+  pub there : IsThere (shape old) step
+  pub enabled : Enabled (shape old) (network_of old) step
+  pub after_it : network_of new ≡ after (shape old) (network_of old) step
+  pub config : IsSameConfig old new
+
 -- the router's test of an active channel with this front
 abbrev may_leave : NetState → ℕ → ℕ → ℕ → ℕ → ℕ → Bool
 may_leave s x p v o c =
@@ -251,7 +258,7 @@ module _ (s : NetState) (x p v o c : ℕ) (f : Flit) (rest : List Flit) (net : I
 
   -- a network that the step makes, and what it answers then
   abbrev Made : NetState → Type 0
-  Made new = IsNet new × Answers s (Send x p v) (Ok Done) new
+  Made new = IsNet new × Stands s (Send x p v) new
 
   enabled_by : may_leave s x p v o c ≡ true → Enabled (shape s) N (Send x p v)
   enabled_by test = subst (λ (r : InRecord). IsActiveAt r (MaySend (shape s) N x p v)) (sym record_is) (may_send test)
@@ -268,7 +275,7 @@ module _ (s : NetState) (x p v o c : ℕ) (f : Flit) (rest : List Flit) (net : I
       let r = after_leaving (router_at s x) p v leaves in
       let framed = node_framed s x _ net.framed place.node_in (node_of s.mesh s.channels s.depth x (node_at s x) r.inputs r.outputs ((sink_at s x).delivered ++ with_channel f c ∷ []) (net.framed.each_node x place.node_in) (rw length-set refl) (rw length-set refl)) in (
         kept s at_home.nodes s.links (Send x p v) net there enabled framed step,
-        (there, enabled, step, record { mesh = refl; channels = refl; depth = refl }),
+        record { there = there; enabled = enabled; after_it = step; config = record { mesh = refl; channels = refl; depth = refl } },
       )
 
   made_over : IsThere (shape s) (Send x p v) → may_leave s x p v o c ≡ true → (y : ℕ) → neighbour_of s.mesh x o ≡ Some y → Made on_link
@@ -284,7 +291,7 @@ module _ (s : NetState) (x p v o c : ℕ) (f : Flit) (rest : List Flit) (net : I
       let mid_framed = router_framed s x r.inputs r.outputs net.framed place.node_in (rw length-set refl) (rw length-set refl) in
       let framed = link_framed mid (link_out s x o) (record (link_at s (link_out s x o)) { flits = (link_at s (link_out s x o)).flits ++ with_channel f c ∷ [] }) mid_framed lead.bound refl in (
         kept s on_link.nodes on_link.links (Send x p v) net there enabled framed step,
-        (there, enabled, step, record { mesh = refl; channels = refl; depth = refl }),
+        record { there = there; enabled = enabled; after_it = step; config = record { mesh = refl; channels = refl; depth = refl } },
       )
 
   -- at the terminal or not
@@ -322,6 +329,9 @@ module _ (s : NetState) (x p v o c : ℕ) (f : Flit) (rest : List Flit) (net : I
 
 -- what Net::send leaves and answers
 
+stood : (s : NetState) (step : Step) (new : NetState) → Stands s step new → new ≡ done_step s step → IsDone s step new
+stood s step new stands same = record { there = stands.there; enabled = stands.enabled; after_it = stands.after_it; config = stands.config; exact = same }
+
 Outcome : NetState → ℕ → ℕ → ℕ → Result Moved StepFault → NetState → Type 0
 Outcome s x p v answer new = IsNet new × Answers s (Send x p v) answer new
 
@@ -334,14 +344,14 @@ idle_answers s x p v net there idle (Err fault) new sends = absurd sends
 
 done_answers : (s : NetState) (x p v : ℕ) (d : ℕ × Flit) → IsNet s → IsThere (shape s) (Send x p v) → Enabled (shape s) (network_of s) (Send x p v)
     → (d.0 ≡ 2 * length s.mesh → Grows (shape s) (network_of s) (Send x p v))
-    → IsNet (after_sending s x p v d) × Answers s (Send x p v) (Ok Done) (after_sending s x p v d)
+    → IsNet (after_sending s x p v d) × Stands s (Send x p v) (after_sending s x p v d) → after_sending s x p v d ≡ done_step s (Send x p v)
     → (answer : Result Moved StepFault) (new : NetState) → Sends s x p v (Some d) answer new → Outcome s x p v answer new
 unfolding Outcome
-done_answers s x p v d net there enabled grows made (Ok Done) new sends = subst (λ (n : NetState). IsNet n × Answers s (Send x p v) (Ok Done) n) (sym sends) made
-done_answers s x p v d net there enabled grows made (Ok StayedIdle) new sends = absurd sends
-done_answers s x p v d net there enabled grows made (Err NoSuchPlace) new sends = absurd sends
-done_answers s x p v d net there enabled grows made (Err (Refused fault)) new sends = absurd sends
-done_answers s x p v d net there enabled grows made (Err NoMemory) new sends =
+done_answers s x p v d net there enabled grows made same (Ok Done) new sends = subst (λ (n : NetState). IsNet n × Answers s (Send x p v) (Ok Done) n) (sym sends) (made.0, stood s (Send x p v) (after_sending s x p v d) made.1 same)
+done_answers s x p v d net there enabled grows made same (Ok StayedIdle) new sends = absurd sends
+done_answers s x p v d net there enabled grows made same (Err NoSuchPlace) new sends = absurd sends
+done_answers s x p v d net there enabled grows made same (Err (Refused fault)) new sends = absurd sends
+done_answers s x p v d net there enabled grows made same (Err NoMemory) new sends =
     (subst IsNet (sym sends.1) net, (there, enabled, grows (same_true d.0 (2 * length s.mesh) sends.0), sends.1))
 
 -- of each state and list of an input channel
@@ -373,7 +383,7 @@ judged s x p v net place x_in port there (Active o c) (f ∷ rest) e b = elim (b
       let all = made s x p v o c f rest net place x_in port e b there test leaves_is in
       rw test (
         way_out s x p v o c f rest net place x_in port e b test,
-        done_answers s x p v (o, with_channel f c) net there (enabled_by s x p v o c f rest net place x_in port e b test) grows all,
+        done_answers s x p v (o, with_channel f c) net there (enabled_by s x p v o c f rest net place x_in port e b test) grows all (ap (after_ready s x p v) (sym leaves_is)),
       )
   | inr test ↦
       rw test (

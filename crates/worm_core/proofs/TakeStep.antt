@@ -13,7 +13,7 @@ use Rattle.worm_theory.specs.Sound.{Leaves}
 use Rattle.worm_core.specs.Shape.{net_shape}
 use Rattle.worm_core.specs.State.{NetState, LinkView, IsNet, IsFramed, IsNetPlace, shape, network_of, router_at, with_router, link_at}
 use Rattle.worm_core.specs.Answers.{Answers, moved_of}
-use Rattle.worm_core.specs.Moves.{into_from, link_into, front_into, FrontFits, has_room, can_enter, after_take}
+use Rattle.worm_core.specs.Moves.{done_step, into_from, link_into, front_into, FrontFits, has_room, can_enter, after_take}
 use Rattle.worm_core.proofs.Ends.{feeder, first_of, none_of}
 use Rattle.worm_core.proofs.Bridge.{put2_same, put3_same, input_bridge, input_of-there, below_cases}
 use Rattle.worm_core.proofs.LinkBridge.{link_bridge, link_framed, out_there, credits_there}
@@ -126,23 +126,25 @@ Outcome s x p k o b =
     IsNet (if b then after_take s x p k o else s) × Answers s (Take x p) (Ok (moved_of b)) (if b then after_take s x p k o else s)
 
 take_at : (s : NetState) (x p y : ℕ) → IsNet s → x < length s.nodes → IsThere (shape s) (Take x p) → neighbour_of s.mesh x p ≡ Some y → (o : Option Flit) (b : Bool)
-    → slice_get (link_at s (links_before s.mesh y (opposite_of p))).flits 0 ≡ o → can_enter (router_at s x) p o ≡ b → Outcome s x p (links_before s.mesh y (opposite_of p)) o b
+    → slice_get (link_at s (links_before s.mesh y (opposite_of p))).flits 0 ≡ o → can_enter (router_at s x) p o ≡ b
+    → after_take s x p (links_before s.mesh y (opposite_of p)) o ≡ done_step s (Take x p) → Outcome s x p (links_before s.mesh y (opposite_of p)) o b
 unfolding Outcome
-take_at s x p y net x_in there e None true first can = absurd (cc)
-take_at s x p y net x_in there e None false first can = (net, (there, take_idle s x p y net x_in e None first can, refl, refl))
-take_at s x p y net x_in there e (Some f) true first can =
+take_at s x p y net x_in there e None true first can same = absurd (cc)
+take_at s x p y net x_in there e None false first can same = (net, (there, take_idle s x p y net x_in e None first can, refl, refl))
+take_at s x p y net x_in there e (Some f) true first can same =
     let step = take_done s x p y f net x_in e first can in
     let new = after_take s x p (links_before s.mesh y (opposite_of p)) (Some f) in (
       kept s new.nodes new.links (Take x p) net there step.0 step.2 step.1,
-      (there, step.0, step.1, record { mesh = refl; channels = refl; depth = refl }),
+      record { there = there; enabled = step.0; after_it = step.1; config = record { mesh = refl; channels = refl; depth = refl }; exact = same },
     )
-take_at s x p y net x_in there e (Some f) false first can = (net, (there, take_idle s x p y net x_in e (Some f) first can, refl, refl))
+take_at s x p y net x_in there e (Some f) false first can same = (net, (there, take_idle s x p y net x_in e (Some f) first can, refl, refl))
 
 take_by : (s : NetState) (x p : ℕ) → IsNet s → x < length s.nodes → IsThere (shape s) (Take x p) → (n : Option ℕ) → neighbour_of s.mesh x p ≡ n → IsSome n
+    → after_take s x p (into_from s.mesh p n) (slice_get (link_at s (into_from s.mesh p n)).flits 0) ≡ done_step s (Take x p)
     → Outcome s x p (into_from s.mesh p n) (slice_get (link_at s (into_from s.mesh p n)).flits 0) (can_enter (router_at s x) p (slice_get (link_at s (into_from s.mesh p n)).flits 0))
-take_by s x p net x_in there None e some = absurd (cc)
-take_by s x p net x_in there (Some y) e some =
-    take_at s x p y net x_in there e (slice_get (link_at s (links_before s.mesh y (opposite_of p))).flits 0) (can_enter (router_at s x) p (slice_get (link_at s (links_before s.mesh y (opposite_of p))).flits 0)) refl refl
+take_by s x p net x_in there None e some same = absurd (cc)
+take_by s x p net x_in there (Some y) e some same =
+    take_at s x p y net x_in there e (slice_get (link_at s (links_before s.mesh y (opposite_of p))).flits 0) (can_enter (router_at s x) p (slice_get (link_at s (links_before s.mesh y (opposite_of p))).flits 0)) refl refl same
 
 pub take_answers : (s : NetState) (x p : ℕ) → IsNet s → IsThere (shape s) (Take x p) → (done : Bool) → done ≡ can_enter (router_at s x) p (front_into s x p)
     → IsNet (if done then after_take s x p (link_into s x p) (front_into s x p) else s) × Answers s (Take x p) (Ok (moved_of done)) (if done then after_take s x p (link_into s x p) (front_into s x p) else s)
@@ -150,7 +152,7 @@ unfolding net_shape Outcome
 take_answers s x p net there done e =
     let all = net.framed.all_nodes in
     let node_in = there.0 in
-    rw e (take_by s x p net (omega arith) there (neighbour_of s.mesh x p) refl there.1)
+    rw e (take_by s x p net (omega arith) there (neighbour_of s.mesh x p) refl there.1 refl)
 
 fits_at : (s : NetState) (x p y : ℕ) → IsNet s → x < length s.nodes → neighbour_of s.mesh x p ≡ Some y → (o : Option Flit)
     → slice_get (link_at s (links_before s.mesh y (opposite_of p))).flits 0 ≡ o → FrontFits (router_at s x) p o

@@ -6,7 +6,8 @@ use Rattle.worm_term.specs.Source.{refusal}
 use Rattle.worm_theory.specs.Network.{Network}
 use Rattle.worm_theory.specs.Shape.{Shape}
 use Rattle.worm_theory.specs.Steps.{Step, Offer, CloseLane, Feed, Route, Grant, Send, Take, GiveCredit, TakeCredit, IsThere, IsActiveAt, Enabled, after}
-use Rattle.worm_core.specs.State.{NetState, IsSameConfig, shape, network_of, source_at}
+use Rattle.worm_core.specs.State.{NetState, IsSameConfig, shape, network_of, router_at, source_at}
+use Rattle.worm_core.specs.Moves.{done_step}
 use Rattle.worm_core.specs.declared.step.Moved.{Moved}
 use Rattle.worm_core.specs.declared.step.Moved.TheVariants.{Done, Idle}
 use Rattle.worm_core.specs.declared.fault.StepFault.{StepFault}
@@ -36,10 +37,18 @@ Grows s net (Take x p) = ⊥
 Grows s net (GiveCredit x p v) = ⊥
 Grows s net (TakeCredit x o) = ⊥
 
+-- the step is there and enabled, and done: to the lists, and so to what they stand for
+pub record IsDone (old : NetState) (step : Step) (new : NetState) : Type 0 where
+  pub there : IsThere (shape old) step
+  pub enabled : Enabled (shape old) (network_of old) step
+  pub after_it : network_of new ≡ after (shape old) (network_of old) step
+  pub config : IsSameConfig old new
+  pub exact : new ≡ done_step old step
+
 -- Done where the step's place is there and it is enabled, and the network is then the theory's; Idle where the place is
 -- there, the step is not enabled and no source refused; and a fault says which of these it was. All but Done change nothing.
 abbrev pub Answers : NetState → Step → Result Moved StepFault → NetState → Type 0
-Answers old step (Ok Done) new = IsThere (shape old) step × Enabled (shape old) (network_of old) step × (network_of new ≡ after (shape old) (network_of old) step) × IsSameConfig old new
+Answers old step (Ok Done) new = IsDone old step new
 Answers old step (Ok Idle) new = IsThere (shape old) step × (Enabled (shape old) (network_of old) step → ⊥) × (refusal_of old step ≡ None) × (new ≡ old)
 Answers old step (Err NoSuchPlace) new = (IsThere (shape old) step → ⊥) × (new ≡ old)
 Answers old step (Err (Refused fault)) new = IsThere (shape old) step × (Enabled (shape old) (network_of old) step → ⊥) × (refusal_of old step ≡ Some fault) × (new ≡ old)
@@ -59,3 +68,8 @@ accepted_of (Err LaneClosed) = Err (Refused LaneClosed)
 accepted_of (Err LaneFull) = Err (Refused LaneFull)
 accepted_of (Err NoRoom) = Err NoMemory
 accepted_of (Err ManyChannels) = Err (Refused ManyChannels)
+
+-- no arbiter of any router has moved
+abbrev pub ArbitersStand : NetState → NetState → Type 0
+ArbitersStand old new =
+    (x : ℕ) → ((router_at new x).channel_alloc ≡ (router_at old x).channel_alloc) × ((router_at new x).switch_alloc ≡ (router_at old x).switch_alloc)

@@ -9,3 +9,4 @@ pub mod NewNet
 pub mod Turns
 pub mod Totals
 pub mod LaneView
+pub mod LaneSet

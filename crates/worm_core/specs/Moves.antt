@@ -3,11 +3,12 @@ use Rattle.std.specs.Prelude.{ℕ, ◌*◌, ◌<◌, ◌≡◌, ◌==◌, Bool, 
 use Rattle.worm_flit.specs.declared.Flit.{Flit}
 use Rattle.worm_mesh.specs.Address.{node_count, neighbour_of, opposite_of}
 use Rattle.worm_mesh.specs.Links.{links_before}
-use Rattle.worm_router.specs.Router.{RouterState, IsPlace, terminal, input_at, output_at, after_accept, after_send, after_gave, after_credit}
+use Rattle.worm_router.specs.Router.{RouterState, IsPlace, terminal, input_at, output_at, leaving, after_accept, after_route, after_grant, after_send, after_gave, after_credit}
 use Rattle.worm_router.specs.Allocation.{after_choose}
 use Rattle.worm_term.specs.Sink.{after_take as after_sink}
-use Rattle.worm_term.specs.Source.{after_fed}
-use Rattle.worm_core.specs.State.{NetState, node_at, router_at, sink_at, link_at, with_node, with_router, with_link}
+use Rattle.worm_term.specs.Source.{front_of, after_offer, after_close, after_fed}
+use Rattle.worm_theory.specs.Steps.{Step, Offer, CloseLane, Feed, Route, Grant, Send, Take, GiveCredit, TakeCredit}
+use Rattle.worm_core.specs.State.{NetState, node_at, router_at, source_at, sink_at, link_at, with_node, with_router, with_source, with_link}
 use Rattle.worm_core.specs.declared.node.Node.{Node}
 use Rattle.worm_core.specs.declared.step.Moved.{Moved}
 use Rattle.worm_core.specs.declared.step.Moved.TheVariants.{Done, Idle}
@@ -106,3 +107,20 @@ abbrev pub after_getting : NetState → ℕ → ℕ → Option ℕ → NetState
 after_getting s x o None = s
 after_getting s x o (Some c) =
     with_link (with_router s x (after_credit (router_at s x) o c)) (link_out s x o) (record (link_at s (link_out s x o)) { credits = drop 1 (link_at s (link_out s x o)).credits })
+
+-- Send, whatever is ready to leave
+abbrev pub after_ready : NetState → ℕ → ℕ → ℕ → Option (ℕ × Flit) → NetState
+after_ready s x p v None = s
+after_ready s x p v (Some d) = after_sending s x p v d
+
+-- what a step makes of a network's lists, where it is done
+abbrev pub done_step : NetState → Step → NetState
+done_step s (Offer x lane words) = with_source s x (after_offer (source_at s x) (record { lane = lane; words = words }))
+done_step s (CloseLane x lane) = with_source s x (after_close (source_at s x) lane)
+done_step s (Feed x k) = with_node s x (fed_node (node_at s x) k (front_of (source_at s x) k))
+done_step s (Route x p v) = with_router s x (after_route (router_at s x) p v)
+done_step s (Grant x p v c) = with_router s x (after_grant (router_at s x) p v c)
+done_step s (Send x p v) = after_ready s x p v (leaving (router_at s x) p v)
+done_step s (Take x p) = after_take s x p (link_into s x p) (front_into s x p)
+done_step s (GiveCredit x p v) = after_giving s x p v (link_into s x p)
+done_step s (TakeCredit x o) = after_getting s x o (front_credit s x o)

@@ -1,5 +1,8 @@
--- The order of a script's entries.
-use Rattle.std.specs.Prelude.{ℕ, ◌≤◌, ◌+◌, ◌-◌, ◌<◌, List, length, map, slice_index}
+-- The order of a script's entries, and those of a turn and of a node.
+use Rattle.std.specs.Prelude.{ℕ, ◌≤◌, ◌+◌, ◌-◌, ◌<◌, ◌==◌, List, length, map, filter, slice_index}
+use Rattle.worm_flit.specs.declared.Lane.{Lane}
+use Rattle.worm_core.specs.declared.script.Act.{Act}
+use Rattle.worm_core.specs.declared.script.Act.TheVariants.{Offer, Close}
 use Rattle.worm_core.specs.declared.script.Entry.{Entry}
 
 -- the turns of the entries, one after another
@@ -13,3 +16,16 @@ last_turn entries = slice_index (turns_of entries) (length entries - 1)
 -- turns never fall
 abbrev pub AreInOrder : List Entry → Type 0
 AreInOrder entries = (i : ℕ) → i + 1 < length entries → slice_index (turns_of entries) i ≤ slice_index (turns_of entries) (i + 1)
+
+-- the lane of which an entry speaks
+abbrev pub lane_of : Act → Lane
+lane_of (Offer packet) = packet.lane
+lane_of (Close lane) = lane
+
+-- the entries of a turn, in their order
+abbrev pub due : ℕ → List Entry → List Entry
+due turn entries = filter (λ (e : Entry). e.turn == turn) entries
+
+-- those whose lane begins at a node, in their order
+abbrev pub begun_at : ℕ → List Entry → List Entry
+begun_at x entries = filter (λ (e : Entry). (lane_of e.act).src == x) entries

@@ -1,10 +1,178 @@
--- What turns of nodes make of a network.
-use Rattle.std.specs.Prelude.{List}
-use Rattle.worm_theory.specs.Steps.{Step, StepsLead}
-use Rattle.worm_core.specs.State.{NetState, IsSameConfig, shape, network_of}
+-- The turn of a node, the turns of all nodes, and the run on one thread: which step is tried in which order, and where the
+-- allocators pass between them (Dally and Towles, chapters 16, 18 and 19).
+use Rattle.std.specs.Prelude.{ℕ, zero, suc, ◌≡◌, ◌+◌, ◌*◌, ◌<◌, ◌==◌, nat_lt, ◌⊎◌, List, [], ◌∷◌, length, sum, map, slice_index_or, Option, Some, None, IsSome, option_map, Result, Ok, Err, MatchBool}
+use Rattle.std.specs.List.{range_with_len, flat_map, find}
+use Rattle.std.specs.Option.{option_to_list}
+use Rattle.worm_mesh.specs.Address.{node_count}
+use Rattle.worm_router.specs.Router.{RouterState, width, input_at}
+use Rattle.worm_router.specs.Allocation.{after_allocate, switch_grants}
+use Rattle.worm_swalloc.specs.declared.grant.SwGrant.{SwGrant}
+use Rattle.worm_theory.specs.Steps.{Step, Offer, CloseLane, Feed, Route, Send, Take, GiveCredit, TakeCredit, StepsLead}
+use Rattle.worm_core.specs.State.{NetState, IsSameConfig, shape, network_of, router_at, with_router}
+use Rattle.worm_core.specs.Moves.{chosen_router}
+use Rattle.worm_core.specs.Answers.{Answers}
+use Rattle.worm_core.specs.Script.{due, begun_at}
+use Rattle.worm_core.specs.Totals.{injected_total, delivered_total}
+use Rattle.worm_core.specs.declared.script.Act.{Act}
+use Rattle.worm_core.specs.declared.script.Act.TheVariants.{Offer as ToOffer, Close as ToClose}
+use Rattle.worm_core.specs.declared.script.Entry.{Entry}
+use Rattle.worm_core.specs.declared.step.Moved.{Moved}
+use Rattle.worm_core.specs.declared.fault.StepFault.{StepFault}
+use Rattle.worm_core.specs.declared.fault.StepFault.TheVariants.{NoSuchPlace, Refused, NoMemory}
+
+-- Passages
+
+-- what is done to a network: from the old one it leads to a new one, ended by a fault or by none
+abbrev pub Passage : Type 1
+Passage = NetState → Option StepFault → NetState → Type 0
+
+-- nothing is done
+abbrev pub Stays : Passage
+Stays old fault new = (fault ≡ None) × (new ≡ old)
+
+infixr 5 ◌and_then◌
+-- the one, ended by its fault; or the one without a fault, and then the other
+abbrev pub ◌and_then◌ : Passage → Passage → Passage
+◌and_then◌ P Q old fault new = (IsSome fault × P old fault new) ⊎ ((mid : NetState) × P old None mid × Q mid fault new)
+
+-- one for each of a list, in its order, up to the first fault
+abbrev pub Each : {A : Type 0} → (A → Passage) → List A → Passage
+Each P [] = Stays
+Each P (a ∷ rest) = P a and_then Each P rest
+
+-- the same for a list that is read off the network as it is then
+abbrev pub ForEach : {A : Type 0} → (NetState → List A) → (A → Passage) → Passage
+ForEach list P old fault new = Each P (list old) old fault new
+
+-- the fault that a step's answer is to a turn: a step that is not there, or not enabled, is passed over
+abbrev pub fault_of : Result Moved StepFault → Option StepFault
+fault_of (Ok moved) = None
+fault_of (Err NoSuchPlace) = None
+fault_of (Err (Refused why)) = Some (Refused why)
+fault_of (Err NoMemory) = Some NoMemory
+
+-- a step is tried
+abbrev pub Tries : Step → Passage
+Tries step old fault new = (answer : Result Moved StepFault) × Answers old step answer new × (fault ≡ fault_of answer)
+
+-- Places, by rising number
+
+abbrev pub all_nodes : NetState → List ℕ
+all_nodes s = range_with_len 0 (node_count s.mesh)
+
+abbrev pub mesh_ports : NetState → List ℕ
+mesh_ports s = range_with_len 0 (2 * length s.mesh)
+
+-- the same and the terminal
+abbrev pub all_ports : NetState → List ℕ
+all_ports s = range_with_len 0 (2 * length s.mesh + 1)
+
+abbrev pub all_classes : NetState → List ℕ
+all_classes s = range_with_len 0 (length s.channels)
+
+abbrev pub all_channels : NetState → List ℕ
+all_channels s = range_with_len 0 (sum s.channels)
+
+-- The turn of a node
+
+-- what an entry asks of the node's source
+abbrev pub ask : ℕ → Act → Step
+ask x (ToOffer packet) = Offer x packet.lane packet.words
+ask x (ToClose lane) = CloseLane x lane
+
+-- the node's source is asked what the entries ask of it
+abbrev pub AsksSource : List Entry → ℕ → Passage
+AsksSource entries x = ForEach (λ s. map (λ (e : Entry). ask x e.act) (begun_at x entries)) Tries
+
+-- a credit is taken from each link out of the node, and a flit from each link into it
+abbrev pub TakesCredits : ℕ → Passage
+TakesCredits x = ForEach (λ s. map (TakeCredit x) (mesh_ports s)) Tries
+
+abbrev pub TakesFlits : ℕ → Passage
+TakesFlits x = ForEach (λ s. map (Take x) (mesh_ports s)) Tries
+
+-- a flit of each class is fed
+abbrev pub FeedsClasses : ℕ → Passage
+FeedsClasses x = ForEach (λ s. map (Feed x) (all_classes s)) Tries
+
+-- each input channel is routed, of a port, and of each port
+abbrev pub RoutesPort : ℕ → ℕ → Passage
+RoutesPort x p = ForEach (λ s. map (Route x p) (all_channels s)) Tries
+
+abbrev pub RoutesChannels : ℕ → Passage
+RoutesChannels x = ForEach all_ports (RoutesPort x)
+
+-- one pass of the channel allocator, its grants written into the records
+abbrev pub Allocates : ℕ → Passage
+Allocates x old fault new = (fault ≡ None) × (new ≡ with_router old x (after_allocate (router_at old x)))
+
+-- what a pass of the switch allocator granted to an input port, as a step
+abbrev pub granted_send : List (Option SwGrant) → ℕ → ℕ → List Step
+granted_send grants x p = option_to_list (option_map (λ g. Send x p g.vc) (slice_index_or grants p None))
+
+-- one pass of the switch allocator, and then the Sends that it granted, by input port
+abbrev pub SendsGranted : ℕ → Passage
+SendsGranted x old fault new =
+    Each Tries (flat_map (granted_send (switch_grants (router_at old x)) x) (all_ports old)) (with_router old x (chosen_router (router_at old x))) fault new
+
+-- the lowest channel of a port that owes a credit
+abbrev pub lowest_owed : RouterState → ℕ → Option ℕ
+lowest_owed r p = find (λ v. nat_lt 0 (input_at r p v).owed) (range_with_len 0 (width r))
+
+-- a credit of it is given to each link into the node
+abbrev pub GivesCredit : ℕ → ℕ → Passage
+GivesCredit x p = ForEach (λ s. option_to_list (option_map (GiveCredit x p) (lowest_owed (router_at s x) p))) Tries
+
+abbrev pub GivesCredits : ℕ → Passage
+GivesCredits x = ForEach mesh_ports (GivesCredit x)
+
+-- the turn of a node, with these entries for all nodes
+abbrev pub NodeTurn : List Entry → ℕ → Passage
+NodeTurn entries x =
+    AsksSource entries x
+    and_then TakesCredits x
+    and_then TakesFlits x
+    and_then FeedsClasses x
+    and_then RoutesChannels x
+    and_then Allocates x
+    and_then SendsGranted x
+    and_then GivesCredits x
+
+-- The turns of all nodes
+
+abbrev pub Turn : List Entry → Passage
+Turn entries = ForEach all_nodes (NodeTurn entries)
+
+-- the turns below a number, each with its entries of the script
+abbrev pub Turns : List Entry → ℕ → Passage
+Turns script n = Each (λ t. Turn (due t script)) (range_with_len 0 n)
+
+-- at most so many turns without entries, ending before a turn with no flit under way
+abbrev pub Drains : ℕ → Passage
+Drains zero old fault new = Stays old fault new
+Drains (suc n) old fault new = MatchBool (injected_total old == delivered_total old) (Stays old fault new) ((Turn [] and_then Drains n) old fault new)
+
+-- The run on one thread: the turns below a number with a script's entries, and then the drain; or else the turn in which a fault
+-- stopped it, and that fault.
+abbrev pub OneThreadRun : List Entry → ℕ → ℕ → NetState → Option ℕ → Option StepFault → NetState → Type 0
+OneThreadRun script turns drain old None fault new = (mid : NetState) × Turns script turns old None mid × Drains drain mid fault new
+OneThreadRun script turns drain old (Some t) fault new = (t < turns) × IsSome fault × ((mid : NetState) × Turns script t old None mid × Turn (due t script) mid fault new)
+
+-- From one network it leads to one alone, with one fault or none, unless want of memory ended it.
+abbrev pub IsDetermined : Passage → Type 0
+IsDetermined P =
+    (old new other : NetState) (fault else_fault : Option StepFault) → P old fault new → P old else_fault other
+    → (fault ≡ Some NoMemory → ⊥) → (else_fault ≡ Some NoMemory → ⊥) → (fault ≡ else_fault) × (new ≡ other)
+
+-- By steps of the theory
 
 -- some list of steps leads from the old network to the new
 pub record Reaches (old new : NetState) : Type 0 where
   pub steps : List Step
   pub led : StepsLead (shape old) (network_of old) steps (network_of new)
   pub config : IsSameConfig old new
+
+-- the passage was made, and by steps of the theory
+pub record Does (P : Passage) (old : NetState) (fault : Option StepFault) (new : NetState) : Type 0 where
+  pub exact : P old fault new
+  pub reaches : Reaches old new

@@ -9,6 +9,7 @@
 //! Nothing is said of time, nor that anything is ever delivered.
 #![tactic(auto)]
 
+mod busy;
 mod config;
 mod fabric;
 mod fault;
@@ -24,6 +25,7 @@ mod totals;
 mod turn;
 mod view;
 
+pub use busy::LaneSet;
 pub use config::{Config, Name};
 pub use fault::{NetFault, StepFault};
 pub use link::LinkState;

@@ -1,12 +1,12 @@
 ghost use Rattle.std.specs.Prelude.{◌≡◌, ◌≤◌, ◌<◌, ◌*◌, ◌↔◌, ℕ, Result, IsTrue, IfNone, IfOk, sum, length, slice_get, IfSome, MatchOption, Err};
 ghost use Rattle.worm_theory.specs.Steps.{Step as Event};
 ghost use Rattle.worm_core.specs.Runs.{IsRun, event_of};
-ghost use Rattle.worm_core.specs.Answers.{Answers, accepted_of, moved_of};
+ghost use Rattle.worm_core.specs.Answers.{Answers, ArbitersStand, accepted_of, moved_of};
 ghost use Rattle.worm_theory.specs.Steps.{empty};
 ghost use Rattle.worm_core.specs.NewNet.{IsConfig, IsFresh};
 ghost use Rattle.worm_core.specs.Headline.{DeliversInOrder, NothingFollowsMarks};
 ghost use Rattle.worm_core.specs.State.{IsNet, shape, network_of, queue_of, router_at, sink_at, source_at, with_router};
-ghost use Rattle.worm_core.specs.Turns.{Reaches};
+ghost use Rattle.worm_core.specs.Turns.{Reaches, lowest_owed};
 ghost use Rattle.worm_mesh.specs.Address.{node_count};
 ghost use Rattle.worm_router.specs.Router.{input_at, width};
 ghost use Rattle.worm_router.specs.Allocation.{after_allocate, switch_grants};
@@ -197,9 +197,7 @@ impl Net {
     pub(crate) fn lowest_owed(&self, node: u8, port: u8) -> Option<u8>
         requires node { node < node_count self.now.mesh }
         requires port { port ≤ 2 * length self.now.mesh }
-        ensures found { IfSome result (λ vc. 0 < (input_at (router_at self.now node) port vc).owed) }
-        ensures lowest { IfSome result (λ vc. (k : ℕ) → k < vc → (input_at (router_at self.now node) port k).owed ≡ 0) }
-        ensures none { IfNone result ((k : ℕ) → k < width (router_at self.now node) → (input_at (router_at self.now node) port k).owed ≡ 0) }
+        ensures { result ≡ lowest_owed (router_at self.now node) port }
     {
         self.fabric.lowest_owed(node, port)
     }
@@ -287,7 +285,10 @@ impl Net {
 
     /// One step.
     pub fn step(&mut self, step: &Step) -> Result<Moved, StepFault>
-        ensures { Answers self.old (event_of step.now) result self.new }
+        ensures answers { Answers self.old (event_of step.now) result self.new }
+
+        // Arbiters are for turns alone.
+        ensures pointers { ArbitersStand self.old self.new }
     {
         match step {
             Step::Offer { node, packet } => self.offer(*node, packet),

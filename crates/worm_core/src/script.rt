@@ -1,5 +1,5 @@
-ghost use Rattle.std.specs.Prelude.{◌≡◌, ◌<◌, ◌↔◌, ◌++◌, ◌∷◌, [], OnOk, OnErr};
-ghost use Rattle.worm_core.specs.Script.{AreInOrder, last_turn};
+ghost use Rattle.std.specs.Prelude.{◌≡◌, ◌<◌, ◌≤◌, ◌↔◌, ◌++◌, ◌∷◌, [], OnOk, OnErr, length, slice_range};
+ghost use Rattle.worm_core.specs.Script.{AreInOrder, due, lane_of, last_turn};
 
 use std::alloc::Global;
 use std::marker::Model;
@@ -12,6 +12,18 @@ pub enum Act {
     Offer(Packet),
     /// To close this lane, after which it accepts nothing for it.
     Close(Lane),
+}
+
+impl Act {
+    /// The lane of which it speaks.
+    pub fn lane(&self) -> Lane
+        ensures { result ≡ lane_of self.now }
+    {
+        match self {
+            Act::Offer(packet) => packet.lane(),
+            Act::Close(lane) => *lane,
+        }
+    }
 }
 
 /// One line of traffic.
@@ -50,6 +62,18 @@ impl Model for Script {
     ghost invariant = { λ s. AreInOrder s.entries.items };
 }
 
+/// Where the entries of a turn begin, and where those of later turns.
+fn due_places(entries: &[Entry], turn: u64) -> (usize, usize)
+    requires { AreInOrder entries.now }
+    ensures rise { result.0 ≤ result.1 }
+    ensures within { result.1 ≤ length entries.now }
+    ensures part { slice_range entries.now result.0 result.1 ≡ due turn entries.now }
+{
+    let first = entries.partition_point(|entry| u64::from(entry.turn) < turn);
+    let next = entries.partition_point(|entry| u64::from(entry.turn) <= turn);
+    (first, next)
+}
+
 impl Script {
     /// A script with no entry.
     pub fn empty(alloc: Global) -> Script
@@ -86,5 +110,14 @@ impl Script {
         ensures in_order { AreInOrder self.now }
     {
         self.entries.as_slice()
+    }
+
+    /// The entries of a turn, in order.
+    pub fn due(&self, turn: u64) -> &[Entry]
+        ensures { result.now ≡ due turn self.now }
+    {
+        let entries = self.entries.as_slice();
+        let (first, next) = due_places(entries, turn);
+        &entries[first..next]
     }
 }

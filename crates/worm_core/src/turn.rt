@@ -1,36 +1,45 @@
 //! The turn of a node, and the turns of all nodes in rising number.
 
-ghost use Rattle.std.specs.Prelude.{◌≡◌, ◌<◌, ◌≤◌, ◌*◌, length};
+ghost use Rattle.std.specs.Prelude.{◌≡◌, ◌<◌, ◌≤◌, ◌*◌, None, length};
+ghost use Rattle.std.specs.Result.{result_err};
 ghost use Rattle.worm_mesh.specs.Address.{node_count};
+ghost use Rattle.worm_core.specs.Answers.{Answers};
 ghost use Rattle.worm_core.specs.Headline.{DeliversInOrder, NothingFollowsMarks};
-ghost use Rattle.worm_core.specs.Turns.{Reaches};
+ghost use Rattle.worm_core.specs.Script.{due};
 ghost use Rattle.worm_core.specs.State.{IsNet};
+ghost use Rattle.worm_core.specs.Turns.{AsksSource, Does, FeedsClasses, GivesCredits, NodeTurn, Reaches, RoutesChannels, RoutesPort, SendsGranted, TakesCredits, TakesFlits, Turn, ask, fault_of};
 
-use crate::{Act, Entry, Net, Script, StepFault};
+use crate::{Act, Entry, Moved, Net, Script, StepFault};
+
+/// What the answer to a step is to the turn that tried it: a step that is not there, or not enabled, is passed over.
+fn tried(answer: Result<Moved, StepFault>) -> Result<(), StepFault>
+    ensures { result_err result ≡ fault_of answer }
+{
+    match answer {
+        Ok(_moved) => Ok(()),
+        Err(StepFault::NoSuchPlace) => Ok(()),
+        Err(fault) => Err(fault),
+    }
+}
 
 impl Net {
-    /// Asks the node's source, if the act is of a lane that begins there.
-    fn ask(&mut self, node: u8, act: &Act) -> Result<(), StepFault>
-        ensures { Reaches self.old self.new }
+    /// Asks the node's source what an entry asks of it.
+    fn ask(&mut self, node: u8, act: &Act) -> Result<Moved, StepFault>
+        ensures { Answers self.old (ask node act.now) result self.new }
     {
-        let answer = match act {
-            Act::Offer(packet) if packet.lane().src == node => self.offer(node, packet),
-            Act::Close(lane) if lane.src == node => self.close(node, *lane),
-            _ => return Ok(()),
-        };
-        match answer {
-            Ok(_moved) => Ok(()),
-            Err(fault) => Err(fault),
+        match act {
+            Act::Offer(packet) => self.offer(node, packet),
+            Act::Close(lane) => self.close(node, *lane),
         }
     }
 
-    /// Hands each of these entries of the turn whose lane begins at the node to the node's source, up to the first refusal.
-    fn ask_source(&mut self, node: u8, turn: u64, entries: &[Entry]) -> Result<(), StepFault>
-        ensures { Reaches self.old self.new }
+    /// Asks the node's source what these entries ask of it, up to the first refusal.
+    fn ask_source(&mut self, node: u8, entries: &[Entry]) -> Result<(), StepFault>
+        ensures { Does (AsksSource entries.now node) self.old (result_err result) self.new }
     {
         for entry in entries {
-            if u64::from(entry.turn) == turn {
-                self.ask(node, &entry.act)?;
+            if entry.act.lane().src == node {
+                tried(self.ask(node, &entry.act))?;
             }
         }
         Ok(())
@@ -38,7 +47,7 @@ impl Net {
 
     /// Takes a credit from each link out of the node, ports rising.
     fn take_credits(&mut self, node: u8)
-        ensures { Reaches self.old self.new }
+        ensures { Does (TakesCredits node) self.old None self.new }
     {
         for port in 0..self.terminal() {
             let _moved = self.get(node, port);
@@ -47,7 +56,7 @@ impl Net {
 
     /// Takes a flit from each link into the node, ports rising.
     fn take_flits(&mut self, node: u8)
-        ensures { Reaches self.old self.new }
+        ensures { Does (TakesFlits node) self.old None self.new }
     {
         for port in 0..self.terminal() {
             let _moved = self.take(node, port);
@@ -56,7 +65,7 @@ impl Net {
 
     /// Feeds a flit of each class, rising.
     fn feed_classes(&mut self, node: u8)
-        ensures { Reaches self.old self.new }
+        ensures { Does (FeedsClasses node) self.old None self.new }
     {
         for class in 0..self.classes() {
             let _moved = self.feed(node, class);
@@ -65,7 +74,7 @@ impl Net {
 
     /// Routes each channel of a port, rising.
     fn route_port(&mut self, node: u8, port: u8)
-        ensures { Reaches self.old self.new }
+        ensures { Does (RoutesPort node port) self.old None self.new }
     {
         for vc in 0..self.channels() {
             let _moved = self.route(node, port, vc);
@@ -74,7 +83,7 @@ impl Net {
 
     /// Routes each channel, by rising port, then channel.
     fn route_channels(&mut self, node: u8)
-        ensures { Reaches self.old self.new }
+        ensures { Does (RoutesChannels node) self.old None self.new }
     {
         for port in 0..self.terminal() + 1 {
             self.route_port(node, port);
@@ -84,12 +93,12 @@ impl Net {
     /// Lets each input port that a pass of the switch allocator grants send, ports rising, up to the first fault.
     fn send_granted(&mut self, node: u8) -> Result<(), StepFault>
         requires { node < node_count self.old.mesh }
-        ensures { Reaches self.old self.new }
+        ensures { Does (SendsGranted node) self.old (result_err result) self.new }
     {
         let grants = self.choose(node);
         for port in 0..self.terminal() + 1 {
             if let Some(grant) = grants[usize::from(port)] {
-                self.send(node, port, grant.vc)?;
+                tried(self.send(node, port, grant.vc))?;
             }
         }
         Ok(())
@@ -98,7 +107,7 @@ impl Net {
     /// Gives a credit of the lowest channel that owes one to each link into the node, ports rising.
     fn give_credits(&mut self, node: u8)
         requires { node < node_count self.old.mesh }
-        ensures { Reaches self.old self.new }
+        ensures { Does (GivesCredits node) self.old None self.new }
     {
         for port in 0..self.terminal() {
             if let Some(vc) = self.lowest_owed(node, port) {
@@ -107,12 +116,12 @@ impl Net {
         }
     }
 
-    /// The turn of a node, whose source is asked these entries.
-    fn node_turn(&mut self, node: u8, turn: u64, entries: &[Entry]) -> Result<(), StepFault>
+    /// The turn of a node, with these entries for all nodes.
+    fn node_turn(&mut self, node: u8, entries: &[Entry]) -> Result<(), StepFault>
         requires { node < node_count self.old.mesh }
-        ensures { Reaches self.old self.new }
+        ensures { Does (NodeTurn entries.now node) self.old (result_err result) self.new }
     {
-        self.ask_source(node, turn, entries)?;
+        self.ask_source(node, entries)?;
         self.take_credits(node);
         self.take_flits(node);
         self.feed_classes(node);
@@ -124,11 +133,11 @@ impl Net {
     }
 
     /// The turns of all nodes with these entries, in rising number.
-    fn all_turns(&mut self, turn: u64, entries: &[Entry]) -> Result<(), StepFault>
-        ensures { Reaches self.old self.new }
+    fn all_turns(&mut self, entries: &[Entry]) -> Result<(), StepFault>
+        ensures { Does (Turn entries.now) self.old (result_err result) self.new }
     {
         for node in 0..self.nodes() {
-            self.node_turn(node as u8, turn, entries)?;
+            self.node_turn(node as u8, entries)?;
         }
         Ok(())
     }
@@ -137,13 +146,13 @@ impl Net {
     /// fault what was done before it stands. `Refused` where a source refuses an entry, `NoMemory` where there is none
     /// for an accepted or a delivered flit.
     pub fn turn(&mut self, turn: u64, script: &Script) -> Result<(), StepFault>
+        ensures exact { Turn (due turn script.now) self.old (result_err result) self.new }
         ensures reaches { Reaches self.old self.new }
         ensures delivers { DeliversInOrder self.new }
         ensures marks { NothingFollowsMarks self.old self.new }
     {
         self.is_sound();
-        let entries = script.entries();
-        let result = self.all_turns(turn, entries);
+        let result = self.all_turns(script.due(turn));
         self.is_sound();
         result
     }

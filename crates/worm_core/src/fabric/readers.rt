@@ -50,6 +50,21 @@ impl Fabric {
         requires linked { IsSome (neighbour_of self.now.mesh node port) }
         ensures { result.now ≡ link_at self.now (link_out self.now node port) }
     {
-        &self.links[usize::from(self.link_out(node, port))]
+        self.link(self.link_out(node, port))
+    }
+
+    /// The number of links.
+    pub fn links(&self) -> u16
+        ensures { result ≡ link_count self.now.mesh }
+    {
+        self.mesh.links()
+    }
+
+    /// The link of this number.
+    pub fn link(&self, number: u16) -> &LinkState
+        requires { number < length self.now.links }
+        ensures { result.now ≡ link_at self.now number }
+    {
+        &self.links[usize::from(number)]
     }
 }

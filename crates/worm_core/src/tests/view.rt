@@ -138,6 +138,10 @@ fn a_worm_stands_from_link_to_source(rt: HostRuntime) -> Result<(), Fail> {
     assert_eq!(rt; standings(alloc, &seen)?.as_slice(), expected.as_slice());
     let back = view(alloc, &net, lane(1, 0, 0), &rt)?;
     assert!(rt; back.underway.is_empty());
+    let busy = net.busy(alloc)?;
+    assert!(rt; busy.contains(over));
+    assert!(rt; !busy.contains(lane(1, 0, 0)));
+    assert!(rt; !busy.contains(lane(0, 0, 0)));
     Ok(())
 }
 

@@ -1,5 +1,7 @@
-use Rattle.worm_core.specs.Turns.{Reaches}
+use Rattle.std.proofs.Common.{None}
+use Rattle.std.specs.List.{range_with_len}
+use Rattle.worm_core.specs.Turns.{Does, Each, NodeTurn}
 use Rattle.worm_core.proofs.net.Net.all_turns.Given as goal
 
 abbrev pub invariant-loop-node : goal.invariant-loop-node
-invariant-loop-node l = Reaches l.initial.self l.self
+invariant-loop-node l = Does (Each (NodeTurn l.entries) (range_with_len 0 l.node)) l.initial.self None l.self

@@ -1,5 +1,8 @@
-use Rattle.worm_core.specs.Turns.{Reaches}
+use Rattle.std.proofs.Common.{None}
+use Rattle.std.specs.List.{range_with_len}
+use Rattle.worm_theory.specs.Steps.{Feed}
+use Rattle.worm_core.specs.Turns.{Does, Each, Tries}
 use Rattle.worm_core.proofs.net.Net.feed_classes.Given as goal
 
 abbrev pub invariant-loop-class : goal.invariant-loop-class
-invariant-loop-class l = Reaches l.initial.self l.self
+invariant-loop-class l = Does (Each (λ i. Tries (Feed l.node i)) (range_with_len 0 l.class)) l.initial.self None l.self

@@ -1,5 +1,7 @@
-use Rattle.worm_core.specs.Turns.{Reaches}
+use Rattle.std.proofs.Common.{None}
+use Rattle.std.specs.List.{range_with_len}
+use Rattle.worm_core.specs.Turns.{Does, Each, GivesCredit}
 use Rattle.worm_core.proofs.net.Net.give_credits.Given as goal
 
 abbrev pub invariant-loop-port : goal.invariant-loop-port
-invariant-loop-port l = Reaches l.initial.self l.self
+invariant-loop-port l = Does (Each (GivesCredit l.node) (range_with_len 0 l.port)) l.initial.self None l.self

@@ -12,7 +12,7 @@ loop-step-preserved c =
     subst (λ (n : ℕ). IsRun c.args.self.now c.loop-step.self c.args.steps.now n) e c.loop-step.invariant.1 in
     let step = c.step-item.result in
     let answer : Answers c.loop-step.self (event_of (get_or c.args.steps.now c.loop-step.step-index step)) (Ok c.in-Ok._moved) c.step.new.self =
-    subst (λ (d : Step). Answers c.loop-step.self (event_of d) (Ok c.in-Ok._moved) c.step.new.self) c.step-item.is (rw c.in-Ok.is at c.step.ensures) in
+    subst (λ (d : Step). Answers c.loop-step.self (event_of d) (Ok c.in-Ok._moved) c.step.new.self) c.step-item.is (rw c.in-Ok.is at c.step.ensures.answers) in
     let more : IsRun c.args.self.now c.step.new.self c.args.steps.now (c.loop-step.step-index + 1) =
     run_more c.args.self.now c.loop-step.self c.step.new.self c.args.steps.now c.loop-step.step-index step c.in-Ok._moved c.loop-step-test.true so_far answer in
     (omega arith, subst (λ (n : ℕ). IsRun c.args.self.now c.step.new.self c.args.steps.now (n + 1)) (sym e) more)

@@ -1,0 +1,122 @@
+-- The parts of a node's turn, as its calls make them.
+use Rattle.std.proofs.Common.{◌≡◌, ℕ, zero, suc, Bool, nat_lt, ◌≤◌, inl, inr, ◌+◌, ◌*◌, ◌<◌, ◌==◌, true, false, eq-eqb, get_or, take, map, List, [], length, Option, Some, None, refl, arith, ap, sym, subst, ◌∙◌}
+use Rattle.std.specs.Prelude.{Result, option_map, filter, slice_index_or, IfSome, IfNone}
+use Rattle.std.specs.List.{range_with_len, flat_map, find}
+use Rattle.std.specs.Option.{option_to_list}
+use Rattle.worm_flit.specs.declared.Lane.{Lane}
+use Rattle.worm_router.specs.Router.{RouterState, width, input_at}
+use Rattle.worm_router.specs.Allocation.{after_allocate, switch_grants}
+use Rattle.worm_swalloc.specs.declared.grant.SwGrant.{SwGrant}
+use Rattle.worm_theory.specs.Steps.{Step, Send, GiveCredit}
+use Rattle.worm_core.specs.Script.{lane_of}
+use Rattle.worm_core.specs.State.{NetState, router_at, with_router}
+use Rattle.worm_core.specs.Moves.{chosen_router}
+use Rattle.worm_core.specs.Answers.{Answers}
+use Rattle.worm_core.specs.Turns.{Each, Tries, Does, Reaches, Allocates, AsksSource, GivesCredit, SendsGranted, all_ports, ask, fault_of, granted_send, lowest_owed}
+use Rattle.worm_core.specs.declared.script.Entry.{Entry}
+use Rattle.worm_core.specs.declared.step.Moved.{Moved}
+use Rattle.worm_core.specs.declared.fault.StepFault.{StepFault}
+use Rattle.worm_theory.proofs.Places.{number_cases}
+use Rattle.worm_core.proofs.Reaching.{joined}
+use Rattle.worm_core.proofs.Passages.{each_flat, does_quietly, does_try, does_more, does_nothing, does_passing, does_failing, does_part}
+
+-- a credit of the lowest channel that owes one is given; or none owes one
+
+gives_by : (x p : ℕ) (o : Option ℕ) (a b : NetState) → o ≡ lowest_owed (router_at a x) p → Does (Each Tries (option_to_list (option_map (GiveCredit x p) o))) a None b → Does (GivesCredit x p) a None b
+gives_by x p o a b is done = record {
+  exact = subst (λ (o : Option ℕ). Each Tries (option_to_list (option_map (GiveCredit x p) o)) a None b) is done.exact;
+  reaches = done.reaches;
+}
+
+pub gives_one : (x p v : ℕ) (a b : NetState) (answer : Result Moved StepFault) → Some v ≡ lowest_owed (router_at a x) p → Answers a (GiveCredit x p v) answer b → Does (GivesCredit x p) a None b
+gives_one x p v a b answer is answered =
+    gives_by x p (Some v) a b is (does_more Tries [] (GiveCredit x p v) a a b None (does_nothing a) (does_quietly a b (GiveCredit x p v) answer refl (λ grows. grows) answered))
+
+pub gives_none : (x p : ℕ) (a : NetState) → None ≡ lowest_owed (router_at a x) p → Does (GivesCredit x p) a None a
+gives_none x p a is = gives_by x p None a a is (does_nothing a)
+
+-- the source is asked what each entry asks whose lane begins at the node
+
+abbrev asked : ℕ → List Entry → List Step
+asked x entries = map (λ (e : Entry). ask x e.act) (filter (λ (e : Entry). (lane_of e.act).src == x) entries)
+
+differ : (a b : ℕ) → (a ≡ b → ⊥) → (a == b) ≡ false
+differ a b away = grind arith
+
+pub asks_more : (x : ℕ) (entries : List Entry) (i : ℕ) (e : Entry) (lane : Lane) (a b c : NetState) (answer : Result Moved StepFault) (fault : Option StepFault) → i < length entries → e ≡ get_or entries i e → lane ≡ lane_of e.act → lane.src ≡ x
+    → Does (Each Tries (asked x (take i entries))) a None b → Answers b (ask x e.act) answer c → fault ≡ fault_of answer → Does (Each Tries (asked x (take (i + 1) entries))) a fault c
+asks_more x entries i e lane a b c answer fault below at is src done answered ends =
+    does_passing (λ (e : Entry). ask x e.act) (λ (e : Entry). (lane_of e.act).src == x) entries i e a b c fault below (sym at)
+    (eq-eqb (lane_of e.act).src x (sym (ap (λ (l : Lane). l.src) is) ∙ src)) done (does_try b c (ask x e.act) answer fault answered ends)
+
+pub asks_same : (x : ℕ) (entries : List Entry) (i : ℕ) (e : Entry) (lane : Lane) (a b : NetState) → i < length entries → e ≡ get_or entries i e → lane ≡ lane_of e.act → (lane.src ≡ x → ⊥)
+    → Does (Each Tries (asked x (take i entries))) a None b → Does (Each Tries (asked x (take (i + 1) entries))) a None b
+asks_same x entries i e lane a b below at is away done =
+    does_failing (λ (e : Entry). ask x e.act) (λ (e : Entry). (lane_of e.act).src == x) entries i e a b below (sym at)
+    (differ (lane_of e.act).src x (λ same. away (ap (λ (l : Lane). l.src) is ∙ same))) done
+
+pub asks_part : (x : ℕ) (entries : List Entry) (i : ℕ) (a b : NetState) (fault : StepFault) → Does (Each Tries (asked x (take i entries))) a (Some fault) b → Does (AsksSource entries x) a (Some fault) b
+asks_part x entries i a b fault done =
+    let whole = does_part (λ (e : Entry). ask x e.act) (λ (e : Entry). (lane_of e.act).src == x) entries i a b fault done in
+    record { exact = whole.exact; reaches = whole.reaches }
+
+-- what the switch allocator granted is sent
+
+pub sends_one : (grants : List (Option SwGrant)) (x p : ℕ) (g : SwGrant) (a b : NetState) (answer : Result Moved StepFault) (fault : Option StepFault) → slice_index_or grants p None ≡ Some g → Answers a (Send x p g.vc) answer b → fault ≡ fault_of answer
+    → Does (Each Tries (granted_send grants x p)) a fault b
+sends_one grants x p g a b answer fault is answered ends =
+    subst (λ (o : Option SwGrant). Does (Each Tries (option_to_list (option_map (λ g. Send x p g.vc) o))) a fault b) (sym is)
+    (does_more Tries [] (Send x p g.vc) a a b fault (does_nothing a) (does_try a b (Send x p g.vc) answer fault answered ends))
+
+pub sends_none : (grants : List (Option SwGrant)) (x p : ℕ) (a : NetState) → slice_index_or grants p None ≡ None → Does (Each Tries (granted_send grants x p)) a None a
+sends_none grants x p a is = subst (λ (o : Option SwGrant). Does (Each Tries (option_to_list (option_map (λ g. Send x p g.vc) o))) a None a) (sym is) (does_nothing a)
+
+pub sends_all : (grants : List (Option SwGrant)) (x n : ℕ) (a b c : NetState) (fault : Option StepFault) → grants ≡ switch_grants (router_at a x) → b ≡ with_router a x (chosen_router (router_at a x)) → Reaches a b → 2 * length a.mesh + 1 ≡ n
+    → Does (Each (λ p. Each Tries (granted_send grants x p)) (range_with_len 0 n)) b fault c → Does (SendsGranted x) a fault c
+sends_all grants x n a b c fault is chosen reaches ports done =
+    let sent : Each Tries (flat_map (granted_send grants x) (range_with_len 0 n)) b fault c = each_flat Tries (granted_send grants x) (range_with_len 0 n) b c fault done.exact in
+    record {
+      exact = subst (λ (s : NetState). Each Tries (flat_map (granted_send (switch_grants (router_at a x)) x) (all_ports a)) s fault c) chosen
+          (subst (λ (g : List (Option SwGrant)). Each Tries (flat_map (granted_send g x) (all_ports a)) b fault c) is
+          (subst (λ (m : ℕ). Each Tries (flat_map (granted_send grants x) (range_with_len 0 m)) b fault c) (sym ports) sent));
+      reaches = joined a b c reaches done.reaches;
+    }
+
+-- the first number of a range that passes a test
+
+find_from : (f : ℕ → Bool) (n from v : ℕ) → from ≤ v → v < from + n → f v ≡ true → ((k : ℕ) → k < v → f k ≡ false) → find f (range_with_len from n) ≡ Some v
+find_from f zero from v above below passes others = absurd (omega arith)
+find_from f (suc n) from v above below passes others = elim (number_cases from v) [
+  | inl here ↦
+      let first : f from ≡ true = ap f here.1 ∙ passes in
+      let one : ◌≡◌ {A = Option ℕ} (Some from) (Some v) = ap (λ (i : ℕ). Some i) here.1 in
+      rw first one
+  | inr away ↦
+      let differs = away.1 in
+      let first : f from ≡ false = others from (omega arith) in
+      rw first (find_from f n (from + 1) v (omega arith) (omega arith) passes others)
+]
+
+find_nothing : (f : ℕ → Bool) (n from : ℕ) → ((k : ℕ) → k < from + n → f k ≡ false) → find f (range_with_len from n) ≡ None
+find_nothing f zero from others = refl
+find_nothing f (suc n) from others =
+    let first : f from ≡ false = others from (omega arith) in
+    rw first (find_nothing f n (from + 1) (λ k below. others k (omega arith)))
+
+owing : (n : ℕ) → 0 < n → nat_lt 0 n ≡ true
+owing n some = grind arith
+
+owing_none : (n : ℕ) → n ≡ 0 → nat_lt 0 n ≡ false
+owing_none n none = grind arith
+
+-- what a router says of the credits that a port owes
+pub owed_lowest : (r : RouterState) (p : ℕ) (o : Option ℕ) → IfSome o (λ v. (v < width r) × (0 < (input_at r p v).owed)) → IfSome o (λ v. (k : ℕ) → k < v → (input_at r p k).owed ≡ 0) → IfNone o ((k : ℕ) → k < width r → (input_at r p k).owed ≡ 0)
+    → o ≡ lowest_owed r p
+owed_lowest r p (Some v) found lowest none =
+    let passes : nat_lt 0 (input_at r p v).owed ≡ true = owing (input_at r p v).owed found.1 in
+    sym (find_from (λ v. nat_lt 0 (input_at r p v).owed) (width r) 0 v (omega arith) (let within = found.0 in omega arith) passes (λ k below. owing_none (input_at r p k).owed (lowest k below)))
+owed_lowest r p None found lowest none = sym (find_nothing (λ v. nat_lt 0 (input_at r p v).owed) (width r) 0 (λ k below. owing_none (input_at r p k).owed (none k (omega arith))))
+
+-- a pass of the channel allocator
+pub does_allocate : (x : ℕ) (a b : NetState) → b ≡ with_router a x (after_allocate (router_at a x)) → Reaches a b → Does (Allocates x) a None b
+does_allocate x a b same reaches = record { exact = (refl, same); reaches = reaches }

@@ -1,0 +1,200 @@
+//! Which lanes may have something under way, found in one pass over all places that hold flits: so a report asks for the
+//! views of these lanes alone, and not of all that the network has.
+
+ghost use Rattle.std.specs.Prelude.{ℕ, true, false, ◌≡◌, ◌*◌, ◌<◌, ◌≤◌, IfOk, drop, length, replicate};
+ghost use Rattle.worm_mesh.specs.Address.{node_count};
+ghost use Rattle.worm_mesh.specs.Links.{link_count};
+ghost use Rattle.worm_router.specs.Router.{IsPlace, input_at, terminal, width};
+ghost use Rattle.worm_term.specs.Source.{classes, queue_at};
+ghost use Rattle.worm_core.specs.LaneSet.{AllMarked, IsComplete, KeepsMarks, LinksMarked, NodesMarked, is_marked, lane_line, with_mark};
+ghost use Rattle.worm_core.specs.State.{IsFramed};
+
+use crate::fabric::Fabric;
+use crate::{LinkState, Net, NoMemory};
+use std::alloc::{AllocError, Global};
+use std::marker::Model;
+use worm_flit::{Flit, Lane};
+use worm_router::Router;
+use worm_term::Source;
+
+/// Lanes that may have something under way.
+#[derive(Drop)]
+pub struct LaneSet {
+    /// How many nodes the network has.
+    nodes: u16,
+    /// How many classes.
+    classes: u8,
+    /// Which lanes are in the set, by source, then destination, then class.
+    marks: Vec<bool>,
+}
+
+impl Model for LaneSet {
+    ghost use Rattle.std.specs.Prelude.{◌≤◌};
+    ghost use Rattle.worm_core.specs.LaneSet.{LaneMarks};
+
+    ghost Value = { LaneMarks };
+
+    ghost view = { λ s. record { nodes = s.nodes; classes = s.classes; marks = s.marks.items } };
+
+    ghost invariant = { λ s. (s.nodes ≤ 256) × (s.classes ≤ 4) };
+}
+
+impl LaneSet {
+    /// No lane of a network with so many nodes and classes.
+    fn new(alloc: Global, nodes: u16, classes: u8) -> Result<LaneSet, AllocError>
+        requires nodes { nodes ≤ 256 }
+        requires classes { classes ≤ 4 }
+        ensures { IfOk result (λ s. s ≡ record { nodes = nodes; classes = classes; marks = replicate (nodes * nodes * classes) false }) }
+    {
+        let count = usize::from(nodes) * usize::from(nodes) * usize::from(classes);
+        let marks = vec![in alloc; false; count]?;
+        Ok(LaneSet {
+            nodes,
+            classes,
+            marks,
+        })
+    }
+
+    /// Where the lane's mark stands.
+    fn line(&self, lane: Lane) -> usize
+        ensures { result ≡ lane_line self.now lane }
+    {
+        let pair = usize::from(lane.src) * usize::from(self.nodes) + usize::from(lane.dst);
+        pair * usize::from(self.classes) + usize::from(lane.class)
+    }
+
+    /// Whether the lane is in the set. One that the set has no place for counts as in it.
+    pub fn contains(&self, lane: Lane) -> bool
+        ensures { result ≡ is_marked self.now lane }
+    {
+        self.marks.get(self.line(lane)).copied().unwrap_or(true)
+    }
+
+    /// Puts the lane into the set.
+    fn mark(&mut self, lane: Lane)
+        ensures { self.new ≡ with_mark self.old lane }
+    {
+        let line = self.line(lane);
+        if line < self.marks.len() {
+            self.marks[line] = true;
+        }
+    }
+
+    /// Puts in the lanes of these flits.
+    fn mark_flits(&mut self, flits: &[Flit])
+        ensures kept { KeepsMarks self.old self.new }
+        ensures marked { AllMarked self.new flits.now }
+    {
+        for flit in flits {
+            self.mark(flit.lane);
+        }
+    }
+
+    /// Puts in the lanes of what the source has yet to feed.
+    fn mark_source(&mut self, source: &Source, count: u8)
+        requires { count ≡ classes source.now }
+        ensures kept { KeepsMarks self.old self.new }
+        ensures marked { (k : ℕ) → k < classes source.now → AllMarked self.new (drop (queue_at source.now k).fed (queue_at source.now k).injected) }
+    {
+        for class in 0..count {
+            let fed = source.fed_count(class);
+            self.mark_flits(&source.injected(class)[fed..]);
+        }
+    }
+
+    /// Puts in the lanes of what an input channel holds.
+    fn mark_channel(&mut self, router: &Router, port: u8, vc: u8)
+        requires { IsPlace router.now port vc }
+        ensures kept { KeepsMarks self.old self.new }
+        ensures marked { AllMarked self.new (input_at router.now port vc).buffer }
+    {
+        let mut i = 0;
+        while let Some(flit) = router.buffer_at(port, vc, i) {
+            self.mark(flit.lane);
+            i += 1;
+        }
+    }
+
+    /// Puts in the lanes of what the channels of an input port hold.
+    fn mark_port(&mut self, router: &Router, port: u8, channels: u8)
+        requires port { port ≤ terminal router.now }
+        requires channels { channels ≡ width router.now }
+        ensures kept { KeepsMarks self.old self.new }
+        ensures marked { (v : ℕ) → v < width router.now → AllMarked self.new (input_at router.now port v).buffer }
+    {
+        for vc in 0..channels {
+            self.mark_channel(router, port, vc);
+        }
+    }
+
+    /// Puts in the lanes of what all input channels hold.
+    fn mark_router(&mut self, router: &Router, last: u8, channels: u8)
+        requires last { last ≡ terminal router.now }
+        requires few { last ≤ 6 }
+        requires channels { channels ≡ width router.now }
+        ensures kept { KeepsMarks self.old self.new }
+        ensures marked { (p : ℕ) (v : ℕ) → p ≤ terminal router.now → v < width router.now → AllMarked self.new (input_at router.now p v).buffer }
+    {
+        for port in 0..last + 1 {
+            self.mark_port(router, port, channels);
+        }
+    }
+
+    /// Puts in the lanes of what is on the link.
+    fn mark_link(&mut self, link: &LinkState)
+        ensures kept { KeepsMarks self.old self.new }
+        ensures marked { AllMarked self.new link.now.flits }
+    {
+        for i in 0..link.count() {
+            self.mark(link.flit(i).lane);
+        }
+    }
+}
+
+impl Fabric {
+    /// Puts in the lanes of what all sources and routers hold.
+    fn mark_nodes(&self, set: &mut LaneSet)
+        requires { IsFramed self.now }
+        ensures kept { KeepsMarks set.old set.new }
+        ensures marked { NodesMarked self.now set.new (node_count self.now.mesh) }
+    {
+        for node in 0..self.nodes() {
+            let here = self.node(node as u8);
+            set.mark_source(&here.source, self.classes());
+            set.mark_router(&here.router, self.terminal(), self.channels());
+        }
+    }
+
+    /// Puts in the lanes of what all links hold.
+    fn mark_links(&self, set: &mut LaneSet)
+        requires { IsFramed self.now }
+        ensures kept { KeepsMarks set.old set.new }
+        ensures marked { LinksMarked self.now set.new (link_count self.now.mesh) }
+    {
+        for number in 0..self.links() {
+            set.mark_link(self.link(number));
+        }
+    }
+
+    /// The lanes of all flits that are under way.
+    fn busy(&self, alloc: Global) -> Result<LaneSet, AllocError>
+        requires { IsFramed self.now }
+        ensures { IfOk result (IsComplete self.now) }
+    {
+        let mut set = LaneSet::new(alloc, self.nodes(), self.classes())?;
+        self.mark_nodes(&mut set);
+        self.mark_links(&mut set);
+        Ok(set)
+    }
+}
+
+impl Net {
+    /// Lanes among which are all that have something under way; for any other [`Net::lane_view`] has nothing under way. It
+    /// takes one pass over the network, and memory once. A lane may be in the set with nothing under way. `NoMemory`
+    /// where there is none for the set.
+    pub fn busy(&self, alloc: Global) -> Result<LaneSet, NoMemory>
+        ensures { IfOk result (IsComplete self.now) }
+    {
+        Ok(self.fabric().busy(alloc)?)
+    }
+}
