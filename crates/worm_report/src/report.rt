@@ -16,11 +16,7 @@ use std::io::Write;
 use worm_core::{Held, LaneSet, Net};
 use worm_flit::{Flit, Lane};
 
-fn put_options<W: Write>(
-    out: &mut W,
-    line: &mut Line,
-    summary: &Summary,
-) -> Result<(), ReportFault>
+fn put_options<W: Write>(out: &mut W, line: &mut Line, summary: &Summary) -> Result<(), ReportFault>
     ensures { WritesRows (W.contents out.old) (W.contents out.new) result (options_rows summary.now) }
 {
     put_row(out, line, Row::Header)?;
@@ -59,11 +55,7 @@ fn put_stops<W: Write>(
     Ok(())
 }
 
-fn put_opening<W: Write>(
-    out: &mut W,
-    line: &mut Line,
-    summary: &Summary,
-) -> Result<(), ReportFault>
+fn put_opening<W: Write>(out: &mut W, line: &mut Line, summary: &Summary) -> Result<(), ReportFault>
     ensures { WritesRows (W.contents out.old) (W.contents out.new) result (opening_rows summary.now) }
 {
     put_options(out, line, summary)?;

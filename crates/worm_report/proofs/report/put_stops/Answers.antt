@@ -1,4 +1,3 @@
-use Rattle.std.proofs.Common.{arith}
 use Rattle.std.proofs.Common.{get_or, None}
 use Rattle.worm_report.specs.Report.{stop_rows}
 use Rattle.worm_report.proofs.Written.{below_none, below_then, below_stop}
