@@ -22,6 +22,7 @@ pub mod Pointers
 pub mod Passages
 pub mod DueEntries
 pub mod Turning
+pub mod Determined
 pub mod Allocating
 pub mod ViewLists
 pub mod LanePlaces

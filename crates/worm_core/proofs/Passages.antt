@@ -7,7 +7,9 @@ use Rattle.std.specs.List.{range_with_len, flat_map}
 use Rattle.worm_theory.specs.Steps.{Step}
 use Rattle.worm_core.specs.State.{NetState, shape, network_of}
 use Rattle.worm_core.specs.Answers.{Answers, Grows, refusal_of}
-use Rattle.worm_core.specs.Turns.{Passage, Stays, ◌and_then◌, Each, ForEach, Tries, fault_of, Does}
+use Rattle.worm_core.specs.Turns.{Turn, Turns, Passage, Stays, ◌and_then◌, Each, ForEach, Tries, fault_of, Does}
+use Rattle.worm_core.specs.Script.{due}
+use Rattle.worm_core.specs.declared.script.Entry.{Entry}
 use Rattle.worm_core.specs.declared.step.Moved.{Moved}
 use Rattle.worm_core.specs.declared.fault.StepFault.{StepFault}
 use Rattle.worm_core.specs.declared.fault.StepFault.TheVariants.{NoSuchPlace, Refused, NoMemory}
@@ -15,18 +17,26 @@ use Rattle.worm_core.proofs.Reaching.{reached, joined, by_answer}
 
 -- the list, one part after another
 
-each_append : {A : Type 0} (P : A → Passage) (xs ys : List A) (a b c : NetState) (fault : Option StepFault) → Each P xs a None b → Each P ys b fault c → Each P (xs ++ ys) a fault c
+pub each_append : {A : Type 0} (P : A → Passage) (xs ys : List A) (a b c : NetState) (fault : Option StepFault) → Each P xs a None b → Each P ys b fault c → Each P (xs ++ ys) a fault c
 each_append P [] ys a b c fault first then = subst (λ (s : NetState). Each P ys s fault c) first.1 then
 each_append P (x ∷ xs) ys a b c fault first then = elim first [
   | inl ended ↦ absurd (cc)
   | inr on ↦ inr (on.0, on.1, each_append P xs ys on.0 b c fault on.2 then)
 ]
 
-each_cut : {A : Type 0} (P : A → Passage) (xs ys : List A) (a b : NetState) (fault : Option StepFault) → IsSome fault → Each P xs a fault b → Each P (xs ++ ys) a fault b
+pub each_cut : {A : Type 0} (P : A → Passage) (xs ys : List A) (a b : NetState) (fault : Option StepFault) → IsSome fault → Each P xs a fault b → Each P (xs ++ ys) a fault b
 each_cut P [] ys a b fault some first = let none = first.0 in absurd (cc)
 each_cut P (x ∷ xs) ys a b fault some first = elim first [
   | inl ended ↦ inl ended
   | inr on ↦ inr (on.0, on.1, each_cut P xs ys on.0 b fault some on.2)
+]
+
+-- a list that no fault ended, in two parts
+pub each_split : {A : Type 0} (P : A → Passage) (xs ys : List A) (a c : NetState) → Each P (xs ++ ys) a None c → (b : NetState) × Each P xs a None b × Each P ys b None c
+each_split P [] ys a c done = (a, (refl, refl), done)
+each_split P (x ∷ xs) ys a c done = elim done [
+  | inl ended ↦ absurd (cc)
+  | inr on ↦ let parts = each_split P xs ys on.0 c on.2 in (parts.0, inr (on.0, on.1, parts.1), parts.2)
 ]
 
 each_one : {A : Type 0} (P : A → Passage) (x : A) (a b : NetState) (fault : Option StepFault) → P x a fault b → Each P (x ∷ []) a fault b
@@ -62,10 +72,10 @@ range_append (suc i) k from =
     ap (λ (n : ℕ). range_with_len from n) count
     ∙ (ap (λ (ns : List ℕ). from ∷ ns) (range_append i k (from + 1)) ∙ ap (λ (n : ℕ). from ∷ (range_with_len (from + 1) i ++ range_with_len n k)) start)
 
-range_more : (n : ℕ) → range_with_len 0 (n + 1) ≡ range_with_len 0 n ++ n ∷ []
+pub range_more : (n : ℕ) → range_with_len 0 (n + 1) ≡ range_with_len 0 n ++ n ∷ []
 range_more n = let start : 0 + n ≡ n = omega arith in range_append n 1 0 ∙ ap (λ (i : ℕ). range_with_len 0 n ++ i ∷ []) start
 
-range_split : (n m : ℕ) → n < m → range_with_len 0 m ≡ (range_with_len 0 n ++ n ∷ []) ++ range_with_len (n + 1) (m - (n + 1))
+pub range_split : (n m : ℕ) → n < m → range_with_len 0 m ≡ (range_with_len 0 n ++ n ∷ []) ++ range_with_len (n + 1) (m - (n + 1))
 range_split n m below =
     let count : m ≡ (n + 1) + (m - (n + 1)) = omega arith in
     let start : 0 + (n + 1) ≡ n + 1 = omega arith in
@@ -162,3 +172,9 @@ does_part {A} f p xs i a b fault first =
       exact = subst (λ (steps : List Step). Each Tries steps a (Some fault) b) (sym parts) (each_cut Tries (map f (filter p (take i xs))) (map f (filter p (drop i xs))) a b (Some fault) refl first.exact);
       reaches = first.reaches;
     }
+
+-- one turn more
+pub turns_more : (script : List Entry) (n : ℕ) (a b c : NetState) (fault : Option StepFault) → Turns script n a None b → Turn (due n script) b fault c → Turns script (n + 1) a fault c
+turns_more script n a b c fault before at =
+    subst (λ (ns : List ℕ). Each (λ t. Turn (due t script)) ns a fault c) (sym (range_more n))
+    (each_append (λ t. Turn (due t script)) (range_with_len 0 n) (n ∷ []) a b c fault before (each_one (λ t. Turn (due t script)) n b c fault at))

@@ -164,6 +164,13 @@ IsDetermined P =
     (old new other : NetState) (fault else_fault : Option StepFault) → P old fault new → P old else_fault other
     → (fault ≡ Some NoMemory → ⊥) → (else_fault ≡ Some NoMemory → ⊥) → (fault ≡ else_fault) × (new ≡ other)
 
+-- the same of a run, and where it was stopped
+abbrev pub RunIsDetermined : List Entry → ℕ → ℕ → Type 0
+RunIsDetermined script turns drain =
+    (old new other : NetState) (stop else_stop : Option ℕ) (fault else_fault : Option StepFault)
+    → OneThreadRun script turns drain old stop fault new → OneThreadRun script turns drain old else_stop else_fault other
+    → (fault ≡ Some NoMemory → ⊥) → (else_fault ≡ Some NoMemory → ⊥) → (stop ≡ else_stop) × (fault ≡ else_fault) × (new ≡ other)
+
 -- By steps of the theory
 
 -- some list of steps leads from the old network to the new

@@ -36,5 +36,6 @@ pub use parts::NetParts;
 pub use script::{Act, Entry, Script, ScriptFault};
 pub use step::{Moved, Step};
 pub use totals::Totals;
+pub use turn::turns_are_determined;
 pub use view::{Held, LaneView, Place};
 pub use worm_term::{NoMemory, OfferFault};

@@ -1,4 +1,4 @@
-ghost use Rattle.std.specs.Prelude.{◌≡◌, ◌<◌, ◌≤◌, ◌*◌, ◌^◌, length};
+ghost use Rattle.std.specs.Prelude.{◌≡◌, ◌==◌, ◌<◌, ◌≤◌, ◌*◌, ◌^◌, length};
 ghost use Rattle.worm_mesh.specs.Address.{node_count};
 ghost use Rattle.worm_theory.specs.Steps.{packets_in};
 ghost use Rattle.worm_core.specs.State.{sink_at};
@@ -55,7 +55,33 @@ impl Net {
         totals
     }
 
-    /// The same of one node.
+    /// Whether as many flits were delivered as were accepted, so that a drain is over. Reads lengths alone.
+    pub fn is_drained(&self) -> bool
+        ensures { result ≡ (injected_total self.now == delivered_total self.now) }
+    {
+        let mut injected = 0u128;
+        let mut delivered = 0u128;
+        for node in 0..self.nodes() {
+            injected += self.node_injected(node as u8);
+            delivered += self.delivered(node as u8).len() as u128;
+        }
+        injected == delivered
+    }
+
+    /// How many flits one node's source accepted.
+    fn node_injected(&self, node: u8) -> u128
+        requires { node < node_count self.now.mesh }
+        ensures value { result ≡ injected_below self.now node (length self.now.channels) }
+        ensures few { result ≤ 4 * 2 ^ 64 }
+    {
+        let mut injected = 0u128;
+        for class in 0..self.classes() {
+            injected += self.accepted_flits(node, class).len() as u128;
+        }
+        injected
+    }
+
+    /// The sums over one node.
     fn node_totals(&self, node: u8) -> Totals
         requires { node < node_count self.now.mesh }
         ensures injected { result.injected ≡ injected_below self.now node (length self.now.channels) }
@@ -66,15 +92,12 @@ impl Net {
         ensures few_accepted { result.accepted ≤ 4 * 2 ^ 64 }
     {
         let delivered = self.delivered(node).len() as u128;
-        let mut injected = 0u128;
         let mut accepted = 0u128;
         for class in 0..self.classes() {
-            let flits = self.accepted_flits(node, class);
-            injected += flits.len() as u128;
-            accepted += u128::from(packets_ended(flits));
+            accepted += u128::from(packets_ended(self.accepted_flits(node, class)));
         }
         Totals {
-            injected,
+            injected: self.node_injected(node),
             delivered,
             accepted,
         }

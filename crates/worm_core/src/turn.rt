@@ -1,13 +1,14 @@
 //! The turn of a node, and the turns of all nodes in rising number.
 
-ghost use Rattle.std.specs.Prelude.{◌≡◌, ◌<◌, ◌≤◌, ◌*◌, None, length};
+ghost use Rattle.std.specs.Prelude.{ℕ, List, ◌≡◌, ◌<◌, ◌≤◌, ◌*◌, None, length};
 ghost use Rattle.std.specs.Result.{result_err};
 ghost use Rattle.worm_mesh.specs.Address.{node_count};
 ghost use Rattle.worm_core.specs.Answers.{Answers};
 ghost use Rattle.worm_core.specs.Headline.{DeliversInOrder, NothingFollowsMarks};
 ghost use Rattle.worm_core.specs.Script.{due};
 ghost use Rattle.worm_core.specs.State.{IsNet};
-ghost use Rattle.worm_core.specs.Turns.{AsksSource, Does, FeedsClasses, GivesCredits, NodeTurn, Reaches, RoutesChannels, RoutesPort, SendsGranted, TakesCredits, TakesFlits, Turn, ask, fault_of};
+ghost use Rattle.worm_core.specs.declared.script.Entry.{Entry};
+ghost use Rattle.worm_core.specs.Turns.{AsksSource, Does, FeedsClasses, GivesCredits, IsDetermined, NodeTurn, Reaches, RoutesChannels, RoutesPort, RunIsDetermined, SendsGranted, TakesCredits, TakesFlits, Turn, ask, fault_of};
 
 use crate::{Act, Entry, Moved, Net, Script, StepFault};
 
@@ -21,6 +22,14 @@ fn tried(answer: Result<Moved, StepFault>) -> Result<(), StepFault>
         Err(fault) => Err(fault),
     }
 }
+
+/// Turns are functions of the network and the script: unless want of memory ends it, a turn leads from one network to one alone, with
+/// one fault or none; so does a run of turns with its drain, which then is stopped at one place, if at all.
+#[tactic(auto, using(crate::proofs::Determined::turn_one, crate::proofs::Determined::run_one))]
+pub fn turns_are_determined()
+    ensures turn { (entries : List Entry) → IsDetermined (Turn entries) }
+    ensures run { (script : List Entry) (turns drain : ℕ) → RunIsDetermined script turns drain }
+{}
 
 impl Net {
     /// Asks the node's source what an entry asks of it.

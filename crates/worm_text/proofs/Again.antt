@@ -1,33 +1,26 @@
 -- Each line of the text of a network that keeps the rules is judged well.
-use Rattle.std.proofs.Common.{◌≡◌, ◌≢◌, lit<, lit≤, ℕ, suc, zero, ◌+◌, ◌-◌, ◌*◌, ◌<◌, ◌≤◌, ◌^◌, Bool, true, false, ◌&&◌, ◌||◌, cond, eqb, leb, ltb, List, [], ◌∷◌, ◌++◌, length, get_or, replicate, Option, Some, None, Result, Ok, Err, refl, sym, ap, subst, ◌∙◌, append_assoc, arith, inl, inr, ◌⊎◌, rules, fold, sum, map, All}
-use Rattle.std.specs.Prelude.{not, codes, Contains}
+use Rattle.std.proofs.Common.{◌≡◌, lit<, ℕ, suc, zero, ◌*◌, ◌<◌, ◌≤◌, ◌^◌, true, leb, List, [], ◌∷◌, ◌++◌, length, get_or, replicate, refl, sym, ap, subst, ◌∙◌, append_assoc, arith, fold, map, All}
+use Rattle.std.specs.Prelude.{codes}
 use Rattle.std.specs.Fmt.{decimal}
-use Rattle.std.specs.Str.{bytes_eq}
-use Rattle.std.specs.List.{list_any, list_all}
+use Rattle.std.specs.List.{list_all}
 use Rattle.std.proofs.lemmas.Nat.{mul-le}
 use Rattle.std.proofs.lemmas.Bool.Decides.{nat_tests}
-use Rattle.std.proofs.lemmas.List.{append-nil, length-replicate, length_push, length-append}
-use Rattle.std.proofs.lemmas.List.Elements.{Contains-get_or}
-use Rattle.std.proofs.lemmas.List.Sums.{sum_by-append, sum_by-cons, fold-append, list_all-from_AllPass, AllPass-from_list_all}
-use Rattle.std.proofs.lemmas.List.Folds.{list_any_none}
+use Rattle.std.proofs.lemmas.List.{append-nil}
+use Rattle.std.proofs.lemmas.List.Sums.{fold-append}
 use Rattle.std.proofs.lemmas.Fmt.{digits_decimal}
-use Rattle.worm_text.specs.declared.fault.Why.{Why}
-use Rattle.worm_text.specs.declared.fault.Why.TheVariants.{Missing, Range, Repeated, TooMany}
 use Rattle.worm_text.specs.declared.format.Format.{Format}
 use Rattle.worm_text.specs.declared.format.Format.TheVariants.{One, Two}
-use Rattle.worm_text.specs.declared.key.Key.{Key}
-use Rattle.worm_text.specs.declared.key.Key.TheVariants.{Radix, Dims, Depth, Class, End}
-use Rattle.worm_text.specs.Lines.{cut, line, space}
+use Rattle.worm_text.specs.declared.key.Key.TheVariants.{Radix, Dims, Depth}
+use Rattle.worm_text.specs.Lines.{line}
 use Rattle.worm_text.specs.Numerals.{is_name, is_digit}
-use Rattle.worm_text.specs.Network.{Network, IsBetween, nodes_of, header_line, class_line, class_lines, mesh_lines, depth_line, lines_of, AreNew, AreAlike, AreSingle, IsMesh, AreClasses, Keeps}
-use Rattle.worm_text.specs.Reading.{◌>>=◌, checked, number_at, name_at, word_at, key_at, no_more}
-use Rattle.worm_text.specs.Stages.{Stage, at_header, at_radix, at_dims, at_dims_first, at_radices, at_depth, at_class, ended, begins, widened, copies_at, radices_at, header_stage, radix_stage, dims_stage, dims_first_stage, radices_stage, depth_stage, without_classes, new_name_at, channels_at, with_class, one_class, the_end, by_key, class_stage, judge, IsSound}
-use Rattle.worm_text.proofs.Binds.{fine, fault, bind_at_ok}
+use Rattle.worm_text.specs.Network.{IsBetween, nodes_of, depth_line, IsMesh}
+use Rattle.worm_text.specs.Reading.{◌>>=◌, number_at}
+use Rattle.worm_text.specs.Stages.{at_radix, at_dims, at_dims_first, at_radices, at_depth, at_class, widened, copies_at, radices_at, radix_stage, dims_stage, dims_first_stage, radices_stage, depth_stage, without_classes, judge}
+use Rattle.worm_text.proofs.Binds.{fine, bind_at_ok}
 use Rattle.worm_text.proofs.Names.{and_true, name_bytes}
 use Rattle.worm_text.proofs.Cuts.{IsPlain, ArePlain, cut-line}
-use Rattle.worm_text.proofs.FieldLaws.{AreDigits, own, same_bytes, begins_again, key_at_again, word_at_again, name_at_again, number_at_again}
+use Rattle.worm_text.proofs.FieldLaws.{AreDigits, own, begins_again, number_at_again}
 use Rattle.worm_text.proofs.Followed.{All-replicate}
-use Rattle.worm_text.proofs.FollowedClasses.{channel_fields, class_line_is}
 
 -- ---- plain fields
 

@@ -1,9 +1,9 @@
 -- The same of the lines of classes and of the end, and then of the whole text.
-use Rattle.std.proofs.Common.{◌≡◌, ◌≢◌, lit<, lit≤, ℕ, suc, zero, ◌+◌, ◌-◌, ◌*◌, ◌<◌, ◌≤◌, ◌^◌, Bool, true, false, ◌&&◌, ◌||◌, cond, eqb, leb, ltb, List, [], ◌∷◌, ◌++◌, length, get_or, Result, Ok, Err, refl, sym, ap, subst, ◌∙◌, append_assoc, arith, rules, sum, map, All}
+use Rattle.std.proofs.Common.{◌≡◌, lit<, ℕ, suc, ◌+◌, ◌<◌, ◌≤◌, Bool, true, false, leb, ltb, List, [], ◌∷◌, ◌++◌, length, get_or, Result, Ok, refl, sym, ap, subst, ◌∙◌, append_assoc, arith, sum, map, All}
 use Rattle.std.specs.Prelude.{not, codes, Contains}
 use Rattle.std.specs.Fmt.{decimal}
 use Rattle.std.specs.Str.{bytes_eq}
-use Rattle.std.specs.List.{list_any, list_all, Any}
+use Rattle.std.specs.List.{list_any, Any}
 use Rattle.std.proofs.lemmas.Bool.Decides.{nat_tests}
 use Rattle.std.proofs.lemmas.List.{append-nil, length_push, length-append}
 use Rattle.std.proofs.lemmas.List.Sums.{sum_by-append, sum_by-cons}
@@ -12,14 +12,14 @@ use Rattle.worm_text.specs.declared.fault.Why.{Why}
 use Rattle.worm_text.specs.declared.fault.Why.TheVariants.{Missing, Range, Repeated, TooMany}
 use Rattle.worm_text.specs.declared.format.Format.{Format}
 use Rattle.worm_text.specs.declared.format.Format.TheVariants.{One, Two}
-use Rattle.worm_text.specs.declared.key.Key.TheVariants.{Class, End}
+use Rattle.worm_text.specs.declared.key.Key.TheVariants.{Class}
 use Rattle.worm_text.specs.Lines.{cut, line, space}
 use Rattle.worm_text.specs.Numerals.{is_name}
-use Rattle.worm_text.specs.Network.{Network, IsBetween, nodes_of, header_line, class_line, class_lines, mesh_lines, depth_line, lines_of, AreNew, AreAlike, AreSingle, IsMesh, AreClasses, Keeps}
+use Rattle.worm_text.specs.Network.{Network, IsBetween, header_line, class_line, class_lines, mesh_lines, depth_line, lines_of, AreNew, AreSingle, AreClasses, Keeps}
 use Rattle.worm_text.specs.Reading.{◌>>=◌, checked, number_at, name_at, word_at, key_at, no_more}
-use Rattle.worm_text.specs.Stages.{Stage, at_header, at_radix, at_dims, at_dims_first, at_radices, at_depth, at_class, ended, header_stage, without_classes, new_name_at, channels_at, with_class, one_class, the_end, by_key, class_stage, judge, IsSound}
-use Rattle.worm_text.proofs.Binds.{fine, fault, bind_at_ok, bind_ok}
-use Rattle.worm_text.proofs.Cuts.{IsPlain, ArePlain, cut-line}
+use Rattle.worm_text.specs.Stages.{Stage, at_header, at_radix, at_dims, at_dims_first, at_radices, at_depth, at_class, ended, header_stage, without_classes, new_name_at, channels_at, with_class, one_class, the_end, by_key, class_stage, judge}
+use Rattle.worm_text.proofs.Binds.{fine, bind_at_ok}
+use Rattle.worm_text.proofs.Cuts.{ArePlain, cut-line}
 use Rattle.worm_text.proofs.FieldLaws.{same_bytes, key_at_again, word_at_again, name_at_again, number_at_again}
 use Rattle.worm_text.proofs.FollowedClasses.{channel_fields, class_line_is}
 use Rattle.worm_text.proofs.Again.{plain-decimal, plain_name, radix_again, dims_again, dims_first_again, radices_line_again, depth_again}

@@ -1,5 +1,5 @@
 -- From each stage some network's text goes on.
-use Rattle.std.proofs.Common.{◌≡◌, lit<, lit≤, ℕ, suc, zero, ◌+◌, ◌*◌, ◌<◌, ◌≤◌, List, [], ◌∷◌, ◌++◌, length, get_or, replicate, refl, sym, ap, subst, ◌∙◌, append_assoc, arith, sum, map, All, true}
+use Rattle.std.proofs.Common.{◌≡◌, lit≤, ℕ, suc, zero, List, [], ◌∷◌, ◌++◌, replicate, refl, sym, ap, ◌∙◌, append_assoc, arith, map, true}
 use Rattle.std.specs.Prelude.{codes}
 use Rattle.std.specs.Fmt.{decimal}
 use Rattle.std.proofs.lemmas.List.{append-nil, length-replicate}
@@ -8,7 +8,7 @@ use Rattle.worm_text.specs.declared.format.Format.{Format}
 use Rattle.worm_text.specs.declared.format.Format.TheVariants.{One, Two}
 use Rattle.worm_text.specs.Lines.{line}
 use Rattle.worm_text.specs.Numerals.{is_name}
-use Rattle.worm_text.specs.Network.{Network, IsBetween, nodes_of, header_line, class_lines, mesh_lines, depth_line, lines_of, AreNew, AreAlike, AreSingle, IsMesh, AreClasses, Keeps}
+use Rattle.worm_text.specs.Network.{Network, IsBetween, header_line, class_lines, mesh_lines, depth_line, lines_of, AreAlike, AreSingle, IsMesh, AreClasses, Keeps}
 use Rattle.worm_text.specs.Stages.{Stage, at_header, at_radix, at_dims, at_dims_first, at_radices, at_depth, at_class, ended, IsSound}
 use Rattle.worm_text.proofs.Followed.{so_far, All-replicate}
 

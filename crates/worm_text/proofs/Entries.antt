@@ -1,16 +1,16 @@
 -- Entries, line after line.
-use Rattle.std.proofs.Common.{◌≡◌, ℕ, suc, zero, ◌+◌, ◌*◌, ◌<◌, ◌≤◌, Bool, true, false, ◌||◌, ◌⊎◌, inl, inr, cond, eqb, ltb, List, [], ◌∷◌, ◌++◌, length, get_or, take, drop, Option, Some, None, Result, Ok, Err, refl, sym, ap, subst, ◌∙◌, arith, map, fold, All, add-one}
+use Rattle.std.proofs.Common.{◌≡◌, ℕ, suc, ◌+◌, ◌*◌, ◌<◌, ◌≤◌, Bool, true, false, ◌||◌, inl, inr, cond, eqb, ltb, List, [], ◌∷◌, ◌++◌, length, get_or, take, drop, Option, Some, None, Result, Ok, Err, refl, sym, ap, ◌∙◌, arith, map, fold, All, add-one}
 use mathlib.Core.Path.{fun_ext}
 use Rattle.std.specs.Prelude.{codes, not, OnOk, is_ok}
 use Rattle.std.specs.Str.{bytes_eq}
-use Rattle.std.specs.List.{list_any, slice_split, onto_first}
+use Rattle.std.specs.List.{onto_first}
 use Rattle.std.proofs.lemmas.Bool.Decides.{nat_tests}
-use Rattle.std.proofs.lemmas.List.{map_push, length_push, length-map, take-append-drop, get_or-drop, length-drop}
+use Rattle.std.proofs.lemmas.List.{map_push, take-append-drop, get_or-drop, length-drop}
 use Rattle.std.proofs.lemmas.List.Folds.{list_any-append}
 use Rattle.std.proofs.lemmas.List.Sums.{fold_push, fold_more, fold-append}
 use Rattle.std.proofs.lemmas.Nat.{mul-le}
 use Rattle.worm_text.specs.declared.fault.Why.{Why}
-use Rattle.worm_text.specs.declared.fault.Why.TheVariants.{Header, Missing, UnknownWord, TooMany, AfterEnd, NoMemory}
+use Rattle.worm_text.specs.declared.fault.Why.TheVariants.{Header, UnknownWord, TooMany, AfterEnd}
 use Rattle.worm_text.specs.declared.fault.TextFault.{TextFault}
 use Rattle.worm_flit.specs.declared.Lane.{Lane}
 use Rattle.worm_core.specs.declared.script.Act.{Act}
@@ -20,8 +20,8 @@ use Rattle.worm_text.specs.Lines.{cut, space, newline}
 use Rattle.worm_text.specs.Network.{Network, nodes_of, IsBetween}
 use Rattle.worm_text.specs.Reading.{◌>>=◌, checked, no_more}
 use Rattle.worm_text.specs.Reader.{at_line}
-use Rattle.worm_text.specs.Traffic.{Said, send, close, said, entry_view, turn_of, closes, is_closed, last_turn, entry_at, send_at, close_at, read_entries, after_end, read_header, traffic_of}
-use Rattle.worm_text.proofs.Binds.{fine, fault, bind_ok, checked_ok, ok_is}
+use Rattle.worm_text.specs.Traffic.{Said, said, entry_view, turn_of, closes, is_closed, last_turn, entry_at, send_at, close_at, read_entries, after_end, read_header, traffic_of}
+use Rattle.worm_text.proofs.Binds.{fine, fault, bind_ok, checked_ok}
 use Rattle.worm_text.proofs.FieldLaws.{chosen}
 use Rattle.worm_text.proofs.ReadLines.{some_piece}
 

@@ -1,30 +1,25 @@
 -- A line that is judged well is the next line of the text of what has been said.
-use Rattle.std.proofs.Common.{◌≡◌, ◌≢◌, lit<, lit≤, ℕ, suc, zero, ◌+◌, ◌-◌, ◌*◌, ◌<◌, ◌≤◌, ◌^◌, Bool, true, false, ◌&&◌, ◌||◌, cond, eqb, leb, ltb, List, [], ◌∷◌, ◌++◌, length, get_or, replicate, Option, Some, None, Result, Ok, Err, refl, sym, ap, subst, ◌∙◌, append_assoc, arith, inl, inr, ◌⊎◌, rules, fold, sum, map, All}
-use Rattle.std.specs.Prelude.{not, codes, Contains}
+use Rattle.std.proofs.Common.{◌≡◌, lit<, lit≤, ℕ, suc, zero, ◌≤◌, true, leb, List, [], ◌∷◌, ◌++◌, length, get_or, replicate, Result, Ok, refl, sym, ap, subst, ◌∙◌, append_assoc, arith, inl, inr, map, All}
+use Rattle.std.specs.Prelude.{codes}
 use Rattle.std.specs.Fmt.{decimal}
 use Rattle.std.specs.Str.{bytes_eq}
-use Rattle.std.specs.List.{list_any}
 use Rattle.std.proofs.lemmas.Bool.Decides.{nat_tests}
-use Rattle.std.proofs.lemmas.List.{append-nil, length-replicate, get_or-replicate, length_push, length-append}
-use Rattle.std.proofs.lemmas.List.Elements.{All-nil, All-push, All-cons}
-use Rattle.std.proofs.lemmas.List.Sums.{sum_by-append}
-use Rattle.std.proofs.lemmas.List.Folds.{list_any_at}
+use Rattle.std.proofs.lemmas.List.{append-nil, length-replicate, get_or-replicate}
+use Rattle.std.proofs.lemmas.List.Elements.{All-nil, All-cons}
 use Rattle.std.proofs.lemmas.List.Splits.{join_with_byte-slice_split}
 use Rattle.worm_text.specs.declared.fault.Why.{Why}
-use Rattle.worm_text.specs.declared.fault.Why.TheVariants.{Header, Missing, Number, Range, Name, Repeated, UnknownWord, TooMany, AfterEnd}
+use Rattle.worm_text.specs.declared.fault.Why.TheVariants.{Header, Range}
 use Rattle.worm_text.specs.declared.format.Format.{Format}
 use Rattle.worm_text.specs.declared.format.Format.TheVariants.{One, Two}
-use Rattle.worm_text.specs.declared.key.Key.{Key}
-use Rattle.worm_text.specs.declared.key.Key.TheVariants.{Radix, Dims, Depth, Class, End}
+use Rattle.worm_text.specs.declared.key.Key.TheVariants.{Radix, Dims, Depth}
 use Rattle.worm_text.specs.Lines.{cut, line, space}
-use Rattle.worm_text.specs.Words.{word_of, key_of}
 use Rattle.worm_text.specs.Numerals.{is_name}
-use Rattle.worm_text.specs.Network.{Network, IsBetween, nodes_of, header_line, class_line, class_lines, mesh_lines, depth_line, lines_of, AreNew, AreAlike, AreSingle, IsMesh, AreClasses, Keeps}
-use Rattle.worm_text.specs.Reading.{◌>>=◌, checked, number_at, name_at, word_at, key_at, no_more}
-use Rattle.worm_text.specs.Stages.{Stage, at_header, at_radix, at_dims, at_dims_first, at_radices, at_depth, at_class, ended, begins, widened, copies_at, radices_at, header_stage, radix_stage, dims_stage, dims_first_stage, radices_stage, depth_stage, without_classes, new_name_at, channels_at, with_class, one_class, the_end, by_key, class_stage, judge, IsSound}
+use Rattle.worm_text.specs.Network.{IsBetween, nodes_of, header_line, class_lines, mesh_lines, depth_line, lines_of, IsMesh, AreClasses}
+use Rattle.worm_text.specs.Reading.{◌>>=◌, number_at, no_more}
+use Rattle.worm_text.specs.Stages.{Stage, at_header, at_radix, at_dims, at_dims_first, at_radices, at_depth, at_class, ended, begins, widened, copies_at, radices_at, header_stage, radix_stage, dims_stage, dims_first_stage, radices_stage, depth_stage, without_classes, IsSound}
 use Rattle.worm_text.proofs.Binds.{fine, fault, bind_ok, ok_is, checked_ok, no_more_ok}
 use Rattle.worm_text.proofs.Loops.{widened_is}
-use Rattle.worm_text.proofs.FieldLaws.{same_bytes, chosen, begins_takes, key_at_takes, word_at_takes, name_at_takes, number_at_takes, bytes_eq-same}
+use Rattle.worm_text.proofs.FieldLaws.{same_bytes, chosen, begins_takes, number_at_takes}
 
 -- the lines that lead to a stage
 abbrev pub so_far : Stage → List (List ℕ)

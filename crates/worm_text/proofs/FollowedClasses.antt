@@ -1,24 +1,24 @@
 -- The same of the lines of classes, and of the end.
-use Rattle.std.proofs.Common.{◌≡◌, ◌≢◌, lit<, lit≤, ℕ, suc, zero, ◌+◌, ◌-◌, ◌*◌, ◌<◌, ◌≤◌, ◌^◌, Bool, true, false, ◌&&◌, ◌||◌, cond, eqb, leb, ltb, List, [], ◌∷◌, ◌++◌, length, get_or, Option, Some, None, Result, Ok, Err, refl, sym, ap, subst, ◌∙◌, append_assoc, arith, inl, inr, ◌⊎◌, rules, fold, sum, map, All}
+use Rattle.std.proofs.Common.{◌≡◌, lit<, ℕ, suc, ◌+◌, ◌<◌, ◌≤◌, Bool, true, false, leb, ltb, List, [], ◌∷◌, ◌++◌, length, get_or, Result, Ok, refl, sym, ap, subst, ◌∙◌, append_assoc, arith, sum, All}
 use Rattle.std.specs.Prelude.{not, codes, Contains}
 use Rattle.std.specs.Fmt.{decimal}
 use Rattle.std.specs.Str.{bytes_eq}
-use Rattle.std.specs.List.{list_any, slice_split}
+use Rattle.std.specs.List.{list_any}
 use Rattle.std.proofs.lemmas.Bool.Decides.{nat_tests}
-use Rattle.std.proofs.lemmas.List.{append-nil, length_push, length-append}
-use Rattle.std.proofs.lemmas.List.Elements.{All-nil, All-push, All-cons}
+use Rattle.std.proofs.lemmas.List.{append-nil, length_push}
+use Rattle.std.proofs.lemmas.List.Elements.{All-push}
 use Rattle.std.proofs.lemmas.List.Sums.{sum_by-append, sum_by-cons}
 use Rattle.std.proofs.lemmas.List.Folds.{list_any_at}
 use Rattle.worm_text.specs.declared.fault.Why.{Why}
-use Rattle.worm_text.specs.declared.fault.Why.TheVariants.{Header, Missing, Number, Range, Name, Repeated, UnknownWord, TooMany, AfterEnd}
+use Rattle.worm_text.specs.declared.fault.Why.TheVariants.{Missing, Range, Repeated, TooMany, AfterEnd}
 use Rattle.worm_text.specs.declared.format.Format.{Format}
 use Rattle.worm_text.specs.declared.format.Format.TheVariants.{One, Two}
 use Rattle.worm_text.specs.declared.key.Key.{Key}
 use Rattle.worm_text.specs.declared.key.Key.TheVariants.{Radix, Dims, Depth, Class, End}
 use Rattle.worm_text.specs.Lines.{cut, line, space}
-use Rattle.worm_text.specs.Words.{word_of, key_of}
+use Rattle.worm_text.specs.Words.{word_of}
 use Rattle.worm_text.specs.Numerals.{is_name}
-use Rattle.worm_text.specs.Network.{Network, IsBetween, nodes_of, header_line, class_line, class_lines, mesh_lines, depth_line, lines_of, AreNew, AreAlike, AreSingle, IsMesh, AreClasses, Keeps}
+use Rattle.worm_text.specs.Network.{Network, IsBetween, header_line, class_line, class_lines, mesh_lines, depth_line, AreNew, AreSingle, AreClasses}
 use Rattle.worm_text.specs.Reading.{◌>>=◌, checked, number_at, name_at, word_at, key_at, no_more}
 use Rattle.worm_text.specs.Stages.{Stage, at_header, at_radix, at_dims, at_dims_first, at_radices, at_depth, at_class, ended, new_name_at, channels_at, with_class, one_class, the_end, by_key, class_stage, judge, IsSound}
 use Rattle.worm_text.proofs.Binds.{fine, fault, bind_ok, ok_is, checked_ok, no_more_ok}

@@ -1,11 +1,9 @@
 -- Reading, line after line.
-use Rattle.std.proofs.Common.{◌≡◌, lit≤, ℕ, suc, zero, ◌+◌, ◌<◌, ◌≤◌, eqb, List, [], ◌∷◌, ◌++◌, length, Result, Ok, Err, refl, sym, ap, subst, ◌∙◌, arith, add-one}
-use Rattle.std.specs.List.{slice_split}
+use Rattle.std.proofs.Common.{◌≡◌, lit≤, ℕ, suc, ◌+◌, ◌<◌, ◌≤◌, eqb, List, [], ◌∷◌, length, Result, Err, refl, sym, ap, ◌∙◌, arith, add-one}
 use Rattle.std.specs.Prelude.{codes}
 use Rattle.std.proofs.lemmas.List.{length_push, length-append}
 use Rattle.std.proofs.lemmas.List.Splits.{length-slice_split}
 use Rattle.worm_text.specs.declared.fault.Why.{Why}
-use Rattle.worm_text.specs.declared.fault.Why.TheVariants.{NoEnd, AfterEnd}
 use Rattle.worm_text.specs.declared.fault.TextFault.{TextFault}
 use Rattle.worm_text.specs.declared.format.Format.{Format}
 use Rattle.worm_text.specs.declared.format.Format.TheVariants.{One, Two}
@@ -14,7 +12,7 @@ use Rattle.worm_text.specs.Network.{Network, class_lines, mesh_lines, header_lin
 use Rattle.worm_text.specs.Stages.{Stage, at_header, at_radix, at_dims, at_dims_first, at_radices, at_depth, at_class, ended, judge, IsSound}
 use Rattle.worm_text.specs.Reader.{read, at_end, at_line}
 use Rattle.worm_text.proofs.Binds.{fine, fault}
-use Rattle.worm_text.proofs.Followed.{so_far, Follows}
+use Rattle.worm_text.proofs.Followed.{so_far}
 use Rattle.worm_text.proofs.FollowedClasses.{judge_follows}
 
 -- a list of pieces has one at least

@@ -1,29 +1,26 @@
 -- The text of entries that keep the rules is read as them.
-use Rattle.std.proofs.Common.{◌≡◌, lit<, lit≤, ℕ, suc, zero, ◌+◌, ◌-◌, ◌<◌, ◌≤◌, ◌^◌, Bool, true, false, cond, eqb, leb, ltb, List, [], ◌∷◌, ◌++◌, length, get_or, Option, Some, None, Result, Ok, Err, refl, sym, ap, subst, ◌∙◌, append_assoc, arith, inl, inr, map, All}
+use Rattle.std.proofs.Common.{◌≡◌, lit<, ℕ, suc, zero, ◌+◌, ◌-◌, ◌<◌, ◌≤◌, ◌^◌, Bool, true, false, eqb, leb, ltb, List, [], ◌∷◌, ◌++◌, length, get_or, Some, Ok, refl, sym, ap, ◌∙◌, append_assoc, arith, map, All}
 use Rattle.std.specs.Prelude.{not, codes, Contains}
 use Rattle.std.specs.Fmt.{decimal}
 use Rattle.std.specs.Str.{bytes_eq}
-use Rattle.std.specs.List.{position_or_len, AllByRecursion}
+use Rattle.std.specs.List.{position_or_len}
 use Rattle.std.proofs.lemmas.Bool.Decides.{nat_tests}
 use Rattle.std.proofs.lemmas.List.{append-nil, length_push, length-append}
 use Rattle.std.proofs.lemmas.List.Elements.{Contains-append_left, Contains-append_right}
 use Rattle.std.proofs.lemmas.List.Sums.{position_or_len_is}
-use Rattle.worm_text.specs.declared.fault.Why.{Why}
-use Rattle.worm_text.specs.declared.fault.Why.TheVariants.{Missing, Name, OrderOfTurns, LaneClosed, TooMany, ManyChannels}
-use Rattle.worm_text.specs.declared.fault.TextFault.{TextFault}
+use Rattle.worm_text.specs.declared.fault.Why.TheVariants.{OrderOfTurns, LaneClosed, TooMany, ManyChannels}
 use Rattle.worm_flit.specs.declared.Lane.{Lane}
-use Rattle.worm_text.specs.Lines.{cut, line, space, newline, finished}
+use Rattle.worm_text.specs.Lines.{cut, line, space, newline}
 use Rattle.worm_text.specs.Numerals.{is_name}
 use Rattle.worm_text.specs.Network.{Network, IsBetween, nodes_of, AreNew}
 use Rattle.worm_text.specs.Reading.{◌>>=◌, checked, number_at, no_more}
 use Rattle.worm_text.specs.Reader.{AreLines}
 use Rattle.worm_text.specs.Traffic.{Said, send, close, is_closed, last_turn, class_at, turn_at, lane_of, lane_at, words_at, is_open, send_at, close_at, entry_at, read_entries, read_header, traffic_of}
 use Rattle.worm_text.specs.TrafficText.{where_fields, entry_line, traffic_lines, traffic_text, IsPlaced, IsEntry, AreEntries}
-use Rattle.worm_text.proofs.Binds.{fine, fault, bind_at_ok}
+use Rattle.worm_text.proofs.Binds.{fine, bind_at_ok}
 use Rattle.worm_text.proofs.Cuts.{IsFrom, IsPlain, ArePlain, IsFrom-line, line_from, cut-line, cut-finished}
 use Rattle.worm_text.proofs.FieldLaws.{same_bytes, bytes_eq-same, number_at_again}
 use Rattle.worm_text.proofs.Again.{plain-decimal, plain_name}
-use Rattle.worm_text.proofs.ReadLines.{some_piece}
 use Rattle.worm_text.proofs.Entries.{entries-more, entries-end, header_good}
 
 -- what a network text promises of a network, as far as a traffic text needs it

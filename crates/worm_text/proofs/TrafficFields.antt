@@ -1,11 +1,11 @@
 -- The fields of an entry: what is read was spelled so.
-use Rattle.std.proofs.Common.{◌≡◌, lit<, lit≤, ℕ, suc, zero, ◌+◌, ◌-◌, ◌<◌, ◌≤◌, Bool, true, false, cond, eqb, leb, ltb, List, [], ◌∷◌, ◌++◌, length, get_or, Option, Some, None, Result, Ok, Err, refl, sym, ap, subst, ◌∙◌, append_assoc, arith, inl, inr, ◌⊎◌, map, All}
+use Rattle.std.proofs.Common.{◌≡◌, lit<, lit≤, ℕ, ◌-◌, ◌<◌, ◌≤◌, Bool, true, false, eqb, leb, ltb, List, [], ◌∷◌, ◌++◌, length, get_or, Option, Some, None, Result, Ok, refl, sym, ap, subst, ◌∙◌, append_assoc, arith, inl, inr, map, All}
 use Rattle.std.specs.Prelude.{not, codes}
 use Rattle.std.specs.Fmt.{decimal}
 use Rattle.std.specs.Str.{bytes_eq}
 use Rattle.std.specs.List.{position_or_len}
 use Rattle.std.proofs.lemmas.Bool.Decides.{nat_tests}
-use Rattle.std.proofs.lemmas.List.{append-nil, length_push, length-append}
+use Rattle.std.proofs.lemmas.List.{append-nil, length_push}
 use Rattle.std.proofs.lemmas.List.Elements.{All-nil, All-cons}
 use Rattle.std.proofs.lemmas.List.Sums.{passes_at_first}
 use Rattle.worm_text.specs.declared.fault.Why.{Why}
@@ -15,7 +15,7 @@ use Rattle.worm_text.specs.Lines.{cut, line, space}
 use Rattle.worm_text.specs.Network.{Network, IsBetween, nodes_of}
 use Rattle.worm_text.specs.Reading.{◌>>=◌, checked, number_at, no_more}
 use Rattle.worm_text.specs.Traffic.{Said, send, close, is_closed, last_turn, class_at, turn_at, lane_of, lane_at, words_at, is_open, send_at, close_at, entry_at}
-use Rattle.worm_text.specs.TrafficText.{where_fields, entry_line, IsPlaced, IsEntry}
+use Rattle.worm_text.specs.TrafficText.{where_fields, entry_line, IsEntry}
 use Rattle.worm_text.proofs.Binds.{fine, fault, bind_ok, ok_is, checked_ok, no_more_ok}
 use Rattle.worm_text.proofs.FieldLaws.{same_bytes, chosen, number_at_takes}
 use Rattle.worm_text.proofs.Followed.{line_is}

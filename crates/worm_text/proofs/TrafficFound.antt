@@ -1,19 +1,19 @@
 -- What is read as traffic is the text of its entries.
-use Rattle.std.proofs.Common.{◌≡◌, ℕ, suc, zero, ◌+◌, ◌<◌, ◌≤◌, Bool, true, false, List, [], ◌∷◌, ◌++◌, length, Option, Some, None, Result, Ok, Err, refl, sym, ap, subst, ◌∙◌, append_assoc, arith, inl, inr, map}
+use Rattle.std.proofs.Common.{◌≡◌, ℕ, suc, ◌≤◌, List, [], ◌∷◌, ◌++◌, length, Option, Some, None, Result, Ok, Err, refl, sym, ap, subst, ◌∙◌, append_assoc, inl, inr, map}
 use Rattle.std.specs.Prelude.{codes, IfOk}
 use Rattle.worm_core.specs.declared.script.Entry.{Entry}
 use Rattle.worm_text.specs.ScriptView.{said_of}
 use Rattle.std.specs.Str.{bytes_eq}
 use Rattle.std.proofs.lemmas.List.{append-nil}
 use Rattle.worm_text.specs.declared.fault.Why.{Why}
-use Rattle.worm_text.specs.declared.fault.Why.TheVariants.{Header, NoEnd, AfterEnd}
+use Rattle.worm_text.specs.declared.fault.Why.TheVariants.{Header, AfterEnd}
 use Rattle.worm_text.specs.declared.fault.TextFault.{TextFault}
-use Rattle.worm_text.specs.Lines.{cut, space, newline, finished}
+use Rattle.worm_text.specs.Lines.{cut, space, newline}
 use Rattle.worm_text.specs.Network.{Network, nodes_of}
 use Rattle.worm_text.specs.Reader.{at_line}
-use Rattle.worm_text.specs.Traffic.{Said, AnswersOrFull, is_closed, last_turn, entry_at, after_end, read_entries, read_header, traffic_of}
-use Rattle.worm_text.specs.TrafficText.{entry_line, traffic_lines, traffic_text, IsEntry, AreEntries}
-use Rattle.worm_text.proofs.Binds.{fine, fault}
+use Rattle.worm_text.specs.Traffic.{Said, is_closed, last_turn, entry_at, after_end, read_entries, read_header, traffic_of}
+use Rattle.worm_text.specs.TrafficText.{entry_line, traffic_lines, traffic_text, AreEntries}
+use Rattle.worm_text.specs.TrafficFaults.{AnswersOrFull, IsEntryLine}
 use Rattle.worm_text.proofs.Cuts.{bytes_are}
 use Rattle.worm_text.proofs.FieldLaws.{same_bytes, chosen}
 use Rattle.worm_text.proofs.TrafficFields.{entry_takes, end_takes}
@@ -83,6 +83,6 @@ is_traffic n bytes all few e = pieces (cut newline bytes) refl e
               (subst (λ (es : List Said). AreEntries n [] es) same s.keeps, bytes_are bytes (traffic_lines n all) [] [] all-pieces ∙ append-nil (traffic_text n all))
         ]
 
-pub found : (n : Network) (bytes : List ℕ) (r : Result (List Entry) TextFault) → nodes_of n.radices ≤ 256 → AnswersOrFull said_of r (traffic_of n bytes) → IfOk r (λ script. AreEntries n [] (said_of script) × (bytes ≡ traffic_text n (said_of script)))
+pub found : (n : Network) (bytes : List ℕ) (r : Result (List Entry) TextFault) → nodes_of n.radices ≤ 256 → AnswersOrFull said_of (IsEntryLine n bytes) r (traffic_of n bytes) → IfOk r (λ script. AreEntries n [] (said_of script) × (bytes ≡ traffic_text n (said_of script)))
 found n bytes (Ok script) few h = is_traffic n bytes (said_of script) few h
 found n bytes (Err x) few h = tt

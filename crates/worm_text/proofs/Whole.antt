@@ -1,12 +1,11 @@
 -- A whole network text: what is accepted, and at which line a fault is.
-use Rattle.std.proofs.Common.{◌≡◌, lit<, lit≤, ℕ, suc, zero, ◌+◌, ◌-◌, ◌<◌, ◌≤◌, Bool, true, false, eqb, List, [], ◌∷◌, ◌++◌, length, get_or, Result, Ok, Err, refl, sym, ap, subst, ◌∙◌, append_assoc, arith, map, All, inl, inr, ◌⊎◌}
+use Rattle.std.proofs.Common.{◌≡◌, lit<, ℕ, suc, ◌+◌, ◌<◌, true, List, [], ◌∷◌, ◌++◌, length, get_or, Result, Ok, Err, refl, sym, ap, subst, ◌∙◌, append_assoc, arith, map, All, inl, inr}
 use Rattle.std.specs.Prelude.{codes, IfOk, IfErr}
 use Rattle.std.specs.Fmt.{decimal}
-use Rattle.std.specs.List.{AllByRecursion, join_with_byte, list_all}
+use Rattle.std.specs.List.{AllByRecursion, join_with_byte}
 use Rattle.std.proofs.lemmas.Bool.{cases_lt}
 use Rattle.std.proofs.lemmas.List.{append-nil, length-append}
 use Rattle.std.proofs.lemmas.List.Concat.{flat_map-append}
-use Rattle.std.proofs.lemmas.List.Splits.{length-slice_split}
 use Rattle.worm_text.specs.declared.fault.Why.{Why}
 use Rattle.worm_text.specs.declared.fault.Why.TheVariants.{NoEnd, AfterEnd}
 use Rattle.worm_text.specs.declared.fault.TextFault.{TextFault}
@@ -15,18 +14,18 @@ use Rattle.worm_text.specs.declared.format.Format.TheVariants.{One, Two}
 use Rattle.worm_core.specs.declared.config.Config.{Config}
 use Rattle.worm_text.specs.Lines.{cut, newline, line, finished}
 use Rattle.worm_text.specs.Numerals.{is_name}
-use Rattle.worm_text.specs.Network.{Network, view, IsBetween, header_line, class_line, class_lines, mesh_lines, depth_line, lines_of, text, AreSingle, IsMesh, AreClasses, Keeps}
-use Rattle.worm_text.specs.Reading.{◌>>=◌}
+use Rattle.worm_text.specs.Network.{Network, view, IsBetween, header_line, class_line, class_lines, mesh_lines, depth_line, lines_of, text, IsMesh, Keeps}
 use Rattle.worm_text.specs.Stages.{Stage, at_header, at_radix, at_dims, at_dims_first, at_radices, at_depth, at_class, ended, judge, IsSound}
 use Rattle.worm_text.specs.Reader.{Answers, read, at_end, at_line, network_of, AreLines, BeginsWell, IsFaultLine}
-use Rattle.worm_text.proofs.Binds.{fine, fault, bind_ok, bind_at_ok, ok_is}
-use Rattle.worm_text.proofs.Cuts.{IsFrom, IsPlain, ArePlain, IsFrom-line, line_from, cut-finished, bytes_are}
-use Rattle.worm_text.proofs.Followed.{so_far, Follows}
-use Rattle.worm_text.proofs.FollowedClasses.{judge_follows, channel_fields, class_line_is}
+use Rattle.worm_text.proofs.Binds.{fine, fault, bind_ok, ok_is}
+use Rattle.worm_text.proofs.Cuts.{IsFrom, IsFrom-line, line_from, cut-finished, bytes_are}
+use Rattle.worm_text.proofs.Followed.{so_far}
+use Rattle.worm_text.proofs.FollowedClasses.{judge_follows}
 use Rattle.worm_text.proofs.Again.{plain-decimal, plain_name, plain_numbers}
-use Rattle.worm_text.proofs.AgainClasses.{behind, behind-one, whole_again, lines_grouped}
-use Rattle.worm_text.proofs.Complete.{GoesOnTo, goes_on_to}
+use Rattle.worm_text.proofs.AgainClasses.{behind, behind-one, whole_again}
+use Rattle.worm_text.proofs.Complete.{goes_on_to}
 use Rattle.worm_text.proofs.ReadLines.{read-ok, read-err, some_piece}
+use Rattle.worm_text.proofs.Fronts.{AreLines-front, longer, fronts}
 
 -- ---- no line end stands in a line of a text
 
@@ -73,10 +72,6 @@ text_lines f n keeps =
     lines_from (lines_of f n) (AreFrom-append ((header_line f ∷ mesh_lines f n.radices) ++ depth_line n.depth ∷ class_lines f n.classes n.channels) (codes "end" ∷ [])
     (AreFrom-append (header_line f ∷ mesh_lines f n.radices) (depth_line n.depth ∷ class_lines f n.classes n.channels) (header_from f, mesh_from f n.radices keeps.mesh) (depth, classes_from f n.classes n.channels keeps.classes.spelled keeps.classes.each))
     (refl, tt))
-
-AreLines-front : (xs ys : List (List ℕ)) → AreLines (xs ++ ys) → AreLines xs
-AreLines-front [] ys h = tt
-AreLines-front (x ∷ xs) ys h = (h.0, AreLines-front xs ys h.1)
 
 -- the pieces of a text
 pub cut-text : (f : Format) (n : Network) → Keeps f n → cut newline (text f n) ≡ lines_of f n ++ [] ∷ []
@@ -217,33 +212,6 @@ fault_line (at_class f m) line p x e = let same : at_line line NoEnd ≡ x = cc 
 line_of_ends : (t : Stage) (n : ℕ) (p : List ℕ) (ps : List (List ℕ)) (answer : Result Network TextFault) (x : TextFault) → answer ≡ fails x → Ends t n p ps answer → x.line ≡ n
 line_of_ends t n p ps answer x e (ill why h is) = let same : fails (at_line n why) ≡ fails x = sym is ∙ e in let y : at_line n why ≡ x = cc in ap (λ (z : TextFault). z.line) (sym y)
 line_of_ends t n p ps answer x e (over ps-is is) = fault_line t n p x (sym is ∙ e)
-
--- a longer front of one list
-record Longer (xs ls : List (List ℕ)) (p : List ℕ) (ps ys : List (List ℕ)) : Type 0 where
-  others : List (List ℕ)
-  front : xs ≡ ls ++ p ∷ others
-  back : others ++ ys ≡ ps
-
-longer : (xs ys ls : List (List ℕ)) (p : List ℕ) (ps : List (List ℕ)) → xs ++ ys ≡ ls ++ p ∷ ps → length ls < length xs → Longer xs ls p ps ys
-longer [] ys ls p ps e lt = absurd (omega arith)
-longer (x ∷ xs) ys [] p ps e lt =
-    let head : x ≡ p = cc in
-    record { others = xs; front = ap (λ (y : List ℕ). y ∷ xs) head; back = cc }
-longer (x ∷ xs) ys (l ∷ ls) p ps e lt =
-    let head : x ≡ l = cc in
-    let tail : xs ++ ys ≡ ls ++ p ∷ ps = cc in
-    let r = longer xs ys ls p ps tail (omega arith) in
-    record { others = r.others; front = ap (λ (y : List ℕ). y ∷ xs) head ∙ ap (λ (y : List (List ℕ)). l ∷ y) r.front; back = r.back }
-
--- a front that leaves something is a front of all but the last
-fronts : (xs ys zs : List (List ℕ)) (z : List ℕ) → 0 < length ys → xs ++ ys ≡ zs ++ z ∷ [] → (ms : List (List ℕ)) × (zs ≡ xs ++ ms)
-fronts [] ys zs z lt e = (zs, refl)
-fronts (x ∷ xs) ys [] z lt e = absurd (let tail : xs ++ ys ≡ [] = cc in omega (arith, length-append xs ys, ap length tail))
-fronts (x ∷ xs) ys (w ∷ zs) z lt e =
-    let head : x ≡ w = cc in
-    let tail : xs ++ ys ≡ zs ++ z ∷ [] = cc in
-    let r = fronts xs ys zs z lt tail in
-    (r.0, ap (λ (y : List ℕ). y ∷ zs) (sym head) ∙ ap (λ (y : List (List ℕ)). x ∷ y) r.1)
 
 behind-front : (s t u : Stage) (ls : List (List ℕ)) (p : List ℕ) (ps : List (List ℕ)) → behind s ls ≡ fine t → behind s (ls ++ p ∷ ps) ≡ fine u → (v : Stage) × (judge t p ≡ fine v)
 behind-front s t u [] p ps led whole =

@@ -1,7 +1,6 @@
 -- A network, as its text says it, and the two formats of that text.
-use Rattle.std.specs.Prelude.{◌≡◌, ℕ, ◌*◌, ◌+◌, ◌≤◌, List, [], ◌∷◌, ◌++◌, length, map, fold, sum, All, Contains, codes, slice_index, true}
+use Rattle.std.specs.Prelude.{◌≡◌, ℕ, ◌*◌, ◌≤◌, List, [], ◌∷◌, ◌++◌, length, map, fold, sum, All, Contains, codes, slice_index, true}
 use Rattle.std.specs.Fmt.{decimal}
-use Rattle.arrayvec.specs.ArrayVec.{ArrayVec}
 use Rattle.arrayvec.specs.ArrayString.{ArrayString}
 use Rattle.worm_core.specs.declared.config.Config.{Config}
 use Rattle.worm_text.specs.declared.format.Format.{Format}

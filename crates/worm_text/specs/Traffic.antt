@@ -1,11 +1,11 @@
 -- What each line of a traffic text has to be, after the lines before it.
-use Rattle.std.specs.Prelude.{◌≡◌, ℕ, suc, ◌+◌, ◌-◌, ◌&&◌, List, [], ◌∷◌, ◌++◌, length, map, Bool, false, not, Option, Some, None, Result, Ok, Err, ◌==◌, nat_le, nat_lt, if◌then◌else◌, codes, slice_index, fold, ◌⊎◌}
+use Rattle.std.specs.Prelude.{ℕ, suc, ◌-◌, ◌&&◌, List, [], ◌∷◌, ◌++◌, length, Bool, false, not, Option, Some, None, Result, Ok, Err, ◌==◌, nat_le, nat_lt, if◌then◌else◌, codes, slice_index, fold}
 use Rattle.std.specs.Ordering.{nat_cmp, ordering_then}
 use Rattle.std.specs.declared.cmp.Ordering.{Ordering}
 use Rattle.std.specs.Str.{bytes_eq}
 use Rattle.std.specs.List.{list_any, position_or_len}
 use Rattle.worm_text.specs.declared.fault.Why.{Why}
-use Rattle.worm_text.specs.declared.fault.Why.TheVariants.{Header, Missing, Name, UnknownWord, OrderOfTurns, LaneClosed, TooMany, ManyChannels, NoEnd, AfterEnd, NoMemory}
+use Rattle.worm_text.specs.declared.fault.Why.TheVariants.{Header, Missing, Name, UnknownWord, OrderOfTurns, LaneClosed, TooMany, ManyChannels, NoEnd, AfterEnd}
 use Rattle.worm_text.specs.declared.fault.TextFault.{TextFault}
 use Rattle.worm_flit.specs.declared.Lane.{Lane}
 use Rattle.worm_core.specs.declared.script.Act.{Act}
@@ -138,8 +138,3 @@ read_header n (l ∷ next ∷ more) = if bytes_eq l (codes "wormtraffic 1") then
 -- the whole text
 abbrev pub traffic_of : Network → List ℕ → Result (List Said) TextFault
 traffic_of n bytes = read_header n (cut newline bytes)
-
--- A call answered this, unless memory ran out.
-abbrev pub AnswersOrFull : {X Y : Type 0} → (X → Y) → Result X TextFault → Result Y TextFault → Type 0
-AnswersOrFull view (Ok x) answer = answer ≡ Ok (view x)
-AnswersOrFull view (Err fault) answer = (fault.why ≡ NoMemory) ⊎ (answer ≡ Err fault)

@@ -1,11 +1,10 @@
 -- The one text of a list of entries, and the rules that they keep.
-use Rattle.std.specs.Prelude.{◌≡◌, ℕ, ◌+◌, ◌-◌, ◌<◌, ◌≤◌, List, [], ◌∷◌, ◌++◌, length, map, All, codes, slice_index, slice_index_or, false}
+use Rattle.std.specs.Prelude.{◌≡◌, ℕ, ◌-◌, ◌<◌, ◌≤◌, List, [], ◌∷◌, ◌++◌, length, map, All, codes, slice_index, slice_index_or, false}
 use Rattle.std.specs.Fmt.{decimal}
 use Rattle.worm_flit.specs.declared.Lane.{Lane}
 use Rattle.worm_text.specs.Lines.{line, finished}
 use Rattle.worm_text.specs.Network.{Network, nodes_of, IsBetween}
 use Rattle.worm_text.specs.Traffic.{Said, send, close, is_closed, last_turn}
-use Rattle.worm_text.specs.Reader.{AreLines}
 
 -- turn, source, destination, class
 abbrev pub where_fields : Network → ℕ → Lane → List (List ℕ)
@@ -39,20 +38,3 @@ IsEntry n before (close turn lane) = IsPlaced n before turn lane × (slice_index
 abbrev pub AreEntries : Network → List Said → List Said → Type 0
 AreEntries n before [] = Unit {0}
 AreEntries n before (e ∷ es) = IsEntry n before e × AreEntries n (before ++ e ∷ []) es
-
--- The first k lines of the bytes are finished, and some accepted text begins with them.
-pub record TrafficBegins (n : Network) (bytes : List ℕ) (k : ℕ) : Type 0 where
-  pub lines : List (List ℕ)
-  pub are_lines : AreLines lines
-  pub count : length lines ≡ k
-  pub rest : List ℕ
-  pub first : bytes ≡ finished lines ++ rest
-  pub entries : List Said
-  pub keeps : AreEntries n [] entries
-  pub more : List ℕ
-  pub accepted : traffic_text n entries ≡ finished lines ++ more
-
--- One more than the longest run of finished lines with which some accepted text begins.
-pub record IsTrafficFaultLine (n : Network) (bytes : List ℕ) (line : ℕ) : Type 0 where
-  pub one_more : (before : ℕ) × (line ≡ before + 1) × TrafficBegins n bytes before
-  pub longest : (k : ℕ) → TrafficBegins n bytes k → k < line

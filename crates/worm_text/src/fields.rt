@@ -11,6 +11,7 @@ use crate::key::Key;
 use std::marker::Model;
 use worm_core::Name;
 
+/// The place of the first such byte.
 fn position_of(bytes: &[u8], end: u8) -> Option<usize>
     ensures { result ≡ position (λ b. b == end) bytes.now }
 {
@@ -28,6 +29,7 @@ pub fn cut_first(bytes: &[u8], end: u8) -> Option<(&[u8], &[u8])>
     }
 }
 
+/// Whether these are decimal digits, as no bytes are.
 fn are_digits(field: &[u8]) -> bool
     ensures { result ≡ list_all is_digit field.now }
 {
@@ -44,7 +46,7 @@ pub fn is_number(field: &[u8]) -> bool
     }
 }
 
-/// The value of digits, if it is at most `high`.
+/// The value of digits, if it is at most `high`; they may be as many as the line has room for.
 pub fn value_within(digits: &[u8], high: u32) -> Option<u32>
     requires { IsTrue (list_all is_digit digits.now) }
     ensures { result ≡ (if nat_le (value_of digits.now) high then Some (value_of digits.now) else None) }
@@ -59,6 +61,7 @@ pub fn value_within(digits: &[u8], high: u32) -> Option<u32>
     Some(value as u32)
 }
 
+/// Whether a field is a lower-case letter, and then at most 15 lower-case letters or digits.
 fn is_name_text(field: &[u8]) -> bool
     ensures { result ≡ is_name field.now }
 {
@@ -70,6 +73,7 @@ fn is_name_text(field: &[u8]) -> bool
     }
 }
 
+/// Whether these are lower-case letters or digits.
 fn are_name_bytes(bytes: &[u8]) -> bool
     ensures { result ≡ list_all is_lower_or_digit bytes.now }
 {
@@ -92,9 +96,12 @@ pub fn name_of(field: &[u8]) -> Option<Name>
     Some(name)
 }
 
-/// The fields that are left of a line.
+/// The fields that are left of a line. After a fault the line is refused, and nothing more is read of it.
+///
+/// `Fields::new(b"depth 2")` has the word `depth` and the number 2; `b"depth "` has the word and an empty field.
 #[derive(Drop)]
 pub struct Fields<'a> {
+    /// What stands behind the last space that was met, if the line's last field was not read yet.
     rest: Option<&'a [u8]>,
 }
 
@@ -105,19 +112,21 @@ impl<'a> Model for Fields<'a> {
 }
 
 impl<'a> Fields<'a> {
+    /// All fields of a line: one at least, which may be empty.
     pub fn new(line: &'a [u8]) -> Self
         ensures { result ≡ cut space line.now }
     {
         Fields { rest: Some(line) }
     }
 
+    /// Whether all fields were read.
     pub fn is_over(&self) -> bool
         ensures { result ≡ (length self.now == 0) }
     {
         self.rest.is_none()
     }
 
-    /// The next field.
+    /// The next field, if there is one.
     pub fn next(&mut self) -> Option<&'a [u8]>
         ensures { MatchOption result ((self.old ≡ []) × (self.new ≡ [])) (λ f. self.old ≡ f.now ∷ self.new) }
     {
@@ -134,7 +143,7 @@ impl<'a> Fields<'a> {
         }
     }
 
-    /// A number from `low` to `high`.
+    /// A number from `low` to `high`. `Missing` where no field is left, `Number` where the field is no numeral, else `Range`.
     pub fn number(&mut self, low: u32, high: u32) -> Result<u32, Why>
         ensures { Reads (λ x. x) result self.new (number_at low high self.old) }
     {
@@ -150,7 +159,7 @@ impl<'a> Fields<'a> {
         }
     }
 
-    /// A name.
+    /// A name. `Missing` where no field is left, `Name` where the field is none.
     pub fn name(&mut self) -> Result<Name, Why>
         ensures { Reads (λ name. name.bytes) result self.new (name_at self.old) }
     {
@@ -163,7 +172,7 @@ impl<'a> Fields<'a> {
         }
     }
 
-    /// This word.
+    /// This word. `Missing` where no field is left, `UnknownWord` where the field is another one.
     pub fn word(&mut self, word: &[u8]) -> Result<(), Why>
         ensures { Gives (λ _. self.new) result (word_at word.now self.old) }
     {
@@ -174,7 +183,7 @@ impl<'a> Fields<'a> {
         }
     }
 
-    /// The word that begins the line.
+    /// The word that begins the line. `UnknownWord` where it is no word of a network text.
     pub fn key(&mut self) -> Result<Key, Why>
         ensures { Reads (λ x. x) result self.new (key_at self.old) }
     {
@@ -184,7 +193,7 @@ impl<'a> Fields<'a> {
         Key::of(field).ok_or(Why::UnknownWord)
     }
 
-    /// No further field.
+    /// No further field. `TooMany` where there is one.
     pub fn end(&mut self) -> Result<(), Why>
         ensures { Gives (λ _. []) result (no_more self.old) }
     {

@@ -1,3 +1,5 @@
+//! The formats of a network text.
+
 /// The format of a network text: the number in its first line.
 #[derive(Clone, Copy, Debug, PartialEq, Eq)]
 pub enum Format {

@@ -22,35 +22,45 @@ use worm_core::{Config, Name};
 /// The line that comes next, and what those before it have said.
 #[derive(Drop)]
 pub enum Stage {
+    /// The first line.
     Header,
+    /// Line 2 of format 1.
     Radix,
+    /// Line 3 of format 1.
     Dims {
         radix: u8,
     },
+    /// Line 2 of format 2.
     DimsFirst,
+    /// Line 3 of format 2.
     Radices {
         dims: u8,
     },
+    /// Line 4.
     Depth {
         format: Format,
         radices: ArrayVec<u8, 3>,
     },
+    /// A class, or the line `end`.
     Class {
         format: Format,
         config: Config,
     },
+    /// Nothing.
     Ended {
         format: Format,
         config: Config,
     },
 }
 
+/// Whether the key is one of these.
 fn is_among(key: Key, keys: &[Key]) -> bool
     ensures { result ≡ list_any (λ k. bytes_eq (word_of key) (word_of k)) keys.now }
 {
     keys.iter().any(|k| key.is(*k))
 }
 
+/// The word with which this line has to begin. `Repeated` where its word began an earlier line, `Missing` where it comes too early.
 #[tactic(auto, unfolding(crate::specs::Stages::begins))]
 fn begin(fields: &mut Fields<'_>, wanted: Key, earlier: &[Key]) -> Result<(), Why>
     ensures { Gives (λ _. fields.new) result (begins wanted earlier.now fields.old) }
@@ -107,7 +117,7 @@ impl Shape {
         }
     }
 
-    /// Adds a dimension, if there are not too many nodes then.
+    /// Adds a dimension. `Range` where there are more than 256 nodes then.
     fn widen(&mut self, radix: u8) -> Result<(), Why>
         requires { length self.old.radices.items < 3 }
         ensures { Gives (λ _. self.new.radices.items) result (widened self.old.radices.items radix) }
@@ -122,6 +132,7 @@ impl Shape {
     }
 }
 
+/// One radix for each of so many dimensions.
 fn copies(dims: u8, radix: u8) -> Result<ArrayVec<u8, 3>, Why>
     requires { dims ≤ 3 }
     ensures { Gives (λ v. v.items) result (copies_at dims [] radix) }
@@ -133,6 +144,7 @@ fn copies(dims: u8, radix: u8) -> Result<ArrayVec<u8, 3>, Why>
     Ok(shape.radices)
 }
 
+/// The radices that the next fields give.
 fn radices(fields: &mut Fields<'_>, dims: u8) -> Result<ArrayVec<u8, 3>, Why>
     requires { dims ≤ 3 }
     ensures { Reads (λ v. v.items) result fields.new (radices_at dims [] fields.old) }
@@ -205,12 +217,14 @@ fn depth_line(
     })
 }
 
+/// Whether a class has the name.
 fn is_taken(name: &Name, classes: &[Name]) -> bool
     ensures { result ≡ list_any (λ c. bytes_eq c name.now.bytes) (names_of classes.now) }
 {
     classes.iter().any(|class| class.as_str() == name.as_str())
 }
 
+/// A name that no class has yet.
 #[tactic(auto, unfolding(crate::specs::Stages::new_name_at))]
 fn new_name(fields: &mut Fields<'_>, classes: &[Name]) -> Result<Name, Why>
     ensures { Reads (λ name. name.bytes) result fields.new (new_name_at (names_of classes.now) fields.old) }
@@ -222,6 +236,7 @@ fn new_name(fields: &mut Fields<'_>, classes: &[Name]) -> Result<Name, Why>
     Ok(name)
 }
 
+/// The number of all these channels.
 fn total(channels: &[u8]) -> u32
     requires { length channels.now ≤ 4 }
     ensures { result ≡ sum channels.now }
@@ -229,6 +244,7 @@ fn total(channels: &[u8]) -> u32
     channels.iter().map(|m| u32::from(*m)).sum()
 }
 
+/// How many channels the class owns. `Range` where all classes own more than 8 then.
 #[tactic(auto, unfolding(crate::specs::Stages::channels_at))]
 fn channels(format: Format, taken: &[u8], fields: &mut Fields<'_>) -> Result<u8, Why>
     requires { length taken.now ≤ 4 }
@@ -247,6 +263,7 @@ fn channels(format: Format, taken: &[u8], fields: &mut Fields<'_>) -> Result<u8,
     }
 }
 
+/// One class more. `TooMany` where there are four.
 #[tactic(auto, unfolding(crate::specs::Stages::one_class))]
 fn one_class(format: Format, mut config: Config, fields: &mut Fields<'_>) -> Result<Stage, Why>
     requires { length config.channels.items ≡ length config.classes.items }
@@ -263,6 +280,7 @@ fn one_class(format: Format, mut config: Config, fields: &mut Fields<'_>) -> Res
     Ok(Stage::Class { format, config })
 }
 
+/// The line `end`. `Missing` where no class stands before it.
 #[tactic(auto, unfolding(crate::specs::Stages::the_end))]
 fn the_end(format: Format, config: Config, fields: &mut Fields<'_>) -> Result<Stage, Why>
     ensures { Gives stage_view result (the_end format (view config) fields.old) }
@@ -274,6 +292,7 @@ fn the_end(format: Format, config: Config, fields: &mut Fields<'_>) -> Result<St
     Ok(Stage::Ended { format, config })
 }
 
+/// The line of a class, or the line `end`.
 #[tactic(auto, unfolding(crate::specs::Stages::class_stage))]
 fn class_line(format: Format, config: Config, fields: &mut Fields<'_>) -> Result<Stage, Why>
     requires { length config.channels.items ≡ length config.classes.items }
@@ -308,6 +327,7 @@ impl Stage {
     }
 }
 
+/// Line after line, up to the first fault.
 fn read_lines(bytes: &[u8]) -> Result<Config, TextFault>
     ensures { Answers view result (network_of bytes.now) }
 {
@@ -335,7 +355,9 @@ fn read_lines(bytes: &[u8]) -> Result<Config, TextFault>
     }
 }
 
-/// Reads a network text of either format.
+/// Reads a network text of either format (Dally and Towles, chapters 5 and 13). It takes no memory.
+///
+/// `wormnet 1`, `radix 4`, `dims 2`, `depth 2`, `class data` and `end`, each line ended by a line feed, are a network of 16 nodes.
 pub fn read_network(bytes: &[u8]) -> Result<Config, TextFault>
     // What is read is a text of what is answered.
     ensures found { IfOk result (λ config. (f : Format) × Keeps f (view config) × (bytes.now ≡ text f (view config))) }

@@ -1,6 +1,6 @@
 //! The text of the traffic, line by line.
 
-ghost use Rattle.std.specs.Prelude.{◌≡◌, ◌≤◌, ◌<◌, ◌-◌, ◌^◌, [], ◌∷◌, ◌==◌, length, MatchOption, position, Some, None, OnOk, IfOk, Ok, List, ◌||◌, All, map, false};
+ghost use Rattle.std.specs.Prelude.{◌≡◌, ◌≤◌, ◌<◌, ◌-◌, ◌^◌, [], ◌∷◌, ◌==◌, length, MatchOption, position, Some, None, OnOk, IfOk, IfErr, Ok, ◌⊎◌, List, ◌||◌, All, map, false};
 ghost use Rattle.worm_text.specs.TrafficText.{AreEntries, traffic_text};
 ghost use Rattle.worm_text.specs.ScriptView.{said_of};
 ghost use Rattle.std.specs.Option.{option_map};
@@ -9,7 +9,8 @@ ghost use Rattle.std.specs.BTreeSet.{contains};
 ghost use Rattle.worm_text.specs.Reading.{Reads, Gives};
 ghost use Rattle.worm_text.specs.Network.{view, nodes_of, names_of, Keeps};
 ghost use Rattle.worm_text.specs.declared.format.Format.{Format};
-ghost use Rattle.worm_text.specs.Traffic.{Said, class_at, turn_at, lane_at, words_at, send_at, close_at, entry_at, is_closed, entry_view, said, same_lane, lane_cmp, closes, read_entries, traffic_of, AnswersOrFull};
+ghost use Rattle.worm_text.specs.Traffic.{Said, class_at, turn_at, lane_at, words_at, send_at, close_at, entry_at, is_closed, entry_view, said, same_lane, lane_cmp, closes, read_entries, traffic_of};
+ghost use Rattle.worm_text.specs.TrafficFaults.{AnswersOrFull, RanOut, IsEntryLine, IsEntryPiece, IsTrafficFaultLine};
 ghost use Rattle.worm_text.specs.Lines.{cut, space, newline};
 
 use crate::fault::{TextFault, Why};
@@ -20,6 +21,7 @@ use std::collections::BTreeSet;
 use worm_core::{Act, Config, Entry, Name, Script};
 use worm_flit::{Lane, Packet};
 
+/// Which of the classes has the name.
 fn place_of(name: &[u8], classes: &[Name]) -> Option<usize>
     ensures { result ≡ position (λ c. bytes_eq c.bytes name.now) classes.now }
 {
@@ -28,6 +30,7 @@ fn place_of(name: &[u8], classes: &[Name]) -> Option<usize>
         .position(|class| class.as_str().as_bytes() == name)
 }
 
+/// A turn, 0 to 1,000,000. `OrderOfTurns` where it is below the last one.
 #[tactic(auto, unfolding(crate::specs::Traffic::turn_at))]
 fn turn(last: u32, fields: &mut Fields<'_>) -> Result<u32, Why>
     ensures { Reads (λ x. x) result fields.new (turn_at last fields.old) }
@@ -39,6 +42,7 @@ fn turn(last: u32, fields: &mut Fields<'_>) -> Result<u32, Why>
     Ok(turn)
 }
 
+/// The words of a packet, all fields that are left. `Missing` where there is none, `TooMany` at the 33rd.
 fn words(fields: &mut Fields<'_>) -> Result<ArrayVec<u32, 32>, Why>
     ensures read { Gives (λ v. v.items) result (words_at [] fields.old) }
     ensures some { IfOk result (λ v. 1 ≤ length v.items) }
@@ -57,12 +61,14 @@ fn words(fields: &mut Fields<'_>) -> Result<ArrayVec<u32, 32>, Why>
     Ok(words)
 }
 
+/// The lanes that earlier lines closed.
 #[derive(Drop)]
 struct ClosedLanes {
     lanes: BTreeSet<Lane>,
 }
 
 impl ClosedLanes {
+    /// None.
     fn new(alloc: Global) -> Self
         ensures { (lane : Lane) → contains lane_cmp result.lanes lane ≡ false }
     {
@@ -71,12 +77,14 @@ impl ClosedLanes {
         }
     }
 
+    /// Whether the lane was closed.
     fn contains(&self, lane: Lane) -> bool
         ensures { result ≡ contains lane_cmp self.now.lanes lane }
     {
         self.lanes.contains(&lane)
     }
 
+    /// The lane is closed from then on.
     fn add(&mut self, lane: Lane) -> Result<(), AllocError>
         ensures added { OnOk result ((other : Lane) → contains lane_cmp self.new.lanes other ≡ (same_lane other lane || contains lane_cmp self.old.lanes other)) }
     {
@@ -95,6 +103,7 @@ impl ClosedLanes {
     }
 }
 
+/// A class, by its name. `Name` where no class has it.
 fn class(classes: &[Name], fields: &mut Fields<'_>) -> Result<u8, Why>
     requires { length classes.now ≤ 4 }
     ensures { Reads (λ x. x) result fields.new (class_at (names_of classes.now) fields.old) }
@@ -108,6 +117,7 @@ fn class(classes: &[Name], fields: &mut Fields<'_>) -> Result<u8, Why>
     }
 }
 
+/// A lane of the network: source, destination and class.
 #[tactic(auto, unfolding(crate::specs::Traffic::lane_at))]
 fn lane(config: &Config, nodes: u32, fields: &mut Fields<'_>) -> Result<Lane, Why>
     requires counted { nodes ≡ nodes_of config.now.radices.items }
@@ -121,6 +131,7 @@ fn lane(config: &Config, nodes: u32, fields: &mut Fields<'_>) -> Result<Lane, Wh
     Ok(Lane { src, dst, class })
 }
 
+/// What stands behind `send`. `LaneClosed` where the lane was closed.
 #[tactic(auto, unfolding(crate::specs::Traffic::send_at))]
 fn send(
     config: &Config,
@@ -149,6 +160,7 @@ fn send(
     }
 }
 
+/// What stands behind `close`. `ManyChannels` where the class owns several, `LaneClosed` where the lane was closed.
 #[tactic(auto, unfolding(crate::specs::Traffic::close_at))]
 fn close(
     config: &Config,
@@ -177,7 +189,7 @@ fn close(
     })
 }
 
-/// The entry that a line says, or none at the end line.
+/// The entry that a line says, or none at the line `end`. `TooMany` at the 10,001st entry.
 #[tactic(auto, unfolding(crate::specs::Traffic::entry_at))]
 fn entry(
     config: &Config,
@@ -214,6 +226,7 @@ fn entry(
     }
 }
 
+/// How many nodes these radices make.
 fn node_count(radices: &[u8]) -> u32
     requires each { All (λ k. 1 ≤ k) radices.now }
     requires few { nodes_of radices.now ≤ 256 }
@@ -226,6 +239,7 @@ fn node_count(radices: &[u8]) -> u32
     nodes
 }
 
+/// The lines behind the header, entry after entry.
 fn read_entries(
     alloc: Global,
     rest: &[u8],
@@ -235,7 +249,7 @@ fn read_entries(
     requires counted { nodes ≡ nodes_of config.now.radices.items }
     requires some { 1 ≤ nodes }
     requires few { nodes ≤ 256 }
-    ensures { AnswersOrFull said_of result (read_entries (view config.now) [] 2 (cut newline rest.now)) }
+    ensures { AnswersOrFull said_of (IsEntryPiece (view config.now) (cut newline rest.now)) result (read_entries (view config.now) [] 2 (cut newline rest.now)) }
 {
     let mut script = Script::empty(alloc);
     let mut closed = ClosedLanes::new(alloc);
@@ -274,9 +288,10 @@ fn read_entries(
     })
 }
 
+/// Line after line, up to the first fault.
 fn read_script(alloc: Global, bytes: &[u8], config: &Config) -> Result<Script, TextFault>
     requires { (f : Format) × Keeps f (view config.now) }
-    ensures { AnswersOrFull said_of result (traffic_of (view config.now) bytes.now) }
+    ensures { AnswersOrFull said_of (IsEntryLine (view config.now) bytes.now) result (traffic_of (view config.now) bytes.now) }
 {
     let nodes = node_count(config.radices.as_slice());
     let Some((header, rest)) = cut_first(bytes, b'\n') else {
@@ -294,15 +309,20 @@ fn read_script(alloc: Global, bytes: &[u8], config: &Config) -> Result<Script, T
     read_entries(alloc, rest, config, nodes)
 }
 
-/// Reads a traffic text for a network.
+/// Reads a traffic text for a network that a network text says. `NoMemory`, at the line of an entry, where there was no room for it.
+///
+/// `wormtraffic 1`, `send 0 0 5 data 17 18` and `end`, each line ended by a line feed, offer one packet of two words to node 0 in turn 0.
 pub fn read_traffic(alloc: Global, bytes: &[u8], config: &Config) -> Result<Script, TextFault>
     requires { (f : Format) × Keeps f (view config.now) }
     // What is read is the text of what is answered.
     ensures found { IfOk result (λ script. AreEntries (view config.now) [] (said_of script) × (bytes.now ≡ traffic_text (view config.now) (said_of script))) }
     // Each such text is read, unless memory runs out.
-    ensures only { (entries : List Said) → AreEntries (view config.now) [] entries → bytes.now ≡ traffic_text (view config.now) entries → AnswersOrFull said_of result (Ok entries) }
+    ensures only { (entries : List Said) → AreEntries (view config.now) [] entries → bytes.now ≡ traffic_text (view config.now) entries → AnswersOrFull said_of (IsEntryLine (view config.now) bytes.now) result (Ok entries) }
+    // The line of a fault is one more than the longest run of finished lines with which an accepted text begins; memory
+    // runs out at the line of an entry.
+    ensures line { IfErr result (λ fault. RanOut (IsEntryLine (view config.now) bytes.now) fault ⊎ IsTrafficFaultLine (view config.now) bytes.now fault.line) }
     // Which fault it is.
-    ensures exact { AnswersOrFull said_of result (traffic_of (view config.now) bytes.now) }
+    ensures exact { AnswersOrFull said_of (IsEntryLine (view config.now) bytes.now) result (traffic_of (view config.now) bytes.now) }
 {
     read_script(alloc, bytes, config)
 }

@@ -1,1 +1,2 @@
 pub mod JoinedLemmas
+pub mod Configs

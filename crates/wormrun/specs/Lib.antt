@@ -1,4 +1,5 @@
 pub mod Faults
 pub mod Joined
+pub mod Programs
 pub mod Ranges
 pub mod Reading

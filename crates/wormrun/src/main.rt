@@ -8,15 +8,13 @@ ghost use Rattle.wormrun.specs.Ranges.{InRange};
 
 mod fault;
 mod joined;
-mod plain;
 mod program;
 mod reading;
-mod report;
+mod turns;
 mod words;
-mod writing;
 
 use fault::ProgramFault;
-use program::{run_alone, run_joined};
+use program::{run_joined, run_texts};
 use std::alloc::Global;
 use std::process::ExitCode;
 use std::rt::Runtime;
@@ -34,7 +32,7 @@ fn run_files<R: Runtime + AllocGlobal>(rt: &R, words: &Words<'_>) -> Result<(), 
         return Err(ProgramFault::ReadTraffic);
     };
     let mut out = io::writer(rt);
-    run_alone(
+    run_texts(
         rt.alloc(),
         &mut network,
         &mut traffic,

@@ -1,27 +1,52 @@
 //! The program over readers and a writer.
 
+ghost use Rattle.std.specs.Prelude.{◌≡◌, ◌≤◌, ◌-◌, length, IfOk, IfErr, OnOk};
+ghost use Rattle.std.specs.Io.KnownBytes.{Keeps};
+ghost use Rattle.worm_core.specs.NewNet.{IsFresh};
+ghost use Rattle.worm_core.specs.State.{texts_of};
+ghost use Rattle.worm_core.specs.Totals.{accepted_total};
+ghost use Rattle.worm_report.specs.Seen.{seen};
+ghost use Rattle.worm_report.specs.Report.{report};
+ghost use Rattle.worm_text.specs.Network.{view, Keeps as KeepsRules};
+ghost use Rattle.worm_text.specs.declared.format.Format.{Format};
+ghost use Rattle.worm_text.specs.ScriptView.{said_of};
 ghost use Rattle.wormrun.specs.Ranges.{InRange};
+ghost use Rattle.wormrun.specs.Programs.{Fails, FailsAlone, FailsJoined, GaveBoth, IsNotAccepted, ReadsNot, Reports, ReportsAlone, ReportsJoined, SaysNetwork, SaysTraffic, WritesReport, stream, summary_of};
 
 use crate::fault::ProgramFault;
 use crate::joined::network_end;
-use crate::plain::{Net, NetFault};
 use crate::reading::{ReadFault, read_text};
-use crate::report::{Ending, report_of};
+use crate::turns::{Ending, run_script};
 use crate::words::Options;
-use crate::writing::put_bytes;
 use std::alloc::Global;
 use std::io::{Read, Write};
-use worm_core::Script;
-use worm_text::{TextFault, Why, read_network, read_traffic};
+use worm_core::{Config, Net, NetFault, Script, StepFault};
+use worm_report::{ReportFault, Summary, write_report};
+use worm_text::{Why, read_network, read_traffic};
 
-/// Runs the network and the traffic that two readers give, on this thread, and writes the report.
-pub fn run_alone<N: Read, F: Read, W: Write>(
+/// The two texts, read to their end.
+#[derive(Drop)]
+struct Texts {
+    network: Vec<u8>,
+    traffic: Vec<u8>,
+}
+
+/// What two accepted texts say.
+#[derive(Drop)]
+struct Accepted {
+    config: Config,
+    script: Script,
+}
+
+/// Reads both texts to their end, the network first.
+fn read_both<N: Read, F: Read>(
     alloc: Global,
     network: &mut N,
     traffic: &mut F,
-    options: &Options,
-    out: &mut W,
-) -> Result<(), ProgramFault> {
+) -> Result<Texts, ProgramFault>
+    ensures ok { IfOk result (λ t. GaveBoth (stream (N.remaining network.old) (N.remaining network.new)) (stream (F.remaining traffic.old) (F.remaining traffic.new)) t.network.items t.traffic.items) }
+    ensures err { IfErr result (ReadsNot (stream (N.remaining network.old) (N.remaining network.new))) }
+{
     let network = match read_text(alloc, network) {
         Ok(text) => text,
         Err(ReadFault::Unreadable) => return Err(ProgramFault::ReadNetwork),
@@ -32,105 +57,153 @@ pub fn run_alone<N: Read, F: Read, W: Write>(
         Err(ReadFault::Unreadable) => return Err(ProgramFault::ReadTraffic),
         Err(ReadFault::NoMemory) => return Err(ProgramFault::NoMemory),
     };
-    run_and_report(alloc, network.as_slice(), traffic.as_slice(), options, out)
+    Ok(Texts { network, traffic })
+}
+
+/// Judges both texts, the network first.
+fn accept(alloc: Global, network: &[u8], traffic: &[u8]) -> Result<Accepted, ProgramFault>
+    ensures network { IfOk result (λ a. SaysNetwork network.now (view a.config)) }
+    ensures traffic { IfOk result (λ a. SaysTraffic (view a.config) traffic.now (said_of a.script)) }
+    ensures err { IfErr result (IsNotAccepted network.now traffic.now) }
+{
+    let config = match read_network(network) {
+        Ok(config) => config,
+        Err(fault) => return Err(ProgramFault::Network(fault)),
+    };
+    match read_traffic(alloc, traffic, &config) {
+        Ok(script) => Ok(Accepted { config, script }),
+        Err(fault) if fault.why == Why::NoMemory => Err(ProgramFault::NoMemory),
+        Err(fault) => Err(ProgramFault::Traffic(fault)),
+    }
+}
+
+/// The network that an accepted text says, with nothing offered; none where there is no memory for it.
+fn open(alloc: Global, config: &Config) -> Option<Net>
+    requires { (format : Format) × KeepsRules format (view config.now) }
+    ensures { IfSome result (IsFresh config.now.radices.items config.now.channels.items config.now.depth (texts_of config.now.classes.items)) }
+{
+    match Net::new(alloc, config) {
+        Ok(net) => Some(net),
+        Err(NetFault::NoMemory) => None,
+        Err(NetFault::BadConfig) => unreachable!(),
+    }
+}
+
+/// How many entries of the script no source accepted.
+fn not_offered(net: &Net, script: &Script) -> u64
+    ensures { result ≡ length script.now - accepted_total net.now }
+{
+    let entries = script.entries().len() as u128;
+    entries.saturating_sub(net.totals().accepted) as u64
+}
+
+/// What the report tells of a run beside its network.
+fn summary_of(net: &Net, script: &Script, turns: u64, drain: u64, ending: &Ending) -> Summary
+    ensures { result ≡ summary_of turns drain ending.now (length script.now - accepted_total net.now) }
+{
+    let mut stops = [None; 16];
+    stops[0] = ending.stopped;
+    Summary {
+        turns,
+        workers: 1,
+        drain,
+        stops,
+        not_offered: not_offered(net, script),
+    }
+}
+
+/// Writes the report of a run that ended with this fault, if with any. Want of memory in the run is told after the report.
+fn report_run<W: Write>(
+    alloc: Global,
+    net: &Net,
+    summary: &Summary,
+    fault: Option<StepFault>,
+    out: &mut W,
+) -> Result<(), ProgramFault>
+    ensures { WritesReport (stream (W.contents out.old) (W.contents out.new)) fault result (report (seen net.now) summary.now) }
+{
+    match write_report(alloc, net, summary, out) {
+        Err(ReportFault::Write) => Err(ProgramFault::Write),
+        Err(ReportFault::NoMemory) => Err(ProgramFault::NoMemory),
+        Ok(()) if fault == Some(StepFault::NoMemory) => Err(ProgramFault::NoMemory),
+        Ok(()) => Ok(()),
+    }
+}
+
+/// Runs two texts on this thread, and writes the report.
+fn run_and_report<W: Write>(
+    alloc: Global,
+    network: &[u8],
+    traffic: &[u8],
+    turns: u64,
+    drain: u64,
+    out: &mut W,
+) -> Result<(), ProgramFault>
+    ensures ok { OnOk result (Reports network.now traffic.now turns drain (stream (W.contents out.old) (W.contents out.new))) }
+    ensures err { IfErr result (Fails network.now traffic.now turns drain (stream (W.contents out.old) (W.contents out.new))) }
+{
+    let accepted = accept(alloc, network, traffic)?;
+    let Some(mut net) = open(alloc, &accepted.config) else {
+        return Err(ProgramFault::NoMemory);
+    };
+    let ending = run_script(alloc, &mut net, &accepted.script, turns, drain);
+    let summary = summary_of(&net, &accepted.script, turns, drain, &ending);
+    report_run(alloc, &net, &summary, ending.fault, out)
+}
+
+/// Reads two texts to their end, the network first, runs them on this thread, and writes the report.
+///
+/// `ReadNetwork` and `ReadTraffic` where a reader failed or gave more than 8,388,608 bytes; `Network` and `Traffic` where a text is
+/// refused; `Write` where the writer failed or took nothing, and `NoMemory` where memory ran out: a first part of the report may
+/// then be out, and all of it where memory ran out in a turn. With every other fault nothing was written.
+pub fn run_alone<N: Read, F: Read, W: Write>(
+    alloc: Global,
+    network: &mut N,
+    traffic: &mut F,
+    turns: u64,
+    drain: u64,
+    out: &mut W,
+) -> Result<(), ProgramFault>
+    ensures ok { OnOk result (ReportsAlone turns drain (stream (N.remaining network.old) (N.remaining network.new)) (stream (F.remaining traffic.old) (F.remaining traffic.new)) (stream (W.contents out.old) (W.contents out.new))) }
+    ensures err { IfErr result (FailsAlone turns drain (stream (N.remaining network.old) (N.remaining network.new)) (stream (F.remaining traffic.old) (F.remaining traffic.new)) (stream (W.contents out.old) (W.contents out.new))) }
+{
+    let texts = read_both(alloc, network, traffic)?;
+    let network = texts.network.as_slice();
+    let traffic = texts.traffic.as_slice();
+    run_and_report(alloc, network, traffic, turns, drain, out)
+}
+
+/// Runs two texts by the options. One thread takes all turns.
+pub fn run_texts<N: Read, F: Read, W: Write>(
+    alloc: Global,
+    network: &mut N,
+    traffic: &mut F,
+    options: &Options,
+    out: &mut W,
+) -> Result<(), ProgramFault>
+    requires { InRange options.now }
+    ensures ok { OnOk result (ReportsAlone options.now.turns options.now.drain (stream (N.remaining network.old) (N.remaining network.new)) (stream (F.remaining traffic.old) (F.remaining traffic.new)) (stream (W.contents out.old) (W.contents out.new))) }
+    ensures err { IfErr result (FailsAlone options.now.turns options.now.drain (stream (N.remaining network.old) (N.remaining network.new)) (stream (F.remaining traffic.old) (F.remaining traffic.new)) (stream (W.contents out.old) (W.contents out.new))) }
+{
+    run_alone(alloc, network, traffic, options.turns, options.drain, out)
 }
 
 /// Runs the two texts of one input for 100 turns with no drain: up to and with the first line `end` it is the
-/// network text, the rest is the traffic text.
+/// network text, the rest is the traffic text. Faults as those of `run_alone`; an input that cannot be read is `ReadNetwork`.
 pub fn run_joined<R: Read, W: Write>(
     alloc: Global,
     input: &mut R,
     out: &mut W,
-) -> Result<(), ProgramFault> {
+) -> Result<(), ProgramFault>
+    ensures ok { OnOk result (ReportsJoined (stream (R.remaining input.old) (R.remaining input.new)) (stream (W.contents out.old) (W.contents out.new))) }
+    ensures err { IfErr result (FailsJoined (stream (R.remaining input.old) (R.remaining input.new)) (stream (W.contents out.old) (W.contents out.new))) }
+{
     let joined = match read_text(alloc, input) {
         Ok(text) => text,
         Err(ReadFault::Unreadable) => return Err(ProgramFault::ReadNetwork),
         Err(ReadFault::NoMemory) => return Err(ProgramFault::NoMemory),
     };
-    let options = Options {
-        turns: 100,
-        workers: 1,
-        drain: 0,
-    };
     let bytes = joined.as_slice();
     let (network, traffic) = bytes.split_at(network_end(bytes));
-    run_and_report(alloc, network, traffic, &options, out)
-}
-
-fn run_and_report<W: Write>(
-    alloc: Global,
-    network: &[u8],
-    traffic: &[u8],
-    options: &Options,
-    out: &mut W,
-) -> Result<(), ProgramFault> {
-    let config = match read_network(network) {
-        Ok(config) => config,
-        Err(fault) => return Err(ProgramFault::Network(fault)),
-    };
-    if let Some(fault) = channel_fault(config.channels.as_slice()) {
-        return Err(ProgramFault::Network(fault));
-    }
-    let script = match read_traffic(alloc, traffic, &config) {
-        Ok(script) => script,
-        Err(fault) if fault.why == Why::NoMemory => return Err(ProgramFault::NoMemory),
-        Err(fault) => return Err(ProgramFault::Traffic(fault)),
-    };
-    let mut net = match Net::new(alloc, &config) {
-        Ok(net) => net,
-        Err(NetFault::NoMemory | NetFault::BadConfig) => return Err(ProgramFault::NoMemory),
-    };
-    let ending = run_turns(alloc, &mut net, &script, options);
-    let Ok(report) = report_of(alloc, &net, options, &ending) else {
-        return Err(ProgramFault::NoMemory);
-    };
-    match put_bytes(out, report.as_bytes()) {
-        Ok(()) => Ok(()),
-        Err(_) => Err(ProgramFault::Write),
-    }
-}
-
-/// Today's network gives each class one channel: the first class with more is out of range, at its line. The
-/// lines of classes begin with the fifth.
-fn channel_fault(channels: &[u8]) -> Option<TextFault> {
-    let mut line = 5u32;
-    for count in channels {
-        if *count != 1 {
-            return Some(TextFault {
-                line,
-                why: Why::Range,
-            });
-        }
-        line = line.saturating_add(1);
-    }
-    None
-}
-
-/// The turns with the script, and then, where none was stopped, the drain: turns with no entries, until nothing
-/// is under way.
-fn run_turns(alloc: Global, net: &mut Net, script: &Script, options: &Options) -> Ending {
-    let mut stopped = None;
-    for turn in 0..options.turns {
-        if net.turn(turn, script).is_err() {
-            stopped = Some(turn);
-            break;
-        }
-    }
-    if stopped.is_none() {
-        drain(alloc, net, options.drain);
-    }
-    Ending {
-        stopped,
-        not_offered: (script.entries().len() as u128).saturating_sub(net.totals().accepted),
-    }
-}
-
-fn drain(alloc: Global, net: &mut Net, turns: u64) {
-    let nothing = Script::empty(alloc);
-    for turn in 0..turns {
-        let totals = net.totals();
-        if totals.injected == totals.delivered || net.turn(turn, &nothing).is_err() {
-            return;
-        }
-    }
+    run_and_report(alloc, network, traffic, 100, 0, out)
 }

@@ -2,3 +2,4 @@
 
 mod runs;
 mod words;
+mod worked;

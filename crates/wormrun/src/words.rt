@@ -7,23 +7,34 @@ use clap::error::ErrorKind;
 use clap::{Arg, ArgAction, ArgMatches, Command, Error, value_parser};
 use std::alloc::{AllocError, Global};
 
+/// How to run.
 #[derive(Clone, Copy, PartialEq, Eq, Debug)]
 pub struct Options {
+    /// How many turns to take with the traffic, 0 to 1,000,000.
     pub turns: u64,
+    /// How many threads take turns: 1.
     pub workers: usize,
+    /// How many turns more to take at most until nothing is under way, 0 to 1,000,000.
     pub drain: u64,
 }
 
+/// What the words of the command line say.
 #[derive(Drop, Debug)]
 pub struct Words<'a> {
+    /// The file of the network text.
     pub network: &'a str,
+    /// The file of the traffic text.
     pub traffic: &'a str,
+    /// How to run them.
     pub options: Options,
 }
 
+/// Why the words were not read.
 #[derive(Drop, Debug)]
 pub enum WordsFault {
+    /// They are not those that the program knows, or a number is out of its range.
     Words(Error),
+    /// There was no memory.
     NoMemory,
 }
 
@@ -81,7 +92,7 @@ fn words_in<'a>(matches: &ArgMatches<'a>) -> Option<Words<'a>>
     let turns = matches.get_one::<u64>("turns").filter(|t| *t <= 1_000_000)?;
     let workers = matches
         .get_one::<usize>("workers")
-        .filter(|w| 1 <= *w && *w <= 16)?;
+        .filter(|w| *w == 1)?;
     let drain = matches.get_one::<u64>("drain").filter(|d| *d <= 1_000_000)?;
     Some(Words {
         network: matches.get_str("NETWORK")?,
@@ -94,7 +105,8 @@ fn words_in<'a>(matches: &ArgMatches<'a>) -> Option<Words<'a>>
     })
 }
 
-/// Reads the words, the program's name first.
+/// Reads the words, the program's name first: `NETWORK TRAFFIC --turns T [--workers W] [--drain M]`, in any order. Turns and drain are
+/// 0 to 1,000,000, workers are 1; any other word or number is a fault of the words.
 pub fn read_words<'a>(alloc: Global, words: &'a [&'a str]) -> Result<Words<'a>, WordsFault>
     requires { 0 < length words.now }
     ensures { IfOk result (λ w. InRange w.options) }

@@ -2,7 +2,6 @@ use crate::fault::ProgramFault;
 use crate::joined::network_end;
 use crate::program::{run_alone, run_joined};
 use crate::reading::{MOST_BYTES, ReadFault, read_text};
-use crate::words::Options;
 use std::alloc::Global;
 use std::io;
 use std::io::Read;
@@ -10,12 +9,12 @@ use std::process::Abort;
 use std::test::Fail;
 
 /// Two nodes, one class with one channel.
-const TWO_NODES: &[u8] = b"wormnet 1\nradix 2\ndims 1\ndepth 2\nclass data\nend\n";
+pub const TWO_NODES: &[u8] = b"wormnet 1\nradix 2\ndims 1\ndepth 2\nclass data\nend\n";
 
 /// The same with buffers of one flit.
-const SHALLOW: &[u8] = b"wormnet 1\nradix 2\ndims 1\ndepth 1\nclass data\nend\n";
+pub const SHALLOW: &[u8] = b"wormnet 1\nradix 2\ndims 1\ndepth 1\nclass data\nend\n";
 
-const TWO_WORDS: &[u8] = b"wormtraffic 1\nsend 0 0 1 data 17 18\nend\n";
+pub const TWO_WORDS: &[u8] = b"wormtraffic 1\nsend 0 0 1 data 17 18\nend\n";
 
 /// Gives a number of bytes `x`.
 #[derive(Drop)]
@@ -42,7 +41,8 @@ impl Read for Broken {
     }
 }
 
-fn reports(
+/// The report is this one.
+pub fn reports(
     rt: &impl Abort,
     alloc: Global,
     network: &[u8],
@@ -51,20 +51,16 @@ fn reports(
     wanted: &str,
 ) {
     let (turns, drain) = options;
-    let options = Options {
-        turns,
-        workers: 1,
-        drain,
-    };
     let mut network = network;
     let mut traffic = traffic;
     let mut out = Vec::new(alloc);
-    let ran = run_alone(alloc, &mut network, &mut traffic, &options, &mut out);
+    let ran = run_alone(alloc, &mut network, &mut traffic, turns, drain, &mut out);
     assert!(rt; ran.is_ok());
     assert_eq!(rt; out.as_slice(), wanted.as_bytes());
 }
 
-fn is_refused(
+/// The texts are refused with this status and line, and nothing is written.
+pub fn is_refused(
     rt: &impl Abort,
     alloc: Global,
     network: &[u8],
@@ -72,15 +68,10 @@ fn is_refused(
     status: u8,
     line: &str,
 ) -> Result<(), Fail> {
-    let options = Options {
-        turns: 1,
-        workers: 1,
-        drain: 0,
-    };
     let mut network = network;
     let mut traffic = traffic;
     let mut out = Vec::new(alloc);
-    match run_alone(alloc, &mut network, &mut traffic, &options, &mut out) {
+    match run_alone(alloc, &mut network, &mut traffic, 1, 0, &mut out) {
         Ok(()) => panic!(rt; "not refused"),
         Err(fault) => {
             assert_eq!(rt; fault.status(), status);
@@ -235,15 +226,10 @@ fn readers_that_fail_give_nothing(rt: HostRuntime) {
 #[test]
 fn writers_that_fail_take_a_prefix(rt: HostRuntime) {
     let mut room = [0u8; 20];
-    let options = Options {
-        turns: 0,
-        workers: 1,
-        drain: 0,
-    };
     let mut network = TWO_NODES;
     let mut traffic = TWO_WORDS;
     let mut out = room.as_mut_slice();
-    let ran = run_alone(rt.alloc(), &mut network, &mut traffic, &options, &mut out);
+    let ran = run_alone(rt.alloc(), &mut network, &mut traffic, 0, 0, &mut out);
     assert_eq!(rt; ran, Err(ProgramFault::Write));
     assert_eq!(rt; ProgramFault::Write.status(), 8);
     assert_eq!(rt; room.as_slice(), b"wormreport 1\nturns 0".as_slice());

@@ -1,14 +1,14 @@
-use Rattle.std.proofs.Common.{◌≡◌, ◌+◌, ◌<◌, ◌∙◌, [], ◌∷◌, ◌++◌, map, length, sym, ap, inr, arith, ℕ, eqb, true, false}
+use Rattle.std.proofs.Common.{◌≡◌, ◌<◌, ◌∙◌, [], ◌∷◌, ◌++◌, map, length, sym, ap, refl, inl, inr, arith}
 use Rattle.std.proofs.lemmas.List.{length-map, length_push}
 use Rattle.std.proofs.lemmas.Bool.Decides.{nat_tests}
 use Rattle.std.specs.BTreeSet.{contains}
-use Rattle.std.specs.Prelude.{is_ok, ◌||◌}
+use Rattle.std.specs.Prelude.{◌||◌}
 use Rattle.worm_flit.specs.declared.Lane.{Lane}
 use Rattle.worm_text.specs.Lines.{cut, space, newline}
 use Rattle.worm_text.specs.Network.{view}
 use Rattle.worm_text.specs.Traffic.{read_entries, entry_view, lane_cmp, closes}
-use Rattle.worm_text.proofs.Words.{some_left, none_left}
 use Rattle.worm_text.proofs.Entries.{same_call, stops, ends_well, ends_ill, goes_on, last-push, closed-push, room, on_ok}
+use Rattle.worm_text.proofs.TrafficPieces.{read_one, last_read}
 use Rattle.worm_text.proofs.traffic.read_entries.Goals as goal
 
 pub returns-in-Err : goal.returns-in-Err
@@ -60,4 +60,17 @@ loop-front-preserved c =
       closed = λ lane. rw items (closed-push es e lane (contains lane_cmp c.loop-front.closed.lanes lane) (contains lane_cmp c.note.new.self.lanes lane) (i.closed lane) (noted lane));
       count = rw items (omega (arith, length_push es e, i.count));
       few = rw items (omega (arith, length_push es e, len, length-map es entry_view, r));
+      read_so_far = rw items (read_one n es e (cut newline c.args.rest.now) c.loop-front.rest.now c.in-Some.front.now c.in-Some.after.now (omega (arith, c.requires.counted, c.requires.few)) c.in-Some.ensures.parts i.read_so_far j);
     }
+
+pub returns-then-is_err : goal.returns-then-is_err
+returns-then-is_err c =
+    let n = view c.args.config.now in
+    let es = c.loop-front.script in
+    let i = c.loop-front.invariant in
+    let len : length c.entries.result.now ≡ length (map entry_view es) = omega (arith, length-map es entry_view, ap length c.entries.ensures.value) in
+    let call = same_call n (map entry_view es) (length c.entries.result.now) c.loop-front.last (contains lane_cmp c.loop-front.closed.lanes) (cut space c.in-Some.front.now) len i.last i.closed in
+    let pieces = cut newline c.args.rest.now in
+    let e = c.in-Ok-Some.entry in
+    let one = read_one n es e pieces c.loop-front.rest.now c.in-Some.front.now c.in-Some.after.now (omega (arith, c.requires.counted, c.requires.few)) c.in-Some.ensures.parts i.read_so_far (sym call ∙ rw c.in-Ok-Some.field-0-is at c.in-Ok-Some.ensures) in
+    inl (refl, last_read n es e pieces c.in-Some.after.now c.loop-front.line one i.count)

@@ -1,10 +1,10 @@
-use Rattle.std.proofs.Common.{◌≡◌, ◌≤◌, sym, ap, subst, ◌∙◌, arith, inr, true, false}
-use Rattle.std.specs.Prelude.{map, codes}
-use Rattle.std.proofs.lemmas.Result.{err_from_is_err_and}
+use Rattle.std.proofs.Common.{sym, ap, subst, arith, inr}
+use Rattle.std.specs.Prelude.{codes}
 use Rattle.worm_text.specs.Network.{view, nodes_of}
 use Rattle.worm_text.specs.ScriptView.{said_of}
-use Rattle.worm_text.specs.Traffic.{AnswersOrFull, entry_view, traffic_of}
+use Rattle.worm_text.specs.TrafficFaults.{AnswersOrFull, IsEntryLine}
 use Rattle.worm_text.proofs.Entries.{nodes_some, header_ill, header_well, differs, agrees}
+use Rattle.worm_text.proofs.TrafficPieces.{behind_header}
 use Rattle.worm_text.proofs.traffic.read_script.Goals as goal
 
 pub returns-then-ne : goal.returns-then-ne
@@ -20,4 +20,5 @@ returns c =
     let n = view c.args.config.now in
     let e = agrees c.ne.result c.in-Some.header.now c.as_slice-2.result.now (codes "wormtraffic 1") c.ne.ensures c.as_slice-2.ensures c.if-ne.false in
     let same = header_well n c.args.bytes.now c.in-Some.header.now c.in-Some.rest.now c.in-Some.ensures.parts e in
-    subst (AnswersOrFull said_of c.read_entries.result) (sym same) c.read_entries.ensures
+    subst (AnswersOrFull said_of (IsEntryLine n c.args.bytes.now) c.read_entries.result) (sym same)
+    (behind_header n c.args.bytes.now c.in-Some.header.now c.in-Some.rest.now c.read_entries.result _ c.in-Some.ensures.parts e c.read_entries.ensures)

@@ -1,0 +1,3 @@
+pub mod Written
+pub mod LineTexts
+pub mod Idle

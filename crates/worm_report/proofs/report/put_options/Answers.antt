@@ -1,0 +1,7 @@
+use Rattle.worm_report.specs.declared.row.Row.TheVariants.{Header, Options}
+use Rattle.std.proofs.Common.{[], ◌∷◌}
+use Rattle.worm_report.proofs.Written.{rows_then}
+use Rattle.worm_report.proofs.report.put_options.Goals as goal
+
+pub returns : goal.returns
+returns g c = rows_then (Header ∷ []) (Options c.args.summary.now.turns c.args.summary.now.workers c.args.summary.now.drain ∷ []) c.in_ok-put_row.ensures c.put_row-2.ensures

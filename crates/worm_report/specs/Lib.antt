@@ -1,0 +1,4 @@
+pub mod Rows
+pub mod Seen
+pub mod Report
+pub mod Writing

@@ -1,0 +1,251 @@
+//! The whole report, row after row.
+
+ghost use Rattle.std.specs.Prelude.{◌≡◌, ◌<◌, [], ◌∷◌, ◌++◌, length, map};
+ghost use Rattle.worm_mesh.specs.Address.{node_count};
+ghost use Rattle.worm_core.specs.LaneSet.{IsComplete};
+ghost use Rattle.worm_report.specs.Seen.{seen};
+ghost use Rattle.worm_report.specs.Report.{options_rows, stop_rows, stops_rows, opening_rows, delivered_rows, lane_rows, pair_rows, source_rows, underway_rows, flits_rows, closing_rows, report};
+ghost use Rattle.worm_report.specs.Writing.{Writes, WritesRows};
+
+use crate::line::Line;
+use crate::row::Row;
+use crate::summary::{ReportFault, Summary};
+use crate::writing::{flush, put_row};
+use std::alloc::Global;
+use std::io::Write;
+use worm_core::{Held, LaneSet, Net};
+use worm_flit::{Flit, Lane};
+
+fn put_options<W: Write>(out: &mut W, line: &mut Line, summary: &Summary) -> Result<(), ReportFault>
+    ensures { WritesRows (W.contents out.old) (W.contents out.new) result (options_rows summary.now) }
+{
+    put_row(out, line, Row::Header)?;
+    let row = Row::Options {
+        turns: summary.turns,
+        workers: summary.workers as u64,
+        drain: summary.drain,
+    };
+    put_row(out, line, row)
+}
+
+fn put_stop<W: Write>(
+    out: &mut W,
+    line: &mut Line,
+    worker: u64,
+    stop: Option<u64>,
+) -> Result<(), ReportFault>
+    ensures { WritesRows (W.contents out.old) (W.contents out.new) result (stop_rows worker stop) }
+{
+    match stop {
+        None => Ok(()),
+        Some(turn) => put_row(out, line, Row::Stopped { worker, turn }),
+    }
+}
+
+fn put_stops<W: Write>(
+    out: &mut W,
+    line: &mut Line,
+    stops: &[Option<u64>; 16],
+) -> Result<(), ReportFault>
+    ensures { WritesRows (W.contents out.old) (W.contents out.new) result (stops_rows stops.now) }
+{
+    for worker in 0..16 {
+        put_stop(out, line, worker as u64, stops[worker])?;
+    }
+    Ok(())
+}
+
+fn put_opening<W: Write>(out: &mut W, line: &mut Line, summary: &Summary) -> Result<(), ReportFault>
+    ensures { WritesRows (W.contents out.old) (W.contents out.new) result (opening_rows summary.now) }
+{
+    put_options(out, line, summary)?;
+    put_stops(out, line, &summary.stops)
+}
+
+fn put_arrived<W: Write>(
+    out: &mut W,
+    line: &mut Line,
+    node: u8,
+    flits: &[Flit],
+) -> Result<(), ReportFault>
+    ensures { WritesRows (W.contents out.old) (W.contents out.new) result (map (λ flit. Row.Delivered node flit) flits.now) }
+{
+    for flit in flits {
+        put_row(out, line, Row::Delivered { node, flit: *flit })?;
+    }
+    Ok(())
+}
+
+fn put_delivered<W: Write>(out: &mut W, line: &mut Line, net: &Net) -> Result<(), ReportFault>
+    ensures { WritesRows (W.contents out.old) (W.contents out.new) result (delivered_rows (seen net.now)) }
+{
+    for node in 0..net.nodes() {
+        let node = node as u8;
+        put_arrived(out, line, node, net.delivered(node))?;
+    }
+    Ok(())
+}
+
+fn put_held<W: Write>(
+    out: &mut W,
+    line: &mut Line,
+    lane: Lane,
+    underway: &[Held],
+) -> Result<(), ReportFault>
+    ensures { WritesRows (W.contents out.old) (W.contents out.new) result (map (λ held. Row.Underway lane held) underway.now) }
+{
+    for held in underway {
+        put_row(out, line, Row::Underway { lane, held: *held })?;
+    }
+    Ok(())
+}
+
+/// A lane that is not busy is not asked for: there are up to 262,144 of them.
+fn put_lane<W: Write>(
+    alloc: Global,
+    out: &mut W,
+    line: &mut Line,
+    net: &Net,
+    busy: &LaneSet,
+    lane: Lane,
+) -> Result<(), ReportFault>
+    requires src { lane.src < node_count net.now.mesh }
+    requires dst { lane.dst < node_count net.now.mesh }
+    requires class { lane.class < length net.now.channels }
+    requires complete { IsComplete net.now busy.now }
+    ensures { WritesRows (W.contents out.old) (W.contents out.new) result (lane_rows (seen net.now) lane) }
+{
+    if !busy.contains(lane) {
+        return Ok(());
+    }
+    match net.lane_view(alloc, lane) {
+        Ok(view) => put_held(out, line, lane, view.underway.as_slice()),
+        Err(_) => Err(ReportFault::NoMemory),
+    }
+}
+
+fn put_pair<W: Write>(
+    alloc: Global,
+    out: &mut W,
+    line: &mut Line,
+    net: &Net,
+    busy: &LaneSet,
+    src: u8,
+    dst: u8,
+) -> Result<(), ReportFault>
+    requires src { src < node_count net.now.mesh }
+    requires dst { dst < node_count net.now.mesh }
+    requires complete { IsComplete net.now busy.now }
+    ensures { WritesRows (W.contents out.old) (W.contents out.new) result (pair_rows (seen net.now) src dst) }
+{
+    for class in 0..net.classes() {
+        put_lane(alloc, out, line, net, busy, Lane { src, dst, class })?;
+    }
+    Ok(())
+}
+
+fn put_source<W: Write>(
+    alloc: Global,
+    out: &mut W,
+    line: &mut Line,
+    net: &Net,
+    busy: &LaneSet,
+    src: u8,
+) -> Result<(), ReportFault>
+    requires src { src < node_count net.now.mesh }
+    requires complete { IsComplete net.now busy.now }
+    ensures { WritesRows (W.contents out.old) (W.contents out.new) result (source_rows (seen net.now) src) }
+{
+    for dst in 0..net.nodes() {
+        put_pair(alloc, out, line, net, busy, src, dst as u8)?;
+    }
+    Ok(())
+}
+
+fn put_sources<W: Write>(
+    alloc: Global,
+    out: &mut W,
+    line: &mut Line,
+    net: &Net,
+    busy: &LaneSet,
+) -> Result<(), ReportFault>
+    requires complete { IsComplete net.now busy.now }
+    ensures { WritesRows (W.contents out.old) (W.contents out.new) result (underway_rows (seen net.now)) }
+{
+    for src in 0..net.nodes() {
+        put_source(alloc, out, line, net, busy, src as u8)?;
+    }
+    Ok(())
+}
+
+fn put_underway<W: Write>(
+    alloc: Global,
+    out: &mut W,
+    line: &mut Line,
+    net: &Net,
+) -> Result<(), ReportFault>
+    ensures { WritesRows (W.contents out.old) (W.contents out.new) result (underway_rows (seen net.now)) }
+{
+    match net.busy(alloc) {
+        Ok(busy) => put_sources(alloc, out, line, net, &busy),
+        Err(_) => Err(ReportFault::NoMemory),
+    }
+}
+
+fn put_flits<W: Write>(
+    alloc: Global,
+    out: &mut W,
+    line: &mut Line,
+    net: &Net,
+) -> Result<(), ReportFault>
+    ensures { WritesRows (W.contents out.old) (W.contents out.new) result (flits_rows (seen net.now)) }
+{
+    put_delivered(out, line, net)?;
+    put_underway(alloc, out, line, net)
+}
+
+fn put_closing<W: Write>(
+    out: &mut W,
+    line: &mut Line,
+    net: &Net,
+    summary: &Summary,
+) -> Result<(), ReportFault>
+    ensures { WritesRows (W.contents out.old) (W.contents out.new) result (closing_rows (seen net.now) summary.now) }
+{
+    let entries = summary.not_offered;
+    put_row(out, line, Row::NotOffered { entries })?;
+    let totals = net.totals();
+    let row = Row::Total {
+        injected: totals.injected,
+        delivered: totals.delivered,
+    };
+    put_row(out, line, row)
+}
+
+fn put_report<W: Write>(
+    alloc: Global,
+    out: &mut W,
+    net: &Net,
+    summary: &Summary,
+) -> Result<(), ReportFault>
+    ensures { WritesRows (W.contents out.old) (W.contents out.new) result (opening_rows summary.now ++ flits_rows (seen net.now) ++ closing_rows (seen net.now) summary.now) }
+{
+    let mut line = Line::new(alloc);
+    put_opening(out, &mut line, summary)?;
+    put_flits(alloc, out, &mut line, net)?;
+    put_closing(out, &mut line, net, summary)
+}
+
+/// Writes the report of a network and of the run that led to it. `Write` where the writer failed or took nothing, `NoMemory` where
+/// there was no memory for a line or for the view of a lane; a first part of the report has then gone out.
+pub fn write_report<W: Write>(
+    alloc: Global,
+    net: &Net,
+    summary: &Summary,
+    out: &mut W,
+) -> Result<(), ReportFault>
+    ensures { Writes (W.contents out.old) (W.contents out.new) result (report (seen net.now) summary.now) }
+{
+    put_report(alloc, out, net, summary)?;
+    flush(out)
+}

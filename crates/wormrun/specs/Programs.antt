@@ -1,0 +1,198 @@
+-- What the program makes of two texts on one thread: the report of the run of the script that the one says, on the network that
+-- the other says.
+use Rattle.std.specs.Prelude.{ℕ, ◌≡◌, ◌≢◌, ◌-◌, ◌⊎◌, List, [], ◌∷◌, ◌++◌, length, take, drop, replicate, Option, None, Some, Result, Ok, Err}
+use Rattle.std.specs.Io.KnownBytes.{Keeps, Appends}
+use Rattle.worm_core.specs.declared.script.Entry.{Entry}
+use Rattle.worm_core.specs.declared.fault.StepFault.{StepFault}
+use Rattle.worm_core.specs.declared.fault.StepFault.TheVariants.{NoMemory as NoRoom}
+use Rattle.worm_core.specs.State.{NetState}
+use Rattle.worm_core.specs.NewNet.{IsFresh}
+use Rattle.worm_core.specs.Totals.{accepted_total}
+use Rattle.worm_core.specs.Turns.{Turns, Turn, OneThreadRun, due}
+use Rattle.worm_text.specs.declared.format.Format.{Format}
+use Rattle.worm_text.specs.Network.{Network, Keeps as KeepsRules, text}
+use Rattle.worm_text.specs.Reader.{network_of, IsFaultLine}
+use Rattle.worm_text.specs.Traffic.{Said, traffic_of}
+use Rattle.worm_text.specs.TrafficText.{AreEntries, traffic_text, IsTrafficFaultLine}
+use Rattle.worm_text.specs.ScriptView.{said_of}
+use Rattle.worm_report.specs.declared.summary.Summary.{Summary}
+use Rattle.worm_report.specs.Seen.{seen}
+use Rattle.worm_report.specs.Report.{report}
+use Rattle.wormrun.specs.declared.fault.ProgramFault.{ProgramFault}
+use Rattle.wormrun.specs.declared.fault.ProgramFault.TheVariants as f
+use Rattle.wormrun.specs.declared.turns.Ending.{Ending}
+use Rattle.wormrun.specs.Joined.{network_len}
+use Rattle.wormrun.specs.Reading.{GaveText}
+
+-- the turns below this one had no fault, and this one had
+abbrev pub StopsAt : List Entry → ℕ → NetState → StepFault → NetState → Type 0
+StopsAt script turn old fault new = (mid : NetState) × Turns script turn old None mid × Turn (due turn script) mid (Some fault) new
+
+-- Texts
+
+-- a network text is one of this configuration
+pub record SaysNetwork (bytes : List ℕ) (config : Network) : Type 0 where
+  pub format : Format
+  pub keeps : KeepsRules format config
+  pub spelled : bytes ≡ text format config
+
+-- a traffic text is that of these entries
+pub record SaysTraffic (config : Network) (bytes : List ℕ) (entries : List Said) : Type 0 where
+  pub keeps : AreEntries config [] entries
+  pub spelled : bytes ≡ traffic_text config entries
+
+-- one of the two texts is refused: the first fault of the network text, or, where that one is accepted, of the traffic text
+abbrev pub IsRefusedAs : List ℕ → List ℕ → ProgramFault → Type 0
+IsRefusedAs network traffic (f.Network t) = (network_of network ≡ Err t) × IsFaultLine network t.line
+IsRefusedAs network traffic (f.Traffic t) =
+    (config : Network) × SaysNetwork network config × (traffic_of config traffic ≡ Err t) × IsTrafficFaultLine config traffic t.line
+IsRefusedAs network traffic f.ReadNetwork = ⊥
+IsRefusedAs network traffic f.ReadTraffic = ⊥
+IsRefusedAs network traffic f.NoMemory = ⊥
+IsRefusedAs network traffic f.Write = ⊥
+
+-- the texts are not both accepted, or memory ran out
+abbrev pub IsNotAccepted : List ℕ → List ℕ → ProgramFault → Type 0
+IsNotAccepted network traffic (f.Network t) = IsRefusedAs network traffic (f.Network t)
+IsNotAccepted network traffic (f.Traffic t) = IsRefusedAs network traffic (f.Traffic t)
+IsNotAccepted network traffic f.ReadNetwork = ⊥
+IsNotAccepted network traffic f.ReadTraffic = ⊥
+IsNotAccepted network traffic f.NoMemory = Unit {0}
+IsNotAccepted network traffic f.Write = ⊥
+
+-- Runs
+
+-- what a report tells of a run beside its network
+abbrev pub summary_of : ℕ → ℕ → Ending → ℕ → Summary
+summary_of turns drain ending not_offered =
+    record { turns = turns; workers = 1; drain = drain; stops = ending.stopped ∷ replicate 15 None; not_offered = not_offered }
+
+-- Both texts are accepted, and these bytes are the report of the run of the script on the network, from nothing offered, that
+-- ended thus.
+pub record IsReported (network traffic : List ℕ) (turns drain : ℕ) (ending : Ending) (bytes : List ℕ) : Type 0 where
+  pub config : Network
+  pub of_network : SaysNetwork network config
+  pub script : List Entry
+  pub of_traffic : SaysTraffic config traffic (said_of script)
+  pub opening : NetState
+  pub fresh : IsFresh config.radices config.channels config.depth config.classes opening
+  pub closing : NetState
+  pub run : OneThreadRun script turns drain opening ending.stopped ending.fault closing
+  pub reported : bytes ≡ report (seen closing) (summary_of turns drain ending (length script - accepted_total closing))
+
+-- what a reader had left and has left, or what a writer held and holds
+pub record Stream : Type 0 where
+  pub old : Option (List ℕ)
+  pub new : Option (List ℕ)
+
+abbrev pub stream : Option (List ℕ) → Option (List ℕ) → Stream
+stream old new = record { old = old; new = new }
+
+-- a first part of the bytes was written
+pub record WritesFront (out : Stream) (bytes : List ℕ) : Type 0 where
+  pub front : List ℕ
+  pub rest : List ℕ
+  pub parts : bytes ≡ front ++ rest
+  pub written : Appends out.old out.new front
+
+-- What a call wrote of the report of a run that ended with this fault, or with none. Want of memory in the run is told where the
+-- report is out.
+abbrev pub WritesReport : Stream → Option StepFault → Result (Unit {0}) ProgramFault → List ℕ → Type 0
+WritesReport out fault (Ok _) bytes = (fault ≢ Some NoRoom) × Appends out.old out.new bytes
+WritesReport out fault (Err f.NoMemory) bytes = WritesFront out bytes
+WritesReport out fault (Err f.Write) bytes = WritesFront out bytes
+WritesReport out fault (Err (f.Network t)) bytes = ⊥
+WritesReport out fault (Err (f.Traffic t)) bytes = ⊥
+WritesReport out fault (Err f.ReadNetwork) bytes = ⊥
+WritesReport out fault (Err f.ReadTraffic) bytes = ⊥
+
+-- the report of a run that no want of memory ended was written, all of it
+pub record Reports (network traffic : List ℕ) (turns drain : ℕ) (out : Stream) : Type 0 where
+  pub ending : Ending
+  pub no_want : ending.fault ≢ Some NoRoom
+  pub bytes : List ℕ
+  pub reported : IsReported network traffic turns drain ending bytes
+  pub written : Appends out.old out.new bytes
+
+-- a first part of the report of a run was written
+pub record ReportsPart (network traffic : List ℕ) (turns drain : ℕ) (out : Stream) : Type 0 where
+  pub ending : Ending
+  pub bytes : List ℕ
+  pub reported : IsReported network traffic turns drain ending bytes
+  pub written : WritesFront out bytes
+
+-- what a fault tells of two texts at hand
+abbrev pub Fails : List ℕ → List ℕ → ℕ → ℕ → Stream → ProgramFault → Type 0
+Fails network traffic turns drain out (f.Network t) = IsRefusedAs network traffic (f.Network t) × Keeps out.old out.new
+Fails network traffic turns drain out (f.Traffic t) = IsRefusedAs network traffic (f.Traffic t) × Keeps out.old out.new
+Fails network traffic turns drain out f.ReadNetwork = ⊥
+Fails network traffic turns drain out f.ReadTraffic = ⊥
+Fails network traffic turns drain out f.NoMemory = Keeps out.old out.new ⊎ ReportsPart network traffic turns drain out
+Fails network traffic turns drain out f.Write = ReportsPart network traffic turns drain out
+
+-- Readers
+
+-- both readers gave their texts to the end
+pub record GaveBoth (first second : Stream) (network traffic : List ℕ) : Type 0 where
+  pub of_network : GaveText first.old first.new network
+  pub of_traffic : GaveText second.old second.new traffic
+
+-- both readers gave their texts, and the report of them was written
+pub record ReportsAlone (turns drain : ℕ) (first second out : Stream) : Type 0 where
+  pub network : List ℕ
+  pub traffic : List ℕ
+  pub gave : GaveBoth first second network traffic
+  pub reports : Reports network traffic turns drain out
+
+-- both readers gave their texts, and they failed thus
+pub record FailsBoth (turns drain : ℕ) (first second out : Stream) (fault : ProgramFault) : Type 0 where
+  pub network : List ℕ
+  pub traffic : List ℕ
+  pub gave : GaveBoth first second network traffic
+  pub fails : Fails network traffic turns drain out fault
+
+-- what a fault tells where two readers give the texts
+abbrev pub FailsAlone : ℕ → ℕ → Stream → Stream → Stream → ProgramFault → Type 0
+FailsAlone turns drain first second out (f.Network t) = FailsBoth turns drain first second out (f.Network t)
+FailsAlone turns drain first second out (f.Traffic t) = FailsBoth turns drain first second out (f.Traffic t)
+FailsAlone turns drain first second out f.ReadNetwork = Keeps out.old out.new
+FailsAlone turns drain first second out f.ReadTraffic = ((network : List ℕ) × GaveText first.old first.new network) × Keeps out.old out.new
+FailsAlone turns drain first second out f.NoMemory = Keeps out.old out.new ⊎ FailsBoth turns drain first second out f.NoMemory
+FailsAlone turns drain first second out f.Write = FailsBoth turns drain first second out f.Write
+
+-- what a fault of reading tells
+abbrev pub ReadsNot : Stream → ProgramFault → Type 0
+ReadsNot first f.ReadNetwork = Unit {0}
+ReadsNot first f.ReadTraffic = (network : List ℕ) × GaveText first.old first.new network
+ReadsNot first f.NoMemory = Unit {0}
+ReadsNot first (f.Network t) = ⊥
+ReadsNot first (f.Traffic t) = ⊥
+ReadsNot first f.Write = ⊥
+
+-- the two texts of a joined input
+abbrev pub first_text : List ℕ → List ℕ
+first_text joined = take (network_len [] joined) joined
+
+abbrev pub second_text : List ℕ → List ℕ
+second_text joined = drop (network_len [] joined) joined
+
+-- the reader gave both texts in one, and the report of 100 turns without a drain was written
+pub record ReportsJoined (input out : Stream) : Type 0 where
+  pub joined : List ℕ
+  pub gave : GaveText input.old input.new joined
+  pub reports : Reports (first_text joined) (second_text joined) 100 0 out
+
+-- the reader gave both texts in one, and they failed thus
+pub record FailsCut (input out : Stream) (fault : ProgramFault) : Type 0 where
+  pub joined : List ℕ
+  pub gave : GaveText input.old input.new joined
+  pub fails : Fails (first_text joined) (second_text joined) 100 0 out fault
+
+-- what a fault tells where one reader gives both texts
+abbrev pub FailsJoined : Stream → Stream → ProgramFault → Type 0
+FailsJoined input out (f.Network t) = FailsCut input out (f.Network t)
+FailsJoined input out (f.Traffic t) = FailsCut input out (f.Traffic t)
+FailsJoined input out f.ReadNetwork = Keeps out.old out.new
+FailsJoined input out f.ReadTraffic = ⊥
+FailsJoined input out f.NoMemory = Keeps out.old out.new ⊎ FailsCut input out f.NoMemory
+FailsJoined input out f.Write = FailsCut input out f.Write
