@@ -11,3 +11,4 @@ pub mod Totals
 pub mod LaneView
 pub mod LaneSet
 pub mod Parts
+pub mod Acceptable
