@@ -25,6 +25,7 @@ mod tests;
 mod totals;
 mod turn;
 mod view;
+mod wiring;
 
 pub use busy::LaneSet;
 pub use config::{Config, Name};
