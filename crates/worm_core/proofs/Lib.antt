@@ -19,6 +19,7 @@ pub mod Headline
 pub mod NewNet
 pub mod Reaching
 pub mod Pointers
+pub mod Wired
 pub mod Passages
 pub mod DueEntries
 pub mod Turning

@@ -2,6 +2,7 @@ pub mod Script
 pub mod Shape
 pub mod State
 pub mod Answers
+pub mod Wiring
 pub mod Moves
 pub mod Runs
 pub mod Headline

@@ -13,6 +13,7 @@ mod parts;
 mod readers;
 
 use crate::fresh::{make_links, make_nodes};
+use crate::wiring::Wiring;
 use crate::{LinkState, Moved, Name, Node, StepFault};
 use arrayvec::ArrayVec;
 use std::alloc::{AllocError, Global};
@@ -25,7 +26,7 @@ use worm_term::OfferFault;
 /// The nodes by number and the links by number, whatever they hold.
 #[derive(Drop)]
 pub struct Fabric {
-    mesh: Mesh,
+    wiring: Wiring,
     classes: ClassChannels,
     depth: u8,
     names: ArrayVec<Name, 4>,
@@ -38,7 +39,7 @@ impl Model for Fabric {
 
     ghost Value = { NetState };
 
-    ghost view = { λ n. net_state n.mesh n.classes n.depth (texts_of n.names.items) n.nodes.items n.links.items };
+    ghost view = { λ n. net_state n.wiring n.classes n.depth (texts_of n.names.items) n.nodes.items n.links.items };
 }
 
 impl Fabric {
@@ -60,7 +61,7 @@ impl Fabric {
         let room = u16::from(classes.total()) * u16::from(depth);
         let links = make_links(alloc, mesh.links(), room)?;
         Ok(Fabric {
-            mesh,
+            wiring: Wiring::new(mesh),
             classes,
             depth,
             names,
@@ -73,22 +74,22 @@ impl Fabric {
     pub fn has_node(&self, node: u8) -> bool
         ensures { IsTrue result ↔ (node < node_count self.now.mesh) }
     {
-        u16::from(node) < self.mesh.nodes()
+        u16::from(node) < self.wiring.mesh().nodes()
     }
 
     /// Whether the mesh has this node, and the network this class.
     pub fn has_class(&self, node: u8, class: u8) -> bool
         ensures { IsTrue result ↔ ((node < node_count self.now.mesh) × (class < length self.now.channels)) }
     {
-        u16::from(node) < self.mesh.nodes() && class < self.classes.classes()
+        u16::from(node) < self.wiring.mesh().nodes() && class < self.classes.classes()
     }
 
     /// Whether the node has this port, the terminal or one with a neighbour, and the network this channel.
     pub fn has_place(&self, node: u8, port: u8, vc: u8) -> bool
         ensures { IsTrue result ↔ ((node < node_count self.now.mesh) × ((port ≡ 2 * length self.now.mesh) ⊎ IsSome (neighbour_of self.now.mesh node port)) × (vc < sum self.now.channels)) }
     {
-        u16::from(node) < self.mesh.nodes()
-            && (port == 2 * self.mesh.dims() || self.mesh.neighbour(node, port).is_some())
+        u16::from(node) < self.wiring.mesh().nodes()
+            && (port == 2 * self.wiring.mesh().dims() || self.wiring.link_out(node, port).is_some())
             && vc < self.classes.total()
     }
 
@@ -103,7 +104,7 @@ impl Fabric {
     pub fn has_link(&self, node: u8, port: u8) -> bool
         ensures { IsTrue result ↔ ((node < node_count self.now.mesh) × IsSome (neighbour_of self.now.mesh node port)) }
     {
-        u16::from(node) < self.mesh.nodes() && self.mesh.neighbour(node, port).is_some()
+        self.wiring.link_out(node, port).is_some()
     }
 
     /// The same for a channel of the link into the port.
@@ -118,7 +119,7 @@ impl Fabric {
         ensures value { result ≡ 2 * length self.now.mesh }
         ensures bound { result ≤ 6 }
     {
-        2 * self.mesh.dims()
+        2 * self.wiring.mesh().dims()
     }
 
     /// The number of the link that comes into this port.
@@ -127,10 +128,7 @@ impl Fabric {
         ensures value { result ≡ link_into self.now node port }
         ensures bound { result < link_count self.now.mesh }
     {
-        let Some(from) = self.mesh.neighbour(node, port) else {
-            return 0;
-        };
-        let Some(number) = self.mesh.link_number(from, self.mesh.opposite(port)) else {
+        let Some(number) = self.wiring.link_into(node, port) else {
             return 0;
         };
         number
@@ -142,10 +140,7 @@ impl Fabric {
         ensures value { result ≡ link_out self.now node port }
         ensures bound { result < link_count self.now.mesh }
     {
-        let Some(_to) = self.mesh.neighbour(node, port) else {
-            return 0;
-        };
-        let Some(number) = self.mesh.link_number(node, port) else {
+        let Some(number) = self.wiring.link_out(node, port) else {
             return 0;
         };
         number
@@ -423,7 +418,7 @@ impl Fabric {
         ensures value { result ≡ node_count self.now.mesh }
         ensures bound { result ≤ 256 }
     {
-        self.mesh.nodes()
+        self.wiring.mesh().nodes()
     }
 
     /// The number of classes.

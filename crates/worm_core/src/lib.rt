@@ -26,6 +26,7 @@ mod tests;
 mod totals;
 mod turn;
 mod view;
+mod wiring;
 
 pub use acceptable::acceptable_scripts_are_taken;
 pub use busy::LaneSet;

@@ -24,12 +24,16 @@ impl Model for Line {
 }
 
 impl Line {
-    pub fn new(alloc: Global) -> Self {
+    /// An empty line.
+    pub fn new(alloc: Global) -> Self
+        ensures { result ≡ [] }
+    {
         Line {
             bytes: Vec::new(alloc),
         }
     }
 
+    /// Its bytes, the line feed among them once it is whole.
     pub fn as_bytes(&self) -> &[u8]
         ensures { result.now ≡ self.now }
     {
@@ -44,6 +48,7 @@ impl Line {
         self.bytes.extend_from_slice(word)
     }
 
+    /// A space and a word.
     fn word(&mut self, word: &[u8]) -> Result<(), AllocError>
         ensures { OnOk result (self.new ≡ self.old ++ space ∷ word.now) }
     {
@@ -51,6 +56,7 @@ impl Line {
         self.bytes.extend_from_slice(word)
     }
 
+    /// A space and a number in decimal.
     fn number(&mut self, number: u128) -> Result<(), AllocError>
         ensures { OnOk result (self.new ≡ self.old ++ space ∷ decimal number) }
     {
@@ -58,6 +64,7 @@ impl Line {
         self.word(buffer.format(number).as_bytes())
     }
 
+    /// The line feed.
     fn end(&mut self) -> Result<(), AllocError>
         ensures { OnOk result (self.new ≡ self.old ++ newline ∷ []) }
     {
@@ -75,7 +82,7 @@ impl Line {
         self.number(u128::from(flit.packet))
     }
 
-    /// What a delivered flit carries.
+    /// What a delivered flit carries: its index and its word, or that it is a mark.
     fn load(&mut self, flit: Flit) -> Result<(), AllocError>
         ensures { OnOk result (self.new ≡ self.old ++ flat_map (λ f. space ∷ f) (load_fields flit.kind flit)) }
     {
@@ -90,6 +97,7 @@ impl Line {
         }
     }
 
+    /// A place beside a node: an input buffer, or a link by its output port.
     fn side(&mut self, word: &[u8], node: u8, port: u8, vc: u8) -> Result<(), AllocError>
         ensures { OnOk result (self.new ≡ self.old ++ flat_map (λ f. space ∷ f) (word.now ∷ decimal node ∷ decimal port ∷ decimal vc ∷ [])) }
     {
@@ -99,6 +107,7 @@ impl Line {
         self.number(u128::from(vc))
     }
 
+    /// Where a flit under way is.
     fn place(&mut self, place: Place) -> Result<(), AllocError>
         ensures { OnOk result (self.new ≡ self.old ++ flat_map (λ f. space ∷ f) (place_fields place)) }
     {

@@ -16,6 +16,7 @@ use std::io::Write;
 use worm_core::{Held, LaneSet, Net};
 use worm_flit::{Flit, Lane};
 
+/// The head of the report, and the options of the run.
 fn put_options<W: Write>(out: &mut W, line: &mut Line, summary: &Summary) -> Result<(), ReportFault>
     ensures { WritesRows (W.contents out.old) (W.contents out.new) result (options_rows summary.now) }
 {
@@ -28,6 +29,7 @@ fn put_options<W: Write>(out: &mut W, line: &mut Line, summary: &Summary) -> Res
     put_row(out, line, row)
 }
 
+/// The turn in which a worker was stopped, if it was.
 fn put_stop<W: Write>(
     out: &mut W,
     line: &mut Line,
@@ -42,6 +44,7 @@ fn put_stop<W: Write>(
     }
 }
 
+/// The workers that were stopped, by number.
 fn put_stops<W: Write>(
     out: &mut W,
     line: &mut Line,
@@ -55,6 +58,7 @@ fn put_stops<W: Write>(
     Ok(())
 }
 
+/// How the run went.
 fn put_opening<W: Write>(out: &mut W, line: &mut Line, summary: &Summary) -> Result<(), ReportFault>
     ensures { WritesRows (W.contents out.old) (W.contents out.new) result (opening_rows summary.now) }
 {
@@ -62,6 +66,7 @@ fn put_opening<W: Write>(out: &mut W, line: &mut Line, summary: &Summary) -> Res
     put_stops(out, line, &summary.stops)
 }
 
+/// The flits that arrived at a node, in order of arrival.
 fn put_arrived<W: Write>(
     out: &mut W,
     line: &mut Line,
@@ -76,6 +81,7 @@ fn put_arrived<W: Write>(
     Ok(())
 }
 
+/// What arrived, by node.
 fn put_delivered<W: Write>(out: &mut W, line: &mut Line, net: &Net) -> Result<(), ReportFault>
     ensures { WritesRows (W.contents out.old) (W.contents out.new) result (delivered_rows (seen net.now)) }
 {
@@ -86,6 +92,7 @@ fn put_delivered<W: Write>(out: &mut W, line: &mut Line, net: &Net) -> Result<()
     Ok(())
 }
 
+/// The flits of a lane that are under way, from the sink back.
 fn put_held<W: Write>(
     out: &mut W,
     line: &mut Line,
@@ -124,6 +131,7 @@ fn put_lane<W: Write>(
     }
 }
 
+/// What is under way between two nodes, by class.
 fn put_pair<W: Write>(
     alloc: Global,
     out: &mut W,
@@ -144,6 +152,7 @@ fn put_pair<W: Write>(
     Ok(())
 }
 
+/// What is under way from a node, by destination.
 fn put_source<W: Write>(
     alloc: Global,
     out: &mut W,
@@ -162,6 +171,7 @@ fn put_source<W: Write>(
     Ok(())
 }
 
+/// What is under way, by source.
 fn put_sources<W: Write>(
     alloc: Global,
     out: &mut W,
@@ -178,6 +188,7 @@ fn put_sources<W: Write>(
     Ok(())
 }
 
+/// What is under way, of the lanes that are busy.
 fn put_underway<W: Write>(
     alloc: Global,
     out: &mut W,
@@ -192,6 +203,7 @@ fn put_underway<W: Write>(
     }
 }
 
+/// Where the flits are.
 fn put_flits<W: Write>(
     alloc: Global,
     out: &mut W,
@@ -204,6 +216,7 @@ fn put_flits<W: Write>(
     put_underway(alloc, out, line, net)
 }
 
+/// What was not offered, and the sums.
 fn put_closing<W: Write>(
     out: &mut W,
     line: &mut Line,
@@ -222,6 +235,7 @@ fn put_closing<W: Write>(
     put_row(out, line, row)
 }
 
+/// All rows.
 fn put_report<W: Write>(
     alloc: Global,
     out: &mut W,

@@ -1,4 +1,5 @@
 //! The worked faults of both texts, texts that are accepted, and texts that are cut off.
 
+mod hostile;
 mod network;
 mod traffic;

@@ -1,8 +1,7 @@
 -- A configuration that a network text says is one that a network is made of.
-use Rattle.std.proofs.Common.{◌≡◌, ◌≤◌, ◌<◌, ◌*◌, ℕ, List, [], ◌∷◌, length, fold, map, ap, sym, ◌∙◌, arith, subst, suc}
+use Rattle.std.proofs.Common.{◌≡◌, ◌*◌, ℕ, List, [], ◌∷◌, length, fold, sym, ◌∙◌, arith}
 use Rattle.std.proofs.Math.Nat.{mul_assoc, mul-one, one-mul}
-use Rattle.worm_flit.specs.Channels.{AreChannels}
-use Rattle.worm_mesh.specs.Address.{node_count, IsMesh as IsRadices}
+use Rattle.worm_mesh.specs.Address.{node_count}
 use Rattle.worm_core.specs.NewNet.{IsConfig}
 use Rattle.worm_text.specs.declared.format.Format.{Format}
 use Rattle.worm_text.specs.Network.{Network, Keeps, nodes_of}
@@ -15,11 +14,11 @@ product a (k ∷ radices) = product (a * k) radices ∙ mul_assoc a k (node_coun
 all_nodes : (radices : List ℕ) → nodes_of radices ≡ node_count radices
 all_nodes radices = product 1 radices ∙ one-mul (node_count radices)
 
-pub kept_config : (format : Format) (n : Network) → Keeps format n → IsConfig n.radices n.channels n.depth (length n.classes)
-kept_config format n kept = record {
+pub kept_config : (format : Format) (n : Network) (names : ℕ) → names ≡ length n.classes → Keeps format n → IsConfig n.radices n.channels n.depth names
+kept_config format n names all kept = record {
   mesh = record { some_dims = omega (arith, kept.mesh.dims.0); few_dims = kept.mesh.dims.1; radices = kept.mesh.each; few_nodes = omega (arith, kept.mesh.nodes, all_nodes n.radices) };
   classes = record { some = omega (arith, kept.some, kept.classes.paired); few = omega (arith, kept.classes.count, kept.classes.paired); each = kept.classes.each; total = kept.classes.total };
   least_depth = kept.depth.0;
   most_depth = kept.depth.1;
-  all_named = sym kept.classes.paired;
+  all_named = all ∙ sym kept.classes.paired;
 }

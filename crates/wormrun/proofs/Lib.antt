@@ -1,2 +1,4 @@
 pub mod JoinedLemmas
 pub mod Configs
+pub mod Draining
+pub mod Reporting

@@ -8,12 +8,14 @@ use Rattle.worm_core.specs.declared.fault.StepFault.TheVariants.{NoMemory as NoR
 use Rattle.worm_core.specs.State.{NetState}
 use Rattle.worm_core.specs.NewNet.{IsFresh}
 use Rattle.worm_core.specs.Totals.{accepted_total}
-use Rattle.worm_core.specs.Turns.{Turns, Turn, OneThreadRun, due}
+use Rattle.worm_core.specs.Script.{due}
+use Rattle.worm_core.specs.Turns.{Turns, Turn, OneThreadRun}
 use Rattle.worm_text.specs.declared.format.Format.{Format}
 use Rattle.worm_text.specs.Network.{Network, Keeps as KeepsRules, text}
 use Rattle.worm_text.specs.Reader.{network_of, IsFaultLine}
 use Rattle.worm_text.specs.Traffic.{Said, traffic_of}
-use Rattle.worm_text.specs.TrafficText.{AreEntries, traffic_text, IsTrafficFaultLine}
+use Rattle.worm_text.specs.TrafficText.{AreEntries, traffic_text}
+use Rattle.worm_text.specs.TrafficFaults.{IsTrafficFaultLine}
 use Rattle.worm_text.specs.ScriptView.{said_of}
 use Rattle.worm_report.specs.declared.summary.Summary.{Summary}
 use Rattle.worm_report.specs.Seen.{seen}

@@ -1,6 +1,6 @@
 //! The program over readers and a writer.
 
-ghost use Rattle.std.specs.Prelude.{◌≡◌, ◌≤◌, ◌-◌, length, IfOk, IfErr, OnOk};
+ghost use Rattle.std.specs.Prelude.{◌≡◌, ◌≤◌, ◌-◌, length, IfOk, IfErr, IfSome, OnOk, MatchResult};
 ghost use Rattle.std.specs.Io.KnownBytes.{Keeps};
 ghost use Rattle.worm_core.specs.NewNet.{IsFresh};
 ghost use Rattle.worm_core.specs.State.{texts_of};
@@ -139,8 +139,7 @@ fn run_and_report<W: Write>(
     drain: u64,
     out: &mut W,
 ) -> Result<(), ProgramFault>
-    ensures ok { OnOk result (Reports network.now traffic.now turns drain (stream (W.contents out.old) (W.contents out.new))) }
-    ensures err { IfErr result (Fails network.now traffic.now turns drain (stream (W.contents out.old) (W.contents out.new))) }
+    ensures { MatchResult result (λ _. Reports network.now traffic.now turns drain (stream (W.contents out.old) (W.contents out.new))) (Fails network.now traffic.now turns drain (stream (W.contents out.old) (W.contents out.new))) }
 {
     let accepted = accept(alloc, network, traffic)?;
     let Some(mut net) = open(alloc, &accepted.config) else {

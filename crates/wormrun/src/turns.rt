@@ -2,7 +2,7 @@
 
 ghost use Rattle.std.specs.Prelude.{◌≡◌, ◌<◌, None, Some, MatchOption};
 ghost use Rattle.worm_core.specs.State.{NetState};
-ghost use Rattle.worm_core.specs.Turns.{Drains, OneThreadRun, Turn, Turns, due};
+ghost use Rattle.worm_core.specs.Turns.{Drains, OneThreadRun, Turns};
 ghost use Rattle.wormrun.specs.Programs.{StopsAt};
 
 use std::alloc::Global;
@@ -53,13 +53,7 @@ fn drain(alloc: Global, net: &mut Net, most: u64) -> Option<StepFault>
 }
 
 /// The run of a script on this thread: its turns below a number, and then, where none of them was stopped, the drain.
-pub fn run_script(
-    alloc: Global,
-    net: &mut Net,
-    script: &Script,
-    turns: u64,
-    most: u64,
-) -> Ending
+pub fn run_script(alloc: Global, net: &mut Net, script: &Script, turns: u64, most: u64) -> Ending
     ensures { OneThreadRun script.now turns most net.old result.stopped result.fault net.new }
 {
     match take_turns(net, script, turns) {

@@ -90,9 +90,7 @@ fn words_in<'a>(matches: &ArgMatches<'a>) -> Option<Words<'a>>
     ensures { IfSome result (λ w. InRange w.options) }
 {
     let turns = matches.get_one::<u64>("turns").filter(|t| *t <= 1_000_000)?;
-    let workers = matches
-        .get_one::<usize>("workers")
-        .filter(|w| *w == 1)?;
+    let workers = matches.get_one::<usize>("workers").filter(|w| *w == 1)?;
     let drain = matches.get_one::<u64>("drain").filter(|d| *d <= 1_000_000)?;
     Some(Words {
         network: matches.get_str("NETWORK")?,

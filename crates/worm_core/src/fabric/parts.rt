@@ -7,6 +7,7 @@ ghost use Rattle.worm_core.specs.Parts.{IsConfigOf, parts_state};
 
 use super::Fabric;
 use crate::config::copy_names;
+use crate::wiring::Wiring;
 use crate::{Config, NetParts};
 use arrayvec::ArrayVec;
 use worm_flit::ClassChannels;
@@ -40,7 +41,7 @@ impl Fabric {
         ensures { IsConfigOf self.now result }
     {
         Config {
-            radices: radices_of(&self.mesh),
+            radices: radices_of(self.wiring.mesh()),
             depth: self.depth,
             classes: copy_names(&self.names),
             channels: counts_of(&self.classes),
@@ -52,7 +53,7 @@ impl Fabric {
         ensures { parts_state result ≡ self }
     {
         let Fabric {
-            mesh,
+            wiring,
             classes,
             depth,
             names,
@@ -60,7 +61,7 @@ impl Fabric {
             links,
         } = self;
         let config = Config {
-            radices: radices_of(&mesh),
+            radices: radices_of(wiring.mesh()),
             depth,
             classes: names,
             channels: counts_of(&classes),
@@ -93,7 +94,7 @@ impl Fabric {
             unreachable!()
         };
         Fabric {
-            mesh,
+            wiring: Wiring::new(mesh),
             classes: ClassChannels::new(channels.as_slice()),
             depth,
             names,

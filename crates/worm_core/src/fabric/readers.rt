@@ -24,13 +24,13 @@ impl Fabric {
         if node == dst {
             return None;
         }
-        let out_port = next_port(&self.mesh, node, dst);
-        let to = self.mesh.neighbour(node, out_port)?;
+        let out_port = next_port(self.wiring.mesh(), node, dst);
+        let to = self.wiring.mesh().neighbour(node, out_port)?;
         Some(LinkEnds {
             from: node,
             out_port,
             to,
-            in_port: self.mesh.opposite(out_port),
+            in_port: self.wiring.mesh().opposite(out_port),
         })
     }
 
@@ -57,7 +57,7 @@ impl Fabric {
     pub fn links(&self) -> u16
         ensures { result ≡ link_count self.now.mesh }
     {
-        self.mesh.links()
+        self.wiring.mesh().links()
     }
 
     /// The link of this number.

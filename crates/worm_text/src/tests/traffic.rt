@@ -234,3 +234,19 @@ fn ten_thousand_entries(rt: HostRuntime) -> Result<(), Fail> {
     );
     Ok(())
 }
+
+/// Where an allocation is refused the answer says so, at the line of the entry for which there was no room.
+#[test]
+fn memory_may_run_out(rt: HostRuntime) {
+    let text = b"wormtraffic 1\nsend 0 0 1 data 17\nclose 0 0 1 data\nend\n";
+    match read_network(TWO_NODES) {
+        Ok(config) => match read_traffic(rt.alloc(), text, &config) {
+            Ok(script) => assert_eq!(rt; script.entries().len(), 2),
+            Err(fault) => {
+                assert_eq!(rt; fault.why, Why::NoMemory);
+                assert!(rt; fault.line == 2 || fault.line == 3);
+            }
+        },
+        Err(_) => assert!(rt; false, "no network"),
+    }
+}

@@ -7,12 +7,10 @@ use std::process::Abort;
 use std::test::Fail;
 
 /// Two nodes, one class with two channels.
-const TWO_CHANNELS: &[u8] =
-    b"wormnet 2\ndims 1\nradix 2\ndepth 2\nclass data channels 2\nend\n";
+const TWO_CHANNELS: &[u8] = b"wormnet 2\ndims 1\nradix 2\ndepth 2\nclass data channels 2\nend\n";
 
 /// Three nodes by two.
-const THREE_BY_TWO: &[u8] =
-    b"wormnet 2\ndims 2\nradix 3 2\ndepth 2\nclass data channels 1\nend\n";
+const THREE_BY_TWO: &[u8] = b"wormnet 2\ndims 2\nradix 3 2\ndepth 2\nclass data channels 1\nend\n";
 
 #[test]
 fn two_sources_share_a_channel_packet_by_packet(rt: HostRuntime) {

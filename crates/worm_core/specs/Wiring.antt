@@ -1,0 +1,24 @@
+-- The numbers of a node's links, by mesh port (Dally and Towles, chapter 5).
+use Rattle.std.specs.Prelude.{ℕ, ◌≡◌, ◌<◌, List, [], slice_index_or, Option, None, option_map}
+use Rattle.worm_mesh.specs.Address.{neighbour_of, opposite_of}
+use Rattle.worm_mesh.specs.Links.{links_before}
+use Rattle.worm_core.specs.declared.wiring.NodeLinks.{NodeLinks}
+
+-- the link out of a node by a port, and the link into it by a port, where there is a neighbour
+abbrev pub out_link : List ℕ → ℕ → ℕ → Option ℕ
+out_link mesh x o = option_map (λ y. links_before mesh x o) (neighbour_of mesh x o)
+
+abbrev pub in_link : List ℕ → ℕ → ℕ → Option ℕ
+in_link mesh x p = option_map (λ y. links_before mesh y (opposite_of p)) (neighbour_of mesh x p)
+
+-- what is kept of a node
+pub record AreLinksOf (mesh : List ℕ) (x : ℕ) (links : NodeLinks) : Type 0 where
+  pub out : (p : ℕ) → p < 6 → slice_index_or links.out p None ≡ out_link mesh x p
+  pub into : (p : ℕ) → p < 6 → slice_index_or links.into p None ≡ in_link mesh x p
+
+abbrev pub no_links : NodeLinks
+no_links = record { out = []; into = [] }
+
+-- what is kept of each node, and of each number that is none's
+abbrev pub IsWired : List ℕ → List NodeLinks → Type 0
+IsWired mesh nodes = (x : ℕ) → x < 256 → AreLinksOf mesh x (slice_index_or nodes x no_links)
