@@ -103,6 +103,7 @@ node_turn_one entries x =
     (then_one (SendsGranted x) (GivesCredits x) (sends_one_way x) (for_each_one mesh_ports (GivesCredit x) (λ p. for_each_one _ Tries tries_one))))))))
 
 pub turn_one : (entries : List Entry) → IsDetermined (Turn entries)
+unfolding Turn
 turn_one entries = for_each_one all_nodes (NodeTurn entries) (node_turn_one entries)
 
 pub turns_one : (script : List Entry) (n : ℕ) → IsDetermined (Turns script n)

@@ -138,9 +138,9 @@ NodeTurn entries x =
     and_then SendsGranted x
     and_then GivesCredits x
 
--- The turns of all nodes
+-- The turns of all nodes, by rising number; kept closed in goals
 
-abbrev pub Turn : List Entry → Passage
+unfoldable pub Turn : List Entry → Passage
 Turn entries = ForEach all_nodes (NodeTurn entries)
 
 -- the turns below a number, each with its entries of the script

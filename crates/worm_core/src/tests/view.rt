@@ -10,9 +10,9 @@ use std::test::Fail;
 use worm_flit::{Lane, Packet};
 
 /// A flit of the lane by its packet's number and its index, and where it is.
-type Standing = (u16, u8, Place);
+pub(super) type Standing = (u16, u8, Place);
 
-fn buffer(node: u8, port: u8, vc: u8) -> Place {
+pub(super) fn buffer(node: u8, port: u8, vc: u8) -> Place {
     Place::Buffer { node, port, vc }
 }
 
@@ -20,18 +20,23 @@ fn link(node: u8, port: u8, vc: u8) -> Place {
     Place::Link { node, port, vc }
 }
 
-fn standing(held: &Held) -> Standing {
+pub(super) fn standing(held: &Held) -> Standing {
     (held.flit.packet, held.flit.index, held.place)
 }
 
 /// The lane's view.
-fn view(alloc: Global, net: &Net, lane: Lane, rt: &impl Abort) -> Result<LaneView, Fail> {
+pub(super) fn view(
+    alloc: Global,
+    net: &Net,
+    lane: Lane,
+    rt: &impl Abort,
+) -> Result<LaneView, Fail> {
     assert!(rt; net.has_lane(lane));
     Ok(net.lane_view(alloc, lane)?)
 }
 
 /// Where the lane's flits under way are.
-fn standings(alloc: Global, view: &LaneView) -> Result<Vec<Standing>, Fail> {
+pub(super) fn standings(alloc: Global, view: &LaneView) -> Result<Vec<Standing>, Fail> {
     let mut all = Vec::new(alloc);
     for held in &view.underway {
         all.push(standing(held))?;
@@ -40,28 +45,28 @@ fn standings(alloc: Global, view: &LaneView) -> Result<Vec<Standing>, Fail> {
 }
 
 /// Does the steps, each of which can be done.
-fn done(net: &mut Net, steps: &[Step], rt: &impl Abort) {
+pub(super) fn done(net: &mut Net, steps: &[Step], rt: &impl Abort) {
     for step in steps {
         assert_eq!(rt; net.step(step), Ok(Moved::Done));
     }
 }
 
-fn offer(lane: Lane, words: &[u32]) -> Result<Step, Fail> {
+pub(super) fn offer(lane: Lane, words: &[u32]) -> Result<Step, Fail> {
     Ok(Step::Offer {
         node: lane.src,
         packet: Packet::new(lane, words)?,
     })
 }
 
-fn feed(node: u8, class: u8) -> Step {
+pub(super) fn feed(node: u8, class: u8) -> Step {
     Step::Feed { node, class }
 }
 
-fn route(node: u8, port: u8, vc: u8) -> Step {
+pub(super) fn route(node: u8, port: u8, vc: u8) -> Step {
     Step::Route { node, port, vc }
 }
 
-fn grant(node: u8, port: u8, vc: u8, out_vc: u8) -> Step {
+pub(super) fn grant(node: u8, port: u8, vc: u8, out_vc: u8) -> Step {
     Step::Grant {
         node,
         port,
@@ -70,11 +75,11 @@ fn grant(node: u8, port: u8, vc: u8, out_vc: u8) -> Step {
     }
 }
 
-fn send(node: u8, port: u8, vc: u8) -> Step {
+pub(super) fn send(node: u8, port: u8, vc: u8) -> Step {
     Step::Send { node, port, vc }
 }
 
-fn take(node: u8, port: u8) -> Step {
+pub(super) fn take(node: u8, port: u8) -> Step {
     Step::Take { node, port }
 }
 
