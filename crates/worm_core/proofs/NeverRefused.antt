@@ -26,11 +26,11 @@ use Rattle.worm_core.specs.Moves.{done_step}
 use Rattle.worm_core.specs.NewNet.{IsFresh}
 use Rattle.worm_core.specs.Answers.{Answers, refusal_of}
 use Rattle.worm_core.specs.Script.{lane_of, due, begun_at}
-use Rattle.worm_core.specs.Acceptable.{closes, is_closed, IsAcceptable, AreAcceptable, IsAcceptableScript, IsTakenWhole}
+use Rattle.worm_core.specs.Acceptable.{closes, is_closed, IsAcceptable, AreAcceptable, IsAcceptableScript, EndsForMemory, IsTakenWhole}
 use Rattle.worm_core.specs.Turns.{Each, Tries, NodeTurn, Turn, ask, fault_of}
 use Rattle.worm_core.proofs.NewNet.{all_one}
 use Rattle.worm_core.proofs.Sources.{refuses_none}
-use Rattle.worm_core.proofs.SourceLedgers.{Ledger, ledger, ledger_at, LedgersStand, NotRefused, no_fault, want_of_memory, quiet_after, quiet_drains}
+use Rattle.worm_core.proofs.SourceLedgers.{Ledger, ledger, ledger_at, LedgersStand, no_fault, want_of_memory, quiet_after, quiet_drains}
 use Rattle.worm_core.proofs.ScriptParts.{earlier, rises, earlier_more, acceptable_due, few_due}
 
 -- what a source keeps of a lane
@@ -208,7 +208,7 @@ module _ (mesh channels : List ℕ) (start : NetState) (x : ℕ) (x_in : x < nod
 
   -- so whatever the answer, it is no refusal, and the entry is behind
   answered : (before : List Entry) (turn : ℕ) (act : Act) (s new : NetState) (answer : Result Moved StepFault) → Stage mesh channels start x before s → IsAcceptable mesh channels before act → (lane_of act).src ≡ x → length before < 65535
-      → Answers s (ask x act) answer new → NotRefused (fault_of answer) × Stage mesh channels start x (before ++ (record { turn = turn; act = act }) ∷ []) new
+      → Answers s (ask x act) answer new → EndsForMemory (fault_of answer) × Stage mesh channels start x (before ++ (record { turn = turn; act = act }) ∷ []) new
   answered before turn act s new (Ok Done) h good src few a =
       (no_fault, subst (λ (t : NetState). Stage mesh channels start x (before ++ (record { turn = turn; act = act }) ∷ []) t) (sym a.exact) (stage_done before turn act s h good src))
   answered before turn act s new (Ok Idle) h good src few a =
@@ -221,9 +221,9 @@ module _ (mesh channels : List ℕ) (start : NetState) (x : ℕ) (x_in : x < nod
       (want_of_memory, subst (λ (t : NetState). Stage mesh channels start x (before ++ (record { turn = turn; act = act }) ∷ []) t) (sym a.3) (stage_more mesh channels start s x before _ h))
 
   asked_all : (entries before : List Entry) (s new : NetState) (fault : Option StepFault) → Stage mesh channels start x before s → AreAcceptable mesh channels before entries → length before + length entries < 65535
-      → Each Tries (map (λ (e : Entry). ask x e.act) (begun_at x entries)) s fault new → NotRefused fault × Stage mesh channels start x (before ++ entries) new
+      → Each Tries (map (λ (e : Entry). ask x e.act) (begun_at x entries)) s fault new → EndsForMemory fault × Stage mesh channels start x (before ++ entries) new
   asked_all [] before s new fault h good few a =
-      (λ why e. no_fault why (sym a.0 ∙ e), subst (λ (b : List Entry). Stage mesh channels start x b new) (sym (append-nil before)) (subst (λ (t : NetState). Stage mesh channels start x before t) (sym a.1) h))
+      (inl a.0, subst (λ (b : List Entry). Stage mesh channels start x b new) (sym (append-nil before)) (subst (λ (t : NetState). Stage mesh channels start x before t) (sym a.1) h))
   asked_all (e ∷ entries) before s new fault h good few a =
       let longer : length (before ++ e ∷ []) + length entries < 65535 = omega (arith, length-append before (e ∷ [])) in
       let whole : (t : NetState) → Stage mesh channels start x ((before ++ e ∷ []) ++ entries) t → Stage mesh channels start x (before ++ e ∷ entries) t =
@@ -236,7 +236,7 @@ module _ (mesh channels : List ℕ) (start : NetState) (x : ℕ) (x_in : x < nod
             elim steps [
               | inl ended ↦
                   let answer = answered before e.turn e.act s new ended.1.0 h good.0 src (omega arith) ended.1.1 in
-                  (λ why f. answer.0 why (sym ended.1.2 ∙ f), whole new (stage_more mesh channels start new x (before ++ e ∷ []) entries answer.1))
+                  (subst (λ (f : Option StepFault). EndsForMemory f) (sym ended.1.2) answer.0, whole new (stage_more mesh channels start new x (before ++ e ∷ []) entries answer.1))
               | inr on ↦
                   let answer = answered before e.turn e.act s on.0 on.1.0 h good.0 src (omega arith) on.1.1 in
                   let rest = asked_all entries (before ++ e ∷ []) on.0 new fault answer.1 good.1 longer on.2 in
@@ -286,7 +286,7 @@ module _ (mesh channels : List ℕ) (before entries : List Entry) (good : AreAcc
         subst (λ (l : Ledger). Fits l before lane) (sym (at.others lane.src differ)) (h.waiting lane (omega arith) src_in class);
   }
 
-  node_turn : (n : ℕ) (s new : NetState) (fault : Option StepFault) → n < node_count mesh → Midway mesh channels before entries n s → NodeTurn entries n s fault new → NotRefused fault × Midway mesh channels before entries (n + 1) new
+  node_turn : (n : ℕ) (s new : NetState) (fault : Option StepFault) → n < node_count mesh → Midway mesh channels before entries n s → NodeTurn entries n s fault new → EndsForMemory fault × Midway mesh channels before entries (n + 1) new
   node_turn n s new fault n_in h a = elim a [
     | inl ended ↦
         let asked = asked_all mesh channels s n n_in entries before s new fault (first_stage n s n_in h) good few ended.1 in
@@ -298,10 +298,10 @@ module _ (mesh channels : List ℕ) (before entries : List Entry) (good : AreAcc
   ]
 
   node_turns : (k n : ℕ) (s new : NetState) (fault : Option StepFault) → n + k ≤ node_count mesh → Midway mesh channels before entries n s → Each (NodeTurn entries) (range_with_len n k) s fault new
-      → NotRefused fault × (fault ≡ None → Midway mesh channels before entries (n + k) new)
+      → EndsForMemory fault × (fault ≡ None → Midway mesh channels before entries (n + k) new)
   node_turns zero n s new fault fits h a =
       let same : n ≡ n + zero = omega arith in
-      (λ why e. no_fault why (sym a.0 ∙ e), λ _. subst (λ (m : ℕ). Midway mesh channels before entries m new) same (subst (λ (t : NetState). Midway mesh channels before entries n t) (sym a.1) h))
+      (inl a.0, λ _. subst (λ (m : ℕ). Midway mesh channels before entries m new) same (subst (λ (t : NetState). Midway mesh channels before entries n t) (sym a.1) h))
   node_turns (suc k) n s new fault fits h a = elim a [
     | inl ended ↦
         let here = node_turn n s new fault (omega arith) h ended.1 in
@@ -313,7 +313,8 @@ module _ (mesh channels : List ℕ) (before entries : List Entry) (good : AreAcc
         (rest.0, λ none. subst (λ (m : ℕ). Midway mesh channels before entries m new) same (rest.1 none))
   ]
 
-  whole_turn : (s new : NetState) (fault : Option StepFault) → Midway mesh channels before entries 0 s → Turn entries s fault new → NotRefused fault × (fault ≡ None → Midway mesh channels before entries (node_count mesh) new)
+  whole_turn : (s new : NetState) (fault : Option StepFault) → Midway mesh channels before entries 0 s → Turn entries s fault new → EndsForMemory fault × (fault ≡ None → Midway mesh channels before entries (node_count mesh) new)
+  unfolding Turn
   whole_turn s new fault h a =
       let nodes = subst (λ (ks : List ℕ). Each (NodeTurn entries) (range_with_len 0 (node_count ks)) s fault new) h.same_mesh a in
       let same : 0 + node_count mesh ≡ node_count mesh = omega arith in
@@ -337,7 +338,7 @@ record Ready (mesh channels : List ℕ) (script : List Entry) (t : ℕ) (s : Net
   fits : (lane : Lane) → lane.src < node_count mesh → lane.class < length channels → Fits (ledger_at s lane.src) (earlier t script) lane
 
 module _ (mesh channels : List ℕ) (script : List Entry) (whole : IsAcceptableScript mesh channels script) where
-  turn_taken : (t : ℕ) (s new : NetState) (fault : Option StepFault) → Ready mesh channels script t s → Turn (due t script) s fault new → NotRefused fault × (fault ≡ None → Ready mesh channels script (t + 1) new)
+  turn_taken : (t : ℕ) (s new : NetState) (fault : Option StepFault) → Ready mesh channels script t s → Turn (due t script) s fault new → EndsForMemory fault × (fault ≡ None → Ready mesh channels script (t + 1) new)
   turn_taken t s new fault h a =
       let some = few_due script t whole.in_order in
       let few = whole.few in
@@ -382,8 +383,8 @@ module _ (mesh channels : List ℕ) (script : List Entry) (whole : IsAcceptableS
       }
 
   pub never_refused : IsTakenWhole mesh channels script
-  never_refused depth names opening closing fresh turns drain None why run = (quiet_drains drain run.0 closing (Some (Refused why)) run.2).1 why refl
-  never_refused depth names opening closing fresh turns drain (Some t) why run =
+  never_refused depth names opening closing fresh turns drain None fault run = (quiet_drains drain run.0 closing fault run.2).1
+  never_refused depth names opening closing fresh turns drain (Some t) fault run =
       let same : 0 + t ≡ t = omega arith in
       let ready = turns_taken t 0 opening run.2.0 None (opening_ready depth names opening fresh) run.2.1 refl in
-      (turn_taken t run.2.0 closing (Some (Refused why)) (subst (λ (u : ℕ). Ready mesh channels script u run.2.0) same ready) run.2.2).0 why refl
+      (turn_taken t run.2.0 closing fault (subst (λ (u : ℕ). Ready mesh channels script u run.2.0) same ready) run.2.2).0

@@ -20,6 +20,7 @@ use Rattle.worm_core.specs.State.{NetState, node_at, router_at, source_at, with_
 use Rattle.worm_core.specs.Moves.{done_step, link_into, front_into, front_credit, fed_node, after_take, after_getting, after_ready, after_sending, chosen_router}
 use Rattle.worm_core.specs.Answers.{Answers, refusal_of}
 use Rattle.worm_core.specs.Totals.{injected_total, delivered_total}
+use Rattle.worm_core.specs.Acceptable.{EndsForMemory}
 use Rattle.worm_core.specs.Turns.{Passage, Stays, ◌and_then◌, Each, Tries, NodeTurn, AsksSource, TakesCredits, TakesFlits, FeedsClasses, RoutesChannels, RoutesPort, Allocates, SendsGranted, GivesCredit, GivesCredits, Turn, Drains, fault_of, all_nodes, all_ports, all_classes, all_channels, mesh_ports, granted_send, lowest_owed}
 use Rattle.worm_core.proofs.Pointers.{read_over}
 
@@ -39,9 +40,6 @@ pub record LedgersStand (old new : NetState) : Type 0 where
   pub mesh : new.mesh ≡ old.mesh
   pub channels : new.channels ≡ old.channels
   pub ledgers : (x : ℕ) → ledger_at new x ≡ ledger_at old x
-
-abbrev pub NotRefused : Option StepFault → Type 0
-NotRefused fault = (why : OfferFault) → fault ≡ Some (Refused why) → ⊥
 
 -- a step that asks no source
 abbrev pub AsksNone : Step → Type 0
@@ -113,17 +111,17 @@ nothing_refused s (TakeCredit x o) none = refl
 pub same_stands : (old new : NetState) → new ≡ old → LedgersStand old new
 same_stands old new same = subst (λ (s : NetState). LedgersStand old s) (sym same) (stand_self old)
 
-pub no_fault : NotRefused None
-no_fault why e = let clash : ◌≡◌ {A = Option StepFault} None (Some (Refused why)) = e in absurd (cc)
+pub no_fault : EndsForMemory None
+no_fault = inl refl
 
-pub want_of_memory : NotRefused (Some NoMemory)
-want_of_memory why e = let clash : ◌≡◌ {A = Option StepFault} (Some NoMemory) (Some (Refused why)) = e in absurd (cc)
+pub want_of_memory : EndsForMemory (Some NoMemory)
+want_of_memory = inr refl
 
 -- a passage that asks no source
 abbrev pub IsQuiet : Passage → Type 0
-IsQuiet P = (old new : NetState) (fault : Option StepFault) → P old fault new → LedgersStand old new × NotRefused fault
+IsQuiet P = (old new : NetState) (fault : Option StepFault) → P old fault new → LedgersStand old new × EndsForMemory fault
 
-quiet_answer : (step : Step) → AsksNone step → (old new : NetState) (answer : Result Moved StepFault) → Answers old step answer new → LedgersStand old new × NotRefused (fault_of answer)
+quiet_answer : (step : Step) → AsksNone step → (old new : NetState) (answer : Result Moved StepFault) → Answers old step answer new → LedgersStand old new × EndsForMemory (fault_of answer)
 quiet_answer step none old new (Ok Done) a = (subst (λ (s : NetState). LedgersStand old s) (sym a.exact) (step_stands old step none), no_fault)
 quiet_answer step none old new (Ok Idle) a = (same_stands old new a.3, no_fault)
 quiet_answer step none old new (Err NoSuchPlace) a = (same_stands old new a.1, no_fault)
@@ -133,10 +131,10 @@ quiet_answer step none old new (Err NoMemory) a = (same_stands old new a.3, want
 quiet_tries : (step : Step) → AsksNone step → IsQuiet (Tries step)
 quiet_tries step none old new fault a =
     let answer = quiet_answer step none old new a.0 a.1 in
-    (answer.0, λ why e. answer.1 why (sym a.2 ∙ e))
+    (answer.0, subst (λ (f : Option StepFault). EndsForMemory f) (sym a.2) answer.1)
 
 quiet_stays : IsQuiet Stays
-quiet_stays old new fault a = (same_stands old new a.1, λ why e. no_fault why (sym a.0 ∙ e))
+quiet_stays old new fault a = (same_stands old new a.1, inl a.0)
 
 quiet_then : (P Q : Passage) → IsQuiet P → IsQuiet Q → IsQuiet (P and_then Q)
 quiet_then P Q first then old new fault a = elim a [
@@ -158,7 +156,7 @@ quiet_steps f none (x ∷ xs) = quiet_then (Tries (f x)) (Each Tries (map f xs))
 
 quiet_allocates : (x : ℕ) → IsQuiet (Allocates x)
 quiet_allocates x old new fault a =
-    (subst (λ (s : NetState). LedgersStand old s) (sym a.1) (node_stands old x _ refl), λ why e. no_fault why (sym a.0 ∙ e))
+    (subst (λ (s : NetState). LedgersStand old s) (sym a.1) (node_stands old x _ refl), inl a.0)
 
 -- of a list of steps
 AllAskNone : List Step → Type 0
@@ -215,10 +213,11 @@ quiet_after x =
 
 -- a turn without entries, and so a drain, asks no source
 quiet_turn : IsQuiet (Turn [])
+unfolding Turn
 quiet_turn old = quiet_each (NodeTurn []) (λ x. quiet_then (AsksSource [] x) (AfterAsking x) (λ s. quiet_stays s) (quiet_after x)) (all_nodes old) old
 
 drain_by : (n : ℕ) → IsQuiet (Drains n) → (drained : Bool) (old new : NetState) (fault : Option StepFault)
-    → MatchBool drained (Stays old fault new) ((Turn [] and_then Drains n) old fault new) → LedgersStand old new × NotRefused fault
+    → MatchBool drained (Stays old fault new) ((Turn [] and_then Drains n) old fault new) → LedgersStand old new × EndsForMemory fault
 drain_by n rest true old new fault a = quiet_stays old new fault a
 drain_by n rest false old new fault a = quiet_then (Turn []) (Drains n) quiet_turn rest old new fault a
 

@@ -1,14 +1,14 @@
 -- Scripts that no source refuses: their lanes are the network's, only lanes of classes with one channel are closed, and no entry of
 -- a lane stands behind its close.
-use Rattle.std.specs.Prelude.{ℕ, ◌≡◌, ◌==◌, ◌<◌, ◌&&◌, Bool, false, List, [], ◌∷◌, ◌++◌, length, slice_index, Option, Some}
+use Rattle.std.specs.Prelude.{ℕ, ◌≡◌, ◌==◌, ◌<◌, ◌&&◌, Bool, false, List, [], ◌∷◌, ◌++◌, length, slice_index, Option, Some, None, ◌⊎◌}
 use Rattle.std.specs.List.{list_any}
 use Rattle.worm_flit.specs.declared.Lane.{Lane}
 use Rattle.worm_mesh.specs.Address.{node_count}
-use Rattle.worm_term.specs.declared.fault.OfferFault.{OfferFault}
 use Rattle.worm_core.specs.declared.script.Act.{Act}
 use Rattle.worm_core.specs.declared.script.Act.TheVariants.{Offer, Close}
 use Rattle.worm_core.specs.declared.script.Entry.{Entry}
-use Rattle.worm_core.specs.declared.fault.StepFault.TheVariants.{Refused}
+use Rattle.worm_core.specs.declared.fault.StepFault.{StepFault}
+use Rattle.worm_core.specs.declared.fault.StepFault.TheVariants.{NoMemory}
 use Rattle.worm_core.specs.State.{NetState}
 use Rattle.worm_core.specs.NewNet.{IsFresh}
 use Rattle.worm_core.specs.Script.{AreInOrder, lane_of}
@@ -46,8 +46,12 @@ pub record IsAcceptableScript (mesh channels : List ℕ) (script : List Entry) :
   pub few : length script < 65535
   pub entries : AreAcceptable mesh channels [] script
 
--- A run of such a script from a new network is not stopped by a refusal.
+-- no fault ended it, or want of memory did
+abbrev pub EndsForMemory : Option StepFault → Type 0
+EndsForMemory fault = (fault ≡ None) ⊎ (fault ≡ Some NoMemory)
+
+-- A run of such a script from a new network is ended by nothing but want of memory: no source refuses an entry.
 abbrev pub IsTakenWhole : List ℕ → List ℕ → List Entry → Type 0
 IsTakenWhole mesh channels script =
     (depth : ℕ) (names : List (List ℕ)) (opening closing : NetState) → IsFresh mesh channels depth names opening
-    → (turns drain : ℕ) (stop : Option ℕ) (why : OfferFault) → OneThreadRun script turns drain opening stop (Some (Refused why)) closing → ⊥
+    → (turns drain : ℕ) (stop : Option ℕ) (fault : Option StepFault) → OneThreadRun script turns drain opening stop fault closing → EndsForMemory fault

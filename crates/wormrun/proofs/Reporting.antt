@@ -20,7 +20,8 @@ part network traffic turns drain ending out bytes reported front = record { endi
 not_stopped : (script : List Entry) (turns drain : ℕ) (opening closing : NetState) (stopped : Option ℕ) (fault : Option StepFault)
     → OneThreadRun script turns drain opening stopped fault closing → fault ≡ None → stopped ≡ None
 not_stopped script turns drain opening closing None fault run none = refl
-not_stopped script turns drain opening closing (Some t) fault run none = absurd (subst (λ (f : Option StepFault). IsSome f) none run.1)
+not_stopped script turns drain opening closing (Some t) fault run none =
+    let clash = subst (λ (f : Option StepFault). IsSome f) none run.1 in absurd (cc)
 
 is_whole : (network traffic : List ℕ) (turns drain : ℕ) (ending : Ending) (bytes : List ℕ) → IsReported network traffic turns drain ending bytes → ending.fault ≡ None
     → IsReported network traffic turns drain whole_run bytes

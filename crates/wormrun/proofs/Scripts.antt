@@ -1,5 +1,5 @@
 -- The script that an accepted traffic text says is one that no source refuses.
-use Rattle.std.proofs.Common.{◌≡◌, ℕ, ◌+◌, ◌-◌, ◌<◌, ◌≤◌, ◌==◌, ◌&&◌, ◌||◌, Bool, true, false, List, [], ◌∷◌, ◌++◌, length, map, refl, arith, ap, sym, subst, ◌∙◌, length-append}
+use Rattle.std.proofs.Common.{◌≡◌, ℕ, ◌+◌, ◌<◌, ◌≤◌, ◌==◌, ◌&&◌, ◌||◌, List, [], ◌∷◌, ◌++◌, length, refl, arith, sym, subst, ◌∙◌, length-append}
 use Rattle.std.proofs.lemmas.Bool.Decides.{nat_tests}
 use Rattle.std.proofs.lemmas.List.{map-append, length-map}
 use Rattle.worm_text.proofs.Entries.{nodes_some}
@@ -10,11 +10,11 @@ use Rattle.worm_core.specs.declared.script.Act.{Act}
 use Rattle.worm_core.specs.declared.script.Act.TheVariants.{Offer, Close}
 use Rattle.worm_core.specs.declared.script.Entry.{Entry}
 use Rattle.worm_core.specs.Acceptable.{closes, is_closed, IsAcceptable, AreAcceptable, IsAcceptableScript}
-use Rattle.worm_core.specs.Script.{AreInOrder, lane_of}
+use Rattle.worm_core.specs.Script.{AreInOrder}
 use Rattle.worm_text.specs.declared.format.Format.{Format}
 use Rattle.worm_text.specs.Network.{Network, Keeps, nodes_of}
 use Rattle.worm_text.specs.Traffic.{Said, entry_view, said, closes as says_closed, is_closed as is_said_closed, send, close}
-use Rattle.worm_text.specs.TrafficText.{IsPlaced, IsEntry, AreEntries}
+use Rattle.worm_text.specs.TrafficText.{IsEntry, AreEntries}
 use Rattle.worm_text.specs.ScriptView.{said_of}
 
 either_way : (a b : ℕ) → (a == b) ≡ (b == a)
@@ -31,8 +31,7 @@ closed_alike : (entries : List Entry) (lane : Lane) → is_closed entries lane �
 closed_alike [] lane = refl
 closed_alike (e ∷ entries) lane = λ t. (closes_alike lane e.act e.turn t) || (closed_alike entries lane t)
 
-section (n : Network) (some : 1 ≤ nodes_of n.radices) (all : nodes_of n.radices ≡ node_count n.radices) (paired : length n.channels ≡ length n.classes)
-
+module _ (n : Network) (some : 1 ≤ nodes_of n.radices) (all : nodes_of n.radices ≡ node_count n.radices) (paired : length n.channels ≡ length n.classes) where
   placed : (before : List Entry) (turn : ℕ) (act : Act) → IsEntry n (said_of before) (said turn act) → IsAcceptable n.radices n.channels before act
   placed before turn (Offer packet) entry = record {
     src = omega (arith, some, all, entry.0.src.1);

@@ -3,6 +3,8 @@ use Rattle.worm_text.specs.Network.{view}
 use Rattle.worm_report.specs.Seen.{seen}
 use Rattle.worm_report.specs.Report.{report}
 use Rattle.wormrun.specs.Programs.{stream}
+use Rattle.worm_core.proofs.NeverRefused.{never_refused}
+use Rattle.wormrun.proofs.Scripts.{accepted_script}
 use Rattle.wormrun.proofs.Reporting.{reported_so}
 use Rattle.wormrun.proofs.program.run_and_report.Goals as goal
 
@@ -22,4 +24,7 @@ returns g c =
       run = c.run_script-ending.ensures;
       reported = ap (report (seen c.run_script-ending.new.net)) c.summary_of-summary.ensures;
     })
+    (never_refused c.in_ok-accepted.accepted.config.radices.items c.in_ok-accepted.accepted.config.channels.items c.in_ok-accepted.accepted.script
+    (accepted_script c.in_ok-accepted.ensures.network.format (view c.in_ok-accepted.accepted.config) c.in_ok-accepted.accepted.script c.in_ok-accepted.ensures.network.keeps c.in_ok-accepted.ensures.traffic.keeps c.in_ok-accepted.ensures.in_order)
+    c.in_ok-accepted.accepted.config.depth _ c.in-Some.net c.run_script-ending.new.net c.in-Some.ensures c.args.turns c.args.drain c.run_script-ending.result.stopped c.run_script-ending.result.fault c.run_script-ending.ensures)
     c.report_run.ensures
