@@ -30,3 +30,6 @@ pub mod LanePlaces
 pub mod ReadPlaces
 pub mod ViewCuts
 pub mod Marks
+pub mod SourceLedgers
+pub mod ScriptParts
+pub mod NeverRefused

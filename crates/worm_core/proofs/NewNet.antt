@@ -28,7 +28,7 @@ use Rattle.worm_core.specs.NewNet.{IsFresh, AreFresh, empty_link}
 use Rattle.worm_core.proofs.Kept.{framed_mesh}
 
 -- a list of one value reads as it at each place, and past its end as the value, too, where that is the default
-all_one : {A : Type 0} (n i : ℕ) (v : A) → get_or (replicate n v) i v ≡ v
+pub all_one : {A : Type 0} (n i : ℕ) (v : A) → get_or (replicate n v) i v ≡ v
 all_one {A} zero i v = refl
 all_one {A} (suc n) zero v = refl
 all_one {A} (suc n) (suc i) v = all_one n i v

@@ -17,7 +17,7 @@ use Rattle.worm_core.specs.Moves.{done_step, link_into, front_into, front_credit
 use Rattle.worm_core.specs.Answers.{Answers, ArbitersStand}
 
 -- what is read of a list after a write that reads the same
-read_over : {A B : Type 0} (read : A → B) (xs : List A) (i j : ℕ) (x d e : A) → read x ≡ read (slice_index_or xs i e) → read (slice_index_or (slice_set xs i x) j d) ≡ read (slice_index_or xs j d)
+pub read_over : {A B : Type 0} (read : A → B) (xs : List A) (i j : ℕ) (x d e : A) → read x ≡ read (slice_index_or xs i e) → read (slice_index_or (slice_set xs i x) j d) ≡ read (slice_index_or xs j d)
 read_over read [] i j x d e same = refl
 read_over read (y ∷ ys) zero zero x d e same = same
 read_over read (y ∷ ys) zero (suc j) x d e same = refl

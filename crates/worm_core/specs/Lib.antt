@@ -12,3 +12,4 @@ pub mod Totals
 pub mod LaneView
 pub mod LaneSet
 pub mod Parts
+pub mod Acceptable

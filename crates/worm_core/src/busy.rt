@@ -18,6 +18,13 @@ use worm_router::Router;
 use worm_term::Source;
 
 /// Lanes that may have something under way.
+///
+/// ```text
+/// let busy = net.busy(alloc)?;
+/// if busy.contains(lane) {
+///     let view = net.lane_view(alloc, lane)?;
+/// }
+/// ```
 #[derive(Drop)]
 pub struct LaneSet {
     /// How many nodes the network has.

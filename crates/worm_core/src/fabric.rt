@@ -23,14 +23,20 @@ use worm_mesh::Mesh;
 use worm_swalloc::SwGrants;
 use worm_term::OfferFault;
 
-/// The nodes by number and the links by number, whatever they hold.
+/// The nodes by number and the links by number, whatever they hold (Dally and Towles, chapters 5, 13 and 16).
 #[derive(Drop)]
 pub struct Fabric {
+    /// The mesh, with the numbers of each node's links.
     wiring: Wiring,
+    /// The channels that classes own.
     classes: ClassChannels,
+    /// How many flits each buffer holds, 1 to 16.
     depth: u8,
+    /// The classes' names.
     names: ArrayVec<Name, 4>,
+    /// The nodes by number.
     nodes: Vec<Node>,
+    /// The links by number.
     links: Vec<LinkState>,
 }
 
@@ -176,7 +182,7 @@ impl Fabric {
         link.pop();
     }
 
-    /// Moves the front of the link into a port to the buffer of its channel.
+    /// Moves the front of the link into a port to the buffer of its channel (Dally and Towles, chapter 13).
     pub fn take(&mut self, node: u8, port: u8) -> bool
         requires node { node < length self.old.nodes }
         requires links { length self.old.links ≡ link_count self.old.mesh }
@@ -196,7 +202,7 @@ impl Fabric {
         true
     }
 
-    /// Finds an out port for the opening flit at the front of a buffer.
+    /// Finds an out port for the opening flit at the front of a buffer: route computation (Dally and Towles, chapters 8 and 16).
     pub fn route(&mut self, node: u8, port: u8, vc: u8) -> bool
         requires { IsNetPlace self.old node port vc }
         ensures enabled { result ≡ can_route (router_at self.old node) port vc }
@@ -206,7 +212,7 @@ impl Fabric {
         node.router.route(port, vc)
     }
 
-    /// Gives a waiting input channel an output channel.
+    /// Gives a waiting input channel an output channel (Dally and Towles, chapter 16).
     pub fn grant(&mut self, node: u8, port: u8, vc: u8, out_vc: u8) -> bool
         requires place { IsNetPlace self.old node port vc }
         requires out_channel { out_vc < width (router_at self.old node) }
@@ -257,7 +263,7 @@ impl Fabric {
         node.deliver(port, vc, flit)
     }
 
-    /// Lets the ready flit out, into the sink or onto the link of its port. `NoMemory` where the sink cannot take it.
+    /// Lets the ready flit out, into the sink or onto the link of its port (Dally and Towles, chapter 13). `NoMemory` where the sink cannot take it.
     pub fn send(&mut self, node: u8, port: u8, vc: u8) -> Result<Moved, StepFault>
         requires place { IsNetPlace self.old node port vc }
         requires links { length self.old.links ≡ link_count self.old.mesh }
@@ -346,7 +352,7 @@ impl Fabric {
         link.push_credit(vc);
     }
 
-    /// Gives a credit that the input channel owes to the link into its port.
+    /// Gives a credit that the input channel owes to the link into its port (Dally and Towles, chapter 13).
     pub fn give(&mut self, node: u8, port: u8, vc: u8) -> bool
         requires place { IsNetPlace self.old node port vc }
         requires links { length self.old.links ≡ link_count self.old.mesh }
@@ -393,7 +399,7 @@ impl Fabric {
         link.pop_credit();
     }
 
-    /// Takes the front credit of the link out of this port into its channel's count.
+    /// Takes the front credit of the link out of this port into its channel's count (Dally and Towles, chapter 13).
     pub fn get(&mut self, node: u8, port: u8) -> bool
         requires node { node < length self.old.nodes }
         requires links { length self.old.links ≡ link_count self.old.mesh }
@@ -436,7 +442,7 @@ impl Fabric {
         self.classes.total()
     }
 
-    /// One pass of the node's channel allocator, its grants written into the records.
+    /// One pass of the node's channel allocator, its grants written into the records (Dally and Towles, chapters 16 and 19).
     pub fn allocate(&mut self, node: u8)
         requires { node < length self.old.nodes }
         ensures { self.new ≡ with_router self.old node (after_allocate (router_at self.old node)) }
@@ -445,7 +451,7 @@ impl Fabric {
         let _grants = node.router.allocate();
     }
 
-    /// One pass of the node's switch allocator.
+    /// One pass of the node's switch allocator (Dally and Towles, chapters 16 and 19).
     pub fn choose(&mut self, node: u8) -> SwGrants
         requires { node < length self.old.nodes }
         ensures grants { result ≡ switch_grants (router_at self.old node) }

@@ -9,6 +9,7 @@
 //! Nothing is said of time, nor that anything is ever delivered.
 #![tactic(auto)]
 
+mod acceptable;
 mod busy;
 mod config;
 mod fabric;
@@ -27,6 +28,7 @@ mod turn;
 mod view;
 mod wiring;
 
+pub use acceptable::acceptable_scripts_are_taken;
 pub use busy::LaneSet;
 pub use config::{Config, Name};
 pub use fault::{NetFault, StepFault};

@@ -5,12 +5,21 @@ use std::alloc::{AllocError, Global};
 use std::marker::Model;
 use worm_flit::Flit;
 
-/// What is on a link: its flits, and the credits on their way back over it, front first. There is room for at least
-/// `room` of each without growing.
+/// What is on a link from one node to the next: its flits, and the credits on their way back over it, front first
+/// (Dally and Towles, chapter 13). There is room for at least `room` of each without growing.
+///
+/// ```text
+/// let mut link = LinkState::new(alloc, 2)?;
+/// link.push(flit);
+/// let lists = link.into_lists();
+/// ```
 #[derive(Drop)]
 pub struct LinkState {
+    /// The flits, in the order in which they were sent, on whatever channels.
     flits: Vec<Flit>,
+    /// The channels whose credits are on their way back.
     credits: Vec<u8>,
+    /// How many of each fit without growing; in a network at least the number of channels times the depth.
     room: u16,
 }
 

@@ -8,6 +8,11 @@ use crate::fabric::Fabric;
 use crate::{Config, LinkState, Net, Node};
 
 /// The parts of a network.
+///
+/// ```text
+/// let parts = net.into_parts();
+/// let net = Net::from_parts(parts);
+/// ```
 #[derive(Drop)]
 pub struct NetParts {
     /// What it was made from.

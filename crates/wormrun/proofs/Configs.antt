@@ -11,7 +11,7 @@ product : (a : ℕ) (radices : List ℕ) → fold ◌*◌ a radices ≡ a * node
 product a [] = sym (mul-one a)
 product a (k ∷ radices) = product (a * k) radices ∙ mul_assoc a k (node_count radices)
 
-all_nodes : (radices : List ℕ) → nodes_of radices ≡ node_count radices
+pub all_nodes : (radices : List ℕ) → nodes_of radices ≡ node_count radices
 all_nodes radices = product 1 radices ∙ one-mul (node_count radices)
 
 pub kept_config : (format : Format) (n : Network) (names : ℕ) → names ≡ length n.classes → Keeps format n → IsConfig n.radices n.channels n.depth names

@@ -2,3 +2,4 @@ pub mod JoinedLemmas
 pub mod Configs
 pub mod Draining
 pub mod Reporting
+pub mod Scripts

@@ -1,23 +1,47 @@
 -- What the program answers where a report of accepted texts was written, or a part of one.
-use Rattle.std.proofs.Common.{ℕ, List, Ok, Err, inr}
-use Rattle.std.specs.Prelude.{Result, MatchResult}
+use Rattle.std.proofs.Common.{◌≡◌, ◌≢◌, ◌⊎◌, ℕ, List, Some, None, Option, Ok, Err, inl, inr, refl, subst}
+use Rattle.std.specs.Prelude.{Result, MatchResult, IsSome}
+use Rattle.worm_core.specs.declared.script.Entry.{Entry}
+use Rattle.worm_core.specs.declared.fault.StepFault.{StepFault}
+use Rattle.worm_core.specs.declared.fault.StepFault.TheVariants.{NoMemory as NoRoom}
+use Rattle.worm_core.specs.State.{NetState}
+use Rattle.worm_core.specs.Turns.{OneThreadRun}
 use Rattle.wormrun.specs.declared.fault.ProgramFault.{ProgramFault}
 use Rattle.wormrun.specs.declared.fault.ProgramFault.TheVariants as f
 use Rattle.wormrun.specs.declared.turns.Ending.{Ending}
-use Rattle.wormrun.specs.Programs.{Stream, IsReported, Reports, ReportsPart, WritesFront, WritesReport, Fails}
+use Rattle.wormrun.specs.Programs.{Stream, IsReported, Reports, ReportsPart, whole_run, WritesFront, WritesReport, Fails}
 
 part : (network traffic : List ℕ) (turns drain : ℕ) (ending : Ending) (out : Stream) (bytes : List ℕ) → IsReported network traffic turns drain ending bytes → WritesFront out bytes
     → ReportsPart network traffic turns drain out
 part network traffic turns drain ending out bytes reported front = record { ending = ending; bytes = bytes; reported = reported; written = front }
 
+-- what no fault ended was not stopped
+
+not_stopped : (script : List Entry) (turns drain : ℕ) (opening closing : NetState) (stopped : Option ℕ) (fault : Option StepFault)
+    → OneThreadRun script turns drain opening stopped fault closing → fault ≡ None → stopped ≡ None
+not_stopped script turns drain opening closing None fault run none = refl
+not_stopped script turns drain opening closing (Some t) fault run none = absurd (subst (λ (f : Option StepFault). IsSome f) none run.1)
+
+is_whole : (network traffic : List ℕ) (turns drain : ℕ) (ending : Ending) (bytes : List ℕ) → IsReported network traffic turns drain ending bytes → ending.fault ≡ None
+    → IsReported network traffic turns drain whole_run bytes
+is_whole network traffic turns drain ending bytes reported none =
+    let stopped = not_stopped reported.script turns drain reported.opening reported.closing ending.stopped ending.fault reported.run none in
+    let same : ending ≡ whole_run = λ t. record { stopped = stopped t; fault = none t } in
+    subst (λ (e : Ending). IsReported network traffic turns drain e bytes) same reported
+
+no_fault : (fault : Option StepFault) → (fault ≡ None) ⊎ (fault ≡ Some NoRoom) → fault ≢ Some NoRoom → fault ≡ None
+no_fault fault (inl none) no_want = none
+no_fault fault (inr want) no_want = absurd (no_want want)
+
+-- the run was ended by nothing but want of memory, and this was written of its report
 pub reported_so : (network traffic : List ℕ) (turns drain : ℕ) (ending : Ending) (out : Stream) (bytes : List ℕ) (result : Result (Unit {0}) ProgramFault)
-    → IsReported network traffic turns drain ending bytes → WritesReport out ending.fault result bytes
+    → IsReported network traffic turns drain ending bytes → (ending.fault ≡ None) ⊎ (ending.fault ≡ Some NoRoom) → WritesReport out ending.fault result bytes
     → MatchResult result (λ _. Reports network traffic turns drain out) (Fails network traffic turns drain out)
-reported_so network traffic turns drain ending out bytes (Ok done) reported writes =
-    record { ending = ending; no_want = writes.0; bytes = bytes; reported = reported; written = writes.1 }
-reported_so network traffic turns drain ending out bytes (Err f.NoMemory) reported writes = inr (part network traffic turns drain ending out bytes reported writes)
-reported_so network traffic turns drain ending out bytes (Err f.Write) reported writes = part network traffic turns drain ending out bytes reported writes
-reported_so network traffic turns drain ending out bytes (Err (f.Network t)) reported writes = absurd writes
-reported_so network traffic turns drain ending out bytes (Err (f.Traffic t)) reported writes = absurd writes
-reported_so network traffic turns drain ending out bytes (Err f.ReadNetwork) reported writes = absurd writes
-reported_so network traffic turns drain ending out bytes (Err f.ReadTraffic) reported writes = absurd writes
+reported_so network traffic turns drain ending out bytes (Ok done) reported quiet writes =
+    record { bytes = bytes; reported = is_whole network traffic turns drain ending bytes reported (no_fault ending.fault quiet writes.0); written = writes.1 }
+reported_so network traffic turns drain ending out bytes (Err f.NoMemory) reported quiet writes = inr (part network traffic turns drain ending out bytes reported writes)
+reported_so network traffic turns drain ending out bytes (Err f.Write) reported quiet writes = part network traffic turns drain ending out bytes reported writes
+reported_so network traffic turns drain ending out bytes (Err (f.Network t)) reported quiet writes = absurd writes
+reported_so network traffic turns drain ending out bytes (Err (f.Traffic t)) reported quiet writes = absurd writes
+reported_so network traffic turns drain ending out bytes (Err f.ReadNetwork) reported quiet writes = absurd writes
+reported_so network traffic turns drain ending out bytes (Err f.ReadTraffic) reported quiet writes = absurd writes

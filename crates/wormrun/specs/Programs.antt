@@ -108,12 +108,14 @@ WritesReport out fault (Err (f.Traffic t)) bytes = ⊥
 WritesReport out fault (Err f.ReadNetwork) bytes = ⊥
 WritesReport out fault (Err f.ReadTraffic) bytes = ⊥
 
--- the report of a run that no want of memory ended was written, all of it
+-- a run that no fault stopped or ended
+abbrev pub whole_run : Ending
+whole_run = record { stopped = None; fault = None }
+
+-- the report of the whole run was written, all of it
 pub record Reports (network traffic : List ℕ) (turns drain : ℕ) (out : Stream) : Type 0 where
-  pub ending : Ending
-  pub no_want : ending.fault ≢ Some NoRoom
   pub bytes : List ℕ
-  pub reported : IsReported network traffic turns drain ending bytes
+  pub reported : IsReported network traffic turns drain whole_run bytes
   pub written : Appends out.old out.new bytes
 
 -- a first part of the report of a run was written

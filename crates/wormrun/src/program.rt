@@ -3,6 +3,7 @@
 ghost use Rattle.std.specs.Prelude.{◌≡◌, ◌≤◌, ◌-◌, length, IfOk, IfErr, IfSome, OnOk, MatchResult};
 ghost use Rattle.std.specs.Io.KnownBytes.{Keeps};
 ghost use Rattle.worm_core.specs.NewNet.{IsFresh};
+ghost use Rattle.worm_core.specs.Script.{AreInOrder};
 ghost use Rattle.worm_core.specs.State.{texts_of};
 ghost use Rattle.worm_core.specs.Totals.{accepted_total};
 ghost use Rattle.worm_report.specs.Seen.{seen};
@@ -64,6 +65,7 @@ fn read_both<N: Read, F: Read>(
 fn accept(alloc: Global, network: &[u8], traffic: &[u8]) -> Result<Accepted, ProgramFault>
     ensures network { IfOk result (λ a. SaysNetwork network.now (view a.config)) }
     ensures traffic { IfOk result (λ a. SaysTraffic (view a.config) traffic.now (said_of a.script)) }
+    ensures in_order { IfOk result (λ a. AreInOrder a.script) }
     ensures err { IfErr result (IsNotAccepted network.now traffic.now) }
 {
     let config = match read_network(network) {
@@ -71,7 +73,10 @@ fn accept(alloc: Global, network: &[u8], traffic: &[u8]) -> Result<Accepted, Pro
         Err(fault) => return Err(ProgramFault::Network(fault)),
     };
     match read_traffic(alloc, traffic, &config) {
-        Ok(script) => Ok(Accepted { config, script }),
+        Ok(script) => {
+            let _entries = script.entries();
+            Ok(Accepted { config, script })
+        }
         Err(fault) if fault.why == Why::NoMemory => Err(ProgramFault::NoMemory),
         Err(fault) => Err(ProgramFault::Traffic(fault)),
     }
