@@ -204,6 +204,7 @@ fn put_underway<W: Write>(
 }
 
 /// Where the flits are.
+#[tactic(auto, using(crate::proofs::Written::rows_then))]
 fn put_flits<W: Write>(
     alloc: Global,
     out: &mut W,

@@ -1,3 +1,5 @@
+//! Whole reports, as the rules of the report say them.
+
 use super::networks::{do_all, lane, mark, network, offer, packet, run, script, summary};
 use crate::{Summary, write_report};
 use std::alloc::Global;

@@ -1,3 +1,5 @@
+//! Writers that are full, slow or broken, and memory that runs out.
+
 use super::networks::{lane, network, packet, run, script, summary};
 use crate::{ReportFault, write_report};
 use std::alloc::Global;

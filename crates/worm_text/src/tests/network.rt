@@ -1,3 +1,5 @@
+//! Networks that are read, and the faults of their texts.
+
 use crate::{Why, read_network};
 use std::alloc::Global;
 use std::process::Abort;

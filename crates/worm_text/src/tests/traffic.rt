@@ -1,3 +1,5 @@
+//! Traffic that is read, and the faults of its texts.
+
 use crate::{Why, read_network, read_traffic};
 use std::alloc::Global;
 use std::process::Abort;

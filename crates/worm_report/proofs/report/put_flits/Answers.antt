@@ -1,7 +1,0 @@
-use Rattle.worm_report.specs.Report.{delivered_rows, underway_rows}
-use Rattle.worm_report.specs.Seen.{seen}
-use Rattle.worm_report.proofs.Written.{rows_then}
-use Rattle.worm_report.proofs.report.put_flits.Goals as goal
-
-pub returns : goal.returns
-returns g c = rows_then (delivered_rows (seen c.args.net.now)) (underway_rows (seen c.args.net.now)) c.in_ok-put_delivered.ensures c.put_underway.ensures
