@@ -1,6 +1,6 @@
 -- Marks of lanes are never lost; and of a lane without a mark no marked list has a flit.
 use Rattle.std.proofs.Common.{ℕ, zero, suc, ◌≡◌, ◌+◌, ◌*◌, ◌<◌, ◌≤◌, ◌^◌, Bool, true, false, ◌==◌, ◌⊎◌, inl, inr, List, [], ◌∷◌, length, take, drop, sum, set, get_or, Some, arith, refl, ap, sym, subst, ◌∙◌}
-use Rattle.std.specs.Prelude.{flat_map, slice_get}
+use Rattle.std.specs.Prelude.{slice_get}
 use Rattle.std.proofs.Math.Nat.{mul-le-mul_left, mul-le-mul_right}
 use Rattle.std.proofs.lemmas.List.{get_or_past}
 use Rattle.std.proofs.lemmas.List.Elements.{All-filter, All-head, All-tail, All-append}
@@ -24,7 +24,7 @@ use Rattle.worm_core.specs.declared.view.Place.TheVariants.{Source, Buffer, Link
 use Rattle.worm_core.specs.LaneSet.{LaneMarks, lane_line, is_marked, with_mark, AllMarked, KeepsMarks, IsComplete, NodesMarked, LinksMarked}
 use Rattle.worm_core.proofs.Bridge.{below_cases}
 use Rattle.worm_core.proofs.NewNet.{input_fresh}
-use Rattle.worm_core.proofs.ViewLists.{take_more}
+use Rattle.worm_core.proofs.ViewLists.{take_more, none_each}
 
 -- where a mark stands fits a machine number
 pub line_small : (a n b k c : ℕ) → a < 256 → n ≤ 256 → b < 256 → k ≤ 4 → c < 256 → (a * n + b) * k + c < 2 ^ 64
@@ -107,10 +107,6 @@ none_of_lane set lane (f ∷ fs) free all =
           absurd (cc)
       | inr other ↦ rw other (none_of_lane set lane fs free (All-tail (λ (g : Flit). is_marked set g.lane ≡ true) f fs all))
     ]
-
-none_each : {X A : Type 0} (f : X → List A) (xs : List X) → ((x : X) → f x ≡ []) → flat_map f xs ≡ []
-none_each f [] none = refl
-none_each f (x ∷ xs) none = rw (none x) (none_each f xs none)
 
 none_marked : (set : LaneMarks) → AllMarked set []
 none_marked set k d there = absurd (omega arith)

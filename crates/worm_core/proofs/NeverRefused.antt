@@ -172,8 +172,9 @@ module _ (mesh channels : List ℕ) (start s : NetState) (x : ℕ) (before : Lis
     }
   ]
 
-not_both : (lane other : Lane) → other.src ≡ lane.src → other.dst ≡ lane.dst → other.class ≡ lane.class → ((lane.src == other.src) && (lane.dst == other.dst) && (lane.class == other.class)) ≡ true
-not_both lane other a b c = grind arith
+-- a close closes its own lane
+closes_own : (lane other : Lane) → other.src ≡ lane.src → other.dst ≡ lane.dst → other.class ≡ lane.class → ((lane.src == other.src) && (lane.dst == other.dst) && (lane.class == other.class)) ≡ true
+closes_own lane other a b c = grind arith
 
 module _ (mesh channels : List ℕ) (start : NetState) (x : ℕ) (x_in : x < node_count mesh) where
   -- the entry is done
@@ -182,7 +183,7 @@ module _ (mesh channels : List ℕ) (start : NetState) (x : ℕ) (x_in : x < nod
   stage_done before turn (Offer packet) s h good src =
       stage_asked mesh channels start s x before (record { turn = turn; act = Offer packet }) packet.lane _ false h src good.class (λ never. absurd (cc))
   stage_done before turn (Close lane) s h good src =
-      stage_asked mesh channels start s x before (record { turn = turn; act = Close lane }) lane _ true h src good.class (λ last other a b c. not_both lane other a b c)
+      stage_asked mesh channels start s x before (record { turn = turn; act = Close lane }) lane _ true h src good.class (λ last other a b c. closes_own lane other a b c)
 
   -- the source has the lane open
   opened : (before : List Entry) (act : Act) (s : NetState) → Stage mesh channels start x before s → IsAcceptable mesh channels before act → (lane_of act).src ≡ x → length before < 65535 → IsOpen (source_at s x) (lane_of act)

@@ -30,7 +30,7 @@ use Rattle.worm_core.specs.declared.view.Held.{Held}
 use Rattle.worm_core.specs.declared.view.Place.{Place}
 use Rattle.worm_core.specs.declared.view.Place.TheVariants.{Source, Buffer, Link}
 use Rattle.worm_core.proofs.Headline.{delivers}
-use Rattle.worm_core.proofs.ViewLists.{channel-more, class_within}
+use Rattle.worm_core.proofs.ViewLists.{channel-more, class_within, none_each}
 
 flits : List Held → List Flit
 flits hs = map (λ (h : Held). h.flit) hs
@@ -173,10 +173,6 @@ no_line s x o at =
     let none : has_neighbour s.mesh x o ≡ false = no_port s.mesh x o (omega arith) in
     rw none refl
 
-none_each : (vs : List ℕ) → flat_map (λ (v : ℕ). let none : List Flit = [] in none) vs ≡ []
-none_each [] = refl
-none_each (v ∷ vs) = none_each vs
-
 module _ (s : NetState) (lane : Lane) where
   abbrev buffers : ℕ → ℕ → ℕ → List Flit
   buffers x p v = (input_of (router_at s x) p v).buffer
@@ -204,7 +200,7 @@ module _ (s : NetState) (lane : Lane) where
     packet_place (AtLink x o) =
         let along = read_channels lane read refl (packet-append lane k) (packet_absorbs lane k) (λ v. Link x o v) (λ v. on_channel v (line x o)) channels in
         elim (bool_cases (o == 2 * length s.mesh)) [
-          | inl at ↦ rw at (along ∙ (ap (λ fs. flat_map (λ v. packet_held lane k (on_channel v fs)) channels) (no_line s x o at) ∙ none_each channels))
+          | inl at ↦ rw at (along ∙ (ap (λ fs. flat_map (λ v. packet_held lane k (on_channel v fs)) channels) (no_line s x o at) ∙ none_each (λ (v : ℕ). packet_held lane k (on_channel v [])) channels (λ v. refl)))
           | inr off ↦ rw off (along ∙ sym (joined_class s.channels lane.class there (λ v. packet_held lane k (on_channel v (line x o)))))
         ]
 

@@ -88,6 +88,11 @@ channel-more {H} g a v low =
     ap (λ hs. flat_map g (range_with_len a (v - a)) ++ hs) (append-nil (g (a + (v - a)))) ∙
     ap (λ (w : ℕ). flat_map g (range_with_len a (v - a)) ++ g w) last)))
 
+-- lists that are all empty
+pub none_each : {X A : Type 0} (f : X → List A) (xs : List X) → ((x : X) → f x ≡ []) → flat_map f xs ≡ []
+none_each f [] none = refl
+none_each f (x ∷ xs) none = rw (none x) (none_each f xs none)
+
 -- a class's channels are the network's
 pub class_within : (counts : List ℕ) (class : ℕ) → class < length counts → first_channel counts class + slice_index counts class ≤ sum counts
 class_within counts class there = sum_by_more_le (λ (x : ℕ). x) counts class 0 there
