@@ -23,6 +23,7 @@ pub mod Wired
 pub mod Passages
 pub mod DueEntries
 pub mod Turning
+pub mod Skipping
 pub mod Determined
 pub mod Allocating
 pub mod ViewLists

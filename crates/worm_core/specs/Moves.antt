@@ -1,9 +1,9 @@
 -- What the moves of a network make of its lists, in the words of routers, terminals and links.
-use Rattle.std.specs.Prelude.{ℕ, ◌*◌, ◌<◌, ◌≡◌, ◌==◌, Bool, true, false, nat_lt, if◌then◌else◌, List, [], ◌∷◌, ◌++◌, length, drop, slice_get, Option, Some, None, IsSome, Result, Ok, Err}
+use Rattle.std.specs.Prelude.{ℕ, ◌*◌, ◌<◌, ◌≤◌, ◌≡◌, ◌==◌, Bool, true, false, nat_lt, if◌then◌else◌, List, [], ◌∷◌, ◌++◌, length, drop, slice_get, Option, Some, None, IsSome, Result, Ok, Err}
 use Rattle.worm_flit.specs.declared.Flit.{Flit}
 use Rattle.worm_mesh.specs.Address.{node_count, neighbour_of, opposite_of}
 use Rattle.worm_mesh.specs.Links.{links_before}
-use Rattle.worm_router.specs.Router.{RouterState, IsPlace, terminal, input_at, output_at, leaving, after_accept, after_route, after_grant, after_send, after_gave, after_credit}
+use Rattle.worm_router.specs.Router.{RouterState, IsPlace, terminal, width, input_at, output_at, leaving, after_accept, after_route, after_grant, after_send, after_gave, after_credit}
 use Rattle.worm_router.specs.Allocation.{after_choose}
 use Rattle.worm_term.specs.Sink.{after_take as after_sink}
 use Rattle.worm_term.specs.Source.{front_of, after_offer, after_close, after_fed}
@@ -18,6 +18,10 @@ use Rattle.worm_core.specs.declared.fault.StepFault.TheVariants.{NoSuchPlace, Re
 -- the router after a pass of its switch allocator; kept closed in goals
 unfoldable pub chosen_router : RouterState → RouterState
 chosen_router r = after_choose r
+
+-- no buffer of the router holds a flit
+abbrev pub HoldsNothing : RouterState → Type 0
+HoldsNothing r = (p v : ℕ) → p ≤ terminal r → v < width r → (input_at r p v).buffer ≡ []
 
 -- the number of the link that comes into a port from this neighbour
 abbrev pub into_from : List ℕ → ℕ → Option ℕ → ℕ

@@ -1,4 +1,4 @@
-ghost use Rattle.std.specs.Prelude.{◌≡◌, ◌≤◌, ◌<◌, ◌*◌, ◌↔◌, ℕ, Result, IsTrue, IfNone, IfOk, sum, length, slice_get, IfSome, MatchOption, Err};
+ghost use Rattle.std.specs.Prelude.{None, ◌≡◌, ◌≤◌, ◌<◌, ◌*◌, ◌↔◌, ℕ, Result, IsTrue, IfNone, IfOk, sum, length, slice_get, IfSome, MatchOption, Err};
 ghost use Rattle.worm_theory.specs.Steps.{Step as Event};
 ghost use Rattle.worm_core.specs.Runs.{IsRun, event_of};
 ghost use Rattle.worm_core.specs.Answers.{Answers, ArbitersStand, accepted_of, moved_of};
@@ -6,7 +6,7 @@ ghost use Rattle.worm_theory.specs.Steps.{empty};
 ghost use Rattle.worm_core.specs.NewNet.{IsConfig, IsFresh};
 ghost use Rattle.worm_core.specs.Headline.{DeliversInOrder, NothingFollowsMarks};
 ghost use Rattle.worm_core.specs.State.{IsNet, shape, network_of, queue_of, router_at, sink_at, source_at, texts_of, with_router};
-ghost use Rattle.worm_core.specs.Turns.{Reaches, lowest_owed};
+ghost use Rattle.worm_core.specs.Turns.{Reaches, RoutesChannels, lowest_owed};
 ghost use Rattle.worm_mesh.specs.Address.{node_count};
 ghost use Rattle.worm_router.specs.Router.{input_at, width};
 ghost use Rattle.worm_router.specs.Allocation.{after_allocate, switch_grants};
@@ -210,6 +210,14 @@ impl Net {
         ensures reaches { Reaches self.old self.new }
     {
         self.fabric.choose(node)
+    }
+
+    /// Whether no buffer of the node holds a flit; then there is nothing to route there.
+    pub(crate) fn has_nothing_to_route(&self, node: u8) -> bool
+        requires { node < node_count self.now.mesh }
+        ensures { IsTrue result → RoutesChannels node self.now None self.now }
+    {
+        self.fabric.is_empty(node)
     }
 
     /// The lowest channel of the mesh port that owes a credit.

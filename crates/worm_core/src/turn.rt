@@ -92,8 +92,12 @@ impl Net {
 
     /// Routes each channel, by rising port, then channel.
     fn route_channels(&mut self, node: u8)
+        requires { node < node_count self.old.mesh }
         ensures { Does (RoutesChannels node) self.old None self.new }
     {
+        if self.has_nothing_to_route(node) {
+            return;
+        }
         for port in 0..self.terminal() + 1 {
             self.route_port(node, port);
         }
