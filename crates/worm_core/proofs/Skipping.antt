@@ -1,15 +1,20 @@
--- Where no buffer of a node holds a flit, trying to route changes nothing.
-use Rattle.std.proofs.Common.{◌≡◌, ℕ, zero, suc, ◌+◌, ◌*◌, ◌<◌, ◌≤◌, ◌&&◌, Bool, true, false, ◌⊎◌, inl, inr, List, [], length, map, sum, Option, Some, None, Ok, Err, refl, arith, ap, sym, subst, ◌∙◌}
+-- Where each channel of a node with a flit has its route, trying to route changes nothing.
+use Rattle.std.proofs.Common.{◌≡◌, ℕ, zero, suc, ◌+◌, ◌*◌, ◌<◌, ◌≤◌, ◌&&◌, true, false, ◌⊎◌, inl, inr, List, [], ◌∷◌, length, not, nat_lt, map, sum, Option, Some, None, Ok, Err, refl, arith, sym, subst}
 use Rattle.std.specs.Prelude.{IsSome}
 use Rattle.std.specs.List.{range_with_len}
 use Rattle.worm_mesh.specs.Address.{node_count, neighbour_of}
-use Rattle.worm_router.specs.Router.{terminal, width, input_at, can_route, is_idle, opens_front}
+use Rattle.worm_router.specs.Router.{terminal, width, can_route, is_idle, opens_front}
 use Rattle.worm_flit.specs.declared.Flit.{Flit}
+use Rattle.worm_records.specs.declared.InRecord.{InRecord}
+use Rattle.worm_records.specs.declared.InRecord.TheVariants.{Idle as IdleRecord, Waiting, Active}
+use Rattle.worm_router.specs.Router.{ChannelState}
+use Rattle.worm_router.specs.Busy.{is_occupied, is_waiting, is_active, waits, holds}
+use Rattle.std.proofs.lemmas.Bool.Decides.{nat_tests}
 use Rattle.worm_theory.specs.Steps.{Route, IsPort}
 use Rattle.worm_theory.proofs.Places.{number_cases}
 use Rattle.worm_core.specs.Shape.{net_shape}
 use Rattle.worm_core.specs.State.{NetState, IsNet, router_at, shape}
-use Rattle.worm_core.specs.Moves.{HoldsNothing}
+use Rattle.worm_core.specs.Moves.{RoutesNothing}
 use Rattle.worm_core.specs.Turns.{Passage, Each, Tries, RoutesPort, RoutesChannels}
 use Rattle.worm_core.specs.declared.step.Moved.TheVariants.{Idle}
 use Rattle.worm_core.specs.declared.fault.StepFault.TheVariants.{NoSuchPlace}
@@ -25,11 +30,17 @@ numbers_still : (P : ℕ → Passage) (s : NetState) (n from : ℕ) → ((i : �
 numbers_still P s zero from still = (refl, refl)
 numbers_still P s (suc n) from still = inr (s, still from (omega arith), numbers_still P s n (from + 1) (λ i below. still i (omega arith)))
 
-no_test : (b : Bool) → (b && false) ≡ false
-no_test true = refl
-no_test false = refl
+-- a channel with a flit that neither waits nor is active is idle; any other has nothing to route
+unrouted : (state : InRecord) (buffer : List Flit) → ((nat_lt 0 (length buffer) && not (waits state)) && not (holds state)) ≡ false → (is_idle state && opens_front buffer) ≡ false
+unrouted IdleRecord [] none = refl
+unrouted IdleRecord (f ∷ fs) none = let some : nat_lt 0 (length (f ∷ fs)) ≡ true = grind (arith, nat_tests) in absurd (cc)
+unrouted (Waiting o) buffer none = refl
+unrouted (Active o c) buffer none = refl
 
--- a route that is tried where the buffer is empty
+pub routes_none : (c : ChannelState) → ((is_occupied c && not (is_waiting c)) && not (is_active c)) ≡ false → (is_idle c.state && opens_front c.buffer) ≡ false
+routes_none c none = unrouted c.state c.buffer none
+
+-- a route that is tried where there is nothing to route
 
 port_there : (s : NetState) (x p : ℕ) (n : Option ℕ) → neighbour_of s.mesh x p ≡ n → (IsPort (shape s) x p) ⊎ (IsPort (shape s) x p → ⊥)
 unfolding net_shape
@@ -42,24 +53,22 @@ port_there s x p None e = elim (number_cases p (2 * length s.mesh)) [
   ])
 ]
 
-route_still : (s : NetState) (x p v : ℕ) → IsNet s → x < node_count s.mesh → v < sum s.channels → (input_at (router_at s x) p v).buffer ≡ [] → Tries (Route x p v) s None s
+route_still : (s : NetState) (x p v : ℕ) → IsNet s → x < node_count s.mesh → v < sum s.channels → can_route (router_at s x) p v ≡ false → Tries (Route x p v) s None s
 unfolding net_shape
-route_still s x p v net x_in v_in empty = elim (port_there s x p (neighbour_of s.mesh x p) refl) [
+route_still s x p v net x_in v_in can = elim (port_there s x p (neighbour_of s.mesh x p) refl) [
   | inl port ↦
-      let r = router_at s x in
-      let can : can_route r p v ≡ false = ap (λ (fs : List Flit). is_idle (input_at r p v).state && opens_front fs) empty ∙ no_test (is_idle (input_at r p v).state) in
       (Ok Idle, (route_answers s x p v net (x_in, port, v_in) false (sym can)).1, refl)
   | inr away ↦ (Err NoSuchPlace, (λ there. away there.1, refl), refl)
 ]
 
-port_still : (s : NetState) (x p : ℕ) → IsNet s → x < node_count s.mesh → p ≤ 2 * length s.mesh → HoldsNothing (router_at s x) → RoutesPort x p s None s
+port_still : (s : NetState) (x p : ℕ) → IsNet s → x < node_count s.mesh → p ≤ 2 * length s.mesh → RoutesNothing (router_at s x) → RoutesPort x p s None s
 port_still s x p net x_in p_in nothing =
     let all = net.framed.all_nodes in
     let node = net.framed.each_node x (omega arith) in
     each_still Tries (Route x p) s (sum s.channels) 0 (λ v below.
     let p_there : p ≤ terminal (router_at s x) = rw node.same_mesh p_in in
     let v_there : v < width (router_at s x) = rw node.same_channels (omega arith) in
-    route_still s x p v net x_in (omega arith) (nothing p v p_there v_there))
+    route_still s x p v net x_in (omega arith) (nothing p v (omega (arith, p_in, net.framed.radices.few_dims)) (omega (arith, below, net.framed.classes.total)) p_there v_there))
 
-pub node_still : (s : NetState) (x : ℕ) → IsNet s → x < node_count s.mesh → HoldsNothing (router_at s x) → RoutesChannels x s None s
+pub node_still : (s : NetState) (x : ℕ) → IsNet s → x < node_count s.mesh → RoutesNothing (router_at s x) → RoutesChannels x s None s
 node_still s x net x_in nothing = numbers_still (RoutesPort x) s (2 * length s.mesh + 1) 0 (λ p below. port_still s x p net x_in (omega arith) nothing)

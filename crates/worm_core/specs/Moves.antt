@@ -3,7 +3,7 @@ use Rattle.std.specs.Prelude.{ℕ, ◌*◌, ◌<◌, ◌≤◌, ◌≡◌, ◌==
 use Rattle.worm_flit.specs.declared.Flit.{Flit}
 use Rattle.worm_mesh.specs.Address.{node_count, neighbour_of, opposite_of}
 use Rattle.worm_mesh.specs.Links.{links_before}
-use Rattle.worm_router.specs.Router.{RouterState, IsPlace, terminal, width, input_at, output_at, leaving, after_accept, after_route, after_grant, after_send, after_gave, after_credit}
+use Rattle.worm_router.specs.Router.{RouterState, IsPlace, terminal, width, input_at, output_at, leaving, after_accept, after_route, after_grant, after_send, after_gave, after_credit, can_route}
 use Rattle.worm_router.specs.Allocation.{after_choose}
 use Rattle.worm_term.specs.Sink.{after_take as after_sink}
 use Rattle.worm_term.specs.Source.{front_of, after_offer, after_close, after_fed}
@@ -19,9 +19,9 @@ use Rattle.worm_core.specs.declared.fault.StepFault.TheVariants.{NoSuchPlace, Re
 unfoldable pub chosen_router : RouterState → RouterState
 chosen_router r = after_choose r
 
--- no buffer of the router holds a flit
-abbrev pub HoldsNothing : RouterState → Type 0
-HoldsNothing r = (p v : ℕ) → p ≤ terminal r → v < width r → (input_at r p v).buffer ≡ []
+-- no channel of the router has an opening flit that waits for its route; routers have at most 7 ports and 8 channels
+abbrev pub RoutesNothing : RouterState → Type 0
+RoutesNothing r = (p v : ℕ) → p < 7 → v < 8 → p ≤ terminal r → v < width r → can_route r p v ≡ false
 
 -- the number of the link that comes into a port from this neighbour
 abbrev pub into_from : List ℕ → ℕ → Option ℕ → ℕ

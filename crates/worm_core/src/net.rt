@@ -212,12 +212,12 @@ impl Net {
         self.fabric.choose(node)
     }
 
-    /// Whether no buffer of the node holds a flit; then there is nothing to route there.
+    /// Whether each channel of the node with a flit has its route; then there is nothing to route there.
     pub(crate) fn has_nothing_to_route(&self, node: u8) -> bool
         requires { node < node_count self.now.mesh }
         ensures { IsTrue result → RoutesChannels node self.now None self.now }
     {
-        self.fabric.is_empty(node)
+        self.fabric.is_routed(node)
     }
 
     /// The lowest channel of the mesh port that owes a credit.

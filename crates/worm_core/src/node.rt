@@ -1,8 +1,8 @@
-ghost use Rattle.std.specs.Prelude.{true, false, ◌≡◌, ◌<◌, ◌≤◌, IsSome, OnOk, OnErr, IfErr, None, length, unwrap_or, if◌then◌else◌};
+ghost use Rattle.std.specs.Prelude.{IsTrue, true, false, ◌≡◌, ◌<◌, ◌≤◌, IsSome, OnOk, OnErr, IfErr, None, length, unwrap_or, if◌then◌else◌};
 ghost use Rattle.worm_router.specs.Router.{IsPlace, terminal, leaving};
 ghost use Rattle.worm_router.specs.Allocation.{switch_grants};
 ghost use Rattle.worm_term.specs.Source.{classes, front_of, refusal, after_offer, after_close};
-ghost use Rattle.worm_core.specs.Moves.{FrontFits, can_enter, chosen_router, fed_node, delivered_node};
+ghost use Rattle.worm_core.specs.Moves.{RoutesNothing, FrontFits, can_enter, chosen_router, fed_node, delivered_node};
 
 use worm_flit::{Flit, Lane, Packet};
 use worm_router::Router;
@@ -51,6 +51,18 @@ impl Node {
         }
         self.router.sent(port, vc);
         true
+    }
+
+    /// Whether each channel with a flit has its route.
+    pub(crate) fn is_routed(&self) -> bool
+        ensures { IsTrue result → RoutesNothing self.now.router }
+    {
+        let router = &self.router;
+        let unrouted = router
+            .occupied()
+            .difference(&router.waiting())
+            .difference(&router.active());
+        unrouted.is_empty()
     }
 
     /// One pass of the switch allocator.

@@ -20,7 +20,9 @@ pub struct NodeLinks {
 /// A mesh and the links of each of its nodes.
 #[derive(Drop)]
 pub struct Wiring {
+    /// The mesh.
     mesh: Mesh,
+    /// By node number; of a node that is not there no links.
     nodes: [NodeLinks; 256],
 }
 

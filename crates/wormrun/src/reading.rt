@@ -12,9 +12,12 @@ pub const MOST_BYTES: usize = 8_388_608;
 /// The calls of `read` that a text may take.
 pub const MOST_READS: u32 = 10_000_000;
 
+/// Why a text was not read to its end.
 #[derive(Clone, Copy, PartialEq, Eq, Debug)]
 pub enum ReadFault {
+    /// A read failed, or a limit was passed.
     Unreadable,
+    /// There was no memory for the text.
     NoMemory,
 }
 

@@ -7,4 +7,4 @@ use Rattle.worm_core.proofs.net.Net.has_nothing_to_route.Goals as goal
 pub returns : goal.returns
 returns c = λ yes.
     subst (λ (s : NetState). RoutesChannels c.args.node s None s) c.self.view_is
-    (node_still c.self.inside.fabric c.args.node c.self.invariant (rw (c.self.view_is) c.requires) (c.is_empty.ensures yes))
+    (node_still c.self.inside.fabric c.args.node c.self.invariant (rw (c.self.view_is) c.requires) (c.is_routed.ensures yes))
