@@ -8,7 +8,7 @@ ghost use Rattle.worm_core.specs.Headline.{DeliversInOrder, NothingFollowsMarks}
 ghost use Rattle.worm_core.specs.Script.{due};
 ghost use Rattle.worm_core.specs.State.{IsNet};
 ghost use Rattle.worm_core.specs.declared.script.Entry.{Entry};
-ghost use Rattle.worm_core.specs.Turns.{AsksSource, Does, FeedsClasses, GivesCredits, IsDetermined, NodeTurn, Reaches, RoutesChannels, RoutesPort, RunIsDetermined, SendsGranted, TakesCredits, TakesFlits, Turn, ask, fault_of};
+ghost use Rattle.worm_core.specs.Turns.{AsksSource, Does, FeedsClasses, GivesCredits, IsDetermined, NodePasses, NodeTurn, Reaches, RoutesChannels, RoutesPort, RunIsDetermined, SendsGranted, TakesCredits, TakesFlits, Turn, ask, fault_of};
 
 use crate::{Act, Entry, Moved, Net, Script, StepFault};
 
@@ -129,12 +129,14 @@ impl Net {
         }
     }
 
-    /// The turn of a node, with these entries for all nodes.
-    fn node_turn(&mut self, node: u8, entries: &[Entry]) -> Result<(), StepFault>
+    /// What a node does in a turn once its source was asked.
+    fn node_passes(&mut self, node: u8) -> Result<(), StepFault>
         requires { node < node_count self.old.mesh }
-        ensures { Does (NodeTurn entries.now node) self.old (result_err result) self.new }
+        ensures { Does (NodePasses node) self.old (result_err result) self.new }
     {
-        self.ask_source(node, entries)?;
+        if self.is_at_rest(node) {
+            return Ok(());
+        }
         self.take_credits(node);
         self.take_flits(node);
         self.feed_classes(node);
@@ -143,6 +145,15 @@ impl Net {
         self.send_granted(node)?;
         self.give_credits(node);
         Ok(())
+    }
+
+    /// The turn of a node, with these entries for all nodes.
+    fn node_turn(&mut self, node: u8, entries: &[Entry]) -> Result<(), StepFault>
+        requires { node < node_count self.old.mesh }
+        ensures { Does (NodeTurn entries.now node) self.old (result_err result) self.new }
+    {
+        self.ask_source(node, entries)?;
+        self.node_passes(node)
     }
 
     /// The turns of all nodes with these entries, in rising number.
