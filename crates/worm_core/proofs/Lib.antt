@@ -26,6 +26,7 @@ pub mod Passages
 pub mod DueEntries
 pub mod Turning
 pub mod Skipping
+pub mod Resting
 pub mod Determined
 pub mod Allocating
 pub mod ViewLists

@@ -23,7 +23,7 @@ find_none asks (n ∷ ns) none = rw none (find_none asks ns none)
 abbrev no_requests : List (List (Option VcRequest))
 no_requests = replicate 7 (replicate 8 None)
 
-no_winner : (a : ArbiterState) (asks : ℕ → Bool) → ((n : ℕ) → asks n ≡ false) → winner a asks ≡ None
+pub no_winner : (a : ArbiterState) (asks : ℕ → Bool) → ((n : ℕ) → asks n ≡ false) → winner a asks ≡ None
 unfolding winner
 no_winner a asks none = find_none asks (asked_in_order a) none
 

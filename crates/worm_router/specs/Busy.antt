@@ -3,6 +3,7 @@ use Rattle.std.specs.Prelude.{ℕ, ◌+◌, ◌*◌, ◌<◌, ◌≤◌, ◌≡�
 use Rattle.worm_records.specs.declared.InRecord.{InRecord}
 use Rattle.worm_records.specs.declared.InRecord.TheVariants.{Idle, Waiting, Active}
 use Rattle.worm_vcalloc.specs.ChannelSet.{has, IsPut}
+use Rattle.worm_swalloc.specs.SwAlloc.{SwAllocState}
 use Rattle.worm_router.specs.declared.busy.BusyChannels.{BusyChannels}
 use Rattle.worm_router.specs.Router.{ChannelState, RouterState, IsRouter, terminal, width, fresh_channel}
 
@@ -57,7 +58,13 @@ pub record IsFiled (old new : BusyChannels) (port vc : ℕ) (c : ChannelState) :
   pub active : IsPut old.active new.active port vc (is_active c)
   pub owing : IsPut old.owing new.owing port vc (owes c)
 
+-- the allocator of the switch has an arbiter for each of its ports, on either side
+pub record HasArbiters (s : SwAllocState) : Type 0 where
+  pub inputs : s.ports ≤ length s.inputs
+  pub outputs : s.ports ≤ length s.outputs
+
 -- what a router keeps: what contracts see, and the sets beside it
 pub record IsKept (r : RouterState) (sets : BusyChannels) : Type 0 where
   pub router : IsRouter r
+  pub arbiters : HasArbiters r.switch_alloc
   pub busy : AreBusy (terminal r) (width r) r.depth r.inputs sets

@@ -1,10 +1,11 @@
-ghost use Rattle.std.specs.Prelude.{◌≡◌, ◌+◌, ◌*◌, ◌≤◌, ◌<◌, ◌^◌, ◌↔◌, length, sum, IfOk, IfErr, OnOk, OnErr, IsOk, IsErr, IsSome, IfSome, IfNone, None, Some, ℕ, is_some, slice_get, replicate, if◌then◌else◌};
+ghost use Rattle.std.specs.Prelude.{◌≡◌, ◌+◌, ◌*◌, ◌≤◌, ◌<◌, ◌^◌, ◌↔◌, length, sum, IfOk, IfErr, OnOk, OnErr, IsOk, IsErr, IsSome, IfSome, IfNone, None, Some, ℕ, is_some, nat_lt, slice_get, replicate, if◌then◌else◌};
 ghost use Rattle.worm_flit.specs.Channels.{AreChannels};
 ghost use Rattle.worm_mesh.specs.Address.{node_count};
 ghost use Rattle.worm_router.specs.Router.{IsPlace, IsRouter, line, fresh_channel, free_output, fresh_router, input_at, output_at, terminal, width, after_accept, can_route, after_route, can_grant, after_grant, after_granting, leaving, MayLeave, passed, credit_of, after_send, after_gave, after_credit};
 ghost use Rattle.worm_router.specs.Busy.{IsSetOf, is_occupied, is_waiting, is_active, owes};
 
 mod allocation;
+mod rest;
 
 use crate::busy::BusyChannels;
 use crate::channel::InputChannel;
@@ -231,6 +232,15 @@ impl Router {
         channel.owed()
     }
 
+    /// Whether the buffer of this input channel has room for one more flit, as `accept` needs.
+    pub fn has_room(&self, port: u8, vc: u8) -> bool
+        requires { IsPlace self.now port vc }
+        ensures { result ≡ nat_lt (length (input_at self.now port vc).buffer) self.now.depth }
+    {
+        let channel = &self.inputs[self.line(port, vc)];
+        channel.has_room()
+    }
+
     /// Puts a flit that came in by the port at the end of its channel's buffer. It comes back exactly where the buffer is
     /// full; the router is then as it was.
     pub fn accept(&mut self, port: u8, flit: Flit) -> Result<(), Flit>
@@ -362,9 +372,17 @@ impl Router {
         requires ready { IsSome (leaving self.old port vc) }
         ensures { self.new ≡ after_send self.old port vc }
     {
-        let Some((out, flit)) = self.ready(port, vc) else {
-            return;
-        };
+        if let Some((out, flit)) = self.ready(port, vc) {
+            self.let_out(port, vc, out, flit);
+        }
+    }
+
+    /// The same for a caller that holds what `ready` answered: the flit has left by the output port `out`.
+    pub fn let_out(&mut self, port: u8, vc: u8, out: u8, flit: Flit)
+        requires place { IsPlace self.old port vc }
+        requires ready { leaving self.old port vc ≡ Some (out, flit) }
+        ensures { self.new ≡ after_send self.old port vc }
+    {
         let i = self.line(port, vc);
         let o = self.line(out, flit.vc);
         let more_owed = self.credit_of(port);

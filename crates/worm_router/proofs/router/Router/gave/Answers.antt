@@ -13,5 +13,6 @@ invariant_of-self c =
         lists = input_set_sound _ _ _ _ _ _ _ _ c.self.invariant.router.lists (give_sound _ _ _ _ _ had c.give.ensures);
         allocators = c.self.invariant.router.allocators;
       };
+      arbiters = c.self.invariant.arbiters;
       busy = filed_in _ c.args.self.now _ _ c.args.port c.args.vc _ _ c.self.view_is c.self.invariant.busy c.file.ensures c.requires.place c.line-i.ensures.value c.line-i.ensures.in_inputs;
     }

@@ -23,5 +23,6 @@ invariant_of-self c =
         };
         allocators = c.self.invariant.router.allocators;
       };
+      arbiters = c.self.invariant.arbiters;
       busy = filed_in _ c.args.self.now _ _ c.args.port c.args.vc _ _ c.self.view_is c.self.invariant.busy c.file.ensures c.requires.place c.line-i.ensures.value c.line-i.ensures.in_inputs;
     }

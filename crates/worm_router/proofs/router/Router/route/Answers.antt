@@ -13,5 +13,6 @@ invariant_of-self c =
         lists = input_set_sound _ _ _ _ _ _ _ _ c.self.invariant.router.lists (waiting_sound _ _ _ _ _ c.next_port-out.result had (omega (arith, c.next_port-out.ensures)) c.set_state.ensures);
         allocators = c.self.invariant.router.allocators;
       };
+      arbiters = c.self.invariant.arbiters;
       busy = filed_in _ c.args.self.now _ _ c.args.port c.args.vc _ _ c.self.view_is c.self.invariant.busy c.file.ensures c.requires c.line-i.ensures.value c.line-i.ensures.in_inputs;
     }
