@@ -20,6 +20,8 @@ pub mod NewNet
 pub mod Reaching
 pub mod Pointers
 pub mod Wired
+pub mod PortSets
+pub mod Arriving
 pub mod Passages
 pub mod DueEntries
 pub mod Turning

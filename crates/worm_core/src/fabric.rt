@@ -14,8 +14,8 @@ mod readers;
 mod rest;
 
 use crate::fresh::{make_links, make_nodes};
-use crate::wiring::Wiring;
-use crate::{LinkState, Moved, Name, Node, StepFault};
+use crate::links::Links;
+use crate::{Moved, Name, Node, StepFault};
 use arrayvec::ArrayVec;
 use std::alloc::{AllocError, Global};
 use std::marker::Model;
@@ -27,8 +27,8 @@ use worm_term::OfferFault;
 /// The nodes by number and the links by number, whatever they hold (Dally and Towles, chapters 5, 13 and 16).
 #[derive(Drop)]
 pub struct Fabric {
-    /// The mesh, with the numbers of each node's links.
-    wiring: Wiring,
+    /// The mesh, and the links by number.
+    links: Links,
     /// The channels that classes own.
     classes: ClassChannels,
     /// How many flits each buffer holds, 1 to 16.
@@ -37,8 +37,6 @@ pub struct Fabric {
     names: ArrayVec<Name, 4>,
     /// The nodes by number.
     nodes: Vec<Node>,
-    /// The links by number.
-    links: Vec<LinkState>,
 }
 
 impl Model for Fabric {
@@ -46,7 +44,7 @@ impl Model for Fabric {
 
     ghost Value = { NetState };
 
-    ghost view = { λ n. net_state n.wiring n.classes n.depth (texts_of n.names.items) n.nodes.items n.links.items };
+    ghost view = { λ n. net_state n.links.mesh n.classes n.depth (texts_of n.names.items) n.nodes.items n.links.states };
 }
 
 impl Fabric {
@@ -68,12 +66,11 @@ impl Fabric {
         let room = u16::from(classes.total()) * u16::from(depth);
         let links = make_links(alloc, mesh.links(), room)?;
         Ok(Fabric {
-            wiring: Wiring::new(mesh),
+            links: Links::new(mesh, links),
             classes,
             depth,
             names,
             nodes,
-            links,
         })
     }
 
@@ -81,22 +78,22 @@ impl Fabric {
     pub fn has_node(&self, node: u8) -> bool
         ensures { IsTrue result ↔ (node < node_count self.now.mesh) }
     {
-        u16::from(node) < self.wiring.mesh().nodes()
+        u16::from(node) < self.links.wiring().nodes()
     }
 
     /// Whether the mesh has this node, and the network this class.
     pub fn has_class(&self, node: u8, class: u8) -> bool
         ensures { IsTrue result ↔ ((node < node_count self.now.mesh) × (class < length self.now.channels)) }
     {
-        u16::from(node) < self.wiring.mesh().nodes() && class < self.classes.classes()
+        u16::from(node) < self.links.wiring().nodes() && class < self.classes.classes()
     }
 
     /// Whether the node has this port, the terminal or one with a neighbour, and the network this channel.
     pub fn has_place(&self, node: u8, port: u8, vc: u8) -> bool
         ensures { IsTrue result ↔ ((node < node_count self.now.mesh) × ((port ≡ 2 * length self.now.mesh) ⊎ IsSome (neighbour_of self.now.mesh node port)) × (vc < sum self.now.channels)) }
     {
-        u16::from(node) < self.wiring.mesh().nodes()
-            && (port == 2 * self.wiring.mesh().dims() || self.wiring.link_out(node, port).is_some())
+        u16::from(node) < self.links.wiring().nodes()
+            && (port == self.terminal() || self.has_neighbour(node, port))
             && vc < self.classes.total()
     }
 
@@ -107,11 +104,18 @@ impl Fabric {
         self.has_place(node, port, vc) && out_vc < self.classes.total()
     }
 
+    /// Whether a node is at the other end of this port's links.
+    fn has_neighbour(&self, node: u8, port: u8) -> bool
+        ensures { IsTrue result ↔ IsSome (neighbour_of self.now.mesh node port) }
+    {
+        self.links.wiring().link_out(node, port).is_some()
+    }
+
     /// Whether the node has a neighbour at this port.
     pub fn has_link(&self, node: u8, port: u8) -> bool
         ensures { IsTrue result ↔ ((node < node_count self.now.mesh) × IsSome (neighbour_of self.now.mesh node port)) }
     {
-        self.wiring.link_out(node, port).is_some()
+        self.has_neighbour(node, port)
     }
 
     /// The same for a channel of the link into the port.
@@ -126,41 +130,7 @@ impl Fabric {
         ensures value { result ≡ 2 * length self.now.mesh }
         ensures bound { result ≤ 6 }
     {
-        2 * self.wiring.mesh().dims()
-    }
-
-    /// The number of the link that comes into this port.
-    pub fn link_into(&self, node: u8, port: u8) -> u16
-        requires { IsSome (neighbour_of self.now.mesh node port) }
-        ensures value { result ≡ link_into self.now node port }
-        ensures bound { result < link_count self.now.mesh }
-    {
-        let Some(number) = self.wiring.link_into(node, port) else {
-            return 0;
-        };
-        number
-    }
-
-    /// The number of the link that goes out of this port.
-    pub fn link_out(&self, node: u8, port: u8) -> u16
-        requires { IsSome (neighbour_of self.now.mesh node port) }
-        ensures value { result ≡ link_out self.now node port }
-        ensures bound { result < link_count self.now.mesh }
-    {
-        let Some(number) = self.wiring.link_out(node, port) else {
-            return 0;
-        };
-        number
-    }
-
-    /// The front flit of the link into this port.
-    pub fn front_into(&self, node: u8, port: u8) -> Option<Flit>
-        requires links { length self.now.links ≡ link_count self.now.mesh }
-        requires linked { IsSome (neighbour_of self.now.mesh node port) }
-        ensures { result ≡ front_into self.now node port }
-    {
-        let link = &self.links[usize::from(self.link_into(node, port))];
-        link.front()
+        self.links.wiring().terminal()
     }
 
     /// Gives the flit to the node's buffer of its channel, if that has room.
@@ -174,15 +144,6 @@ impl Fabric {
         node.router.accept(port, flit).is_ok()
     }
 
-    /// Drops the front flit of the link.
-    fn pop(&mut self, number: u16)
-        requires { number < length self.old.links }
-        ensures { self.new ≡ with_link self.old number (record (link_at self.old number) { flits = drop 1 (link_at self.old number).flits }) }
-    {
-        let link = &mut self.links[usize::from(number)];
-        link.pop();
-    }
-
     /// Moves the front of the link into a port to the buffer of its channel (Dally and Towles, chapter 13).
     pub fn take(&mut self, node: u8, port: u8) -> bool
         requires node { node < length self.old.nodes }
@@ -192,14 +153,13 @@ impl Fabric {
         ensures enabled { result ≡ can_enter (router_at self.old node) port (front_into self.old node port) }
         ensures after { self.new ≡ (if result then after_take self.old node port (link_into self.old node port) (front_into self.old node port) else self.old) }
     {
-        let Some(flit) = self.front_into(node, port) else {
+        let Some(flit) = self.links.front(node, port) else {
             return false;
         };
-        let number = self.link_into(node, port);
         if !self.accept(node, port, flit) {
             return false;
         }
-        self.pop(number);
+        self.links.pop(node, port);
         true
     }
 
@@ -243,16 +203,6 @@ impl Fabric {
         node.router.sent(port, vc);
     }
 
-    /// Puts the flit at the end of the link.
-    fn push(&mut self, number: u16, flit: Flit)
-        requires number { number < length self.old.links }
-        requires room { length (link_at self.old number).flits < (link_at self.old number).room }
-        ensures { self.new ≡ with_link self.old number (record (link_at self.old number) { flits = (link_at self.old number).flits ++ flit ∷ [] }) }
-    {
-        let link = &mut self.links[usize::from(number)];
-        link.push(flit);
-    }
-
     /// Lets the ready flit out into the node's sink, if that can take it.
     fn deliver(&mut self, node: u8, port: u8, vc: u8, flit: Flit) -> bool
         requires place { IsNetPlace self.old node port vc }
@@ -280,9 +230,8 @@ impl Fabric {
             }
             return Ok(Moved::Done);
         }
-        let number = self.link_out(node, out);
         self.sent(node, port, vc);
-        self.push(number, flit);
+        self.links.push(node, out, flit);
         Ok(Moved::Done)
     }
 
@@ -343,16 +292,6 @@ impl Fabric {
         node.router.gave(port, vc);
     }
 
-    /// Puts a credit of the channel at the end of the link's credits.
-    fn push_credit(&mut self, number: u16, vc: u8)
-        requires number { number < length self.old.links }
-        requires room { length (link_at self.old number).credits < (link_at self.old number).room }
-        ensures { self.new ≡ with_link self.old number (record (link_at self.old number) { credits = (link_at self.old number).credits ++ vc ∷ [] }) }
-    {
-        let link = &mut self.links[usize::from(number)];
-        link.push_credit(vc);
-    }
-
     /// Gives a credit that the input channel owes to the link into its port (Dally and Towles, chapter 13).
     pub fn give(&mut self, node: u8, port: u8, vc: u8) -> bool
         requires place { IsNetPlace self.old node port vc }
@@ -365,20 +304,9 @@ impl Fabric {
         if !self.owes(node, port, vc) {
             return false;
         }
-        let number = self.link_into(node, port);
         self.gave(node, port, vc);
-        self.push_credit(number, vc);
+        self.links.push_credit(node, port, vc);
         true
-    }
-
-    /// The front credit of the link out of this port.
-    fn front_credit(&self, node: u8, port: u8) -> Option<u8>
-        requires links { length self.now.links ≡ link_count self.now.mesh }
-        requires linked { IsSome (neighbour_of self.now.mesh node port) }
-        ensures { result ≡ front_credit self.now node port }
-    {
-        let link = &self.links[usize::from(self.link_out(node, port))];
-        link.front_credit()
     }
 
     /// Counts a credit more for the output channel, if one is missing.
@@ -391,15 +319,6 @@ impl Fabric {
         node.router.credit(port, vc).is_ok()
     }
 
-    /// Drops the front credit of the link.
-    fn pop_credit(&mut self, number: u16)
-        requires { number < length self.old.links }
-        ensures { self.new ≡ with_link self.old number (record (link_at self.old number) { credits = drop 1 (link_at self.old number).credits }) }
-    {
-        let link = &mut self.links[usize::from(number)];
-        link.pop_credit();
-    }
-
     /// Takes the front credit of the link out of this port into its channel's count (Dally and Towles, chapter 13).
     pub fn get(&mut self, node: u8, port: u8) -> bool
         requires node { node < length self.old.nodes }
@@ -409,14 +328,13 @@ impl Fabric {
         ensures enabled { result ≡ can_get (router_at self.old node) port (front_credit self.old node port) }
         ensures after { self.new ≡ (if result then after_getting self.old node port (front_credit self.old node port) else self.old) }
     {
-        let Some(vc) = self.front_credit(node, port) else {
+        let Some(vc) = self.links.front_credit(node, port) else {
             return false;
         };
-        let number = self.link_out(node, port);
         if !self.credit(node, port, vc) {
             return false;
         }
-        self.pop_credit(number);
+        self.links.pop_credit(node, port);
         true
     }
 
@@ -425,7 +343,7 @@ impl Fabric {
         ensures value { result ≡ node_count self.now.mesh }
         ensures bound { result ≤ 256 }
     {
-        self.wiring.mesh().nodes()
+        self.links.wiring().nodes()
     }
 
     /// The number of classes.

@@ -1,0 +1,12 @@
+-- Sets of the mesh ports of a node, seen as one number.
+use Rattle.std.specs.Prelude.{◌≡◌, ℕ, ◌<◌, ◌==◌, Bool}
+use Rattle.std.specs.Int.{bit_at}
+
+-- whether a port is in the set: a bit for each
+abbrev pub has : ℕ → ℕ → Bool
+has set port = bit_at set port == 1
+
+-- the set has changed at one port alone, which is now in it or not
+pub record IsPut (old new port : ℕ) (within : Bool) : Type 0 where
+  pub here : has new port ≡ within
+  pub elsewhere : (p : ℕ) → p < 6 → (p ≡ port → ⊥) → has new p ≡ has old p
