@@ -1,9 +1,10 @@
 -- Which input channels have something to do: the sets that a router keeps beside its lists, so that a turn skips all others.
-use Rattle.std.specs.Prelude.{ℕ, ◌+◌, ◌*◌, ◌<◌, ◌≤◌, ◌≡◌, nat_lt, Bool, true, false, List, length, slice_index_or}
+use Rattle.std.specs.Prelude.{ℕ, ◌+◌, ◌*◌, ◌<◌, ◌≤◌, ◌≡◌, nat_lt, Bool, true, false, List, length, slice_index_or, IsTrue}
 use Rattle.worm_records.specs.declared.InRecord.{InRecord}
 use Rattle.worm_records.specs.declared.InRecord.TheVariants.{Idle, Waiting, Active}
-use Rattle.worm_vcalloc.specs.ChannelSet.{has, IsPut}
+use Rattle.worm_vcalloc.specs.ChannelSet.{has}
 use Rattle.worm_swalloc.specs.SwAlloc.{SwAllocState}
+use Rattle.worm_router.specs.Allocation.{GrantsNothing}
 use Rattle.worm_router.specs.declared.busy.BusyChannels.{BusyChannels}
 use Rattle.worm_router.specs.Router.{ChannelState, RouterState, IsRouter, terminal, width, fresh_channel}
 
@@ -51,13 +52,6 @@ pub record AreBusy (terminal width depth : ℕ) (inputs : List ChannelState) (se
   pub active : IsSetIn is_active terminal width depth inputs sets.active
   pub owing : IsSetIn owes terminal width depth inputs sets.owing
 
--- the sets have changed at one channel alone, which is now filed by what it has to do
-pub record IsFiled (old new : BusyChannels) (port vc : ℕ) (c : ChannelState) : Type 0 where
-  pub occupied : IsPut old.occupied new.occupied port vc (is_occupied c)
-  pub waiting : IsPut old.waiting new.waiting port vc (is_waiting c)
-  pub active : IsPut old.active new.active port vc (is_active c)
-  pub owing : IsPut old.owing new.owing port vc (owes c)
-
 -- the allocator of the switch has an arbiter for each of its ports, on either side
 pub record HasArbiters (s : SwAllocState) : Type 0 where
   pub inputs : s.ports ≤ length s.inputs
@@ -68,3 +62,4 @@ pub record IsKept (r : RouterState) (sets : BusyChannels) : Type 0 where
   pub router : IsRouter r
   pub arbiters : HasArbiters r.switch_alloc
   pub busy : AreBusy (terminal r) (width r) r.depth r.inputs sets
+  pub in_vain : IsTrue sets.in_vain → GrantsNothing r

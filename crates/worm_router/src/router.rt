@@ -252,8 +252,11 @@ impl Router {
     {
         let i = self.line(port, flit.vc);
         let channel = &mut self.inputs[i];
+        let was_empty = !channel.is_occupied();
         let put = channel.put(flit);
-        self.busy.file(port, flit.vc, channel);
+        if was_empty {
+            self.busy.file_first(port, flit.vc, channel);
+        }
         put
     }
 
@@ -278,7 +281,7 @@ impl Router {
         let out = next_port(&self.mesh, self.node, front.lane.dst);
         let channel = &mut self.inputs[i];
         channel.set_state(InRecord::Waiting { out });
-        self.busy.file(port, vc, channel);
+        self.busy.file_waiting(port, vc);
         true
     }
 
@@ -313,7 +316,7 @@ impl Router {
         let o = self.line(out, out_vc);
         let channel = &mut self.inputs[i];
         channel.set_state(InRecord::Active { out, out_vc });
-        self.busy.file(port, vc, channel);
+        self.busy.file_active(port, vc);
         let output = &mut self.outputs[o];
         output.grant(port, vc);
     }
@@ -389,7 +392,7 @@ impl Router {
         let spent = self.credit_of(out);
         let channel = &mut self.inputs[i];
         channel.let_out(flit, more_owed);
-        self.busy.file(port, vc, channel);
+        self.busy.file_left(port, vc, channel);
         let output = &mut self.outputs[o];
         pass(output, flit, spent);
     }
@@ -417,7 +420,7 @@ impl Router {
         let i = self.line(port, vc);
         let channel = &mut self.inputs[i];
         channel.give();
-        self.busy.file(port, vc, channel);
+        self.busy.file_given(port, vc, channel);
     }
 
     /// A credit has come back for this output channel. `TooMany` exactly where its count is the depth, as at the terminal; the

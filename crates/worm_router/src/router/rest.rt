@@ -29,11 +29,11 @@ impl Router {
         unrouted.is_empty()
     }
 
-    /// Whether no channel waits.
+    /// Whether a pass for output channels would do nothing.
     fn allocates_nothing(&self) -> bool
         ensures { IsTrue result → after_allocate self.now ≡ self.now }
     {
-        self.waiting().is_empty()
+        self.grants_nothing()
     }
 
     /// Whether no channel may send: none is active.

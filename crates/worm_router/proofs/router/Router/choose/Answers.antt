@@ -17,4 +17,5 @@ invariant_of-self c = record {
   };
   arbiters = subst HasArbiters (sym c.grant.ensures.after) (arbiters_stay _ _ c.self.invariant.arbiters);
   busy = c.self.invariant.busy;
+  in_vain = c.self.invariant.in_vain;
 }
