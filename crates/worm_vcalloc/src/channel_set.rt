@@ -1,4 +1,4 @@
-ghost use Rattle.std.specs.Prelude.{◌≡◌, ℕ, ◌+◌, ◌*◌, ◌/◌, ◌%◌, ◌^◌, ◌<◌, ◌≤◌, ◌==◌, ◌&&◌, MatchOption, not};
+ghost use Rattle.std.specs.Prelude.{◌≡◌, ℕ, ◌+◌, ◌*◌, ◌/◌, ◌%◌, ◌^◌, ◌<◌, ◌≤◌, ◌==◌, ◌&&◌, ◌||◌, MatchOption, not};
 ghost use Rattle.worm_vcalloc.specs.Arbiter.{line_requests};
 ghost use Rattle.worm_vcalloc.specs.ChannelSet.{has, IsPut, IsFirst};
 
@@ -86,6 +86,15 @@ impl ChannelSet {
         }
     }
 
+    /// The channels that are in either set.
+    pub fn union(&self, other: &ChannelSet) -> ChannelSet
+        ensures { (p c : ℕ) → has result p c ≡ (has self.now p c || has other.now p c) }
+    {
+        ChannelSet {
+            bits: self.bits | other.bits,
+        }
+    }
+
     /// The channels that are in this set and not in the other.
     pub fn difference(&self, other: &ChannelSet) -> ChannelSet
         ensures { (p c : ℕ) → p < 7 → c < 8 → has result p c ≡ (has self.now p c && not (has other.now p c)) }
@@ -153,5 +162,7 @@ mod tests {
         assert_eq!(rt; some.row(2, 3), 0b100);
         assert_eq!(rt; some.intersection(&other).lines(3, 2), 0b000100);
         assert_eq!(rt; some.difference(&other).lines(3, 2), 0b000010);
+        other.put(2, 1, true);
+        assert_eq!(rt; some.union(&other).lines(3, 2), 0b100110);
     }
 }
