@@ -1,5 +1,5 @@
 -- Lemmas on a pass of the switch allocator.
-use Rattle.std.proofs.Common.{◌≡◌, ℕ, ◌+◌, ◌<◌, ◌≤◌, Bool, true, false, List, [], Option, Some, None, is_some, refl, sym, ap, ◌∙◌, arith, slice_index_or, slice_set, length, inl, inr, ltb, cond, replicate, ◌&&◌, bit_or, ◌^◌, subst, get_or-set_same, get_or-set_other}
+use Rattle.std.proofs.Common.{◌≡◌, ℕ, ◌+◌, ◌<◌, ◌≤◌, ◌==◌, Bool, true, false, List, [], Option, Some, None, IfSome, is_some, refl, sym, ap, ◌∙◌, arith, slice_index_or, slice_set, length, inl, inr, ltb, cond, replicate, ◌&&◌, bit_or, ◌^◌, subst, get_or-set_same, get_or-set_other}
 use Rattle.std.specs.Option.{option_map}
 use Rattle.std.proofs.lemmas.Bool.{cases_eq, cases_lt, cases_Bool, lt-ltb, le-ltb, ltb-true, eqb-true, eq-eqb, ne_eqb, and_parts, and_from, and_right, true≢false}
 use Rattle.std.proofs.lemmas.List.{length-set, ext_get_or, get_or-replicate, length-replicate, get_or_past, get_or_default}
@@ -10,7 +10,7 @@ use Rattle.worm_vcalloc.specs.Table.{cell}
 use Rattle.worm_vcalloc.proofs.ArbiterLemmas.{winner_same, winner_none, winner_requests, winner_none_requests}
 use Rattle.worm_swalloc.specs.declared.grant.SwGrant.{SwGrant}
 use Rattle.worm_swalloc.specs.Front.{with_front}
-use Rattle.worm_swalloc.specs.SwAlloc.{SwAllocState, IsSwAlloc, IsSwitchMatching, request_of, named_channel, named, all_named, is_for, chosen, with_choice, is_line, if_chosen, granted, sw_grants, sw_after, output_after, input_after}
+use Rattle.worm_swalloc.specs.SwAlloc.{SwAllocState, IsSwAlloc, IsSwitchMatching, AreChannelsBelow, ArePortLines, request_of, named_channel, named, all_named, is_for, chosen, with_choice, is_line, if_chosen, granted, sw_grants, sw_after, output_after, input_after, channel_of, with_move, after_grant}
 use Rattle.worm_swalloc.proofs.FrontLemmas.{with_front_zero, slice_set-with_front, with_front_more, length-with_front, slice_index_or-with_front_below, slice_index_or-with_front_past, with_front_same, with_front_kept}
 
 -- the winner among lines that stand for a test
@@ -48,46 +48,96 @@ pub choice_is : (s : SwAllocState) (requests grants : List (Option SwGrant)) (ou
     → ((line : ℕ) → line < s.ports → line_requests lines line ≡ is_for (slice_index_or requests line None) out)
     → w ≡ winner (slice_index_or s.outputs out d) (line_requests lines) → new ≡ after_pick (slice_index_or s.outputs out d) w
     → (with_choice grants requests w ≡ with_choice grants requests (chosen s requests out))
-    × (◌≡◌ {A = SwAllocState} (record s { outputs = slice_set s.outputs out new }) (record s { outputs = slice_set s.outputs out (output_after s requests out) }))
+    × (◌≡◌ {A = SwAllocState} (record s { inputs = with_move s.inputs requests w; outputs = slice_set s.outputs out new })
+    (record s { inputs = with_move s.inputs requests (chosen s requests out); outputs = slice_set s.outputs out (output_after s requests out) }))
 choice_is s requests grants out lines d new w r lo within same won moved =
     let choice = chosen_is s requests out lines d w r lo within same won in (
       ap (with_choice grants requests) choice,
-      ap (λ a. record s { outputs = slice_set s.outputs out a }) (moved_is s.outputs out d new w (chosen s requests out) within choice moved),
+      ap (λ a. record s { inputs = with_move s.inputs requests w; outputs = slice_set s.outputs out a }) (moved_is s.outputs out d new w (chosen s requests out) within choice moved)
+          ∙ ap (λ v. record s { inputs = with_move s.inputs requests v; outputs = slice_set s.outputs out (output_after s requests out) }) choice,
     )
 
 -- ---- the lines of the output arbiters
 
--- the requests of the input ports below n, by output port
-abbrev pub GatheredBelow : List (Option SwGrant) → ℕ → List ℕ → Type 0
-GatheredBelow requests n lines = (out : ℕ) → out < 7 → LinesBelow (λ line. is_for (slice_index_or requests line None) out) n (slice_index_or lines out 0)
+-- the lines of the input ports below n, by the output port that each requests
+abbrev pub GatheredBelow : (ℕ → Option SwGrant) → ℕ → List ℕ → Type 0
+GatheredBelow request n lines = (out : ℕ) → out < 7 → LinesBelow (λ line. is_for (request line) out) n (slice_index_or lines out 0)
 
-pub gathered_none : (requests : List (Option SwGrant)) → GatheredBelow requests 0 (replicate 7 0)
-gathered_none requests out l =
-    subst (LinesBelow (λ line. is_for (slice_index_or requests line None) out) 0) (sym (get_or-replicate 7 out 0 0 l)) (lines_none (λ line. is_for (slice_index_or requests line None) out))
+pub gathered_none : (request : ℕ → Option SwGrant) (lines : List ℕ) → lines ≡ replicate 7 0 → GatheredBelow request 0 lines
+gathered_none request lines e out l =
+    subst (LinesBelow (λ line. is_for (request line) out) 0) (sym (ap (λ xs. slice_index_or xs out 0) e ∙ get_or-replicate 7 out 0 0 l)) (lines_none (λ line. is_for (request line) out))
 
-pub gathered_more : (requests : List (Option SwGrant)) (n : ℕ) (lines next : List ℕ) → GatheredBelow requests n lines → n < 7
-    → ((out : ℕ) → out < 7 → slice_index_or next out 0 ≡ cond (is_for (slice_index_or requests n None) out) (bit_or (slice_index_or lines out 0) (2 ^ n)) (slice_index_or lines out 0))
-    → GatheredBelow requests (n + 1) next
-gathered_more requests n lines next b few e out l =
-    elim (cases_Bool (is_for (slice_index_or requests n None) out)) [
+-- an input port that requests an output port
+pub gathered_more : (request : ℕ → Option SwGrant) (n : ℕ) (g : SwGrant) (lines next : List ℕ) → GatheredBelow request n lines → n < 7 → request n ≡ Some g
+    → ((out : ℕ) → out < 7 → slice_index_or next out 0 ≡ cond (g.out == out) (bit_or (slice_index_or lines out 0) (2 ^ n)) (slice_index_or lines out 0))
+    → GatheredBelow request (n + 1) next
+gathered_more request n g lines next b few is e out l =
+    elim (cases_Bool (g.out == out)) [
       | inl t ↦
           line_set_at _ n (n + 1) (slice_index_or lines out 0) (slice_index_or next out 0) (b out l) refl
-          (e out l ∙ ap (λ t. cond t (bit_or (slice_index_or lines out 0) (2 ^ n)) (slice_index_or lines out 0)) t ∙ ap (bit_or (slice_index_or lines out 0)) (sym (one_shl n 64 (omega arith)))) (omega arith) t
+          (e out l ∙ ap (λ t. cond t (bit_or (slice_index_or lines out 0) (2 ^ n)) (slice_index_or lines out 0)) t ∙ ap (bit_or (slice_index_or lines out 0)) (sym (one_shl n 64 (omega arith)))) (omega arith)
+          (ap (λ o. is_for o out) is ∙ t)
       | inr f ↦
           line_unset_at _ n (n + 1) (slice_index_or lines out 0) (slice_index_or next out 0) (b out l) refl
-          (e out l ∙ ap (λ t. cond t (bit_or (slice_index_or lines out 0) (2 ^ n)) (slice_index_or lines out 0)) f) f
+          (e out l ∙ ap (λ t. cond t (bit_or (slice_index_or lines out 0) (2 ^ n)) (slice_index_or lines out 0)) f) (ap (λ o. is_for o out) is ∙ f)
     ]
+
+-- an input port that requests none
+pub gathered_other : (request : ℕ → Option SwGrant) (n : ℕ) (lines next : List ℕ) → GatheredBelow request n lines → request n ≡ None → next ≡ lines → GatheredBelow request (n + 1) next
+gathered_other request n lines next b none e out l =
+    line_unset_at _ n (n + 1) (slice_index_or lines out 0) (slice_index_or next out 0) (b out l) refl (ap (λ xs. slice_index_or xs out 0) e) (ap (λ o. is_for o out) none)
+
+-- the input ports below n have been asked
+pub record AskedBelow (request : ℕ → Option SwGrant) (n : ℕ) (requests : List (Option SwGrant)) (lines : List ℕ) : Type 0 where
+  pub requests_are : requests ≡ with_front n request (replicate 7 None)
+  pub lines_are : GatheredBelow request n lines
+
+pub asked_all : (request : ℕ → Option SwGrant) (n : ℕ) (requests : List (Option SwGrant)) (lines : List ℕ) → AskedBelow request n requests lines → ArePortLines requests n lines
+asked_all request n requests lines b = record {
+  few = λ out l. (b.lines_are out l).few;
+  lines = λ out line l below. (b.lines_are out l).lines line below
+      ∙ ap (λ o. is_for o out) (sym (ap (λ xs. slice_index_or xs line None) b.requests_are ∙ slice_index_or-with_front_below n line request (replicate 7 None) None below));
+}
+
+pub asked_none : (request : ℕ → Option SwGrant) (requests : List (Option SwGrant)) (lines : List ℕ) → requests ≡ replicate 7 None → lines ≡ replicate 7 0 → AskedBelow request 0 requests lines
+asked_none request requests lines e e' = record {
+  requests_are = e ∙ sym (with_front_zero request (replicate 7 None));
+  lines_are = gathered_none request lines e';
+}
+
+-- one more, that requests an output port
+pub asked_more : (request : ℕ → Option SwGrant) (n : ℕ) (g : SwGrant) (requests requests' : List (Option SwGrant)) (lines lines' : List ℕ) → AskedBelow request n requests lines → n < 7 → request n ≡ Some g
+    → requests' ≡ slice_set requests n (Some g)
+    → ((out : ℕ) → out < 7 → slice_index_or lines' out 0 ≡ cond (g.out == out) (bit_or (slice_index_or lines out 0) (2 ^ n)) (slice_index_or lines out 0))
+    → AskedBelow request (n + 1) requests' lines'
+asked_more request n g requests requests' lines lines' b few is e e' = record {
+  requests_are = e
+      ∙ ap (λ xs. slice_set xs n (Some g)) b.requests_are
+      ∙ ap (slice_set (with_front n request (replicate 7 None)) n) (sym is)
+      ∙ slice_set-with_front n request (replicate 7 None) None few;
+  lines_are = gathered_more request n g lines lines' b.lines_are few is e';
+}
+
+-- one more, that requests none
+pub asked_other : (request : ℕ → Option SwGrant) (n : ℕ) (requests requests' : List (Option SwGrant)) (lines lines' : List ℕ) → AskedBelow request n requests lines → n < 7 → request n ≡ None
+    → requests' ≡ requests → lines' ≡ lines → AskedBelow request (n + 1) requests' lines'
+asked_other request n requests requests' lines lines' b few none e e' = record {
+  requests_are = e ∙ b.requests_are ∙ with_front_more n request (replicate 7 None) None few (get_or-replicate 7 n None None few ∙ sym none);
+  lines_are = gathered_other request n lines lines' b.lines_are none e';
+}
 
 -- ---- the output arbiters
 
--- the allocator once the output ports below n have chosen
-abbrev pub after_choices : SwAllocState → List (Option SwGrant) → ℕ → SwAllocState
-after_choices s requests n = record s { outputs = with_front n (output_after s requests) s.outputs }
-
--- the output ports below n have chosen
+-- the output ports below n have chosen, and the input ports that they chose have moved
 pub record ChosenBelow (s : SwAllocState) (requests : List (Option SwGrant)) (n : ℕ) (now : SwAllocState) (grants : List (Option SwGrant)) : Type 0 where
-  pub state : now ≡ after_choices s requests n
+  pub state : now ≡ record s { inputs = with_front s.ports (after_grant s grants) s.inputs; outputs = with_front n (output_after s requests) s.outputs }
   pub grants_are : grants ≡ with_front s.ports (granted s requests n) (replicate 7 None)
+
+get_or-replicate_same : {X : Type 0} (n i : ℕ) (x : X) → slice_index_or (replicate n x) i x ≡ x
+get_or-replicate_same n i x = elim (cases_lt i n) [
+  | inl within ↦ get_or-replicate n i x x within
+  | inr past ↦ get_or_past (replicate n x) i x (let e = length-replicate n x in omega arith)
+]
 
 -- a request keeps its state where output port n does not choose its input port
 if_chosen_same : (s : SwAllocState) (requests : List (Option SwGrant)) (n port : ℕ) (o : Option SwGrant)
@@ -150,16 +200,70 @@ choice_granted s requests n few wide low (Some q) e =
           ]
     ])
 
+-- an input port that an output port has yet to choose has no grant
+not_yet : (s : SwAllocState) (requests : List (Option SwGrant)) (n port : ℕ) (o : Option SwGrant) → is_for o n ≡ true → if_chosen s requests n port o ≡ None
+not_yet s requests n port None e = refl
+not_yet s requests n port (Some g) e =
+    let same : g.out ≡ n = eqb-true g.out n e in
+    ap (λ b. cond (b && is_line (chosen s requests g.out) port) (Some g) None) (le-ltb g.out n (omega arith))
+
+-- the input arbiters once output port n has chosen too
+choice_moved : (s : SwAllocState) (requests grants : List (Option SwGrant)) (n : ℕ) → s.ports ≤ 7 → s.ports ≤ length s.inputs
+    → (slice_index_or s.outputs n no_arbiter).width ≡ s.ports → (slice_index_or s.outputs n no_arbiter).pointer < s.ports
+    → grants ≡ with_front s.ports (granted s requests n) (replicate 7 None)
+    → (w : Option ℕ) → chosen s requests n ≡ w
+    → with_move (with_front s.ports (after_grant s grants) s.inputs) requests w ≡ with_front s.ports (after_grant s (with_choice grants requests w)) s.inputs
+choice_moved s requests grants n few long wide low are None e = refl
+choice_moved s requests grants n few long wide low are (Some q) e =
+    let won = winner_requests (slice_index_or s.outputs n no_arbiter) (λ port. is_for (slice_index_or requests port None) n) q (omega arith) e in
+    let lq : q < s.ports = omega (arith, won.0) in
+    let many : length grants ≡ 7 = ap length are ∙ length-with_front s.ports (granted s requests n) (replicate 7 None) few in
+    let none : slice_index_or grants q None ≡ None =
+    ap (λ xs. slice_index_or xs q None) are
+    ∙ slice_index_or-with_front_below s.ports q (granted s requests n) (replicate 7 None) None lq
+    ∙ not_yet s requests n q (slice_index_or requests q None) won.1 in
+    let before : List ArbiterState = with_front s.ports (after_grant s grants) s.inputs in
+    let grants' : List (Option SwGrant) = slice_set grants q (slice_index_or requests q None) in
+    let after : List ArbiterState = with_front s.ports (after_grant s grants') s.inputs in
+    let still : slice_index_or before q no_arbiter ≡ slice_index_or s.inputs q no_arbiter =
+    slice_index_or-with_front_below s.ports q (after_grant s grants) s.inputs no_arbiter lq
+    ∙ ap (λ o. after_pick (slice_index_or s.inputs q no_arbiter) (channel_of o)) none in
+    let moved : ArbiterState = after_pick (slice_index_or before q no_arbiter) (channel_of (slice_index_or requests q None)) in
+    let long_before : length before ≡ length s.inputs = length-with_front s.ports (after_grant s grants) s.inputs long in
+    let long_after : length after ≡ length s.inputs = length-with_front s.ports (after_grant s grants') s.inputs long in
+    ext_get_or no_arbiter (slice_set before q moved) after (length-set before q moved ∙ long_before ∙ sym long_after)
+    (λ i _. elim (cases_eq i q) [
+      | inl here ↦
+          ap (λ k. slice_index_or (slice_set before q moved) k no_arbiter) here
+          ∙ get_or-set_same before q moved no_arbiter (omega arith)
+          ∙ ap (λ a. after_pick a (channel_of (slice_index_or requests q None))) still
+          ∙ ap (λ o. after_pick (slice_index_or s.inputs q no_arbiter) (channel_of o)) (sym (get_or-set_same grants q (slice_index_or requests q None) None (omega arith)))
+          ∙ sym (slice_index_or-with_front_below s.ports q (after_grant s grants') s.inputs no_arbiter lq)
+          ∙ ap (λ k. slice_index_or after k no_arbiter) (sym here)
+      | inr other ↦
+          get_or-set_other before q i moved no_arbiter other
+          ∙ elim (cases_lt i s.ports) [
+            | inl below ↦
+                slice_index_or-with_front_below s.ports i (after_grant s grants) s.inputs no_arbiter below
+                ∙ ap (λ o. after_pick (slice_index_or s.inputs i no_arbiter) (channel_of o)) (sym (get_or-set_other grants q i (slice_index_or requests q None) None other))
+                ∙ sym (slice_index_or-with_front_below s.ports i (after_grant s grants') s.inputs no_arbiter below)
+            | inr past ↦
+                slice_index_or-with_front_past s.ports i (after_grant s grants) s.inputs no_arbiter past
+                ∙ sym (slice_index_or-with_front_past s.ports i (after_grant s grants') s.inputs no_arbiter past)
+          ]
+    ])
+
 -- before the first choice
-pub chosen_none : (s : SwAllocState) (requests : List (Option SwGrant)) → s.ports ≤ 7 → ChosenBelow s requests 0 s (replicate 7 None)
-chosen_none s requests few = record {
-  state = ap (λ o. record s { outputs = o }) (sym (with_front_zero (output_after s requests) s.outputs));
-  grants_are =
-      ext_get_or None (replicate 7 None) (with_front s.ports (granted s requests 0) (replicate 7 None)) (sym (length-with_front s.ports (granted s requests 0) (replicate 7 None) few))
-      (λ i l. elim (cases_lt i s.ports) [
-        | inl below ↦ get_or-replicate 7 i None None l ∙ none_below i (slice_index_or requests i None) ∙ sym (slice_index_or-with_front_below s.ports i (granted s requests 0) (replicate 7 None) None below)
-        | inr past ↦ sym (slice_index_or-with_front_past s.ports i (granted s requests 0) (replicate 7 None) None past)
-      ]);
+pub chosen_none : (s : SwAllocState) (requests grants : List (Option SwGrant)) → s.ports ≤ 7 → s.ports ≤ length s.inputs → grants ≡ replicate 7 None → ChosenBelow s requests 0 s grants
+chosen_none s requests grants few long e = record {
+  state =
+      ap (λ i. record s { inputs = i })
+      (sym (with_front_kept s.ports (after_grant s grants) s.inputs no_arbiter long
+      (λ i l. ap (λ o. after_pick (slice_index_or s.inputs i no_arbiter) (channel_of o)) (ap (λ xs. slice_index_or xs i None) e ∙ get_or-replicate_same 7 i None))))
+      ∙ ap (λ o. record s { inputs = with_front s.ports (after_grant s grants) s.inputs; outputs = o }) (sym (with_front_zero (output_after s requests) s.outputs));
+  grants_are = e
+      ∙ sym (with_front_kept s.ports (granted s requests 0) (replicate 7 None) None few
+      (λ i l. sym (none_below i (slice_index_or requests i None)) ∙ sym (get_or-replicate_same 7 i None)));
 } where
   none_below : (i : ℕ) (o : Option SwGrant) → None ≡ if_chosen s requests 0 i o
   none_below i None = refl
@@ -167,12 +271,12 @@ chosen_none s requests few = record {
 
 -- one more choice
 pub chosen_more : (s : SwAllocState) (requests : List (Option SwGrant)) (n : ℕ) (now next : SwAllocState) (grants grants' : List (Option SwGrant))
-    → ChosenBelow s requests n now grants → s.ports ≤ 7 → n < length s.outputs
+    → ChosenBelow s requests n now grants → s.ports ≤ 7 → s.ports ≤ length s.inputs → n < length s.outputs
     → (slice_index_or s.outputs n no_arbiter).width ≡ s.ports → (slice_index_or s.outputs n no_arbiter).pointer < s.ports
     → grants' ≡ with_choice grants requests (chosen now requests n)
-    → next ≡ record now { outputs = slice_set now.outputs n (output_after now requests n) }
+    → next ≡ record now { inputs = with_move now.inputs requests (chosen now requests n); outputs = slice_set now.outputs n (output_after now requests n) }
     → ChosenBelow s requests (n + 1) next grants'
-chosen_more s requests n now next grants grants' b few within wide low g e =
+chosen_more s requests n now next grants grants' b few long within wide low g e =
     let same : slice_index_or (with_front n (output_after s requests) s.outputs) n no_arbiter ≡ slice_index_or s.outputs n no_arbiter
     = slice_index_or-with_front_past n n (output_after s requests) s.outputs no_arbiter (omega arith) in
     let choice : chosen now requests n ≡ chosen s requests n =
@@ -181,52 +285,21 @@ chosen_more s requests n now next grants grants' b few within wide low g e =
     ap (λ (t : SwAllocState). after_pick (slice_index_or t.outputs n no_arbiter) (chosen now requests n)) b.state
     ∙ ap (λ a. after_pick a (chosen now requests n)) same
     ∙ ap (after_pick (slice_index_or s.outputs n no_arbiter)) choice in
+    let granted_now : grants' ≡ with_choice grants requests (chosen s requests n) = g ∙ ap (λ w. with_choice grants requests w) choice in
     record {
       state = e
-          ∙ ap (λ a. record now { outputs = slice_set now.outputs n a }) moved
-          ∙ ap (λ (t : SwAllocState). record t { outputs = slice_set t.outputs n (output_after s requests n) }) b.state
-          ∙ ap (λ o. record s { outputs = o }) (slice_set-with_front n (output_after s requests) s.outputs no_arbiter within);
-      grants_are = g
-          ∙ ap (λ w. with_choice grants requests w) choice
+          ∙ ap (λ w. record now { inputs = with_move now.inputs requests w; outputs = slice_set now.outputs n (output_after now requests n) }) choice
+          ∙ ap (λ a. record now { inputs = with_move now.inputs requests (chosen s requests n); outputs = slice_set now.outputs n a }) moved
+          ∙ ap (λ (t : SwAllocState). record t { inputs = with_move t.inputs requests (chosen s requests n); outputs = slice_set t.outputs n (output_after s requests n) }) b.state
+          ∙ ap (λ o. record s { inputs = with_move (with_front s.ports (after_grant s grants) s.inputs) requests (chosen s requests n); outputs = o })
+          (slice_set-with_front n (output_after s requests) s.outputs no_arbiter within)
+          ∙ ap (λ i. record s { inputs = i; outputs = with_front (n + 1) (output_after s requests) s.outputs })
+          (choice_moved s requests grants n few long wide low b.grants_are (chosen s requests n) refl
+          ∙ ap (λ r. with_front s.ports (after_grant s r) s.inputs) (sym granted_now));
+      grants_are = granted_now
           ∙ ap (λ r. with_choice r requests (chosen s requests n)) b.grants_are
           ∙ choice_granted s requests n few wide low (chosen s requests n) refl;
     }
-
--- ---- the input arbiters
-
--- the allocator once the granted input ports below n have moved
-abbrev pub committed : SwAllocState → List (List (Option ℕ)) → List (Option SwGrant) → ℕ → SwAllocState
-committed s ready grants n = record s { inputs = with_front n (input_after s ready grants) s.inputs }
-
-pub committed_none : (s : SwAllocState) (ready : List (List (Option ℕ))) (grants : List (Option SwGrant)) → s ≡ committed s ready grants 0
-committed_none s ready grants = ap (λ i. record s { inputs = i }) (sym (with_front_zero (input_after s ready grants) s.inputs))
-
--- a granted input port moves
-pub committed_granted : (s : SwAllocState) (ready : List (List (Option ℕ))) (grants : List (Option SwGrant)) (n : ℕ) (now next : SwAllocState)
-    → now ≡ committed s ready grants n → n < length s.inputs → is_some (slice_index_or grants n None) ≡ true
-    → next ≡ record now { inputs = slice_set now.inputs n (after_pick (slice_index_or now.inputs n no_arbiter) (named_channel now ready n)) }
-    → next ≡ committed s ready grants (n + 1)
-committed_granted s ready grants n now next is within some e =
-    let same : slice_index_or (with_front n (input_after s ready grants) s.inputs) n no_arbiter ≡ slice_index_or s.inputs n no_arbiter
-    = slice_index_or-with_front_past n n (input_after s ready grants) s.inputs no_arbiter (omega arith) in
-    let asks : ℕ → Bool = λ vc. is_some (cell ready n vc None) in
-    e
-    ∙ ap (λ (t : SwAllocState). record t { inputs = slice_set t.inputs n (after_pick (slice_index_or t.inputs n no_arbiter) (winner (slice_index_or t.inputs n no_arbiter) asks)) }) is
-    ∙ ap (λ a. record s { inputs = slice_set (with_front n (input_after s ready grants) s.inputs) n (after_pick a (winner a asks)) }) same
-    ∙ ap (λ a. record s { inputs = slice_set (with_front n (input_after s ready grants) s.inputs) n a })
-    (sym (ap (λ b. cond b (after_pick (slice_index_or s.inputs n no_arbiter) (named_channel s ready n)) (slice_index_or s.inputs n no_arbiter)) some))
-    ∙ ap (λ i. record s { inputs = i }) (slice_set-with_front n (input_after s ready grants) s.inputs no_arbiter within)
-
--- another input port stays
-pub committed_other : (s : SwAllocState) (ready : List (List (Option ℕ))) (grants : List (Option SwGrant)) (n : ℕ) (now next : SwAllocState)
-    → now ≡ committed s ready grants n → n < length s.inputs → is_some (slice_index_or grants n None) ≡ false
-    → next ≡ now
-    → next ≡ committed s ready grants (n + 1)
-committed_other s ready grants n now next is within none e =
-    e ∙ is
-    ∙ ap (λ i. record s { inputs = i })
-    (with_front_more n (input_after s ready grants) s.inputs no_arbiter within
-    (sym (ap (λ b. cond b (after_pick (slice_index_or s.inputs n no_arbiter) (named_channel s ready n)) (slice_index_or s.inputs n no_arbiter)) none)))
 
 -- ---- the matching
 
@@ -261,12 +334,6 @@ request_parts row (Some v) g e = go (slice_index_or row v None) refl where
       let ev : v ≡ g.vc = ap (λ x. x.vc) hg in
       let eo : out ≡ g.out = ap (λ x. x.out) hg in
       (ap Some ev, ap (λ k. slice_index_or row k None) (sym ev) ∙ n ∙ ap Some eo)
-
-get_or-replicate_same : {X : Type 0} (n i : ℕ) (x : X) → slice_index_or (replicate n x) i x ≡ x
-get_or-replicate_same n i x = elim (cases_lt i n) [
-  | inl within ↦ get_or-replicate n i x x within
-  | inr past ↦ get_or_past (replicate n x) i x (let e = length-replicate n x in omega arith)
-]
 
 -- a grant is that of a port that is there
 grant_within : (s : SwAllocState) (requests : List (Option SwGrant)) (port : ℕ) (g : SwGrant)
@@ -330,6 +397,51 @@ matching s ready r = record {
                   ∙ ap (λ b. cond b (Some g') None) (and_from (ltb g'.out s.ports) (is_line (chosen s (all_named s ready) g'.out) q) (lt-ltb g'.out s.ports (omega arith)) here),
               same,
             )
+
+-- a named channel is one of the port's
+pub named_within : (s : SwAllocState) (ready : List (List (Option ℕ))) (requests : List (Option SwGrant)) → IsSwAlloc s.ports s.channels s.inputs s.outputs
+    → requests ≡ all_named s ready → AreChannelsBelow s.channels requests
+named_within s ready requests r e port = subst (λ o. IfSome o (λ g. g.vc < s.channels)) (ap (λ xs. slice_index_or xs port None) (sym e)) (go (slice_index_or (all_named s ready) port None) refl) where
+  go : (o : Option SwGrant) → slice_index_or (all_named s ready) port None ≡ o → IfSome o (λ g. g.vc < s.channels)
+  go None n = tt
+  go (Some g) n = elim (cases_lt port s.ports) [
+    | inl below ↦
+        let few = r.few_ports in
+        let is_named : named s ready port ≡ Some g = sym (slice_index_or-with_front_below s.ports port (named s ready) (replicate 7 None) None below) ∙ n in
+        let q = request_parts (slice_index_or ready port []) (named_channel s ready port) g is_named in
+        let wide : (slice_index_or s.inputs port no_arbiter).width ≡ s.channels = r.input_width port (omega arith) in
+        let low : (slice_index_or s.inputs port no_arbiter).pointer < s.channels = r.input_pointer port (omega arith) in
+        let v = winner_requests (slice_index_or s.inputs port no_arbiter) (λ vc. is_some (cell ready port vc None)) g.vc (omega arith) q.0 in
+        omega (arith, v.0)
+    | inr past ↦
+        let no : None ≡ Some g = sym (get_or-replicate_same 7 port None) ∙ sym (slice_index_or-with_front_past s.ports port (named s ready) (replicate 7 None) None past) ∙ n in
+        absurd (cc)
+  ]
+
+-- the allocator after a pass, as the code leaves it
+pub pass_is : (s now : SwAllocState) (ready : List (List (Option ℕ))) (requests grants : List (Option SwGrant)) → s.ports ≤ length s.inputs
+    → requests ≡ all_named s ready → grants ≡ sw_grants s ready
+    → now ≡ record s { inputs = with_front s.ports (after_grant s grants) s.inputs; outputs = with_front s.ports (output_after s requests) s.outputs }
+    → now ≡ sw_after s ready
+pass_is s now ready requests grants long are_named are_granted e =
+    e
+    ∙ ap (λ r. record s { inputs = with_front s.ports (after_grant s grants) s.inputs; outputs = with_front s.ports (output_after s r) s.outputs }) are_named
+    ∙ ap (λ i. record s { inputs = i; outputs = with_front s.ports (output_after s (all_named s ready)) s.outputs })
+    (ap (λ r. with_front s.ports (after_grant s r) s.inputs) are_granted
+    ∙ with_front_same s.ports (after_grant s (sw_grants s ready)) (input_after s ready (sw_grants s ready)) s.inputs no_arbiter long
+    (λ i l. moved i (slice_index_or (sw_grants s ready) i None) refl)) where
+      moved : (i : ℕ) (o : Option SwGrant) → slice_index_or (sw_grants s ready) i None ≡ o → after_grant s (sw_grants s ready) i ≡ input_after s ready (sw_grants s ready) i
+      moved i None n =
+          ap (λ o. after_pick (slice_index_or s.inputs i no_arbiter) (channel_of o)) n
+          ∙ sym (ap (λ o. cond (is_some o) (after_pick (slice_index_or s.inputs i no_arbiter) (named_channel s ready i)) (slice_index_or s.inputs i no_arbiter)) n)
+      moved i (Some g) n =
+          let w = grant_within s (all_named s ready) i g n in
+          let p = granted_parts s (all_named s ready) s.ports i (slice_index_or (all_named s ready) i None) g w.1 in
+          let is_named : named s ready i ≡ Some g = sym (slice_index_or-with_front_below s.ports i (named s ready) (replicate 7 None) None w.0) ∙ p.0 in
+          let q = request_parts (slice_index_or ready i []) (named_channel s ready i) g is_named in
+          ap (λ o. after_pick (slice_index_or s.inputs i no_arbiter) (channel_of o)) n
+          ∙ ap (after_pick (slice_index_or s.inputs i no_arbiter)) (sym q.0)
+          ∙ sym (ap (λ o. cond (is_some o) (after_pick (slice_index_or s.inputs i no_arbiter) (named_channel s ready i)) (slice_index_or s.inputs i no_arbiter)) n)
 
 -- ---- where nothing is ready
 
