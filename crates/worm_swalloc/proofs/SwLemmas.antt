@@ -1,17 +1,24 @@
 -- Lemmas on a pass of the switch allocator.
-use Rattle.std.proofs.Common.{◌≡◌, ℕ, ◌+◌, ◌<◌, ◌≤◌, ◌==◌, Bool, true, false, List, [], Option, Some, None, IfSome, is_some, refl, sym, ap, ◌∙◌, arith, slice_index_or, slice_set, length, inl, inr, ltb, cond, replicate, ◌&&◌, bit_or, ◌^◌, subst, get_or-set_same, get_or-set_other}
+use Rattle.std.proofs.Common.{◌≡◌, ℕ, ◌+◌, ◌-◌, zero, suc, ◌<◌, ◌≤◌, Bool, true, false, List, [], Option, Some, None, IfSome, is_some, refl, sym, ap, ◌∙◌, arith, slice_index_or, slice_set, length, inl, inr, ltb, cond, replicate, ◌&&◌, subst, get_or-set_same, get_or-set_other}
 use Rattle.std.specs.Option.{option_map}
 use Rattle.std.proofs.lemmas.Bool.{cases_eq, cases_lt, cases_Bool, lt-ltb, le-ltb, ltb-true, eqb-true, eq-eqb, ne_eqb, and_parts, and_from, and_right, true≢false}
 use Rattle.std.proofs.lemmas.List.{length-set, ext_get_or, get_or-replicate, length-replicate, get_or_past, get_or_default}
-use Rattle.std.proofs.lemmas.Nat.{one_shl}
-use Rattle.worm_vcalloc.proofs.LineLemmas.{LinesBelow, lines_none, line_set_at, line_unset_at}
+use Rattle.worm_vcalloc.specs.ChannelSet.{has, IsPut, IsFirstPort}
+use Rattle.worm_vcalloc.proofs.SetLemmas.{has-zero}
+use Rattle.worm_vcalloc.proofs.PassLemmas.{none_where_not_some}
 use Rattle.worm_vcalloc.specs.Arbiter.{ArbiterState, no_arbiter, winner, after_pick, line_requests}
 use Rattle.worm_vcalloc.specs.Table.{cell}
 use Rattle.worm_vcalloc.proofs.ArbiterLemmas.{winner_same, winner_none, winner_requests, winner_none_requests}
 use Rattle.worm_swalloc.specs.declared.grant.SwGrant.{SwGrant}
 use Rattle.worm_swalloc.specs.Front.{with_front}
-use Rattle.worm_swalloc.specs.SwAlloc.{SwAllocState, IsSwAlloc, IsSwitchMatching, AreChannelsBelow, ArePortLines, request_of, named_channel, named, all_named, is_for, chosen, with_choice, is_line, if_chosen, granted, sw_grants, sw_after, output_after, input_after, channel_of, with_move, after_grant}
-use Rattle.worm_swalloc.proofs.FrontLemmas.{with_front_zero, slice_set-with_front, with_front_more, length-with_front, slice_index_or-with_front_below, slice_index_or-with_front_past, with_front_same, with_front_kept}
+use Rattle.worm_swalloc.specs.SwAlloc.{SwAllocState, IsSwAlloc, IsSwitchMatching, AreChannelsBelow, AreAskers, request_of, named_channel, named, all_named, is_for, chosen, with_choice, is_line, if_chosen, granted, sw_grants, sw_after, output_after, input_after, channel_of, with_move, after_grant}
+use Rattle.worm_swalloc.proofs.FrontLemmas.{with_front_zero, slice_set-with_front, with_front_more, length-with_front, slice_index_or-with_front_below, slice_index_or-with_front_past, with_front_same, with_front_kept, with_front_skip}
+
+get_or-replicate_same : {X : Type 0} (n i : ℕ) (x : X) → slice_index_or (replicate n x) i x ≡ x
+get_or-replicate_same n i x = elim (cases_lt i n) [
+  | inl within ↦ get_or-replicate n i x x within
+  | inr past ↦ get_or_past (replicate n x) i x (let e = length-replicate n x in omega arith)
+]
 
 -- the winner among lines that stand for a test
 pub winner_of_lines : (a : ArbiterState) (width lines : ℕ) (asks : ℕ → Bool) → a.width ≡ width → a.pointer < width
@@ -57,74 +64,144 @@ choice_is s requests grants out lines d new w r lo within same won moved =
           ∙ ap (λ v. record s { inputs = with_move s.inputs requests v; outputs = slice_set s.outputs out (output_after s requests out) }) choice,
     )
 
--- ---- the lines of the output arbiters
+-- ---- a walk over the ports of a set
 
--- the lines of the input ports below n, by the output port that each requests
-abbrev pub GatheredBelow : (ℕ → Option SwGrant) → ℕ → List ℕ → Type 0
-GatheredBelow request n lines = (out : ℕ) → out < 7 → LinesBelow (λ line. is_for (request line) out) n (slice_index_or lines out 0)
+-- the ports below n have come out of the set, and those from n on are in it as at first
+pub record IsWalked (all left n ports : ℕ) : Type 0 where
+  pub few : n ≤ ports
+  pub gone : (p c : ℕ) → p < n → c < 8 → has left p c ≡ false
+  pub kept : (p c : ℕ) → n ≤ p → p < ports → c < 8 → has left p c ≡ has all p c
 
-pub gathered_none : (request : ℕ → Option SwGrant) (lines : List ℕ) → lines ≡ replicate 7 0 → GatheredBelow request 0 lines
-gathered_none request lines e out l =
-    subst (LinesBelow (λ line. is_for (request line) out) 0) (sym (ap (λ xs. slice_index_or xs out 0) e ∙ get_or-replicate 7 out 0 0 l)) (lines_none (λ line. is_for (request line) out))
+pub walked_start : (all ports : ℕ) → IsWalked all all 0 ports
+walked_start all ports = record { few = omega arith; gone = λ p c l _. absurd (omega arith); kept = λ p c _ _ _. refl }
 
--- an input port that requests an output port
-pub gathered_more : (request : ℕ → Option SwGrant) (n : ℕ) (g : SwGrant) (lines next : List ℕ) → GatheredBelow request n lines → n < 7 → request n ≡ Some g
-    → ((out : ℕ) → out < 7 → slice_index_or next out 0 ≡ cond (g.out == out) (bit_or (slice_index_or lines out 0) (2 ^ n)) (slice_index_or lines out 0))
-    → GatheredBelow request (n + 1) next
-gathered_more request n g lines next b few is e out l =
-    elim (cases_Bool (g.out == out)) [
-      | inl t ↦
-          line_set_at _ n (n + 1) (slice_index_or lines out 0) (slice_index_or next out 0) (b out l) refl
-          (e out l ∙ ap (λ t. cond t (bit_or (slice_index_or lines out 0) (2 ^ n)) (slice_index_or lines out 0)) t ∙ ap (bit_or (slice_index_or lines out 0)) (sym (one_shl n 64 (omega arith)))) (omega arith)
-          (ap (λ o. is_for o out) is ∙ t)
-      | inr f ↦
-          line_unset_at _ n (n + 1) (slice_index_or lines out 0) (slice_index_or next out 0) (b out l) refl
-          (e out l ∙ ap (λ t. cond t (bit_or (slice_index_or lines out 0) (2 ^ n)) (slice_index_or lines out 0)) f) (ap (λ o. is_for o out) is ∙ f)
+-- the next port is none of those
+pub walked_from : (all left left' n ports port : ℕ) → IsWalked all left n ports → IsFirstPort left left' port → n ≤ port
+walked_from all left left' n ports port w f = elim (cases_lt port n) [
+  | inl below ↦ absurd (true≢false (sym f.some_in.2 ∙ w.gone port f.some_in.0 below f.some_in.1))
+  | inr above ↦ above
+]
+
+-- the ports that it passes over have nothing in the set
+pub walked_over : (all left left' n ports port p c : ℕ) → IsWalked all left n ports → IsFirstPort left left' port → n ≤ p → p < port → p < ports → c < 8 → has all p c ≡ false
+walked_over all left left' n ports port p c w f from below within lc = sym (w.kept p c from within lc) ∙ f.none_before p c below lc
+
+-- after it
+pub walked_more : (all left left' n ports port : ℕ) → IsWalked all left n ports → IsFirstPort left left' port → port < ports → ports ≤ 7 → IsWalked all left' (port + 1) ports
+walked_more all left left' n ports port w f within few =
+    let from = walked_from all left left' n ports port w f in
+    record {
+      few = omega arith;
+      gone = λ p c l lc. elim (cases_eq p port) [
+        | inl same ↦ ap (λ k. has left' k c) same ∙ f.taken c lc
+        | inr other ↦ f.elsewhere p c (omega arith) lc other ∙ f.none_before p c (omega arith) lc
+      ];
+      kept = λ p c l l' lc. f.elsewhere p c (omega arith) lc (λ e. absurd (omega arith)) ∙ w.kept p c (omega arith) l' lc;
+    }
+
+-- and in the end none is left
+pub walked_all : (all left n ports p c : ℕ) → IsWalked all left n ports → left ≡ 0 → n ≤ p → p < ports → c < 8 → has all p c ≡ false
+walked_all all left n ports p c w e from within lc = sym (w.kept p c from within lc) ∙ ap (λ s. has s p c) e ∙ has-zero p c
+
+-- ---- the requests
+
+-- where no channel of an input port is ready, it names none
+named_unready : (s : SwAllocState) (ready : List (List (Option ℕ))) (port : ℕ) → IsSwAlloc s.ports s.channels s.inputs s.outputs → port < s.ports
+    → ((v : ℕ) → v < 8 → cell ready port v None ≡ None) → named s ready port ≡ None
+named_unready s ready port r lp none =
+    let few = r.few_ports in
+    let few' = r.few_channels in
+    let wide = r.input_width port (omega arith) in
+    let low = r.input_pointer port (omega arith) in
+    ap (request_of (slice_index_or ready port []))
+    (winner_none (slice_index_or s.inputs port no_arbiter) (λ vc. is_some (cell ready port vc None)) (omega arith) (λ vc l. ap is_some (none vc (omega arith))))
+
+-- the input ports below n have been asked, where n is as far as the walk has come
+pub record AskedBelow (s : SwAllocState) (ready : List (List (Option ℕ))) (keys left : ℕ) (requests : List (Option SwGrant)) (askers : ℕ) : Type 0 where
+  pub next : ℕ
+  pub walked : IsWalked keys left next s.ports
+  pub requests_are : requests ≡ with_front next (named s ready) (replicate 7 None)
+  pub askers_are : AreAskers requests askers
+
+-- no input port asks
+pub askers_none : (requests : List (Option SwGrant)) (askers : ℕ) → requests ≡ replicate 7 None → askers ≡ 0 → AreAskers requests askers
+askers_none requests askers e e' out port _ _ =
+    ap (λ n. has n out port) e' ∙ has-zero out port ∙ sym (ap (λ o. is_for o out) (ap (λ xs. slice_index_or xs port None) e ∙ get_or-replicate_same 7 port None))
+
+-- one more asks
+pub askers_more : (requests : List (Option SwGrant)) (askers askers' port : ℕ) (g : SwGrant) → port < length requests → slice_index_or requests port None ≡ None
+    → AreAskers requests askers → IsPut askers askers' g.out port true → AreAskers (slice_set requests port (Some g)) askers'
+askers_more requests askers askers' port g within none b put out p lo lp =
+    elim (cases_eq p port) [
+      | inl same ↦
+          (elim (cases_eq out g.out) [
+            | inl here ↦ ap (λ k. has askers' k p) here ∙ ap (has askers' g.out) same ∙ put.here ∙ sym (eq-eqb g.out out (sym here))
+            | inr there ↦
+                put.elsewhere out p lo lp (λ e _. there e) ∙ b out p lo lp
+                ∙ ap (λ k. is_for (slice_index_or requests k None) out) same ∙ ap (λ o. is_for o out) none ∙ sym (ne_eqb g.out out (λ e. there (sym e)))
+          ])
+          ∙ sym (ap (λ o. is_for o out) (ap (λ k. slice_index_or (slice_set requests port (Some g)) k None) same ∙ get_or-set_same requests port (Some g) None within))
+      | inr other ↦ put.elsewhere out p lo lp (λ _ e. other e) ∙ b out p lo lp ∙ ap (λ o. is_for o out) (sym (get_or-set_other requests port p (Some g) None other))
     ]
 
--- an input port that requests none
-pub gathered_other : (request : ℕ → Option SwGrant) (n : ℕ) (lines next : List ℕ) → GatheredBelow request n lines → request n ≡ None → next ≡ lines → GatheredBelow request (n + 1) next
-gathered_other request n lines next b none e out l =
-    line_unset_at _ n (n + 1) (slice_index_or lines out 0) (slice_index_or next out 0) (b out l) refl (ap (λ xs. slice_index_or xs out 0) e) (ap (λ o. is_for o out) none)
+-- the requests as far as the next port that has a ready channel
+asked_to : (s : SwAllocState) (ready : List (List (Option ℕ))) (keys left n m : ℕ) → IsSwAlloc s.ports s.channels s.inputs s.outputs → n ≤ m → m ≤ s.ports
+    → ((p v : ℕ) → p < 7 → v < 8 → has keys p v ≡ is_some (cell ready p v None))
+    → ((p v : ℕ) → n ≤ p → p < m → v < 8 → has keys p v ≡ false)
+    → with_front n (named s ready) (replicate 7 None) ≡ with_front m (named s ready) (replicate 7 None)
+asked_to s ready keys left n m r from within keyed none =
+    let few = r.few_ports in
+    with_front_skip n m (named s ready) (replicate 7 None) None from (omega arith)
+    (λ i l l'.
+    named_unready s ready i r (omega arith) (λ v lv. none_where_not_some (cell ready i v None) (sym (keyed i v (omega arith) lv) ∙ none i v l l' lv))
+    ∙ sym (get_or-replicate_same 7 i None))
 
--- the input ports below n have been asked
-pub record AskedBelow (request : ℕ → Option SwGrant) (n : ℕ) (requests : List (Option SwGrant)) (lines : List ℕ) : Type 0 where
-  pub requests_are : requests ≡ with_front n request (replicate 7 None)
-  pub lines_are : GatheredBelow request n lines
-
-pub asked_all : (request : ℕ → Option SwGrant) (n : ℕ) (requests : List (Option SwGrant)) (lines : List ℕ) → AskedBelow request n requests lines → ArePortLines requests n lines
-asked_all request n requests lines b = record {
-  few = λ out l. (b.lines_are out l).few;
-  lines = λ out line l below. (b.lines_are out l).lines line below
-      ∙ ap (λ o. is_for o out) (sym (ap (λ xs. slice_index_or xs line None) b.requests_are ∙ slice_index_or-with_front_below n line request (replicate 7 None) None below));
+pub asked_start : (s : SwAllocState) (ready : List (List (Option ℕ))) (keys : ℕ) (requests : List (Option SwGrant)) (askers : ℕ) → requests ≡ replicate 7 None → askers ≡ 0
+    → AskedBelow s ready keys keys requests askers
+asked_start s ready keys requests askers e e' = record {
+  next = 0;
+  walked = walked_start keys s.ports;
+  requests_are = e ∙ sym (with_front_zero (named s ready) (replicate 7 None));
+  askers_are = askers_none requests askers e e';
 }
 
-pub asked_none : (request : ℕ → Option SwGrant) (requests : List (Option SwGrant)) (lines : List ℕ) → requests ≡ replicate 7 None → lines ≡ replicate 7 0 → AskedBelow request 0 requests lines
-asked_none request requests lines e e' = record {
-  requests_are = e ∙ sym (with_front_zero request (replicate 7 None));
-  lines_are = gathered_none request lines e';
-}
+-- a port that has yet to be asked has no request
+pub not_asked : (s : SwAllocState) (ready : List (List (Option ℕ))) (keys left left' port : ℕ) (requests : List (Option SwGrant)) (askers : ℕ) → AskedBelow s ready keys left requests askers → IsFirstPort left left' port
+    → slice_index_or requests port None ≡ None
+not_asked s ready keys left left' port requests askers b f =
+    let from = walked_from keys left left' b.next s.ports port b.walked f in
+    ap (λ xs. slice_index_or xs port None) b.requests_are
+    ∙ slice_index_or-with_front_past b.next port (named s ready) (replicate 7 None) None from
+    ∙ get_or-replicate_same 7 port None
 
--- one more, that requests an output port
-pub asked_more : (request : ℕ → Option SwGrant) (n : ℕ) (g : SwGrant) (requests requests' : List (Option SwGrant)) (lines lines' : List ℕ) → AskedBelow request n requests lines → n < 7 → request n ≡ Some g
-    → requests' ≡ slice_set requests n (Some g)
-    → ((out : ℕ) → out < 7 → slice_index_or lines' out 0 ≡ cond (g.out == out) (bit_or (slice_index_or lines out 0) (2 ^ n)) (slice_index_or lines out 0))
-    → AskedBelow request (n + 1) requests' lines'
-asked_more request n g requests requests' lines lines' b few is e e' = record {
-  requests_are = e
-      ∙ ap (λ xs. slice_set xs n (Some g)) b.requests_are
-      ∙ ap (slice_set (with_front n request (replicate 7 None)) n) (sym is)
-      ∙ slice_set-with_front n request (replicate 7 None) None few;
-  lines_are = gathered_more request n g lines lines' b.lines_are few is e';
-}
+-- the next port has been asked
+pub asked_more : (s : SwAllocState) (ready : List (List (Option ℕ))) (keys left left' port : ℕ) (requests requests' : List (Option SwGrant)) (askers askers' : ℕ)
+    → IsSwAlloc s.ports s.channels s.inputs s.outputs
+    → ((p v : ℕ) → p < 7 → v < 8 → has keys p v ≡ is_some (cell ready p v None))
+    → AskedBelow s ready keys left requests askers → IsFirstPort left left' port → port < s.ports
+    → requests' ≡ slice_set requests port (named s ready port) → AreAskers requests' askers'
+    → AskedBelow s ready keys left' requests' askers'
+asked_more s ready keys left left' port requests requests' askers askers' r keyed b f within e e' =
+    let few = r.few_ports in
+    let from = walked_from keys left left' b.next s.ports port b.walked f in
+    record {
+      next = port + 1;
+      walked = walked_more keys left left' b.next s.ports port b.walked f within few;
+      requests_are = e
+          ∙ ap (λ xs. slice_set xs port (named s ready port))
+          (b.requests_are ∙ asked_to s ready keys left b.next port r from (omega arith) keyed (λ p v l l' lv. walked_over keys left left' b.next s.ports port p v b.walked f l l' (omega arith) lv))
+          ∙ slice_set-with_front port (named s ready) (replicate 7 None) None (omega arith);
+      askers_are = e';
+    }
 
--- one more, that requests none
-pub asked_other : (request : ℕ → Option SwGrant) (n : ℕ) (requests requests' : List (Option SwGrant)) (lines lines' : List ℕ) → AskedBelow request n requests lines → n < 7 → request n ≡ None
-    → requests' ≡ requests → lines' ≡ lines → AskedBelow request (n + 1) requests' lines'
-asked_other request n requests requests' lines lines' b few none e e' = record {
-  requests_are = e ∙ b.requests_are ∙ with_front_more n request (replicate 7 None) None few (get_or-replicate 7 n None None few ∙ sym none);
-  lines_are = gathered_other request n lines lines' b.lines_are none e';
-}
+-- all have been asked
+pub asked_all : (s : SwAllocState) (ready : List (List (Option ℕ))) (keys left : ℕ) (requests : List (Option SwGrant)) (askers : ℕ)
+    → IsSwAlloc s.ports s.channels s.inputs s.outputs
+    → ((p v : ℕ) → p < 7 → v < 8 → has keys p v ≡ is_some (cell ready p v None))
+    → AskedBelow s ready keys left requests askers → left ≡ 0 → requests ≡ all_named s ready
+asked_all s ready keys left requests askers r keyed b e =
+    let few = b.walked.few in
+    b.requests_are ∙ asked_to s ready keys left b.next s.ports r few (omega arith) keyed (λ p v l l' lv. walked_all keys left b.next s.ports p v b.walked e l l' lv)
 
 -- ---- the output arbiters
 
@@ -132,12 +209,6 @@ asked_other request n requests requests' lines lines' b few none e e' = record {
 pub record ChosenBelow (s : SwAllocState) (requests : List (Option SwGrant)) (n : ℕ) (now : SwAllocState) (grants : List (Option SwGrant)) : Type 0 where
   pub state : now ≡ record s { inputs = with_front s.ports (after_grant s grants) s.inputs; outputs = with_front n (output_after s requests) s.outputs }
   pub grants_are : grants ≡ with_front s.ports (granted s requests n) (replicate 7 None)
-
-get_or-replicate_same : {X : Type 0} (n i : ℕ) (x : X) → slice_index_or (replicate n x) i x ≡ x
-get_or-replicate_same n i x = elim (cases_lt i n) [
-  | inl within ↦ get_or-replicate n i x x within
-  | inr past ↦ get_or_past (replicate n x) i x (let e = length-replicate n x in omega arith)
-]
 
 -- a request keeps its state where output port n does not choose its input port
 if_chosen_same : (s : SwAllocState) (requests : List (Option SwGrant)) (n port : ℕ) (o : Option SwGrant)
@@ -301,6 +372,86 @@ chosen_more s requests n now next grants grants' b few long within wide low g e 
           ∙ choice_granted s requests n few wide low (chosen s requests n) refl;
     }
 
+-- output port n has no choice where nobody asks for it
+chosen_pass : (s : SwAllocState) (requests : List (Option SwGrant)) (n : ℕ) (now : SwAllocState) (grants : List (Option SwGrant))
+    → ChosenBelow s requests n now grants → s.ports ≤ 7 → n < length s.outputs
+    → (slice_index_or s.outputs n no_arbiter).width ≡ s.ports → (slice_index_or s.outputs n no_arbiter).pointer < s.ports
+    → chosen s requests n ≡ None
+    → ChosenBelow s requests (n + 1) now grants
+chosen_pass s requests n now grants b few within wide low none = record {
+  state = b.state
+      ∙ ap (λ o. record s { inputs = with_front s.ports (after_grant s grants) s.inputs; outputs = o })
+      (with_front_more n (output_after s requests) s.outputs no_arbiter within (sym (ap (after_pick (slice_index_or s.outputs n no_arbiter)) none)));
+  grants_are = b.grants_are ∙ choice_granted s requests n few wide low None none;
+}
+
+-- the output ports that nobody asks for are passed over
+chosen_to : (s : SwAllocState) (requests : List (Option SwGrant)) (askers n k : ℕ) (now : SwAllocState) (grants : List (Option SwGrant))
+    → IsSwAlloc s.ports s.channels s.inputs s.outputs → s.ports ≤ length s.outputs → AreAskers requests askers → n + k ≤ s.ports
+    → ((o p : ℕ) → n ≤ o → o < n + k → p < 8 → has askers o p ≡ false)
+    → ChosenBelow s requests n now grants → ChosenBelow s requests (n + k) now grants
+chosen_to s requests askers n zero now grants r long are within none b = subst (λ m. ChosenBelow s requests m now grants) (omega arith) b
+chosen_to s requests askers n (suc k) now grants r long are within none b =
+    let few = r.few_ports in
+    let at : n + k < s.ports = omega arith in
+    let wide = r.output_width (n + k) (omega arith) in
+    let low = r.output_pointer (n + k) (omega arith) in
+    subst (λ m. ChosenBelow s requests m now grants) (omega arith)
+    (chosen_pass s requests (n + k) now grants (chosen_to s requests askers n k now grants r long are (omega arith) (λ o p l l' lp. none o p l (omega arith) lp) b) few (omega arith) wide low
+    (winner_none (slice_index_or s.outputs (n + k) no_arbiter) (λ port. is_for (slice_index_or requests port None) (n + k)) (omega arith)
+    (λ port l. sym (are (n + k) port (omega arith) (omega arith)) ∙ none (n + k) port (omega arith) (omega arith) (omega arith))))
+
+-- the output ports below n have chosen, where n is as far as the walk has come
+pub record ChoosingBelow (s : SwAllocState) (requests : List (Option SwGrant)) (askers left : ℕ) (now : SwAllocState) (grants : List (Option SwGrant)) : Type 0 where
+  pub next : ℕ
+  pub walked : IsWalked askers left next s.ports
+  pub chosen_are : ChosenBelow s requests next now grants
+
+pub choosing_start : (s : SwAllocState) (requests grants : List (Option SwGrant)) (askers : ℕ) → s.ports ≤ 7 → s.ports ≤ length s.inputs → grants ≡ replicate 7 None
+    → ChoosingBelow s requests askers askers s grants
+choosing_start s requests grants askers few long e = record { next = 0; walked = walked_start askers s.ports; chosen_are = chosen_none s requests grants few long e }
+
+-- the allocator keeps its size in the meantime
+pub choosing_size : (s : SwAllocState) (requests : List (Option SwGrant)) (askers left : ℕ) (now : SwAllocState) (grants : List (Option SwGrant)) → ChoosingBelow s requests askers left now grants
+    → (now.ports ≡ s.ports) × (now.channels ≡ s.channels)
+choosing_size s requests askers left now grants b = (ap (λ (t : SwAllocState). t.ports) b.chosen_are.state, ap (λ (t : SwAllocState). t.channels) b.chosen_are.state)
+
+-- the next output port has chosen
+pub choosing_more : (s : SwAllocState) (requests : List (Option SwGrant)) (askers left left' out : ℕ) (now next : SwAllocState) (grants grants' : List (Option SwGrant))
+    → IsSwAlloc s.ports s.channels s.inputs s.outputs → s.ports ≤ length s.inputs → s.ports ≤ length s.outputs → AreAskers requests askers
+    → ChoosingBelow s requests askers left now grants → IsFirstPort left left' out → out < s.ports
+    → grants' ≡ with_choice grants requests (chosen now requests out)
+    → next ≡ record now { inputs = with_move now.inputs requests (chosen now requests out); outputs = slice_set now.outputs out (output_after now requests out) }
+    → ChoosingBelow s requests askers left' next grants'
+choosing_more s requests askers left left' out now next grants grants' r long long' are b f within g e =
+    let few = r.few_ports in
+    let from = walked_from askers left left' b.next s.ports out b.walked f in
+    let gap : b.next + (out - b.next) ≡ out = omega arith in
+    let here : ChosenBelow s requests out now grants =
+    subst (λ m. ChosenBelow s requests m now grants) gap
+    (chosen_to s requests askers b.next (out - b.next) now grants r long' are (omega arith) (λ o p l l' lp. walked_over askers left left' b.next s.ports out o p b.walked f l (omega arith) (omega arith) lp) b.chosen_are) in
+    record {
+      next = out + 1;
+      walked = walked_more askers left left' b.next s.ports out b.walked f within few;
+      chosen_are = chosen_more s requests out now next grants grants' here few long (omega arith) (r.output_width out (omega arith)) (r.output_pointer out (omega arith)) g e;
+    }
+
+-- as far as the last output port
+choosing_end : (s : SwAllocState) (requests : List (Option SwGrant)) (askers n : ℕ) (now : SwAllocState) (grants : List (Option SwGrant))
+    → IsSwAlloc s.ports s.channels s.inputs s.outputs → s.ports ≤ length s.outputs → AreAskers requests askers → n ≤ s.ports
+    → ((o p : ℕ) → n ≤ o → o < s.ports → p < 8 → has askers o p ≡ false)
+    → ChosenBelow s requests n now grants → ChosenBelow s requests s.ports now grants
+choosing_end s requests askers n now grants r long are few none b =
+    let gap : n + (s.ports - n) ≡ s.ports = omega arith in
+    subst (λ m. ChosenBelow s requests m now grants) gap (chosen_to s requests askers n (s.ports - n) now grants r long are (omega arith) (λ o p l l' lp. none o p l (omega arith) lp) b)
+
+-- all have chosen
+pub choosing_all : (s : SwAllocState) (requests : List (Option SwGrant)) (askers left : ℕ) (now : SwAllocState) (grants : List (Option SwGrant))
+    → IsSwAlloc s.ports s.channels s.inputs s.outputs → s.ports ≤ length s.outputs → AreAskers requests askers
+    → ChoosingBelow s requests askers left now grants → left ≡ 0 → ChosenBelow s requests s.ports now grants
+choosing_all s requests askers left now grants r long are b e =
+    choosing_end s requests askers b.next now grants r long are b.walked.few (λ o p l l' lp. walked_all askers left b.next s.ports o p b.walked e l l' lp) b.chosen_are
+
 -- ---- the matching
 
 granted_parts : (s : SwAllocState) (requests : List (Option SwGrant)) (n port : ℕ) (o : Option SwGrant) (g : SwGrant)
@@ -445,22 +596,11 @@ pass_is s now ready requests grants long are_named are_granted e =
 
 -- ---- where nothing is ready
 
--- no input port names a channel
-named_none : (s : SwAllocState) (ready : List (List (Option ℕ))) → IsSwAlloc s.ports s.channels s.inputs s.outputs → ((p v : ℕ) → p < 7 → v < 8 → cell ready p v None ≡ None)
-    → (port : ℕ) → port < s.ports → named s ready port ≡ None
-named_none s ready r none port lp =
-    let few = r.few_ports in
-    let few' = r.few_channels in
-    let wide = r.input_width port (omega arith) in
-    let low = r.input_pointer port (omega arith) in
-    ap (request_of (slice_index_or ready port []))
-    (winner_none (slice_index_or s.inputs port no_arbiter) (λ vc. is_some (cell ready port vc None)) (omega arith) (λ vc l. ap is_some (none port vc (omega arith) (omega arith))))
-
 all_named_none : (s : SwAllocState) (ready : List (List (Option ℕ))) → IsSwAlloc s.ports s.channels s.inputs s.outputs → ((p v : ℕ) → p < 7 → v < 8 → cell ready p v None ≡ None)
     → all_named s ready ≡ replicate 7 None
 all_named_none s ready r none =
     with_front_kept s.ports (named s ready) (replicate 7 None) None r.few_ports
-    (λ i l. named_none s ready r none i l ∙ sym (get_or-replicate_same 7 i None))
+    (λ i l. let few = r.few_ports in named_unready s ready i r l (λ v lv. none i v (omega arith) lv) ∙ sym (get_or-replicate_same 7 i None))
 
 -- nothing is granted
 pub sw_grants_none : (s : SwAllocState) (ready : List (List (Option ℕ))) → IsSwAlloc s.ports s.channels s.inputs s.outputs → ((p v : ℕ) → p < 7 → v < 8 → cell ready p v None ≡ None)

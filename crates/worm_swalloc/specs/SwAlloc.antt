@@ -1,7 +1,8 @@
 -- One pass of switch allocation, separable and input first (Dally and Towles, chapter 19).
-use Rattle.std.specs.Prelude.{◌≡◌, ℕ, ◌<◌, ◌≤◌, ◌^◌, ◌==◌, ◌&&◌, nat_lt, Bool, false, if◌then◌else◌, List, [], Option, Some, None, IfSome, is_some, replicate, slice_index_or, slice_set}
+use Rattle.std.specs.Prelude.{◌≡◌, ℕ, ◌<◌, ◌≤◌, ◌==◌, ◌&&◌, nat_lt, Bool, false, if◌then◌else◌, List, [], Option, Some, None, IfSome, is_some, replicate, slice_index_or, slice_set}
 use Rattle.std.specs.Option.{option_map}
-use Rattle.worm_vcalloc.specs.Arbiter.{ArbiterState, no_arbiter, winner, after_pick, line_requests}
+use Rattle.worm_vcalloc.specs.Arbiter.{ArbiterState, no_arbiter, winner, after_pick}
+use Rattle.worm_vcalloc.specs.ChannelSet.{has}
 use Rattle.worm_vcalloc.specs.Table.{cell}
 use Rattle.worm_swalloc.specs.Front.{with_front}
 use Rattle.worm_swalloc.specs.declared.grant.SwGrant.{SwGrant}
@@ -72,10 +73,9 @@ after_grant s grants port = after_pick (slice_index_or s.inputs port no_arbiter)
 abbrev pub AreChannelsBelow : ℕ → List (Option SwGrant) → Type 0
 AreChannelsBelow n requests = (port : ℕ) → IfSome (slice_index_or requests port None) (λ g. g.vc < n)
 
--- the lines by output port: bit `port` of each is 1 where that input port, below n, requests it
-pub record ArePortLines (requests : List (Option SwGrant)) (n : ℕ) (by_port : List ℕ) : Type 0 where
-  pub few : (out : ℕ) → out < 7 → slice_index_or by_port out 0 < 2 ^ n
-  pub lines : (out line : ℕ) → out < 7 → line < n → line_requests (slice_index_or by_port out 0) line ≡ is_for (slice_index_or requests line None) out
+-- the input ports that ask for each output port, as a set of its channels
+abbrev pub AreAskers : List (Option SwGrant) → ℕ → Type 0
+AreAskers requests askers = (out port : ℕ) → out < 7 → port < 8 → has askers out port ≡ is_for (slice_index_or requests port None) out
 
 -- whether the choice is this port
 abbrev pub is_line : Option ℕ → ℕ → Bool

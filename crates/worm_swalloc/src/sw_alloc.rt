@@ -1,12 +1,12 @@
-ghost use Rattle.std.specs.Prelude.{◌≡◌, ℕ, ◌+◌, ◌^◌, ◌<◌, ◌≤◌, ◌==◌, IfSome, None, bit_or, if◌then◌else◌, is_some, replicate, slice_index_or, slice_set};
+ghost use Rattle.std.specs.Prelude.{◌≡◌, ℕ, ◌+◌, ◌^◌, ◌<◌, ◌≤◌, IfSome, None, is_some, replicate, slice_index_or, slice_set};
 ghost use Rattle.worm_vcalloc.specs.Arbiter.{no_arbiter, line_requests, winner, after_pick};
 ghost use Rattle.worm_vcalloc.specs.Table.{cell};
 ghost use Rattle.worm_swalloc.specs.Front.{with_front};
-ghost use Rattle.worm_swalloc.specs.SwAlloc.{SwAllocState, IsSwAlloc, IsSwitchMatching, AreChannelsBelow, ArePortLines, request_of, named, all_named, is_for, channel_of, chosen, granted, sw_grants, sw_after, output_after, after_grant, with_choice, with_move};
+ghost use Rattle.worm_swalloc.specs.SwAlloc.{SwAllocState, IsSwAlloc, IsSwitchMatching, AreChannelsBelow, AreAskers, request_of, named, all_named, is_for, channel_of, chosen, granted, sw_grants, sw_after, output_after, after_grant, with_choice, with_move};
 
 use crate::grant::{ReadyOuts, SwGrant, SwGrants};
 use std::marker::Model;
-use worm_vcalloc::Arbiter;
+use worm_vcalloc::{Arbiter, ChannelSet};
 
 /// The allocator of the switch, separable and input first (Dally and Towles, chapter 19).
 ///
@@ -69,25 +69,44 @@ impl SwAlloc {
             return grants;
         }
         let mut requests = [None; 7];
-        let mut lines = [0; 7];
-        self.gather(ready, &mut requests, &mut lines);
-        self.choose(&requests, &lines, &mut grants);
+        let mut askers = ChannelSet::new();
+        self.gather(ready, &mut requests, &mut askers);
+        self.choose(&requests, &askers, &mut grants);
         grants
     }
 
-    /// Gathers what each input port names, and the lines of the input ports that request each output port.
-    fn gather(&self, ready: &ReadyOuts, requests: &mut SwGrants, lines: &mut [u64; 7])
+    /// Gathers what each input port names, and for each output port the input ports that ask for it.
+    fn gather(&self, ready: &ReadyOuts, requests: &mut SwGrants, askers: &mut ChannelSet)
         requires requests { requests.old ≡ replicate 7 None }
-        requires lines { lines.old ≡ replicate 7 0 }
+        requires askers { askers.old ≡ 0 }
         ensures named { requests.new ≡ all_named self.now ready.now }
-        ensures lines { ArePortLines requests.new self.now.ports lines.new }
+        ensures askers { AreAskers requests.new askers.new }
         ensures ready { IsSwAlloc self.now.ports self.now.channels self.now.inputs self.now.outputs }
     {
-        for port in 0..self.ports {
-            if let Some(request) = self.request(port, ready) {
-                requests[port as usize] = Some(request);
-                add_line(lines, request.out, port);
+        let ports = self.ports;
+        let mut left = ready.keys();
+        while let Some(port) = left.pop_port() {
+            if port < ports {
+                self.ask(port, ready, requests, askers);
             }
+        }
+    }
+
+    /// Adds what one input port names.
+    fn ask(&self, port: u8, ready: &ReadyOuts, requests: &mut SwGrants, askers: &mut ChannelSet)
+        requires port { port < self.now.ports }
+        requires few { port < 7 }
+        requires none { slice_index_or requests.old port None ≡ None }
+        requires askers { AreAskers requests.old askers.old }
+        ensures named { requests.new ≡ slice_set requests.old port (named self.now ready.now port) }
+        ensures askers { AreAskers requests.new askers.new }
+    {
+        let Some(request) = self.request(port, ready) else {
+            return;
+        };
+        requests[port as usize] = Some(request);
+        if request.out < 7 {
+            askers.put(request.out, port, true);
         }
     }
 
@@ -101,16 +120,20 @@ impl SwAlloc {
         ready.get(port, vc).map(|out| SwGrant { vc, out })
     }
 
-    /// The arbiter of each output port chooses among the requests.
-    fn choose(&mut self, requests: &SwGrants, lines: &[u64; 7], grants: &mut SwGrants)
+    /// The arbiter of each output port that is asked for chooses among its requests.
+    fn choose(&mut self, requests: &SwGrants, askers: &ChannelSet, grants: &mut SwGrants)
         requires grants { grants.old ≡ replicate 7 None }
         requires channels { AreChannelsBelow self.old.channels requests.now }
-        requires lines { ArePortLines requests.now self.old.ports lines.now }
+        requires askers { AreAskers requests.now askers.now }
         ensures grants { grants.new ≡ with_front self.old.ports (granted self.old requests.now self.old.ports) (replicate 7 None) }
         ensures after { self.new ≡ record self.old { inputs = with_front self.old.ports (after_grant self.old grants.new) self.old.inputs; outputs = with_front self.old.ports (output_after self.old requests.now) self.old.outputs } }
     {
-        for out in 0..self.ports {
-            self.choose_for(out, lines[out as usize], requests, grants);
+        let ports = self.ports;
+        let mut left = *askers;
+        while let Some(out) = left.pop_port() {
+            if out < ports {
+                self.choose_for(out, askers.row(out, ports), requests, grants);
+            }
         }
     }
 
@@ -149,16 +172,6 @@ fn ready_lines(ready: &ReadyOuts, port: u8, channels: u8) -> u64
     ensures lines { (line : ℕ) → line < channels → line_requests result line ≡ is_some (cell ready.now port line None) }
 {
     ready.keys().row(port, channels)
-}
-
-/// Adds an input port to the lines of the output port that it requests.
-fn add_line(lines: &mut [u64; 7], requested: u8, port: u8)
-    requires { port < 7 }
-    ensures { (out : ℕ) → out < 7 → slice_index_or lines.new out 0 ≡ (if requested == out then bit_or (slice_index_or lines.old out 0) (2 ^ port) else slice_index_or lines.old out 0) }
-{
-    if requested < 7 {
-        lines[requested as usize] |= 1 << port;
-    }
 }
 
 #[cfg(test)]

@@ -1,28 +1,25 @@
-use Rattle.std.proofs.Common.{◌≡◌, ◌<◌, arith, sym, ◌∙◌, ap, subst, slice_index_or}
-use Rattle.worm_swalloc.specs.SwAlloc.{ArePortLines, named}
-use Rattle.worm_swalloc.proofs.SwLemmas.{asked_none, asked_more, asked_other, asked_all}
+use Rattle.worm_swalloc.specs.SwAlloc.{SwAllocState}
+use Rattle.worm_swalloc.proofs.SwLemmas.{AskedBelow, asked_start, asked_more, asked_all, not_asked}
 use Rattle.worm_swalloc.proofs.sw_alloc.SwAlloc.gather.Goals as goal
-use Rattle.worm_swalloc.proofs.sw_alloc.SwAlloc.gather.Goals.{in-Some, in_default}
 
 pub loop-port-init : goal.loop-port-init
-loop-port-init c = asked_none (named c.args.self.now c.args.ready.now) c.args.requests.now c.args.lines.now c.requires.requests c.requires.lines
+loop-port-init c = asked_start c.args.self.now c.args.ready.now c.keys-left.result c.args.requests.now c.args.askers.now c.requires.requests c.requires.askers
 
-pub loop-port-preserved : goal.loop-port-preserved
-loop-port-preserved c =
-    let few = c.self.invariant.few_ports in
-    let within : c.loop-port.port < 7 = omega arith in
-    elim c.match-request.branch [
-      | in-Some w ↦
-          asked_more (named c.args.self.now c.args.ready.now) c.loop-port.port w.in-Some.request c.loop-port.requests c.match-request.requests c.loop-port.lines c.match-request.lines c.loop-port.invariant within
-          (sym c.request.ensures ∙ w.in-Some.is) w.requests-is (λ out l. ap (λ xs. slice_index_or xs out 0) w.lines-is ∙ w.add_line.ensures out l)
-      | in_default w ↦
-          asked_other (named c.args.self.now c.args.ready.now) c.loop-port.port c.loop-port.requests c.match-request.requests c.loop-port.lines c.match-request.lines c.loop-port.invariant within
-          (sym c.request.ensures ∙ w.in_default.is) w.requests-is w.lines-is
-    ]
+pub ask-requires-clause-none : goal.ask-requires-clause-none
+ask-requires-clause-none c =
+    not_asked c.args.self.now c.args.ready.now c.keys-left.result c.loop-port.left c.pop_port.new.self c.in-Some.port c.loop-port.requests c.loop-port.askers c.loop-port.invariant c.in-Some.ensures
 
-pub returns-clause-lines : goal.returns-clause-lines
-returns-clause-lines c =
-    let last : c.loop-port.port ≡ c.self.inside.ports = omega arith in
-    let ports : c.loop-port.port ≡ c.args.self.now.ports = last ∙ ap (λ s. s.ports) c.self.view_is in
-    subst (λ n. ArePortLines c.loop-port.requests n c.loop-port.lines) ports
-    (asked_all (named c.args.self.now c.args.ready.now) c.loop-port.port c.loop-port.requests c.loop-port.lines c.loop-port.invariant)
+pub loop-port-preserved-then-port-ports : goal.loop-port-preserved-then-port-ports
+loop-port-preserved-then-port-ports c =
+    let s : SwAllocState = record { ports = c.self.inside.ports; channels = c.self.inside.channels; inputs = c.self.inside.inputs; outputs = c.self.inside.outputs } in
+    let b : AskedBelow s c.args.ready.now c.keys-left.result c.loop-port.left c.loop-port.requests c.loop-port.askers = rw (← c.self.view_is) at c.loop-port.invariant in
+    rw (← c.self.view_is)
+    (asked_more s c.args.ready.now c.keys-left.result c.loop-port.left c.pop_port.new.self c.in-Some.port c.loop-port.requests c.ask.new.requests c.loop-port.askers c.ask.new.askers
+    c.self.invariant c.keys-left.ensures b c.in-Some.ensures c.if-port-ports.true (rw (← c.self.view_is) at c.ask.ensures.named) c.ask.ensures.askers)
+
+pub returns-clause-named : goal.returns-clause-named
+returns-clause-named c =
+    let s : SwAllocState = record { ports = c.self.inside.ports; channels = c.self.inside.channels; inputs = c.self.inside.inputs; outputs = c.self.inside.outputs } in
+    let b : AskedBelow s c.args.ready.now c.keys-left.result c.loop-port.left c.loop-port.requests c.loop-port.askers = rw (← c.self.view_is) at c.loop-port.invariant in
+    rw (← c.self.view_is)
+    (asked_all s c.args.ready.now c.keys-left.result c.loop-port.left c.loop-port.requests c.loop-port.askers c.self.invariant c.keys-left.ensures b c.in_default.ensures.0)
