@@ -308,3 +308,19 @@ pub found_none : (states : List LinkView) (k i : ℕ) (read : LinkView) (some : 
 found_none states k i read some at_i there reads is off =
     let link : read ≡ get_or states k blank_link = reads ∙ (get_or_default states i read blank_link there ∙ ap (λ (v : ℕ). get_or states v blank_link) at_i) in
     ap (λ (s : LinkView). s.flits) (sym link) ∙ front_gone read.flits some is off
+
+-- nothing at the front of a list that brings nothing
+
+nothing_by : (mesh : List ℕ) (states : List LinkView) (p : ℕ) (n : Option ℕ) → IsSome n → flits_of states (option_map (λ y. links_before mesh y (opposite_of p)) n) ≡ [] → slice_get (get_or states (into_from mesh p n) blank_link).flits 0 ≡ None
+nothing_by mesh states p None some none = absurd (cc)
+nothing_by mesh states p (Some y) some none = rw none refl
+
+pub nothing_in : (l : LinksView) (x p : ℕ) → IsSome (neighbour_of l.mesh x p) → flits_to l x p ≡ [] → slice_get (state_at l (number_into l x p)).flits 0 ≡ None
+nothing_in l x p linked none = nothing_by l.mesh l.states p (neighbour_of l.mesh x p) linked none
+
+nothing_back : (mesh : List ℕ) (states : List LinkView) (x o : ℕ) (n : Option ℕ) → IsSome n → credits_of states (option_map (λ y. links_before mesh x o) n) ≡ [] → slice_get (get_or states (links_before mesh x o) blank_link).credits 0 ≡ None
+nothing_back mesh states x o None some none = absurd (cc)
+nothing_back mesh states x o (Some y) some none = rw none refl
+
+pub nothing_out : (l : LinksView) (x o : ℕ) → IsSome (neighbour_of l.mesh x o) → credits_to l x o ≡ [] → slice_get (state_at l (number_out l x o)).credits 0 ≡ None
+nothing_out l x o linked none = nothing_back l.mesh l.states x o (neighbour_of l.mesh x o) linked none
