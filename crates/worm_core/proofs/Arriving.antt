@@ -1,5 +1,5 @@
 -- What comes in at each node, after a write of one link.
-use Rattle.std.proofs.Common.{◌≡◌, ◌≢◌, ℕ, ◌+◌, ◌<◌, below_more, Bool, true, false, inl, inr, List, [], ◌∷◌, length, drop, get_or, set, Option, Some, None, refl, arith, ap, sym, subst, ◌∙◌}
+use Rattle.std.proofs.Common.{◌≡◌, ◌==◌, ◌≢◌, ℕ, ◌+◌, ◌*◌, ◌<◌, ◌≤◌, below_more, Bool, true, false, inl, inr, List, [], ◌∷◌, length, drop, get_or, set, Option, Some, None, refl, arith, ap, sym, subst, ◌∙◌}
 use Rattle.std.specs.Prelude.{IsTrue, not, option_map, IsSome, is_some, slice_get}
 use Rattle.std.proofs.lemmas.List.{get_or_default, get_or-set_other, get_or-set_same}
 use Rattle.worm_flit.specs.declared.Flit.{Flit}
@@ -15,6 +15,9 @@ use Rattle.worm_core.specs.Wiring.{out_link, in_link}
 use Rattle.worm_core.specs.Ports.{has, IsPut}
 use Rattle.worm_core.specs.Arrivals.{LinksView, KnowsArrivals, KnowsAll, credits_of, credits_to, flits_of, flits_to, no_arrivals, number_into, number_out, state_at, with_state}
 use Rattle.worm_core.specs.declared.links.Arrivals.{Arrivals}
+use Rattle.std.proofs.lemmas.Bool.{cases_lt}
+use Rattle.worm_core.proofs.PortSets.{has_none}
+use Rattle.worm_core.proofs.Wired.{in_none, out_none}
 
 -- Each link is that of one port
 
@@ -324,3 +327,25 @@ nothing_back mesh states x o (Some y) some none = rw none refl
 
 pub nothing_out : (l : LinksView) (x o : ℕ) → IsSome (neighbour_of l.mesh x o) → credits_to l x o ≡ [] → slice_get (state_at l (number_out l x o)).credits 0 ≡ None
 nothing_out l x o linked none = nothing_back l.mesh l.states x o (neighbour_of l.mesh x o) linked none
+
+-- nothing comes in by a port that is in no set, nor past the mesh ports
+
+pub quiet_flits : (l : LinksView) (kept : List Arrivals) (x i : ℕ) (d : Arrivals) → KnowsAll l kept → length kept ≡ 256 → x < 256 → i ≡ x → 2 * length l.mesh ≤ 6 → ((get_or kept i d).flits == 0) ≡ true → (p : ℕ) → flits_to l x p ≡ []
+quiet_flits l kept x i d knows all x_in at_i few none p = elim (cases_lt p 6) [
+  | inl mesh_port ↦
+      let entry : get_or kept i d ≡ get_or kept x no_arrivals = get_or_default kept i d no_arrivals (omega arith) ∙ ap (λ (v : ℕ). get_or kept v no_arrivals) at_i in
+      (knows x x_in).flits p mesh_port (ap (λ (a : Arrivals). has a.flits p) (sym entry) ∙ has_none (get_or kept i d).flits p none)
+  | inr past ↦ ap (λ (n : Option ℕ). flits_of l.states n) (in_none l.mesh x p (omega arith))
+]
+
+pub quiet_credits : (l : LinksView) (kept : List Arrivals) (x i : ℕ) (d : Arrivals) → KnowsAll l kept → length kept ≡ 256 → x < 256 → i ≡ x → 2 * length l.mesh ≤ 6 → ((get_or kept i d).credits == 0) ≡ true → (o : ℕ) → credits_to l x o ≡ []
+quiet_credits l kept x i d knows all x_in at_i few none o = elim (cases_lt o 6) [
+  | inl mesh_port ↦
+      let entry : get_or kept i d ≡ get_or kept x no_arrivals = get_or_default kept i d no_arrivals (omega arith) ∙ ap (λ (v : ℕ). get_or kept v no_arrivals) at_i in
+      (knows x x_in).credits o mesh_port (ap (λ (a : Arrivals). has a.credits o) (sym entry) ∙ has_none (get_or kept i d).credits o none)
+  | inr past ↦ ap (λ (n : Option ℕ). credits_of l.states n) (out_none l.mesh x o (omega arith))
+]
+
+pub true_of : (b : Bool) → IsTrue b → b ≡ true
+true_of true h = refl
+true_of false h = absurd (cc)

@@ -11,6 +11,7 @@ ghost use Rattle.worm_core.specs.Moves.{CreditFits, FrontFits, RoutesNothing, Se
 
 mod parts;
 mod readers;
+mod rest;
 mod still;
 
 use crate::fresh::{make_links, make_nodes};

@@ -6,7 +6,7 @@ ghost use Rattle.worm_theory.specs.Steps.{empty};
 ghost use Rattle.worm_core.specs.NewNet.{IsConfig, IsFresh};
 ghost use Rattle.worm_core.specs.Headline.{DeliversInOrder, NothingFollowsMarks};
 ghost use Rattle.worm_core.specs.State.{IsNet, shape, network_of, queue_of, router_at, sink_at, source_at, texts_of, with_router};
-ghost use Rattle.worm_core.specs.Turns.{GivesCredits, Reaches, RoutesChannels, Tries, lowest_owed};
+ghost use Rattle.worm_core.specs.Turns.{GivesCredits, NodePasses, Reaches, RoutesChannels, Tries, lowest_owed};
 ghost use Rattle.worm_mesh.specs.Address.{node_count};
 ghost use Rattle.worm_router.specs.Router.{input_at, width};
 ghost use Rattle.worm_router.specs.Allocation.{after_allocate, switch_grants};
@@ -244,6 +244,14 @@ impl Net {
         ensures { IsTrue result → GivesCredits node self.now None self.now }
     {
         self.fabric.owes_nothing(node)
+    }
+
+    /// Whether the node is at rest, so that its turn goes past all but what its source is asked.
+    pub(crate) fn is_at_rest(&self, node: u8) -> bool
+        requires { node < node_count self.now.mesh }
+        ensures { IsTrue result → NodePasses node self.now None self.now }
+    {
+        self.fabric.is_at_rest(node)
     }
 
     /// The lowest channel of the mesh port that owes a credit.

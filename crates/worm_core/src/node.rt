@@ -39,6 +39,19 @@ impl Node {
         true
     }
 
+    /// Whether the source has a flit of the class for which the injection buffer has room.
+    pub(crate) fn can_feed(&self, class: u8, port: u8) -> bool
+        requires class { class < classes self.now.source }
+        requires port { port ≡ terminal self.now.router }
+        requires front { FrontFits self.now.router (terminal self.now.router) (front_of self.now.source class) }
+        ensures { result ≡ can_enter self.now.router (terminal self.now.router) (front_of self.now.source class) }
+    {
+        match self.source.front(class) {
+            None => false,
+            Some(flit) => self.router.has_room(port, flit.vc),
+        }
+    }
+
     /// Lets the flit that is ready at this place out into the sink, by the output port `out`, if the sink can take it.
     pub(crate) fn deliver(&mut self, port: u8, vc: u8, out: u8, flit: Flit) -> bool
         requires place { IsPlace self.old.router port vc }
