@@ -1,5 +1,5 @@
 -- What comes in at each node, after a write of one link.
-use Rattle.std.proofs.Common.{◌≡◌, ◌≢◌, ℕ, ◌+◌, ◌<◌, below_more, Bool, true, false, inl, inr, List, [], ◌∷◌, length, drop, get_or, set, Option, Some, None, refl, arith, ap, sym, subst, ◌∙◌}
+use Rattle.std.proofs.Common.{◌≡◌, ◌==◌, ◌≢◌, ℕ, ◌+◌, ◌*◌, ◌<◌, ◌≤◌, below_more, Bool, true, false, inl, inr, List, [], ◌∷◌, length, drop, get_or, set, Option, Some, None, refl, arith, ap, sym, subst, ◌∙◌}
 use Rattle.std.specs.Prelude.{IsTrue, not, option_map, IsSome, is_some, slice_get}
 use Rattle.std.proofs.lemmas.List.{get_or_default, get_or-set_other, get_or-set_same}
 use Rattle.worm_flit.specs.declared.Flit.{Flit}
@@ -15,6 +15,9 @@ use Rattle.worm_core.specs.Wiring.{out_link, in_link}
 use Rattle.worm_core.specs.Ports.{has, IsPut}
 use Rattle.worm_core.specs.Arrivals.{LinksView, KnowsArrivals, KnowsAll, credits_of, credits_to, flits_of, flits_to, no_arrivals, number_into, number_out, state_at, with_state}
 use Rattle.worm_core.specs.declared.links.Arrivals.{Arrivals}
+use Rattle.std.proofs.lemmas.Bool.{cases_lt}
+use Rattle.worm_core.proofs.PortSets.{has_none}
+use Rattle.worm_core.proofs.Wired.{in_none, out_none}
 
 -- Each link is that of one port
 
@@ -308,3 +311,41 @@ pub found_none : (states : List LinkView) (k i : ℕ) (read : LinkView) (some : 
 found_none states k i read some at_i there reads is off =
     let link : read ≡ get_or states k blank_link = reads ∙ (get_or_default states i read blank_link there ∙ ap (λ (v : ℕ). get_or states v blank_link) at_i) in
     ap (λ (s : LinkView). s.flits) (sym link) ∙ front_gone read.flits some is off
+
+-- nothing at the front of a list that brings nothing
+
+nothing_by : (mesh : List ℕ) (states : List LinkView) (p : ℕ) (n : Option ℕ) → IsSome n → flits_of states (option_map (λ y. links_before mesh y (opposite_of p)) n) ≡ [] → slice_get (get_or states (into_from mesh p n) blank_link).flits 0 ≡ None
+nothing_by mesh states p None some none = absurd (cc)
+nothing_by mesh states p (Some y) some none = rw none refl
+
+pub nothing_in : (l : LinksView) (x p : ℕ) → IsSome (neighbour_of l.mesh x p) → flits_to l x p ≡ [] → slice_get (state_at l (number_into l x p)).flits 0 ≡ None
+nothing_in l x p linked none = nothing_by l.mesh l.states p (neighbour_of l.mesh x p) linked none
+
+nothing_back : (mesh : List ℕ) (states : List LinkView) (x o : ℕ) (n : Option ℕ) → IsSome n → credits_of states (option_map (λ y. links_before mesh x o) n) ≡ [] → slice_get (get_or states (links_before mesh x o) blank_link).credits 0 ≡ None
+nothing_back mesh states x o None some none = absurd (cc)
+nothing_back mesh states x o (Some y) some none = rw none refl
+
+pub nothing_out : (l : LinksView) (x o : ℕ) → IsSome (neighbour_of l.mesh x o) → credits_to l x o ≡ [] → slice_get (state_at l (number_out l x o)).credits 0 ≡ None
+nothing_out l x o linked none = nothing_back l.mesh l.states x o (neighbour_of l.mesh x o) linked none
+
+-- nothing comes in by a port that is in no set, nor past the mesh ports
+
+pub quiet_flits : (l : LinksView) (kept : List Arrivals) (x i : ℕ) (d : Arrivals) → KnowsAll l kept → length kept ≡ 256 → x < 256 → i ≡ x → 2 * length l.mesh ≤ 6 → ((get_or kept i d).flits == 0) ≡ true → (p : ℕ) → flits_to l x p ≡ []
+quiet_flits l kept x i d knows all x_in at_i few none p = elim (cases_lt p 6) [
+  | inl mesh_port ↦
+      let entry : get_or kept i d ≡ get_or kept x no_arrivals = get_or_default kept i d no_arrivals (omega arith) ∙ ap (λ (v : ℕ). get_or kept v no_arrivals) at_i in
+      (knows x x_in).flits p mesh_port (ap (λ (a : Arrivals). has a.flits p) (sym entry) ∙ has_none (get_or kept i d).flits p none)
+  | inr past ↦ ap (λ (n : Option ℕ). flits_of l.states n) (in_none l.mesh x p (omega arith))
+]
+
+pub quiet_credits : (l : LinksView) (kept : List Arrivals) (x i : ℕ) (d : Arrivals) → KnowsAll l kept → length kept ≡ 256 → x < 256 → i ≡ x → 2 * length l.mesh ≤ 6 → ((get_or kept i d).credits == 0) ≡ true → (o : ℕ) → credits_to l x o ≡ []
+quiet_credits l kept x i d knows all x_in at_i few none o = elim (cases_lt o 6) [
+  | inl mesh_port ↦
+      let entry : get_or kept i d ≡ get_or kept x no_arrivals = get_or_default kept i d no_arrivals (omega arith) ∙ ap (λ (v : ℕ). get_or kept v no_arrivals) at_i in
+      (knows x x_in).credits o mesh_port (ap (λ (a : Arrivals). has a.credits o) (sym entry) ∙ has_none (get_or kept i d).credits o none)
+  | inr past ↦ ap (λ (n : Option ℕ). credits_of l.states n) (out_none l.mesh x o (omega arith))
+]
+
+pub true_of : (b : Bool) → IsTrue b → b ≡ true
+true_of true h = refl
+true_of false h = absurd (cc)

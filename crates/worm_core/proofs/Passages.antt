@@ -178,3 +178,7 @@ pub turns_more : (script : List Entry) (n : ℕ) (a b c : NetState) (fault : Opt
 turns_more script n a b c fault before at =
     subst (λ (ns : List ℕ). Each (λ t. Turn (due t script)) ns a fault c) (sym (range_more n))
     (each_append (λ t. Turn (due t script)) (range_with_len 0 n) (n ∷ []) a b c fault before (each_one (λ t. Turn (due t script)) n b c fault at))
+
+-- a passage that changes nothing
+pub does_still : (P : Passage) (a : NetState) → P a None a → Does P a None a
+does_still P a still = record { exact = still; reaches = reached a }

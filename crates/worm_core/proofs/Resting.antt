@@ -13,7 +13,7 @@ use Rattle.worm_theory.specs.Steps.{Step, Feed, Send, Take, TakeCredit}
 use Rattle.worm_core.specs.Shape.{net_shape}
 use Rattle.worm_core.specs.State.{NetState, IsNet, router_at, source_at, with_router}
 use Rattle.worm_core.specs.Moves.{NothingComes, can_enter, can_get, chosen_router, front_credit, front_into}
-use Rattle.worm_core.specs.Turns.{Each, Tries, SendsGranted, GivesCredit, NodePasses, all_ports, granted_send}
+use Rattle.worm_core.specs.Turns.{Each, Tries, SendsGranted, GivesCredit, GivesCredits, NodePasses, all_ports, granted_send}
 use Rattle.worm_core.specs.declared.step.Moved.TheVariants.{Idle}
 use Rattle.worm_core.specs.declared.fault.StepFault.TheVariants.{NoSuchPlace}
 use Rattle.worm_core.proofs.GetStep.{get_answers}
@@ -25,7 +25,7 @@ use Rattle.worm_core.proofs.Skipping.{each_still, numbers_still, node_still}
 
 -- a credit or a flit that is tried where there is none
 
-credit_still : (s : NetState) (x p : ℕ) (n : Option ℕ) → IsNet s → x < node_count s.mesh → neighbour_of s.mesh x p ≡ n → (IsSome (neighbour_of s.mesh x p) → front_credit s x p ≡ None) → Tries (TakeCredit x p) s None s
+pub credit_still : (s : NetState) (x p : ℕ) (n : Option ℕ) → IsNet s → x < node_count s.mesh → neighbour_of s.mesh x p ≡ n → (IsSome (neighbour_of s.mesh x p) → front_credit s x p ≡ None) → Tries (TakeCredit x p) s None s
 unfolding net_shape
 credit_still s x p (Some y) net x_in e none =
     let linked : IsSome (neighbour_of s.mesh x p) = subst IsSome (sym e) refl in
@@ -34,7 +34,7 @@ credit_still s x p (Some y) net x_in e none =
 credit_still s x p None net x_in e none =
     (Err NoSuchPlace, (λ there. let no : IsSome {T = ℕ} None = subst IsSome e there.1 in absurd (cc), refl), refl)
 
-flit_still : (s : NetState) (x p : ℕ) (n : Option ℕ) → IsNet s → x < node_count s.mesh → neighbour_of s.mesh x p ≡ n → (IsSome (neighbour_of s.mesh x p) → front_into s x p ≡ None) → Tries (Take x p) s None s
+pub flit_still : (s : NetState) (x p : ℕ) (n : Option ℕ) → IsNet s → x < node_count s.mesh → neighbour_of s.mesh x p ≡ n → (IsSome (neighbour_of s.mesh x p) → front_into s x p ≡ None) → Tries (Take x p) s None s
 unfolding net_shape
 flit_still s x p (Some y) net x_in e none =
     let linked : IsSome (neighbour_of s.mesh x p) = subst IsSome (sym e) refl in
@@ -73,7 +73,7 @@ sends_still s x there same none =
 
 -- the credits
 
-gives_still : (s : NetState) (x p : ℕ) → p ≤ terminal (router_at s x) → OwesNothing (router_at s x) → GivesCredit x p s None s
+pub gives_still : (s : NetState) (x p : ℕ) → p ≤ terminal (router_at s x) → OwesNothing (router_at s x) → GivesCredit x p s None s
 gives_still s x p p_in owes =
     (gives_none x p s (owed_lowest (router_at s x) p None tt tt (λ v below. owes p v p_in below))).exact
 
@@ -108,3 +108,9 @@ node_rests s x net x_in rest nothing =
         ),
       ),
     )
+
+pub credits_rest : (s : NetState) (x : ℕ) → IsNet s → x < node_count s.mesh → OwesNothing (router_at s x) → GivesCredits x s None s
+credits_rest s x net x_in owes =
+    let all = net.framed.all_nodes in
+    let node = net.framed.each_node x (omega arith) in
+    numbers_still (GivesCredit x) s (2 * length s.mesh) 0 (λ p below. gives_still s x p (rw node.same_mesh (omega arith)) owes)

@@ -1,4 +1,4 @@
-ghost use Rattle.std.specs.Prelude.{true, false, ℕ, IfNone, IfOk, ◌==◌, ◌≡◌, ◌*◌, ◌<◌, ◌≤◌, ◌++◌, ◌∷◌, [], ◌↔◌, IsTrue, IsSome, ◌⊎◌, None, OnOk, OnErr, IfErr, IfSome, unwrap_or, if◌then◌else◌, is_some, length, sum, drop, nat_lt, slice_get};
+ghost use Rattle.std.specs.Prelude.{true, false, ℕ, IfNone, IfOk, ◌==◌, ◌≡◌, ◌*◌, ◌<◌, ◌≤◌, ◌++◌, ◌∷◌, [], ◌↔◌, IsTrue, IsSome, ◌⊎◌, None, Some, OnOk, OnErr, IfErr, IfSome, unwrap_or, if◌then◌else◌, is_some, length, sum, drop, nat_lt, slice_get};
 ghost use Rattle.worm_flit.specs.Channels.{AreChannels};
 ghost use Rattle.worm_core.specs.NewNet.{IsFresh};
 ghost use Rattle.worm_router.specs.Allocation.{after_allocate, switch_grants};
@@ -12,6 +12,7 @@ ghost use Rattle.worm_core.specs.Moves.{CreditFits, FrontFits, RoutesNothing, Se
 mod parts;
 mod readers;
 mod rest;
+mod still;
 
 use crate::fresh::{make_links, make_nodes};
 use crate::links::Links;
@@ -193,25 +194,25 @@ impl Fabric {
         node.router.ready(port, vc)
     }
 
-    /// Lets the ready flit out of its buffer.
-    fn sent(&mut self, node: u8, port: u8, vc: u8)
+    /// Lets the ready flit out of its buffer, by the output port `out`.
+    fn let_out(&mut self, node: u8, port: u8, vc: u8, out: u8, flit: Flit)
         requires place { IsNetPlace self.old node port vc }
-        requires ready { IsSome (leaving (router_at self.old node) port vc) }
+        requires ready { leaving (router_at self.old node) port vc ≡ Some (out, flit) }
         ensures { self.new ≡ with_router self.old node (after_send (router_at self.old node) port vc) }
     {
         let node = &mut self.nodes[usize::from(node)];
-        node.router.sent(port, vc);
+        node.router.let_out(port, vc, out, flit);
     }
 
-    /// Lets the ready flit out into the node's sink, if that can take it.
-    fn deliver(&mut self, node: u8, port: u8, vc: u8, flit: Flit) -> bool
+    /// Lets the ready flit out into the node's sink, by the output port `out`, if the sink can take it.
+    fn deliver(&mut self, node: u8, port: u8, vc: u8, out: u8, flit: Flit) -> bool
         requires place { IsNetPlace self.old node port vc }
-        requires ready { IsSome (leaving (router_at self.old node) port vc) }
+        requires ready { leaving (router_at self.old node) port vc ≡ Some (out, flit) }
         requires home { flit.lane.dst ≡ (sink_at self.old node).node }
         ensures { self.new ≡ (if result then with_node self.old node (delivered_node (node_at self.old node) port vc flit) else self.old) }
     {
         let node = &mut self.nodes[usize::from(node)];
-        node.deliver(port, vc, flit)
+        node.deliver(port, vc, out, flit)
     }
 
     /// Lets the ready flit out, into the sink or onto the link of its port (Dally and Towles, chapter 13). `NoMemory` where the sink cannot take it.
@@ -225,12 +226,12 @@ impl Fabric {
             return Ok(Moved::Idle);
         };
         if out == self.terminal() {
-            if !self.deliver(node, port, vc, flit) {
+            if !self.deliver(node, port, vc, out, flit) {
                 return Err(StepFault::NoMemory);
             }
             return Ok(Moved::Done);
         }
-        self.sent(node, port, vc);
+        self.let_out(node, port, vc, out, flit);
         self.links.push(node, out, flit);
         Ok(Moved::Done)
     }

@@ -132,9 +132,10 @@ impl Links {
 
     /// Whether nothing comes in at the node.
     pub fn is_quiet(&self, node: u8) -> bool
-        ensures flits { IsTrue result → (p : ℕ) → p < 6 → flits_to self.now node p ≡ [] }
-        ensures credits { IsTrue result → (o : ℕ) → o < 6 → credits_to self.now node o ≡ [] }
+        ensures flits { IsTrue result → (p : ℕ) → flits_to self.now node p ≡ [] }
+        ensures credits { IsTrue result → (o : ℕ) → credits_to self.now node o ≡ [] }
     {
+        let _terminal = self.wiring.terminal();
         let here = self.arrivals[usize::from(node)];
         here.flits.is_empty() && here.credits.is_empty()
     }

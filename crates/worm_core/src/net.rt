@@ -6,7 +6,7 @@ ghost use Rattle.worm_theory.specs.Steps.{empty};
 ghost use Rattle.worm_core.specs.NewNet.{IsConfig, IsFresh};
 ghost use Rattle.worm_core.specs.Headline.{DeliversInOrder, NothingFollowsMarks};
 ghost use Rattle.worm_core.specs.State.{IsNet, shape, network_of, queue_of, router_at, sink_at, source_at, texts_of, with_router};
-ghost use Rattle.worm_core.specs.Turns.{NodePasses, Reaches, RoutesChannels, lowest_owed};
+ghost use Rattle.worm_core.specs.Turns.{GivesCredits, NodePasses, Reaches, RoutesChannels, Tries, lowest_owed};
 ghost use Rattle.worm_mesh.specs.Address.{node_count};
 ghost use Rattle.worm_router.specs.Router.{input_at, width};
 ghost use Rattle.worm_router.specs.Allocation.{after_allocate, switch_grants};
@@ -218,6 +218,32 @@ impl Net {
         ensures { IsTrue result → RoutesChannels node self.now None self.now }
     {
         self.fabric.is_routed(node)
+    }
+
+    /// Whether no credit comes in by the port; then there is none to take.
+    pub(crate) fn takes_no_credit(&self, node: u8, port: u8) -> bool
+        requires node { node < node_count self.now.mesh }
+        requires port { port < 6 }
+        ensures { IsTrue result → Tries (Event.TakeCredit node port) self.now None self.now }
+    {
+        self.fabric.brings_no_credit(node, port)
+    }
+
+    /// Whether no flit comes in by the port; then there is none to take.
+    pub(crate) fn takes_no_flit(&self, node: u8, port: u8) -> bool
+        requires node { node < node_count self.now.mesh }
+        requires port { port < 6 }
+        ensures { IsTrue result → Tries (Event.Take node port) self.now None self.now }
+    {
+        self.fabric.brings_no_flit(node, port)
+    }
+
+    /// Whether no channel of the node owes a credit; then there is none to give.
+    pub(crate) fn owes_nothing(&self, node: u8) -> bool
+        requires { node < node_count self.now.mesh }
+        ensures { IsTrue result → GivesCredits node self.now None self.now }
+    {
+        self.fabric.owes_nothing(node)
     }
 
     /// Whether the node is at rest, so that its turn goes past all but what its source is asked.

@@ -1,4 +1,4 @@
-ghost use Rattle.std.specs.Prelude.{IsTrue, true, false, ◌≡◌, ◌<◌, ◌≤◌, IsSome, OnOk, OnErr, IfErr, None, length, unwrap_or, if◌then◌else◌};
+ghost use Rattle.std.specs.Prelude.{IsTrue, true, false, ◌≡◌, ◌<◌, ◌≤◌, Some, OnOk, OnErr, IfErr, None, length, unwrap_or, if◌then◌else◌};
 ghost use Rattle.worm_router.specs.Router.{IsPlace, terminal, leaving};
 ghost use Rattle.worm_router.specs.Allocation.{switch_grants};
 ghost use Rattle.worm_term.specs.Source.{classes, front_of, refusal, after_offer, after_close};
@@ -52,17 +52,17 @@ impl Node {
         }
     }
 
-    /// Lets the flit that is ready at this place out into the sink, if that can take it.
-    pub(crate) fn deliver(&mut self, port: u8, vc: u8, flit: Flit) -> bool
+    /// Lets the flit that is ready at this place out into the sink, by the output port `out`, if the sink can take it.
+    pub(crate) fn deliver(&mut self, port: u8, vc: u8, out: u8, flit: Flit) -> bool
         requires place { IsPlace self.old.router port vc }
-        requires ready { IsSome (leaving self.old.router port vc) }
+        requires ready { leaving self.old.router port vc ≡ Some (out, flit) }
         requires home { flit.lane.dst ≡ self.old.sink.node }
         ensures after { self.new ≡ (if result then delivered_node self.old port vc flit else self.old) }
     {
         if self.sink.take(flit).is_err() {
             return false;
         }
-        self.router.sent(port, vc);
+        self.router.let_out(port, vc, out, flit);
         true
     }
 

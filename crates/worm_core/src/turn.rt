@@ -67,18 +67,26 @@ impl Net {
 
     /// Takes a credit from each link out of the node, ports rising.
     fn take_credits(&mut self, node: u8)
+        requires { node < node_count self.old.mesh }
         ensures { Does (TakesCredits node) self.old None self.new }
     {
         for port in 0..self.terminal() {
+            if self.takes_no_credit(node, port) {
+                continue;
+            }
             let _moved = self.get(node, port);
         }
     }
 
     /// Takes a flit from each link into the node, ports rising.
     fn take_flits(&mut self, node: u8)
+        requires { node < node_count self.old.mesh }
         ensures { Does (TakesFlits node) self.old None self.new }
     {
         for port in 0..self.terminal() {
+            if self.takes_no_flit(node, port) {
+                continue;
+            }
             let _moved = self.take(node, port);
         }
     }
@@ -133,6 +141,9 @@ impl Net {
         requires { node < node_count self.old.mesh }
         ensures { Does (GivesCredits node) self.old None self.new }
     {
+        if self.owes_nothing(node) {
+            return;
+        }
         for port in 0..self.terminal() {
             if let Some(vc) = self.lowest_owed(node, port) {
                 let _moved = self.give(node, port, vc);

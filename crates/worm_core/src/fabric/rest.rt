@@ -17,7 +17,7 @@ impl Fabric {
         ensures credits { IsTrue result → (p : ℕ) → IsSome (neighbour_of self.now.mesh node p) → front_credit self.now node p ≡ None }
         ensures flits { IsTrue result → (p : ℕ) → IsSome (neighbour_of self.now.mesh node p) → front_into self.now node p ≡ None }
     {
-        false
+        self.links.is_quiet(node)
     }
 
     /// Whether the node's source has no flit for which there is room.
