@@ -75,6 +75,18 @@ busy_filed r old new port vc i had now input sound occupied waiting active owing
   owing = set_by owes r _ _ port vc i had now input sound.few_ports sound.few_channels sound.owing owing;
 }
 
+-- the same sets beside other marks
+pub busy_as : (t w depth : ℕ) (inputs : List ChannelState) (old new : BusyChannels) → AreBusy t w depth inputs old
+    → new.occupied ≡ old.occupied → new.waiting ≡ old.waiting → new.active ≡ old.active → new.owing ≡ old.owing → AreBusy t w depth inputs new
+busy_as t w depth inputs old new sound occupied waiting active owing = record {
+  few_ports = sound.few_ports;
+  few_channels = sound.few_channels;
+  occupied = subst (IsSetIn is_occupied t w depth inputs) (sym occupied) sound.occupied;
+  waiting = subst (IsSetIn is_waiting t w depth inputs) (sym waiting) sound.waiting;
+  active = subst (IsSetIn is_active t w depth inputs) (sym active) sound.active;
+  owing = subst (IsSetIn owes t w depth inputs) (sym owing) sound.owing;
+}
+
 -- the empty set, where no channel passes
 set_fresh : (test : ChannelState → Bool) (t w depth count : ℕ) (inputs : List ChannelState) → test (fresh_channel depth) ≡ false
     → inputs ≡ replicate count (fresh_channel depth) → count ≡ (t + 1) * w → IsSetIn test t w depth inputs 0
@@ -88,7 +100,7 @@ set_fresh test t w depth count inputs none all counted = record {
 
 pub fresh_busy : (t w depth count : ℕ) (inputs : List ChannelState) (sets : BusyChannels) → t ≤ 6 → w ≤ 8
     → inputs ≡ replicate count (fresh_channel depth) → count ≡ (t + 1) * w
-    → sets ≡ record { occupied = 0; waiting = 0; active = 0; owing = 0; in_vain = false }
+    → sets ≡ record { occupied = 0; waiting = 0; active = 0; owing = 0; in_vain = false; candidates = 0 }
     → AreBusy t w depth inputs sets
 fresh_busy t w depth count inputs sets few_ports few_channels all counted none = rw none record {
   few_ports = few_ports;

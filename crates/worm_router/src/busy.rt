@@ -1,5 +1,5 @@
-ghost use Rattle.std.specs.Prelude.{◌≡◌, ◌<◌, ◌&&◌, true, false, not};
-ghost use Rattle.worm_vcalloc.specs.ChannelSet.{IsPut};
+ghost use Rattle.std.specs.Prelude.{◌≡◌, ◌<◌, ◌&&◌, ◌||◌, true, false, not, if◌then◌else◌};
+ghost use Rattle.worm_vcalloc.specs.ChannelSet.{has, IsPut};
 ghost use Rattle.worm_router.specs.Busy.{is_occupied, is_waiting, is_active, owes};
 
 use crate::channel::InputChannel;
@@ -18,12 +18,14 @@ pub struct BusyChannels {
     pub owing: ChannelSet,
     /// That those that wait do so in vain: none of them can be granted an output channel. One-sided.
     pub in_vain: bool,
+    /// Those that may be ready to send: all that are, and others at which no pass has looked since something came.
+    pub candidates: ChannelSet,
 }
 
 impl BusyChannels {
     /// No channel has anything to do.
     pub fn new() -> BusyChannels
-        ensures { result ≡ record { occupied = 0; waiting = 0; active = 0; owing = 0; in_vain = false } }
+        ensures { result ≡ record { occupied = 0; waiting = 0; active = 0; owing = 0; in_vain = false; candidates = 0 } }
     {
         BusyChannels {
             occupied: ChannelSet::new(),
@@ -31,6 +33,7 @@ impl BusyChannels {
             active: ChannelSet::new(),
             owing: ChannelSet::new(),
             in_vain: false,
+            candidates: ChannelSet::new(),
         }
     }
 
@@ -40,10 +43,12 @@ impl BusyChannels {
         requires vc { vc < 8 }
         ensures occupied { IsPut self.old.occupied self.new.occupied port vc (is_occupied channel.now) }
         ensures in_vain { self.new.in_vain ≡ (self.old.in_vain && not (is_waiting channel.now)) }
-        ensures others { self.new ≡ record self.old { occupied = self.new.occupied; in_vain = self.new.in_vain } }
+        ensures candidates { IsPut self.old.candidates self.new.candidates port vc (is_active channel.now) }
+        ensures others { self.new ≡ record self.old { occupied = self.new.occupied; in_vain = self.new.in_vain; candidates = self.new.candidates } }
     {
         self.occupied.put(port, vc, channel.is_occupied());
         self.in_vain = self.in_vain && !channel.is_waiting();
+        self.candidates.put(port, vc, channel.is_active());
     }
 
     /// Files a channel that comes to wait, and may be granted what others wait for in vain.
@@ -63,10 +68,12 @@ impl BusyChannels {
         requires vc { vc < 8 }
         ensures waiting { IsPut self.old.waiting self.new.waiting port vc false }
         ensures active { IsPut self.old.active self.new.active port vc true }
-        ensures others { self.new ≡ record self.old { waiting = self.new.waiting; active = self.new.active; in_vain = false } }
+        ensures candidates { IsPut self.old.candidates self.new.candidates port vc true }
+        ensures others { self.new ≡ record self.old { waiting = self.new.waiting; active = self.new.active; in_vain = false; candidates = self.new.candidates } }
     {
         self.waiting.put(port, vc, false);
         self.active.put(port, vc, true);
+        self.candidates.put(port, vc, true);
         self.in_vain = false;
     }
 
@@ -78,21 +85,36 @@ impl BusyChannels {
         ensures active { IsPut self.old.active self.new.active port vc (is_active channel.now) }
         ensures owing { IsPut self.old.owing self.new.owing port vc (owes channel.now) }
         ensures in_vain { self.new.in_vain ≡ (self.old.in_vain && is_active channel.now) }
-        ensures others { self.new ≡ record self.old { occupied = self.new.occupied; active = self.new.active; owing = self.new.owing; in_vain = self.new.in_vain } }
+        ensures candidates { IsPut self.old.candidates self.new.candidates port vc (is_active channel.now && is_occupied channel.now) }
+        ensures others { self.new ≡ record self.old { occupied = self.new.occupied; active = self.new.active; owing = self.new.owing; in_vain = self.new.in_vain; candidates = self.new.candidates } }
     {
         self.occupied.put(port, vc, channel.is_occupied());
         self.active.put(port, vc, channel.is_active());
         self.owing.put(port, vc, channel.owed() > 0);
         self.in_vain = self.in_vain && channel.is_active();
+        self.candidates
+            .put(port, vc, channel.is_active() && channel.is_occupied());
     }
 
-    /// Files a channel whose credit has gone out.
-    pub fn file_given(&mut self, port: u8, vc: u8, channel: &InputChannel)
+    /// Files a channel whose credit has gone out; `woken` where it could not send while it owed that.
+    pub fn file_given(&mut self, port: u8, vc: u8, channel: &InputChannel, woken: bool)
         requires port { port < 7 }
         requires vc { vc < 8 }
         ensures owing { IsPut self.old.owing self.new.owing port vc (owes channel.now) }
-        ensures others { self.new ≡ record self.old { owing = self.new.owing } }
+        ensures candidates { IsPut self.old.candidates self.new.candidates port vc (woken || has self.old.candidates port vc) }
+        ensures others { self.new ≡ record self.old { owing = self.new.owing; candidates = self.new.candidates } }
     {
         self.owing.put(port, vc, channel.owed() > 0);
+        let may_send = woken || self.candidates.contains(port, vc);
+        self.candidates.put(port, vc, may_send);
+    }
+
+    /// Files that a credit has come; `was_out` where its output channel had none, so that whoever holds it may send again.
+    pub fn file_credit(&mut self, was_out: bool)
+        ensures { self.new ≡ record self.old { candidates = (if was_out then self.old.active else self.old.candidates) } }
+    {
+        if was_out {
+            self.candidates = self.active;
+        }
     }
 }

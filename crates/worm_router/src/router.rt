@@ -2,7 +2,7 @@ ghost use Rattle.std.specs.Prelude.{◌≡◌, ◌+◌, ◌*◌, ◌≤◌, ◌<
 ghost use Rattle.worm_flit.specs.Channels.{AreChannels};
 ghost use Rattle.worm_mesh.specs.Address.{node_count};
 ghost use Rattle.worm_router.specs.Router.{IsPlace, IsRouter, line, fresh_channel, free_output, fresh_router, input_at, output_at, terminal, width, after_accept, can_route, after_route, can_grant, after_grant, after_granting, leaving, MayLeave, passed, credit_of, after_send, after_gave, after_credit};
-ghost use Rattle.worm_router.specs.Busy.{IsSetOf, is_occupied, is_waiting, is_active, owes};
+ghost use Rattle.worm_router.specs.Busy.{IsSetOf, AreCandidates, is_occupied, is_waiting, is_active, owes};
 
 mod allocation;
 mod rest;
@@ -184,6 +184,13 @@ impl Router {
         ensures { IsSetOf owes self.now result }
     {
         self.busy.owing
+    }
+
+    /// The input channels that may be ready to send: no other is.
+    fn candidates(&self) -> ChannelSet
+        ensures { AreCandidates self.now result }
+    {
+        self.busy.candidates
     }
 
     /// The flit at place `i` of an input buffer, counted from the front.
@@ -419,8 +426,9 @@ impl Router {
     {
         let i = self.line(port, vc);
         let channel = &mut self.inputs[i];
+        let woken = channel.is_active() && channel.owed() == self.depth;
         channel.give();
-        self.busy.file_given(port, vc, channel);
+        self.busy.file_given(port, vc, channel, woken);
     }
 
     /// A credit has come back for this output channel. `TooMany` exactly where its count is the depth, as at the terminal; the
@@ -437,7 +445,9 @@ impl Router {
         if output.credits == depth {
             return Err(TooMany);
         }
+        let was_out = output.credits == 0;
         output.add_credit(depth);
+        self.busy.file_credit(was_out);
         Ok(())
     }
 }

@@ -85,13 +85,12 @@ impl Router {
         }
     }
 
-    /// The input channels that may send, each with its output port. Those that hold no output channel or have no flit
-    /// may not.
+    /// The input channels that may send, each with its output port.
     fn ready_outs(&self) -> ReadyOuts
         ensures { result ≡ ready_outs self.now }
     {
         let mut ready = ReadyOuts::new();
-        let mut left = self.active().intersection(&self.occupied());
+        let mut left = self.candidates();
         while let Some((port, vc)) = left.pop_first() {
             ready.set(port, vc, self.ready_out(port, vc));
         }
@@ -162,7 +161,11 @@ impl Router {
         ensures after { self.new ≡ after_choose self.old }
         ensures matching { IsSwitchMatching self.old.switch_alloc (ready_outs self.old) result }
     {
+        if self.busy.candidates.is_empty() {
+            return [None; 7];
+        }
         let ready = self.ready_outs();
+        self.busy.candidates = ready.keys();
         self.switch_alloc.grant(&ready)
     }
 }

@@ -1,7 +1,8 @@
-use Rattle.std.proofs.Common.{◌+◌, ◌∙◌, sym, ap, subst}
+use Rattle.std.proofs.Common.{refl, ◌+◌, ◌∙◌, sym, ap, subst}
 use Rattle.worm_vcalloc.specs.VcAlloc.{VcPass, IsChannelMatching}
 use Rattle.worm_router.specs.Router.{terminal, width}
 use Rattle.worm_router.specs.Allocation.{requests, free_channels}
+use Rattle.worm_router.proofs.Filed.{busy_as}
 use Rattle.worm_router.proofs.InVain.{nobody_uses, no_pass_grants, passed_in_vain}
 use Rattle.worm_router.proofs.NothingWaits.{idle_pass, idle_allocate, idle_matching, pass_without}
 use Rattle.worm_router.proofs.router.Router.allocate.Goals as goal
@@ -34,16 +35,10 @@ invariant_of-self c =
         };
       };
       arbiters = c.self.invariant.arbiters;
-      busy = record {
-        few_ports = c.self.invariant.busy.few_ports;
-        few_channels = c.self.invariant.busy.few_channels;
-        occupied = c.self.invariant.busy.occupied;
-        waiting = c.self.invariant.busy.waiting;
-        active = c.self.invariant.busy.active;
-        owing = c.self.invariant.busy.owing;
-      };
+      busy = busy_as _ _ _ _ _ _ c.self.invariant.busy refl refl refl refl;
       in_vain = λ _. passed_in_vain _ c.args.self.now _ _ c.keys.result _ _ _ c.self.view_is c.self.invariant.router c.self.invariant.busy.few_ports c.self.invariant.busy.few_channels ports channels c.requests-asked.ensures c.free_channels-free.ensures c.grant-grants.ensures.matching
           (no_pass_grants _ c.args.self.now _ _ c.keys.result _ _ _ c.self.view_is c.self.invariant.busy.few_ports c.self.invariant.busy.few_channels ports channels c.grant-grants.ensures.matching c.keys.ensures (sym c.is_empty.ensures ∙ c.if-is_empty.true));
+      candidates = record { all = c.self.invariant.candidates.all; places = c.self.invariant.candidates.places };
     }
 
 pub returns-then-is_empty-clause-after : goal.returns-then-is_empty-clause-after

@@ -1,9 +1,12 @@
-use Rattle.std.proofs.Common.{arith, ap, ◌<◌, ◌*◌, sum, length}
+use Rattle.std.proofs.Common.{◌∙◌, sym, arith, refl, ◌==◌, ap, ◌<◌, ◌*◌, sum, length}
 use Rattle.std.proofs.lemmas.Grind.{common_steps, elements}
 use Rattle.worm_records.specs.declared.OutRecord.{OutRecord}
 use Rattle.worm_router.specs.Router.{free_output}
 use Rattle.worm_router.proofs.Kept.{full_after, full_before}
 use Rattle.worm_router.proofs.Places.{output_of}
+use Rattle.worm_router.specs.declared.busy.BusyChannels.{BusyChannels}
+use Rattle.worm_router.proofs.Filed.{busy_as}
+use Rattle.worm_router.proofs.Candidates.{candidates_credit}
 use Rattle.worm_router.proofs.InVain.{vain_out}
 use Rattle.worm_router.proofs.router.Router.credit.Goals as goal
 
@@ -26,6 +29,8 @@ invariant_of-self-2 c =
         allocators = c.self.invariant.router.allocators;
       };
       arbiters = c.self.invariant.arbiters;
-      busy = c.self.invariant.busy;
-      in_vain = λ yes. vain_out _ _ _ _ _ _ output (ap (λ (u : OutRecord). u.holder) c.add_credit.ensures) (c.self.invariant.in_vain yes);
+      busy = busy_as _ _ _ _ _ _ c.self.invariant.busy (ap (λ (b : BusyChannels). b.occupied) c.file_credit.ensures) (ap (λ (b : BusyChannels). b.waiting) c.file_credit.ensures)
+          (ap (λ (b : BusyChannels). b.active) c.file_credit.ensures) (ap (λ (b : BusyChannels). b.owing) c.file_credit.ensures);
+      in_vain = λ yes. vain_out _ _ _ _ _ _ output (ap (λ (u : OutRecord). u.holder) c.add_credit.ensures) (c.self.invariant.in_vain (sym (ap (λ (b : BusyChannels). b.in_vain) c.file_credit.ensures) ∙ yes));
+      candidates = candidates_credit _ _ _ _ _ _ _ _ _ (c.index_mut-output.result.now.credits == 0) output c.self.invariant.busy.active refl (ap (λ (b : BusyChannels). b.candidates) c.file_credit.ensures) c.self.invariant.candidates;
     }

@@ -12,6 +12,7 @@ use Rattle.worm_router.proofs.Places.{input_of, output_of, output_read}
 use Rattle.worm_router.proofs.Filed.{busy_filed}
 use Rattle.worm_router.proofs.Leaving.{may_leave, leaves_active}
 use Rattle.worm_router.proofs.InVain.{vain_left, holds_open, holds_waits_not, waits_not_after}
+use Rattle.worm_router.proofs.Candidates.{candidates_left}
 use Rattle.worm_router.proofs.router.Router.let_out.Goals as goal
 
 pub pass-requires : goal.pass-requires
@@ -64,4 +65,5 @@ invariant_of-self c =
           vain_left _ _ _ _ _ _ _ _ _ _ _ input output waits_not
           (ap (λ (u : OutRecord). u.holder) c.pass.ensures ∙ ap (λ b. if b then None else c.index_mut-output.result.now.holder) still)
           (c.self.invariant.in_vain parts.0);
+      candidates = candidates_left _ _ _ _ _ _ _ _ _ _ _ c.credit_of-spent.result _ _ input output c.self.invariant.busy.few_ports c.self.invariant.busy.few_channels c.file_left.ensures.candidates (ap (λ (u : OutRecord). u.credits) c.pass.ensures) c.self.invariant.candidates;
     }
