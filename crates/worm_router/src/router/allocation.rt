@@ -116,7 +116,11 @@ impl Router {
         ensures after { self.new ≡ with_port_grants grants.now self.old port }
         ensures same { IsSameSize self.old self.new }
     {
-        for vc in 0..self.classes.total() {
+        let channels = self.classes.total();
+        if grants.keys().row(port, channels) == 0 {
+            return;
+        }
+        for vc in 0..channels {
             self.write_grant(port, vc, grants.get(port, vc));
         }
     }
