@@ -7,7 +7,8 @@ use Rattle.worm_flit.specs.Stamps.{with_channel}
 use Rattle.worm_mesh.specs.Address.{node_count}
 use Rattle.worm_records.specs.declared.InRecord.{InRecord}
 use Rattle.worm_records.specs.declared.InRecord.TheVariants.{Idle, Waiting, Active}
-use Rattle.worm_router.specs.Router.{RouterState, IsRouter, IsChannel, IsPlace, StateFits, MayLeave, terminal, width, line, fresh_channel, input_at, output_at, leaving, leaving_by}
+use Rattle.worm_router.specs.Router.{RouterState, ChannelState, IsRouter, IsChannel, IsPlace, StateFits, MayLeave, terminal, width, line, fresh_channel, input_at, output_at, leaving, leaving_by}
+use Rattle.worm_router.specs.Busy.{holds}
 use Rattle.worm_router.proofs.Laws.{line-places}
 
 pub channel_at : (r : RouterState) (port vc : ℕ) → IsRouter r → IsPlace r port vc → IsChannel r.mesh r.channels r.depth (input_at r port vc)
@@ -44,3 +45,9 @@ pub may_leave : (r : RouterState) (port vc : ℕ) (d : ℕ × Flit) → IsRouter
 may_leave r port vc d sound place is =
     let here = channel_at r port vc sound place in
     may_leave_by r port vc (input_at r port vc).state (input_at r port vc).buffer d here.state_fits here.bound_for_nodes here.owed_fits is
+
+-- what may leave is of a channel that holds an output channel
+pub leaves_active : (r : RouterState) (port : ℕ) (c : ChannelState) (s : InRecord) (fs : List Flit) (d : ℕ × Flit) → leaving_by r port c s fs ≡ Some d → holds s ≡ true
+leaves_active r port c Idle fs d is = absurd (cc)
+leaves_active r port c (Waiting o) fs d is = absurd (cc)
+leaves_active r port c (Active o v) fs d is = refl

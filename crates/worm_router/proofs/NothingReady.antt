@@ -1,5 +1,5 @@
 -- A pass of the switch allocator in which no channel may send grants nothing and moves no arbiter.
-use Rattle.std.proofs.Common.{◌≡◌, ℕ, ◌≤◌, true, false, cond, List, [], Option, None, is_some, replicate, slice_index_or, inl, inr, refl, ap, sym, ◌∙◌, arith}
+use Rattle.std.proofs.Common.{◌≡◌, ℕ, ◌≤◌, true, false, cond, List, [], Option, None, Some, is_some, replicate, slice_index_or, inl, inr, refl, ap, sym, subst, ◌∙◌, arith}
 use Rattle.std.specs.Option.{option_map}
 use Rattle.std.proofs.lemmas.Bool.{cases_lt}
 use Rattle.std.proofs.lemmas.List.{get_or-replicate, length-replicate, get_or_past}
@@ -11,7 +11,7 @@ use Rattle.worm_vcalloc.proofs.SetLemmas.{has-zero}
 use Rattle.worm_vcalloc.proofs.TableLemmas.{cell-replicate}
 use Rattle.worm_swalloc.specs.declared.grant.SwGrant.{SwGrant}
 use Rattle.worm_swalloc.specs.Front.{with_front}
-use Rattle.worm_swalloc.specs.SwAlloc.{SwAllocState, named, all_named, named_channel, request_of, is_for, granted, if_chosen, sw_grants, sw_after, input_after, output_after}
+use Rattle.worm_swalloc.specs.SwAlloc.{SwAllocState, IsSwitchMatching, named, all_named, named_channel, request_of, is_for, granted, if_chosen, sw_grants, sw_after, input_after, output_after}
 use Rattle.worm_swalloc.proofs.FrontLemmas.{with_front_kept, length-with_front}
 use Rattle.worm_router.specs.Router.{RouterState}
 use Rattle.worm_router.specs.Allocation.{ready_at, ready_outs, switch_grants, after_choose}
@@ -26,7 +26,7 @@ none_ready = replicate 7 (replicate 8 None)
 abbrev none_named : List (Option SwGrant)
 none_named = replicate 7 None
 
-get_or-replicate_same : {X : Type 0} (n i : ℕ) (x : X) → slice_index_or (replicate n x) i x ≡ x
+pub get_or-replicate_same : {X : Type 0} (n i : ℕ) (x : X) → slice_index_or (replicate n x) i x ≡ x
 get_or-replicate_same n i x = elim (cases_lt i n) [
   | inl within ↦ get_or-replicate n i x x within
   | inr past ↦ get_or_past (replicate n x) i x (let e = length-replicate n x in omega arith)
@@ -83,3 +83,12 @@ arbiters_stay s ready has =
     let ins_has = has.inputs in
     let outs_has = has.outputs in
     record { inputs = omega arith; outputs = omega arith }
+
+pub idle_choice : (r : RouterState) → SendsNothing r → IsSwitchMatching r.switch_alloc (ready_outs r) (replicate 7 None)
+idle_choice r none = subst (λ ready. IsSwitchMatching r.switch_alloc ready (replicate 7 None)) (sym (none_may_send r none)) (unmatched r.switch_alloc) where
+  unmatched : (s : SwAllocState) → IsSwitchMatching s none_ready (replicate 7 None)
+  unmatched s = record {
+    requested = λ port g is. let unlike : None ≡ Some g = sym (get_or-replicate_same 7 port None) ∙ is in absurd (cc);
+    once = λ port port' g g' is is' same. let unlike : None ≡ Some g = sym (get_or-replicate_same 7 port None) ∙ is in absurd (cc);
+    complete = λ port g port_in is out_in. let unlike : None ≡ Some g = sym (nothing_named s port) ∙ is in absurd (cc);
+  }

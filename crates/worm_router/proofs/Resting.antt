@@ -5,11 +5,12 @@ use Rattle.worm_flit.specs.declared.Flit.{Flit}
 use Rattle.worm_records.specs.declared.InRecord.{InRecord}
 use Rattle.worm_records.specs.declared.InRecord.TheVariants.{Idle, Waiting, Active}
 use Rattle.worm_vcalloc.proofs.SetLemmas.{has-empty}
-use Rattle.worm_router.specs.Router.{RouterState, ChannelState, input_at, is_idle, opens_front, leaving_by}
+use Rattle.worm_router.specs.Router.{RouterState, ChannelState, input_at, is_idle, opens_front}
 use Rattle.worm_router.specs.Busy.{IsKept, IsSetOf, is_occupied, is_waiting, is_active, owes, waits, holds}
 use Rattle.worm_router.specs.Allocation.{switch_grants, after_choose}
-use Rattle.worm_router.specs.Rest.{SendsNothing, OwesNothing}
+use Rattle.worm_router.specs.Rest.{OwesNothing}
 use Rattle.worm_router.specs.declared.busy.BusyChannels.{BusyChannels}
+use Rattle.worm_router.proofs.Candidates.{none_ready_of}
 use Rattle.worm_router.proofs.NothingReady.{idle_grants, idle_choose}
 
 -- a channel with a flit that neither waits nor is active is idle; any other has nothing to route
@@ -22,28 +23,19 @@ unrouted (Active o c) buffer none = refl
 pub routes_none : (c : ChannelState) → ((is_occupied c && not (is_waiting c)) && not (is_active c)) ≡ false → (is_idle c.state && opens_front c.buffer) ≡ false
 routes_none c none = unrouted c.state c.buffer none
 
-stays : (r : RouterState) (port : ℕ) (c : ChannelState) (s : InRecord) (fs : List Flit) → holds s ≡ false → leaving_by r port c s fs ≡ None
-stays r port c Idle fs e = refl
-stays r port c (Waiting o) fs e = refl
-stays r port c (Active o v) fs e = absurd (cc)
-
-pub sends_none : (r : RouterState) (active : ℕ) → IsSetOf is_active r active → (active == 0) ≡ true → SendsNothing r
-sends_none r active is none = λ p v p_in v_in.
-    stays r p (input_at r p v) (input_at r p v).state (input_at r p v).buffer (sym (is.inside p v p_in v_in) ∙ has-empty active p v none)
-
 pub owes_none : (r : RouterState) (owing : ℕ) → IsSetOf owes r owing → (owing == 0) ≡ true → OwesNothing r
 owes_none r owing is none = λ p v p_in v_in.
     let e : nat_lt 0 (input_at r p v).owed ≡ false = sym (is.inside p v p_in v_in) ∙ has-empty owing p v none in
     grind (arith, nat_tests)
 
-pub chooses_none : (r s : RouterState) (sets : BusyChannels) → r ≡ s → IsKept r sets → (sets.active == 0) ≡ true → after_choose s ≡ s
+pub chooses_none : (r s : RouterState) (sets : BusyChannels) → r ≡ s → IsKept r sets → (sets.candidates == 0) ≡ true → after_choose s ≡ s
 chooses_none r s sets same kept none =
     let ports = kept.router.allocators.switch_ports in
     let few = kept.busy.few_ports in
-    subst (λ (q : RouterState). after_choose q ≡ q) same (idle_choose r (omega arith) kept.arbiters (sends_none r sets.active kept.busy.active none))
+    subst (λ (q : RouterState). after_choose q ≡ q) same (idle_choose r (omega arith) kept.arbiters (none_ready_of r sets.candidates kept.candidates none))
 
-pub grants_none : (r s : RouterState) (sets : BusyChannels) → r ≡ s → IsKept r sets → (sets.active == 0) ≡ true → switch_grants s ≡ replicate 7 None
+pub grants_none : (r s : RouterState) (sets : BusyChannels) → r ≡ s → IsKept r sets → (sets.candidates == 0) ≡ true → switch_grants s ≡ replicate 7 None
 grants_none r s sets same kept none =
     let ports = kept.router.allocators.switch_ports in
     let few = kept.busy.few_ports in
-    subst (λ (q : RouterState). switch_grants q ≡ replicate 7 None) same (idle_grants r (omega arith) (sends_none r sets.active kept.busy.active none))
+    subst (λ (q : RouterState). switch_grants q ≡ replicate 7 None) same (idle_grants r (omega arith) (none_ready_of r sets.candidates kept.candidates none))

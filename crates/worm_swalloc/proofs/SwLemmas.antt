@@ -1,17 +1,24 @@
 -- Lemmas on a pass of the switch allocator.
-use Rattle.std.proofs.Common.{◌≡◌, ℕ, ◌+◌, ◌<◌, ◌≤◌, Bool, true, false, List, [], Option, Some, None, is_some, refl, sym, ap, ◌∙◌, arith, slice_index_or, slice_set, length, inl, inr, ltb, cond, replicate, ◌&&◌, bit_or, ◌^◌, subst, get_or-set_same, get_or-set_other}
+use Rattle.std.proofs.Common.{◌≡◌, ℕ, ◌+◌, ◌-◌, zero, suc, ◌<◌, ◌≤◌, Bool, true, false, List, [], Option, Some, None, IfSome, is_some, refl, sym, ap, ◌∙◌, arith, slice_index_or, slice_set, length, inl, inr, ltb, cond, replicate, ◌&&◌, subst, get_or-set_same, get_or-set_other}
 use Rattle.std.specs.Option.{option_map}
 use Rattle.std.proofs.lemmas.Bool.{cases_eq, cases_lt, cases_Bool, lt-ltb, le-ltb, ltb-true, eqb-true, eq-eqb, ne_eqb, and_parts, and_from, and_right, true≢false}
 use Rattle.std.proofs.lemmas.List.{length-set, ext_get_or, get_or-replicate, length-replicate, get_or_past, get_or_default}
-use Rattle.std.proofs.lemmas.Nat.{one_shl}
-use Rattle.worm_vcalloc.proofs.LineLemmas.{LinesBelow, lines_none, line_set_at, line_unset_at}
+use Rattle.worm_vcalloc.specs.ChannelSet.{has, IsPut, IsFirstPort}
+use Rattle.worm_vcalloc.proofs.SetLemmas.{has-zero}
+use Rattle.worm_vcalloc.proofs.PassLemmas.{none_where_not_some}
 use Rattle.worm_vcalloc.specs.Arbiter.{ArbiterState, no_arbiter, winner, after_pick, line_requests}
 use Rattle.worm_vcalloc.specs.Table.{cell}
 use Rattle.worm_vcalloc.proofs.ArbiterLemmas.{winner_same, winner_none, winner_requests, winner_none_requests}
 use Rattle.worm_swalloc.specs.declared.grant.SwGrant.{SwGrant}
 use Rattle.worm_swalloc.specs.Front.{with_front}
-use Rattle.worm_swalloc.specs.SwAlloc.{SwAllocState, IsSwAlloc, IsSwitchMatching, request_of, named_channel, named, all_named, is_for, chosen, with_choice, is_line, if_chosen, granted, sw_grants, sw_after, output_after, input_after}
-use Rattle.worm_swalloc.proofs.FrontLemmas.{with_front_zero, slice_set-with_front, with_front_more, length-with_front, slice_index_or-with_front_below, slice_index_or-with_front_past, with_front_same, with_front_kept}
+use Rattle.worm_swalloc.specs.SwAlloc.{SwAllocState, IsSwAlloc, IsSwitchMatching, AreChannelsBelow, AreAskers, request_of, named_channel, named, all_named, is_for, chosen, with_choice, is_line, if_chosen, granted, sw_grants, sw_after, output_after, input_after, channel_of, with_move, after_grant}
+use Rattle.worm_swalloc.proofs.FrontLemmas.{with_front_zero, slice_set-with_front, with_front_more, length-with_front, slice_index_or-with_front_below, slice_index_or-with_front_past, with_front_same, with_front_kept, with_front_skip}
+
+get_or-replicate_same : {X : Type 0} (n i : ℕ) (x : X) → slice_index_or (replicate n x) i x ≡ x
+get_or-replicate_same n i x = elim (cases_lt i n) [
+  | inl within ↦ get_or-replicate n i x x within
+  | inr past ↦ get_or_past (replicate n x) i x (let e = length-replicate n x in omega arith)
+]
 
 -- the winner among lines that stand for a test
 pub winner_of_lines : (a : ArbiterState) (width lines : ℕ) (asks : ℕ → Bool) → a.width ≡ width → a.pointer < width
@@ -48,45 +55,159 @@ pub choice_is : (s : SwAllocState) (requests grants : List (Option SwGrant)) (ou
     → ((line : ℕ) → line < s.ports → line_requests lines line ≡ is_for (slice_index_or requests line None) out)
     → w ≡ winner (slice_index_or s.outputs out d) (line_requests lines) → new ≡ after_pick (slice_index_or s.outputs out d) w
     → (with_choice grants requests w ≡ with_choice grants requests (chosen s requests out))
-    × (◌≡◌ {A = SwAllocState} (record s { outputs = slice_set s.outputs out new }) (record s { outputs = slice_set s.outputs out (output_after s requests out) }))
+    × (◌≡◌ {A = SwAllocState} (record s { inputs = with_move s.inputs requests w; outputs = slice_set s.outputs out new })
+    (record s { inputs = with_move s.inputs requests (chosen s requests out); outputs = slice_set s.outputs out (output_after s requests out) }))
 choice_is s requests grants out lines d new w r lo within same won moved =
     let choice = chosen_is s requests out lines d w r lo within same won in (
       ap (with_choice grants requests) choice,
-      ap (λ a. record s { outputs = slice_set s.outputs out a }) (moved_is s.outputs out d new w (chosen s requests out) within choice moved),
+      ap (λ a. record s { inputs = with_move s.inputs requests w; outputs = slice_set s.outputs out a }) (moved_is s.outputs out d new w (chosen s requests out) within choice moved)
+          ∙ ap (λ v. record s { inputs = with_move s.inputs requests v; outputs = slice_set s.outputs out (output_after s requests out) }) choice,
     )
 
--- ---- the lines of the output arbiters
+-- ---- a walk over the ports of a set
 
--- the requests of the input ports below n, by output port
-abbrev pub GatheredBelow : List (Option SwGrant) → ℕ → List ℕ → Type 0
-GatheredBelow requests n lines = (out : ℕ) → out < 7 → LinesBelow (λ line. is_for (slice_index_or requests line None) out) n (slice_index_or lines out 0)
+-- the ports below n have come out of the set, and those from n on are in it as at first
+pub record IsWalked (all left n ports : ℕ) : Type 0 where
+  pub few : n ≤ ports
+  pub gone : (p c : ℕ) → p < n → c < 8 → has left p c ≡ false
+  pub kept : (p c : ℕ) → n ≤ p → p < ports → c < 8 → has left p c ≡ has all p c
 
-pub gathered_none : (requests : List (Option SwGrant)) → GatheredBelow requests 0 (replicate 7 0)
-gathered_none requests out l =
-    subst (LinesBelow (λ line. is_for (slice_index_or requests line None) out) 0) (sym (get_or-replicate 7 out 0 0 l)) (lines_none (λ line. is_for (slice_index_or requests line None) out))
+pub walked_start : (all ports : ℕ) → IsWalked all all 0 ports
+walked_start all ports = record { few = omega arith; gone = λ p c l _. absurd (omega arith); kept = λ p c _ _ _. refl }
 
-pub gathered_more : (requests : List (Option SwGrant)) (n : ℕ) (lines next : List ℕ) → GatheredBelow requests n lines → n < 7
-    → ((out : ℕ) → out < 7 → slice_index_or next out 0 ≡ cond (is_for (slice_index_or requests n None) out) (bit_or (slice_index_or lines out 0) (2 ^ n)) (slice_index_or lines out 0))
-    → GatheredBelow requests (n + 1) next
-gathered_more requests n lines next b few e out l =
-    elim (cases_Bool (is_for (slice_index_or requests n None) out)) [
-      | inl t ↦
-          line_set_at _ n (n + 1) (slice_index_or lines out 0) (slice_index_or next out 0) (b out l) refl
-          (e out l ∙ ap (λ t. cond t (bit_or (slice_index_or lines out 0) (2 ^ n)) (slice_index_or lines out 0)) t ∙ ap (bit_or (slice_index_or lines out 0)) (sym (one_shl n 64 (omega arith)))) (omega arith) t
-      | inr f ↦
-          line_unset_at _ n (n + 1) (slice_index_or lines out 0) (slice_index_or next out 0) (b out l) refl
-          (e out l ∙ ap (λ t. cond t (bit_or (slice_index_or lines out 0) (2 ^ n)) (slice_index_or lines out 0)) f) f
+-- the next port is none of those
+pub walked_from : (all left left' n ports port : ℕ) → IsWalked all left n ports → IsFirstPort left left' port → n ≤ port
+walked_from all left left' n ports port w f = elim (cases_lt port n) [
+  | inl below ↦ absurd (true≢false (sym f.some_in.2 ∙ w.gone port f.some_in.0 below f.some_in.1))
+  | inr above ↦ above
+]
+
+-- the ports that it passes over have nothing in the set
+pub walked_over : (all left left' n ports port p c : ℕ) → IsWalked all left n ports → IsFirstPort left left' port → n ≤ p → p < port → p < ports → c < 8 → has all p c ≡ false
+walked_over all left left' n ports port p c w f from below within lc = sym (w.kept p c from within lc) ∙ f.none_before p c below lc
+
+-- after it
+pub walked_more : (all left left' n ports port : ℕ) → IsWalked all left n ports → IsFirstPort left left' port → port < ports → ports ≤ 7 → IsWalked all left' (port + 1) ports
+walked_more all left left' n ports port w f within few =
+    let from = walked_from all left left' n ports port w f in
+    record {
+      few = omega arith;
+      gone = λ p c l lc. elim (cases_eq p port) [
+        | inl same ↦ ap (λ k. has left' k c) same ∙ f.taken c lc
+        | inr other ↦ f.elsewhere p c (omega arith) lc other ∙ f.none_before p c (omega arith) lc
+      ];
+      kept = λ p c l l' lc. f.elsewhere p c (omega arith) lc (λ e. absurd (omega arith)) ∙ w.kept p c (omega arith) l' lc;
+    }
+
+-- and in the end none is left
+pub walked_all : (all left n ports p c : ℕ) → IsWalked all left n ports → left ≡ 0 → n ≤ p → p < ports → c < 8 → has all p c ≡ false
+walked_all all left n ports p c w e from within lc = sym (w.kept p c from within lc) ∙ ap (λ s. has s p c) e ∙ has-zero p c
+
+-- ---- the requests
+
+-- where no channel of an input port is ready, it names none
+named_unready : (s : SwAllocState) (ready : List (List (Option ℕ))) (port : ℕ) → IsSwAlloc s.ports s.channels s.inputs s.outputs → port < s.ports
+    → ((v : ℕ) → v < 8 → cell ready port v None ≡ None) → named s ready port ≡ None
+named_unready s ready port r lp none =
+    let few = r.few_ports in
+    let few' = r.few_channels in
+    let wide = r.input_width port (omega arith) in
+    let low = r.input_pointer port (omega arith) in
+    ap (request_of (slice_index_or ready port []))
+    (winner_none (slice_index_or s.inputs port no_arbiter) (λ vc. is_some (cell ready port vc None)) (omega arith) (λ vc l. ap is_some (none vc (omega arith))))
+
+-- the input ports below n have been asked, where n is as far as the walk has come
+pub record AskedBelow (s : SwAllocState) (ready : List (List (Option ℕ))) (keys left : ℕ) (requests : List (Option SwGrant)) (askers : ℕ) : Type 0 where
+  pub next : ℕ
+  pub walked : IsWalked keys left next s.ports
+  pub requests_are : requests ≡ with_front next (named s ready) (replicate 7 None)
+  pub askers_are : AreAskers requests askers
+
+-- no input port asks
+pub askers_none : (requests : List (Option SwGrant)) (askers : ℕ) → requests ≡ replicate 7 None → askers ≡ 0 → AreAskers requests askers
+askers_none requests askers e e' out port _ _ =
+    ap (λ n. has n out port) e' ∙ has-zero out port ∙ sym (ap (λ o. is_for o out) (ap (λ xs. slice_index_or xs port None) e ∙ get_or-replicate_same 7 port None))
+
+-- one more asks
+pub askers_more : (requests : List (Option SwGrant)) (askers askers' port : ℕ) (g : SwGrant) → port < length requests → slice_index_or requests port None ≡ None
+    → AreAskers requests askers → IsPut askers askers' g.out port true → AreAskers (slice_set requests port (Some g)) askers'
+askers_more requests askers askers' port g within none b put out p lo lp =
+    elim (cases_eq p port) [
+      | inl same ↦
+          (elim (cases_eq out g.out) [
+            | inl here ↦ ap (λ k. has askers' k p) here ∙ ap (has askers' g.out) same ∙ put.here ∙ sym (eq-eqb g.out out (sym here))
+            | inr there ↦
+                put.elsewhere out p lo lp (λ e _. there e) ∙ b out p lo lp
+                ∙ ap (λ k. is_for (slice_index_or requests k None) out) same ∙ ap (λ o. is_for o out) none ∙ sym (ne_eqb g.out out (λ e. there (sym e)))
+          ])
+          ∙ sym (ap (λ o. is_for o out) (ap (λ k. slice_index_or (slice_set requests port (Some g)) k None) same ∙ get_or-set_same requests port (Some g) None within))
+      | inr other ↦ put.elsewhere out p lo lp (λ _ e. other e) ∙ b out p lo lp ∙ ap (λ o. is_for o out) (sym (get_or-set_other requests port p (Some g) None other))
     ]
+
+-- the requests as far as the next port that has a ready channel
+asked_to : (s : SwAllocState) (ready : List (List (Option ℕ))) (keys left n m : ℕ) → IsSwAlloc s.ports s.channels s.inputs s.outputs → n ≤ m → m ≤ s.ports
+    → ((p v : ℕ) → p < 7 → v < 8 → has keys p v ≡ is_some (cell ready p v None))
+    → ((p v : ℕ) → n ≤ p → p < m → v < 8 → has keys p v ≡ false)
+    → with_front n (named s ready) (replicate 7 None) ≡ with_front m (named s ready) (replicate 7 None)
+asked_to s ready keys left n m r from within keyed none =
+    let few = r.few_ports in
+    with_front_skip n m (named s ready) (replicate 7 None) None from (omega arith)
+    (λ i l l'.
+    named_unready s ready i r (omega arith) (λ v lv. none_where_not_some (cell ready i v None) (sym (keyed i v (omega arith) lv) ∙ none i v l l' lv))
+    ∙ sym (get_or-replicate_same 7 i None))
+
+pub asked_start : (s : SwAllocState) (ready : List (List (Option ℕ))) (keys : ℕ) (requests : List (Option SwGrant)) (askers : ℕ) → requests ≡ replicate 7 None → askers ≡ 0
+    → AskedBelow s ready keys keys requests askers
+asked_start s ready keys requests askers e e' = record {
+  next = 0;
+  walked = walked_start keys s.ports;
+  requests_are = e ∙ sym (with_front_zero (named s ready) (replicate 7 None));
+  askers_are = askers_none requests askers e e';
+}
+
+-- a port that has yet to be asked has no request
+pub not_asked : (s : SwAllocState) (ready : List (List (Option ℕ))) (keys left left' port : ℕ) (requests : List (Option SwGrant)) (askers : ℕ) → AskedBelow s ready keys left requests askers → IsFirstPort left left' port
+    → slice_index_or requests port None ≡ None
+not_asked s ready keys left left' port requests askers b f =
+    let from = walked_from keys left left' b.next s.ports port b.walked f in
+    ap (λ xs. slice_index_or xs port None) b.requests_are
+    ∙ slice_index_or-with_front_past b.next port (named s ready) (replicate 7 None) None from
+    ∙ get_or-replicate_same 7 port None
+
+-- the next port has been asked
+pub asked_more : (s : SwAllocState) (ready : List (List (Option ℕ))) (keys left left' port : ℕ) (requests requests' : List (Option SwGrant)) (askers askers' : ℕ)
+    → IsSwAlloc s.ports s.channels s.inputs s.outputs
+    → ((p v : ℕ) → p < 7 → v < 8 → has keys p v ≡ is_some (cell ready p v None))
+    → AskedBelow s ready keys left requests askers → IsFirstPort left left' port → port < s.ports
+    → requests' ≡ slice_set requests port (named s ready port) → AreAskers requests' askers'
+    → AskedBelow s ready keys left' requests' askers'
+asked_more s ready keys left left' port requests requests' askers askers' r keyed b f within e e' =
+    let few = r.few_ports in
+    let from = walked_from keys left left' b.next s.ports port b.walked f in
+    record {
+      next = port + 1;
+      walked = walked_more keys left left' b.next s.ports port b.walked f within few;
+      requests_are = e
+          ∙ ap (λ xs. slice_set xs port (named s ready port))
+          (b.requests_are ∙ asked_to s ready keys left b.next port r from (omega arith) keyed (λ p v l l' lv. walked_over keys left left' b.next s.ports port p v b.walked f l l' (omega arith) lv))
+          ∙ slice_set-with_front port (named s ready) (replicate 7 None) None (omega arith);
+      askers_are = e';
+    }
+
+-- all have been asked
+pub asked_all : (s : SwAllocState) (ready : List (List (Option ℕ))) (keys left : ℕ) (requests : List (Option SwGrant)) (askers : ℕ)
+    → IsSwAlloc s.ports s.channels s.inputs s.outputs
+    → ((p v : ℕ) → p < 7 → v < 8 → has keys p v ≡ is_some (cell ready p v None))
+    → AskedBelow s ready keys left requests askers → left ≡ 0 → requests ≡ all_named s ready
+asked_all s ready keys left requests askers r keyed b e =
+    let few = b.walked.few in
+    b.requests_are ∙ asked_to s ready keys left b.next s.ports r few (omega arith) keyed (λ p v l l' lv. walked_all keys left b.next s.ports p v b.walked e l l' lv)
 
 -- ---- the output arbiters
 
--- the allocator once the output ports below n have chosen
-abbrev pub after_choices : SwAllocState → List (Option SwGrant) → ℕ → SwAllocState
-after_choices s requests n = record s { outputs = with_front n (output_after s requests) s.outputs }
-
--- the output ports below n have chosen
+-- the output ports below n have chosen, and the input ports that they chose have moved
 pub record ChosenBelow (s : SwAllocState) (requests : List (Option SwGrant)) (n : ℕ) (now : SwAllocState) (grants : List (Option SwGrant)) : Type 0 where
-  pub state : now ≡ after_choices s requests n
+  pub state : now ≡ record s { inputs = with_front s.ports (after_grant s grants) s.inputs; outputs = with_front n (output_after s requests) s.outputs }
   pub grants_are : grants ≡ with_front s.ports (granted s requests n) (replicate 7 None)
 
 -- a request keeps its state where output port n does not choose its input port
@@ -150,16 +271,70 @@ choice_granted s requests n few wide low (Some q) e =
           ]
     ])
 
+-- an input port that an output port has yet to choose has no grant
+not_yet : (s : SwAllocState) (requests : List (Option SwGrant)) (n port : ℕ) (o : Option SwGrant) → is_for o n ≡ true → if_chosen s requests n port o ≡ None
+not_yet s requests n port None e = refl
+not_yet s requests n port (Some g) e =
+    let same : g.out ≡ n = eqb-true g.out n e in
+    ap (λ b. cond (b && is_line (chosen s requests g.out) port) (Some g) None) (le-ltb g.out n (omega arith))
+
+-- the input arbiters once output port n has chosen too
+choice_moved : (s : SwAllocState) (requests grants : List (Option SwGrant)) (n : ℕ) → s.ports ≤ 7 → s.ports ≤ length s.inputs
+    → (slice_index_or s.outputs n no_arbiter).width ≡ s.ports → (slice_index_or s.outputs n no_arbiter).pointer < s.ports
+    → grants ≡ with_front s.ports (granted s requests n) (replicate 7 None)
+    → (w : Option ℕ) → chosen s requests n ≡ w
+    → with_move (with_front s.ports (after_grant s grants) s.inputs) requests w ≡ with_front s.ports (after_grant s (with_choice grants requests w)) s.inputs
+choice_moved s requests grants n few long wide low are None e = refl
+choice_moved s requests grants n few long wide low are (Some q) e =
+    let won = winner_requests (slice_index_or s.outputs n no_arbiter) (λ port. is_for (slice_index_or requests port None) n) q (omega arith) e in
+    let lq : q < s.ports = omega (arith, won.0) in
+    let many : length grants ≡ 7 = ap length are ∙ length-with_front s.ports (granted s requests n) (replicate 7 None) few in
+    let none : slice_index_or grants q None ≡ None =
+    ap (λ xs. slice_index_or xs q None) are
+    ∙ slice_index_or-with_front_below s.ports q (granted s requests n) (replicate 7 None) None lq
+    ∙ not_yet s requests n q (slice_index_or requests q None) won.1 in
+    let before : List ArbiterState = with_front s.ports (after_grant s grants) s.inputs in
+    let grants' : List (Option SwGrant) = slice_set grants q (slice_index_or requests q None) in
+    let after : List ArbiterState = with_front s.ports (after_grant s grants') s.inputs in
+    let still : slice_index_or before q no_arbiter ≡ slice_index_or s.inputs q no_arbiter =
+    slice_index_or-with_front_below s.ports q (after_grant s grants) s.inputs no_arbiter lq
+    ∙ ap (λ o. after_pick (slice_index_or s.inputs q no_arbiter) (channel_of o)) none in
+    let moved : ArbiterState = after_pick (slice_index_or before q no_arbiter) (channel_of (slice_index_or requests q None)) in
+    let long_before : length before ≡ length s.inputs = length-with_front s.ports (after_grant s grants) s.inputs long in
+    let long_after : length after ≡ length s.inputs = length-with_front s.ports (after_grant s grants') s.inputs long in
+    ext_get_or no_arbiter (slice_set before q moved) after (length-set before q moved ∙ long_before ∙ sym long_after)
+    (λ i _. elim (cases_eq i q) [
+      | inl here ↦
+          ap (λ k. slice_index_or (slice_set before q moved) k no_arbiter) here
+          ∙ get_or-set_same before q moved no_arbiter (omega arith)
+          ∙ ap (λ a. after_pick a (channel_of (slice_index_or requests q None))) still
+          ∙ ap (λ o. after_pick (slice_index_or s.inputs q no_arbiter) (channel_of o)) (sym (get_or-set_same grants q (slice_index_or requests q None) None (omega arith)))
+          ∙ sym (slice_index_or-with_front_below s.ports q (after_grant s grants') s.inputs no_arbiter lq)
+          ∙ ap (λ k. slice_index_or after k no_arbiter) (sym here)
+      | inr other ↦
+          get_or-set_other before q i moved no_arbiter other
+          ∙ elim (cases_lt i s.ports) [
+            | inl below ↦
+                slice_index_or-with_front_below s.ports i (after_grant s grants) s.inputs no_arbiter below
+                ∙ ap (λ o. after_pick (slice_index_or s.inputs i no_arbiter) (channel_of o)) (sym (get_or-set_other grants q i (slice_index_or requests q None) None other))
+                ∙ sym (slice_index_or-with_front_below s.ports i (after_grant s grants') s.inputs no_arbiter below)
+            | inr past ↦
+                slice_index_or-with_front_past s.ports i (after_grant s grants) s.inputs no_arbiter past
+                ∙ sym (slice_index_or-with_front_past s.ports i (after_grant s grants') s.inputs no_arbiter past)
+          ]
+    ])
+
 -- before the first choice
-pub chosen_none : (s : SwAllocState) (requests : List (Option SwGrant)) → s.ports ≤ 7 → ChosenBelow s requests 0 s (replicate 7 None)
-chosen_none s requests few = record {
-  state = ap (λ o. record s { outputs = o }) (sym (with_front_zero (output_after s requests) s.outputs));
-  grants_are =
-      ext_get_or None (replicate 7 None) (with_front s.ports (granted s requests 0) (replicate 7 None)) (sym (length-with_front s.ports (granted s requests 0) (replicate 7 None) few))
-      (λ i l. elim (cases_lt i s.ports) [
-        | inl below ↦ get_or-replicate 7 i None None l ∙ none_below i (slice_index_or requests i None) ∙ sym (slice_index_or-with_front_below s.ports i (granted s requests 0) (replicate 7 None) None below)
-        | inr past ↦ sym (slice_index_or-with_front_past s.ports i (granted s requests 0) (replicate 7 None) None past)
-      ]);
+pub chosen_none : (s : SwAllocState) (requests grants : List (Option SwGrant)) → s.ports ≤ 7 → s.ports ≤ length s.inputs → grants ≡ replicate 7 None → ChosenBelow s requests 0 s grants
+chosen_none s requests grants few long e = record {
+  state =
+      ap (λ i. record s { inputs = i })
+      (sym (with_front_kept s.ports (after_grant s grants) s.inputs no_arbiter long
+      (λ i l. ap (λ o. after_pick (slice_index_or s.inputs i no_arbiter) (channel_of o)) (ap (λ xs. slice_index_or xs i None) e ∙ get_or-replicate_same 7 i None))))
+      ∙ ap (λ o. record s { inputs = with_front s.ports (after_grant s grants) s.inputs; outputs = o }) (sym (with_front_zero (output_after s requests) s.outputs));
+  grants_are = e
+      ∙ sym (with_front_kept s.ports (granted s requests 0) (replicate 7 None) None few
+      (λ i l. sym (none_below i (slice_index_or requests i None)) ∙ sym (get_or-replicate_same 7 i None)));
 } where
   none_below : (i : ℕ) (o : Option SwGrant) → None ≡ if_chosen s requests 0 i o
   none_below i None = refl
@@ -167,12 +342,12 @@ chosen_none s requests few = record {
 
 -- one more choice
 pub chosen_more : (s : SwAllocState) (requests : List (Option SwGrant)) (n : ℕ) (now next : SwAllocState) (grants grants' : List (Option SwGrant))
-    → ChosenBelow s requests n now grants → s.ports ≤ 7 → n < length s.outputs
+    → ChosenBelow s requests n now grants → s.ports ≤ 7 → s.ports ≤ length s.inputs → n < length s.outputs
     → (slice_index_or s.outputs n no_arbiter).width ≡ s.ports → (slice_index_or s.outputs n no_arbiter).pointer < s.ports
     → grants' ≡ with_choice grants requests (chosen now requests n)
-    → next ≡ record now { outputs = slice_set now.outputs n (output_after now requests n) }
+    → next ≡ record now { inputs = with_move now.inputs requests (chosen now requests n); outputs = slice_set now.outputs n (output_after now requests n) }
     → ChosenBelow s requests (n + 1) next grants'
-chosen_more s requests n now next grants grants' b few within wide low g e =
+chosen_more s requests n now next grants grants' b few long within wide low g e =
     let same : slice_index_or (with_front n (output_after s requests) s.outputs) n no_arbiter ≡ slice_index_or s.outputs n no_arbiter
     = slice_index_or-with_front_past n n (output_after s requests) s.outputs no_arbiter (omega arith) in
     let choice : chosen now requests n ≡ chosen s requests n =
@@ -181,52 +356,101 @@ chosen_more s requests n now next grants grants' b few within wide low g e =
     ap (λ (t : SwAllocState). after_pick (slice_index_or t.outputs n no_arbiter) (chosen now requests n)) b.state
     ∙ ap (λ a. after_pick a (chosen now requests n)) same
     ∙ ap (after_pick (slice_index_or s.outputs n no_arbiter)) choice in
+    let granted_now : grants' ≡ with_choice grants requests (chosen s requests n) = g ∙ ap (λ w. with_choice grants requests w) choice in
     record {
       state = e
-          ∙ ap (λ a. record now { outputs = slice_set now.outputs n a }) moved
-          ∙ ap (λ (t : SwAllocState). record t { outputs = slice_set t.outputs n (output_after s requests n) }) b.state
-          ∙ ap (λ o. record s { outputs = o }) (slice_set-with_front n (output_after s requests) s.outputs no_arbiter within);
-      grants_are = g
-          ∙ ap (λ w. with_choice grants requests w) choice
+          ∙ ap (λ w. record now { inputs = with_move now.inputs requests w; outputs = slice_set now.outputs n (output_after now requests n) }) choice
+          ∙ ap (λ a. record now { inputs = with_move now.inputs requests (chosen s requests n); outputs = slice_set now.outputs n a }) moved
+          ∙ ap (λ (t : SwAllocState). record t { inputs = with_move t.inputs requests (chosen s requests n); outputs = slice_set t.outputs n (output_after s requests n) }) b.state
+          ∙ ap (λ o. record s { inputs = with_move (with_front s.ports (after_grant s grants) s.inputs) requests (chosen s requests n); outputs = o })
+          (slice_set-with_front n (output_after s requests) s.outputs no_arbiter within)
+          ∙ ap (λ i. record s { inputs = i; outputs = with_front (n + 1) (output_after s requests) s.outputs })
+          (choice_moved s requests grants n few long wide low b.grants_are (chosen s requests n) refl
+          ∙ ap (λ r. with_front s.ports (after_grant s r) s.inputs) (sym granted_now));
+      grants_are = granted_now
           ∙ ap (λ r. with_choice r requests (chosen s requests n)) b.grants_are
           ∙ choice_granted s requests n few wide low (chosen s requests n) refl;
     }
 
--- ---- the input arbiters
+-- output port n has no choice where nobody asks for it
+chosen_pass : (s : SwAllocState) (requests : List (Option SwGrant)) (n : ℕ) (now : SwAllocState) (grants : List (Option SwGrant))
+    → ChosenBelow s requests n now grants → s.ports ≤ 7 → n < length s.outputs
+    → (slice_index_or s.outputs n no_arbiter).width ≡ s.ports → (slice_index_or s.outputs n no_arbiter).pointer < s.ports
+    → chosen s requests n ≡ None
+    → ChosenBelow s requests (n + 1) now grants
+chosen_pass s requests n now grants b few within wide low none = record {
+  state = b.state
+      ∙ ap (λ o. record s { inputs = with_front s.ports (after_grant s grants) s.inputs; outputs = o })
+      (with_front_more n (output_after s requests) s.outputs no_arbiter within (sym (ap (after_pick (slice_index_or s.outputs n no_arbiter)) none)));
+  grants_are = b.grants_are ∙ choice_granted s requests n few wide low None none;
+}
 
--- the allocator once the granted input ports below n have moved
-abbrev pub committed : SwAllocState → List (List (Option ℕ)) → List (Option SwGrant) → ℕ → SwAllocState
-committed s ready grants n = record s { inputs = with_front n (input_after s ready grants) s.inputs }
+-- the output ports that nobody asks for are passed over
+chosen_to : (s : SwAllocState) (requests : List (Option SwGrant)) (askers n k : ℕ) (now : SwAllocState) (grants : List (Option SwGrant))
+    → IsSwAlloc s.ports s.channels s.inputs s.outputs → s.ports ≤ length s.outputs → AreAskers requests askers → n + k ≤ s.ports
+    → ((o p : ℕ) → n ≤ o → o < n + k → p < 8 → has askers o p ≡ false)
+    → ChosenBelow s requests n now grants → ChosenBelow s requests (n + k) now grants
+chosen_to s requests askers n zero now grants r long are within none b = subst (λ m. ChosenBelow s requests m now grants) (omega arith) b
+chosen_to s requests askers n (suc k) now grants r long are within none b =
+    let few = r.few_ports in
+    let at : n + k < s.ports = omega arith in
+    let wide = r.output_width (n + k) (omega arith) in
+    let low = r.output_pointer (n + k) (omega arith) in
+    subst (λ m. ChosenBelow s requests m now grants) (omega arith)
+    (chosen_pass s requests (n + k) now grants (chosen_to s requests askers n k now grants r long are (omega arith) (λ o p l l' lp. none o p l (omega arith) lp) b) few (omega arith) wide low
+    (winner_none (slice_index_or s.outputs (n + k) no_arbiter) (λ port. is_for (slice_index_or requests port None) (n + k)) (omega arith)
+    (λ port l. sym (are (n + k) port (omega arith) (omega arith)) ∙ none (n + k) port (omega arith) (omega arith) (omega arith))))
 
-pub committed_none : (s : SwAllocState) (ready : List (List (Option ℕ))) (grants : List (Option SwGrant)) → s ≡ committed s ready grants 0
-committed_none s ready grants = ap (λ i. record s { inputs = i }) (sym (with_front_zero (input_after s ready grants) s.inputs))
+-- the output ports below n have chosen, where n is as far as the walk has come
+pub record ChoosingBelow (s : SwAllocState) (requests : List (Option SwGrant)) (askers left : ℕ) (now : SwAllocState) (grants : List (Option SwGrant)) : Type 0 where
+  pub next : ℕ
+  pub walked : IsWalked askers left next s.ports
+  pub chosen_are : ChosenBelow s requests next now grants
 
--- a granted input port moves
-pub committed_granted : (s : SwAllocState) (ready : List (List (Option ℕ))) (grants : List (Option SwGrant)) (n : ℕ) (now next : SwAllocState)
-    → now ≡ committed s ready grants n → n < length s.inputs → is_some (slice_index_or grants n None) ≡ true
-    → next ≡ record now { inputs = slice_set now.inputs n (after_pick (slice_index_or now.inputs n no_arbiter) (named_channel now ready n)) }
-    → next ≡ committed s ready grants (n + 1)
-committed_granted s ready grants n now next is within some e =
-    let same : slice_index_or (with_front n (input_after s ready grants) s.inputs) n no_arbiter ≡ slice_index_or s.inputs n no_arbiter
-    = slice_index_or-with_front_past n n (input_after s ready grants) s.inputs no_arbiter (omega arith) in
-    let asks : ℕ → Bool = λ vc. is_some (cell ready n vc None) in
-    e
-    ∙ ap (λ (t : SwAllocState). record t { inputs = slice_set t.inputs n (after_pick (slice_index_or t.inputs n no_arbiter) (winner (slice_index_or t.inputs n no_arbiter) asks)) }) is
-    ∙ ap (λ a. record s { inputs = slice_set (with_front n (input_after s ready grants) s.inputs) n (after_pick a (winner a asks)) }) same
-    ∙ ap (λ a. record s { inputs = slice_set (with_front n (input_after s ready grants) s.inputs) n a })
-    (sym (ap (λ b. cond b (after_pick (slice_index_or s.inputs n no_arbiter) (named_channel s ready n)) (slice_index_or s.inputs n no_arbiter)) some))
-    ∙ ap (λ i. record s { inputs = i }) (slice_set-with_front n (input_after s ready grants) s.inputs no_arbiter within)
+pub choosing_start : (s : SwAllocState) (requests grants : List (Option SwGrant)) (askers : ℕ) → s.ports ≤ 7 → s.ports ≤ length s.inputs → grants ≡ replicate 7 None
+    → ChoosingBelow s requests askers askers s grants
+choosing_start s requests grants askers few long e = record { next = 0; walked = walked_start askers s.ports; chosen_are = chosen_none s requests grants few long e }
 
--- another input port stays
-pub committed_other : (s : SwAllocState) (ready : List (List (Option ℕ))) (grants : List (Option SwGrant)) (n : ℕ) (now next : SwAllocState)
-    → now ≡ committed s ready grants n → n < length s.inputs → is_some (slice_index_or grants n None) ≡ false
-    → next ≡ now
-    → next ≡ committed s ready grants (n + 1)
-committed_other s ready grants n now next is within none e =
-    e ∙ is
-    ∙ ap (λ i. record s { inputs = i })
-    (with_front_more n (input_after s ready grants) s.inputs no_arbiter within
-    (sym (ap (λ b. cond b (after_pick (slice_index_or s.inputs n no_arbiter) (named_channel s ready n)) (slice_index_or s.inputs n no_arbiter)) none)))
+-- the allocator keeps its size in the meantime
+pub choosing_size : (s : SwAllocState) (requests : List (Option SwGrant)) (askers left : ℕ) (now : SwAllocState) (grants : List (Option SwGrant)) → ChoosingBelow s requests askers left now grants
+    → (now.ports ≡ s.ports) × (now.channels ≡ s.channels)
+choosing_size s requests askers left now grants b = (ap (λ (t : SwAllocState). t.ports) b.chosen_are.state, ap (λ (t : SwAllocState). t.channels) b.chosen_are.state)
+
+-- the next output port has chosen
+pub choosing_more : (s : SwAllocState) (requests : List (Option SwGrant)) (askers left left' out : ℕ) (now next : SwAllocState) (grants grants' : List (Option SwGrant))
+    → IsSwAlloc s.ports s.channels s.inputs s.outputs → s.ports ≤ length s.inputs → s.ports ≤ length s.outputs → AreAskers requests askers
+    → ChoosingBelow s requests askers left now grants → IsFirstPort left left' out → out < s.ports
+    → grants' ≡ with_choice grants requests (chosen now requests out)
+    → next ≡ record now { inputs = with_move now.inputs requests (chosen now requests out); outputs = slice_set now.outputs out (output_after now requests out) }
+    → ChoosingBelow s requests askers left' next grants'
+choosing_more s requests askers left left' out now next grants grants' r long long' are b f within g e =
+    let few = r.few_ports in
+    let from = walked_from askers left left' b.next s.ports out b.walked f in
+    let gap : b.next + (out - b.next) ≡ out = omega arith in
+    let here : ChosenBelow s requests out now grants =
+    subst (λ m. ChosenBelow s requests m now grants) gap
+    (chosen_to s requests askers b.next (out - b.next) now grants r long' are (omega arith) (λ o p l l' lp. walked_over askers left left' b.next s.ports out o p b.walked f l (omega arith) (omega arith) lp) b.chosen_are) in
+    record {
+      next = out + 1;
+      walked = walked_more askers left left' b.next s.ports out b.walked f within few;
+      chosen_are = chosen_more s requests out now next grants grants' here few long (omega arith) (r.output_width out (omega arith)) (r.output_pointer out (omega arith)) g e;
+    }
+
+-- as far as the last output port
+choosing_end : (s : SwAllocState) (requests : List (Option SwGrant)) (askers n : ℕ) (now : SwAllocState) (grants : List (Option SwGrant))
+    → IsSwAlloc s.ports s.channels s.inputs s.outputs → s.ports ≤ length s.outputs → AreAskers requests askers → n ≤ s.ports
+    → ((o p : ℕ) → n ≤ o → o < s.ports → p < 8 → has askers o p ≡ false)
+    → ChosenBelow s requests n now grants → ChosenBelow s requests s.ports now grants
+choosing_end s requests askers n now grants r long are few none b =
+    let gap : n + (s.ports - n) ≡ s.ports = omega arith in
+    subst (λ m. ChosenBelow s requests m now grants) gap (chosen_to s requests askers n (s.ports - n) now grants r long are (omega arith) (λ o p l l' lp. none o p l (omega arith) lp) b)
+
+-- all have chosen
+pub choosing_all : (s : SwAllocState) (requests : List (Option SwGrant)) (askers left : ℕ) (now : SwAllocState) (grants : List (Option SwGrant))
+    → IsSwAlloc s.ports s.channels s.inputs s.outputs → s.ports ≤ length s.outputs → AreAskers requests askers
+    → ChoosingBelow s requests askers left now grants → left ≡ 0 → ChosenBelow s requests s.ports now grants
+choosing_all s requests askers left now grants r long are b e =
+    choosing_end s requests askers b.next now grants r long are b.walked.few (λ o p l l' lp. walked_all askers left b.next s.ports o p b.walked e l l' lp) b.chosen_are
 
 -- ---- the matching
 
@@ -261,12 +485,6 @@ request_parts row (Some v) g e = go (slice_index_or row v None) refl where
       let ev : v ≡ g.vc = ap (λ x. x.vc) hg in
       let eo : out ≡ g.out = ap (λ x. x.out) hg in
       (ap Some ev, ap (λ k. slice_index_or row k None) (sym ev) ∙ n ∙ ap Some eo)
-
-get_or-replicate_same : {X : Type 0} (n i : ℕ) (x : X) → slice_index_or (replicate n x) i x ≡ x
-get_or-replicate_same n i x = elim (cases_lt i n) [
-  | inl within ↦ get_or-replicate n i x x within
-  | inr past ↦ get_or_past (replicate n x) i x (let e = length-replicate n x in omega arith)
-]
 
 -- a grant is that of a port that is there
 grant_within : (s : SwAllocState) (requests : List (Option SwGrant)) (port : ℕ) (g : SwGrant)
@@ -331,24 +549,58 @@ matching s ready r = record {
               same,
             )
 
--- ---- where nothing is ready
+-- a named channel is one of the port's
+pub named_within : (s : SwAllocState) (ready : List (List (Option ℕ))) (requests : List (Option SwGrant)) → IsSwAlloc s.ports s.channels s.inputs s.outputs
+    → requests ≡ all_named s ready → AreChannelsBelow s.channels requests
+named_within s ready requests r e port = subst (λ o. IfSome o (λ g. g.vc < s.channels)) (ap (λ xs. slice_index_or xs port None) (sym e)) (go (slice_index_or (all_named s ready) port None) refl) where
+  go : (o : Option SwGrant) → slice_index_or (all_named s ready) port None ≡ o → IfSome o (λ g. g.vc < s.channels)
+  go None n = tt
+  go (Some g) n = elim (cases_lt port s.ports) [
+    | inl below ↦
+        let few = r.few_ports in
+        let is_named : named s ready port ≡ Some g = sym (slice_index_or-with_front_below s.ports port (named s ready) (replicate 7 None) None below) ∙ n in
+        let q = request_parts (slice_index_or ready port []) (named_channel s ready port) g is_named in
+        let wide : (slice_index_or s.inputs port no_arbiter).width ≡ s.channels = r.input_width port (omega arith) in
+        let low : (slice_index_or s.inputs port no_arbiter).pointer < s.channels = r.input_pointer port (omega arith) in
+        let v = winner_requests (slice_index_or s.inputs port no_arbiter) (λ vc. is_some (cell ready port vc None)) g.vc (omega arith) q.0 in
+        omega (arith, v.0)
+    | inr past ↦
+        let no : None ≡ Some g = sym (get_or-replicate_same 7 port None) ∙ sym (slice_index_or-with_front_past s.ports port (named s ready) (replicate 7 None) None past) ∙ n in
+        absurd (cc)
+  ]
 
--- no input port names a channel
-named_none : (s : SwAllocState) (ready : List (List (Option ℕ))) → IsSwAlloc s.ports s.channels s.inputs s.outputs → ((p v : ℕ) → p < 7 → v < 8 → cell ready p v None ≡ None)
-    → (port : ℕ) → port < s.ports → named s ready port ≡ None
-named_none s ready r none port lp =
-    let few = r.few_ports in
-    let few' = r.few_channels in
-    let wide = r.input_width port (omega arith) in
-    let low = r.input_pointer port (omega arith) in
-    ap (request_of (slice_index_or ready port []))
-    (winner_none (slice_index_or s.inputs port no_arbiter) (λ vc. is_some (cell ready port vc None)) (omega arith) (λ vc l. ap is_some (none port vc (omega arith) (omega arith))))
+-- the allocator after a pass, as the code leaves it
+pub pass_is : (s now : SwAllocState) (ready : List (List (Option ℕ))) (requests grants : List (Option SwGrant)) → s.ports ≤ length s.inputs
+    → requests ≡ all_named s ready → grants ≡ sw_grants s ready
+    → now ≡ record s { inputs = with_front s.ports (after_grant s grants) s.inputs; outputs = with_front s.ports (output_after s requests) s.outputs }
+    → now ≡ sw_after s ready
+pass_is s now ready requests grants long are_named are_granted e =
+    e
+    ∙ ap (λ r. record s { inputs = with_front s.ports (after_grant s grants) s.inputs; outputs = with_front s.ports (output_after s r) s.outputs }) are_named
+    ∙ ap (λ i. record s { inputs = i; outputs = with_front s.ports (output_after s (all_named s ready)) s.outputs })
+    (ap (λ r. with_front s.ports (after_grant s r) s.inputs) are_granted
+    ∙ with_front_same s.ports (after_grant s (sw_grants s ready)) (input_after s ready (sw_grants s ready)) s.inputs no_arbiter long
+    (λ i l. moved i (slice_index_or (sw_grants s ready) i None) refl)) where
+      moved : (i : ℕ) (o : Option SwGrant) → slice_index_or (sw_grants s ready) i None ≡ o → after_grant s (sw_grants s ready) i ≡ input_after s ready (sw_grants s ready) i
+      moved i None n =
+          ap (λ o. after_pick (slice_index_or s.inputs i no_arbiter) (channel_of o)) n
+          ∙ sym (ap (λ o. cond (is_some o) (after_pick (slice_index_or s.inputs i no_arbiter) (named_channel s ready i)) (slice_index_or s.inputs i no_arbiter)) n)
+      moved i (Some g) n =
+          let w = grant_within s (all_named s ready) i g n in
+          let p = granted_parts s (all_named s ready) s.ports i (slice_index_or (all_named s ready) i None) g w.1 in
+          let is_named : named s ready i ≡ Some g = sym (slice_index_or-with_front_below s.ports i (named s ready) (replicate 7 None) None w.0) ∙ p.0 in
+          let q = request_parts (slice_index_or ready i []) (named_channel s ready i) g is_named in
+          ap (λ o. after_pick (slice_index_or s.inputs i no_arbiter) (channel_of o)) n
+          ∙ ap (after_pick (slice_index_or s.inputs i no_arbiter)) (sym q.0)
+          ∙ sym (ap (λ o. cond (is_some o) (after_pick (slice_index_or s.inputs i no_arbiter) (named_channel s ready i)) (slice_index_or s.inputs i no_arbiter)) n)
+
+-- ---- where nothing is ready
 
 all_named_none : (s : SwAllocState) (ready : List (List (Option ℕ))) → IsSwAlloc s.ports s.channels s.inputs s.outputs → ((p v : ℕ) → p < 7 → v < 8 → cell ready p v None ≡ None)
     → all_named s ready ≡ replicate 7 None
 all_named_none s ready r none =
     with_front_kept s.ports (named s ready) (replicate 7 None) None r.few_ports
-    (λ i l. named_none s ready r none i l ∙ sym (get_or-replicate_same 7 i None))
+    (λ i l. let few = r.few_ports in named_unready s ready i r l (λ v lv. none i v (omega arith) lv) ∙ sym (get_or-replicate_same 7 i None))
 
 -- nothing is granted
 pub sw_grants_none : (s : SwAllocState) (ready : List (List (Option ℕ))) → IsSwAlloc s.ports s.channels s.inputs s.outputs → ((p v : ℕ) → p < 7 → v < 8 → cell ready p v None ≡ None)

@@ -29,19 +29,19 @@ impl Router {
         unrouted.is_empty()
     }
 
-    /// Whether no channel waits.
+    /// Whether a pass for output channels would do nothing.
     fn allocates_nothing(&self) -> bool
         ensures { IsTrue result → after_allocate self.now ≡ self.now }
     {
-        self.waiting().is_empty()
+        self.grants_nothing()
     }
 
-    /// Whether no channel may send: none is active.
+    /// Whether no channel may send.
     fn sends_nothing(&self) -> bool
         ensures chooses { IsTrue result → after_choose self.now ≡ self.now }
         ensures grants { IsTrue result → switch_grants self.now ≡ replicate 7 None }
     {
-        self.busy.active.is_empty()
+        self.busy.candidates.is_empty()
     }
 
     /// Whether no input channel owes a credit.

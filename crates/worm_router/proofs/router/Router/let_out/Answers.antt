@@ -1,16 +1,36 @@
-use Rattle.std.proofs.Common.{arith, ap, sym, subst, ◌≤◌, ◌<◌, ◌+◌, ◌≡◌, ◌*◌, ℕ, sum, length}
+use Rattle.std.proofs.Common.{arith, true, false, if◌then◌else◌, None, inl, inr, ◌∙◌, ap, sym, subst, ◌≤◌, ◌<◌, ◌+◌, ◌≡◌, ◌*◌, ℕ, sum, length}
 use Rattle.std.proofs.lemmas.Grind.{common_steps}
 use Rattle.std.proofs.lemmas.List.Elements.{All-get_or}
+use Rattle.std.proofs.lemmas.Bool.{and_parts}
+use Rattle.worm_flit.specs.Kinds.{closes}
 use Rattle.worm_records.specs.declared.OutRecord.{OutRecord}
-use Rattle.worm_router.specs.Router.{RouterState, ChannelState, IsRouter, IsChannel, free_output, terminal, width}
+use Rattle.worm_router.specs.Router.{RouterState, ChannelState, input_at, IsRouter, IsChannel, free_output, terminal, width}
 use Rattle.worm_router.proofs.Kept.{both_set_sound, input_read, let_out_sound, full_after, full_before, no_credit}
-use Rattle.worm_router.proofs.Filed.{filed_in}
-use Rattle.worm_router.proofs.Leaving.{may_leave}
+use Rattle.worm_router.specs.Busy.{is_waiting, is_active}
+use Rattle.worm_router.specs.declared.busy.BusyChannels.{BusyChannels}
+use Rattle.worm_router.proofs.Places.{input_of, output_of, output_read}
+use Rattle.worm_router.proofs.Filed.{busy_filed}
+use Rattle.worm_router.proofs.Leaving.{may_leave, leaves_active}
+use Rattle.worm_router.proofs.InVain.{vain_left, holds_open, holds_waits_not, waits_not_after}
+use Rattle.worm_router.proofs.Candidates.{candidates_left}
 use Rattle.worm_router.proofs.router.Router.let_out.Goals as goal
+
+pub pass-requires : goal.pass-requires
+pass-requires c =
+    let there = may_leave c.args.self.now c.args.port c.args.vc (c.args.out, c.args.flit) (subst IsRouter c.self.view_is c.self.invariant.router) c.requires.place c.requires.ready in
+    let credits = ap (λ (u : OutRecord). u.credits) (output_read _ c.args.self.now c.args.out c.args.flit.vc c.line-o.result c.index_mut-output.result.now c.self.view_is c.index_mut-output.ensures.value c.line-o.ensures.value c.line-o.ensures.in_outputs) in
+    omega (arith, there.has_credit, credits, c.credit_of-spent.ensures.value)
 
 pub invariant_of-self : goal.invariant_of-self
 invariant_of-self c =
+    let input = input_of _ c.args.self.now c.args.port c.args.vc c.line-i.result c.index_mut-channel.result.now c.self.view_is c.requires.place c.line-i.ensures.value c.line-i.ensures.in_inputs c.index_mut-channel.ensures.value in
     let there = may_leave c.args.self.now c.args.port c.args.vc (c.args.out, c.args.flit) (subst IsRouter c.self.view_is c.self.invariant.router) c.requires.place c.requires.ready in
+    let output = output_of _ c.args.self.now c.args.out c.args.flit.vc c.line-o.result c.index_mut-output.result.now c.self.view_is (record { port_in = there.out_in; channel_in = there.channel_in }) c.line-o.ensures.value c.line-o.ensures.in_outputs c.index_mut-output.ensures.value in
+    let held : is_active c.index_mut-channel.result.now ≡ true =
+    ap is_active (input_read _ c.args.self.now c.args.port c.args.vc c.line-i.result c.index_mut-channel.result.now c.self.view_is c.index_mut-channel.ensures.value c.line-i.ensures.value c.line-i.ensures.in_inputs)
+    ∙ leaves_active c.args.self.now c.args.port (input_at c.args.self.now c.args.port c.args.vc) (input_at c.args.self.now c.args.port c.args.vc).state (input_at c.args.self.now c.args.port c.args.vc).buffer (c.args.out, c.args.flit) c.requires.ready in
+    let waited_not : is_waiting c.index_mut-channel.result.now ≡ false = holds_waits_not c.index_mut-channel.result.now.state held in
+    let waits_not : is_waiting c.let_out.new.self ≡ false = ap is_waiting c.let_out.ensures ∙ waits_not_after (closes c.args.flit.kind) c.index_mut-channel.result.now.state waited_not in
     let in_inputs : c.line-i.result < length c.self.inside.inputs.items = grind (arith, common_steps) in
     let in_outputs : c.line-o.result < length c.self.inside.outputs.items = grind (arith, common_steps) in
     let at : IsChannel c.self.inside.mesh c.self.inside.classes c.self.inside.depth c.index_mut-channel.result.now =
@@ -34,5 +54,16 @@ invariant_of-self c =
             (full_after c.self.inside.outputs.items (2 * length c.self.inside.mesh) (sum c.self.inside.classes) c.self.inside.depth c.line-o.result c.pass.new.output (free_output c.self.inside.depth) in_outputs c.self.invariant.router.lists.terminal_full spends);
       };
       arbiters = c.self.invariant.arbiters;
-      busy = filed_in _ c.args.self.now _ _ c.args.port c.args.vc _ _ c.self.view_is c.self.invariant.busy c.file.ensures c.requires.place c.line-i.ensures.value c.line-i.ensures.in_inputs;
+      busy = busy_filed _ _ _ _ _ _ _ _ input c.self.invariant.busy
+          (inl c.file_left.ensures.occupied)
+          (inr (ap (λ (b : BusyChannels). b.waiting) c.file_left.ensures.others, waits_not ∙ sym waited_not))
+          (inl c.file_left.ensures.active)
+          (inl c.file_left.ensures.owing);
+      in_vain = λ yes.
+          let parts = and_parts _ _ (sym c.file_left.ensures.in_vain ∙ yes) in
+          let still : closes c.args.flit.kind ≡ false = holds_open (closes c.args.flit.kind) c.index_mut-channel.result.now.state (sym (ap is_active c.let_out.ensures) ∙ parts.1) in
+          vain_left _ _ _ _ _ _ _ _ _ _ _ input output waits_not
+          (ap (λ (u : OutRecord). u.holder) c.pass.ensures ∙ ap (λ b. if b then None else c.index_mut-output.result.now.holder) still)
+          (c.self.invariant.in_vain parts.0);
+      candidates = candidates_left _ _ _ _ _ _ _ _ _ _ _ c.credit_of-spent.result _ _ input output c.self.invariant.busy.few_ports c.self.invariant.busy.few_channels c.file_left.ensures.candidates (ap (λ (u : OutRecord). u.credits) c.pass.ensures) c.self.invariant.candidates;
     }
