@@ -1,6 +1,6 @@
 -- What comes in at each node, after a write of one link.
 use Rattle.std.proofs.Common.{◌≡◌, ◌==◌, ◌≢◌, ℕ, ◌+◌, ◌*◌, ◌<◌, ◌≤◌, below_more, Bool, true, false, inl, inr, List, [], ◌∷◌, length, drop, get_or, set, Option, Some, None, refl, arith, ap, sym, subst, ◌∙◌}
-use Rattle.std.specs.Prelude.{IsTrue, not, option_map, IsSome, is_some, slice_get}
+use Rattle.std.specs.Prelude.{IfNone, IfSome, IsTrue, option_map, IsSome, is_some, slice_get}
 use Rattle.std.proofs.lemmas.List.{get_or_default, get_or-set_other, get_or-set_same}
 use Rattle.worm_flit.specs.declared.Flit.{Flit}
 use Rattle.worm_mesh.specs.Address.{IsMesh as IsRadices, Joins, neighbour_of, opposite_of}
@@ -12,7 +12,7 @@ use Rattle.worm_theory.proofs.Places.{number_cases}
 use Rattle.worm_core.specs.State.{LinkView, blank_link}
 use Rattle.worm_core.specs.Moves.{into_from}
 use Rattle.worm_core.specs.Wiring.{out_link, in_link}
-use Rattle.worm_core.specs.Ports.{has, IsPut}
+use Rattle.worm_core.specs.Ports.{has, IsFirstFrom, IsPut}
 use Rattle.worm_core.specs.Arrivals.{LinksView, KnowsArrivals, KnowsAll, credits_of, credits_to, flits_of, flits_to, no_arrivals, number_into, number_out, state_at, with_state}
 use Rattle.worm_core.specs.declared.links.Arrivals.{Arrivals}
 use Rattle.std.proofs.lemmas.Bool.{cases_lt}
@@ -295,17 +295,6 @@ pushes_credit mesh states now kept x p y q k m i j bits d read new credits knows
     let put_there : IsPut (get_or kept y no_arrivals).credits bits (opposite_of p) true = subst (λ (a : Arrivals). IsPut a.credits bits (opposite_of p) true) entry (subst (λ (v : ℕ). IsPut (get_or kept i d).credits bits v true) other.1 put) in
     rw (at_j, place, entry) (knows_push_credit (record { mesh = mesh; states = states }) kept x p y bits new knows radices other.0 y_in (omega arith) here kept_too put_there)
 
--- what a set that lacks a port says
-pub lacks : (l : LinksView) (kept : List Arrivals) (x i p : ℕ) (d : Arrivals) (test : Bool) → KnowsAll l kept → length kept ≡ 256 → x < 256 → p < 6 → i ≡ x → test ≡ has (get_or kept i d).flits p → test ≡ false → flits_to l x p ≡ []
-lacks l kept x i p d test knows all x_in p_in at_i is off =
-    let i_there : i < length kept = omega arith in
-    let entry : get_or kept i d ≡ get_or kept x no_arrivals = get_or_default kept i d no_arrivals i_there ∙ ap (λ (v : ℕ). get_or kept v no_arrivals) at_i in
-    (knows x x_in).flits p p_in (ap (λ (a : Arrivals). has a.flits p) (sym entry) ∙ (sym is ∙ off))
-
-pub untrue : (b : Bool) → IsTrue (not b) → b ≡ false
-untrue true h = absurd (cc)
-untrue false h = refl
-
 -- a link of which a look found no flit
 pub found_none : (states : List LinkView) (k i : ℕ) (read : LinkView) (some : Bool) → i ≡ k → i < length states → read ≡ get_or states i read → some ≡ is_some (slice_get read.flits 0) → some ≡ false → flits_of states (Some k) ≡ []
 found_none states k i read some at_i there reads is off =
@@ -330,22 +319,52 @@ nothing_out l x o linked none = nothing_back l.mesh l.states x o (neighbour_of l
 
 -- nothing comes in by a port that is in no set, nor past the mesh ports
 
-pub quiet_flits : (l : LinksView) (kept : List Arrivals) (x i : ℕ) (d : Arrivals) → KnowsAll l kept → length kept ≡ 256 → x < 256 → i ≡ x → 2 * length l.mesh ≤ 6 → ((get_or kept i d).flits == 0) ≡ true → (p : ℕ) → flits_to l x p ≡ []
-quiet_flits l kept x i d knows all x_in at_i few none p = elim (cases_lt p 6) [
+pub lacks_flits : (l : LinksView) (kept : List Arrivals) (x i : ℕ) (d : Arrivals) → KnowsAll l kept → length kept ≡ 256 → x < 256 → i ≡ x → 2 * length l.mesh ≤ 6 → (p : ℕ) → (p < 8 → has (get_or kept i d).flits p ≡ false) → flits_to l x p ≡ []
+lacks_flits l kept x i d knows all x_in at_i few p none = elim (cases_lt p 6) [
   | inl mesh_port ↦
       let entry : get_or kept i d ≡ get_or kept x no_arrivals = get_or_default kept i d no_arrivals (omega arith) ∙ ap (λ (v : ℕ). get_or kept v no_arrivals) at_i in
-      (knows x x_in).flits p mesh_port (ap (λ (a : Arrivals). has a.flits p) (sym entry) ∙ has_none (get_or kept i d).flits p none)
+      (knows x x_in).flits p mesh_port (ap (λ (a : Arrivals). has a.flits p) (sym entry) ∙ none (omega arith))
   | inr past ↦ ap (λ (n : Option ℕ). flits_of l.states n) (in_none l.mesh x p (omega arith))
 ]
 
-pub quiet_credits : (l : LinksView) (kept : List Arrivals) (x i : ℕ) (d : Arrivals) → KnowsAll l kept → length kept ≡ 256 → x < 256 → i ≡ x → 2 * length l.mesh ≤ 6 → ((get_or kept i d).credits == 0) ≡ true → (o : ℕ) → credits_to l x o ≡ []
-quiet_credits l kept x i d knows all x_in at_i few none o = elim (cases_lt o 6) [
+pub quiet_flits : (l : LinksView) (kept : List Arrivals) (x i : ℕ) (d : Arrivals) → KnowsAll l kept → length kept ≡ 256 → x < 256 → i ≡ x → 2 * length l.mesh ≤ 6 → ((get_or kept i d).flits == 0) ≡ true → (p : ℕ) → flits_to l x p ≡ []
+quiet_flits l kept x i d knows all x_in at_i few none p = lacks_flits l kept x i d knows all x_in at_i few p (λ below. has_none (get_or kept i d).flits p none)
+
+-- from one port on, where the first of the set is past the mesh ports
+pub past_flits : (l : LinksView) (kept : List Arrivals) (x i from port : ℕ) (d : Arrivals) → KnowsAll l kept → length kept ≡ 256 → x < 256 → i ≡ x → 2 * length l.mesh ≤ 6 → IsFirstFrom (get_or kept i d).flits from port → 2 * length l.mesh ≤ port → (p : ℕ) → from ≤ p → flits_to l x p ≡ []
+past_flits l kept x i from port d knows all x_in at_i few first past p above = elim (cases_lt p port) [
+  | inl before ↦ lacks_flits l kept x i d knows all x_in at_i few p (λ below. first.none_before p above before)
+  | inr after ↦ ap (λ (n : Option ℕ). flits_of l.states n) (in_none l.mesh x p (omega arith))
+]
+
+pub lacks_credits : (l : LinksView) (kept : List Arrivals) (x i : ℕ) (d : Arrivals) → KnowsAll l kept → length kept ≡ 256 → x < 256 → i ≡ x → 2 * length l.mesh ≤ 6 → (o : ℕ) → (o < 8 → has (get_or kept i d).credits o ≡ false) → credits_to l x o ≡ []
+lacks_credits l kept x i d knows all x_in at_i few o none = elim (cases_lt o 6) [
   | inl mesh_port ↦
       let entry : get_or kept i d ≡ get_or kept x no_arrivals = get_or_default kept i d no_arrivals (omega arith) ∙ ap (λ (v : ℕ). get_or kept v no_arrivals) at_i in
-      (knows x x_in).credits o mesh_port (ap (λ (a : Arrivals). has a.credits o) (sym entry) ∙ has_none (get_or kept i d).credits o none)
+      (knows x x_in).credits o mesh_port (ap (λ (a : Arrivals). has a.credits o) (sym entry) ∙ none (omega arith))
   | inr past ↦ ap (λ (n : Option ℕ). credits_of l.states n) (out_none l.mesh x o (omega arith))
+]
+
+pub quiet_credits : (l : LinksView) (kept : List Arrivals) (x i : ℕ) (d : Arrivals) → KnowsAll l kept → length kept ≡ 256 → x < 256 → i ≡ x → 2 * length l.mesh ≤ 6 → ((get_or kept i d).credits == 0) ≡ true → (o : ℕ) → credits_to l x o ≡ []
+quiet_credits l kept x i d knows all x_in at_i few none o = lacks_credits l kept x i d knows all x_in at_i few o (λ below. has_none (get_or kept i d).credits o none)
+
+-- from one port on, where the first of the set is past the mesh ports
+pub past_credits : (l : LinksView) (kept : List Arrivals) (x i from port : ℕ) (d : Arrivals) → KnowsAll l kept → length kept ≡ 256 → x < 256 → i ≡ x → 2 * length l.mesh ≤ 6 → IsFirstFrom (get_or kept i d).credits from port → 2 * length l.mesh ≤ port → (o : ℕ) → from ≤ o → credits_to l x o ≡ []
+past_credits l kept x i from port d knows all x_in at_i few first past o above = elim (cases_lt o port) [
+  | inl before ↦ lacks_credits l kept x i d knows all x_in at_i few o (λ below. first.none_before o above before)
+  | inr after ↦ ap (λ (n : Option ℕ). credits_of l.states n) (out_none l.mesh x o (omega arith))
 ]
 
 pub true_of : (b : Bool) → IsTrue b → b ≡ true
 true_of true h = refl
 true_of false h = absurd (cc)
+
+-- what holds of each port up to one, or of all from one on, under another name
+
+pub some_before : (o : Option ℕ) (from : ℕ) (A B : ℕ → Type 0) → ((p : ℕ) → A p → B p) → IfSome o (λ port. (p : ℕ) → from ≤ p → p < port → A p) → IfSome o (λ port. (p : ℕ) → from ≤ p → p < port → B p)
+some_before None from A B turned had = tt
+some_before (Some port) from A B turned had = λ p above below. turned p (had p above below)
+
+pub none_past : (o : Option ℕ) (from : ℕ) (A B : ℕ → Type 0) → ((p : ℕ) → A p → B p) → IfNone o ((p : ℕ) → from ≤ p → A p) → IfNone o ((p : ℕ) → from ≤ p → B p)
+none_past None from A B turned had = λ p above. turned p (had p above)
+none_past (Some port) from A B turned had = tt

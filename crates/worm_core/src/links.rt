@@ -1,6 +1,6 @@
 //! The links of a mesh with what is on them, and by node the ports at which something comes in, so that a turn goes past all others.
 
-ghost use Rattle.std.specs.Prelude.{◌≡◌, ◌<◌, ◌==◌, ◌++◌, ◌∷◌, [], ℕ, IsSome, IsTrue, Option, false, drop, length, slice_get, slice_set};
+ghost use Rattle.std.specs.Prelude.{◌≡◌, ◌<◌, ◌≤◌, ◌*◌, ◌==◌, ◌++◌, ◌∷◌, [], ℕ, IfNone, IfSome, IsSome, IsTrue, Option, false, drop, length, slice_get, slice_set};
 ghost use Rattle.worm_mesh.specs.Address.{IsMesh as IsRadices, neighbour_of};
 ghost use Rattle.worm_mesh.specs.Links.{link_count};
 ghost use Rattle.worm_core.specs.State.{LinkView};
@@ -140,22 +140,40 @@ impl Links {
         here.flits.is_empty() && here.credits.is_empty()
     }
 
-    /// Whether no flit comes in by the port.
-    pub fn brings_no_flit(&self, node: u8, port: u8) -> bool
-        requires { port < 6 }
-        ensures { IsTrue result → flits_to self.now node port ≡ [] }
+    /// A mesh port from this one on by which a flit may come in, and before which none does.
+    pub fn next_flit(&self, node: u8, from: u8) -> Option<u8>
+        requires { from ≤ 6 }
+        ensures mesh_port { IfSome result (λ port. (from ≤ port) × (port < 2 * length self.now.mesh) × (port < 6)) }
+        ensures before { IfSome result (λ port. (p : ℕ) → from ≤ p → p < port → flits_to self.now node p ≡ []) }
+        ensures none { IfNone result ((p : ℕ) → from ≤ p → flits_to self.now node p ≡ []) }
     {
         let here = self.arrivals[usize::from(node)];
-        !here.flits.contains(port)
+        let terminal = self.wiring.terminal();
+        let Some(port) = here.flits.first_from(from) else {
+            return None;
+        };
+        if port >= terminal {
+            return None;
+        }
+        Some(port)
     }
 
-    /// Whether no credit comes in by the port.
-    pub fn brings_no_credit(&self, node: u8, port: u8) -> bool
-        requires { port < 6 }
-        ensures { IsTrue result → credits_to self.now node port ≡ [] }
+    /// A mesh port from this one on by which a credit may come in, and before which none does.
+    pub fn next_credit(&self, node: u8, from: u8) -> Option<u8>
+        requires { from ≤ 6 }
+        ensures mesh_port { IfSome result (λ port. (from ≤ port) × (port < 2 * length self.now.mesh) × (port < 6)) }
+        ensures before { IfSome result (λ port. (p : ℕ) → from ≤ p → p < port → credits_to self.now node p ≡ []) }
+        ensures none { IfNone result ((p : ℕ) → from ≤ p → credits_to self.now node p ≡ []) }
     {
         let here = self.arrivals[usize::from(node)];
-        !here.credits.contains(port)
+        let terminal = self.wiring.terminal();
+        let Some(port) = here.credits.first_from(from) else {
+            return None;
+        };
+        if port >= terminal {
+            return None;
+        }
+        Some(port)
     }
 
     /// The number of the link that comes into this port.

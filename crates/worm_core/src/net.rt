@@ -220,22 +220,26 @@ impl Net {
         self.fabric.is_routed(node)
     }
 
-    /// Whether no credit comes in by the port; then there is none to take.
-    pub(crate) fn takes_no_credit(&self, node: u8, port: u8) -> bool
+    /// A mesh port from this one on by which a credit may come in; before it there is none to take, and where there is none, past it.
+    pub(crate) fn next_credit(&self, node: u8, from: u8) -> Option<u8>
         requires node { node < node_count self.now.mesh }
-        requires port { port < 6 }
-        ensures { IsTrue result → Tries (Event.TakeCredit node port) self.now None self.now }
+        requires from { from ≤ 6 }
+        ensures mesh_port { IfSome result (λ port. (from ≤ port) × (port < 2 * length self.now.mesh) × (port < 6)) }
+        ensures before { IfSome result (λ port. (p : ℕ) → from ≤ p → p < port → Tries (Event.TakeCredit node p) self.now None self.now) }
+        ensures none { IfNone result ((p : ℕ) → from ≤ p → Tries (Event.TakeCredit node p) self.now None self.now) }
     {
-        self.fabric.brings_no_credit(node, port)
+        self.fabric.next_credit(node, from)
     }
 
-    /// Whether no flit comes in by the port; then there is none to take.
-    pub(crate) fn takes_no_flit(&self, node: u8, port: u8) -> bool
+    /// The same of flits.
+    pub(crate) fn next_flit(&self, node: u8, from: u8) -> Option<u8>
         requires node { node < node_count self.now.mesh }
-        requires port { port < 6 }
-        ensures { IsTrue result → Tries (Event.Take node port) self.now None self.now }
+        requires from { from ≤ 6 }
+        ensures mesh_port { IfSome result (λ port. (from ≤ port) × (port < 2 * length self.now.mesh) × (port < 6)) }
+        ensures before { IfSome result (λ port. (p : ℕ) → from ≤ p → p < port → Tries (Event.Take node p) self.now None self.now) }
+        ensures none { IfNone result ((p : ℕ) → from ≤ p → Tries (Event.Take node p) self.now None self.now) }
     {
-        self.fabric.brings_no_flit(node, port)
+        self.fabric.next_flit(node, from)
     }
 
     /// Whether no channel of the node owes a credit; then there is none to give.

@@ -32,9 +32,10 @@ impl Node {
         let Some(flit) = self.source.front(class) else {
             return false;
         };
-        if self.router.accept(port, flit).is_err() {
+        if !self.router.has_room(port, flit.vc) {
             return false;
         }
+        let _done = self.router.accept(port, flit);
         self.source.fed(class);
         true
     }

@@ -1,7 +1,7 @@
 //! Sets of the mesh ports of a node.
 
-ghost use Rattle.std.specs.Prelude.{◌≡◌, ◌==◌, ◌<◌};
-ghost use Rattle.worm_core.specs.Ports.{has, IsPut};
+ghost use Rattle.std.specs.Prelude.{ℕ, ◌≡◌, ◌==◌, ◌<◌, ◌≤◌, MatchOption, false};
+ghost use Rattle.worm_core.specs.Ports.{has, IsFirstFrom, IsPut};
 
 use std::marker::Model;
 
@@ -37,12 +37,16 @@ impl PortSet {
         self.bits == 0
     }
 
-    /// Whether the port is in the set.
-    pub fn contains(&self, port: u8) -> bool
-        requires { port < 6 }
-        ensures { result ≡ has self.now port }
+    /// The first port of the set from this one on, if there is one.
+    pub fn first_from(&self, from: u8) -> Option<u8>
+        requires { from < 8 }
+        ensures { MatchOption result ((p : ℕ) → from ≤ p → p < 8 → has self.now p ≡ false) (IsFirstFrom self.now from) }
     {
-        self.bits >> port & 1 == 1
+        let rest = self.bits >> from;
+        if rest == 0 {
+            return None;
+        }
+        Some(from + rest.trailing_zeros() as u8)
     }
 
     /// Puts the port into the set, or takes it out where `within` is false.
@@ -70,9 +74,8 @@ mod tests {
         set.put(5, true);
         set.put(2, true);
         set.put(5, false);
-        assert!(rt; set.contains(2));
-        assert!(rt; !set.contains(5));
-        assert!(rt; !set.contains(1));
+        assert_eq!(rt; set.first_from(0), Some(2));
+        assert_eq!(rt; set.first_from(3), None);
         assert!(rt; !set.is_empty());
     }
 }

@@ -70,11 +70,10 @@ impl Net {
         requires { node < node_count self.old.mesh }
         ensures { Does (TakesCredits node) self.old None self.new }
     {
-        for port in 0..self.terminal() {
-            if self.takes_no_credit(node, port) {
-                continue;
-            }
+        let mut from = 0;
+        while let Some(port) = self.next_credit(node, from) {
             let _moved = self.get(node, port);
+            from = port + 1;
         }
     }
 
@@ -83,11 +82,10 @@ impl Net {
         requires { node < node_count self.old.mesh }
         ensures { Does (TakesFlits node) self.old None self.new }
     {
-        for port in 0..self.terminal() {
-            if self.takes_no_flit(node, port) {
-                continue;
-            }
+        let mut from = 0;
+        while let Some(port) = self.next_flit(node, from) {
             let _moved = self.take(node, port);
+            from = port + 1;
         }
     }
 
