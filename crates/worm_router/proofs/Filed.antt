@@ -1,5 +1,5 @@
 -- What filing one channel leaves of the sets of busy channels.
-use Rattle.std.proofs.Common.{ℕ, ◌+◌, ◌*◌, ◌≤◌, ◌<◌, ◌≡◌, List, length, slice_set, replicate, Bool, true, false, arith, inl, inr, refl, sym, ap, subst, ◌∙◌}
+use Rattle.std.proofs.Common.{ℕ, ◌+◌, ◌*◌, ◌≤◌, ◌<◌, ◌≡◌, List, length, slice_set, slice_index_or, replicate, Bool, ◌⊎◌, true, false, arith, inl, inr, refl, sym, ap, subst, ◌∙◌}
 use Rattle.std.proofs.lemmas.Grind.{get_or-set_at}
 use Rattle.std.proofs.lemmas.Bool.{cases_eq}
 use Rattle.std.proofs.lemmas.Nat.{same_from_place, mul-add-lt}
@@ -7,11 +7,12 @@ use Rattle.std.proofs.lemmas.List.{get_or-set_other, get_or-replicate}
 use Rattle.worm_vcalloc.specs.ChannelSet.{has, IsPut}
 use Rattle.worm_vcalloc.proofs.SetLemmas.{has-zero}
 use Rattle.worm_router.specs.declared.busy.BusyChannels.{BusyChannels}
-use Rattle.worm_router.specs.Router.{ChannelState, RouterState, IsPlace, terminal, width, line, fresh_channel}
-use Rattle.worm_router.specs.Busy.{IsSetIn, AreBusy, IsFiled, is_occupied, is_waiting, is_active, owes}
+use Rattle.worm_router.specs.Router.{ChannelState, RouterState, terminal, width, fresh_channel}
+use Rattle.worm_router.proofs.Places.{IsInput, same_at}
+use Rattle.worm_router.specs.Busy.{IsSetIn, AreBusy, is_occupied, is_waiting, is_active, owes}
 
 -- one set
-set_filed : (test : ChannelState → Bool) (t w depth : ℕ) (inputs : List ChannelState) (old new port vc i : ℕ) (c : ChannelState)
+pub set_filed : (test : ChannelState → Bool) (t w depth : ℕ) (inputs : List ChannelState) (old new port vc i : ℕ) (c : ChannelState)
     → IsSetIn test t w depth inputs old → IsPut old new port vc (test c) → t ≤ 6 → w ≤ 8
     → port ≤ t → vc < w → i ≡ port * w + vc → i < length inputs
     → IsSetIn test t w depth (slice_set inputs i c) new
@@ -38,29 +39,53 @@ set_filed test t w depth inputs old new port vc i c sound put few_ports few_chan
   ];
 }
 
-pub filed_sound : (t w depth : ℕ) (inputs : List ChannelState) (old new : BusyChannels) (port vc i : ℕ) (c : ChannelState)
-    → AreBusy t w depth inputs old → IsFiled old new port vc c
-    → port ≤ t → vc < w → i ≡ port * w + vc → i < length inputs
-    → AreBusy t w depth (slice_set inputs i c) new
-filed_sound t w depth inputs old new port vc i c sound filed port_in vc_in place within = record {
-  few_ports = sound.few_ports;
-  few_channels = sound.few_channels;
-  occupied = set_filed is_occupied t w depth inputs _ _ port vc i c sound.occupied filed.occupied sound.few_ports sound.few_channels port_in vc_in place within;
-  waiting = set_filed is_waiting t w depth inputs _ _ port vc i c sound.waiting filed.waiting sound.few_ports sound.few_channels port_in vc_in place within;
-  active = set_filed is_active t w depth inputs _ _ port vc i c sound.active filed.active sound.few_ports sound.few_channels port_in vc_in place within;
-  owing = set_filed owes t w depth inputs _ _ port vc i c sound.owing filed.owing sound.few_ports sound.few_channels port_in vc_in place within;
+-- a set of a test that the channel passes as before
+pub set_kept : (test : ChannelState → Bool) (t w depth : ℕ) (inputs : List ChannelState) (set i : ℕ) (had now : ChannelState)
+    → IsSetIn test t w depth inputs set → i < length inputs → had ≡ slice_index_or inputs i (fresh_channel depth) → test now ≡ test had
+    → IsSetIn test t w depth (slice_set inputs i now) set
+set_kept test t w depth inputs set i had now sound within was same = record {
+  inside = λ p v p_in v_in. sound.inside p v p_in v_in ∙ sym (same_at test inputs i (p * w + v) now (fresh_channel depth) within (same ∙ ap test was));
+  outside = sound.outside;
 }
 
--- the same of a router's channel that was written at its place
-pub filed_in : (r s : RouterState) (old new : BusyChannels) (port vc i : ℕ) (c : ChannelState)
-    → r ≡ s → AreBusy (terminal r) (width r) r.depth r.inputs old → IsFiled old new port vc c
-    → IsPlace s port vc → i ≡ line s port vc → i < length s.inputs
-    → AreBusy (terminal r) (width r) r.depth (slice_set r.inputs i c) new
-filed_in r s old new port vc i c same sound filed place is within =
-    let here : IsPlace r port vc = subst (λ (q : RouterState). IsPlace q port vc) (sym same) place in
-    filed_sound (terminal r) (width r) r.depth r.inputs old new port vc i c sound filed here.port_in here.channel_in
-    (is ∙ ap (λ (q : RouterState). line q port vc) (sym same))
-    (subst (λ (q : RouterState). i < length q.inputs) (sym same) within)
+-- a set is filed anew at the channel, or the channel passes its test as before
+abbrev pub IsFiledBy : (ChannelState → Bool) → ℕ → ℕ → ℕ → ℕ → ChannelState → ChannelState → Type 0
+IsFiledBy test old new port vc had now = IsPut old new port vc (test now) ⊎ ((new ≡ old) × (test now ≡ test had))
+
+set_by : (test : ChannelState → Bool) (r : RouterState) (old new port vc i : ℕ) (had now : ChannelState) → IsInput r port vc i had
+    → terminal r ≤ 6 → width r ≤ 8 → IsSetIn test (terminal r) (width r) r.depth r.inputs old → IsFiledBy test old new port vc had now
+    → IsSetIn test (terminal r) (width r) r.depth (slice_set r.inputs i now) new
+set_by test r old new port vc i had now input few_ports few_channels sound (inl put) =
+    set_filed test (terminal r) (width r) r.depth r.inputs old new port vc i now sound put few_ports few_channels input.place.port_in input.place.channel_in input.at input.within
+set_by test r old new port vc i had now input few_ports few_channels sound (inr kept) =
+    subst (IsSetIn test (terminal r) (width r) r.depth (slice_set r.inputs i now)) (sym kept.0)
+    (set_kept test (terminal r) (width r) r.depth r.inputs old i had now sound input.within input.was kept.1)
+
+pub busy_filed : (r : RouterState) (old new : BusyChannels) (port vc i : ℕ) (had now : ChannelState) → IsInput r port vc i had
+    → AreBusy (terminal r) (width r) r.depth r.inputs old
+    → IsFiledBy is_occupied old.occupied new.occupied port vc had now → IsFiledBy is_waiting old.waiting new.waiting port vc had now
+    → IsFiledBy is_active old.active new.active port vc had now → IsFiledBy owes old.owing new.owing port vc had now
+    → AreBusy (terminal r) (width r) r.depth (slice_set r.inputs i now) new
+busy_filed r old new port vc i had now input sound occupied waiting active owing = record {
+  few_ports = sound.few_ports;
+  few_channels = sound.few_channels;
+  occupied = set_by is_occupied r _ _ port vc i had now input sound.few_ports sound.few_channels sound.occupied occupied;
+  waiting = set_by is_waiting r _ _ port vc i had now input sound.few_ports sound.few_channels sound.waiting waiting;
+  active = set_by is_active r _ _ port vc i had now input sound.few_ports sound.few_channels sound.active active;
+  owing = set_by owes r _ _ port vc i had now input sound.few_ports sound.few_channels sound.owing owing;
+}
+
+-- the same sets beside other marks
+pub busy_as : (t w depth : ℕ) (inputs : List ChannelState) (old new : BusyChannels) → AreBusy t w depth inputs old
+    → new.occupied ≡ old.occupied → new.waiting ≡ old.waiting → new.active ≡ old.active → new.owing ≡ old.owing → AreBusy t w depth inputs new
+busy_as t w depth inputs old new sound occupied waiting active owing = record {
+  few_ports = sound.few_ports;
+  few_channels = sound.few_channels;
+  occupied = subst (IsSetIn is_occupied t w depth inputs) (sym occupied) sound.occupied;
+  waiting = subst (IsSetIn is_waiting t w depth inputs) (sym waiting) sound.waiting;
+  active = subst (IsSetIn is_active t w depth inputs) (sym active) sound.active;
+  owing = subst (IsSetIn owes t w depth inputs) (sym owing) sound.owing;
+}
 
 -- the empty set, where no channel passes
 set_fresh : (test : ChannelState → Bool) (t w depth count : ℕ) (inputs : List ChannelState) → test (fresh_channel depth) ≡ false
@@ -75,7 +100,7 @@ set_fresh test t w depth count inputs none all counted = record {
 
 pub fresh_busy : (t w depth count : ℕ) (inputs : List ChannelState) (sets : BusyChannels) → t ≤ 6 → w ≤ 8
     → inputs ≡ replicate count (fresh_channel depth) → count ≡ (t + 1) * w
-    → sets ≡ record { occupied = 0; waiting = 0; active = 0; owing = 0 }
+    → sets ≡ record { occupied = 0; waiting = 0; active = 0; owing = 0; in_vain = false; candidates = 0 }
     → AreBusy t w depth inputs sets
 fresh_busy t w depth count inputs sets few_ports few_channels all counted none = rw none record {
   few_ports = few_ports;

@@ -1,6 +1,9 @@
 -- Grants written one by one change no port and no channel of the router.
-use Rattle.std.proofs.Common.{◌≡◌, ℕ, ◌+◌, ◌<◌, ◌≤◌, List, Option, None, Some, fold, IfSome, refl, ap, sym, ◌∙◌}
+use Rattle.std.proofs.Common.{◌≡◌, ℕ, zero, suc, false, is_some, ◌==◌, arith, subst, ◌+◌, ◌<◌, ◌≤◌, List, Option, None, Some, fold, IfSome, refl, ap, sym, ◌∙◌}
 use Rattle.std.specs.List.{range_with_len}
+use Rattle.std.proofs.lemmas.Nat.Bits.{bit_at_above}
+use Rattle.worm_vcalloc.specs.Arbiter.{line_requests}
+use Rattle.worm_vcalloc.specs.ChannelSet.{has}
 use Rattle.worm_vcalloc.specs.Table.{cell}
 use Rattle.worm_vcalloc.proofs.PassLemmas.{fold-range_more}
 use Rattle.worm_router.specs.Router.{RouterState, IsPlace, terminal, width, after_granting, can_grant}
@@ -75,3 +78,25 @@ pub written_all : (old new : RouterState) (grants : List (List (Option ℕ))) (n
     → HasWritten old new (fold (with_port_grants grants) old (range_with_len 0 n)) → new ≡ with_grants grants old
 unfolding with_grants
 written_all old new grants n all has = has.so_far ∙ ap (λ m. fold (with_port_grants grants) old (range_with_len 0 m)) all
+
+-- ---- a port without a grant
+
+fold_same_below : {X : Type 0} (step : X → ℕ → X) (x : X) (n from : ℕ) → ((k : ℕ) → k < from + n → step x k ≡ x) → fold step x (range_with_len from n) ≡ x
+fold_same_below step x zero from same = refl
+fold_same_below step x (suc n) from same =
+    ap (λ y. fold step y (range_with_len (from + 1) n)) (same from (omega arith)) ∙ fold_same_below step x n (from + 1) (λ k below. same k (omega arith))
+
+pub port_without : (r s : RouterState) (grants : List (List (Option ℕ))) (keys lines port n : ℕ) → r ≡ s → n ≡ width r → width r ≤ 8 → port < 7
+    → ((p v : ℕ) → p < 7 → v < 8 → has keys p v ≡ is_some (cell grants p v None))
+    → ((k : ℕ) → k < n → line_requests lines k ≡ has keys port k) → lines ≡ 0 → s ≡ with_port_grants grants s port
+unfolding with_port_grants
+port_without r s grants keys lines port n same all few port_in are rows none =
+    let wide : width s ≡ n = sym (all ∙ ap width same) in
+    let narrow : width s ≤ 8 = subst (λ (q : RouterState). width q ≤ 8) same few in
+    sym (fold_same_below (λ q vc. written q port vc (cell grants port vc None)) s (width s) 0 (λ k below.
+    let k_in : k < n = omega arith in
+    let empty : has keys port k ≡ false = sym (rows k k_in) ∙ ap (λ l. line_requests l k) none ∙ ap (λ b. b == 1) (bit_at_above 0 0 k (omega arith) (omega arith)) in
+    ap (written s port k) (not_some (cell grants port k None) (sym (are port k port_in (omega arith)) ∙ empty)))) where
+      not_some : (o : Option ℕ) → is_some o ≡ false → o ≡ None
+      not_some None e = refl
+      not_some (Some c) e = absurd (cc)

@@ -1,5 +1,5 @@
 -- Tables filled for the channels of a set alone, where any other channel has nothing to put there.
-use Rattle.std.proofs.Common.{◌≡◌, ℕ, ◌<◌, ◌&&◌, ◌==◌, Bool, true, false, nat_le, nat_lt, if◌then◌else◌, inl, inr, List, [], ◌∷◌, Option, None, length, replicate, refl, arith, ap, sym, ◌∙◌, subst}
+use Rattle.std.proofs.Common.{◌≡◌, ℕ, ◌<◌, ◌&&◌, ◌==◌, Bool, true, false, nat_le, nat_lt, if◌then◌else◌, inl, inr, List, Option, None, Some, is_some, ◌≤◌, replicate, refl, arith, ap, sym, ◌∙◌, subst}
 use Rattle.std.specs.Option.{option_map}
 use Rattle.std.proofs.lemmas.Bool.{cases_eq}
 use Rattle.worm_records.specs.declared.InRecord.{InRecord}
@@ -9,10 +9,10 @@ use Rattle.worm_vcalloc.specs.ChannelSet.{has, IsFirst}
 use Rattle.worm_vcalloc.specs.Table.{cell, with_cell, IsTable}
 use Rattle.worm_vcalloc.proofs.SetLemmas.{has-zero}
 use Rattle.worm_vcalloc.proofs.TableLemmas.{cell-with_cell_same, cell-with_cell_other, IsTable-with_cell, cell-replicate, IsTable-replicate}
-use Rattle.worm_router.specs.Router.{RouterState, ChannelState, IsPlace, terminal, width, input_at, leaving_by}
-use Rattle.worm_router.specs.Busy.{IsSetOf, waits, holds, is_waiting, is_active, is_occupied}
+use Rattle.worm_router.specs.Router.{RouterState, IsPlace, terminal, width, input_at, leaving}
+use Rattle.worm_router.specs.Busy.{IsSetOf, AreCandidates, waits, is_waiting}
 use Rattle.worm_router.specs.Tables.{table}
-use Rattle.worm_router.specs.Allocation.{within, asking, request_at, requests, ready_at}
+use Rattle.worm_router.specs.Allocation.{within, asking, request_at, requests, ready_at, ready_outs}
 use Rattle.worm_router.proofs.TableRows.{same_tables, cell-table, IsTable-table}
 
 -- the channels that are left of a set are places of the router, and each other cell is filled
@@ -100,30 +100,38 @@ nothing_asked r all is none =
 
 -- ---- the channels that may send
 
-stays_in : (r : RouterState) (port : ℕ) (c : ChannelState) (s : InRecord) (fs : List Flit) → (holds s && nat_lt 0 (length fs)) ≡ false → leaving_by r port c s fs ≡ None
-stays_in r port c Idle fs e = refl
-stays_in r port c (Waiting o) fs e = refl
-stays_in r port c (Active o v) [] e = refl
-stays_in r port c (Active o v) (f ∷ fs) e = absurd (grind arith)
-
-pub ready_begin : (r : RouterState) (active occupied all : ℕ) → IsSetOf is_active r active → IsSetOf is_occupied r occupied
-    → ((p v : ℕ) → has all p v ≡ (has active p v && has occupied p v))
-    → IsFilled r (ready_at r) all (replicate 7 (replicate 8 None))
-ready_begin r active occupied all are_active are_occupied both =
+pub ready_begin : (r : RouterState) (all : ℕ) → AreCandidates r all → IsFilled r (ready_at r) all (replicate 7 (replicate 8 None))
+ready_begin r all are =
     filled_begins r (ready_at r) all
-    (λ p v p_in v_in inside.
-    let at = are_active.outside p v p_in v_in (first_of (has active p v) (has occupied p v) (sym (both p v) ∙ inside)) in
-    record { port_in = at.0; channel_in = at.1 })
-    (λ p v place out.
-    let e : (holds (input_at r p v).state && nat_lt 0 (length (input_at r p v).buffer)) ≡ false =
-    ap (λ b. b && nat_lt 0 (length (input_at r p v).buffer)) (sym (are_active.inside p v place.port_in place.channel_in))
-    ∙ ap (λ b. has active p v && b) (sym (are_occupied.inside p v place.port_in place.channel_in))
-    ∙ sym (both p v) ∙ out in
-    ap (λ o. none_of o) (stays_in r p (input_at r p v) (input_at r p v).state (input_at r p v).buffer e))
+    (λ p v p_in v_in inside. let at = are.places p v p_in v_in inside in record { port_in = at.0; channel_in = at.1 })
+    (λ p v place out. by_leaving p v place out (leaving r p v) refl)
   where
-    first_of : (a b : Bool) → (a && b) ≡ true → a ≡ true
-    first_of true b e = refl
-    first_of false b e = absurd (cc)
+    by_leaving : (p v : ℕ) → IsPlace r p v → has all p v ≡ false → (o : Option (ℕ × Flit)) → leaving r p v ≡ o → ready_at r p v ≡ None
+    by_leaving p v place out None e = ap (λ (o : Option (ℕ × Flit)). option_map (λ leave. leave.0) o) e
+    by_leaving p v place out (Some d) e = let no : true ≡ false = sym (are.all p v place.port_in place.channel_in (ap is_some e)) ∙ out in absurd (cc)
 
-    none_of : Option (ℕ × Flit) → Option ℕ
-    none_of o = option_map (λ leave. leave.0) o
+-- the channels of the table are those that may send
+keys_are : (r : RouterState) (keys : ℕ) (t : List (List (Option ℕ))) → terminal r ≤ 6 → width r ≤ 8 → t ≡ ready_outs r
+    → ((p v : ℕ) → p < 7 → v < 8 → has keys p v ≡ is_some (cell t p v None)) → AreCandidates r keys
+keys_are r keys t few_ports few_channels is are = record {
+  all = λ p v p_in v_in some.
+      are p v (omega arith) (omega arith) ∙ ap (λ (u : List (List (Option ℕ))). is_some (cell u p v None)) is
+      ∙ ap is_some (cell-table (within r None (ready_at r)) p v None (omega arith) (omega arith) ∙ at_place r (ready_at r) p v (record { port_in = p_in; channel_in = v_in }))
+      ∙ by_leaving (leaving r p v) some;
+  places = λ p v p_in v_in inside.
+      let some : is_some (within r None (ready_at r) p v) ≡ true =
+      ap is_some (sym (cell-table (within r None (ready_at r)) p v None p_in v_in)) ∙ ap (λ (u : List (List (Option ℕ))). is_some (cell u p v None)) (sym is) ∙ sym (are p v p_in v_in) ∙ inside in
+      by_test p v (nat_le p (terminal r)) (nat_lt v (width r)) refl refl some;
+} where
+  by_leaving : (o : Option (ℕ × Flit)) → is_some o ≡ true → is_some (option_map (λ leave. leave.0) o) ≡ true
+  by_leaving None e = absurd (cc)
+  by_leaving (Some d) e = refl
+
+  by_test : (p v : ℕ) (a b : Bool) → nat_le p (terminal r) ≡ a → nat_lt v (width r) ≡ b → is_some (if a && b then ready_at r p v else None) ≡ true → (p ≤ terminal r) × (v < width r)
+  by_test p v true true e g some = (grind arith, grind arith)
+  by_test p v true false e g some = absurd (cc)
+  by_test p v false b e g some = absurd (cc)
+
+pub ready_keys : (r s : RouterState) (keys : ℕ) (t : List (List (Option ℕ))) → r ≡ s → terminal r ≤ 6 → width r ≤ 8 → t ≡ ready_outs s
+    → ((p v : ℕ) → p < 7 → v < 8 → has keys p v ≡ is_some (cell t p v None)) → AreCandidates r keys
+ready_keys r s keys t same few_ports few_channels is are = keys_are r keys t few_ports few_channels (is ∙ sym (ap ready_outs same)) are

@@ -1,5 +1,5 @@
 -- What the channels of a router ask of its allocators, and what a pass of each leaves (Dally and Towles, chapters 16 and 19).
-use Rattle.std.specs.Prelude.{ℕ, ◌≡◌, ◌<◌, ◌+◌, ◌&&◌, nat_le, nat_lt, Bool, false, is_none, if◌then◌else◌, List, [], ◌∷◌, Option, None, Some, fold, replicate}
+use Rattle.std.specs.Prelude.{ℕ, ◌≡◌, ◌<◌, ◌≤◌, ◌+◌, ◌&&◌, nat_le, nat_lt, Bool, false, is_none, if◌then◌else◌, List, [], ◌∷◌, Option, None, Some, fold, replicate}
 use Rattle.std.specs.Option.{option_map}
 use Rattle.std.specs.List.{range_with_len}
 use Rattle.worm_flit.specs.declared.Flit.{Flit}
@@ -12,7 +12,7 @@ use Rattle.worm_vcalloc.specs.VcAlloc.{VcPass, vc_pass}
 use Rattle.worm_swalloc.specs.declared.grant.SwGrant.{SwGrant}
 use Rattle.worm_swalloc.specs.SwAlloc.{sw_grants, sw_after}
 use Rattle.worm_router.specs.Tables.{table}
-use Rattle.worm_router.specs.Router.{RouterState, terminal, width, input_at, output_at, after_grant, leaving}
+use Rattle.worm_router.specs.Router.{RouterState, terminal, width, input_at, output_at, can_grant, after_grant, leaving}
 
 -- what f says of a port and channel of the router; of any other, d
 abbrev pub within : {X : Type 0} → RouterState → X → (ℕ → ℕ → X) → ℕ → ℕ → X
@@ -43,6 +43,10 @@ free_channels r = table (within r false (is_free r))
 abbrev pub channel_pass : RouterState → VcPass
 channel_pass r =
     vc_pass (requests r) (free_channels r) (record { alloc = r.channel_alloc; grants = replicate 7 (replicate 8 None) })
+
+-- no input channel can be granted an output channel
+abbrev pub GrantsNothing : RouterState → Type 0
+GrantsNothing r = (p v c : ℕ) → p ≤ terminal r → v < width r → c < width r → can_grant r p v c ≡ None
 
 -- each granted channel is one of so many
 abbrev pub GrantsWithin : ℕ → List (List (Option ℕ)) → Type 0

@@ -1,10 +1,12 @@
 -- Which input channels have something to do: the sets that a router keeps beside its lists, so that a turn skips all others.
-use Rattle.std.specs.Prelude.{ℕ, ◌+◌, ◌*◌, ◌<◌, ◌≤◌, ◌≡◌, nat_lt, Bool, true, false, List, length, slice_index_or}
+use Rattle.std.specs.Prelude.{ℕ, ◌+◌, ◌*◌, ◌<◌, ◌≤◌, ◌≡◌, nat_lt, Bool, true, false, List, length, slice_index_or, IsTrue, is_some}
 use Rattle.worm_records.specs.declared.InRecord.{InRecord}
 use Rattle.worm_records.specs.declared.InRecord.TheVariants.{Idle, Waiting, Active}
-use Rattle.worm_vcalloc.specs.ChannelSet.{has, IsPut}
+use Rattle.worm_vcalloc.specs.ChannelSet.{has}
+use Rattle.worm_swalloc.specs.SwAlloc.{SwAllocState}
+use Rattle.worm_router.specs.Allocation.{GrantsNothing}
 use Rattle.worm_router.specs.declared.busy.BusyChannels.{BusyChannels}
-use Rattle.worm_router.specs.Router.{ChannelState, RouterState, IsRouter, terminal, width, fresh_channel}
+use Rattle.worm_router.specs.Router.{ChannelState, RouterState, IsRouter, terminal, width, fresh_channel, leaving}
 
 -- an input channel has a flit
 abbrev pub is_occupied : ChannelState → Bool
@@ -50,14 +52,20 @@ pub record AreBusy (terminal width depth : ℕ) (inputs : List ChannelState) (se
   pub active : IsSetIn is_active terminal width depth inputs sets.active
   pub owing : IsSetIn owes terminal width depth inputs sets.owing
 
--- the sets have changed at one channel alone, which is now filed by what it has to do
-pub record IsFiled (old new : BusyChannels) (port vc : ℕ) (c : ChannelState) : Type 0 where
-  pub occupied : IsPut old.occupied new.occupied port vc (is_occupied c)
-  pub waiting : IsPut old.waiting new.waiting port vc (is_waiting c)
-  pub active : IsPut old.active new.active port vc (is_active c)
-  pub owing : IsPut old.owing new.owing port vc (owes c)
+-- a set has each input channel of a router that may send, and nothing but channels of it
+pub record AreCandidates (r : RouterState) (set : ℕ) : Type 0 where
+  pub all : (port vc : ℕ) → port ≤ terminal r → vc < width r → is_some (leaving r port vc) ≡ true → has set port vc ≡ true
+  pub places : (port vc : ℕ) → port < 7 → vc < 8 → has set port vc ≡ true → (port ≤ terminal r) × (vc < width r)
+
+-- the allocator of the switch has an arbiter for each of its ports, on either side
+pub record HasArbiters (s : SwAllocState) : Type 0 where
+  pub inputs : s.ports ≤ length s.inputs
+  pub outputs : s.ports ≤ length s.outputs
 
 -- what a router keeps: what contracts see, and the sets beside it
 pub record IsKept (r : RouterState) (sets : BusyChannels) : Type 0 where
   pub router : IsRouter r
+  pub arbiters : HasArbiters r.switch_alloc
   pub busy : AreBusy (terminal r) (width r) r.depth r.inputs sets
+  pub in_vain : IsTrue sets.in_vain → GrantsNothing r
+  pub candidates : AreCandidates r sets.candidates

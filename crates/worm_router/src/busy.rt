@@ -1,5 +1,6 @@
-ghost use Rattle.std.specs.Prelude.{◌≡◌, ◌<◌};
-ghost use Rattle.worm_router.specs.Busy.{IsFiled};
+ghost use Rattle.std.specs.Prelude.{◌≡◌, ◌<◌, ◌&&◌, ◌||◌, true, false, not, if◌then◌else◌};
+ghost use Rattle.worm_vcalloc.specs.ChannelSet.{has, IsPut};
+ghost use Rattle.worm_router.specs.Busy.{is_occupied, is_waiting, is_active, owes};
 
 use crate::channel::InputChannel;
 use worm_vcalloc::ChannelSet;
@@ -15,30 +16,105 @@ pub struct BusyChannels {
     pub active: ChannelSet,
     /// Those that owe a credit.
     pub owing: ChannelSet,
+    /// That those that wait do so in vain: none of them can be granted an output channel. One-sided.
+    pub in_vain: bool,
+    /// Those that may be ready to send: all that are, and others at which no pass has looked since something came.
+    pub candidates: ChannelSet,
 }
 
 impl BusyChannels {
     /// No channel has anything to do.
     pub fn new() -> BusyChannels
-        ensures { result ≡ record { occupied = 0; waiting = 0; active = 0; owing = 0 } }
+        ensures { result ≡ record { occupied = 0; waiting = 0; active = 0; owing = 0; in_vain = false; candidates = 0 } }
     {
         BusyChannels {
             occupied: ChannelSet::new(),
             waiting: ChannelSet::new(),
             active: ChannelSet::new(),
             owing: ChannelSet::new(),
+            in_vain: false,
+            candidates: ChannelSet::new(),
         }
     }
 
-    /// Files a channel by what it has to do now.
-    pub fn file(&mut self, port: u8, vc: u8, channel: &InputChannel)
+    /// Files a channel whose buffer was empty until a flit came.
+    pub fn file_first(&mut self, port: u8, vc: u8, channel: &InputChannel)
         requires port { port < 7 }
         requires vc { vc < 8 }
-        ensures { IsFiled self.old self.new port vc channel.now }
+        ensures occupied { IsPut self.old.occupied self.new.occupied port vc (is_occupied channel.now) }
+        ensures in_vain { self.new.in_vain ≡ (self.old.in_vain && not (is_waiting channel.now)) }
+        ensures candidates { IsPut self.old.candidates self.new.candidates port vc (is_active channel.now) }
+        ensures others { self.new ≡ record self.old { occupied = self.new.occupied; in_vain = self.new.in_vain; candidates = self.new.candidates } }
     {
         self.occupied.put(port, vc, channel.is_occupied());
-        self.waiting.put(port, vc, channel.is_waiting());
+        self.in_vain = self.in_vain && !channel.is_waiting();
+        self.candidates.put(port, vc, channel.is_active());
+    }
+
+    /// Files a channel that comes to wait, and may be granted what others wait for in vain.
+    pub fn file_waiting(&mut self, port: u8, vc: u8)
+        requires port { port < 7 }
+        requires vc { vc < 8 }
+        ensures waiting { IsPut self.old.waiting self.new.waiting port vc true }
+        ensures others { self.new ≡ record self.old { waiting = self.new.waiting; in_vain = false } }
+    {
+        self.waiting.put(port, vc, true);
+        self.in_vain = false;
+    }
+
+    /// Files a channel that was granted an output channel.
+    pub fn file_active(&mut self, port: u8, vc: u8)
+        requires port { port < 7 }
+        requires vc { vc < 8 }
+        ensures waiting { IsPut self.old.waiting self.new.waiting port vc false }
+        ensures active { IsPut self.old.active self.new.active port vc true }
+        ensures candidates { IsPut self.old.candidates self.new.candidates port vc true }
+        ensures others { self.new ≡ record self.old { waiting = self.new.waiting; active = self.new.active; in_vain = false; candidates = self.new.candidates } }
+    {
+        self.waiting.put(port, vc, false);
+        self.active.put(port, vc, true);
+        self.candidates.put(port, vc, true);
+        self.in_vain = false;
+    }
+
+    /// Files a channel that let a flit out. A channel that still holds its output channel freed none.
+    pub fn file_left(&mut self, port: u8, vc: u8, channel: &InputChannel)
+        requires port { port < 7 }
+        requires vc { vc < 8 }
+        ensures occupied { IsPut self.old.occupied self.new.occupied port vc (is_occupied channel.now) }
+        ensures active { IsPut self.old.active self.new.active port vc (is_active channel.now) }
+        ensures owing { IsPut self.old.owing self.new.owing port vc (owes channel.now) }
+        ensures in_vain { self.new.in_vain ≡ (self.old.in_vain && is_active channel.now) }
+        ensures candidates { IsPut self.old.candidates self.new.candidates port vc (is_active channel.now && is_occupied channel.now) }
+        ensures others { self.new ≡ record self.old { occupied = self.new.occupied; active = self.new.active; owing = self.new.owing; in_vain = self.new.in_vain; candidates = self.new.candidates } }
+    {
+        self.occupied.put(port, vc, channel.is_occupied());
         self.active.put(port, vc, channel.is_active());
         self.owing.put(port, vc, channel.owed() > 0);
+        self.in_vain = self.in_vain && channel.is_active();
+        self.candidates
+            .put(port, vc, channel.is_active() && channel.is_occupied());
+    }
+
+    /// Files a channel whose credit has gone out; `woken` where it could not send while it owed that.
+    pub fn file_given(&mut self, port: u8, vc: u8, channel: &InputChannel, woken: bool)
+        requires port { port < 7 }
+        requires vc { vc < 8 }
+        ensures owing { IsPut self.old.owing self.new.owing port vc (owes channel.now) }
+        ensures candidates { IsPut self.old.candidates self.new.candidates port vc (woken || has self.old.candidates port vc) }
+        ensures others { self.new ≡ record self.old { owing = self.new.owing; candidates = self.new.candidates } }
+    {
+        self.owing.put(port, vc, channel.owed() > 0);
+        let may_send = woken || self.candidates.contains(port, vc);
+        self.candidates.put(port, vc, may_send);
+    }
+
+    /// Files that a credit has come; `was_out` where its output channel had none, so that whoever holds it may send again.
+    pub fn file_credit(&mut self, was_out: bool)
+        ensures { self.new ≡ record self.old { candidates = (if was_out then self.old.active else self.old.candidates) } }
+    {
+        if was_out {
+            self.candidates = self.active;
+        }
     }
 }

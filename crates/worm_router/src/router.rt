@@ -1,10 +1,11 @@
-ghost use Rattle.std.specs.Prelude.{◌≡◌, ◌+◌, ◌*◌, ◌≤◌, ◌<◌, ◌^◌, ◌↔◌, length, sum, IfOk, IfErr, OnOk, OnErr, IsOk, IsErr, IsSome, IfSome, IfNone, None, Some, ℕ, is_some, slice_get, replicate, if◌then◌else◌};
+ghost use Rattle.std.specs.Prelude.{◌≡◌, ◌+◌, ◌*◌, ◌≤◌, ◌<◌, ◌^◌, ◌↔◌, length, sum, IfOk, IfErr, OnOk, OnErr, IsOk, IsErr, IsSome, IfSome, IfNone, None, Some, ℕ, is_some, nat_lt, slice_get, replicate, if◌then◌else◌};
 ghost use Rattle.worm_flit.specs.Channels.{AreChannels};
 ghost use Rattle.worm_mesh.specs.Address.{node_count};
 ghost use Rattle.worm_router.specs.Router.{IsPlace, IsRouter, line, fresh_channel, free_output, fresh_router, input_at, output_at, terminal, width, after_accept, can_route, after_route, can_grant, after_grant, after_granting, leaving, MayLeave, passed, credit_of, after_send, after_gave, after_credit};
-ghost use Rattle.worm_router.specs.Busy.{IsSetOf, is_occupied, is_waiting, is_active, owes};
+ghost use Rattle.worm_router.specs.Busy.{IsSetOf, AreCandidates, is_occupied, is_waiting, is_active, owes};
 
 mod allocation;
+mod rest;
 
 use crate::busy::BusyChannels;
 use crate::channel::InputChannel;
@@ -185,6 +186,13 @@ impl Router {
         self.busy.owing
     }
 
+    /// The input channels that may be ready to send: no other is.
+    fn candidates(&self) -> ChannelSet
+        ensures { AreCandidates self.now result }
+    {
+        self.busy.candidates
+    }
+
     /// The flit at place `i` of an input buffer, counted from the front.
     pub fn buffer_at(&self, port: u8, vc: u8, i: usize) -> Option<Flit>
         requires { IsPlace self.now port vc }
@@ -231,6 +239,15 @@ impl Router {
         channel.owed()
     }
 
+    /// Whether the buffer of this input channel has room for one more flit, as `accept` needs.
+    pub fn has_room(&self, port: u8, vc: u8) -> bool
+        requires { IsPlace self.now port vc }
+        ensures { result ≡ nat_lt (length (input_at self.now port vc).buffer) self.now.depth }
+    {
+        let channel = &self.inputs[self.line(port, vc)];
+        channel.has_room()
+    }
+
     /// Puts a flit that came in by the port at the end of its channel's buffer. It comes back exactly where the buffer is
     /// full; the router is then as it was.
     pub fn accept(&mut self, port: u8, flit: Flit) -> Result<(), Flit>
@@ -242,8 +259,11 @@ impl Router {
     {
         let i = self.line(port, flit.vc);
         let channel = &mut self.inputs[i];
+        let was_empty = !channel.is_occupied();
         let put = channel.put(flit);
-        self.busy.file(port, flit.vc, channel);
+        if was_empty {
+            self.busy.file_first(port, flit.vc, channel);
+        }
         put
     }
 
@@ -268,7 +288,7 @@ impl Router {
         let out = next_port(&self.mesh, self.node, front.lane.dst);
         let channel = &mut self.inputs[i];
         channel.set_state(InRecord::Waiting { out });
-        self.busy.file(port, vc, channel);
+        self.busy.file_waiting(port, vc);
         true
     }
 
@@ -303,7 +323,7 @@ impl Router {
         let o = self.line(out, out_vc);
         let channel = &mut self.inputs[i];
         channel.set_state(InRecord::Active { out, out_vc });
-        self.busy.file(port, vc, channel);
+        self.busy.file_active(port, vc);
         let output = &mut self.outputs[o];
         output.grant(port, vc);
     }
@@ -362,16 +382,24 @@ impl Router {
         requires ready { IsSome (leaving self.old port vc) }
         ensures { self.new ≡ after_send self.old port vc }
     {
-        let Some((out, flit)) = self.ready(port, vc) else {
-            return;
-        };
+        if let Some((out, flit)) = self.ready(port, vc) {
+            self.let_out(port, vc, out, flit);
+        }
+    }
+
+    /// The same for a caller that holds what `ready` answered: the flit has left by the output port `out`.
+    pub fn let_out(&mut self, port: u8, vc: u8, out: u8, flit: Flit)
+        requires place { IsPlace self.old port vc }
+        requires ready { leaving self.old port vc ≡ Some (out, flit) }
+        ensures { self.new ≡ after_send self.old port vc }
+    {
         let i = self.line(port, vc);
         let o = self.line(out, flit.vc);
         let more_owed = self.credit_of(port);
         let spent = self.credit_of(out);
         let channel = &mut self.inputs[i];
         channel.let_out(flit, more_owed);
-        self.busy.file(port, vc, channel);
+        self.busy.file_left(port, vc, channel);
         let output = &mut self.outputs[o];
         pass(output, flit, spent);
     }
@@ -398,8 +426,9 @@ impl Router {
     {
         let i = self.line(port, vc);
         let channel = &mut self.inputs[i];
+        let woken = channel.is_active() && channel.owed() == self.depth;
         channel.give();
-        self.busy.file(port, vc, channel);
+        self.busy.file_given(port, vc, channel, woken);
     }
 
     /// A credit has come back for this output channel. `TooMany` exactly where its count is the depth, as at the terminal; the
@@ -416,7 +445,9 @@ impl Router {
         if output.credits == depth {
             return Err(TooMany);
         }
+        let was_out = output.credits == 0;
         output.add_credit(depth);
+        self.busy.file_credit(was_out);
         Ok(())
     }
 }

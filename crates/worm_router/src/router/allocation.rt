@@ -1,12 +1,12 @@
 //! One pass of each allocator, over what the records state.
 
-ghost use Rattle.std.specs.Prelude.{◌≡◌, ◌+◌, ◌≤◌, ◌<◌, ℕ, None, Some, IfSome, false, replicate};
+ghost use Rattle.std.specs.Prelude.{◌≡◌, ◌+◌, ◌≤◌, ◌<◌, ℕ, None, Some, IfSome, IsTrue, false, replicate};
 ghost use Rattle.worm_vcalloc.specs.Table.{IsTable};
 ghost use Rattle.worm_vcalloc.specs.VcAlloc.{IsChannelMatching};
 ghost use Rattle.worm_swalloc.specs.SwAlloc.{IsSwitchMatching};
 ghost use Rattle.worm_router.specs.Router.{IsPlace, terminal, width, input_at, output_at, after_grant};
 ghost use Rattle.worm_router.specs.Tables.{PutsRow};
-ghost use Rattle.worm_router.specs.Allocation.{request_at, requests, is_free, free_channels, ready_at, ready_outs, GrantsWithin, written, channel_pass, after_allocate, with_port_grants, with_grants, switch_grants, after_choose};
+ghost use Rattle.worm_router.specs.Allocation.{request_at, requests, is_free, free_channels, ready_at, ready_outs, GrantsNothing, GrantsWithin, written, channel_pass, after_allocate, with_port_grants, with_grants, switch_grants, after_choose};
 ghost use Rattle.worm_router.specs.Allocation.{IsSameSize};
 
 use crate::router::Router;
@@ -41,6 +41,13 @@ impl Router {
             asked.set(port, vc, self.request(port, vc));
         }
         asked
+    }
+
+    /// Whether a pass would grant nothing: no channel waits, or those that wait do so in vain. One-sided.
+    pub(super) fn grants_nothing(&self) -> bool
+        ensures { IsTrue result → GrantsNothing self.now }
+    {
+        self.busy.in_vain || self.busy.waiting.is_empty()
     }
 
     /// Marks the free channels of an output port.
@@ -78,13 +85,12 @@ impl Router {
         }
     }
 
-    /// The input channels that may send, each with its output port. Those that hold no output channel or have no flit
-    /// may not.
+    /// The input channels that may send, each with its output port.
     fn ready_outs(&self) -> ReadyOuts
         ensures { result ≡ ready_outs self.now }
     {
         let mut ready = ReadyOuts::new();
-        let mut left = self.active().intersection(&self.occupied());
+        let mut left = self.candidates();
         while let Some((port, vc)) = left.pop_first() {
             ready.set(port, vc, self.ready_out(port, vc));
         }
@@ -110,7 +116,11 @@ impl Router {
         ensures after { self.new ≡ with_port_grants grants.now self.old port }
         ensures same { IsSameSize self.old self.new }
     {
-        for vc in 0..self.classes.total() {
+        let channels = self.classes.total();
+        if grants.keys().row(port, channels) == 0 {
+            return;
+        }
+        for vc in 0..channels {
             self.write_grant(port, vc, grants.get(port, vc));
         }
     }
@@ -134,13 +144,17 @@ impl Router {
         ensures same { IsSameSize self.old self.new }
         ensures matching { IsChannelMatching (terminal self.old + 1) (width self.old) (requests self.old) (free_channels self.old) result }
     {
-        if self.waiting().is_empty() {
+        if self.grants_nothing() {
             return VcGrants::new();
         }
         let asked = self.requests();
         let free = self.free_channels();
         let grants = self.channel_alloc.grant(&asked, &free);
-        self.write(&grants);
+        if grants.keys().is_empty() {
+            self.busy.in_vain = true;
+        } else {
+            self.write(&grants);
+        }
         grants
     }
 
@@ -151,7 +165,11 @@ impl Router {
         ensures after { self.new ≡ after_choose self.old }
         ensures matching { IsSwitchMatching self.old.switch_alloc (ready_outs self.old) result }
     {
+        if self.busy.candidates.is_empty() {
+            return [None; 7];
+        }
         let ready = self.ready_outs();
+        self.busy.candidates = ready.keys();
         self.switch_alloc.grant(&ready)
     }
 }

@@ -1,20 +1,49 @@
-use Rattle.std.proofs.Common.{◌+◌, ◌∙◌, sym, ap, subst}
+use Rattle.std.proofs.Common.{refl, ◌+◌, ◌∙◌, sym, ap, subst}
 use Rattle.worm_vcalloc.specs.VcAlloc.{VcPass, IsChannelMatching}
 use Rattle.worm_router.specs.Router.{terminal, width}
 use Rattle.worm_router.specs.Allocation.{requests, free_channels}
-use Rattle.worm_router.proofs.SetFilled.{nothing_asked}
-use Rattle.worm_router.proofs.NothingWaits.{idle_pass, idle_allocate, idle_matching}
+use Rattle.worm_router.proofs.Filed.{busy_as}
+use Rattle.worm_router.proofs.InVain.{nobody_uses, no_pass_grants, passed_in_vain}
+use Rattle.worm_router.proofs.NothingWaits.{idle_pass, idle_allocate, idle_matching, pass_without}
 use Rattle.worm_router.proofs.router.Router.allocate.Goals as goal
 
-pub returns-then-is_empty-clause-grants : goal.returns-then-is_empty-clause-grants
-returns-then-is_empty-clause-grants c =
+pub returns-then-grants_nothing-clause-grants : goal.returns-then-grants_nothing-clause-grants
+returns-then-grants_nothing-clause-grants c =
     c.new.ensures
-    ∙ sym (ap (λ (p : VcPass). p.grants) (idle_pass c.args.self.now (nothing_asked c.args.self.now c.waiting.result c.waiting.ensures (sym c.is_empty.ensures ∙ c.if-is_empty.true))))
+    ∙ sym (ap (λ (p : VcPass). p.grants) (idle_pass c.args.self.now (nobody_uses c.args.self.now (c.grants_nothing.ensures c.if-grants_nothing.true))))
+
+pub returns-then-grants_nothing-clause-after : goal.returns-then-grants_nothing-clause-after
+returns-then-grants_nothing-clause-after c = sym (idle_allocate c.args.self.now (nobody_uses c.args.self.now (c.grants_nothing.ensures c.if-grants_nothing.true)))
+
+pub returns-then-grants_nothing-clause-matching : goal.returns-then-grants_nothing-clause-matching
+returns-then-grants_nothing-clause-matching c =
+    subst (IsChannelMatching (terminal c.args.self.now + 1) (width c.args.self.now) (requests c.args.self.now) (free_channels c.args.self.now)) (sym c.new.ensures)
+    (idle_matching _ _ _ _ (nobody_uses c.args.self.now (c.grants_nothing.ensures c.if-grants_nothing.true)))
+
+pub invariant_of-self : goal.invariant_of-self
+invariant_of-self c =
+    let ports = c.self.invariant.router.allocators.channel_ports in
+    let channels = c.self.invariant.router.allocators.channel_channels in
+    record {
+      router = record {
+        lists = c.self.invariant.router.lists;
+        allocators = record {
+          channel_ports = c.grant-grants.ensures.ports ∙ ports;
+          channel_channels = c.grant-grants.ensures.channels ∙ channels;
+          switch_ports = c.self.invariant.router.allocators.switch_ports;
+          switch_channels = c.self.invariant.router.allocators.switch_channels;
+        };
+      };
+      arbiters = c.self.invariant.arbiters;
+      busy = busy_as _ _ _ _ _ _ c.self.invariant.busy refl refl refl refl;
+      in_vain = λ _. passed_in_vain _ c.args.self.now _ _ c.keys.result _ _ _ c.self.view_is c.self.invariant.router c.self.invariant.busy.few_ports c.self.invariant.busy.few_channels ports channels c.requests-asked.ensures c.free_channels-free.ensures c.grant-grants.ensures.matching
+          (no_pass_grants _ c.args.self.now _ _ c.keys.result _ _ _ c.self.view_is c.self.invariant.busy.few_ports c.self.invariant.busy.few_channels ports channels c.grant-grants.ensures.matching c.keys.ensures (sym c.is_empty.ensures ∙ c.if-is_empty.true));
+      candidates = record { all = c.self.invariant.candidates.all; places = c.self.invariant.candidates.places };
+    }
 
 pub returns-then-is_empty-clause-after : goal.returns-then-is_empty-clause-after
-returns-then-is_empty-clause-after c = sym (idle_allocate c.args.self.now (nothing_asked c.args.self.now c.waiting.result c.waiting.ensures (sym c.is_empty.ensures ∙ c.if-is_empty.true)))
-
-pub returns-then-is_empty-clause-matching : goal.returns-then-is_empty-clause-matching
-returns-then-is_empty-clause-matching c =
-    subst (IsChannelMatching (terminal c.args.self.now + 1) (width c.args.self.now) (requests c.args.self.now) (free_channels c.args.self.now)) (sym c.new.ensures)
-    (idle_matching _ _ _ _ (nothing_asked c.args.self.now c.waiting.result c.waiting.ensures (sym c.is_empty.ensures ∙ c.if-is_empty.true)))
+returns-then-is_empty-clause-after c =
+    let ports = c.self.invariant.router.allocators.channel_ports in
+    let channels = c.self.invariant.router.allocators.channel_channels in
+    pass_without _ c.args.self.now _ _ _ _ c.self.view_is c.requests-asked.ensures c.free_channels-free.ensures c.grant-grants.ensures.pass
+    (no_pass_grants _ c.args.self.now _ _ c.keys.result _ _ _ c.self.view_is c.self.invariant.busy.few_ports c.self.invariant.busy.few_channels ports channels c.grant-grants.ensures.matching c.keys.ensures (sym c.is_empty.ensures ∙ c.if-is_empty.true))

@@ -1,14 +1,21 @@
-use Rattle.std.proofs.Common.{◌<◌, ◌*◌, ◌∙◌, ap, sum, length, arith}
+use Rattle.std.proofs.Common.{◌<◌, ◌*◌, ◌∙◌, ap, sym, subst, inl, inr, true, false, ◌≡◌, sum, length, arith}
 use Rattle.std.proofs.lemmas.Grind.{common_steps, elements}
 use Rattle.worm_records.specs.declared.OutRecord.{OutRecord}
+use Rattle.worm_vcalloc.specs.ChannelSet.{IsPut}
 use Rattle.worm_router.specs.Router.{free_output}
+use Rattle.worm_router.specs.Busy.{is_occupied, is_waiting, is_active, owes}
+use Rattle.worm_router.specs.declared.busy.BusyChannels.{BusyChannels}
+use Rattle.worm_router.proofs.Places.{input_of, output_of}
 use Rattle.worm_router.proofs.Kept.{full_after, full_before}
-use Rattle.worm_router.proofs.Filed.{filed_in}
+use Rattle.worm_router.proofs.Filed.{busy_filed}
+use Rattle.worm_router.proofs.Candidates.{candidates_held}
 use Rattle.worm_router.proofs.router.Router.hold.Goals as goal
 
 pub invariant_of-self : goal.invariant_of-self
 invariant_of-self c =
     let within : c.line-o.result < length c.self.inside.outputs.items = grind (arith, common_steps) in
+    let input = input_of _ c.args.self.now c.args.port c.args.vc c.line-i.result c.index_mut-channel.result.now c.self.view_is c.requires.place c.line-i.ensures.value c.line-i.ensures.in_inputs c.index_mut-channel.ensures.value in
+    let output = output_of _ c.args.self.now c.args.out c.args.out_vc c.line-o.result c.index_mut-output.result.now c.self.view_is c.requires.out_place c.line-o.ensures.value c.line-o.ensures.in_outputs c.index_mut-output.ensures.value in
     record {
       router = record {
         lists = record {
@@ -23,5 +30,12 @@ invariant_of-self c =
         };
         allocators = c.self.invariant.router.allocators;
       };
-      busy = filed_in _ c.args.self.now _ _ c.args.port c.args.vc _ _ c.self.view_is c.self.invariant.busy c.file.ensures c.requires.place c.line-i.ensures.value c.line-i.ensures.in_inputs;
+      arbiters = c.self.invariant.arbiters;
+      busy = busy_filed _ _ _ _ _ _ _ _ input c.self.invariant.busy
+          (inr (ap (λ (b : BusyChannels). b.occupied) c.file_active.ensures.others, ap is_occupied c.set_state.ensures))
+          (inl (subst (IsPut _ _ _ _) (sym (ap is_waiting c.set_state.ensures)) c.file_active.ensures.waiting))
+          (inl (subst (IsPut _ _ _ _) (sym (ap is_active c.set_state.ensures)) c.file_active.ensures.active))
+          (inr (ap (λ (b : BusyChannels). b.owing) c.file_active.ensures.others, ap owes c.set_state.ensures));
+      in_vain = λ yes. let no : true ≡ false = sym yes ∙ ap (λ (b : BusyChannels). b.in_vain) c.file_active.ensures.others in absurd (cc);
+      candidates = candidates_held _ _ _ _ _ _ _ _ _ _ _ _ _ input output c.self.invariant.busy.few_ports c.self.invariant.busy.few_channels c.file_active.ensures.candidates (ap (λ (v : OutRecord). v.credits) c.grant.ensures) c.self.invariant.candidates;
     }

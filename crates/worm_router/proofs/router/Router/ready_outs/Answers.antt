@@ -5,8 +5,8 @@ use Rattle.worm_router.proofs.router.Router.ready_outs.Goals as goal
 
 pub loop-port-init : goal.loop-port-init
 loop-port-init c =
-    subst (IsFilled c.args.self.now (ready_at c.args.self.now) c.intersection-left.result) (sym c.new-ready.ensures)
-    (ready_begin c.args.self.now c.active.result c.occupied.result c.intersection-left.result c.active.ensures c.occupied.ensures c.intersection-left.ensures)
+    subst (IsFilled c.args.self.now (ready_at c.args.self.now) c.candidates-left.result) (sym c.new-ready.ensures)
+    (ready_begin c.args.self.now c.candidates-left.result c.candidates-left.ensures)
 
 pub loop-port-preserved : goal.loop-port-preserved
 loop-port-preserved c =

@@ -1,0 +1,53 @@
+-- What is there for a flit that may leave.
+use Rattle.std.proofs.Common.{ℕ, ◌≤◌, ◌<◌, ◌≡◌, ◌==◌, ◌&&◌, ◌||◌, nat_lt, List, [], ◌∷◌, All, Bool, true, false, Some, None, arith, refl, subst, if◌then◌else◌}
+use Rattle.std.proofs.lemmas.Bool.Decides.{nat_tests}
+use Rattle.std.proofs.lemmas.List.Elements.{All-get_or}
+use Rattle.worm_flit.specs.declared.Flit.{Flit}
+use Rattle.worm_flit.specs.Stamps.{with_channel}
+use Rattle.worm_mesh.specs.Address.{node_count}
+use Rattle.worm_records.specs.declared.InRecord.{InRecord}
+use Rattle.worm_records.specs.declared.InRecord.TheVariants.{Idle, Waiting, Active}
+use Rattle.worm_router.specs.Router.{RouterState, ChannelState, IsRouter, IsChannel, IsPlace, StateFits, MayLeave, terminal, width, line, fresh_channel, input_at, output_at, leaving, leaving_by}
+use Rattle.worm_router.specs.Busy.{holds}
+use Rattle.worm_router.proofs.Laws.{line-places}
+
+pub channel_at : (r : RouterState) (port vc : ℕ) → IsRouter r → IsPlace r port vc → IsChannel r.mesh r.channels r.depth (input_at r port vc)
+channel_at r port vc sound place =
+    let within = line-places r port vc place in
+    All-get_or (IsChannel r.mesh r.channels r.depth) r.inputs (line r port vc) (fresh_channel r.depth) (omega (arith, sound.lists.all_inputs)) sound.lists.inputs_sound
+
+leaves_by : (r : RouterState) (port vc o v : ℕ) (f : Flit) (fs : List Flit) (d : ℕ × Flit) (b : Bool)
+    → StateFits (terminal r) (width r) (Active o v) → f.lane.dst < node_count r.mesh → (input_at r port vc).owed ≤ r.depth
+    → ((o == terminal r || nat_lt 0 (output_at r o v).credits) && (port == terminal r || nat_lt (input_at r port vc).owed r.depth)) ≡ b
+    → (if b then Some (o, with_channel f v) else None) ≡ Some d → MayLeave r port vc d
+leaves_by r port vc o v f fs d true fits bound owes e is =
+    let same : (o, with_channel f v) ≡ d = cc in
+    subst (MayLeave r port vc) same record {
+      out_in = fits.0;
+      channel_in = fits.1;
+      bound_for_node = bound;
+      has_credit = grind (arith, nat_tests);
+      may_owe = grind (arith, nat_tests);
+    }
+leaves_by r port vc o v f fs d false fits bound owes e is = absurd (cc)
+
+may_leave_by : (r : RouterState) (port vc : ℕ) (s : InRecord) (fs : List Flit) (d : ℕ × Flit)
+    → StateFits (terminal r) (width r) s → All (λ f. f.lane.dst < node_count r.mesh) fs → (input_at r port vc).owed ≤ r.depth
+    → leaving_by r port (input_at r port vc) s fs ≡ Some d → MayLeave r port vc d
+may_leave_by r port vc Idle fs d fits bound owes is = absurd (cc)
+may_leave_by r port vc (Waiting o) fs d fits bound owes is = absurd (cc)
+may_leave_by r port vc (Active o v) [] d fits bound owes is = absurd (cc)
+may_leave_by r port vc (Active o v) (f ∷ fs) d fits bound owes is =
+    leaves_by r port vc o v f fs d ((o == terminal r || nat_lt 0 (output_at r o v).credits) && (port == terminal r || nat_lt (input_at r port vc).owed r.depth)) fits
+    (bound 0 f (omega arith)) owes refl is
+
+pub may_leave : (r : RouterState) (port vc : ℕ) (d : ℕ × Flit) → IsRouter r → IsPlace r port vc → leaving r port vc ≡ Some d → MayLeave r port vc d
+may_leave r port vc d sound place is =
+    let here = channel_at r port vc sound place in
+    may_leave_by r port vc (input_at r port vc).state (input_at r port vc).buffer d here.state_fits here.bound_for_nodes here.owed_fits is
+
+-- what may leave is of a channel that holds an output channel
+pub leaves_active : (r : RouterState) (port : ℕ) (c : ChannelState) (s : InRecord) (fs : List Flit) (d : ℕ × Flit) → leaving_by r port c s fs ≡ Some d → holds s ≡ true
+leaves_active r port c Idle fs d is = absurd (cc)
+leaves_active r port c (Waiting o) fs d is = absurd (cc)
+leaves_active r port c (Active o v) fs d is = refl

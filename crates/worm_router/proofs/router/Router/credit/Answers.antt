@@ -1,0 +1,36 @@
+use Rattle.std.proofs.Common.{◌∙◌, sym, arith, refl, ◌==◌, ap, ◌<◌, ◌*◌, sum, length}
+use Rattle.std.proofs.lemmas.Grind.{common_steps, elements}
+use Rattle.worm_records.specs.declared.OutRecord.{OutRecord}
+use Rattle.worm_router.specs.Router.{free_output}
+use Rattle.worm_router.proofs.Kept.{full_after, full_before}
+use Rattle.worm_router.proofs.Places.{output_of}
+use Rattle.worm_router.specs.declared.busy.BusyChannels.{BusyChannels}
+use Rattle.worm_router.proofs.Filed.{busy_as}
+use Rattle.worm_router.proofs.Candidates.{candidates_credit}
+use Rattle.worm_router.proofs.InVain.{vain_out}
+use Rattle.worm_router.proofs.router.Router.credit.Goals as goal
+
+pub invariant_of-self-2 : goal.invariant_of-self-2
+invariant_of-self-2 c =
+    let output = output_of _ c.args.self.now c.args.out_port c.args.vc c.line-o.result c.index_mut-output.result.now c.self.view_is c.requires c.line-o.ensures.value c.line-o.ensures.in_outputs c.index_mut-output.ensures.value in
+    let within : c.line-o.result < length c.self.inside.outputs.items = output.within in
+    record {
+      router = record {
+        lists = record {
+          node_in = c.self.invariant.router.lists.node_in;
+          depth_in = c.self.invariant.router.lists.depth_in;
+          all_inputs = c.self.invariant.router.lists.all_inputs;
+          all_outputs = grind (arith, common_steps);
+          inputs_sound = c.self.invariant.router.lists.inputs_sound;
+          credits_fit = grind (arith, elements);
+          terminal_full = full_after c.self.inside.outputs.items (2 * length c.self.inside.mesh) (sum c.self.inside.classes) c.self.inside.depth c.line-o.result c.add_credit.new.self (free_output c.self.inside.depth) within c.self.invariant.router.lists.terminal_full
+              (λ vc below same. absurd (let full = full_before c.self.inside.outputs.items _ _ _ _ _ within c.index_mut-output.ensures.value same (c.self.invariant.router.lists.terminal_full vc below) in c.if-output-depth.false full));
+        };
+        allocators = c.self.invariant.router.allocators;
+      };
+      arbiters = c.self.invariant.arbiters;
+      busy = busy_as _ _ _ _ _ _ c.self.invariant.busy (ap (λ (b : BusyChannels). b.occupied) c.file_credit.ensures) (ap (λ (b : BusyChannels). b.waiting) c.file_credit.ensures)
+          (ap (λ (b : BusyChannels). b.active) c.file_credit.ensures) (ap (λ (b : BusyChannels). b.owing) c.file_credit.ensures);
+      in_vain = λ yes. vain_out _ _ _ _ _ _ output (ap (λ (u : OutRecord). u.holder) c.add_credit.ensures) (c.self.invariant.in_vain (sym (ap (λ (b : BusyChannels). b.in_vain) c.file_credit.ensures) ∙ yes));
+      candidates = candidates_credit _ _ _ _ _ _ _ _ _ (c.index_mut-output.result.now.credits == 0) output c.self.invariant.busy.active refl (ap (λ (b : BusyChannels). b.candidates) c.file_credit.ensures) c.self.invariant.candidates;
+    }

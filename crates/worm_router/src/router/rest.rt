@@ -1,0 +1,53 @@
+//! Whether a turn may pass a router over.
+
+ghost use Rattle.std.specs.Prelude.{◌≡◌, IsTrue, None, replicate};
+ghost use Rattle.worm_router.specs.Allocation.{after_allocate, switch_grants, after_choose};
+ghost use Rattle.worm_router.specs.Rest.{RoutesNothing, OwesNothing, IsAtRest};
+
+use crate::router::Router;
+
+impl Router {
+    /// Whether a turn would leave the router as it is, as long as no flit and no credit comes. One-sided: what is at rest may
+    /// not be told so.
+    pub fn is_at_rest(&self) -> bool
+        ensures { IsTrue result → IsAtRest self.now }
+    {
+        self.routes_nothing()
+            && self.allocates_nothing()
+            && self.sends_nothing()
+            && self.owes_nothing()
+    }
+
+    /// Whether each channel with a flit has its route.
+    fn routes_nothing(&self) -> bool
+        ensures { IsTrue result → RoutesNothing self.now }
+    {
+        let unrouted = self
+            .occupied()
+            .difference(&self.waiting())
+            .difference(&self.active());
+        unrouted.is_empty()
+    }
+
+    /// Whether a pass for output channels would do nothing.
+    fn allocates_nothing(&self) -> bool
+        ensures { IsTrue result → after_allocate self.now ≡ self.now }
+    {
+        self.grants_nothing()
+    }
+
+    /// Whether no channel may send.
+    fn sends_nothing(&self) -> bool
+        ensures chooses { IsTrue result → after_choose self.now ≡ self.now }
+        ensures grants { IsTrue result → switch_grants self.now ≡ replicate 7 None }
+    {
+        self.busy.candidates.is_empty()
+    }
+
+    /// Whether no input channel owes a credit.
+    pub fn owes_nothing(&self) -> bool
+        ensures { IsTrue result → OwesNothing self.now }
+    {
+        self.owing().is_empty()
+    }
+}
