@@ -109,7 +109,10 @@ impl LinkState {
     pub fn pop(&mut self)
         ensures { self.new ≡ record self.old { flits = drop 1 self.old.flits } }
     {
-        if !self.flits.is_empty() {
+        // Mostly it is the only one, and then nothing moves up.
+        if self.flits.len() <= 1 {
+            self.flits.clear();
+        } else {
             self.flits.remove(0);
         }
     }
@@ -133,7 +136,9 @@ impl LinkState {
     pub fn pop_credit(&mut self)
         ensures { self.new ≡ record self.old { credits = drop 1 self.old.credits } }
     {
-        if !self.credits.is_empty() {
+        if self.credits.len() <= 1 {
+            self.credits.clear();
+        } else {
             self.credits.remove(0);
         }
     }
