@@ -20,10 +20,13 @@ pub mod NewNet
 pub mod Reaching
 pub mod Pointers
 pub mod Wired
+pub mod PortSets
+pub mod Arriving
 pub mod Passages
 pub mod DueEntries
 pub mod Turning
 pub mod Skipping
+pub mod Resting
 pub mod Determined
 pub mod Allocating
 pub mod ViewLists

@@ -22,11 +22,11 @@ use Rattle.worm_core.proofs.RouteStep.{route_answers}
 
 -- passages that change nothing, one after another
 
-each_still : {A : Type 0} (P : A → Passage) (f : ℕ → A) (s : NetState) (n from : ℕ) → ((i : ℕ) → i < from + n → P (f i) s None s) → Each P (map f (range_with_len from n)) s None s
+pub each_still : {A : Type 0} (P : A → Passage) (f : ℕ → A) (s : NetState) (n from : ℕ) → ((i : ℕ) → i < from + n → P (f i) s None s) → Each P (map f (range_with_len from n)) s None s
 each_still P f s zero from still = (refl, refl)
 each_still P f s (suc n) from still = inr (s, still from (omega arith), each_still P f s n (from + 1) (λ i below. still i (omega arith)))
 
-numbers_still : (P : ℕ → Passage) (s : NetState) (n from : ℕ) → ((i : ℕ) → i < from + n → P i s None s) → Each P (range_with_len from n) s None s
+pub numbers_still : (P : ℕ → Passage) (s : NetState) (n from : ℕ) → ((i : ℕ) → i < from + n → P i s None s) → Each P (range_with_len from n) s None s
 numbers_still P s zero from still = (refl, refl)
 numbers_still P s (suc n) from still = inr (s, still from (omega arith), numbers_still P s n (from + 1) (λ i below. still i (omega arith)))
 

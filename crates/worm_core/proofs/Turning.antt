@@ -1,5 +1,7 @@
 -- The parts of a node's turn, as its calls make them.
-use Rattle.std.proofs.Common.{◌≡◌, ℕ, zero, suc, Bool, nat_lt, ◌≤◌, inl, inr, ◌+◌, ◌*◌, ◌<◌, ◌==◌, true, false, eq-eqb, get_or, take, map, List, [], length, Option, Some, None, refl, arith, ap, sym, subst, ◌∙◌}
+use Rattle.std.proofs.Common.{◌≡◌, ℕ, zero, suc, Bool, nat_lt, ◌≤◌, inl, inr, ◌+◌, ◌*◌, ◌<◌, ◌==◌, true, false, eq-eqb, get_or, take, map, List, [], ◌∷◌, ◌++◌, slice_set, length, Option, Some, None, refl, arith, ap, sym, subst, ◌∙◌}
+use Rattle.std.proofs.lemmas.List.{take_more}
+use Rattle.std.proofs.lemmas.List.Elements.{filter-append}
 use Rattle.std.specs.Prelude.{Result, option_map, filter, slice_index_or, IfSome, IfNone}
 use Rattle.std.specs.List.{range_with_len, flat_map, find}
 use Rattle.std.specs.Option.{option_to_list}
@@ -8,7 +10,7 @@ use Rattle.worm_router.specs.Router.{RouterState, width, input_at}
 use Rattle.worm_router.specs.Allocation.{after_allocate, switch_grants}
 use Rattle.worm_swalloc.specs.declared.grant.SwGrant.{SwGrant}
 use Rattle.worm_theory.specs.Steps.{Step, Send, GiveCredit}
-use Rattle.worm_core.specs.Script.{lane_of}
+use Rattle.worm_core.specs.Script.{begun_at, lane_of}
 use Rattle.worm_core.specs.State.{NetState, router_at, with_router}
 use Rattle.worm_core.specs.Moves.{chosen_router}
 use Rattle.worm_core.specs.Answers.{Answers}
@@ -59,6 +61,30 @@ pub asks_part : (x : ℕ) (entries : List Entry) (i : ℕ) (a b : NetState) (fau
 asks_part x entries i a b fault done =
     let whole = does_part (λ (e : Entry). ask x e.act) (λ (e : Entry). (lane_of e.act).src == x) entries i a b fault done in
     record { exact = whole.exact; reaches = whole.reaches }
+
+-- an entry more that is not for the source
+pub begun_same : (x : ℕ) (entries : List Entry) (i : ℕ) (e : Entry) → i < length entries → get_or entries i e ≡ e → ((lane_of e.act).src ≡ x → ⊥)
+    → begun_at x (take i entries) ≡ [] → begun_at x (take (i + 1) entries) ≡ []
+begun_same x entries i e below at away none =
+    let begins : Entry → Bool = λ (e : Entry). (lane_of e.act).src == x in
+    let other : filter begins (e ∷ []) ≡ [] = rw (differ (lane_of e.act).src x away) refl in
+    ap (filter begins) (take_more entries i e below ∙ ap (λ (y : Entry). take i entries ++ y ∷ []) at)
+    ∙ (filter-append begins (take i entries) (e ∷ []) ∙ (ap (λ (es : List Entry). es ++ filter begins (e ∷ [])) none ∙ other))
+
+-- a mark that is set is read back, whether or not it is there
+pub marked : (marks : List Bool) (i : ℕ) → get_or (slice_set marks i true) i true ≡ true
+marked [] i = refl
+marked (m ∷ marks) zero = refl
+marked (m ∷ marks) (suc i) = marked marks i
+
+-- no entry is for the source
+pub asks_none : (x : ℕ) (entries : List Entry) (a : NetState) → begun_at x entries ≡ [] → Does (AsksSource entries x) a None a
+asks_none x entries a none =
+    let nothing = does_nothing a in
+    record {
+      exact = subst (λ (es : List Entry). Each Tries (map (λ (e : Entry). ask x e.act) es) a None a) (sym none) nothing.exact;
+      reaches = nothing.reaches;
+    }
 
 -- what the switch allocator granted is sent
 

@@ -7,7 +7,7 @@ use Rattle.worm_mesh.specs.Links.{IsLink, links_before, link_count}
 use Rattle.worm_mesh.proofs.Digits.{AreLarge-from_radices}
 use Rattle.worm_mesh.proofs.Neighbours.{Joins-from, Joins-back, neighbour_of-some, neighbour_of-none, no_port}
 use Rattle.worm_mesh.proofs.Numbers.{below_count}
-use Rattle.worm_core.specs.Wiring.{AreLinksOf, IsWired, no_links, out_link, in_link}
+use Rattle.worm_core.specs.Wiring.{AreLinksOf, AreWired, no_links, out_link, in_link}
 use Rattle.worm_core.specs.declared.wiring.NodeLinks.{NodeLinks}
 
 out_by : (mesh : List ℕ) (x p : ℕ) → IsRadices mesh → (n r : Option ℕ) → neighbour_of mesh x p ≡ n → SomeIff r (IsLink mesh x p) (links_before mesh x p) → r ≡ option_map (λ y. links_before mesh x p) n
@@ -65,11 +65,15 @@ pub wired_more : (mesh : List ℕ) (nodes : List NodeLinks) (i : ℕ) (v : NodeL
 wired_more mesh nodes i v there here before =
     below_more _ _ (λ x below. let away : x ≢ i = omega arith in rw get_or-set_other (before x below)) (rw get_or-set_same here)
 
+pub beyond_kept : (mesh now : List ℕ) (nodes : List NodeLinks) (x p i q : ℕ) → AreWired mesh nodes → mesh ≡ now → x < 256 → p < 6 → i ≡ x → q ≡ p → get_or (get_or nodes i no_links).beyond q None ≡ neighbour_of now x p
+beyond_kept mesh now nodes x p i q wired same x_in p_in at_x at_p =
+    (λ t. get_or (get_or nodes (at_x t) no_links).beyond (at_p t) None) ∙ ((wired x x_in).beyond p p_in ∙ ap (λ (m : List ℕ). neighbour_of m x p) same)
+
 -- what is kept, at a place that is named by other numbers
-pub out_kept : (mesh now : List ℕ) (nodes : List NodeLinks) (x p i q : ℕ) → IsWired mesh nodes → mesh ≡ now → x < 256 → p < 6 → i ≡ x → q ≡ p → get_or (get_or nodes i no_links).out q None ≡ out_link now x p
+pub out_kept : (mesh now : List ℕ) (nodes : List NodeLinks) (x p i q : ℕ) → AreWired mesh nodes → mesh ≡ now → x < 256 → p < 6 → i ≡ x → q ≡ p → get_or (get_or nodes i no_links).out q None ≡ out_link now x p
 out_kept mesh now nodes x p i q wired same x_in p_in at_x at_p =
     (λ t. get_or (get_or nodes (at_x t) no_links).out (at_p t) None) ∙ ((wired x x_in).out p p_in ∙ ap (λ (m : List ℕ). out_link m x p) same)
 
-pub in_kept : (mesh now : List ℕ) (nodes : List NodeLinks) (x p i q : ℕ) → IsWired mesh nodes → mesh ≡ now → x < 256 → p < 6 → i ≡ x → q ≡ p → get_or (get_or nodes i no_links).into q None ≡ in_link now x p
+pub in_kept : (mesh now : List ℕ) (nodes : List NodeLinks) (x p i q : ℕ) → AreWired mesh nodes → mesh ≡ now → x < 256 → p < 6 → i ≡ x → q ≡ p → get_or (get_or nodes i no_links).into q None ≡ in_link now x p
 in_kept mesh now nodes x p i q wired same x_in p_in at_x at_p =
     (λ t. get_or (get_or nodes (at_x t) no_links).into (at_p t) None) ∙ ((wired x x_in).into p p_in ∙ ap (λ (m : List ℕ). in_link m x p) same)

@@ -3,6 +3,8 @@ pub mod Shape
 pub mod State
 pub mod Answers
 pub mod Wiring
+pub mod Ports
+pub mod Arrivals
 pub mod Moves
 pub mod Runs
 pub mod Headline

@@ -112,6 +112,13 @@ after_getting s x o None = s
 after_getting s x o (Some c) =
     with_link (with_router s x (after_credit (router_at s x) o c)) (link_out s x o) (record (link_at s (link_out s x o)) { credits = drop 1 (link_at s (link_out s x o)).credits })
 
+-- Nothing can come into a node: no credit is on a link out of it, no flit on a link into it, and its source has no flit for which
+-- there is room.
+pub record NothingComes (s : NetState) (x : ℕ) : Type 0 where
+  pub no_credit : (p : ℕ) → IsSome (neighbour_of s.mesh x p) → front_credit s x p ≡ None
+  pub no_flit : (p : ℕ) → IsSome (neighbour_of s.mesh x p) → front_into s x p ≡ None
+  pub no_feed : (k : ℕ) → k < length s.channels → can_enter (router_at s x) (terminal (router_at s x)) (front_of (source_at s x) k) ≡ false
+
 -- Send, whatever is ready to leave
 abbrev pub after_ready : NetState → ℕ → ℕ → ℕ → Option (ℕ × Flit) → NetState
 after_ready s x p v None = s

@@ -126,17 +126,20 @@ GivesCredit x p = ForEach (λ s. option_to_list (option_map (GiveCredit x p) (lo
 abbrev pub GivesCredits : ℕ → Passage
 GivesCredits x = ForEach mesh_ports (GivesCredit x)
 
--- the turn of a node, with these entries for all nodes
-abbrev pub NodeTurn : List Entry → ℕ → Passage
-NodeTurn entries x =
-    AsksSource entries x
-    and_then TakesCredits x
+-- what a node does in a turn once its source was asked
+abbrev pub NodePasses : ℕ → Passage
+NodePasses x =
+    TakesCredits x
     and_then TakesFlits x
     and_then FeedsClasses x
     and_then RoutesChannels x
     and_then Allocates x
     and_then SendsGranted x
     and_then GivesCredits x
+
+-- the turn of a node, with these entries for all nodes
+abbrev pub NodeTurn : List Entry → ℕ → Passage
+NodeTurn entries x = AsksSource entries x and_then NodePasses x
 
 -- The turns of all nodes, by rising number; kept closed in goals
 

@@ -1,4 +1,4 @@
-ghost use Rattle.std.specs.Prelude.{true, false, ℕ, IfNone, IfOk, ◌==◌, ◌≡◌, ◌*◌, ◌<◌, ◌≤◌, ◌++◌, ◌∷◌, [], ◌↔◌, IsTrue, IsSome, ◌⊎◌, None, OnOk, OnErr, IfErr, IfSome, unwrap_or, if◌then◌else◌, is_some, length, sum, drop, nat_lt, slice_get};
+ghost use Rattle.std.specs.Prelude.{true, false, ℕ, IfNone, IfOk, ◌==◌, ◌≡◌, ◌*◌, ◌<◌, ◌≤◌, ◌++◌, ◌∷◌, [], ◌↔◌, IsTrue, IsSome, ◌⊎◌, None, Some, OnOk, OnErr, IfErr, IfSome, unwrap_or, if◌then◌else◌, is_some, length, sum, drop, nat_lt, slice_get};
 ghost use Rattle.worm_flit.specs.Channels.{AreChannels};
 ghost use Rattle.worm_core.specs.NewNet.{IsFresh};
 ghost use Rattle.worm_router.specs.Allocation.{after_allocate, switch_grants};
@@ -11,10 +11,12 @@ ghost use Rattle.worm_core.specs.Moves.{CreditFits, FrontFits, RoutesNothing, Se
 
 mod parts;
 mod readers;
+mod rest;
+mod still;
 
 use crate::fresh::{make_links, make_nodes};
-use crate::wiring::Wiring;
-use crate::{LinkState, Moved, Name, Node, StepFault};
+use crate::links::Links;
+use crate::{Moved, Name, Node, StepFault};
 use arrayvec::ArrayVec;
 use std::alloc::{AllocError, Global};
 use std::marker::Model;
@@ -26,8 +28,8 @@ use worm_term::OfferFault;
 /// The nodes by number and the links by number, whatever they hold (Dally and Towles, chapters 5, 13 and 16).
 #[derive(Drop)]
 pub struct Fabric {
-    /// The mesh, with the numbers of each node's links.
-    wiring: Wiring,
+    /// The mesh, and the links by number.
+    links: Links,
     /// The channels that classes own.
     classes: ClassChannels,
     /// How many flits each buffer holds, 1 to 16.
@@ -36,8 +38,6 @@ pub struct Fabric {
     names: ArrayVec<Name, 4>,
     /// The nodes by number.
     nodes: Vec<Node>,
-    /// The links by number.
-    links: Vec<LinkState>,
 }
 
 impl Model for Fabric {
@@ -45,7 +45,7 @@ impl Model for Fabric {
 
     ghost Value = { NetState };
 
-    ghost view = { λ n. net_state n.wiring n.classes n.depth (texts_of n.names.items) n.nodes.items n.links.items };
+    ghost view = { λ n. net_state n.links.mesh n.classes n.depth (texts_of n.names.items) n.nodes.items n.links.states };
 }
 
 impl Fabric {
@@ -67,12 +67,11 @@ impl Fabric {
         let room = u16::from(classes.total()) * u16::from(depth);
         let links = make_links(alloc, mesh.links(), room)?;
         Ok(Fabric {
-            wiring: Wiring::new(mesh),
+            links: Links::new(mesh, links),
             classes,
             depth,
             names,
             nodes,
-            links,
         })
     }
 
@@ -80,22 +79,22 @@ impl Fabric {
     pub fn has_node(&self, node: u8) -> bool
         ensures { IsTrue result ↔ (node < node_count self.now.mesh) }
     {
-        u16::from(node) < self.wiring.mesh().nodes()
+        u16::from(node) < self.links.wiring().nodes()
     }
 
     /// Whether the mesh has this node, and the network this class.
     pub fn has_class(&self, node: u8, class: u8) -> bool
         ensures { IsTrue result ↔ ((node < node_count self.now.mesh) × (class < length self.now.channels)) }
     {
-        u16::from(node) < self.wiring.mesh().nodes() && class < self.classes.classes()
+        u16::from(node) < self.links.wiring().nodes() && class < self.classes.classes()
     }
 
     /// Whether the node has this port, the terminal or one with a neighbour, and the network this channel.
     pub fn has_place(&self, node: u8, port: u8, vc: u8) -> bool
         ensures { IsTrue result ↔ ((node < node_count self.now.mesh) × ((port ≡ 2 * length self.now.mesh) ⊎ IsSome (neighbour_of self.now.mesh node port)) × (vc < sum self.now.channels)) }
     {
-        u16::from(node) < self.wiring.mesh().nodes()
-            && (port == 2 * self.wiring.mesh().dims() || self.wiring.link_out(node, port).is_some())
+        u16::from(node) < self.links.wiring().nodes()
+            && (port == self.terminal() || self.has_neighbour(node, port))
             && vc < self.classes.total()
     }
 
@@ -106,11 +105,18 @@ impl Fabric {
         self.has_place(node, port, vc) && out_vc < self.classes.total()
     }
 
+    /// Whether a node is at the other end of this port's links.
+    fn has_neighbour(&self, node: u8, port: u8) -> bool
+        ensures { IsTrue result ↔ IsSome (neighbour_of self.now.mesh node port) }
+    {
+        self.links.wiring().link_out(node, port).is_some()
+    }
+
     /// Whether the node has a neighbour at this port.
     pub fn has_link(&self, node: u8, port: u8) -> bool
         ensures { IsTrue result ↔ ((node < node_count self.now.mesh) × IsSome (neighbour_of self.now.mesh node port)) }
     {
-        self.wiring.link_out(node, port).is_some()
+        self.has_neighbour(node, port)
     }
 
     /// The same for a channel of the link into the port.
@@ -125,41 +131,7 @@ impl Fabric {
         ensures value { result ≡ 2 * length self.now.mesh }
         ensures bound { result ≤ 6 }
     {
-        2 * self.wiring.mesh().dims()
-    }
-
-    /// The number of the link that comes into this port.
-    pub fn link_into(&self, node: u8, port: u8) -> u16
-        requires { IsSome (neighbour_of self.now.mesh node port) }
-        ensures value { result ≡ link_into self.now node port }
-        ensures bound { result < link_count self.now.mesh }
-    {
-        let Some(number) = self.wiring.link_into(node, port) else {
-            return 0;
-        };
-        number
-    }
-
-    /// The number of the link that goes out of this port.
-    pub fn link_out(&self, node: u8, port: u8) -> u16
-        requires { IsSome (neighbour_of self.now.mesh node port) }
-        ensures value { result ≡ link_out self.now node port }
-        ensures bound { result < link_count self.now.mesh }
-    {
-        let Some(number) = self.wiring.link_out(node, port) else {
-            return 0;
-        };
-        number
-    }
-
-    /// The front flit of the link into this port.
-    pub fn front_into(&self, node: u8, port: u8) -> Option<Flit>
-        requires links { length self.now.links ≡ link_count self.now.mesh }
-        requires linked { IsSome (neighbour_of self.now.mesh node port) }
-        ensures { result ≡ front_into self.now node port }
-    {
-        let link = &self.links[usize::from(self.link_into(node, port))];
-        link.front()
+        self.links.wiring().terminal()
     }
 
     /// Gives the flit to the node's buffer of its channel, if that has room.
@@ -173,15 +145,6 @@ impl Fabric {
         node.router.accept(port, flit).is_ok()
     }
 
-    /// Drops the front flit of the link.
-    fn pop(&mut self, number: u16)
-        requires { number < length self.old.links }
-        ensures { self.new ≡ with_link self.old number (record (link_at self.old number) { flits = drop 1 (link_at self.old number).flits }) }
-    {
-        let link = &mut self.links[usize::from(number)];
-        link.pop();
-    }
-
     /// Moves the front of the link into a port to the buffer of its channel (Dally and Towles, chapter 13).
     pub fn take(&mut self, node: u8, port: u8) -> bool
         requires node { node < length self.old.nodes }
@@ -191,14 +154,13 @@ impl Fabric {
         ensures enabled { result ≡ can_enter (router_at self.old node) port (front_into self.old node port) }
         ensures after { self.new ≡ (if result then after_take self.old node port (link_into self.old node port) (front_into self.old node port) else self.old) }
     {
-        let Some(flit) = self.front_into(node, port) else {
+        let Some(flit) = self.links.front(node, port) else {
             return false;
         };
-        let number = self.link_into(node, port);
         if !self.accept(node, port, flit) {
             return false;
         }
-        self.pop(number);
+        self.links.pop(node, port);
         true
     }
 
@@ -232,35 +194,25 @@ impl Fabric {
         node.router.ready(port, vc)
     }
 
-    /// Lets the ready flit out of its buffer.
-    fn sent(&mut self, node: u8, port: u8, vc: u8)
+    /// Lets the ready flit out of its buffer, by the output port `out`.
+    fn let_out(&mut self, node: u8, port: u8, vc: u8, out: u8, flit: Flit)
         requires place { IsNetPlace self.old node port vc }
-        requires ready { IsSome (leaving (router_at self.old node) port vc) }
+        requires ready { leaving (router_at self.old node) port vc ≡ Some (out, flit) }
         ensures { self.new ≡ with_router self.old node (after_send (router_at self.old node) port vc) }
     {
         let node = &mut self.nodes[usize::from(node)];
-        node.router.sent(port, vc);
+        node.router.let_out(port, vc, out, flit);
     }
 
-    /// Puts the flit at the end of the link.
-    fn push(&mut self, number: u16, flit: Flit)
-        requires number { number < length self.old.links }
-        requires room { length (link_at self.old number).flits < (link_at self.old number).room }
-        ensures { self.new ≡ with_link self.old number (record (link_at self.old number) { flits = (link_at self.old number).flits ++ flit ∷ [] }) }
-    {
-        let link = &mut self.links[usize::from(number)];
-        link.push(flit);
-    }
-
-    /// Lets the ready flit out into the node's sink, if that can take it.
-    fn deliver(&mut self, node: u8, port: u8, vc: u8, flit: Flit) -> bool
+    /// Lets the ready flit out into the node's sink, by the output port `out`, if the sink can take it.
+    fn deliver(&mut self, node: u8, port: u8, vc: u8, out: u8, flit: Flit) -> bool
         requires place { IsNetPlace self.old node port vc }
-        requires ready { IsSome (leaving (router_at self.old node) port vc) }
+        requires ready { leaving (router_at self.old node) port vc ≡ Some (out, flit) }
         requires home { flit.lane.dst ≡ (sink_at self.old node).node }
         ensures { self.new ≡ (if result then with_node self.old node (delivered_node (node_at self.old node) port vc flit) else self.old) }
     {
         let node = &mut self.nodes[usize::from(node)];
-        node.deliver(port, vc, flit)
+        node.deliver(port, vc, out, flit)
     }
 
     /// Lets the ready flit out, into the sink or onto the link of its port (Dally and Towles, chapter 13). `NoMemory` where the sink cannot take it.
@@ -274,14 +226,13 @@ impl Fabric {
             return Ok(Moved::Idle);
         };
         if out == self.terminal() {
-            if !self.deliver(node, port, vc, flit) {
+            if !self.deliver(node, port, vc, out, flit) {
                 return Err(StepFault::NoMemory);
             }
             return Ok(Moved::Done);
         }
-        let number = self.link_out(node, out);
-        self.sent(node, port, vc);
-        self.push(number, flit);
+        self.let_out(node, port, vc, out, flit);
+        self.links.push(node, out, flit);
         Ok(Moved::Done)
     }
 
@@ -342,16 +293,6 @@ impl Fabric {
         node.router.gave(port, vc);
     }
 
-    /// Puts a credit of the channel at the end of the link's credits.
-    fn push_credit(&mut self, number: u16, vc: u8)
-        requires number { number < length self.old.links }
-        requires room { length (link_at self.old number).credits < (link_at self.old number).room }
-        ensures { self.new ≡ with_link self.old number (record (link_at self.old number) { credits = (link_at self.old number).credits ++ vc ∷ [] }) }
-    {
-        let link = &mut self.links[usize::from(number)];
-        link.push_credit(vc);
-    }
-
     /// Gives a credit that the input channel owes to the link into its port (Dally and Towles, chapter 13).
     pub fn give(&mut self, node: u8, port: u8, vc: u8) -> bool
         requires place { IsNetPlace self.old node port vc }
@@ -364,20 +305,9 @@ impl Fabric {
         if !self.owes(node, port, vc) {
             return false;
         }
-        let number = self.link_into(node, port);
         self.gave(node, port, vc);
-        self.push_credit(number, vc);
+        self.links.push_credit(node, port, vc);
         true
-    }
-
-    /// The front credit of the link out of this port.
-    fn front_credit(&self, node: u8, port: u8) -> Option<u8>
-        requires links { length self.now.links ≡ link_count self.now.mesh }
-        requires linked { IsSome (neighbour_of self.now.mesh node port) }
-        ensures { result ≡ front_credit self.now node port }
-    {
-        let link = &self.links[usize::from(self.link_out(node, port))];
-        link.front_credit()
     }
 
     /// Counts a credit more for the output channel, if one is missing.
@@ -390,15 +320,6 @@ impl Fabric {
         node.router.credit(port, vc).is_ok()
     }
 
-    /// Drops the front credit of the link.
-    fn pop_credit(&mut self, number: u16)
-        requires { number < length self.old.links }
-        ensures { self.new ≡ with_link self.old number (record (link_at self.old number) { credits = drop 1 (link_at self.old number).credits }) }
-    {
-        let link = &mut self.links[usize::from(number)];
-        link.pop_credit();
-    }
-
     /// Takes the front credit of the link out of this port into its channel's count (Dally and Towles, chapter 13).
     pub fn get(&mut self, node: u8, port: u8) -> bool
         requires node { node < length self.old.nodes }
@@ -408,14 +329,13 @@ impl Fabric {
         ensures enabled { result ≡ can_get (router_at self.old node) port (front_credit self.old node port) }
         ensures after { self.new ≡ (if result then after_getting self.old node port (front_credit self.old node port) else self.old) }
     {
-        let Some(vc) = self.front_credit(node, port) else {
+        let Some(vc) = self.links.front_credit(node, port) else {
             return false;
         };
-        let number = self.link_out(node, port);
         if !self.credit(node, port, vc) {
             return false;
         }
-        self.pop_credit(number);
+        self.links.pop_credit(node, port);
         true
     }
 
@@ -424,7 +344,7 @@ impl Fabric {
         ensures value { result ≡ node_count self.now.mesh }
         ensures bound { result ≤ 256 }
     {
-        self.wiring.mesh().nodes()
+        self.links.wiring().nodes()
     }
 
     /// The number of classes.

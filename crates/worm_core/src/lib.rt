@@ -16,9 +16,11 @@ mod fabric;
 mod fault;
 mod fresh;
 mod link;
+mod links;
 mod net;
 mod node;
 mod parts;
+mod port_set;
 mod script;
 mod step;
 #[cfg(test)]

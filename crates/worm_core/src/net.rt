@@ -6,7 +6,7 @@ ghost use Rattle.worm_theory.specs.Steps.{empty};
 ghost use Rattle.worm_core.specs.NewNet.{IsConfig, IsFresh};
 ghost use Rattle.worm_core.specs.Headline.{DeliversInOrder, NothingFollowsMarks};
 ghost use Rattle.worm_core.specs.State.{IsNet, shape, network_of, queue_of, router_at, sink_at, source_at, texts_of, with_router};
-ghost use Rattle.worm_core.specs.Turns.{Reaches, RoutesChannels, lowest_owed};
+ghost use Rattle.worm_core.specs.Turns.{GivesCredits, NodePasses, Reaches, RoutesChannels, Tries, lowest_owed};
 ghost use Rattle.worm_mesh.specs.Address.{node_count};
 ghost use Rattle.worm_router.specs.Router.{input_at, width};
 ghost use Rattle.worm_router.specs.Allocation.{after_allocate, switch_grants};
@@ -218,6 +218,44 @@ impl Net {
         ensures { IsTrue result → RoutesChannels node self.now None self.now }
     {
         self.fabric.is_routed(node)
+    }
+
+    /// A mesh port from this one on by which a credit may come in; before it there is none to take, and where there is none, past it.
+    pub(crate) fn next_credit(&self, node: u8, from: u8) -> Option<u8>
+        requires node { node < node_count self.now.mesh }
+        requires from { from ≤ 6 }
+        ensures mesh_port { IfSome result (λ port. (from ≤ port) × (port < 2 * length self.now.mesh) × (port < 6)) }
+        ensures before { IfSome result (λ port. (p : ℕ) → from ≤ p → p < port → Tries (Event.TakeCredit node p) self.now None self.now) }
+        ensures none { IfNone result ((p : ℕ) → from ≤ p → Tries (Event.TakeCredit node p) self.now None self.now) }
+    {
+        self.fabric.next_credit(node, from)
+    }
+
+    /// The same of flits.
+    pub(crate) fn next_flit(&self, node: u8, from: u8) -> Option<u8>
+        requires node { node < node_count self.now.mesh }
+        requires from { from ≤ 6 }
+        ensures mesh_port { IfSome result (λ port. (from ≤ port) × (port < 2 * length self.now.mesh) × (port < 6)) }
+        ensures before { IfSome result (λ port. (p : ℕ) → from ≤ p → p < port → Tries (Event.Take node p) self.now None self.now) }
+        ensures none { IfNone result ((p : ℕ) → from ≤ p → Tries (Event.Take node p) self.now None self.now) }
+    {
+        self.fabric.next_flit(node, from)
+    }
+
+    /// Whether no channel of the node owes a credit; then there is none to give.
+    pub(crate) fn owes_nothing(&self, node: u8) -> bool
+        requires { node < node_count self.now.mesh }
+        ensures { IsTrue result → GivesCredits node self.now None self.now }
+    {
+        self.fabric.owes_nothing(node)
+    }
+
+    /// Whether the node is at rest, so that its turn goes past all but what its source is asked.
+    pub(crate) fn is_at_rest(&self, node: u8) -> bool
+        requires { node < node_count self.now.mesh }
+        ensures { IsTrue result → NodePasses node self.now None self.now }
+    {
+        self.fabric.is_at_rest(node)
     }
 
     /// The lowest channel of the mesh port that owes a credit.

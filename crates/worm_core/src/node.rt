@@ -1,4 +1,4 @@
-ghost use Rattle.std.specs.Prelude.{IsTrue, true, false, ◌≡◌, ◌<◌, ◌≤◌, IsSome, OnOk, OnErr, IfErr, None, length, unwrap_or, if◌then◌else◌};
+ghost use Rattle.std.specs.Prelude.{IsTrue, true, false, ◌≡◌, ◌<◌, ◌≤◌, Some, OnOk, OnErr, IfErr, None, length, unwrap_or, if◌then◌else◌};
 ghost use Rattle.worm_router.specs.Router.{IsPlace, terminal, leaving};
 ghost use Rattle.worm_router.specs.Allocation.{switch_grants};
 ghost use Rattle.worm_term.specs.Source.{classes, front_of, refusal, after_offer, after_close};
@@ -32,24 +32,38 @@ impl Node {
         let Some(flit) = self.source.front(class) else {
             return false;
         };
-        if self.router.accept(port, flit).is_err() {
+        if !self.router.has_room(port, flit.vc) {
             return false;
         }
+        let _done = self.router.accept(port, flit);
         self.source.fed(class);
         true
     }
 
-    /// Lets the flit that is ready at this place out into the sink, if that can take it.
-    pub(crate) fn deliver(&mut self, port: u8, vc: u8, flit: Flit) -> bool
+    /// Whether the source has a flit of the class for which the injection buffer has room.
+    pub(crate) fn can_feed(&self, class: u8, port: u8) -> bool
+        requires class { class < classes self.now.source }
+        requires port { port ≡ terminal self.now.router }
+        requires front { FrontFits self.now.router (terminal self.now.router) (front_of self.now.source class) }
+        ensures { result ≡ can_enter self.now.router (terminal self.now.router) (front_of self.now.source class) }
+    {
+        match self.source.front(class) {
+            None => false,
+            Some(flit) => self.router.has_room(port, flit.vc),
+        }
+    }
+
+    /// Lets the flit that is ready at this place out into the sink, by the output port `out`, if the sink can take it.
+    pub(crate) fn deliver(&mut self, port: u8, vc: u8, out: u8, flit: Flit) -> bool
         requires place { IsPlace self.old.router port vc }
-        requires ready { IsSome (leaving self.old.router port vc) }
+        requires ready { leaving self.old.router port vc ≡ Some (out, flit) }
         requires home { flit.lane.dst ≡ self.old.sink.node }
         ensures after { self.new ≡ (if result then delivered_node self.old port vc flit else self.old) }
     {
         if self.sink.take(flit).is_err() {
             return false;
         }
-        self.router.sent(port, vc);
+        self.router.let_out(port, vc, out, flit);
         true
     }
 

@@ -1,14 +1,14 @@
 //! The turn of a node, and the turns of all nodes in rising number.
 
-ghost use Rattle.std.specs.Prelude.{ℕ, List, ◌≡◌, ◌<◌, ◌≤◌, ◌*◌, None, length};
+ghost use Rattle.std.specs.Prelude.{ℕ, List, [], ◌≡◌, ◌<◌, ◌≤◌, ◌*◌, None, true, false, length, slice_index_or};
 ghost use Rattle.std.specs.Result.{result_err};
 ghost use Rattle.worm_mesh.specs.Address.{node_count};
 ghost use Rattle.worm_core.specs.Answers.{Answers};
 ghost use Rattle.worm_core.specs.Headline.{DeliversInOrder, NothingFollowsMarks};
-ghost use Rattle.worm_core.specs.Script.{due};
+ghost use Rattle.worm_core.specs.Script.{begun_at, due};
 ghost use Rattle.worm_core.specs.State.{IsNet};
 ghost use Rattle.worm_core.specs.declared.script.Entry.{Entry};
-ghost use Rattle.worm_core.specs.Turns.{AsksSource, Does, FeedsClasses, GivesCredits, IsDetermined, NodeTurn, Reaches, RoutesChannels, RoutesPort, RunIsDetermined, SendsGranted, TakesCredits, TakesFlits, Turn, ask, fault_of};
+ghost use Rattle.worm_core.specs.Turns.{AsksSource, Does, FeedsClasses, GivesCredits, IsDetermined, NodePasses, NodeTurn, Reaches, RoutesChannels, RoutesPort, RunIsDetermined, SendsGranted, TakesCredits, TakesFlits, Turn, ask, fault_of};
 
 use crate::{Act, Entry, Moved, Net, Script, StepFault};
 
@@ -21,6 +21,17 @@ fn tried(answer: Result<Moved, StepFault>) -> Result<(), StepFault>
         Err(StepFault::NoSuchPlace) => Ok(()),
         Err(fault) => Err(fault),
     }
+}
+
+/// The nodes whose sources these entries ask, by number: an entry is for none of the others.
+fn sources_of(entries: &[Entry]) -> [bool; 256]
+    ensures { (x : ℕ) → x < 256 → slice_index_or result x true ≡ false → begun_at x entries.now ≡ [] }
+{
+    let mut sources = [false; 256];
+    for entry in entries {
+        sources[usize::from(entry.act.lane().src)] = true;
+    }
+    sources
 }
 
 /// Turns are functions of the network and the script: unless want of memory ends it, a turn leads from one network to one alone, with
@@ -56,19 +67,25 @@ impl Net {
 
     /// Takes a credit from each link out of the node, ports rising.
     fn take_credits(&mut self, node: u8)
+        requires { node < node_count self.old.mesh }
         ensures { Does (TakesCredits node) self.old None self.new }
     {
-        for port in 0..self.terminal() {
+        let mut from = 0;
+        while let Some(port) = self.next_credit(node, from) {
             let _moved = self.get(node, port);
+            from = port + 1;
         }
     }
 
     /// Takes a flit from each link into the node, ports rising.
     fn take_flits(&mut self, node: u8)
+        requires { node < node_count self.old.mesh }
         ensures { Does (TakesFlits node) self.old None self.new }
     {
-        for port in 0..self.terminal() {
+        let mut from = 0;
+        while let Some(port) = self.next_flit(node, from) {
             let _moved = self.take(node, port);
+            from = port + 1;
         }
     }
 
@@ -122,6 +139,9 @@ impl Net {
         requires { node < node_count self.old.mesh }
         ensures { Does (GivesCredits node) self.old None self.new }
     {
+        if self.owes_nothing(node) {
+            return;
+        }
         for port in 0..self.terminal() {
             if let Some(vc) = self.lowest_owed(node, port) {
                 let _moved = self.give(node, port, vc);
@@ -129,12 +149,14 @@ impl Net {
         }
     }
 
-    /// The turn of a node, with these entries for all nodes.
-    fn node_turn(&mut self, node: u8, entries: &[Entry]) -> Result<(), StepFault>
+    /// What a node does in a turn once its source was asked.
+    fn node_passes(&mut self, node: u8) -> Result<(), StepFault>
         requires { node < node_count self.old.mesh }
-        ensures { Does (NodeTurn entries.now node) self.old (result_err result) self.new }
+        ensures { Does (NodePasses node) self.old (result_err result) self.new }
     {
-        self.ask_source(node, entries)?;
+        if self.is_at_rest(node) {
+            return Ok(());
+        }
         self.take_credits(node);
         self.take_flits(node);
         self.feed_classes(node);
@@ -145,12 +167,25 @@ impl Net {
         Ok(())
     }
 
+    /// The turn of a node, with these entries for all nodes; one of them may be for its source.
+    fn node_turn(&mut self, node: u8, entries: &[Entry], is_asked: bool) -> Result<(), StepFault>
+        requires node { node < node_count self.old.mesh }
+        requires asked { is_asked ≡ false → begun_at node entries.now ≡ [] }
+        ensures { Does (NodeTurn entries.now node) self.old (result_err result) self.new }
+    {
+        if is_asked {
+            self.ask_source(node, entries)?;
+        }
+        self.node_passes(node)
+    }
+
     /// The turns of all nodes with these entries, in rising number.
     fn all_turns(&mut self, entries: &[Entry]) -> Result<(), StepFault>
         ensures { Does (Turn entries.now) self.old (result_err result) self.new }
     {
+        let sources = sources_of(entries);
         for node in 0..self.nodes() {
-            self.node_turn(node as u8, entries)?;
+            self.node_turn(node as u8, entries, sources[usize::from(node)])?;
         }
         Ok(())
     }

@@ -1,16 +1,18 @@
 //! A mesh with the numbers of its links kept by node and port, so that no step searches for a link.
 
-ghost use Rattle.std.specs.Prelude.{◌≡◌, ◌<◌, ◌*◌, ℕ, IfSome, length};
-ghost use Rattle.worm_mesh.specs.Address.{IsMesh as IsRadices};
+ghost use Rattle.std.specs.Prelude.{◌≡◌, ◌<◌, ◌≤◌, ◌*◌, ℕ, IfSome, IsSome, option_map, length};
+ghost use Rattle.worm_mesh.specs.Address.{IsMesh as IsRadices, node_count, neighbour_of, opposite_of};
 ghost use Rattle.worm_mesh.specs.Links.{link_count};
 ghost use Rattle.worm_core.specs.Wiring.{AreLinksOf, in_link, out_link};
 
 use std::marker::Model;
 use worm_mesh::Mesh;
 
-/// The links of a node by mesh port, each by its number, where the port has a neighbour.
+/// The neighbours and the links of a node by mesh port, each by its number, where the port has a neighbour.
 #[derive(Clone, Copy)]
 pub struct NodeLinks {
+    /// The node beyond each port.
+    pub beyond: [Option<u8>; 6],
     /// The link out of each port.
     pub out: [Option<u16>; 6],
     /// The link into each port.
@@ -22,6 +24,10 @@ pub struct NodeLinks {
 pub struct Wiring {
     /// The mesh.
     mesh: Mesh,
+    /// How many nodes it has.
+    count: u16,
+    /// The terminal port of each node.
+    terminal: u8,
     /// By node number; of a node that is not there no links.
     nodes: [NodeLinks; 256],
 }
@@ -35,7 +41,7 @@ impl Model for Wiring {
 
     ghost view = { λ w. w.mesh };
 
-    ghost invariant = { λ w. IsWired w.mesh w.nodes };
+    ghost invariant = { λ w. IsWired w.mesh w.count w.terminal w.nodes };
 }
 
 /// The number of the link out of this port.
@@ -60,13 +66,15 @@ fn links_of(mesh: &Mesh, node: u8) -> NodeLinks
     requires { IsRadices mesh.now }
     ensures { AreLinksOf mesh.now node result }
 {
+    let mut beyond = [None; 6];
     let mut out = [None; 6];
     let mut into = [None; 6];
     for port in 0..6u8 {
+        beyond[usize::from(port)] = mesh.neighbour(node, port);
         out[usize::from(port)] = number_out(mesh, node, port);
         into[usize::from(port)] = number_into(mesh, node, port);
     }
-    NodeLinks { out, into }
+    NodeLinks { beyond, out, into }
 }
 
 impl Wiring {
@@ -76,13 +84,21 @@ impl Wiring {
         ensures { result ≡ mesh }
     {
         let mut nodes = [NodeLinks {
+            beyond: [None; 6],
             out: [None; 6],
             into: [None; 6],
         }; 256];
         for node in 0..256u16 {
             nodes[usize::from(node)] = links_of(&mesh, node as u8);
         }
-        Wiring { mesh, nodes }
+        let count = mesh.nodes();
+        let terminal = 2 * mesh.dims();
+        Wiring {
+            mesh,
+            count,
+            terminal,
+            nodes,
+        }
     }
 
     /// The mesh.
@@ -92,10 +108,42 @@ impl Wiring {
         &self.mesh
     }
 
+    /// How many nodes there are, 2 to 256.
+    pub fn nodes(&self) -> u16
+        ensures value { result ≡ node_count self.now }
+        ensures bound { result ≤ 256 }
+    {
+        self.count
+    }
+
+    /// The terminal port of each node: 2, 4 or 6.
+    pub fn terminal(&self) -> u8
+        ensures value { result ≡ 2 * length self.now }
+        ensures bound { result ≤ 6 }
+    {
+        self.terminal
+    }
+
+    /// The other end of the links at this port, if there are any: the node beyond, and its port.
+    pub fn other_end(&self, node: u8, port: u8) -> Option<(u8, u8)>
+        ensures value { result ≡ option_map (λ y. (y, opposite_of port)) (neighbour_of self.now node port) }
+        ensures mesh { IsRadices self.now }
+        ensures node { IfSome result (λ end. end.0 < 256) }
+        ensures mesh_port { IfSome result (λ end. end.1 < 6) }
+    {
+        let _nodes = self.mesh.nodes();
+        if port >= 6 {
+            return None;
+        }
+        let beyond = self.nodes[usize::from(node)].beyond[usize::from(port)]?;
+        Some((beyond, self.mesh.opposite(port)))
+    }
+
     /// The number of the link that leaves the node by this port, if there is one.
     pub fn link_out(&self, node: u8, port: u8) -> Option<u16>
         ensures value { result ≡ out_link self.now node port }
         ensures bound { IfSome result (λ number. number < link_count self.now) }
+        ensures mesh_port { IsSome result → port < 6 }
     {
         let _nodes = self.mesh.nodes();
         if port < 6 {
@@ -109,6 +157,7 @@ impl Wiring {
     pub fn link_into(&self, node: u8, port: u8) -> Option<u16>
         ensures value { result ≡ in_link self.now node port }
         ensures bound { IfSome result (λ number. number < link_count self.now) }
+        ensures mesh_port { IsSome result → port < 6 }
     {
         let _nodes = self.mesh.nodes();
         if port < 6 {

@@ -64,3 +64,17 @@ with_front_kept n f xs d l h =
       | inl below ↦ slice_index_or-with_front_below n i f xs d below ∙ h i below
       | inr past ↦ slice_index_or-with_front_past n i f xs d past
     ])
+
+-- what is added as it stood makes no difference
+pub with_front_skip : {X : Type 0} (n m : ℕ) (f : ℕ → X) (xs : List X) (d : X) → n ≤ m → m ≤ length xs → ((i : ℕ) → n ≤ i → i < m → f i ≡ slice_index_or xs i d) → with_front n f xs ≡ with_front m f xs
+with_front_skip n m f xs d from l h =
+    ext_get_or d (with_front n f xs) (with_front m f xs) (length-with_front n f xs (omega arith) ∙ sym (length-with_front m f xs l))
+    (λ i _. elim (cases_lt i n) [
+      | inl below ↦ slice_index_or-with_front_below n i f xs d below ∙ sym (slice_index_or-with_front_below m i f xs d (omega arith))
+      | inr past ↦
+          slice_index_or-with_front_past n i f xs d past
+          ∙ elim (cases_lt i m) [
+            | inl within ↦ sym (h i past within) ∙ sym (slice_index_or-with_front_below m i f xs d within)
+            | inr past' ↦ sym (slice_index_or-with_front_past m i f xs d past')
+          ]
+    ])

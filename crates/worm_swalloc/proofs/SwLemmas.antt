@@ -1,17 +1,25 @@
 -- Lemmas on a pass of the switch allocator.
-use Rattle.std.proofs.Common.{◌≡◌, ℕ, ◌+◌, ◌<◌, ◌≤◌, Bool, true, false, List, [], Option, Some, None, is_some, refl, sym, ap, ◌∙◌, arith, slice_index_or, slice_set, length, inl, inr, ltb, cond, replicate, ◌&&◌, bit_or, ◌^◌, subst, get_or-set_same, get_or-set_other}
+use Rattle.std.proofs.Common.{◌≡◌, ℕ, ◌+◌, ◌<◌, ◌≤◌, Bool, true, false, List, [], Option, Some, None, IfSome, is_some, refl, sym, ap, ◌∙◌, arith, slice_index_or, slice_set, length, inl, inr, ltb, cond, replicate, ◌&&◌, subst, get_or-set_same, get_or-set_other}
 use Rattle.std.specs.Option.{option_map}
-use Rattle.std.proofs.lemmas.Bool.{cases_eq, cases_lt, cases_Bool, lt-ltb, le-ltb, ltb-true, eqb-true, eq-eqb, ne_eqb, and_parts, and_from, and_right, true≢false}
-use Rattle.std.proofs.lemmas.List.{length-set, ext_get_or, get_or-replicate, length-replicate, get_or_past, get_or_default}
-use Rattle.std.proofs.lemmas.Nat.{one_shl}
-use Rattle.worm_vcalloc.proofs.LineLemmas.{LinesBelow, lines_none, line_set_at, line_unset_at}
+use Rattle.std.proofs.lemmas.Bool.{cases_eq, cases_lt, cases_Bool, lt-ltb, ltb-true, eqb-true, eq-eqb, ne_eqb, and_parts, and_from, true≢false}
+use Rattle.std.proofs.lemmas.List.{get_or-replicate, length-replicate, get_or_past, get_or_default}
+use Rattle.worm_vcalloc.specs.ChannelSet.{has, IsPut, IsFirstPort}
+use Rattle.worm_vcalloc.proofs.SetLemmas.{has-zero}
+use Rattle.worm_vcalloc.proofs.PassLemmas.{none_where_not_some}
 use Rattle.worm_vcalloc.specs.Arbiter.{ArbiterState, no_arbiter, winner, after_pick, line_requests}
 use Rattle.worm_vcalloc.specs.Table.{cell}
 use Rattle.worm_vcalloc.proofs.ArbiterLemmas.{winner_same, winner_none, winner_requests, winner_none_requests}
 use Rattle.worm_swalloc.specs.declared.grant.SwGrant.{SwGrant}
 use Rattle.worm_swalloc.specs.Front.{with_front}
-use Rattle.worm_swalloc.specs.SwAlloc.{SwAllocState, IsSwAlloc, IsSwitchMatching, request_of, named_channel, named, all_named, is_for, chosen, with_choice, is_line, if_chosen, granted, sw_grants, sw_after, output_after, input_after}
-use Rattle.worm_swalloc.proofs.FrontLemmas.{with_front_zero, slice_set-with_front, with_front_more, length-with_front, slice_index_or-with_front_below, slice_index_or-with_front_past, with_front_same, with_front_kept}
+use Rattle.worm_swalloc.specs.SwAlloc.{SwAllocState, IsSwAlloc, IsSwitchMatching, AreChannelsBelow, AreAskers, request_of, named_channel, named, all_named, is_for, chosen, with_choice, is_line, if_chosen, granted, sw_grants, sw_after, output_after, input_after, channel_of, with_move, after_grant}
+use Rattle.worm_swalloc.proofs.FrontLemmas.{with_front_zero, slice_set-with_front, slice_index_or-with_front_below, slice_index_or-with_front_past, with_front_same, with_front_kept, with_front_skip}
+use Rattle.worm_swalloc.proofs.WalkLemmas.{IsWalked, walked_start, walked_from, walked_over, walked_more, walked_all}
+
+pub get_or-replicate_same : {X : Type 0} (n i : ℕ) (x : X) → slice_index_or (replicate n x) i x ≡ x
+get_or-replicate_same n i x = elim (cases_lt i n) [
+  | inl within ↦ get_or-replicate n i x x within
+  | inr past ↦ get_or_past (replicate n x) i x (let e = length-replicate n x in omega arith)
+]
 
 -- the winner among lines that stand for a test
 pub winner_of_lines : (a : ArbiterState) (width lines : ℕ) (asks : ℕ → Bool) → a.width ≡ width → a.pointer < width
@@ -48,185 +56,114 @@ pub choice_is : (s : SwAllocState) (requests grants : List (Option SwGrant)) (ou
     → ((line : ℕ) → line < s.ports → line_requests lines line ≡ is_for (slice_index_or requests line None) out)
     → w ≡ winner (slice_index_or s.outputs out d) (line_requests lines) → new ≡ after_pick (slice_index_or s.outputs out d) w
     → (with_choice grants requests w ≡ with_choice grants requests (chosen s requests out))
-    × (◌≡◌ {A = SwAllocState} (record s { outputs = slice_set s.outputs out new }) (record s { outputs = slice_set s.outputs out (output_after s requests out) }))
+    × (◌≡◌ {A = SwAllocState} (record s { inputs = with_move s.inputs requests w; outputs = slice_set s.outputs out new })
+    (record s { inputs = with_move s.inputs requests (chosen s requests out); outputs = slice_set s.outputs out (output_after s requests out) }))
 choice_is s requests grants out lines d new w r lo within same won moved =
     let choice = chosen_is s requests out lines d w r lo within same won in (
       ap (with_choice grants requests) choice,
-      ap (λ a. record s { outputs = slice_set s.outputs out a }) (moved_is s.outputs out d new w (chosen s requests out) within choice moved),
+      ap (λ a. record s { inputs = with_move s.inputs requests w; outputs = slice_set s.outputs out a }) (moved_is s.outputs out d new w (chosen s requests out) within choice moved)
+          ∙ ap (λ v. record s { inputs = with_move s.inputs requests v; outputs = slice_set s.outputs out (output_after s requests out) }) choice,
     )
 
--- ---- the lines of the output arbiters
+-- ---- the requests
 
--- the requests of the input ports below n, by output port
-abbrev pub GatheredBelow : List (Option SwGrant) → ℕ → List ℕ → Type 0
-GatheredBelow requests n lines = (out : ℕ) → out < 7 → LinesBelow (λ line. is_for (slice_index_or requests line None) out) n (slice_index_or lines out 0)
+-- where no channel of an input port is ready, it names none
+named_unready : (s : SwAllocState) (ready : List (List (Option ℕ))) (port : ℕ) → IsSwAlloc s.ports s.channels s.inputs s.outputs → port < s.ports
+    → ((v : ℕ) → v < 8 → cell ready port v None ≡ None) → named s ready port ≡ None
+named_unready s ready port r lp none =
+    let few = r.few_ports in
+    let few' = r.few_channels in
+    let wide = r.input_width port (omega arith) in
+    let low = r.input_pointer port (omega arith) in
+    ap (request_of (slice_index_or ready port []))
+    (winner_none (slice_index_or s.inputs port no_arbiter) (λ vc. is_some (cell ready port vc None)) (omega arith) (λ vc l. ap is_some (none vc (omega arith))))
 
-pub gathered_none : (requests : List (Option SwGrant)) → GatheredBelow requests 0 (replicate 7 0)
-gathered_none requests out l =
-    subst (LinesBelow (λ line. is_for (slice_index_or requests line None) out) 0) (sym (get_or-replicate 7 out 0 0 l)) (lines_none (λ line. is_for (slice_index_or requests line None) out))
+-- the input ports below n have been asked, where n is as far as the walk has come
+pub record AskedBelow (s : SwAllocState) (ready : List (List (Option ℕ))) (keys left : ℕ) (requests : List (Option SwGrant)) (askers : ℕ) : Type 0 where
+  pub next : ℕ
+  pub walked : IsWalked keys left next s.ports
+  pub requests_are : requests ≡ with_front next (named s ready) (replicate 7 None)
+  pub askers_are : AreAskers requests askers
 
-pub gathered_more : (requests : List (Option SwGrant)) (n : ℕ) (lines next : List ℕ) → GatheredBelow requests n lines → n < 7
-    → ((out : ℕ) → out < 7 → slice_index_or next out 0 ≡ cond (is_for (slice_index_or requests n None) out) (bit_or (slice_index_or lines out 0) (2 ^ n)) (slice_index_or lines out 0))
-    → GatheredBelow requests (n + 1) next
-gathered_more requests n lines next b few e out l =
-    elim (cases_Bool (is_for (slice_index_or requests n None) out)) [
-      | inl t ↦
-          line_set_at _ n (n + 1) (slice_index_or lines out 0) (slice_index_or next out 0) (b out l) refl
-          (e out l ∙ ap (λ t. cond t (bit_or (slice_index_or lines out 0) (2 ^ n)) (slice_index_or lines out 0)) t ∙ ap (bit_or (slice_index_or lines out 0)) (sym (one_shl n 64 (omega arith)))) (omega arith) t
-      | inr f ↦
-          line_unset_at _ n (n + 1) (slice_index_or lines out 0) (slice_index_or next out 0) (b out l) refl
-          (e out l ∙ ap (λ t. cond t (bit_or (slice_index_or lines out 0) (2 ^ n)) (slice_index_or lines out 0)) f) f
-    ]
+-- no input port asks
+pub askers_none : (requests : List (Option SwGrant)) (askers : ℕ) → requests ≡ replicate 7 None → askers ≡ 0 → AreAskers requests askers
+askers_none requests askers e e' out port _ _ =
+    ap (λ n. has n out port) e' ∙ has-zero out port ∙ sym (ap (λ o. is_for o out) (ap (λ xs. slice_index_or xs port None) e ∙ get_or-replicate_same 7 port None))
 
--- ---- the output arbiters
-
--- the allocator once the output ports below n have chosen
-abbrev pub after_choices : SwAllocState → List (Option SwGrant) → ℕ → SwAllocState
-after_choices s requests n = record s { outputs = with_front n (output_after s requests) s.outputs }
-
--- the output ports below n have chosen
-pub record ChosenBelow (s : SwAllocState) (requests : List (Option SwGrant)) (n : ℕ) (now : SwAllocState) (grants : List (Option SwGrant)) : Type 0 where
-  pub state : now ≡ after_choices s requests n
-  pub grants_are : grants ≡ with_front s.ports (granted s requests n) (replicate 7 None)
-
--- a request keeps its state where output port n does not choose its input port
-if_chosen_same : (s : SwAllocState) (requests : List (Option SwGrant)) (n port : ℕ) (o : Option SwGrant)
-    → ((g : SwGrant) → o ≡ Some g → g.out ≡ n → is_line (chosen s requests n) port ≡ false)
-    → if_chosen s requests n port o ≡ if_chosen s requests (n + 1) port o
-if_chosen_same s requests n port None h = refl
-if_chosen_same s requests n port (Some g) h =
-    elim (cases_eq g.out n) [
+-- one more asks
+pub askers_more : (requests : List (Option SwGrant)) (askers askers' port : ℕ) (g : SwGrant) → port < length requests → slice_index_or requests port None ≡ None
+    → AreAskers requests askers → IsPut askers askers' g.out port true → AreAskers (slice_set requests port (Some g)) askers'
+askers_more requests askers askers' port g within none b put out p lo lp =
+    elim (cases_eq p port) [
       | inl same ↦
-          let not_this : is_line (chosen s requests g.out) port ≡ false = ap (λ k. is_line (chosen s requests k) port) same ∙ h g refl same in
-          ap (λ b. cond b (Some g) None) (and_right (ltb g.out n) _ not_this ∙ sym (and_right (ltb g.out (n + 1)) _ not_this))
-      | inr other ↦ elim (cases_lt g.out n) [
-        | inl below ↦ ap (λ b. cond (b && is_line (chosen s requests g.out) port) (Some g) None) (lt-ltb g.out n below ∙ sym (lt-ltb g.out (n + 1) (omega arith)))
-        | inr above ↦ ap (λ b. cond (b && is_line (chosen s requests g.out) port) (Some g) None) (le-ltb g.out n above ∙ sym (le-ltb g.out (n + 1) (omega arith)))
-      ]
+          (elim (cases_eq out g.out) [
+            | inl here ↦ ap (λ k. has askers' k p) here ∙ ap (has askers' g.out) same ∙ put.here ∙ sym (eq-eqb g.out out (sym here))
+            | inr there ↦
+                put.elsewhere out p lo lp (λ e _. there e) ∙ b out p lo lp
+                ∙ ap (λ k. is_for (slice_index_or requests k None) out) same ∙ ap (λ o. is_for o out) none ∙ sym (ne_eqb g.out out (λ e. there (sym e)))
+          ])
+          ∙ sym (ap (λ o. is_for o out) (ap (λ k. slice_index_or (slice_set requests port (Some g)) k None) same ∙ get_or-set_same requests port (Some g) None within))
+      | inr other ↦ put.elsewhere out p lo lp (λ _ e. other e) ∙ b out p lo lp ∙ ap (λ o. is_for o out) (sym (get_or-set_other requests port p (Some g) None other))
     ]
 
--- the request of the chosen input port is granted
-if_chosen_here : (s : SwAllocState) (requests : List (Option SwGrant)) (n port : ℕ) (o : Option SwGrant)
-    → is_for o n ≡ true → chosen s requests n ≡ Some port → o ≡ if_chosen s requests (n + 1) port o
-if_chosen_here s requests n port None e w = refl
-if_chosen_here s requests n port (Some g) e w =
-    let same : g.out ≡ n = eqb-true g.out n e in
-    let here : is_line (chosen s requests g.out) port ≡ true = ap (λ k. is_line (chosen s requests k) port) same ∙ ap (λ o. is_line o port) w ∙ eq-eqb port port refl in
-    ap (λ b. cond b (Some g) None) (sym (and_from (ltb g.out (n + 1)) (is_line (chosen s requests g.out) port) (lt-ltb g.out (n + 1) (omega arith)) here))
+-- the requests as far as the next port that has a ready channel
+asked_to : (s : SwAllocState) (ready : List (List (Option ℕ))) (keys left n m : ℕ) → IsSwAlloc s.ports s.channels s.inputs s.outputs → n ≤ m → m ≤ s.ports
+    → ((p v : ℕ) → p < 7 → v < 8 → has keys p v ≡ is_some (cell ready p v None))
+    → ((p v : ℕ) → n ≤ p → p < m → v < 8 → has keys p v ≡ false)
+    → with_front n (named s ready) (replicate 7 None) ≡ with_front m (named s ready) (replicate 7 None)
+asked_to s ready keys left n m r from within keyed none =
+    let few = r.few_ports in
+    with_front_skip n m (named s ready) (replicate 7 None) None from (omega arith)
+    (λ i l l'.
+    named_unready s ready i r (omega arith) (λ v lv. none_where_not_some (cell ready i v None) (sym (keyed i v (omega arith) lv) ∙ none i v l l' lv))
+    ∙ sym (get_or-replicate_same 7 i None))
 
--- the grants once output port n has chosen too
-choice_granted : (s : SwAllocState) (requests : List (Option SwGrant)) (n : ℕ) → s.ports ≤ 7
-    → (slice_index_or s.outputs n no_arbiter).width ≡ s.ports → (slice_index_or s.outputs n no_arbiter).pointer < s.ports
-    → (w : Option ℕ) → chosen s requests n ≡ w
-    → with_choice (with_front s.ports (granted s requests n) (replicate 7 None)) requests w ≡ with_front s.ports (granted s requests (n + 1)) (replicate 7 None)
-choice_granted s requests n few wide low None e =
-    with_front_same s.ports (granted s requests n) (granted s requests (n + 1)) (replicate 7 None) None few
-    (λ i l. if_chosen_same s requests n i (slice_index_or requests i None) (λ g _ _. ap (λ o. is_line o i) e))
-choice_granted s requests n few wide low (Some q) e =
-    let won = winner_requests (slice_index_or s.outputs n no_arbiter) (λ port. is_for (slice_index_or requests port None) n) q (omega arith) e in
-    let before : List (Option SwGrant) = with_front s.ports (granted s requests n) (replicate 7 None) in
-    let after : List (Option SwGrant) = with_front s.ports (granted s requests (n + 1)) (replicate 7 None) in
-    let long : length before ≡ 7 = length-with_front s.ports (granted s requests n) (replicate 7 None) few in
-    let long' : length after ≡ 7 = length-with_front s.ports (granted s requests (n + 1)) (replicate 7 None) few in
-    let set_long : length (slice_set before q (slice_index_or requests q None)) ≡ length before = length-set before q (slice_index_or requests q None) in
-    ext_get_or None (slice_set before q (slice_index_or requests q None)) after (set_long ∙ long ∙ sym long')
-    (λ i _. elim (cases_eq i q) [
-      | inl here ↦
-          ap (λ k. slice_index_or (slice_set before q (slice_index_or requests q None)) k None) here
-          ∙ get_or-set_same before q (slice_index_or requests q None) None (omega (arith, won.0))
-          ∙ if_chosen_here s requests n q (slice_index_or requests q None) won.1 e
-          ∙ sym (slice_index_or-with_front_below s.ports q (granted s requests (n + 1)) (replicate 7 None) None (omega (arith, won.0)))
-          ∙ ap (λ k. slice_index_or after k None) (sym here)
-      | inr other ↦
-          get_or-set_other before q i (slice_index_or requests q None) None other
-          ∙ elim (cases_lt i s.ports) [
-            | inl below ↦
-                slice_index_or-with_front_below s.ports i (granted s requests n) (replicate 7 None) None below
-                ∙ if_chosen_same s requests n i (slice_index_or requests i None) (λ g _ _. ap (λ o. is_line o i) e ∙ ne_eqb q i (λ same. other (sym same)))
-                ∙ sym (slice_index_or-with_front_below s.ports i (granted s requests (n + 1)) (replicate 7 None) None below)
-            | inr past ↦
-                slice_index_or-with_front_past s.ports i (granted s requests n) (replicate 7 None) None past
-                ∙ sym (slice_index_or-with_front_past s.ports i (granted s requests (n + 1)) (replicate 7 None) None past)
-          ]
-    ])
+pub asked_start : (s : SwAllocState) (ready : List (List (Option ℕ))) (keys : ℕ) (requests : List (Option SwGrant)) (askers : ℕ) → requests ≡ replicate 7 None → askers ≡ 0
+    → AskedBelow s ready keys keys requests askers
+asked_start s ready keys requests askers e e' = record {
+  next = 0;
+  walked = walked_start keys s.ports;
+  requests_are = e ∙ sym (with_front_zero (named s ready) (replicate 7 None));
+  askers_are = askers_none requests askers e e';
+}
 
--- before the first choice
-pub chosen_none : (s : SwAllocState) (requests : List (Option SwGrant)) → s.ports ≤ 7 → ChosenBelow s requests 0 s (replicate 7 None)
-chosen_none s requests few = record {
-  state = ap (λ o. record s { outputs = o }) (sym (with_front_zero (output_after s requests) s.outputs));
-  grants_are =
-      ext_get_or None (replicate 7 None) (with_front s.ports (granted s requests 0) (replicate 7 None)) (sym (length-with_front s.ports (granted s requests 0) (replicate 7 None) few))
-      (λ i l. elim (cases_lt i s.ports) [
-        | inl below ↦ get_or-replicate 7 i None None l ∙ none_below i (slice_index_or requests i None) ∙ sym (slice_index_or-with_front_below s.ports i (granted s requests 0) (replicate 7 None) None below)
-        | inr past ↦ sym (slice_index_or-with_front_past s.ports i (granted s requests 0) (replicate 7 None) None past)
-      ]);
-} where
-  none_below : (i : ℕ) (o : Option SwGrant) → None ≡ if_chosen s requests 0 i o
-  none_below i None = refl
-  none_below i (Some g) = ap (λ b. cond (b && is_line (chosen s requests g.out) i) (Some g) None) (sym (le-ltb g.out 0 (omega arith)))
+-- a port that has yet to be asked has no request
+pub not_asked : (s : SwAllocState) (ready : List (List (Option ℕ))) (keys left left' port : ℕ) (requests : List (Option SwGrant)) (askers : ℕ) → AskedBelow s ready keys left requests askers → IsFirstPort left left' port
+    → slice_index_or requests port None ≡ None
+not_asked s ready keys left left' port requests askers b f =
+    let from = walked_from keys left left' b.next s.ports port b.walked f in
+    ap (λ xs. slice_index_or xs port None) b.requests_are
+    ∙ slice_index_or-with_front_past b.next port (named s ready) (replicate 7 None) None from
+    ∙ get_or-replicate_same 7 port None
 
--- one more choice
-pub chosen_more : (s : SwAllocState) (requests : List (Option SwGrant)) (n : ℕ) (now next : SwAllocState) (grants grants' : List (Option SwGrant))
-    → ChosenBelow s requests n now grants → s.ports ≤ 7 → n < length s.outputs
-    → (slice_index_or s.outputs n no_arbiter).width ≡ s.ports → (slice_index_or s.outputs n no_arbiter).pointer < s.ports
-    → grants' ≡ with_choice grants requests (chosen now requests n)
-    → next ≡ record now { outputs = slice_set now.outputs n (output_after now requests n) }
-    → ChosenBelow s requests (n + 1) next grants'
-chosen_more s requests n now next grants grants' b few within wide low g e =
-    let same : slice_index_or (with_front n (output_after s requests) s.outputs) n no_arbiter ≡ slice_index_or s.outputs n no_arbiter
-    = slice_index_or-with_front_past n n (output_after s requests) s.outputs no_arbiter (omega arith) in
-    let choice : chosen now requests n ≡ chosen s requests n =
-    ap (λ (t : SwAllocState). chosen t requests n) b.state ∙ ap (λ a. winner a (λ port. is_for (slice_index_or requests port None) n)) same in
-    let moved : output_after now requests n ≡ output_after s requests n =
-    ap (λ (t : SwAllocState). after_pick (slice_index_or t.outputs n no_arbiter) (chosen now requests n)) b.state
-    ∙ ap (λ a. after_pick a (chosen now requests n)) same
-    ∙ ap (after_pick (slice_index_or s.outputs n no_arbiter)) choice in
+-- the next port has been asked
+pub asked_more : (s : SwAllocState) (ready : List (List (Option ℕ))) (keys left left' port : ℕ) (requests requests' : List (Option SwGrant)) (askers askers' : ℕ)
+    → IsSwAlloc s.ports s.channels s.inputs s.outputs
+    → ((p v : ℕ) → p < 7 → v < 8 → has keys p v ≡ is_some (cell ready p v None))
+    → AskedBelow s ready keys left requests askers → IsFirstPort left left' port → port < s.ports
+    → requests' ≡ slice_set requests port (named s ready port) → AreAskers requests' askers'
+    → AskedBelow s ready keys left' requests' askers'
+asked_more s ready keys left left' port requests requests' askers askers' r keyed b f within e e' =
+    let few = r.few_ports in
+    let from = walked_from keys left left' b.next s.ports port b.walked f in
     record {
-      state = e
-          ∙ ap (λ a. record now { outputs = slice_set now.outputs n a }) moved
-          ∙ ap (λ (t : SwAllocState). record t { outputs = slice_set t.outputs n (output_after s requests n) }) b.state
-          ∙ ap (λ o. record s { outputs = o }) (slice_set-with_front n (output_after s requests) s.outputs no_arbiter within);
-      grants_are = g
-          ∙ ap (λ w. with_choice grants requests w) choice
-          ∙ ap (λ r. with_choice r requests (chosen s requests n)) b.grants_are
-          ∙ choice_granted s requests n few wide low (chosen s requests n) refl;
+      next = port + 1;
+      walked = walked_more keys left left' b.next s.ports port b.walked f within few;
+      requests_are = e
+          ∙ ap (λ xs. slice_set xs port (named s ready port))
+          (b.requests_are ∙ asked_to s ready keys left b.next port r from (omega arith) keyed (λ p v l l' lv. walked_over keys left left' b.next s.ports port p v b.walked f l l' (omega arith) lv))
+          ∙ slice_set-with_front port (named s ready) (replicate 7 None) None (omega arith);
+      askers_are = e';
     }
 
--- ---- the input arbiters
-
--- the allocator once the granted input ports below n have moved
-abbrev pub committed : SwAllocState → List (List (Option ℕ)) → List (Option SwGrant) → ℕ → SwAllocState
-committed s ready grants n = record s { inputs = with_front n (input_after s ready grants) s.inputs }
-
-pub committed_none : (s : SwAllocState) (ready : List (List (Option ℕ))) (grants : List (Option SwGrant)) → s ≡ committed s ready grants 0
-committed_none s ready grants = ap (λ i. record s { inputs = i }) (sym (with_front_zero (input_after s ready grants) s.inputs))
-
--- a granted input port moves
-pub committed_granted : (s : SwAllocState) (ready : List (List (Option ℕ))) (grants : List (Option SwGrant)) (n : ℕ) (now next : SwAllocState)
-    → now ≡ committed s ready grants n → n < length s.inputs → is_some (slice_index_or grants n None) ≡ true
-    → next ≡ record now { inputs = slice_set now.inputs n (after_pick (slice_index_or now.inputs n no_arbiter) (named_channel now ready n)) }
-    → next ≡ committed s ready grants (n + 1)
-committed_granted s ready grants n now next is within some e =
-    let same : slice_index_or (with_front n (input_after s ready grants) s.inputs) n no_arbiter ≡ slice_index_or s.inputs n no_arbiter
-    = slice_index_or-with_front_past n n (input_after s ready grants) s.inputs no_arbiter (omega arith) in
-    let asks : ℕ → Bool = λ vc. is_some (cell ready n vc None) in
-    e
-    ∙ ap (λ (t : SwAllocState). record t { inputs = slice_set t.inputs n (after_pick (slice_index_or t.inputs n no_arbiter) (winner (slice_index_or t.inputs n no_arbiter) asks)) }) is
-    ∙ ap (λ a. record s { inputs = slice_set (with_front n (input_after s ready grants) s.inputs) n (after_pick a (winner a asks)) }) same
-    ∙ ap (λ a. record s { inputs = slice_set (with_front n (input_after s ready grants) s.inputs) n a })
-    (sym (ap (λ b. cond b (after_pick (slice_index_or s.inputs n no_arbiter) (named_channel s ready n)) (slice_index_or s.inputs n no_arbiter)) some))
-    ∙ ap (λ i. record s { inputs = i }) (slice_set-with_front n (input_after s ready grants) s.inputs no_arbiter within)
-
--- another input port stays
-pub committed_other : (s : SwAllocState) (ready : List (List (Option ℕ))) (grants : List (Option SwGrant)) (n : ℕ) (now next : SwAllocState)
-    → now ≡ committed s ready grants n → n < length s.inputs → is_some (slice_index_or grants n None) ≡ false
-    → next ≡ now
-    → next ≡ committed s ready grants (n + 1)
-committed_other s ready grants n now next is within none e =
-    e ∙ is
-    ∙ ap (λ i. record s { inputs = i })
-    (with_front_more n (input_after s ready grants) s.inputs no_arbiter within
-    (sym (ap (λ b. cond b (after_pick (slice_index_or s.inputs n no_arbiter) (named_channel s ready n)) (slice_index_or s.inputs n no_arbiter)) none)))
+-- all have been asked
+pub asked_all : (s : SwAllocState) (ready : List (List (Option ℕ))) (keys left : ℕ) (requests : List (Option SwGrant)) (askers : ℕ)
+    → IsSwAlloc s.ports s.channels s.inputs s.outputs
+    → ((p v : ℕ) → p < 7 → v < 8 → has keys p v ≡ is_some (cell ready p v None))
+    → AskedBelow s ready keys left requests askers → left ≡ 0 → requests ≡ all_named s ready
+asked_all s ready keys left requests askers r keyed b e =
+    let few = b.walked.few in
+    b.requests_are ∙ asked_to s ready keys left b.next s.ports r few (omega arith) keyed (λ p v l l' lv. walked_all keys left b.next s.ports p v b.walked e l l' lv)
 
 -- ---- the matching
 
@@ -261,12 +198,6 @@ request_parts row (Some v) g e = go (slice_index_or row v None) refl where
       let ev : v ≡ g.vc = ap (λ x. x.vc) hg in
       let eo : out ≡ g.out = ap (λ x. x.out) hg in
       (ap Some ev, ap (λ k. slice_index_or row k None) (sym ev) ∙ n ∙ ap Some eo)
-
-get_or-replicate_same : {X : Type 0} (n i : ℕ) (x : X) → slice_index_or (replicate n x) i x ≡ x
-get_or-replicate_same n i x = elim (cases_lt i n) [
-  | inl within ↦ get_or-replicate n i x x within
-  | inr past ↦ get_or_past (replicate n x) i x (let e = length-replicate n x in omega arith)
-]
 
 -- a grant is that of a port that is there
 grant_within : (s : SwAllocState) (requests : List (Option SwGrant)) (port : ℕ) (g : SwGrant)
@@ -331,24 +262,58 @@ matching s ready r = record {
               same,
             )
 
--- ---- where nothing is ready
+-- a named channel is one of the port's
+pub named_within : (s : SwAllocState) (ready : List (List (Option ℕ))) (requests : List (Option SwGrant)) → IsSwAlloc s.ports s.channels s.inputs s.outputs
+    → requests ≡ all_named s ready → AreChannelsBelow s.channels requests
+named_within s ready requests r e port = subst (λ o. IfSome o (λ g. g.vc < s.channels)) (ap (λ xs. slice_index_or xs port None) (sym e)) (go (slice_index_or (all_named s ready) port None) refl) where
+  go : (o : Option SwGrant) → slice_index_or (all_named s ready) port None ≡ o → IfSome o (λ g. g.vc < s.channels)
+  go None n = tt
+  go (Some g) n = elim (cases_lt port s.ports) [
+    | inl below ↦
+        let few = r.few_ports in
+        let is_named : named s ready port ≡ Some g = sym (slice_index_or-with_front_below s.ports port (named s ready) (replicate 7 None) None below) ∙ n in
+        let q = request_parts (slice_index_or ready port []) (named_channel s ready port) g is_named in
+        let wide : (slice_index_or s.inputs port no_arbiter).width ≡ s.channels = r.input_width port (omega arith) in
+        let low : (slice_index_or s.inputs port no_arbiter).pointer < s.channels = r.input_pointer port (omega arith) in
+        let v = winner_requests (slice_index_or s.inputs port no_arbiter) (λ vc. is_some (cell ready port vc None)) g.vc (omega arith) q.0 in
+        omega (arith, v.0)
+    | inr past ↦
+        let no : None ≡ Some g = sym (get_or-replicate_same 7 port None) ∙ sym (slice_index_or-with_front_past s.ports port (named s ready) (replicate 7 None) None past) ∙ n in
+        absurd (cc)
+  ]
 
--- no input port names a channel
-named_none : (s : SwAllocState) (ready : List (List (Option ℕ))) → IsSwAlloc s.ports s.channels s.inputs s.outputs → ((p v : ℕ) → p < 7 → v < 8 → cell ready p v None ≡ None)
-    → (port : ℕ) → port < s.ports → named s ready port ≡ None
-named_none s ready r none port lp =
-    let few = r.few_ports in
-    let few' = r.few_channels in
-    let wide = r.input_width port (omega arith) in
-    let low = r.input_pointer port (omega arith) in
-    ap (request_of (slice_index_or ready port []))
-    (winner_none (slice_index_or s.inputs port no_arbiter) (λ vc. is_some (cell ready port vc None)) (omega arith) (λ vc l. ap is_some (none port vc (omega arith) (omega arith))))
+-- the allocator after a pass, as the code leaves it
+pub pass_is : (s now : SwAllocState) (ready : List (List (Option ℕ))) (requests grants : List (Option SwGrant)) → s.ports ≤ length s.inputs
+    → requests ≡ all_named s ready → grants ≡ sw_grants s ready
+    → now ≡ record s { inputs = with_front s.ports (after_grant s grants) s.inputs; outputs = with_front s.ports (output_after s requests) s.outputs }
+    → now ≡ sw_after s ready
+pass_is s now ready requests grants long are_named are_granted e =
+    e
+    ∙ ap (λ r. record s { inputs = with_front s.ports (after_grant s grants) s.inputs; outputs = with_front s.ports (output_after s r) s.outputs }) are_named
+    ∙ ap (λ i. record s { inputs = i; outputs = with_front s.ports (output_after s (all_named s ready)) s.outputs })
+    (ap (λ r. with_front s.ports (after_grant s r) s.inputs) are_granted
+    ∙ with_front_same s.ports (after_grant s (sw_grants s ready)) (input_after s ready (sw_grants s ready)) s.inputs no_arbiter long
+    (λ i l. moved i (slice_index_or (sw_grants s ready) i None) refl)) where
+      moved : (i : ℕ) (o : Option SwGrant) → slice_index_or (sw_grants s ready) i None ≡ o → after_grant s (sw_grants s ready) i ≡ input_after s ready (sw_grants s ready) i
+      moved i None n =
+          ap (λ o. after_pick (slice_index_or s.inputs i no_arbiter) (channel_of o)) n
+          ∙ sym (ap (λ o. cond (is_some o) (after_pick (slice_index_or s.inputs i no_arbiter) (named_channel s ready i)) (slice_index_or s.inputs i no_arbiter)) n)
+      moved i (Some g) n =
+          let w = grant_within s (all_named s ready) i g n in
+          let p = granted_parts s (all_named s ready) s.ports i (slice_index_or (all_named s ready) i None) g w.1 in
+          let is_named : named s ready i ≡ Some g = sym (slice_index_or-with_front_below s.ports i (named s ready) (replicate 7 None) None w.0) ∙ p.0 in
+          let q = request_parts (slice_index_or ready i []) (named_channel s ready i) g is_named in
+          ap (λ o. after_pick (slice_index_or s.inputs i no_arbiter) (channel_of o)) n
+          ∙ ap (after_pick (slice_index_or s.inputs i no_arbiter)) (sym q.0)
+          ∙ sym (ap (λ o. cond (is_some o) (after_pick (slice_index_or s.inputs i no_arbiter) (named_channel s ready i)) (slice_index_or s.inputs i no_arbiter)) n)
+
+-- ---- where nothing is ready
 
 all_named_none : (s : SwAllocState) (ready : List (List (Option ℕ))) → IsSwAlloc s.ports s.channels s.inputs s.outputs → ((p v : ℕ) → p < 7 → v < 8 → cell ready p v None ≡ None)
     → all_named s ready ≡ replicate 7 None
 all_named_none s ready r none =
     with_front_kept s.ports (named s ready) (replicate 7 None) None r.few_ports
-    (λ i l. named_none s ready r none i l ∙ sym (get_or-replicate_same 7 i None))
+    (λ i l. let few = r.few_ports in named_unready s ready i r l (λ v lv. none i v (omega arith) lv) ∙ sym (get_or-replicate_same 7 i None))
 
 -- nothing is granted
 pub sw_grants_none : (s : SwAllocState) (ready : List (List (Option ℕ))) → IsSwAlloc s.ports s.channels s.inputs s.outputs → ((p v : ℕ) → p < 7 → v < 8 → cell ready p v None ≡ None)

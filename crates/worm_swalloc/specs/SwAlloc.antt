@@ -1,7 +1,8 @@
 -- One pass of switch allocation, separable and input first (Dally and Towles, chapter 19).
-use Rattle.std.specs.Prelude.{◌≡◌, ℕ, ◌<◌, ◌≤◌, ◌==◌, ◌&&◌, nat_lt, Bool, false, if◌then◌else◌, List, [], Option, Some, None, is_some, replicate, slice_index_or, slice_set}
+use Rattle.std.specs.Prelude.{◌≡◌, ℕ, ◌<◌, ◌≤◌, ◌==◌, ◌&&◌, nat_lt, Bool, false, if◌then◌else◌, List, [], Option, Some, None, IfSome, is_some, replicate, slice_index_or, slice_set}
 use Rattle.std.specs.Option.{option_map}
 use Rattle.worm_vcalloc.specs.Arbiter.{ArbiterState, no_arbiter, winner, after_pick}
+use Rattle.worm_vcalloc.specs.ChannelSet.{has}
 use Rattle.worm_vcalloc.specs.Table.{cell}
 use Rattle.worm_swalloc.specs.Front.{with_front}
 use Rattle.worm_swalloc.specs.declared.grant.SwGrant.{SwGrant}
@@ -53,6 +54,28 @@ chosen s requests out = winner (slice_index_or s.outputs out no_arbiter) (λ por
 abbrev pub with_choice : List (Option SwGrant) → List (Option SwGrant) → Option ℕ → List (Option SwGrant)
 with_choice grants requests None = grants
 with_choice grants requests (Some port) = slice_set grants port (slice_index_or requests port None)
+
+-- the channel of a grant
+abbrev pub channel_of : Option SwGrant → Option ℕ
+channel_of None = None
+channel_of (Some g) = Some g.vc
+
+-- the input arbiters once that of the chosen port has moved past the channel of its request
+abbrev pub with_move : List ArbiterState → List (Option SwGrant) → Option ℕ → List ArbiterState
+with_move inputs requests None = inputs
+with_move inputs requests (Some port) = slice_set inputs port (after_pick (slice_index_or inputs port no_arbiter) (channel_of (slice_index_or requests port None)))
+
+-- the arbiter of an input port once it has moved past the channel that it was granted
+abbrev pub after_grant : SwAllocState → List (Option SwGrant) → ℕ → ArbiterState
+after_grant s grants port = after_pick (slice_index_or s.inputs port no_arbiter) (channel_of (slice_index_or grants port None))
+
+-- each request is for a channel below n
+abbrev pub AreChannelsBelow : ℕ → List (Option SwGrant) → Type 0
+AreChannelsBelow n requests = (port : ℕ) → IfSome (slice_index_or requests port None) (λ g. g.vc < n)
+
+-- the input ports that ask for each output port, as a set of its channels
+abbrev pub AreAskers : List (Option SwGrant) → ℕ → Type 0
+AreAskers requests askers = (out port : ℕ) → out < 7 → port < 8 → has askers out port ≡ is_for (slice_index_or requests port None) out
 
 -- whether the choice is this port
 abbrev pub is_line : Option ℕ → ℕ → Bool

@@ -7,8 +7,9 @@
 //! vain is named again.
 //!
 //! Ready channels come as a map that knows its keys, so a pass in which nothing is ready is one load, and
-//! an input port's lines are a shift and a mask. What each output port is asked for is gathered in one
-//! look over the named requests.
+//! an input port's lines are a shift and a mask. Input ports without a ready channel are passed over, and
+//! so are output ports that nobody asks for: who asks for which is gathered in one set as the input ports
+//! are looked at.
 //!
 //! It makes one pass and no second for the ports left over, so its matching need not be a largest one.
 #![tactic(auto)]

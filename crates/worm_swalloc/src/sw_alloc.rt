@@ -1,12 +1,12 @@
-ghost use Rattle.std.specs.Prelude.{◌≡◌, ℕ, ◌+◌, ◌^◌, ◌<◌, ◌≤◌, None, bit_or, if◌then◌else◌, is_some, replicate, slice_index_or, slice_set};
+ghost use Rattle.std.specs.Prelude.{◌≡◌, ℕ, ◌+◌, ◌^◌, ◌<◌, ◌≤◌, IfSome, None, is_some, replicate, slice_index_or, slice_set};
 ghost use Rattle.worm_vcalloc.specs.Arbiter.{no_arbiter, line_requests, winner, after_pick};
 ghost use Rattle.worm_vcalloc.specs.Table.{cell};
 ghost use Rattle.worm_swalloc.specs.Front.{with_front};
-ghost use Rattle.worm_swalloc.specs.SwAlloc.{SwAllocState, IsSwAlloc, IsSwitchMatching, request_of, named, named_channel, all_named, is_for, chosen, granted, sw_grants, sw_after, output_after, input_after, with_choice};
+ghost use Rattle.worm_swalloc.specs.SwAlloc.{SwAllocState, IsSwAlloc, IsSwitchMatching, AreChannelsBelow, AreAskers, request_of, named, all_named, is_for, channel_of, chosen, granted, sw_grants, sw_after, output_after, after_grant, with_choice, with_move};
 
 use crate::grant::{ReadyOuts, SwGrant, SwGrants};
 use std::marker::Model;
-use worm_vcalloc::Arbiter;
+use worm_vcalloc::{Arbiter, ChannelSet};
 
 /// The allocator of the switch, separable and input first (Dally and Towles, chapter 19).
 ///
@@ -64,25 +64,50 @@ impl SwAlloc {
     {
         // The proof of the first answer needs the widths of the arbiters.
         let _ = &self.ports;
+        let mut grants = [None; 7];
         if ready.keys().is_empty() {
-            return [None; 7];
+            return grants;
         }
-        let requests = self.requests(ready);
-        let grants = self.choose(&requests);
-        self.commit(ready, &grants);
+        let mut requests = [None; 7];
+        let mut askers = ChannelSet::new();
+        self.gather(ready, &mut requests, &mut askers);
+        self.choose(&requests, &askers, &mut grants);
         grants
     }
 
-    /// What each input port names.
-    fn requests(&self, ready: &ReadyOuts) -> SwGrants
-        ensures named { result ≡ all_named self.now ready.now }
+    /// Gathers what each input port names, and for each output port the input ports that ask for it.
+    fn gather(&self, ready: &ReadyOuts, requests: &mut SwGrants, askers: &mut ChannelSet)
+        requires requests { requests.old ≡ replicate 7 None }
+        requires askers { askers.old ≡ 0 }
+        ensures named { requests.new ≡ all_named self.now ready.now }
+        ensures askers { AreAskers requests.new askers.new }
         ensures ready { IsSwAlloc self.now.ports self.now.channels self.now.inputs self.now.outputs }
     {
-        let mut requests = [None; 7];
-        for port in 0..self.ports {
-            requests[port as usize] = self.request(port, ready);
+        let ports = self.ports;
+        let mut left = ready.keys();
+        while let Some(port) = left.pop_port() {
+            if port < ports {
+                self.ask(port, ready, requests, askers);
+            }
         }
-        requests
+    }
+
+    /// Adds what one input port names.
+    fn ask(&self, port: u8, ready: &ReadyOuts, requests: &mut SwGrants, askers: &mut ChannelSet)
+        requires port { port < self.now.ports }
+        requires few { port < 7 }
+        requires none { slice_index_or requests.old port None ≡ None }
+        requires askers { AreAskers requests.old askers.old }
+        ensures named { requests.new ≡ slice_set requests.old port (named self.now ready.now port) }
+        ensures askers { AreAskers requests.new askers.new }
+    {
+        let Some(request) = self.request(port, ready) else {
+            return;
+        };
+        requests[port as usize] = Some(request);
+        if request.out < 7 {
+            askers.put(request.out, port, true);
+        }
     }
 
     /// What one input port names.
@@ -95,50 +120,47 @@ impl SwAlloc {
         ready.get(port, vc).map(|out| SwGrant { vc, out })
     }
 
-    /// The arbiter of each output port chooses among the requests.
-    fn choose(&mut self, requests: &SwGrants) -> SwGrants
-        ensures grants { result ≡ with_front self.old.ports (granted self.old requests.now self.old.ports) (replicate 7 None) }
-        ensures after { self.new ≡ record self.old { outputs = with_front self.old.ports (output_after self.old requests.now) self.old.outputs } }
+    /// The arbiter of each output port that is asked for chooses among its requests.
+    fn choose(&mut self, requests: &SwGrants, askers: &ChannelSet, grants: &mut SwGrants)
+        requires grants { grants.old ≡ replicate 7 None }
+        requires channels { AreChannelsBelow self.old.channels requests.now }
+        requires askers { AreAskers requests.now askers.now }
+        ensures grants { grants.new ≡ with_front self.old.ports (granted self.old requests.now self.old.ports) (replicate 7 None) }
+        ensures after { self.new ≡ record self.old { inputs = with_front self.old.ports (after_grant self.old grants.new) self.old.inputs; outputs = with_front self.old.ports (output_after self.old requests.now) self.old.outputs } }
     {
-        let mut grants = [None; 7];
-        let lines = lines_by_port(requests, self.ports);
-        for out in 0..self.ports {
-            self.choose_for(out, lines[out as usize], requests, &mut grants);
-        }
-        grants
-    }
-
-    /// The arbiter of one output port chooses.
-    fn choose_for(&mut self, out: u8, lines: u64, requests: &SwGrants, grants: &mut SwGrants)
-        requires out { out < self.old.ports }
-        requires few { lines < 2 ^ self.old.ports }
-        requires lines { (line : ℕ) → line < self.old.ports → line_requests lines line ≡ is_for (slice_index_or requests.now line None) out }
-        ensures grants { grants.new ≡ with_choice grants.old requests.now (chosen self.old requests.now out) }
-        ensures after { self.new ≡ record self.old { outputs = slice_set self.old.outputs out (output_after self.old requests.now out) } }
-    {
-        if let Some(port) = self.outputs[out as usize].pick(lines) {
-            grants[port as usize] = requests[port as usize];
-        }
-    }
-
-    /// The arbiters of the granted input ports move.
-    fn commit(&mut self, ready: &ReadyOuts, grants: &SwGrants)
-        ensures { self.new ≡ record self.old { inputs = with_front self.old.ports (input_after self.old ready.now grants.now) self.old.inputs } }
-    {
-        for port in 0..self.ports {
-            if grants[port as usize].is_some() {
-                self.commit_port(port, ready);
+        let ports = self.ports;
+        let mut left = *askers;
+        while let Some(out) = left.pop_port() {
+            if out < ports {
+                self.choose_for(out, askers.row(out, ports), requests, grants);
             }
         }
     }
 
-    /// The arbiter of one input port moves past the channel that it named.
-    fn commit_port(&mut self, port: u8, ready: &ReadyOuts)
-        requires { port < self.old.ports }
-        ensures { self.new ≡ record self.old { inputs = slice_set self.old.inputs port (after_pick (slice_index_or self.old.inputs port no_arbiter) (named_channel self.old ready.now port)) } }
+    /// The arbiter of one output port chooses, and that of the chosen input port moves.
+    fn choose_for(&mut self, out: u8, lines: u64, requests: &SwGrants, grants: &mut SwGrants)
+        requires out { out < self.old.ports }
+        requires channels { AreChannelsBelow self.old.channels requests.now }
+        requires few { lines < 2 ^ self.old.ports }
+        requires lines { (line : ℕ) → line < self.old.ports → line_requests lines line ≡ is_for (slice_index_or requests.now line None) out }
+        ensures grants { grants.new ≡ with_choice grants.old requests.now (chosen self.old requests.now out) }
+        ensures after { self.new ≡ record self.old { inputs = with_move self.old.inputs requests.now (chosen self.old requests.now out); outputs = slice_set self.old.outputs out (output_after self.old requests.now out) } }
     {
-        let lines = ready_lines(ready, port, self.channels);
-        let _ = self.inputs[port as usize].pick(lines);
+        if let Some(port) = self.outputs[out as usize].pick(lines) {
+            grants[port as usize] = requests[port as usize];
+            self.commit(port, requests[port as usize]);
+        }
+    }
+
+    /// The arbiter of an input port moves past the channel that it was granted.
+    fn commit(&mut self, port: u8, granted: Option<SwGrant>)
+        requires port { port < self.old.ports }
+        requires channel { IfSome granted (λ g. g.vc < self.old.channels) }
+        ensures { self.new ≡ record self.old { inputs = slice_set self.old.inputs port (after_pick (slice_index_or self.old.inputs port no_arbiter) (channel_of granted)) } }
+    {
+        if let Some(grant) = granted {
+            self.inputs[port as usize].move_past(grant.vc);
+        }
     }
 }
 
@@ -150,31 +172,6 @@ fn ready_lines(ready: &ReadyOuts, port: u8, channels: u8) -> u64
     ensures lines { (line : ℕ) → line < channels → line_requests result line ≡ is_some (cell ready.now port line None) }
 {
     ready.keys().row(port, channels)
-}
-
-/// The lines of the input ports that request each output port.
-fn lines_by_port(requests: &SwGrants, ports: u8) -> [u64; 7]
-    requires { ports ≤ 7 }
-    ensures few { (out : ℕ) → out < 7 → slice_index_or result out 0 < 2 ^ ports }
-    ensures lines { (out line : ℕ) → out < 7 → line < ports → line_requests (slice_index_or result out 0) line ≡ is_for (slice_index_or requests.now line None) out }
-{
-    let mut lines = [0; 7];
-    for port in 0..ports {
-        add_line(&mut lines, requests[port as usize], port);
-    }
-    lines
-}
-
-/// Adds an input port to the lines of the output port that it requests.
-fn add_line(lines: &mut [u64; 7], request: Option<SwGrant>, port: u8)
-    requires { port < 7 }
-    ensures { (out : ℕ) → out < 7 → slice_index_or lines.new out 0 ≡ (if is_for request out then bit_or (slice_index_or lines.old out 0) (2 ^ port) else slice_index_or lines.old out 0) }
-{
-    if let Some(request) = request
-        && request.out < 7
-    {
-        lines[request.out as usize] |= 1 << port;
-    }
 }
 
 #[cfg(test)]

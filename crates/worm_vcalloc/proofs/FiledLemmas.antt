@@ -1,20 +1,17 @@
 -- Lemmas on requests that are filed by what they ask for.
-use Rattle.std.proofs.Common.{◌≡◌, ℕ, zero, suc, ◌+◌, ◌*◌, ◌%◌, ◌^◌, ◌<◌, ◌≤◌, Bool, false, ◌==◌, List, ◌∷◌, Option, None, is_some, refl, sym, ap, ◌∙◌, subst, arith, inl, inr, map, length, slice_index_or, slice_set, replicate, get_or-set_same, get_or-set_other}
-use Rattle.std.specs.Int.{bit_at}
+use Rattle.std.proofs.Common.{◌≡◌, ℕ, zero, suc, ◌+◌, ◌^◌, ◌<◌, Bool, false, List, ◌∷◌, Option, None, true, is_some, refl, sym, ap, ◌∙◌, subst, arith, inl, inr, map, length, slice_index_or, replicate}
 use Rattle.std.specs.List.{range_with_len}
-use Rattle.std.proofs.lemmas.Bool.{cases_eq, eq-eqb, ne_eqb}
+use Rattle.std.proofs.lemmas.Bool.{cases_Bool}
 use Rattle.std.proofs.lemmas.List.{ext_get_or}
 use Rattle.std.proofs.lemmas.List.FromFn.{length-map-range_with_len, get_or-map-range_with_len}
-use Rattle.std.proofs.lemmas.Nat.{one_shl}
-use Rattle.std.proofs.lemmas.Nat.Bits.{bit_at-pow_same, bit_at-pow_other}
 use Rattle.worm_vcalloc.specs.declared.request.VcRequest.{VcRequest}
 use Rattle.worm_vcalloc.specs.ChannelSet.{has, IsPut}
-use Rattle.worm_vcalloc.specs.Filed.{IsFiled}
+use Rattle.worm_vcalloc.specs.Filed.{IsFiled, filed_by_port}
 use Rattle.worm_vcalloc.specs.Places.{places}
 use Rattle.worm_vcalloc.specs.Table.{cell, with_cell, IsTable}
-use Rattle.worm_vcalloc.specs.VcRequest.{is_for, allows}
+use Rattle.worm_vcalloc.specs.VcRequest.{is_for}
 use Rattle.worm_vcalloc.proofs.TableLemmas.{IsTable-with_cell, IsTable-replicate}
-use Rattle.worm_vcalloc.proofs.PlaceLemmas.{has-places, places_put, places_none}
+use Rattle.worm_vcalloc.proofs.PlaceLemmas.{has-places, places_put, places_none, places_small}
 
 -- ---- a set of the file
 
@@ -31,41 +28,70 @@ has-filed f n requests sets i d p v l lp lv e = ap (λ s. has s p v) (filed_at f
 
 -- ---- a change of one request
 
-filed_put : (f : ℕ → Option VcRequest → Bool) (n : ℕ) (requests : List (List (Option VcRequest))) (old new : List ℕ) (port vc bits : ℕ) (r : Option VcRequest)
-    → old ≡ map (λ k. places (f k) requests) (range_with_len 0 n) → length new ≡ length old
-    → port < 7 → vc < 8 → IsTable requests
-    → ((i : ℕ) → i < length old → IsPut (slice_index_or old i 0) (slice_index_or new i 0) port vc (bit_at bits i == 1))
-    → ((i : ℕ) → i < n → (bit_at bits i == 1) ≡ f i r)
-    → new ≡ map (λ k. places (f k) (with_cell requests port vc r)) (range_with_len 0 n)
-filed_put f n requests old new port vc bits r e long lp lv shape put asked =
-    let made = length-map-range_with_len (λ k. places (f k) requests) 0 n in
-    let made' = length-map-range_with_len (λ k. places (f k) (with_cell requests port vc r)) 0 n in
+-- a channel that was taken out, or was not in, and is then put in
+put_again : (a b c port vc : ℕ) (within : Bool) → IsPut a b port vc false → IsPut b c port vc within → IsPut a c port vc within
+put_again a b c port vc within out put = record {
+  here = put.here;
+  elsewhere = λ p v lp lv apart. put.elsewhere p v lp lv apart ∙ out.elsewhere p v lp lv apart;
+  small = put.small;
+}
+
+-- what the sets hold of the input channel once its old request has been taken out and its new one put in
+filed_put : (requests : List (List (Option VcRequest))) (old mid new : List ℕ) (port vc : ℕ) (was r : Option VcRequest)
+    → old ≡ filed_by_port requests → length new ≡ length old
+    → port < 7 → vc < 8 → IsTable requests → was ≡ cell requests port vc None
+    → ((out : ℕ) → out < 7 → is_for was out ≡ true → IsPut (slice_index_or old out 0) (slice_index_or mid out 0) port vc false)
+    → ((out : ℕ) → out < 7 → is_for was out ≡ false → slice_index_or mid out 0 ≡ slice_index_or old out 0)
+    → ((out : ℕ) → out < 7 → is_for r out ≡ true → IsPut (slice_index_or mid out 0) (slice_index_or new out 0) port vc true)
+    → ((out : ℕ) → out < 7 → is_for r out ≡ false → slice_index_or new out 0 ≡ slice_index_or mid out 0)
+    → new ≡ filed_by_port (with_cell requests port vc r)
+filed_put requests old mid new port vc was r e long lp lv shape is taken untaken given ungiven =
+    let made = length-map-range_with_len (λ out. places (λ r. is_for r out) requests) 0 7 in
+    let made' = length-map-range_with_len (λ out. places (λ r. is_for r out) (with_cell requests port vc r)) 0 7 in
     let same = ap length e in
-    ext_get_or 0 new (map (λ k. places (f k) (with_cell requests port vc r)) (range_with_len 0 n)) (omega arith)
+    ext_get_or 0 new (filed_by_port (with_cell requests port vc r)) (omega arith)
     (λ i l.
-    let within : i < n = omega arith in
-    places_put (f i) requests (slice_index_or new i 0) port vc r lp lv shape
-    (subst (IsPut (places (f i) requests) (slice_index_or new i 0) port vc) (asked i within)
-    (subst (λ s. IsPut s (slice_index_or new i 0) port vc (bit_at bits i == 1)) (filed_at f n requests old i 0 within e) (put i (omega arith))))
-    ∙ sym (get_or-map-range_with_len (λ k. places (f k) (with_cell requests port vc r)) 0 n i i 0 within (omega arith)))
+    let within : i < 7 = omega arith in
+    places_put (λ r. is_for r i) requests (slice_index_or new i 0) port vc r lp lv shape (put i within)
+    ∙ sym (get_or-map-range_with_len (λ out. places (λ r. is_for r out) (with_cell requests port vc r)) 0 7 i i 0 within (omega arith))) where
+      before : (i : ℕ) → i < 7 → slice_index_or old i 0 ≡ places (λ r. is_for r i) requests
+      before i l = filed_at (λ out r. is_for r out) 7 requests old i 0 l e
+
+      out : (i : ℕ) → i < 7 → IsPut (places (λ r. is_for r i) requests) (slice_index_or mid i 0) port vc false
+      out i l = elim (cases_Bool (is_for was i)) [
+        | inl t ↦ subst (λ s. IsPut s (slice_index_or mid i 0) port vc false) (before i l) (taken i l t)
+        | inr f ↦
+            let still : slice_index_or mid i 0 ≡ places (λ r. is_for r i) requests = untaken i l f ∙ before i l in
+            record {
+              here = ap (λ s. has s port vc) still ∙ has-places (λ r. is_for r i) requests port vc lp lv ∙ ap (λ o. is_for o i) (sym is) ∙ f;
+              elsewhere = λ p c _ _ _. ap (λ s. has s p c) still;
+              small = subst (λ s. s < 2 ^ 56) (sym still) (places_small (λ r. is_for r i) requests);
+            }
+      ]
+
+      put : (i : ℕ) → i < 7 → IsPut (places (λ r. is_for r i) requests) (slice_index_or new i 0) port vc (is_for r i)
+      put i l = elim (cases_Bool (is_for r i)) [
+        | inl t ↦ subst (IsPut (places (λ r. is_for r i) requests) (slice_index_or new i 0) port vc) (sym t) (put_again (places (λ r. is_for r i) requests) (slice_index_or mid i 0) (slice_index_or new i 0) port vc true (out i l) (given i l t))
+        | inr f ↦
+            subst (IsPut (places (λ r. is_for r i) requests) (slice_index_or new i 0) port vc) (sym f)
+            (subst (λ s. IsPut (places (λ r. is_for r i) requests) s port vc false) (sym (ungiven i l f)) (out i l))
+      ]
 
 -- a request is filed
-pub filed_set : (requests : List (List (Option VcRequest))) (waiting waiting' : ℕ) (by_port by_port' by_channel by_channel' : List ℕ) (port vc port_bits channel_bits : ℕ) (r : Option VcRequest)
-    → IsFiled requests waiting by_port by_channel
+pub filed_set : (requests : List (List (Option VcRequest))) (waiting waiting' : ℕ) (by_port mid by_port' : List ℕ) (port vc : ℕ) (was r : Option VcRequest)
+    → IsFiled requests waiting by_port
     → port < 7 → vc < 8
     → IsPut waiting waiting' port vc (is_some r)
-    → length by_port' ≡ length by_port
-    → ((i : ℕ) → i < length by_port → IsPut (slice_index_or by_port i 0) (slice_index_or by_port' i 0) port vc (bit_at port_bits i == 1))
-    → ((out : ℕ) → out < 7 → (bit_at port_bits out == 1) ≡ is_for r out)
-    → length by_channel' ≡ length by_channel
-    → ((i : ℕ) → i < length by_channel → IsPut (slice_index_or by_channel i 0) (slice_index_or by_channel' i 0) port vc (bit_at channel_bits i == 1))
-    → ((channel : ℕ) → (bit_at channel_bits channel == 1) ≡ allows r channel)
-    → IsFiled (with_cell requests port vc r) waiting' by_port' by_channel'
-filed_set requests waiting waiting' by_port by_port' by_channel by_channel' port vc port_bits channel_bits r filed lp lv put long_ports ports asked_ports long_channels channels asked_channels = record {
+    → length by_port' ≡ length by_port → was ≡ cell requests port vc None
+    → ((out : ℕ) → out < 7 → is_for was out ≡ true → IsPut (slice_index_or by_port out 0) (slice_index_or mid out 0) port vc false)
+    → ((out : ℕ) → out < 7 → is_for was out ≡ false → slice_index_or mid out 0 ≡ slice_index_or by_port out 0)
+    → ((out : ℕ) → out < 7 → is_for r out ≡ true → IsPut (slice_index_or mid out 0) (slice_index_or by_port' out 0) port vc true)
+    → ((out : ℕ) → out < 7 → is_for r out ≡ false → slice_index_or by_port' out 0 ≡ slice_index_or mid out 0)
+    → IsFiled (with_cell requests port vc r) waiting' by_port'
+filed_set requests waiting waiting' by_port mid by_port' port vc was r filed lp lv put long is taken untaken given ungiven = record {
   shape = IsTable-with_cell requests port vc r filed.shape;
   all = places_put is_some requests waiting' port vc r lp lv filed.shape (subst (λ s. IsPut s waiting' port vc (is_some r)) filed.all put);
-  ports = filed_put (λ out r. is_for r out) 7 requests by_port by_port' port vc port_bits r filed.ports long_ports lp lv filed.shape ports asked_ports;
-  channels = filed_put (λ channel r. allows r channel) 8 requests by_channel by_channel' port vc channel_bits r filed.channels long_channels lp lv filed.shape channels (λ i _. asked_channels i);
+  ports = filed_put requests by_port mid by_port' port vc was r filed.ports long lp lv filed.shape is taken untaken given ungiven;
 }
 
 -- no request
@@ -76,45 +102,9 @@ filed_empty f none set e a (suc n) =
     ap (λ s. s ∷ replicate n set) (e ∙ places_none (f a) (none a))
     ∙ ap (λ xs. places (f a) (replicate 7 (replicate 8 None)) ∷ xs) (filed_empty f none set e (a + 1) n)
 
-pub filed_none : (waiting set set' : ℕ) → waiting ≡ 0 → set ≡ 0 → set' ≡ 0 → IsFiled (replicate 7 (replicate 8 None)) waiting (replicate 7 set) (replicate 8 set')
-filed_none waiting set set' e es es' = record {
+pub filed_none : (waiting set : ℕ) → waiting ≡ 0 → set ≡ 0 → IsFiled (replicate 7 (replicate 8 None)) waiting (replicate 7 set)
+filed_none waiting set e es = record {
   shape = IsTable-replicate None;
   all = e ∙ places_none is_some refl;
   ports = filed_empty (λ out r. is_for r out) (λ i. refl) set es 0 7;
-  channels = filed_empty (λ channel r. allows r channel) (λ i. refl) set' es' 0 8;
-}
-
--- ---- bits
-
--- one bit for the port of a request
-pub bit_for_port : (out port : ℕ) → port < 8 → (bit_at (1 * 2 ^ port % 2 ^ 8) out == 1) ≡ (port == out)
-bit_for_port out port few =
-    ap (λ n. bit_at n out == 1) (one_shl port 8 few)
-    ∙ elim (cases_eq out port) [
-      | inl same ↦ ap (λ k. bit_at (2 ^ port) k == 1) same ∙ eq-eqb (bit_at (2 ^ port) port) 1 (bit_at-pow_same port) ∙ sym (eq-eqb port out (sym same))
-      | inr other ↦ ne_eqb (bit_at (2 ^ port) out) 1 (λ one. let none = bit_at-pow_other port out other in absurd (omega arith)) ∙ sym (ne_eqb port out (λ e. other (sym e)))
-    ]
-
--- ---- the loop over the sets
-
--- the sets below n have changed
-pub record PutBelow (old new : List ℕ) (n port vc bits : ℕ) : Type 0 where
-  pub done : (i : ℕ) → i < n → IsPut (slice_index_or old i 0) (slice_index_or new i 0) port vc (bit_at bits i == 1)
-  pub rest : (i : ℕ) → n ≤ i → slice_index_or new i 0 ≡ slice_index_or old i 0
-
--- one more set
-pub put_more : (old new next : List ℕ) (n port vc bits set : ℕ) → PutBelow old new n port vc bits → n < length new
-    → IsPut (slice_index_or new n 0) set port vc (bit_at bits n == 1) → next ≡ slice_set new n set → PutBelow old next (n + 1) port vc bits
-put_more old new next n port vc bits set b within put e = record {
-  done = λ i l. elim (cases_eq i n) [
-    | inl same ↦
-        let here : slice_index_or next n 0 ≡ set = ap (λ xs. slice_index_or xs n 0) e ∙ get_or-set_same new n set 0 within in
-        subst (λ k. IsPut (slice_index_or old k 0) (slice_index_or next k 0) port vc (bit_at bits k == 1)) (sym same)
-        (subst (λ s. IsPut (slice_index_or old n 0) s port vc (bit_at bits n == 1)) (sym here)
-        (subst (λ s. IsPut s set port vc (bit_at bits n == 1)) (b.rest n (omega arith)) put))
-    | inr other ↦
-        let there : slice_index_or next i 0 ≡ slice_index_or new i 0 = ap (λ xs. slice_index_or xs i 0) e ∙ get_or-set_other new n i set 0 other in
-        subst (λ s. IsPut (slice_index_or old i 0) s port vc (bit_at bits i == 1)) (sym there) (b.done i (omega arith))
-  ];
-  rest = λ i l. ap (λ xs. slice_index_or xs i 0) e ∙ get_or-set_other new n i set 0 (λ same. absurd (omega arith)) ∙ b.rest i (omega arith);
 }

@@ -6,3 +6,4 @@ pub mod PlaceLemmas
 pub mod FiledLemmas
 pub mod PassLemmas
 pub mod MatchingLemmas
+pub mod GatherLemmas

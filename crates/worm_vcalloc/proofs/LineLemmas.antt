@@ -47,10 +47,10 @@ pub line_unset_at : (asks : ℕ → Bool) (n m requests next : ℕ) → LinesBel
 line_unset_at asks n m requests next b em en e = rw (em, en) (line_unset asks n requests b e)
 
 -- the bits of a row that is shifted
-shifted_low : (row n i : ℕ) → i < n → bit_at (row * 2 ^ n) i ≡ 0
+pub shifted_low : (row n i : ℕ) → i < n → bit_at (row * 2 ^ n) i ≡ 0
 shifted_low row n i below = ap (λ m. bit_at m i) (omega arith) ∙ bit_at_cat_low row n 0 i below ∙ bit_at-zero i
 
-shifted_high : (row n i : ℕ) → n ≤ i → bit_at (row * 2 ^ n) i ≡ bit_at row (i - n)
+pub shifted_high : (row n i : ℕ) → n ≤ i → bit_at (row * 2 ^ n) i ≡ bit_at row (i - n)
 shifted_high row n i above = let some = pow_pos n in ap (λ m. bit_at m i) (omega arith) ∙ bit_at_cat_high row n 0 i (omega arith) above
 
 -- the loop's step where a row of lines is added

@@ -1,31 +1,15 @@
 -- Lemmas that tie the code of a pass to its definition.
-use Rattle.std.proofs.Common.{◌≡◌, ℕ, ◌+◌, ◌/◌, ◌%◌, ◌<◌, ◌≤◌, Bool, true, false, List, zero, suc, fold, cond, not, ◌&&◌, ◌*◌, Option, Some, None, is_some, is_none, refl, sym, ap, ◌∙◌, arith, add-one, inl, inr}
+use Rattle.std.proofs.Common.{◌≡◌, ℕ, ◌+◌, ◌/◌, ◌%◌, ◌<◌, ◌≤◌, Bool, true, false, List, zero, suc, fold, cond, ◌&&◌, ◌*◌, Option, Some, None, is_some, is_none, refl, sym, ap, ◌∙◌, arith, add-one, inl, inr}
 use Rattle.std.proofs.lemmas.Bool.{cases_Bool}
 use Rattle.std.specs.List.{range_with_len}
 use Rattle.worm_vcalloc.specs.declared.request.VcRequest.{VcRequest}
 use Rattle.worm_vcalloc.specs.Arbiter.{ArbiterState, winner, after_pick, line_requests, no_arbiter}
 use Rattle.worm_vcalloc.specs.Table.{cell, with_cell}
 use Rattle.worm_vcalloc.specs.VcAlloc.{VcAllocState, VcPass, IsVcAlloc, with_grant, is_requester, vc_winner, offered, vc_step, port_pass, vc_pass}
-use Rattle.worm_vcalloc.specs.ChannelSet.{has}
-use Rattle.worm_vcalloc.specs.VcRequest.{is_for, allows, may_use}
+use Rattle.worm_vcalloc.specs.VcRequest.{is_for, allows}
 use Rattle.worm_vcalloc.proofs.ArbiterLemmas.{winner_same, winner_none}
 use Rattle.worm_vcalloc.proofs.LineLemmas.{line_port}
 use Rattle.worm_vcalloc.proofs.TableLemmas.{with_cell_same}
-
--- who requests an output channel: those that ask for it and have no grant
-pub requester_has : (waiting : List (List (Option VcRequest))) (grants : List (List (Option ℕ))) (asking granted ungranted out channel p v : ℕ) → p < 7 → v < 8
-    → ((p v : ℕ) → p < 7 → v < 8 → has asking p v ≡ may_use (cell waiting p v None) out channel)
-    → ((p v : ℕ) → p < 7 → v < 8 → has granted p v ≡ is_some (cell grants p v None))
-    → ((p v : ℕ) → p < 7 → v < 8 → has ungranted p v ≡ (has asking p v && not (has granted p v)))
-    → has ungranted p v ≡ is_requester waiting grants out channel p v
-requester_has waiting grants asking granted ungranted out channel p v lp lv asks have left =
-    left p v lp lv
-    ∙ ap (λ b. b && not (has granted p v)) (asks p v lp lv)
-    ∙ ap (λ b. may_use (cell waiting p v None) out channel && not b) (have p v lp lv)
-    ∙ ap (λ b. may_use (cell waiting p v None) out channel && b) (none_is (cell grants p v None)) where
-      none_is : (o : Option ℕ) → not (is_some o) ≡ is_none o
-      none_is None = refl
-      none_is (Some x) = refl
 
 -- what `offer` leaves, by what its arbiter picked
 pub offer_is : (waiting : List (List (Option VcRequest))) (grants : List (List (Option ℕ))) (s : VcAllocState) (out channel requests : ℕ) (old new : ArbiterState) (line : Option ℕ)

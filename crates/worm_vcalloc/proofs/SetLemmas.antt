@@ -1,11 +1,13 @@
 -- Lemmas on sets of channels: what the operations on words do to their members.
-use Rattle.std.proofs.Common.{◌≡◌, ℕ, ◌+◌, ◌-◌, ◌*◌, ◌/◌, ◌%◌, ◌^◌, ◌<◌, ◌≤◌, true, false, ◌==◌, not, ◌&&◌, bit_and, bit_or, min, sym, ap, ◌∙◌, subst, arith, inl, inr}
+use Rattle.std.proofs.Common.{◌≡◌, ℕ, ◌+◌, ◌-◌, ◌*◌, ◌/◌, ◌%◌, ◌^◌, ◌<◌, ◌≤◌, Bool, true, false, refl, ◌==◌, not, ◌&&◌, ◌||◌, bit_and, bit_or, min, max, sym, ap, ◌∙◌, subst, arith, inl, inr}
 use Rattle.std.specs.Int.{bit_at, bit_not, trailing_zeros, w64}
-use Rattle.std.proofs.lemmas.Bool.{cases_eq, cases_lt, eq-eqb, eqb-true, ne_eqb, and_from, and_right}
+use Rattle.std.proofs.lemmas.Bool.{cases_eq, cases_lt, eq-eqb, eqb-true, ne_eqb, and_from, and_right, true≢false}
 use Rattle.std.proofs.lemmas.Nat.{one_shl, or_lt, and_le_l, shr-shr, pow_below}
-use Rattle.std.proofs.lemmas.Nat.Bits.{bit_at_and, bit_at_not, bit_at_ones, bit_at-lt, bit_at_set_same, bit_at_set_other, bit_at_clear_same, bit_at_clear_other, bit_at_above, bit_at-trailing_zeros}
+use Rattle.std.proofs.lemmas.Nat.Bits.{bit_at_and, bit_at_or, bit_at_not, bit_at_ones, bit_at-lt, bit_at_set_same, bit_at_set_other, bit_at_clear_same, bit_at_clear_other, bit_at_above, bit_at-trailing_zeros}
+use Rattle.std.proofs.Math.Pow.{pow_mono, shl_lt}
 use Rattle.worm_vcalloc.specs.Arbiter.{line_requests}
-use Rattle.worm_vcalloc.specs.ChannelSet.{has, IsPut, IsFirst}
+use Rattle.worm_vcalloc.specs.ChannelSet.{has, IsPut, IsFirst, IsFirstPort}
+use Rattle.worm_vcalloc.proofs.LineLemmas.{shifted_low, shifted_high}
 
 -- ---- tests of bits
 
@@ -26,6 +28,17 @@ both_set x y lx ly = elim (cases_eq x 1) [
   ]
   | inr nx ↦ ne_eqb (min x y) 1 (λ e. nx (omega arith)) ∙ sym (ap (λ t. t && (y == 1)) (ne_eqb x 1 nx))
 ]
+
+-- the higher of two bits is set where one is
+either_set : (x y : ℕ) → x < 2 → y < 2 → (max x y == 1) ≡ ((x == 1) || (y == 1))
+either_set x y lx ly = elim (cases_eq x 1) [
+  | inl ex ↦ eq-eqb (max x y) 1 (omega arith) ∙ sym (ap (λ t. t || (y == 1)) (eq-eqb x 1 ex))
+  | inr nx ↦ ap (λ m. m == 1) (let e : max x y ≡ y = omega arith in e) ∙ sym (ap (λ t. t || (y == 1)) (ne_eqb x 1 nx))
+]
+
+and_true : (b : Bool) → (b && true) ≡ b
+and_true true = refl
+and_true false = refl
 
 -- a bit turned round is set where it was not
 turned : (y : ℕ) → y < 2 → ((1 - y) == 1) ≡ not (y == 1)
@@ -71,6 +84,11 @@ has_both a b p c =
     ap (λ x. x == 1) (bit_at_and a b (8 * p + c))
     ∙ both_set (bit_at a (8 * p + c)) (bit_at b (8 * p + c)) (bit_at-lt a (8 * p + c)) (bit_at-lt b (8 * p + c))
 
+pub has_either : (a b p c : ℕ) → has (bit_or a b) p c ≡ (has a p c || has b p c)
+has_either a b p c =
+    ap (λ x. x == 1) (bit_at_or a b (8 * p + c))
+    ∙ either_set (bit_at a (8 * p + c)) (bit_at b (8 * p + c)) (bit_at-lt a (8 * p + c)) (bit_at-lt b (8 * p + c))
+
 pub has_first_alone : (a b p c : ℕ) → b < 2 ^ 64 → p < 7 → c < 8 → has (bit_and a (bit_not w64 b)) p c ≡ (has a p c && not (has b p c))
 has_first_alone a b p c fits lp lc =
     has_both a (bit_not w64 b) p c
@@ -112,6 +130,67 @@ first_taken bits some fits = record {
 
   same : 8 * (trailing_zeros w64 bits / 8) + trailing_zeros w64 bits % 8 ≡ trailing_zeros w64 bits
   same = omega arith
+
+-- ---- the first port
+
+-- all channels of one port
+port_mask : (port : ℕ) → port < 7 → 255 * 2 ^ (8 * port) % 2 ^ 64 ≡ 255 * 2 ^ (8 * port)
+port_mask port l =
+    let high : 255 * 2 ^ (8 * port) < 2 ^ (8 + 8 * port) = shl_lt 8 (8 * port) (omega arith) in
+    let within : 8 + 8 * port ≤ 64 = omega arith in
+    let most : 2 ^ (8 + 8 * port) ≤ 2 ^ 64 = pow_mono within in
+    omega arith
+
+has-port_mask : (port p c : ℕ) → c < 8 → has (255 * 2 ^ (8 * port)) p c ≡ (p == port)
+has-port_mask port p c lc = elim (cases_eq p port) [
+  | inl same ↦
+      bit_set _ _ (shifted_high 255 (8 * port) (8 * p + c) (omega arith) ∙ bit_at_ones 8 (8 * p + c - 8 * port) (omega arith))
+      ∙ sym (eq-eqb p port same)
+  | inr other ↦
+      bit_unset _ _ (elim (cases_lt p port) [
+        | inl below ↦ shifted_low 255 (8 * port) (8 * p + c) (omega arith)
+        | inr above ↦ shifted_high 255 (8 * port) (8 * p + c) (omega arith) ∙ bit_at_above 255 8 (8 * p + c - 8 * port) (omega arith) (omega arith)
+      ])
+      ∙ sym (ne_eqb p port other)
+]
+
+pub port_taken : (bits : ℕ) → 0 < bits → bits < 2 ^ 56
+    → IsFirstPort bits (bit_and bits (bit_not w64 (255 * 2 ^ (8 * (trailing_zeros w64 bits / 8)) % 2 ^ 64))) (trailing_zeros w64 bits / 8)
+port_taken bits some fits = record {
+  port_in = port_in;
+  some_in = (trailing_zeros w64 bits % 8, omega arith, here);
+  none_before = λ p c l l'. bit_unset bits (8 * p + c) (lowest.2 (8 * p + c) (omega arith));
+  taken = λ c l. left port c port_in l ∙ and_right (has bits port c) (not (port == port)) (ap not (eq-eqb port port refl));
+  elsewhere = λ p c l l' other. left p c l l' ∙ ap (λ b. has bits p c && not b) (ne_eqb p port other) ∙ and_true (has bits p c);
+  fewer =
+      let below = and_le_l bits (bit_not w64 (255 * 2 ^ (8 * port) % 2 ^ 64)) in
+      elim (cases_eq (bit_and bits (bit_not w64 (255 * 2 ^ (8 * port) % 2 ^ 64))) bits) [
+        | inl e ↦
+            let gone = left port (trailing_zeros w64 bits % 8) port_in (omega arith) ∙ and_right (has bits port (trailing_zeros w64 bits % 8)) (not (port == port)) (ap not (eq-eqb port port refl)) in
+            absurd (true≢false (sym here ∙ sym (ap (λ n. has n port (trailing_zeros w64 bits % 8)) e) ∙ gone))
+        | inr ne ↦ omega arith
+      ];
+} where
+  port : ℕ
+  port = trailing_zeros w64 bits / 8
+
+  lowest : (trailing_zeros w64 bits < 64) × (bit_at bits (trailing_zeros w64 bits) ≡ 1) × ((i : ℕ) → i < trailing_zeros w64 bits → bit_at bits i ≡ 0)
+  lowest = bit_at-trailing_zeros w64 bits some (omega arith)
+
+  port_in : trailing_zeros w64 bits / 8 < 7
+  port_in = let within = lowest_within bits some fits in omega arith
+
+  same : 8 * (trailing_zeros w64 bits / 8) + trailing_zeros w64 bits % 8 ≡ trailing_zeros w64 bits
+  same = omega arith
+
+  here : has bits (trailing_zeros w64 bits / 8) (trailing_zeros w64 bits % 8) ≡ true
+  here = ap (λ i. bit_at bits i == 1) same ∙ bit_set bits (trailing_zeros w64 bits) lowest.1
+
+  left : (p c : ℕ) → p < 7 → c < 8 → has (bit_and bits (bit_not w64 (255 * 2 ^ (8 * (trailing_zeros w64 bits / 8)) % 2 ^ 64))) p c ≡ (has bits p c && not (p == (trailing_zeros w64 bits / 8)))
+  left p c l l' =
+      ap (λ m. has (bit_and bits (bit_not w64 m)) p c) (port_mask (trailing_zeros w64 bits / 8) port_in)
+      ∙ has_first_alone bits (255 * 2 ^ (8 * (trailing_zeros w64 bits / 8))) p c (let e = port_mask (trailing_zeros w64 bits / 8) port_in in omega arith) l l'
+      ∙ ap (λ b. has bits p c && not b) (has-port_mask (trailing_zeros w64 bits / 8) p c l')
 
 -- ---- rows
 

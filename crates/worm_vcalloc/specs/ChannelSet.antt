@@ -22,3 +22,13 @@ pub record IsFirst (old new port channel : ℕ) : Type 0 where
   pub taken : IsPut old new port channel false
   -- the sets of a loop that takes channels out are ever smaller numbers
   pub fewer : new < old
+
+-- all channels of the first port that has any in the set have been taken out
+pub record IsFirstPort (old new port : ℕ) : Type 0 where
+  pub port_in : port < 7
+  pub some_in : (c : ℕ) × (c < 8) × IsTrue (has old port c)
+  pub none_before : (p c : ℕ) → p < port → c < 8 → has old p c ≡ false
+  pub taken : (c : ℕ) → c < 8 → has new port c ≡ false
+  pub elsewhere : (p c : ℕ) → p < 7 → c < 8 → ((p ≡ port) → ⊥) → has new p c ≡ has old p c
+  -- the sets of a loop that takes ports out are ever smaller numbers
+  pub fewer : new < old

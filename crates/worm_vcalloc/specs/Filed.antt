@@ -4,19 +4,14 @@ use Rattle.std.specs.List.{range_with_len}
 use Rattle.worm_vcalloc.specs.declared.request.VcRequest.{VcRequest}
 use Rattle.worm_vcalloc.specs.Places.{places}
 use Rattle.worm_vcalloc.specs.Table.{IsTable}
-use Rattle.worm_vcalloc.specs.VcRequest.{is_for, allows}
+use Rattle.worm_vcalloc.specs.VcRequest.{is_for}
 
 -- for each output port, the input channels that wait for it
 abbrev pub filed_by_port : List (List (Option VcRequest)) → List ℕ
 filed_by_port requests = map (λ out. places (λ r. is_for r out) requests) (range_with_len 0 7)
 
--- for each channel number, the input channels that it will do for
-abbrev pub filed_by_channel : List (List (Option VcRequest)) → List ℕ
-filed_by_channel requests = map (λ channel. places (λ r. allows r channel) requests) (range_with_len 0 8)
-
 -- the sets beside a table of requests
-pub record IsFiled (requests : List (List (Option VcRequest))) (waiting : ℕ) (by_port by_channel : List ℕ) : Type 0 where
+pub record IsFiled (requests : List (List (Option VcRequest))) (waiting : ℕ) (by_port : List ℕ) : Type 0 where
   pub shape : IsTable requests
   pub all : waiting ≡ places is_some requests
   pub ports : by_port ≡ filed_by_port requests
-  pub channels : by_channel ≡ filed_by_channel requests

@@ -1,4 +1,4 @@
-ghost use Rattle.std.specs.Prelude.{◌≡◌, ◌^◌, ◌<◌, ◌≤◌, IfSome, MatchOption};
+ghost use Rattle.std.specs.Prelude.{◌≡◌, ◌^◌, ◌<◌, ◌≤◌, IfSome, MatchOption, Some};
 ghost use Rattle.worm_vcalloc.specs.Arbiter.{ArbiterState, winner, line_requests, after_pick, IsFirstRequester, NoRequester};
 
 use std::marker::Model;
@@ -57,13 +57,24 @@ impl Arbiter {
         ensures within { IfSome result (λ line. line < self.now.width) }
     {
         let ahead = requests >> self.pointer;
+        if requests == 0 {
+            return None;
+        }
         if ahead != 0 {
             Some(self.pointer + ahead.trailing_zeros() as u8)
-        } else if requests != 0 {
-            Some(requests.trailing_zeros() as u8)
         } else {
-            None
+            Some(requests.trailing_zeros() as u8)
         }
+    }
+
+    /// Moves the pointer past a line, as `pick` does where it chooses that line.
+    pub fn move_past(&mut self, line: u8)
+        requires { line < self.old.width }
+        ensures { self.new ≡ after_pick self.old (Some line) }
+    {
+        let width = self.width;
+        let next = line + 1;
+        self.pointer = if next < width { next } else { 0 };
     }
 
     /// Chooses the first of `requests` at the pointer or after it, and moves the pointer past it.
@@ -74,8 +85,7 @@ impl Arbiter {
         ensures within { IfSome result (λ line. line < self.old.width) }
     {
         let line = self.peek(requests)?;
-        let next = line + 1;
-        self.pointer = if next < self.width { next } else { 0 };
+        self.move_past(line);
         Some(line)
     }
 }
@@ -96,5 +106,9 @@ mod tests {
         assert_eq!(rt; arbiter.pointer(), 0);
         assert_eq!(rt; arbiter.pick(0b010), Some(1));
         assert_eq!(rt; arbiter.pointer(), 2);
+        arbiter.move_past(2);
+        assert_eq!(rt; arbiter.pointer(), 0);
+        arbiter.move_past(0);
+        assert_eq!(rt; arbiter.pointer(), 1);
     }
 }

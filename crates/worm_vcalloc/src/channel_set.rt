@@ -1,6 +1,6 @@
-ghost use Rattle.std.specs.Prelude.{◌≡◌, ℕ, ◌+◌, ◌*◌, ◌/◌, ◌%◌, ◌^◌, ◌<◌, ◌≤◌, ◌==◌, ◌&&◌, MatchOption, not};
+ghost use Rattle.std.specs.Prelude.{◌≡◌, ℕ, ◌+◌, ◌*◌, ◌/◌, ◌%◌, ◌^◌, ◌<◌, ◌≤◌, ◌==◌, ◌&&◌, ◌||◌, MatchOption, not};
 ghost use Rattle.worm_vcalloc.specs.Arbiter.{line_requests};
-ghost use Rattle.worm_vcalloc.specs.ChannelSet.{has, IsPut, IsFirst};
+ghost use Rattle.worm_vcalloc.specs.ChannelSet.{has, IsPut, IsFirst, IsFirstPort};
 
 use std::marker::Model;
 
@@ -77,12 +77,35 @@ impl ChannelSet {
         Some((bit / 8, bit % 8))
     }
 
+    /// Takes out all channels of the first port that has any, and names that port; None where the
+    /// set is empty.
+    pub fn pop_port(&mut self) -> Option<u8>
+        ensures { MatchOption result ((self.old ≡ 0) × (self.new ≡ 0)) (λ port. IsFirstPort self.old self.new port) }
+    {
+        if self.bits == 0 {
+            return None;
+        }
+        let first = self.bits.trailing_zeros();
+        let port = first as u8 / 8;
+        self.bits &= !(0xff << (8 * port));
+        Some(port)
+    }
+
     /// The channels that are in both sets.
     pub fn intersection(&self, other: &ChannelSet) -> ChannelSet
         ensures { (p c : ℕ) → has result p c ≡ (has self.now p c && has other.now p c) }
     {
         ChannelSet {
             bits: self.bits & other.bits,
+        }
+    }
+
+    /// The channels that are in either set.
+    pub fn union(&self, other: &ChannelSet) -> ChannelSet
+        ensures { (p c : ℕ) → has result p c ≡ (has self.now p c || has other.now p c) }
+    {
+        ChannelSet {
+            bits: self.bits | other.bits,
         }
     }
 
@@ -140,6 +163,18 @@ mod tests {
         assert_eq!(rt; set.pop_first(), None);
     }
 
+    #[test]
+    fn ports_come_out_in_order(rt: HostRuntime) {
+        let mut set = ChannelSet::new();
+        set.put(4, 1, true);
+        set.put(4, 7, true);
+        set.put(6, 0, true);
+        assert_eq!(rt; set.pop_port(), Some(4));
+        assert!(rt; set.contains(6, 0));
+        assert_eq!(rt; set.pop_port(), Some(6));
+        assert_eq!(rt; set.pop_port(), None);
+    }
+
     // Of 3 ports by 2 channels, channel 1 of port 0 is line 1 and channel 0 of port 1 line 2.
     #[test]
     fn sets_become_lines(rt: HostRuntime) {
@@ -153,5 +188,7 @@ mod tests {
         assert_eq!(rt; some.row(2, 3), 0b100);
         assert_eq!(rt; some.intersection(&other).lines(3, 2), 0b000100);
         assert_eq!(rt; some.difference(&other).lines(3, 2), 0b000010);
+        other.put(2, 1, true);
+        assert_eq!(rt; some.union(&other).lines(3, 2), 0b100110);
     }
 }

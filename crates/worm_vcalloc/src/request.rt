@@ -1,5 +1,5 @@
-ghost use Rattle.std.specs.Prelude.{◌≡◌, ℕ, ◌<◌, ◌≤◌, ◌==◌, List, Option, None, false, length, is_some, replicate, slice_index_or};
-ghost use Rattle.std.specs.Int.{bit_at};
+ghost use Rattle.std.specs.Prelude.{◌≡◌, ℕ, ◌<◌, List, Option, None, true, false, is_some, replicate, slice_index_or};
+ghost use Rattle.worm_vcalloc.specs.VcRequest.{is_for};
 ghost use Rattle.worm_vcalloc.specs.ChannelSet.{has, IsPut};
 ghost use Rattle.worm_vcalloc.specs.Table.{cell, with_cell};
 
@@ -31,8 +31,6 @@ pub struct VcRequests {
     waiting: ChannelSet,
     /// For each output port the input channels that wait for a channel of it.
     by_port: [ChannelSet; 7],
-    /// For each channel number the input channels that it will do for, at their ports.
-    by_channel: [ChannelSet; 8],
 }
 
 /// The table of the requests.
@@ -50,24 +48,23 @@ impl Model for VcRequests {
 
     ghost use Rattle.std.proofs.Common.{sym};
     ghost use Rattle.worm_vcalloc.specs.Places.{places};
-    ghost use Rattle.worm_vcalloc.specs.Filed.{IsFiled, filed_by_port, filed_by_channel};
+    ghost use Rattle.worm_vcalloc.specs.Filed.{IsFiled, filed_by_port};
 
     ghost view = { λ r. r.table.rows };
 
-    ghost invariant = { λ r. IsFiled r.table.rows r.waiting r.by_port r.by_channel };
+    ghost invariant = { λ r. IsFiled r.table.rows r.waiting r.by_port };
 
-    ghost inverse = { λ v. record { table = record { rows = v }; waiting = places is_some v; by_port = filed_by_port v; by_channel = filed_by_channel v } };
+    ghost inverse = { λ v. record { table = record { rows = v }; waiting = places is_some v; by_port = filed_by_port v } };
 
     ghost inverse_ok = { λ a h i. record {
       table = a.table;
       waiting = sym h.all i;
       by_port = sym h.ports i;
-      by_channel = sym h.channels i;
     } };
 }
 
 impl VcRequests {
-    ghost use Rattle.worm_vcalloc.specs.VcRequest.{is_for, may_use};
+    ghost use Rattle.worm_vcalloc.specs.VcRequest.{allows};
 
     /// No request.
     pub fn new() -> Self
@@ -79,7 +76,6 @@ impl VcRequests {
             },
             waiting: ChannelSet::new(),
             by_port: [ChannelSet::new(); 7],
-            by_channel: [ChannelSet::new(); 8],
         }
     }
 
@@ -99,8 +95,9 @@ impl VcRequests {
         requires vc { vc < 8 }
         ensures { self.new ≡ with_cell self.old port vc request }
     {
-        put_each(&mut self.by_port, port, vc, port_bits(request));
-        put_each(&mut self.by_channel, port, vc, channel_bits(request));
+        let old = self.get(port, vc);
+        put_at(&mut self.by_port, old, port, vc, false);
+        put_at(&mut self.by_port, request, port, vc, true);
         self.waiting.put(port, vc, request.is_some());
         let row = &mut self.table.rows[port as usize];
         row[vc as usize] = request;
@@ -121,48 +118,31 @@ impl VcRequests {
         self.by_port[out as usize]
     }
 
-    /// The input channels that wait for an output port and may use this channel of it.
-    pub(crate) fn asking(&self, out: u8, channel: u8) -> ChannelSet
-        requires out { out < 7 }
+    /// Whether this channel will do for what an input channel waits for.
+    pub(crate) fn takes(&self, port: u8, vc: u8, channel: u8) -> bool
+        requires port { port < 7 }
+        requires vc { vc < 8 }
         requires channel { channel < 8 }
-        ensures { (p v : ℕ) → p < 7 → v < 8 → has result p v ≡ may_use (cell self.now p v None) out channel }
+        ensures { result ≡ allows (cell self.now port vc None) channel }
     {
-        let takers = self.by_channel[channel as usize];
-        self.asking_port(out).intersection(&takers)
+        match self.get(port, vc) {
+            Some(request) => request.allowed >> channel & 1 == 1,
+            None => false,
+        }
     }
 }
 
-ghost use Rattle.worm_vcalloc.specs.VcRequest.{is_for, allows};
-
-/// The output port of a request, as a bit per port.
-fn port_bits(request: Option<VcRequest>) -> u8
-    ensures { (out : ℕ) → out < 7 → (bit_at result out == 1) ≡ is_for request out }
-{
-    match request {
-        Some(request) if request.out < 8 => 1 << request.out,
-        _ => 0,
-    }
-}
-
-/// The channels that a request allows, as a bit per channel.
-fn channel_bits(request: Option<VcRequest>) -> u8
-    ensures { (channel : ℕ) → (bit_at result channel == 1) ≡ allows request channel }
-{
-    match request {
-        Some(request) => request.allowed,
-        None => 0,
-    }
-}
-
-/// Puts an input channel into the sets whose bit is 1, and takes it out of the others.
-fn put_each(sets: &mut [ChannelSet], port: u8, vc: u8, bits: u8)
-    requires few { length sets.old ≤ 8 }
+/// Puts an input channel into the set of the output port that a request is for, or takes it out.
+fn put_at(by_port: &mut [ChannelSet; 7], request: Option<VcRequest>, port: u8, vc: u8, within: bool)
     requires port { port < 7 }
     requires vc { vc < 8 }
-    ensures { (i : ℕ) → i < length sets.old → IsPut (slice_index_or sets.old i 0) (slice_index_or sets.new i 0) port vc (bit_at bits i == 1) }
+    ensures asked { (out : ℕ) → out < 7 → is_for request out ≡ true → IsPut (slice_index_or by_port.old out 0) (slice_index_or by_port.new out 0) port vc within }
+    ensures others { (out : ℕ) → out < 7 → is_for request out ≡ false → slice_index_or by_port.new out 0 ≡ slice_index_or by_port.old out 0 }
 {
-    for i in 0..sets.len() {
-        sets[i].put(port, vc, bits >> i & 1 == 1);
+    if let Some(request) = request
+        && request.out < 7
+    {
+        by_port[request.out as usize].put(port, vc, within);
     }
 }
 
@@ -188,11 +168,14 @@ mod tests {
         );
         assert_eq!(rt; waiting.get(1, 3), Some(request));
         assert!(rt; waiting.asking_port(3).is_empty());
-        let mut asking = waiting.asking(2, 1);
+        assert!(rt; waiting.takes(1, 3, 1));
+        assert!(rt; !waiting.takes(0, 5, 1));
+        let mut asking = waiting.asking_port(2);
+        assert_eq!(rt; asking.pop_first(), Some((0, 5)));
         assert_eq!(rt; asking.pop_first(), Some((1, 3)));
         assert!(rt; asking.is_empty());
         waiting.set(1, 3, None);
-        assert!(rt; waiting.asking(2, 1).is_empty());
+        assert!(rt; !waiting.asking_port(2).contains(1, 3));
         assert_eq!(rt; waiting.waiting().pop_first(), Some((0, 5)));
     }
 }

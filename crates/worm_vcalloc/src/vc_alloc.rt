@@ -124,12 +124,14 @@ impl VcAlloc {
         ensures lines { (line : ℕ) → line < self.now.ports * self.now.channels → line_requests result line ≡ is_requester waiting.now grants.now out channel (line / self.now.channels) (line % self.now.channels) }
     {
         let (ports, channels) = (self.ports, self.channels);
-        let asking = waiting.asking(out, channel);
-        let ungranted = asking.difference(&grants.keys());
-        if ungranted.is_empty() {
-            return 0;
+        let mut lines = 0;
+        let mut left = waiting.asking_port(out).difference(&grants.keys());
+        while let Some((port, vc)) = left.pop_first() {
+            if port < ports && vc < channels && waiting.takes(port, vc, channel) {
+                lines |= 1 << (port * channels + vc);
+            }
         }
-        ungranted.lines(ports, channels)
+        lines
     }
 }
 

@@ -7,7 +7,7 @@ ghost use Rattle.worm_core.specs.Parts.{IsConfigOf, parts_state};
 
 use super::Fabric;
 use crate::config::copy_names;
-use crate::wiring::Wiring;
+use crate::links::Links;
 use crate::{Config, NetParts};
 use arrayvec::ArrayVec;
 use worm_flit::ClassChannels;
@@ -41,7 +41,7 @@ impl Fabric {
         ensures { IsConfigOf self.now result }
     {
         Config {
-            radices: radices_of(self.wiring.mesh()),
+            radices: radices_of(self.links.wiring().mesh()),
             depth: self.depth,
             classes: copy_names(&self.names),
             channels: counts_of(&self.classes),
@@ -53,15 +53,14 @@ impl Fabric {
         ensures { parts_state result ≡ self }
     {
         let Fabric {
-            wiring,
+            links,
             classes,
             depth,
             names,
             nodes,
-            links,
         } = self;
         let config = Config {
-            radices: radices_of(wiring.mesh()),
+            radices: radices_of(links.wiring().mesh()),
             depth,
             classes: names,
             channels: counts_of(&classes),
@@ -69,7 +68,7 @@ impl Fabric {
         NetParts {
             config,
             nodes,
-            links,
+            links: links.into_states(),
         }
     }
 
@@ -94,12 +93,11 @@ impl Fabric {
             unreachable!()
         };
         Fabric {
-            wiring: Wiring::new(mesh),
+            links: Links::new(mesh, links),
             classes: ClassChannels::new(channels.as_slice()),
             depth,
             names,
             nodes,
-            links,
         }
     }
 }

@@ -24,13 +24,13 @@ impl Fabric {
         if node == dst {
             return None;
         }
-        let out_port = next_port(self.wiring.mesh(), node, dst);
-        let to = self.wiring.mesh().neighbour(node, out_port)?;
+        let out_port = next_port(self.links.wiring().mesh(), node, dst);
+        let to = self.links.wiring().mesh().neighbour(node, out_port)?;
         Some(LinkEnds {
             from: node,
             out_port,
             to,
-            in_port: self.wiring.mesh().opposite(out_port),
+            in_port: self.links.wiring().mesh().opposite(out_port),
         })
     }
 
@@ -50,14 +50,14 @@ impl Fabric {
         requires linked { IsSome (neighbour_of self.now.mesh node port) }
         ensures { result.now ≡ link_at self.now (link_out self.now node port) }
     {
-        self.link(self.link_out(node, port))
+        self.links.link(self.links.number_out(node, port))
     }
 
     /// The number of links.
     pub fn links(&self) -> u16
         ensures { result ≡ link_count self.now.mesh }
     {
-        self.wiring.mesh().links()
+        self.links.wiring().mesh().links()
     }
 
     /// The link of this number.
@@ -65,6 +65,6 @@ impl Fabric {
         requires { number < length self.now.links }
         ensures { result.now ≡ link_at self.now number }
     {
-        &self.links[usize::from(number)]
+        self.links.link(number)
     }
 }

@@ -44,8 +44,8 @@ impl Router {
         self.busy.candidates.is_empty()
     }
 
-    /// Whether no credit is owed.
-    fn owes_nothing(&self) -> bool
+    /// Whether no input channel owes a credit.
+    pub fn owes_nothing(&self) -> bool
         ensures { IsTrue result → OwesNothing self.now }
     {
         self.owing().is_empty()

@@ -1,28 +1,15 @@
-use Rattle.std.proofs.Common.{None, Some}
-use Rattle.std.proofs.lemmas.Result.{err_from_is_err_and}
-use Rattle.worm_core.specs.Turns.{◌and_then◌, AsksSource, TakesCredits, TakesFlits, FeedsClasses, RoutesChannels, Allocates, SendsGranted, GivesCredits}
-use Rattle.worm_core.proofs.Passages.{does_then, does_cut}
-use Rattle.worm_core.proofs.Turning.{does_allocate}
+use Rattle.std.proofs.Common.{None}
+use Rattle.std.specs.Result.{result_err}
+use Rattle.worm_core.specs.Turns.{AsksSource, Does, NodePasses}
+use Rattle.worm_core.proofs.Passages.{does_then}
+use Rattle.worm_core.proofs.Turning.{asks_none}
 use Rattle.worm_core.proofs.net.Net.node_turn.Goals as goal
-
-pub returns-in_err-send_granted : goal.returns-in_err-send_granted
-returns-in_err-send_granted c =
-    let p = err_from_is_err_and c.from_residual-in_err-send_granted.result c.from_residual-in_err-send_granted.ensures.1 in
-    let sent = does_cut (SendsGranted c.args.node) (GivesCredits c.args.node) c.allocate.new.self c.send_granted.new.self c.in_err-send_granted.field-0.0 c.in_err-send_granted.ensures in
-    let allocated = does_then (Allocates c.args.node) (SendsGranted c.args.node and_then GivesCredits c.args.node) c.route_channels.new.self c.allocate.new.self c.send_granted.new.self (Some c.in_err-send_granted.field-0.0) (does_allocate c.args.node c.route_channels.new.self c.allocate.new.self c.allocate.ensures.after c.allocate.ensures.reaches) sent in
-    let routed = does_then (RoutesChannels c.args.node) (Allocates c.args.node and_then SendsGranted c.args.node and_then GivesCredits c.args.node) c.feed_classes.new.self c.route_channels.new.self c.send_granted.new.self (Some c.in_err-send_granted.field-0.0) c.route_channels.ensures allocated in
-    let fed = does_then (FeedsClasses c.args.node) (RoutesChannels c.args.node and_then Allocates c.args.node and_then SendsGranted c.args.node and_then GivesCredits c.args.node) c.take_flits.new.self c.feed_classes.new.self c.send_granted.new.self (Some c.in_err-send_granted.field-0.0) c.feed_classes.ensures routed in
-    let taken = does_then (TakesFlits c.args.node) (FeedsClasses c.args.node and_then RoutesChannels c.args.node and_then Allocates c.args.node and_then SendsGranted c.args.node and_then GivesCredits c.args.node) c.take_credits.new.self c.take_flits.new.self c.send_granted.new.self (Some c.in_err-send_granted.field-0.0) c.take_flits.ensures fed in
-    let got = does_then (TakesCredits c.args.node) (TakesFlits c.args.node and_then FeedsClasses c.args.node and_then RoutesChannels c.args.node and_then Allocates c.args.node and_then SendsGranted c.args.node and_then GivesCredits c.args.node) c.ask_source.new.self c.take_credits.new.self c.send_granted.new.self (Some c.in_err-send_granted.field-0.0) c.take_credits.ensures taken in
-    rw (p.1, p.2) (does_then (AsksSource c.args.entries.now c.args.node) (TakesCredits c.args.node and_then TakesFlits c.args.node and_then FeedsClasses c.args.node and_then RoutesChannels c.args.node and_then Allocates c.args.node and_then SendsGranted c.args.node and_then GivesCredits c.args.node) c.args.self.now c.ask_source.new.self c.send_granted.new.self (Some c.in_err-send_granted.field-0.0) c.in_ok-ask_source.ensures got)
+use Rattle.worm_core.proofs.net.Net.node_turn.Goals.{then-is_asked+in_ok-ask_source, else-is_asked}
 
 pub returns : goal.returns
 returns c =
-    let given = c.give_credits.ensures in
-    let sent = does_then (SendsGranted c.args.node) (GivesCredits c.args.node) c.allocate.new.self c.send_granted.new.self c.give_credits.new.self None c.in_ok-send_granted.ensures given in
-    let allocated = does_then (Allocates c.args.node) (SendsGranted c.args.node and_then GivesCredits c.args.node) c.route_channels.new.self c.allocate.new.self c.give_credits.new.self None (does_allocate c.args.node c.route_channels.new.self c.allocate.new.self c.allocate.ensures.after c.allocate.ensures.reaches) sent in
-    let routed = does_then (RoutesChannels c.args.node) (Allocates c.args.node and_then SendsGranted c.args.node and_then GivesCredits c.args.node) c.feed_classes.new.self c.route_channels.new.self c.give_credits.new.self None c.route_channels.ensures allocated in
-    let fed = does_then (FeedsClasses c.args.node) (RoutesChannels c.args.node and_then Allocates c.args.node and_then SendsGranted c.args.node and_then GivesCredits c.args.node) c.take_flits.new.self c.feed_classes.new.self c.give_credits.new.self None c.feed_classes.ensures routed in
-    let taken = does_then (TakesFlits c.args.node) (FeedsClasses c.args.node and_then RoutesChannels c.args.node and_then Allocates c.args.node and_then SendsGranted c.args.node and_then GivesCredits c.args.node) c.take_credits.new.self c.take_flits.new.self c.give_credits.new.self None c.take_flits.ensures fed in
-    let got = does_then (TakesCredits c.args.node) (TakesFlits c.args.node and_then FeedsClasses c.args.node and_then RoutesChannels c.args.node and_then Allocates c.args.node and_then SendsGranted c.args.node and_then GivesCredits c.args.node) c.ask_source.new.self c.take_credits.new.self c.give_credits.new.self None c.take_credits.ensures taken in
-    does_then (AsksSource c.args.entries.now c.args.node) (TakesCredits c.args.node and_then TakesFlits c.args.node and_then FeedsClasses c.args.node and_then RoutesChannels c.args.node and_then Allocates c.args.node and_then SendsGranted c.args.node and_then GivesCredits c.args.node) c.args.self.now c.ask_source.new.self c.give_credits.new.self None c.in_ok-ask_source.ensures got
+    let asked : Does (AsksSource c.args.entries.now c.args.node) c.args.self.now None c.if-is_asked.self = elim c.if-is_asked.branch [
+      | then-is_asked+in_ok-ask_source w ↦ rw w.self-is w.in_ok-ask_source.ensures
+      | else-is_asked w ↦ rw w.self-is (asks_none c.args.node c.args.entries.now c.args.self.now (c.requires.asked w.if-is_asked.false))
+    ] in
+    does_then (AsksSource c.args.entries.now c.args.node) (NodePasses c.args.node) c.args.self.now c.if-is_asked.self c.node_passes.new.self (result_err c.node_passes.result) asked c.node_passes.ensures

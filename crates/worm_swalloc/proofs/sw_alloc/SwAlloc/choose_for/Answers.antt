@@ -1,4 +1,4 @@
-use Rattle.std.proofs.Common.{◌≡◌, ◌<◌, ℕ, arith, Some, None, slice_index_or}
+use Rattle.std.proofs.Common.{◌≡◌, ◌<◌, ℕ, arith, ◌∙◌, Some, None, slice_index_or}
 use Rattle.worm_vcalloc.specs.Arbiter.{line_requests}
 use Rattle.worm_swalloc.specs.SwAlloc.{SwAllocState, is_for}
 use Rattle.worm_swalloc.proofs.SwLemmas.{choice_is}
@@ -18,7 +18,7 @@ returns-in-Some-clause-after c =
     let out_in : c.args.out < c.self.inside.ports = rw (← c.self.view_is) at c.requires.out in
     let few = c.self.invariant.few_ports in
     let lines : (line : ℕ) → line < c.self.inside.ports → line_requests c.args.lines line ≡ is_for (slice_index_or c.args.requests.now line None) c.args.out = rw (← c.self.view_is) at c.requires.lines in
-    rw (← c.self.view_is) (choice_is s c.args.requests.now c.args.grants.now c.args.out c.args.lines c.index-self-out.result c.pick.new.self (Some c.in-Some.port) c.self.invariant out_in (omega arith) lines c.in-Some.ensures.winner c.in-Some.ensures.pointer).1
+    rw (← c.self.view_is) (c.commit.ensures ∙ (choice_is s c.args.requests.now c.args.grants.now c.args.out c.args.lines c.index-self-out.result c.pick.new.self (Some c.in-Some.port) c.self.invariant out_in (omega arith) lines c.in-Some.ensures.winner c.in-Some.ensures.pointer).1)
 
 pub returns-in_default-clause-grants : goal.returns-in_default-clause-grants
 returns-in_default-clause-grants c =

@@ -4,7 +4,7 @@ use Rattle.worm_vcalloc.proofs.PassLemmas.{none_where_not_some}
 use Rattle.worm_vcalloc.proofs.SetLemmas.{has-empty}
 use Rattle.worm_swalloc.specs.Front.{with_front}
 use Rattle.worm_swalloc.specs.SwAlloc.{SwAllocState, sw_grants, IsSwitchMatching, granted}
-use Rattle.worm_swalloc.proofs.SwLemmas.{matching, sw_grants_none, sw_after_none}
+use Rattle.worm_swalloc.proofs.SwLemmas.{matching, sw_grants_none, sw_after_none, named_within, pass_is}
 use Rattle.worm_swalloc.proofs.sw_alloc.SwAlloc.grant.Goals as goal
 
 -- where no channel is ready
@@ -27,8 +27,19 @@ returns-then-is_empty-clause-matching c =
     let s : SwAllocState = record { ports = c.self.inside.ports; channels = c.self.inside.channels; inputs = c.self.inside.inputs; outputs = c.self.inside.outputs } in
     rw (← c.self.view_is) (subst (IsSwitchMatching s c.args.ready.now) (sw_grants_none s c.args.ready.now c.self.invariant (nothing_ready c)) (matching s c.args.ready.now c.self.invariant))
 
+pub choose-requires-clause-channels : goal.choose-requires-clause-channels
+choose-requires-clause-channels c = named_within c.args.self.now c.args.ready.now c.gather.new.requests c.gather.ensures.ready c.gather.ensures.named
+
+pub returns-clause-after : goal.returns-clause-after
+returns-clause-after c =
+    let s : SwAllocState = record { ports = c.self.inside.ports; channels = c.self.inside.channels; inputs = c.self.inside.inputs; outputs = c.self.inside.outputs } in
+    let few = c.self.invariant.few_ports in
+    let is : c.choose.new.grants ≡ sw_grants c.args.self.now c.args.ready.now =
+    c.choose.ensures.grants ∙ ap (λ r. with_front c.args.self.now.ports (granted c.args.self.now r c.args.self.now.ports) (replicate 7 None)) c.gather.ensures.named in
+    pass_is c.args.self.now c.choose.new.self c.args.ready.now c.gather.new.requests c.choose.new.grants (rw (← c.self.view_is) (omega arith)) c.gather.ensures.named is c.choose.ensures.after
+
 pub returns-clause-matching : goal.returns-clause-matching
 returns-clause-matching c =
-    let is : c.choose-grants.result ≡ sw_grants c.args.self.now c.args.ready.now =
-    c.choose-grants.ensures.grants ∙ ap (λ r. with_front c.args.self.now.ports (granted c.args.self.now r c.args.self.now.ports) (replicate 7 None)) c.requests-requests.ensures.named in
-    subst (IsSwitchMatching c.args.self.now c.args.ready.now) (sym is) (matching c.args.self.now c.args.ready.now c.requests-requests.ensures.ready)
+    let is : c.choose.new.grants ≡ sw_grants c.args.self.now c.args.ready.now =
+    c.choose.ensures.grants ∙ ap (λ r. with_front c.args.self.now.ports (granted c.args.self.now r c.args.self.now.ports) (replicate 7 None)) c.gather.ensures.named in
+    subst (IsSwitchMatching c.args.self.now c.args.ready.now) (sym is) (matching c.args.self.now c.args.ready.now c.gather.ensures.ready)

@@ -2,4 +2,4 @@ use Rattle.worm_vcalloc.proofs.FiledLemmas.{filed_none}
 use Rattle.worm_vcalloc.proofs.request.VcRequests.new.Goals as goal
 
 pub invariant_of-result : goal.invariant_of-result
-invariant_of-result c = filed_none c.new.result c.new-2.result c.new-3.result c.new.ensures c.new-2.ensures c.new-3.ensures
+invariant_of-result c = filed_none c.new.result c.new-2.result c.new.ensures c.new-2.ensures

@@ -1,0 +1,9 @@
+use Rattle.std.proofs.Common.{◌≡◌, ℕ, ◌<◌, get_or, length}
+use Rattle.worm_core.specs.Arrivals.{KnowsArrivals, no_arrivals}
+use Rattle.worm_core.proofs.links.Links.new.Given as goal
+
+abbrev pub invariant-loop-node : goal.invariant-loop-node
+invariant-loop-node l = record {
+  all : length l.arrivals ≡ 256;
+  known : (x : ℕ) → x < l.node → KnowsArrivals (record { mesh = l.wiring; states = l.states.items }) x (get_or l.arrivals x no_arrivals);
+}

@@ -1,0 +1,53 @@
+//! Whether a node is at rest: nothing can come into it, and its router has nothing to do.
+
+ghost use Rattle.std.specs.Prelude.{ℕ, ◌≡◌, ◌<◌, ◌*◌, IsTrue, IsSome, None, false, length};
+ghost use Rattle.worm_mesh.specs.Address.{node_count, neighbour_of};
+ghost use Rattle.worm_router.specs.Router.{terminal};
+ghost use Rattle.worm_term.specs.Source.{front_of};
+ghost use Rattle.worm_core.specs.Moves.{can_enter, front_credit, front_into};
+ghost use Rattle.worm_core.specs.State.{IsNet, router_at, source_at};
+ghost use Rattle.worm_core.specs.Turns.{NodePasses};
+
+use super::Fabric;
+
+impl Fabric {
+    /// Whether no credit is on a link out of the node, and no flit on a link into it.
+    fn are_links_still(&self, node: u8) -> bool
+        requires { node < node_count self.now.mesh }
+        ensures credits { IsTrue result → (p : ℕ) → IsSome (neighbour_of self.now.mesh node p) → front_credit self.now node p ≡ None }
+        ensures flits { IsTrue result → (p : ℕ) → IsSome (neighbour_of self.now.mesh node p) → front_into self.now node p ≡ None }
+    {
+        self.links.is_quiet(node)
+    }
+
+    /// Whether the node's source has no flit for which there is room.
+    fn feeds_nothing(&self, node: u8) -> bool
+        requires sound { IsNet self.now }
+        requires node { node < node_count self.now.mesh }
+        ensures { IsTrue result → (k : ℕ) → k < length self.now.channels → can_enter (router_at self.now node) (terminal (router_at self.now node)) (front_of (source_at self.now node) k) ≡ false }
+    {
+        let terminal = self.terminal();
+        for class in 0..self.classes.classes() {
+            if self.node(node).can_feed(class, terminal) {
+                return false;
+            }
+        }
+        true
+    }
+
+    /// Whether the node is at rest: what it would do in a turn once its source was asked would change nothing. Where it is at rest
+    /// this may not be found.
+    pub fn is_at_rest(&self, node: u8) -> bool
+        requires sound { IsNet self.now }
+        requires node { node < node_count self.now.mesh }
+        ensures { IsTrue result → NodePasses node self.now None self.now }
+    {
+        if !self.are_links_still(node) {
+            return false;
+        }
+        if !self.node(node).router.is_at_rest() {
+            return false;
+        }
+        self.feeds_nothing(node)
+    }
+}

@@ -1,0 +1,39 @@
+//! What is read of a fabric to pass over what would change nothing.
+
+ghost use Rattle.std.specs.Prelude.{ℕ, ◌≡◌, ◌<◌, ◌≤◌, ◌*◌, None, IfNone, IfSome, IsSome, IsTrue, length};
+ghost use Rattle.worm_mesh.specs.Address.{neighbour_of};
+ghost use Rattle.worm_router.specs.Rest.{OwesNothing};
+ghost use Rattle.worm_core.specs.State.{router_at};
+ghost use Rattle.worm_core.specs.Moves.{front_credit, front_into};
+
+use super::Fabric;
+
+impl Fabric {
+    /// A mesh port from this one on by which a credit may come in, and before which none does.
+    pub fn next_credit(&self, node: u8, from: u8) -> Option<u8>
+        requires { from ≤ 6 }
+        ensures mesh_port { IfSome result (λ port. (from ≤ port) × (port < 2 * length self.now.mesh) × (port < 6)) }
+        ensures before { IfSome result (λ port. (p : ℕ) → from ≤ p → p < port → IsSome (neighbour_of self.now.mesh node p) → front_credit self.now node p ≡ None) }
+        ensures none { IfNone result ((p : ℕ) → from ≤ p → IsSome (neighbour_of self.now.mesh node p) → front_credit self.now node p ≡ None) }
+    {
+        self.links.next_credit(node, from)
+    }
+
+    /// A mesh port from this one on by which a flit may come in, and before which none does.
+    pub fn next_flit(&self, node: u8, from: u8) -> Option<u8>
+        requires { from ≤ 6 }
+        ensures mesh_port { IfSome result (λ port. (from ≤ port) × (port < 2 * length self.now.mesh) × (port < 6)) }
+        ensures before { IfSome result (λ port. (p : ℕ) → from ≤ p → p < port → IsSome (neighbour_of self.now.mesh node p) → front_into self.now node p ≡ None) }
+        ensures none { IfNone result ((p : ℕ) → from ≤ p → IsSome (neighbour_of self.now.mesh node p) → front_into self.now node p ≡ None) }
+    {
+        self.links.next_flit(node, from)
+    }
+
+    /// Whether no channel of the node owes a credit.
+    pub fn owes_nothing(&self, node: u8) -> bool
+        requires { node < length self.now.nodes }
+        ensures { IsTrue result → OwesNothing (router_at self.now node) }
+    {
+        self.node(node).router.owes_nothing()
+    }
+}

@@ -1,0 +1,288 @@
+//! The links of a mesh with what is on them, and by node the ports at which something comes in, so that a turn goes past all others.
+
+ghost use Rattle.std.specs.Prelude.{◌≡◌, ◌<◌, ◌≤◌, ◌*◌, ◌==◌, ◌++◌, ◌∷◌, [], ℕ, IfNone, IfSome, IsSome, IsTrue, Option, false, drop, length, slice_get, slice_set};
+ghost use Rattle.worm_mesh.specs.Address.{IsMesh as IsRadices, neighbour_of};
+ghost use Rattle.worm_mesh.specs.Links.{link_count};
+ghost use Rattle.worm_core.specs.State.{LinkView};
+ghost use Rattle.worm_core.specs.Arrivals.{KnowsArrivals, LinksView, credits_of, credits_to, flits_of, flits_to, number_into, number_out, state_at, with_state};
+
+use crate::LinkState;
+use crate::port_set::PortSet;
+use crate::wiring::Wiring;
+use std::marker::Model;
+use worm_flit::Flit;
+use worm_mesh::Mesh;
+
+/// The mesh ports of a node at which something may come in. A port that is left out has nothing.
+#[derive(Clone, Copy)]
+pub struct Arrivals {
+    /// Where the link into the port may have a flit.
+    pub flits: PortSet,
+    /// Where the link out of the port may have a credit on its way back.
+    pub credits: PortSet,
+}
+
+/// A mesh, and its links by number with what is on them.
+#[derive(Drop)]
+pub struct Links {
+    /// The mesh, with the numbers of each node's links.
+    wiring: Wiring,
+    /// The links by number.
+    states: Vec<LinkState>,
+    /// What may come in, by node number.
+    arrivals: [Arrivals; 256],
+}
+
+impl Model for Links {
+    ghost use Rattle.worm_core.specs.Arrivals.{LinksView, KnowsAll};
+
+    ghost Value = { LinksView };
+
+    ghost view = { λ l. record { mesh = l.wiring; states = l.states.items } };
+
+    ghost invariant = { λ l. KnowsAll (record { mesh = l.wiring; states = l.states.items }) l.arrivals };
+}
+
+/// Whether the link of this number, if it is there, has a flit.
+fn has_flits(states: &[LinkState], number: Option<u16>) -> bool
+    ensures { result ≡ false → flits_of states.now number ≡ [] }
+{
+    let Some(number) = number else {
+        return false;
+    };
+    match states.get(usize::from(number)) {
+        None => false,
+        Some(link) => link.front().is_some(),
+    }
+}
+
+/// Whether the link of this number, if it is there, has a credit.
+fn has_credits(states: &[LinkState], number: Option<u16>) -> bool
+    ensures { result ≡ false → credits_of states.now number ≡ [] }
+{
+    let Some(number) = number else {
+        return false;
+    };
+    match states.get(usize::from(number)) {
+        None => false,
+        Some(link) => link.front_credit().is_some(),
+    }
+}
+
+/// What comes in at a node.
+fn arrivals_of(wiring: &Wiring, states: &[LinkState], node: u8) -> Arrivals
+    ensures { KnowsArrivals (record { mesh = wiring.now; states = states.now }) node result }
+{
+    let mut flits = PortSet::new();
+    let mut credits = PortSet::new();
+    for port in 0..6u8 {
+        flits.put(port, has_flits(states, wiring.link_into(node, port)));
+        credits.put(port, has_credits(states, wiring.link_out(node, port)));
+    }
+    Arrivals { flits, credits }
+}
+
+impl Links {
+    /// The links of the mesh, in these states by number.
+    pub fn new(mesh: Mesh, states: Vec<LinkState>) -> Links
+        requires { IsRadices mesh }
+        ensures { result ≡ record { mesh = mesh; states = states.items } }
+    {
+        let wiring = Wiring::new(mesh);
+        let mut arrivals = [Arrivals {
+            flits: PortSet::new(),
+            credits: PortSet::new(),
+        }; 256];
+        for node in 0..256u16 {
+            arrivals[usize::from(node)] = arrivals_of(&wiring, states.as_slice(), node as u8);
+        }
+        Links {
+            wiring,
+            states,
+            arrivals,
+        }
+    }
+
+    /// The mesh, with the numbers of its links.
+    pub fn wiring(&self) -> &Wiring
+        ensures { result.now ≡ self.now.mesh }
+    {
+        &self.wiring
+    }
+
+    /// The links by number.
+    pub fn into_states(self) -> Vec<LinkState>
+        ensures { result.items ≡ self.states }
+    {
+        let Links {
+            wiring: _,
+            states,
+            arrivals: _,
+        } = self;
+        states
+    }
+
+    /// The link of this number.
+    pub fn link(&self, number: u16) -> &LinkState
+        requires { number < length self.now.states }
+        ensures { result.now ≡ state_at self.now number }
+    {
+        &self.states[usize::from(number)]
+    }
+
+    /// Whether nothing comes in at the node.
+    pub fn is_quiet(&self, node: u8) -> bool
+        ensures flits { IsTrue result → (p : ℕ) → flits_to self.now node p ≡ [] }
+        ensures credits { IsTrue result → (o : ℕ) → credits_to self.now node o ≡ [] }
+    {
+        let _terminal = self.wiring.terminal();
+        let here = self.arrivals[usize::from(node)];
+        here.flits.is_empty() && here.credits.is_empty()
+    }
+
+    /// A mesh port from this one on by which a flit may come in, and before which none does.
+    pub fn next_flit(&self, node: u8, from: u8) -> Option<u8>
+        requires { from ≤ 6 }
+        ensures mesh_port { IfSome result (λ port. (from ≤ port) × (port < 2 * length self.now.mesh) × (port < 6)) }
+        ensures before { IfSome result (λ port. (p : ℕ) → from ≤ p → p < port → flits_to self.now node p ≡ []) }
+        ensures none { IfNone result ((p : ℕ) → from ≤ p → flits_to self.now node p ≡ []) }
+    {
+        let here = self.arrivals[usize::from(node)];
+        let terminal = self.wiring.terminal();
+        let Some(port) = here.flits.first_from(from) else {
+            return None;
+        };
+        if port >= terminal {
+            return None;
+        }
+        Some(port)
+    }
+
+    /// A mesh port from this one on by which a credit may come in, and before which none does.
+    pub fn next_credit(&self, node: u8, from: u8) -> Option<u8>
+        requires { from ≤ 6 }
+        ensures mesh_port { IfSome result (λ port. (from ≤ port) × (port < 2 * length self.now.mesh) × (port < 6)) }
+        ensures before { IfSome result (λ port. (p : ℕ) → from ≤ p → p < port → credits_to self.now node p ≡ []) }
+        ensures none { IfNone result ((p : ℕ) → from ≤ p → credits_to self.now node p ≡ []) }
+    {
+        let here = self.arrivals[usize::from(node)];
+        let terminal = self.wiring.terminal();
+        let Some(port) = here.credits.first_from(from) else {
+            return None;
+        };
+        if port >= terminal {
+            return None;
+        }
+        Some(port)
+    }
+
+    /// The number of the link that comes into this port.
+    pub fn number_into(&self, node: u8, port: u8) -> u16
+        requires { IsSome (neighbour_of self.now.mesh node port) }
+        ensures value { result ≡ number_into self.now node port }
+        ensures bound { result < link_count self.now.mesh }
+        ensures mesh_port { port < 6 }
+    {
+        let Some(number) = self.wiring.link_into(node, port) else {
+            return 0;
+        };
+        number
+    }
+
+    /// The number of the link that goes out of this port.
+    pub fn number_out(&self, node: u8, port: u8) -> u16
+        requires { IsSome (neighbour_of self.now.mesh node port) }
+        ensures value { result ≡ number_out self.now node port }
+        ensures bound { result < link_count self.now.mesh }
+        ensures mesh_port { port < 6 }
+    {
+        let Some(number) = self.wiring.link_out(node, port) else {
+            return 0;
+        };
+        number
+    }
+
+    /// The front flit of the link into this port.
+    pub fn front(&self, node: u8, port: u8) -> Option<Flit>
+        requires links { length self.now.states ≡ link_count self.now.mesh }
+        requires linked { IsSome (neighbour_of self.now.mesh node port) }
+        ensures { result ≡ slice_get (state_at self.now (number_into self.now node port)).flits 0 }
+    {
+        let link = &self.states[usize::from(self.number_into(node, port))];
+        link.front()
+    }
+
+    /// Drops the front flit of the link into this port.
+    pub fn pop(&mut self, node: u8, port: u8)
+        requires links { length self.old.states ≡ link_count self.old.mesh }
+        requires linked { IsSome (neighbour_of self.old.mesh node port) }
+        ensures { self.new ≡ with_state self.old (number_into self.old node port) (record (state_at self.old (number_into self.old node port)) { flits = drop 1 (state_at self.old (number_into self.old node port)).flits }) }
+    {
+        let number = self.number_into(node, port);
+        let link = &mut self.states[usize::from(number)];
+        link.pop();
+        let more = link.front().is_some();
+        let mut here = self.arrivals[usize::from(node)];
+        here.flits.put(port, more);
+        self.arrivals[usize::from(node)] = here;
+    }
+
+    /// Puts the flit at the end of the link out of this port.
+    pub fn push(&mut self, node: u8, port: u8, flit: Flit)
+        requires links { length self.old.states ≡ link_count self.old.mesh }
+        requires linked { IsSome (neighbour_of self.old.mesh node port) }
+        requires room { length (state_at self.old (number_out self.old node port)).flits < (state_at self.old (number_out self.old node port)).room }
+        ensures { self.new ≡ with_state self.old (number_out self.old node port) (record (state_at self.old (number_out self.old node port)) { flits = (state_at self.old (number_out self.old node port)).flits ++ flit ∷ [] }) }
+    {
+        let number = self.number_out(node, port);
+        let link = &mut self.states[usize::from(number)];
+        link.push(flit);
+        if let Some((beyond, into)) = self.wiring.other_end(node, port) {
+            let mut there = self.arrivals[usize::from(beyond)];
+            there.flits.put(into, true);
+            self.arrivals[usize::from(beyond)] = there;
+        }
+    }
+
+    /// The front credit of the link out of this port.
+    pub fn front_credit(&self, node: u8, port: u8) -> Option<u8>
+        requires links { length self.now.states ≡ link_count self.now.mesh }
+        requires linked { IsSome (neighbour_of self.now.mesh node port) }
+        ensures { result ≡ slice_get (state_at self.now (number_out self.now node port)).credits 0 }
+    {
+        let link = &self.states[usize::from(self.number_out(node, port))];
+        link.front_credit()
+    }
+
+    /// Drops the front credit of the link out of this port.
+    pub fn pop_credit(&mut self, node: u8, port: u8)
+        requires links { length self.old.states ≡ link_count self.old.mesh }
+        requires linked { IsSome (neighbour_of self.old.mesh node port) }
+        ensures { self.new ≡ with_state self.old (number_out self.old node port) (record (state_at self.old (number_out self.old node port)) { credits = drop 1 (state_at self.old (number_out self.old node port)).credits }) }
+    {
+        let number = self.number_out(node, port);
+        let link = &mut self.states[usize::from(number)];
+        link.pop_credit();
+        let more = link.front_credit().is_some();
+        let mut here = self.arrivals[usize::from(node)];
+        here.credits.put(port, more);
+        self.arrivals[usize::from(node)] = here;
+    }
+
+    /// Puts a credit of the channel at the end of the credits of the link into this port.
+    pub fn push_credit(&mut self, node: u8, port: u8, vc: u8)
+        requires links { length self.old.states ≡ link_count self.old.mesh }
+        requires linked { IsSome (neighbour_of self.old.mesh node port) }
+        requires room { length (state_at self.old (number_into self.old node port)).credits < (state_at self.old (number_into self.old node port)).room }
+        ensures { self.new ≡ with_state self.old (number_into self.old node port) (record (state_at self.old (number_into self.old node port)) { credits = (state_at self.old (number_into self.old node port)).credits ++ vc ∷ [] }) }
+    {
+        let number = self.number_into(node, port);
+        let link = &mut self.states[usize::from(number)];
+        link.push_credit(vc);
+        if let Some((beyond, out)) = self.wiring.other_end(node, port) {
+            let mut there = self.arrivals[usize::from(beyond)];
+            there.credits.put(out, true);
+            self.arrivals[usize::from(beyond)] = there;
+        }
+    }
+}

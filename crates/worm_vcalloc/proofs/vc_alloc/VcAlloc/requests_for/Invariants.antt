@@ -1,0 +1,8 @@
+use Rattle.worm_vcalloc.proofs.GatherLemmas.{AreGathered}
+use Rattle.worm_vcalloc.proofs.vc_alloc.VcAlloc.requests_for.Given as goal
+
+abbrev pub invariant-loop-port : goal.invariant-loop-port
+invariant-loop-port l = AreGathered l.waiting l.grants l.out l.channel l.ports l.channels l.left l.lines
+
+abbrev pub decreases-loop-port : goal.decreases-loop-port
+decreases-loop-port l = l.left
