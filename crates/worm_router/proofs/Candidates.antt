@@ -1,10 +1,11 @@
 -- The input channels that may be ready to send, and what keeps each that is among them.
-use Rattle.std.proofs.Common.{◌≡◌, ℕ, ◌+◌, ◌-◌, ◌*◌, ◌<◌, ◌≤◌, ◌&&◌, ◌||◌, ◌==◌, Bool, true, false, nat_lt, if◌then◌else◌, inl, inr, List, [], ◌∷◌, ◌++◌, length, slice_set, slice_index_or, replicate, Option, None, Some, is_some, Result, Ok, Err, OnOk, IfErr, refl, arith, ap, sym, ◌∙◌, subst}
+use Rattle.std.proofs.Common.{◌≡◌, ℕ, ◌+◌, ◌-◌, ◌*◌, ◌<◌, ◌≤◌, ◌&&◌, ◌||◌, ◌==◌, Bool, true, false, nat_lt, if◌then◌else◌, inl, inr, List, [], ◌∷◌, ◌++◌, length, slice_set, slice_index_or, replicate, Option, None, Some, is_some, Result, Ok, Err, OnOk, IfErr, MatchOption, ◌⊎◌, refl, arith, ap, sym, ◌∙◌, subst}
 use Rattle.std.proofs.lemmas.Grind.{get_or-set_at}
 use Rattle.std.proofs.lemmas.Bool.{cases_eq, cases_Bool}
 use Rattle.std.proofs.lemmas.Bool.Decides.{nat_tests}
 use Rattle.std.proofs.lemmas.Nat.{same_from_place}
 use Rattle.std.proofs.lemmas.List.{get_or-set_other}
+use Rattle.std.proofs.lemmas.List.Elements.{All-get_or}
 use Rattle.worm_flit.specs.declared.Flit.{Flit}
 use Rattle.worm_flit.specs.Stamps.{with_channel}
 use Rattle.worm_records.specs.declared.InRecord.{InRecord}
@@ -13,7 +14,7 @@ use Rattle.worm_records.specs.declared.OutRecord.{OutRecord}
 use Rattle.worm_vcalloc.specs.ChannelSet.{has, IsPut}
 use Rattle.worm_vcalloc.proofs.SetLemmas.{has-empty, has-zero}
 use Rattle.worm_router.specs.Router.{RouterState, ChannelState, terminal, width, line, fresh_channel, free_output, input_at, output_at, leaving, leaving_by, put_in}
-use Rattle.worm_router.specs.Busy.{IsSetOf, AreCandidates, is_active, is_occupied, holds}
+use Rattle.worm_router.specs.Busy.{IsSetOf, AreCandidates, AreHolders, IsHolder, is_active, is_occupied, holds}
 use Rattle.worm_router.specs.Rest.{SendsNothing}
 use Rattle.worm_router.proofs.NothingReady.{get_or-replicate_same}
 use Rattle.worm_router.proofs.Places.{IsInput, IsOutput}
@@ -225,14 +226,63 @@ candidates_left r port vc i out out_vc o had now had_out u spent old new input o
     (λ some. let ready = ready_active r port now some in put.here ∙ ap (λ b. b && is_occupied now) ready.0 ∙ ready.1)
     (λ e. let more : nat_lt 0 (had_out.credits - spent) ≡ true = sym (ap (nat_lt 0) less) ∙ e in grind (arith, nat_tests)) are
 
--- a credit came
-pub candidates_credit : (r : RouterState) (out vc o : ℕ) (had u : OutRecord) (active old new : ℕ) (was_out : Bool) → IsOutput r out vc o had → IsSetOf is_active r active
-    → was_out ≡ (had.credits == 0) → new ≡ (if was_out then active else old) → AreCandidates r old → AreCandidates (record r { outputs = slice_set r.outputs o u }) new
-candidates_credit r out vc o had u active old new true output held wakes is are =
-    subst (AreCandidates (record r { outputs = slice_set r.outputs o u })) (sym is) (active_are (record r { outputs = slice_set r.outputs o u }) active (record { inside = held.inside; outside = held.outside }))
-candidates_credit r out vc o had u active old new false output held wakes is are =
-    subst (AreCandidates (record r { outputs = slice_set r.outputs o u })) (sym is)
+-- a credit came: where there was none, only the holder may have waited for it
+
+-- a channel was ready before, or holds the output channel that was written
+ready_or_holds : (r : RouterState) (o : ℕ) (u : OutRecord) (p : ℕ) (c : ChannelState) (s : InRecord) (fs : List Flit)
+    → is_some (leaving_by (record r { outputs = slice_set r.outputs o u }) p c s fs) ≡ true
+    → (is_some (leaving_by r p c s fs) ≡ true) ⊎ ((q : ℕ) × (v : ℕ) × (s ≡ Active q v) × (line r q v ≡ o))
+ready_or_holds r o u p c Idle fs some = inl some
+ready_or_holds r o u p c (Waiting q) fs some = inl some
+ready_or_holds r o u p c (Active q v) [] some = inl some
+ready_or_holds r o u p c (Active q v) (f ∷ fs) some = elim (cases_eq (line r q v) o) [
+  | inl same ↦ inr (q, v, refl, same)
+  | inr other ↦
+      inl (with_credit (q == terminal r) (nat_lt 0 (slice_index_or (slice_set r.outputs o u) (line r q v) (free_output r.depth)).credits) (nat_lt 0 (output_at r q v).credits)
+      (p == terminal r || nat_lt c.owed r.depth) (q, with_channel f v)
+      (λ has_now. sym (ap (λ (w : OutRecord). nat_lt 0 w.credits) (get_or-set_other r.outputs o (line r q v) u (free_output r.depth) other)) ∙ has_now) some)
+]
+
+pub candidates_credit : (r : RouterState) (out vc o : ℕ) (had u : OutRecord) (old new : ℕ) (was_out : Bool) (holder : Option (ℕ × ℕ)) → terminal r ≤ 6 → width r ≤ 8 → IsOutput r out vc o had → AreHolders r
+    → was_out ≡ (had.credits == 0) → holder ≡ had.holder
+    → MatchOption (if was_out then holder else None) (new ≡ old) (λ h. IsPut old new h.0 h.1 true) → AreCandidates r old → AreCandidates (record r { outputs = slice_set r.outputs o u }) new
+candidates_credit r out vc o had u old new false holder few_ports few_channels output held wakes is same are =
+    subst (AreCandidates (record r { outputs = slice_set r.outputs o u })) (sym same)
     (candidates_out r out vc o had u old output (λ _. let some : (had.credits == 0) ≡ false = sym wakes in grind (arith, nat_tests)) are)
+candidates_credit r out vc o had u old new true None few_ports few_channels output held wakes is same are = record {
+  all = λ p v p_in v_in some. elim (ready_or_holds r o u p (input_at r p v) (input_at r p v).state (input_at r p v).buffer some) [
+    | inl before ↦ ap (λ n. has n p v) same ∙ are.all p v p_in v_in before
+    | inr holds ↦
+        let unlike : None ≡ Some (p, v) = is ∙ ap (λ (w : OutRecord). w.holder) output.was ∙ ap (λ k. (slice_index_or r.outputs k (free_output r.depth)).holder) (sym holds.3) ∙ held.held p v holds.0 holds.1 p_in v_in holds.2 in
+        absurd (cc)
+  ];
+  places = λ p v p_in v_in inside. are.places p v p_in v_in (sym (ap (λ n. has n p v) same) ∙ inside);
+}
+candidates_credit r out vc o had u old new true (Some h) few_ports few_channels output held wakes is put are = record {
+  all = λ p v p_in v_in some. elim (ready_or_holds r o u p (input_at r p v) (input_at r p v).state (input_at r p v).buffer some) [
+    | inl before ↦ elim (cases_eq p h.0) [
+      | inl a ↦ elim (cases_eq v h.1) [
+        | inl b ↦ ap (λ k. has new k v) a ∙ ap (λ k. has new h.0 k) b ∙ put.here
+        | inr ne ↦ put.elsewhere p v (omega arith) (omega arith) (λ a b. ne b) ∙ are.all p v p_in v_in before
+      ]
+      | inr ne ↦ put.elsewhere p v (omega arith) (omega arith) (λ a b. ne a) ∙ are.all p v p_in v_in before
+    ]
+    | inr holds ↦
+        let it : Some h ≡ Some (p, v) = is ∙ ap (λ (w : OutRecord). w.holder) output.was ∙ ap (λ k. (slice_index_or r.outputs k (free_output r.depth)).holder) (sym holds.3) ∙ held.held p v holds.0 holds.1 p_in v_in holds.2 in
+        let pair : h ≡ (p, v) = cc in
+        ap (λ (k : ℕ × ℕ). has new k.0 k.1) (sym pair) ∙ put.here
+  ];
+  places = λ p v p_in v_in inside. elim (cases_eq p h.0) [
+    | inl a ↦ elim (cases_eq v h.1) [
+      | inl b ↦
+          let fits : IsHolder (terminal r) (width r) (Some h) =
+          subst (IsHolder (terminal r) (width r)) (sym (is ∙ ap (λ (w : OutRecord). w.holder) output.was)) (All-get_or (λ (w : OutRecord). IsHolder (terminal r) (width r) w.holder) r.outputs o (free_output r.depth) output.within held.fit) in
+          (subst (λ k. k ≤ terminal r) (sym a) fits.0, subst (λ k. k < width r) (sym b) fits.1)
+      | inr ne ↦ are.places p v p_in v_in (sym (put.elsewhere p v p_in v_in (λ a b. ne b)) ∙ inside)
+    ]
+    | inr ne ↦ are.places p v p_in v_in (sym (put.elsewhere p v p_in v_in (λ a b. ne a)) ∙ inside)
+  ];
+}
 
 -- none, where all are fresh
 pub fresh_candidates : (r : RouterState) (count : ℕ) → r.inputs ≡ replicate count (fresh_channel r.depth) → AreCandidates r 0

@@ -1,5 +1,5 @@
 -- What is there for a flit that may leave.
-use Rattle.std.proofs.Common.{ℕ, ◌≤◌, ◌<◌, ◌≡◌, ◌==◌, ◌&&◌, ◌||◌, nat_lt, List, [], ◌∷◌, All, Bool, true, false, Some, None, arith, refl, subst, if◌then◌else◌}
+use Rattle.std.proofs.Common.{ap, ℕ, ◌≤◌, ◌<◌, ◌≡◌, ◌==◌, ◌&&◌, ◌||◌, nat_lt, List, [], ◌∷◌, All, Bool, true, false, Some, None, arith, refl, subst, if◌then◌else◌}
 use Rattle.std.proofs.lemmas.Bool.Decides.{nat_tests}
 use Rattle.std.proofs.lemmas.List.Elements.{All-get_or}
 use Rattle.worm_flit.specs.declared.Flit.{Flit}
@@ -51,3 +51,13 @@ pub leaves_active : (r : RouterState) (port : ℕ) (c : ChannelState) (s : InRec
 leaves_active r port c Idle fs d is = absurd (cc)
 leaves_active r port c (Waiting o) fs d is = absurd (cc)
 leaves_active r port c (Active o v) fs d is = refl
+
+-- namely the one that it leaves by
+pub leaves_by_state : (r : RouterState) (port : ℕ) (c : ChannelState) (s : InRecord) (fs : List Flit) (d : ℕ × Flit) → leaving_by r port c s fs ≡ Some d → s ≡ Active d.0 d.1.vc
+leaves_by_state r port c Idle fs d is = absurd (cc)
+leaves_by_state r port c (Waiting o) fs d is = absurd (cc)
+leaves_by_state r port c (Active o v) [] d is = absurd (cc)
+leaves_by_state r port c (Active o v) (f ∷ fs) d is = by_test ((o == terminal r || nat_lt 0 (output_at r o v).credits) && (port == terminal r || nat_lt c.owed r.depth)) is where
+  by_test : (b : Bool) → (if b then Some (o, with_channel f v) else None) ≡ Some d → Active o v ≡ Active d.0 d.1.vc
+  by_test true e = let pair : (o, with_channel f v) ≡ d = cc in ap (λ (k : ℕ × Flit). Active k.0 k.1.vc) pair
+  by_test false e = absurd (cc)

@@ -1,12 +1,12 @@
 -- Which input channels have something to do: the sets that a router keeps beside its lists, so that a turn skips all others.
-use Rattle.std.specs.Prelude.{ℕ, ◌+◌, ◌*◌, ◌<◌, ◌≤◌, ◌≡◌, nat_lt, Bool, true, false, List, length, slice_index_or, IsTrue, is_some}
+use Rattle.std.specs.Prelude.{ℕ, ◌+◌, ◌*◌, ◌<◌, ◌≤◌, ◌≡◌, nat_lt, Bool, true, false, List, length, slice_index_or, IsTrue, is_some, All, Option, Some, None}
 use Rattle.worm_records.specs.declared.InRecord.{InRecord}
 use Rattle.worm_records.specs.declared.InRecord.TheVariants.{Idle, Waiting, Active}
 use Rattle.worm_vcalloc.specs.ChannelSet.{has}
 use Rattle.worm_swalloc.specs.SwAlloc.{SwAllocState}
 use Rattle.worm_router.specs.Allocation.{GrantsNothing}
 use Rattle.worm_router.specs.declared.busy.BusyChannels.{BusyChannels}
-use Rattle.worm_router.specs.Router.{ChannelState, RouterState, IsRouter, terminal, width, fresh_channel, leaving}
+use Rattle.worm_router.specs.Router.{ChannelState, RouterState, IsRouter, terminal, width, fresh_channel, input_at, output_at, leaving}
 
 -- an input channel has a flit
 abbrev pub is_occupied : ChannelState → Bool
@@ -52,6 +52,16 @@ pub record AreBusy (terminal width depth : ℕ) (inputs : List ChannelState) (se
   pub active : IsSetIn is_active terminal width depth inputs sets.active
   pub owing : IsSetIn owes terminal width depth inputs sets.owing
 
+-- a holder of an output channel is an input channel of the router
+abbrev pub IsHolder : ℕ → ℕ → Option (ℕ × ℕ) → Type 0
+IsHolder terminal width None = Unit {0}
+IsHolder terminal width (Some h) = (h.0 ≤ terminal) × (h.1 < width)
+
+-- each input channel that holds an output channel is its holder
+pub record AreHolders (r : RouterState) : Type 0 where
+  pub held : (p v o c : ℕ) → p ≤ terminal r → v < width r → (input_at r p v).state ≡ Active o c → (output_at r o c).holder ≡ Some (p, v)
+  pub fit : All (λ u. IsHolder (terminal r) (width r) u.holder) r.outputs
+
 -- a set has each input channel of a router that may send, and nothing but channels of it
 pub record AreCandidates (r : RouterState) (set : ℕ) : Type 0 where
   pub all : (port vc : ℕ) → port ≤ terminal r → vc < width r → is_some (leaving r port vc) ≡ true → has set port vc ≡ true
@@ -68,4 +78,5 @@ pub record IsKept (r : RouterState) (sets : BusyChannels) : Type 0 where
   pub arbiters : HasArbiters r.switch_alloc
   pub busy : AreBusy (terminal r) (width r) r.depth r.inputs sets
   pub in_vain : IsTrue sets.in_vain → GrantsNothing r
+  pub holders : AreHolders r
   pub candidates : AreCandidates r sets.candidates

@@ -1,4 +1,4 @@
-ghost use Rattle.std.specs.Prelude.{◌≡◌, ◌<◌, ◌&&◌, ◌||◌, true, false, not, if◌then◌else◌};
+ghost use Rattle.std.specs.Prelude.{◌≡◌, ◌<◌, ◌&&◌, ◌||◌, true, false, not, IfSome, MatchOption};
 ghost use Rattle.worm_vcalloc.specs.ChannelSet.{has, IsPut};
 ghost use Rattle.worm_router.specs.Busy.{is_occupied, is_waiting, is_active, owes};
 
@@ -109,12 +109,14 @@ impl BusyChannels {
         self.candidates.put(port, vc, may_send);
     }
 
-    /// Files that a credit has come; `was_out` where its output channel had none, so that whoever holds it may send again.
-    pub fn file_credit(&mut self, was_out: bool)
-        ensures { self.new ≡ record self.old { candidates = (if was_out then self.old.active else self.old.candidates) } }
+    /// Files that a credit has come for which this channel may have waited.
+    pub fn file_credit(&mut self, woken: Option<(u8, u8)>)
+        requires { IfSome woken (λ place. (place.0 < 7) × (place.1 < 8)) }
+        ensures candidates { MatchOption woken (self.new.candidates ≡ self.old.candidates) (λ place. IsPut self.old.candidates self.new.candidates place.0 place.1 true) }
+        ensures others { self.new ≡ record self.old { candidates = self.new.candidates } }
     {
-        if was_out {
-            self.candidates = self.active;
+        if let Some((port, vc)) = woken {
+            self.candidates.put(port, vc, true);
         }
     }
 }

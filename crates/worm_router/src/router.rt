@@ -445,9 +445,13 @@ impl Router {
         if output.credits == depth {
             return Err(TooMany);
         }
-        let was_out = output.credits == 0;
+        let woken = if output.credits == 0 {
+            output.holder
+        } else {
+            None
+        };
         output.add_credit(depth);
-        self.busy.file_credit(was_out);
+        self.busy.file_credit(woken);
         Ok(())
     }
 }

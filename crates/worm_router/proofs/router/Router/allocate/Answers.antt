@@ -38,6 +38,7 @@ invariant_of-self c =
       busy = busy_as _ _ _ _ _ _ c.self.invariant.busy refl refl refl refl;
       in_vain = λ _. passed_in_vain _ c.args.self.now _ _ c.keys.result _ _ _ c.self.view_is c.self.invariant.router c.self.invariant.busy.few_ports c.self.invariant.busy.few_channels ports channels c.requests-asked.ensures c.free_channels-free.ensures c.grant-grants.ensures.matching
           (no_pass_grants _ c.args.self.now _ _ c.keys.result _ _ _ c.self.view_is c.self.invariant.busy.few_ports c.self.invariant.busy.few_channels ports channels c.grant-grants.ensures.matching c.keys.ensures (sym c.is_empty.ensures ∙ c.if-is_empty.true));
+      holders = record { held = c.self.invariant.holders.held; fit = c.self.invariant.holders.fit };
       candidates = record { all = c.self.invariant.candidates.all; places = c.self.invariant.candidates.places };
     }
 

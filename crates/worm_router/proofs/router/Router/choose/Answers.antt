@@ -23,6 +23,7 @@ invariant_of-self c = record {
   arbiters = subst HasArbiters (sym c.grant.ensures.after) (arbiters_stay _ _ c.self.invariant.arbiters);
   busy = busy_as _ _ _ _ _ _ c.self.invariant.busy refl refl refl refl;
   in_vain = c.self.invariant.in_vain;
+  holders = record { held = c.self.invariant.holders.held; fit = c.self.invariant.holders.fit };
   candidates =
       let keys = ready_keys _ c.args.self.now c.keys-self-inside.result c.ready_outs-ready.result c.self.view_is c.self.invariant.busy.few_ports c.self.invariant.busy.few_channels c.ready_outs-ready.ensures c.keys-self-inside.ensures in
       record { all = keys.all; places = keys.places };

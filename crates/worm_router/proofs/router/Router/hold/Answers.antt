@@ -2,12 +2,13 @@ use Rattle.std.proofs.Common.{◌<◌, ◌*◌, ◌∙◌, ap, sym, subst, inl, 
 use Rattle.std.proofs.lemmas.Grind.{common_steps, elements}
 use Rattle.worm_records.specs.declared.OutRecord.{OutRecord}
 use Rattle.worm_vcalloc.specs.ChannelSet.{IsPut}
-use Rattle.worm_router.specs.Router.{free_output}
+use Rattle.worm_router.specs.Router.{ChannelState, free_output}
 use Rattle.worm_router.specs.Busy.{is_occupied, is_waiting, is_active, owes}
 use Rattle.worm_router.specs.declared.busy.BusyChannels.{BusyChannels}
-use Rattle.worm_router.proofs.Places.{input_of, output_of}
+use Rattle.worm_router.proofs.Places.{input_of, output_of, output_read}
 use Rattle.worm_router.proofs.Kept.{full_after, full_before}
 use Rattle.worm_router.proofs.Filed.{busy_filed}
+use Rattle.worm_router.proofs.Holders.{holders_held}
 use Rattle.worm_router.proofs.Candidates.{candidates_held}
 use Rattle.worm_router.proofs.router.Router.hold.Goals as goal
 
@@ -16,6 +17,7 @@ invariant_of-self c =
     let within : c.line-o.result < length c.self.inside.outputs.items = grind (arith, common_steps) in
     let input = input_of _ c.args.self.now c.args.port c.args.vc c.line-i.result c.index_mut-channel.result.now c.self.view_is c.requires.place c.line-i.ensures.value c.line-i.ensures.in_inputs c.index_mut-channel.ensures.value in
     let output = output_of _ c.args.self.now c.args.out c.args.out_vc c.line-o.result c.index_mut-output.result.now c.self.view_is c.requires.out_place c.line-o.ensures.value c.line-o.ensures.in_outputs c.index_mut-output.ensures.value in
+    let read = output_read _ c.args.self.now c.args.out c.args.out_vc c.line-o.result c.index_mut-output.result.now c.self.view_is c.index_mut-output.ensures.value c.line-o.ensures.value c.line-o.ensures.in_outputs in
     record {
       router = record {
         lists = record {
@@ -37,5 +39,6 @@ invariant_of-self c =
           (inl (subst (IsPut _ _ _ _) (sym (ap is_active c.set_state.ensures)) c.file_active.ensures.active))
           (inr (ap (λ (b : BusyChannels). b.owing) c.file_active.ensures.others, ap owes c.set_state.ensures));
       in_vain = λ yes. let no : true ≡ false = sym yes ∙ ap (λ (b : BusyChannels). b.in_vain) c.file_active.ensures.others in absurd (cc);
+      holders = holders_held _ _ _ _ _ _ _ _ _ _ _ input output (ap (λ (x : ChannelState). x.state) c.set_state.ensures) (ap (λ (v : OutRecord). v.holder) read ∙ c.requires.free) (ap (λ (v : OutRecord). v.holder) c.grant.ensures) c.self.invariant.holders;
       candidates = candidates_held _ _ _ _ _ _ _ _ _ _ _ _ _ input output c.self.invariant.busy.few_ports c.self.invariant.busy.few_channels c.file_active.ensures.candidates (ap (λ (v : OutRecord). v.credits) c.grant.ensures) c.self.invariant.candidates;
     }

@@ -3,6 +3,7 @@ use Rattle.std.proofs.lemmas.Grind.{common_steps}
 use Rattle.std.proofs.lemmas.List.Elements.{All-get_or}
 use Rattle.std.proofs.lemmas.Bool.{and_parts}
 use Rattle.worm_flit.specs.Kinds.{closes}
+use Rattle.worm_records.specs.declared.InRecord.TheVariants.{Active}
 use Rattle.worm_records.specs.declared.OutRecord.{OutRecord}
 use Rattle.worm_router.specs.Router.{RouterState, ChannelState, input_at, IsRouter, IsChannel, free_output, terminal, width}
 use Rattle.worm_router.proofs.Kept.{both_set_sound, input_read, let_out_sound, full_after, full_before, no_credit}
@@ -10,8 +11,9 @@ use Rattle.worm_router.specs.Busy.{is_waiting, is_active}
 use Rattle.worm_router.specs.declared.busy.BusyChannels.{BusyChannels}
 use Rattle.worm_router.proofs.Places.{input_of, output_of, output_read}
 use Rattle.worm_router.proofs.Filed.{busy_filed}
-use Rattle.worm_router.proofs.Leaving.{may_leave, leaves_active}
+use Rattle.worm_router.proofs.Leaving.{may_leave, leaves_active, leaves_by_state}
 use Rattle.worm_router.proofs.InVain.{vain_left, holds_open, holds_waits_not, waits_not_after}
+use Rattle.worm_router.proofs.Holders.{holders_left}
 use Rattle.worm_router.proofs.Candidates.{candidates_left}
 use Rattle.worm_router.proofs.router.Router.let_out.Goals as goal
 
@@ -26,6 +28,9 @@ invariant_of-self c =
     let input = input_of _ c.args.self.now c.args.port c.args.vc c.line-i.result c.index_mut-channel.result.now c.self.view_is c.requires.place c.line-i.ensures.value c.line-i.ensures.in_inputs c.index_mut-channel.ensures.value in
     let there = may_leave c.args.self.now c.args.port c.args.vc (c.args.out, c.args.flit) (subst IsRouter c.self.view_is c.self.invariant.router) c.requires.place c.requires.ready in
     let output = output_of _ c.args.self.now c.args.out c.args.flit.vc c.line-o.result c.index_mut-output.result.now c.self.view_is (record { port_in = there.out_in; channel_in = there.channel_in }) c.line-o.ensures.value c.line-o.ensures.in_outputs c.index_mut-output.ensures.value in
+    let held_it : c.index_mut-channel.result.now.state ≡ Active c.args.out c.args.flit.vc =
+    ap (λ (k : ChannelState). k.state) (input_read _ c.args.self.now c.args.port c.args.vc c.line-i.result c.index_mut-channel.result.now c.self.view_is c.index_mut-channel.ensures.value c.line-i.ensures.value c.line-i.ensures.in_inputs)
+    ∙ leaves_by_state c.args.self.now c.args.port (input_at c.args.self.now c.args.port c.args.vc) (input_at c.args.self.now c.args.port c.args.vc).state (input_at c.args.self.now c.args.port c.args.vc).buffer (c.args.out, c.args.flit) c.requires.ready in
     let held : is_active c.index_mut-channel.result.now ≡ true =
     ap is_active (input_read _ c.args.self.now c.args.port c.args.vc c.line-i.result c.index_mut-channel.result.now c.self.view_is c.index_mut-channel.ensures.value c.line-i.ensures.value c.line-i.ensures.in_inputs)
     ∙ leaves_active c.args.self.now c.args.port (input_at c.args.self.now c.args.port c.args.vc) (input_at c.args.self.now c.args.port c.args.vc).state (input_at c.args.self.now c.args.port c.args.vc).buffer (c.args.out, c.args.flit) c.requires.ready in
@@ -65,5 +70,6 @@ invariant_of-self c =
           vain_left _ _ _ _ _ _ _ _ _ _ _ input output waits_not
           (ap (λ (u : OutRecord). u.holder) c.pass.ensures ∙ ap (λ b. if b then None else c.index_mut-output.result.now.holder) still)
           (c.self.invariant.in_vain parts.0);
+      holders = holders_left _ _ _ _ _ _ _ _ _ _ _ (closes c.args.flit.kind) input output held_it (ap (λ (x : ChannelState). x.state) c.let_out.ensures) (ap (λ (u : OutRecord). u.holder) c.pass.ensures) c.self.invariant.holders;
       candidates = candidates_left _ _ _ _ _ _ _ _ _ _ _ c.credit_of-spent.result _ _ input output c.self.invariant.busy.few_ports c.self.invariant.busy.few_channels c.file_left.ensures.candidates (ap (λ (u : OutRecord). u.credits) c.pass.ensures) c.self.invariant.candidates;
     }

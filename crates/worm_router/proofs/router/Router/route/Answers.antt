@@ -2,10 +2,12 @@ use Rattle.std.proofs.Common.{subst, sym, ap, ◌∙◌, inl, inr, true, false, 
 use Rattle.worm_vcalloc.specs.ChannelSet.{IsPut}
 use Rattle.worm_router.specs.Busy.{AreCandidates, is_occupied, is_waiting, is_active, owes, holds}
 use Rattle.worm_router.specs.declared.busy.BusyChannels.{BusyChannels}
+use Rattle.worm_router.specs.Router.{ChannelState}
 use Rattle.worm_router.proofs.Places.{input_of}
 use Rattle.worm_router.proofs.Kept.{input_set_sound, read_sound, waiting_sound}
 use Rattle.worm_router.proofs.Filed.{busy_filed}
 use Rattle.worm_records.specs.declared.InRecord.TheVariants.{Idle}
+use Rattle.worm_router.proofs.Holders.{holders_in}
 use Rattle.worm_router.proofs.Candidates.{candidates_waiting}
 use Rattle.worm_router.proofs.router.Router.route.Goals as goal
 use Rattle.worm_router.proofs.router.Router.route.Goals.{in-Idle, in_default}
@@ -29,5 +31,6 @@ invariant_of-self c =
           (inr (ap (λ (b : BusyChannels). b.active) c.file_waiting.ensures.others, ap is_active c.set_state.ensures ∙ sym was_idle))
           (inr (ap (λ (b : BusyChannels). b.owing) c.file_waiting.ensures.others, ap owes c.set_state.ensures));
       in_vain = λ yes. let no : true ≡ false = sym yes ∙ ap (λ (b : BusyChannels). b.in_vain) c.file_waiting.ensures.others in absurd (cc);
+      holders = holders_in _ _ _ _ _ _ input (λ o k holds. let unlike = sym (ap (λ (x : ChannelState). x.state) c.set_state.ensures) ∙ holds in absurd (cc)) c.self.invariant.holders;
       candidates = subst (AreCandidates _) (sym (ap (λ (b : BusyChannels). b.candidates) c.file_waiting.ensures.others)) (candidates_waiting _ _ _ _ _ _ _ input c.self.invariant.busy.few_ports c.self.invariant.busy.few_channels (ap is_active c.set_state.ensures) c.self.invariant.candidates);
     }
