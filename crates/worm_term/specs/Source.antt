@@ -111,3 +111,8 @@ pub record IsSource (s : SourceState) : Type 0 where
   pub all_lanes : length s.lanes ≡ s.nodes * classes s
   pub in_order : InOrder s.node s.nodes (classes s) s.queues s.lanes
   pub owned : (class : ℕ) → class < classes s → All (IsFrom s.node s.nodes class) (queue_at s class).injected
+
+-- the numbers kept are the first channels of the classes, of which there are at most four
+pub record AreFirsts (channels firsts : List ℕ) : Type 0 where
+  pub few : length channels ≤ 4
+  pub each : (class : ℕ) → class < length channels → slice_index firsts class ≡ first_channel channels class

@@ -1,9 +1,9 @@
-ghost use Rattle.std.specs.Prelude.{ℕ, ◌≡◌, ◌+◌, ◌≤◌, ◌<◌, length, IfOk, IfErr, OnOk, OnErr, IsSome, None, Some, unwrap_or, true, false, replicate, All};
-ghost use Rattle.worm_flit.specs.Channels.{AreChannels};
+ghost use Rattle.std.specs.Prelude.{ℕ, ◌≡◌, ◌+◌, ◌≤◌, ◌<◌, length, IfOk, IfErr, OnOk, OnErr, IsSome, None, Some, unwrap_or, true, false, replicate, All, option_map};
+ghost use Rattle.worm_flit.specs.Channels.{AreChannels, first_channel};
 ghost use Rattle.worm_term.specs.Queue.{empty_queue, waiting};
 ghost use Rattle.worm_flit.specs.Stamps.{of_lane};
 ghost use Rattle.worm_term.specs.Lanes.{IsPackets, lane_of};
-ghost use Rattle.worm_term.specs.Source.{SourceState, fresh_lane, fresh_source, lane_at, lane_line, queue_at, refusal, next_number, after_offer, after_close, front_of, after_fed, classes, IsOpen, IsFrom};
+ghost use Rattle.worm_term.specs.Source.{SourceState, fresh_lane, fresh_source, lane_at, lane_line, queue_at, refusal, next_number, after_offer, after_close, front_of, after_fed, classes, IsOpen, IsFrom, AreFirsts};
 
 use crate::fault::{NoMemory, OfferFault};
 use crate::queue::Queue;
@@ -29,6 +29,8 @@ pub struct Source {
     nodes: u16,
     /// The channels that classes own.
     classes: ClassChannels,
+    /// The first channel of each class.
+    firsts: [u8; 4],
     /// The flits of each class.
     queues: Vec<Queue>,
     /// The lanes by destination, then class.
@@ -36,13 +38,24 @@ pub struct Source {
 }
 
 impl Model for Source {
-    ghost use Rattle.worm_term.specs.Source.{SourceState, IsSource, source_state};
+    ghost use Rattle.worm_term.specs.Source.{SourceState, IsSource, AreFirsts, source_state};
 
     ghost Value = { SourceState };
 
     ghost view = { λ s. source_state s.node s.nodes s.classes s.queues.items s.lanes.items };
 
-    ghost invariant = { λ s. IsSource (source_state s.node s.nodes s.classes s.queues.items s.lanes.items) };
+    ghost invariant = { λ s. IsSource (source_state s.node s.nodes s.classes s.queues.items s.lanes.items) × AreFirsts s.classes s.firsts };
+}
+
+/// The first channel of each class; past the last class 0.
+fn first_channels(classes: &ClassChannels) -> [u8; 4]
+    ensures { AreFirsts classes.now result }
+{
+    let mut firsts = [0u8; 4];
+    for class in 0..classes.classes() {
+        firsts[usize::from(class)] = classes.first(class);
+    }
+    firsts
 }
 
 fn make_queues(alloc: Global, count: u8) -> Result<Vec<Queue>, AllocError>
@@ -78,6 +91,7 @@ impl Source {
         ensures { IfOk result (λ s. s ≡ fresh_source node nodes channels.now) }
     {
         let classes = ClassChannels::new(channels);
+        let firsts = first_channels(&classes);
         let count = classes.classes();
         let queues = make_queues(alloc, count)?;
         let lanes = make_lanes(alloc, usize::from(nodes) * usize::from(count))?;
@@ -85,6 +99,7 @@ impl Source {
             node,
             nodes,
             classes,
+            firsts,
             queues,
             lanes,
         })
@@ -174,12 +189,32 @@ impl Source {
         Ok(number)
     }
 
+    /// The first channel of the class.
+    fn first_channel(&self, class: u8) -> u8
+        requires { class < classes self.now }
+        ensures { result ≡ first_channel self.now.channels class }
+    {
+        self.firsts[usize::from(class)]
+    }
+
+    /// The channel on which the class's next flit would be fed, 0 to 7; `None` where all were fed.
+    pub fn next_channel(&self, class: u8) -> Option<u8>
+        requires { class < classes self.now }
+        ensures { result ≡ option_map (λ f. f.vc) (front_of self.now class) }
+    {
+        let queue = &self.queues[usize::from(class)];
+        if queue.fed() == queue.injected().len() {
+            return None;
+        }
+        Some(self.first_channel(class))
+    }
+
     /// The class's first flit that is not fed, on the class's first channel: the one to go into the injection buffer.
     pub fn front(&self, class: u8) -> Option<Flit>
         requires { class < classes self.now }
         ensures { result ≡ front_of self.now class }
     {
-        let vc = self.classes.first(class);
+        let vc = self.first_channel(class);
         let queue = &self.queues[usize::from(class)];
         queue.front().map(|flit| Flit { vc, ..flit })
     }

@@ -6,7 +6,7 @@ use Rattle.worm_term.proofs.source.Source.offer.Goals as goal
 
 pub invariant_of-self-2 : goal.invariant_of-self-2
 invariant_of-self-2 c =
-    let sound : IsSource c.args.self.now = subst IsSource c.self.view_is c.self.invariant in
+    let sound : IsSource c.args.self.now = subst IsSource c.self.view_is c.self.invariant.0 in
     let is_open : IsOpen c.args.self.now c.args.packet.now.lane = subst (IsOpen c.args.self.now) c.lane-lane.ensures c.in_ok-i.ensures.open in
     let after : after_offer c.args.self.now c.args.packet.now ≡ source_state c.self.inside.node c.self.inside.nodes c.self.inside.classes (slice_set c.self.inside.queues.items c.from.result c.append_packet.new.self) (slice_set c.self.inside.lanes.items c.in_ok-i.i (record { next = c.index.result.now.next + 1; closed = false })) = grind (arith, common_steps) in
-    subst IsSource after (offer_sound c.args.self.now c.args.packet.now sound is_open c.append_packet.ensures.some c.append_packet.ensures.few)
+    (subst IsSource after (offer_sound c.args.self.now c.args.packet.now sound is_open c.append_packet.ensures.some c.append_packet.ensures.few), c.self.invariant.1)
