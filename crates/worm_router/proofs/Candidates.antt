@@ -14,7 +14,7 @@ use Rattle.worm_records.specs.declared.OutRecord.{OutRecord}
 use Rattle.worm_vcalloc.specs.ChannelSet.{has, IsPut}
 use Rattle.worm_vcalloc.proofs.SetLemmas.{has-empty, has-zero}
 use Rattle.worm_router.specs.Router.{RouterState, ChannelState, terminal, width, line, fresh_channel, free_output, input_at, output_at, leaving, leaving_by, put_in}
-use Rattle.worm_router.specs.Busy.{IsSetOf, AreCandidates, AreHolders, IsHolder, is_active, is_occupied, holds}
+use Rattle.worm_router.specs.Busy.{IsSetOf, IsFiled, AreCandidates, AreHolders, IsHolder, is_active, is_occupied, holds}
 use Rattle.worm_router.specs.Rest.{SendsNothing}
 use Rattle.worm_router.proofs.NothingReady.{get_or-replicate_same}
 use Rattle.worm_router.proofs.Places.{IsInput, IsOutput}
@@ -197,7 +197,7 @@ candidates_waiting r port vc i had now set input few_ports few_channels idle are
 -- it gave a credit
 pub candidates_given : (r : RouterState) (port vc i : ℕ) (had now : ChannelState) (old new : ℕ) (woken : Bool) → IsInput r port vc i had → terminal r ≤ 6 → width r ≤ 8
     → now ≡ record had { owed = had.owed - 1 } → had.owed ≤ r.depth → woken ≡ (is_active had && (had.owed == r.depth))
-    → IsPut old new port vc (woken || has old port vc) → AreCandidates r old → AreCandidates (record r { inputs = slice_set r.inputs i now }) new
+    → IsFiled old new port vc (woken || has old port vc) → AreCandidates r old → AreCandidates (record r { inputs = slice_set r.inputs i now }) new
 candidates_given r port vc i had now old new woken input few_ports few_channels is fits wakes put are =
     candidates_in r port vc i had now old new input few_ports few_channels put.elsewhere (λ some. put.here ∙ by_woken woken refl some) are where
       was : had ≡ input_at r port vc
@@ -219,7 +219,7 @@ candidates_held r port vc i out out_vc o had now had_out u old new input output 
 
 -- it let a flit out
 pub candidates_left : (r : RouterState) (port vc i out out_vc o : ℕ) (had now : ChannelState) (had_out u : OutRecord) (spent old new : ℕ) → IsInput r port vc i had → IsOutput r out out_vc o had_out
-    → terminal r ≤ 6 → width r ≤ 8 → IsPut old new port vc (is_active now && is_occupied now) → u.credits ≡ had_out.credits - spent
+    → terminal r ≤ 6 → width r ≤ 8 → IsFiled old new port vc (is_active now && is_occupied now) → u.credits ≡ had_out.credits - spent
     → AreCandidates r old → AreCandidates (record r { inputs = slice_set r.inputs i now; outputs = slice_set r.outputs o u }) new
 candidates_left r port vc i out out_vc o had now had_out u spent old new input output few_ports few_channels put less are =
     candidates_both r port vc i out out_vc o had now had_out u old new input output few_ports few_channels put.elsewhere

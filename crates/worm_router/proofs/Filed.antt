@@ -9,11 +9,14 @@ use Rattle.worm_vcalloc.proofs.SetLemmas.{has-zero}
 use Rattle.worm_router.specs.declared.busy.BusyChannels.{BusyChannels}
 use Rattle.worm_router.specs.Router.{ChannelState, RouterState, terminal, width, fresh_channel}
 use Rattle.worm_router.proofs.Places.{IsInput, same_at}
-use Rattle.worm_router.specs.Busy.{IsSetIn, AreBusy, is_occupied, is_waiting, is_active, owes}
+use Rattle.worm_router.specs.Busy.{IsSetIn, IsFiled, AreBusy, is_occupied, is_waiting, is_active, owes}
+
+pub filed : (old new port vc : ℕ) (within : Bool) → IsPut old new port vc within → IsFiled old new port vc within
+filed old new port vc within put = record { here = put.here; elsewhere = put.elsewhere }
 
 -- one set
 pub set_filed : (test : ChannelState → Bool) (t w depth : ℕ) (inputs : List ChannelState) (old new port vc i : ℕ) (c : ChannelState)
-    → IsSetIn test t w depth inputs old → IsPut old new port vc (test c) → t ≤ 6 → w ≤ 8
+    → IsSetIn test t w depth inputs old → IsFiled old new port vc (test c) → t ≤ 6 → w ≤ 8
     → port ≤ t → vc < w → i ≡ port * w + vc → i < length inputs
     → IsSetIn test t w depth (slice_set inputs i c) new
 set_filed test t w depth inputs old new port vc i c sound put few_ports few_channels port_in vc_in place within = record {
@@ -50,7 +53,7 @@ set_kept test t w depth inputs set i had now sound within was same = record {
 
 -- a set is filed anew at the channel, or the channel passes its test as before
 abbrev pub IsFiledBy : (ChannelState → Bool) → ℕ → ℕ → ℕ → ℕ → ChannelState → ChannelState → Type 0
-IsFiledBy test old new port vc had now = IsPut old new port vc (test now) ⊎ ((new ≡ old) × (test now ≡ test had))
+IsFiledBy test old new port vc had now = IsFiled old new port vc (test now) ⊎ ((new ≡ old) × (test now ≡ test had))
 
 set_by : (test : ChannelState → Bool) (r : RouterState) (old new port vc i : ℕ) (had now : ChannelState) → IsInput r port vc i had
     → terminal r ≤ 6 → width r ≤ 8 → IsSetIn test (terminal r) (width r) r.depth r.inputs old → IsFiledBy test old new port vc had now

@@ -52,6 +52,11 @@ pub record AreBusy (terminal width depth : ℕ) (inputs : List ChannelState) (se
   pub active : IsSetIn is_active terminal width depth inputs sets.active
   pub owing : IsSetIn owes terminal width depth inputs sets.owing
 
+-- a set has changed at one channel alone, if at all, which is now in it or not
+pub record IsFiled (old new port vc : ℕ) (within : Bool) : Type 0 where
+  pub here : has new port vc ≡ within
+  pub elsewhere : (p c : ℕ) → p < 7 → c < 8 → ((p ≡ port) → (c ≡ vc) → ⊥) → has new p c ≡ has old p c
+
 -- a holder of an output channel is an input channel of the router
 abbrev pub IsHolder : ℕ → ℕ → Option (ℕ × ℕ) → Type 0
 IsHolder terminal width None = Unit {0}

@@ -1,6 +1,6 @@
 ghost use Rattle.std.specs.Prelude.{◌≡◌, ◌<◌, ◌&&◌, ◌||◌, true, false, not, IfSome, MatchOption};
 ghost use Rattle.worm_vcalloc.specs.ChannelSet.{has, IsPut};
-ghost use Rattle.worm_router.specs.Busy.{is_occupied, is_waiting, is_active, owes};
+ghost use Rattle.worm_router.specs.Busy.{IsFiled, is_occupied, is_waiting, is_active, owes};
 
 use crate::channel::InputChannel;
 use worm_vcalloc::ChannelSet;
@@ -20,6 +20,29 @@ pub struct BusyChannels {
     pub in_vain: bool,
     /// Those that may be ready to send: all that are, and others at which no pass has looked since something came.
     pub candidates: ChannelSet,
+}
+
+/// Takes a channel out of a set that it is in, unless it stays.
+fn leave_unless(set: &mut ChannelSet, port: u8, vc: u8, stays: bool)
+    requires port { port < 7 }
+    requires vc { vc < 8 }
+    requires within { has set.old port vc ≡ true }
+    ensures { IsFiled set.old set.new port vc stays }
+{
+    if !stays {
+        set.put(port, vc, false);
+    }
+}
+
+/// Puts a channel into a set where it comes, and leaves the set where it does not.
+fn join_if(set: &mut ChannelSet, port: u8, vc: u8, comes: bool)
+    requires port { port < 7 }
+    requires vc { vc < 8 }
+    ensures { IsFiled set.old set.new port vc (comes || has set.old port vc) }
+{
+    if comes {
+        set.put(port, vc, true);
+    }
 }
 
 impl BusyChannels {
@@ -77,36 +100,42 @@ impl BusyChannels {
         self.in_vain = false;
     }
 
-    /// Files a channel that let a flit out. A channel that still holds its output channel freed none.
+    /// Files a channel that let a flit out: it had one, held an output channel and was a candidate. A channel that still holds
+    /// its output channel freed none.
     pub fn file_left(&mut self, port: u8, vc: u8, channel: &InputChannel)
         requires port { port < 7 }
         requires vc { vc < 8 }
-        ensures occupied { IsPut self.old.occupied self.new.occupied port vc (is_occupied channel.now) }
-        ensures active { IsPut self.old.active self.new.active port vc (is_active channel.now) }
-        ensures owing { IsPut self.old.owing self.new.owing port vc (owes channel.now) }
+        requires had_flit { has self.old.occupied port vc ≡ true }
+        requires held { has self.old.active port vc ≡ true }
+        requires was_candidate { has self.old.candidates port vc ≡ true }
+        requires owes_no_less { has self.old.owing port vc ≡ true → owes channel.now ≡ true }
+        ensures occupied { IsFiled self.old.occupied self.new.occupied port vc (is_occupied channel.now) }
+        ensures active { IsFiled self.old.active self.new.active port vc (is_active channel.now) }
+        ensures owing { IsFiled self.old.owing self.new.owing port vc (owes channel.now) }
         ensures in_vain { self.new.in_vain ≡ (self.old.in_vain && is_active channel.now) }
-        ensures candidates { IsPut self.old.candidates self.new.candidates port vc (is_active channel.now && is_occupied channel.now) }
+        ensures candidates { IsFiled self.old.candidates self.new.candidates port vc (is_active channel.now && is_occupied channel.now) }
         ensures others { self.new ≡ record self.old { occupied = self.new.occupied; active = self.new.active; owing = self.new.owing; in_vain = self.new.in_vain; candidates = self.new.candidates } }
     {
-        self.occupied.put(port, vc, channel.is_occupied());
-        self.active.put(port, vc, channel.is_active());
-        self.owing.put(port, vc, channel.owed() > 0);
+        let has_flit = channel.is_occupied();
+        let holds = channel.is_active();
+        leave_unless(&mut self.occupied, port, vc, has_flit);
+        leave_unless(&mut self.active, port, vc, holds);
+        leave_unless(&mut self.candidates, port, vc, holds && has_flit);
         self.in_vain = self.in_vain && channel.is_active();
-        self.candidates
-            .put(port, vc, channel.is_active() && channel.is_occupied());
+        join_if(&mut self.owing, port, vc, channel.owed() > 0);
     }
 
-    /// Files a channel whose credit has gone out; `woken` where it could not send while it owed that.
+    /// Files a channel whose credit, one that it owed, has gone out; `woken` where it could not send while it owed that.
     pub fn file_given(&mut self, port: u8, vc: u8, channel: &InputChannel, woken: bool)
         requires port { port < 7 }
         requires vc { vc < 8 }
-        ensures owing { IsPut self.old.owing self.new.owing port vc (owes channel.now) }
-        ensures candidates { IsPut self.old.candidates self.new.candidates port vc (woken || has self.old.candidates port vc) }
+        requires owed { has self.old.owing port vc ≡ true }
+        ensures owing { IsFiled self.old.owing self.new.owing port vc (owes channel.now) }
+        ensures candidates { IsFiled self.old.candidates self.new.candidates port vc (woken || has self.old.candidates port vc) }
         ensures others { self.new ≡ record self.old { owing = self.new.owing; candidates = self.new.candidates } }
     {
-        self.owing.put(port, vc, channel.owed() > 0);
-        let may_send = woken || self.candidates.contains(port, vc);
-        self.candidates.put(port, vc, may_send);
+        leave_unless(&mut self.owing, port, vc, channel.owed() > 0);
+        join_if(&mut self.candidates, port, vc, woken);
     }
 
     /// Files that a credit has come for which this channel may have waited.

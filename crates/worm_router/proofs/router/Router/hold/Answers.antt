@@ -7,7 +7,7 @@ use Rattle.worm_router.specs.Busy.{is_occupied, is_waiting, is_active, owes}
 use Rattle.worm_router.specs.declared.busy.BusyChannels.{BusyChannels}
 use Rattle.worm_router.proofs.Places.{input_of, output_of, output_read}
 use Rattle.worm_router.proofs.Kept.{full_after, full_before}
-use Rattle.worm_router.proofs.Filed.{busy_filed}
+use Rattle.worm_router.proofs.Filed.{busy_filed, filed}
 use Rattle.worm_router.proofs.Holders.{holders_held}
 use Rattle.worm_router.proofs.Candidates.{candidates_held}
 use Rattle.worm_router.proofs.router.Router.hold.Goals as goal
@@ -35,8 +35,8 @@ invariant_of-self c =
       arbiters = c.self.invariant.arbiters;
       busy = busy_filed _ _ _ _ _ _ _ _ input c.self.invariant.busy
           (inr (ap (λ (b : BusyChannels). b.occupied) c.file_active.ensures.others, ap is_occupied c.set_state.ensures))
-          (inl (subst (IsPut _ _ _ _) (sym (ap is_waiting c.set_state.ensures)) c.file_active.ensures.waiting))
-          (inl (subst (IsPut _ _ _ _) (sym (ap is_active c.set_state.ensures)) c.file_active.ensures.active))
+          (inl (filed _ _ _ _ _ (subst (IsPut _ _ _ _) (sym (ap is_waiting c.set_state.ensures)) c.file_active.ensures.waiting)))
+          (inl (filed _ _ _ _ _ (subst (IsPut _ _ _ _) (sym (ap is_active c.set_state.ensures)) c.file_active.ensures.active)))
           (inr (ap (λ (b : BusyChannels). b.owing) c.file_active.ensures.others, ap owes c.set_state.ensures));
       in_vain = λ yes. let no : true ≡ false = sym yes ∙ ap (λ (b : BusyChannels). b.in_vain) c.file_active.ensures.others in absurd (cc);
       holders = holders_held _ _ _ _ _ _ _ _ _ _ _ input output (ap (λ (x : ChannelState). x.state) c.set_state.ensures) (ap (λ (v : OutRecord). v.holder) read ∙ c.requires.free) (ap (λ (v : OutRecord). v.holder) c.grant.ensures) c.self.invariant.holders;

@@ -5,7 +5,7 @@ use Rattle.worm_router.specs.declared.busy.BusyChannels.{BusyChannels}
 use Rattle.worm_router.specs.Router.{ChannelState}
 use Rattle.worm_router.proofs.Places.{input_of}
 use Rattle.worm_router.proofs.Kept.{input_set_sound, read_sound, waiting_sound}
-use Rattle.worm_router.proofs.Filed.{busy_filed}
+use Rattle.worm_router.proofs.Filed.{busy_filed, filed}
 use Rattle.worm_records.specs.declared.InRecord.TheVariants.{Idle}
 use Rattle.worm_router.proofs.Holders.{holders_in}
 use Rattle.worm_router.proofs.Candidates.{candidates_waiting}
@@ -27,7 +27,7 @@ invariant_of-self c =
       arbiters = c.self.invariant.arbiters;
       busy = busy_filed _ _ _ _ _ _ _ _ input c.self.invariant.busy
           (inr (ap (λ (b : BusyChannels). b.occupied) c.file_waiting.ensures.others, ap is_occupied c.set_state.ensures))
-          (inl (subst (IsPut _ _ _ _) (sym (ap is_waiting c.set_state.ensures)) c.file_waiting.ensures.waiting))
+          (inl (filed _ _ _ _ _ (subst (IsPut _ _ _ _) (sym (ap is_waiting c.set_state.ensures)) c.file_waiting.ensures.waiting)))
           (inr (ap (λ (b : BusyChannels). b.active) c.file_waiting.ensures.others, ap is_active c.set_state.ensures ∙ sym was_idle))
           (inr (ap (λ (b : BusyChannels). b.owing) c.file_waiting.ensures.others, ap owes c.set_state.ensures));
       in_vain = λ yes. let no : true ≡ false = sym yes ∙ ap (λ (b : BusyChannels). b.in_vain) c.file_waiting.ensures.others in absurd (cc);
