@@ -7,7 +7,7 @@ use Rattle.worm_mesh.specs.Links.{IsLink, links_before, link_count}
 use Rattle.worm_mesh.proofs.Digits.{AreLarge-from_radices}
 use Rattle.worm_mesh.proofs.Neighbours.{Joins-from, Joins-back, neighbour_of-some, neighbour_of-none, no_port}
 use Rattle.worm_mesh.proofs.Numbers.{below_count}
-use Rattle.worm_core.specs.Wiring.{AreLinksOf, AreWired, no_links, out_link, in_link}
+use Rattle.worm_core.specs.Wiring.{AreLinksOf, AreWired, no_links, other_end, out_link, in_link}
 use Rattle.worm_core.specs.declared.wiring.NodeLinks.{NodeLinks}
 
 out_by : (mesh : List ℕ) (x p : ℕ) → IsRadices mesh → (n r : Option ℕ) → neighbour_of mesh x p ≡ n → SomeIff r (IsLink mesh x p) (links_before mesh x p) → r ≡ option_map (λ y. links_before mesh x p) n
@@ -65,9 +65,9 @@ pub wired_more : (mesh : List ℕ) (nodes : List NodeLinks) (i : ℕ) (v : NodeL
 wired_more mesh nodes i v there here before =
     below_more _ _ (λ x below. let away : x ≢ i = omega arith in rw get_or-set_other (before x below)) (rw get_or-set_same here)
 
-pub beyond_kept : (mesh now : List ℕ) (nodes : List NodeLinks) (x p i q : ℕ) → AreWired mesh nodes → mesh ≡ now → x < 256 → p < 6 → i ≡ x → q ≡ p → get_or (get_or nodes i no_links).beyond q None ≡ neighbour_of now x p
+pub beyond_kept : (mesh now : List ℕ) (nodes : List NodeLinks) (x p i q : ℕ) → AreWired mesh nodes → mesh ≡ now → x < 256 → p < 6 → i ≡ x → q ≡ p → get_or (get_or nodes i no_links).beyond q None ≡ other_end now x p
 beyond_kept mesh now nodes x p i q wired same x_in p_in at_x at_p =
-    (λ t. get_or (get_or nodes (at_x t) no_links).beyond (at_p t) None) ∙ ((wired x x_in).beyond p p_in ∙ ap (λ (m : List ℕ). neighbour_of m x p) same)
+    (λ t. get_or (get_or nodes (at_x t) no_links).beyond (at_p t) None) ∙ ((wired x x_in).beyond p p_in ∙ ap (λ (m : List ℕ). other_end m x p) same)
 
 -- what is kept, at a place that is named by other numbers
 pub out_kept : (mesh now : List ℕ) (nodes : List NodeLinks) (x p i q : ℕ) → AreWired mesh nodes → mesh ≡ now → x < 256 → p < 6 → i ≡ x → q ≡ p → get_or (get_or nodes i no_links).out q None ≡ out_link now x p
@@ -77,3 +77,14 @@ out_kept mesh now nodes x p i q wired same x_in p_in at_x at_p =
 pub in_kept : (mesh now : List ℕ) (nodes : List NodeLinks) (x p i q : ℕ) → AreWired mesh nodes → mesh ≡ now → x < 256 → p < 6 → i ≡ x → q ≡ p → get_or (get_or nodes i no_links).into q None ≡ in_link now x p
 in_kept mesh now nodes x p i q wired same x_in p_in at_x at_p =
     (λ t. get_or (get_or nodes (at_x t) no_links).into (at_p t) None) ∙ ((wired x x_in).into p p_in ∙ ap (λ (m : List ℕ). in_link m x p) same)
+
+-- each other end is a mesh port of a node
+end_bound_by : (mesh : List ℕ) (x p : ℕ) → IsRadices mesh → (n : Option ℕ) → neighbour_of mesh x p ≡ n → IfSome {T = ℕ × ℕ} (option_map (λ y. (y, opposite_of p)) n) (λ e. (e.0 < 256) × (e.1 < 6))
+end_bound_by mesh x p radices None e = tt
+end_bound_by mesh x p radices (Some y) e =
+    let large = AreLarge-from_radices mesh radices.radices in
+    let joins = Joins-from mesh x p y large e in
+    (omega (arith, joins.to_node, radices.few_nodes), omega (arith, joins.mesh_port, radices.few_dims))
+
+pub end_bound : (mesh : List ℕ) (x p : ℕ) → IsRadices mesh → IfSome (other_end mesh x p) (λ e. (e.0 < 256) × (e.1 < 6))
+end_bound mesh x p radices = end_bound_by mesh x p radices (neighbour_of mesh x p) refl

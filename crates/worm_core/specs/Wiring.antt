@@ -11,9 +11,13 @@ out_link mesh x o = option_map (λ y. links_before mesh x o) (neighbour_of mesh 
 abbrev pub in_link : List ℕ → ℕ → ℕ → Option ℕ
 in_link mesh x p = option_map (λ y. links_before mesh y (opposite_of p)) (neighbour_of mesh x p)
 
+-- the node beyond a port, and the port by which it is entered
+abbrev pub other_end : List ℕ → ℕ → ℕ → Option (ℕ × ℕ)
+other_end mesh x p = option_map (λ y. (y, opposite_of p)) (neighbour_of mesh x p)
+
 -- what is kept of a node
 pub record AreLinksOf (mesh : List ℕ) (x : ℕ) (links : NodeLinks) : Type 0 where
-  pub beyond : (p : ℕ) → p < 6 → slice_index_or links.beyond p None ≡ neighbour_of mesh x p
+  pub beyond : (p : ℕ) → p < 6 → slice_index_or links.beyond p None ≡ other_end mesh x p
   pub out : (p : ℕ) → p < 6 → slice_index_or links.out p None ≡ out_link mesh x p
   pub into : (p : ℕ) → p < 6 → slice_index_or links.into p None ≡ in_link mesh x p
 

@@ -154,13 +154,14 @@ impl Fabric {
         ensures enabled { result ≡ can_enter (router_at self.old node) port (front_into self.old node port) }
         ensures after { self.new ≡ (if result then after_take self.old node port (link_into self.old node port) (front_into self.old node port) else self.old) }
     {
-        let Some(flit) = self.links.front(node, port) else {
+        let number = self.links.number_into(node, port);
+        let Some(flit) = self.links.link(number).front() else {
             return false;
         };
         if !self.accept(node, port, flit) {
             return false;
         }
-        self.links.pop(node, port);
+        self.links.pop(node, port, number);
         true
     }
 
@@ -329,13 +330,14 @@ impl Fabric {
         ensures enabled { result ≡ can_get (router_at self.old node) port (front_credit self.old node port) }
         ensures after { self.new ≡ (if result then after_getting self.old node port (front_credit self.old node port) else self.old) }
     {
-        let Some(vc) = self.links.front_credit(node, port) else {
+        let number = self.links.number_out(node, port);
+        let Some(vc) = self.links.link(number).front_credit() else {
             return false;
         };
         if !self.credit(node, port, vc) {
             return false;
         }
-        self.links.pop_credit(node, port);
+        self.links.pop_credit(node, port, number);
         true
     }
 

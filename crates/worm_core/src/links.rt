@@ -202,23 +202,15 @@ impl Links {
         number
     }
 
-    /// The front flit of the link into this port.
-    pub fn front(&self, node: u8, port: u8) -> Option<Flit>
-        requires links { length self.now.states ≡ link_count self.now.mesh }
-        requires linked { IsSome (neighbour_of self.now.mesh node port) }
-        ensures { result ≡ slice_get (state_at self.now (number_into self.now node port)).flits 0 }
-    {
-        let link = &self.states[usize::from(self.number_into(node, port))];
-        link.front()
-    }
-
-    /// Drops the front flit of the link into this port.
-    pub fn pop(&mut self, node: u8, port: u8)
+    /// Drops the front flit of the link into this port, which is that of this number.
+    pub fn pop(&mut self, node: u8, port: u8, number: u16)
+        requires number { number ≡ number_into self.old node port }
+        requires there { number < link_count self.old.mesh }
+        requires mesh_port { port < 6 }
         requires links { length self.old.states ≡ link_count self.old.mesh }
         requires linked { IsSome (neighbour_of self.old.mesh node port) }
         ensures { self.new ≡ with_state self.old (number_into self.old node port) (record (state_at self.old (number_into self.old node port)) { flits = drop 1 (state_at self.old (number_into self.old node port)).flits }) }
     {
-        let number = self.number_into(node, port);
         let link = &mut self.states[usize::from(number)];
         link.pop();
         let more = link.front().is_some();
@@ -244,23 +236,15 @@ impl Links {
         }
     }
 
-    /// The front credit of the link out of this port.
-    pub fn front_credit(&self, node: u8, port: u8) -> Option<u8>
-        requires links { length self.now.states ≡ link_count self.now.mesh }
-        requires linked { IsSome (neighbour_of self.now.mesh node port) }
-        ensures { result ≡ slice_get (state_at self.now (number_out self.now node port)).credits 0 }
-    {
-        let link = &self.states[usize::from(self.number_out(node, port))];
-        link.front_credit()
-    }
-
-    /// Drops the front credit of the link out of this port.
-    pub fn pop_credit(&mut self, node: u8, port: u8)
+    /// Drops the front credit of the link out of this port, which is that of this number.
+    pub fn pop_credit(&mut self, node: u8, port: u8, number: u16)
+        requires number { number ≡ number_out self.old node port }
+        requires there { number < link_count self.old.mesh }
+        requires mesh_port { port < 6 }
         requires links { length self.old.states ≡ link_count self.old.mesh }
         requires linked { IsSome (neighbour_of self.old.mesh node port) }
         ensures { self.new ≡ with_state self.old (number_out self.old node port) (record (state_at self.old (number_out self.old node port)) { credits = drop 1 (state_at self.old (number_out self.old node port)).credits }) }
     {
-        let number = self.number_out(node, port);
         let link = &mut self.states[usize::from(number)];
         link.pop_credit();
         let more = link.front_credit().is_some();

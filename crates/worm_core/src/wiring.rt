@@ -1,9 +1,9 @@
 //! A mesh with the numbers of its links kept by node and port, so that no step searches for a link.
 
-ghost use Rattle.std.specs.Prelude.{◌≡◌, ◌<◌, ◌≤◌, ◌*◌, ℕ, IfSome, IsSome, option_map, length};
-ghost use Rattle.worm_mesh.specs.Address.{IsMesh as IsRadices, node_count, neighbour_of, opposite_of};
+ghost use Rattle.std.specs.Prelude.{◌≡◌, ◌<◌, ◌≤◌, ◌*◌, ℕ, IfSome, IsSome, length};
+ghost use Rattle.worm_mesh.specs.Address.{IsMesh as IsRadices, node_count};
 ghost use Rattle.worm_mesh.specs.Links.{link_count};
-ghost use Rattle.worm_core.specs.Wiring.{AreLinksOf, in_link, out_link};
+ghost use Rattle.worm_core.specs.Wiring.{AreLinksOf, in_link, other_end, out_link};
 
 use std::marker::Model;
 use worm_mesh::Mesh;
@@ -11,8 +11,8 @@ use worm_mesh::Mesh;
 /// The neighbours and the links of a node by mesh port, each by its number, where the port has a neighbour.
 #[derive(Clone, Copy)]
 pub struct NodeLinks {
-    /// The node beyond each port.
-    pub beyond: [Option<u8>; 6],
+    /// The node beyond each port, and the port by which it is entered.
+    pub beyond: [Option<(u8, u8)>; 6],
     /// The link out of each port.
     pub out: [Option<u16>; 6],
     /// The link into each port.
@@ -44,6 +44,15 @@ impl Model for Wiring {
     ghost invariant = { λ w. IsWired w.mesh w.count w.terminal w.nodes };
 }
 
+/// The other end of the links at this port: the node beyond, and its port.
+fn end_beyond(mesh: &Mesh, node: u8, port: u8) -> Option<(u8, u8)>
+    requires { IsRadices mesh.now }
+    ensures { result ≡ other_end mesh.now node port }
+{
+    let beyond = mesh.neighbour(node, port)?;
+    Some((beyond, mesh.opposite(port)))
+}
+
 /// The number of the link out of this port.
 fn number_out(mesh: &Mesh, node: u8, port: u8) -> Option<u16>
     requires { IsRadices mesh.now }
@@ -70,7 +79,7 @@ fn links_of(mesh: &Mesh, node: u8) -> NodeLinks
     let mut out = [None; 6];
     let mut into = [None; 6];
     for port in 0..6u8 {
-        beyond[usize::from(port)] = mesh.neighbour(node, port);
+        beyond[usize::from(port)] = end_beyond(mesh, node, port);
         out[usize::from(port)] = number_out(mesh, node, port);
         into[usize::from(port)] = number_into(mesh, node, port);
     }
@@ -126,17 +135,16 @@ impl Wiring {
 
     /// The other end of the links at this port, if there are any: the node beyond, and its port.
     pub fn other_end(&self, node: u8, port: u8) -> Option<(u8, u8)>
-        ensures value { result ≡ option_map (λ y. (y, opposite_of port)) (neighbour_of self.now node port) }
+        ensures value { result ≡ other_end self.now node port }
         ensures mesh { IsRadices self.now }
-        ensures node { IfSome result (λ end. end.0 < 256) }
-        ensures mesh_port { IfSome result (λ end. end.1 < 6) }
+        ensures there { IfSome result (λ end. (end.0 < 256) × (end.1 < 6)) }
     {
         let _nodes = self.mesh.nodes();
-        if port >= 6 {
-            return None;
+        if port < 6 {
+            self.nodes[usize::from(node)].beyond[usize::from(port)]
+        } else {
+            None
         }
-        let beyond = self.nodes[usize::from(node)].beyond[usize::from(port)]?;
-        Some((beyond, self.mesh.opposite(port)))
     }
 
     /// The number of the link that leaves the node by this port, if there is one.

@@ -250,6 +250,7 @@ impl Router {
 
     /// Puts a flit that came in by the port at the end of its channel's buffer. It comes back exactly where the buffer is
     /// full; the router is then as it was.
+    #[inline(always)]
     pub fn accept(&mut self, port: u8, flit: Flit) -> Result<(), Flit>
         requires place { IsPlace self.old port flit.vc }
         requires node { flit.lane.dst < node_count self.old.mesh }
@@ -388,6 +389,7 @@ impl Router {
     }
 
     /// The same for a caller that holds what `ready` answered: the flit has left by the output port `out`.
+    #[inline(always)]
     pub fn let_out(&mut self, port: u8, vc: u8, out: u8, flit: Flit)
         requires place { IsPlace self.old port vc }
         requires ready { leaving self.old port vc ≡ Some (out, flit) }

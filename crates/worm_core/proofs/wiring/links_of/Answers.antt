@@ -1,6 +1,5 @@
 use Rattle.std.proofs.Common.{None, arith, length-set}
-use Rattle.worm_mesh.specs.Address.{neighbour_of}
-use Rattle.worm_core.specs.Wiring.{out_link, in_link}
+use Rattle.worm_core.specs.Wiring.{other_end, out_link, in_link}
 use Rattle.worm_core.proofs.Wired.{row_more}
 use Rattle.worm_core.proofs.wiring.links_of.Goals as goal
 
@@ -9,7 +8,7 @@ loop-port-preserved c =
     let port = c.loop-port.port in
     let inv = c.loop-port.invariant in
     let mesh = c.args.mesh.now in
-    let beyond = row_more (neighbour_of mesh c.args.node) None c.loop-port.beyond port c.neighbour.result (omega (arith, inv.all_beyond)) c.neighbour.ensures.value inv.beyond in
+    let beyond = row_more (other_end mesh c.args.node) None c.loop-port.beyond port c.end_beyond.result (omega (arith, inv.all_beyond)) c.end_beyond.ensures inv.beyond in
     let out = row_more (out_link mesh c.args.node) None c.loop-port.out port c.number_out.result (omega (arith, inv.all_out)) c.number_out.ensures inv.out in
     let into = row_more (in_link mesh c.args.node) None c.loop-port.into port c.number_into.result (omega (arith, inv.all_into)) c.number_into.ensures inv.into in
     record {

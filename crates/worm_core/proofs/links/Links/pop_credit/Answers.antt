@@ -6,6 +6,6 @@ use Rattle.worm_core.proofs.links.Links.pop_credit.Goals as goal
 pub invariant_of-self : goal.invariant_of-self
 invariant_of-self c =
     let all : length c.self.inside.arrivals ≡ 256 = search rules in
-    pops_credit c.self.inside.wiring c.self.inside.states.items c.args.self.now c.self.inside.arrivals c.args.node c.args.port c.number_out-number.result c.from.result c.from-2.result c.from-3.result c.put.new.self c.index-self-from.result c.index_mut-link.result.now c.pop_credit.new.self c.is_some-more.result
-    c.self.invariant all c.self.view_is (omega arith) c.from-2.ensures c.from-3.ensures c.from.ensures c.requires.linked c.number_out-number.ensures.value c.number_out-number.ensures.bound c.requires.links
+    pops_credit c.self.inside.wiring c.self.inside.states.items c.args.self.now c.self.inside.arrivals c.args.node c.args.port c.args.number c.from.result c.from-2.result c.from-3.result c.put.new.self c.index-self-from.result c.index_mut-link.result.now c.pop_credit.new.self c.is_some-more.result
+    c.self.invariant all c.self.view_is (omega arith) c.from-2.ensures c.from-3.ensures c.from.ensures c.requires.linked c.requires.number c.requires.there c.requires.links
     c.index_mut-link.ensures.value c.pop_credit.ensures c.put.ensures (c.is_some-more.ensures ∙ ap (λ (o : Option ℕ). is_some o) c.front_credit.ensures)
