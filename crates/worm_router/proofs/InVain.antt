@@ -40,7 +40,7 @@ none_waits r waiting is none = λ p v c p_in v_in c_in.
 -- ---- a pass in which nobody can be granted anything
 
 -- what holds of nothing, and of what stands at each place of the router, holds of each cell
-cell_has : {X : Type 0} (P : X → Type 0) (r : RouterState) (d : X) (f : ℕ → ℕ → X) (p v : ℕ) → P d → (IsPlace r p v → P (f p v)) → P (cell (table (within r d f)) p v d)
+pub cell_has : {X : Type 0} (P : X → Type 0) (r : RouterState) (d : X) (f : ℕ → ℕ → X) (p v : ℕ) → P d → (IsPlace r p v → P (f p v)) → P (cell (table (within r d f)) p v d)
 cell_has {X = X} P r d f p v none some = elim (cases_lt p 7) [
   | inl p_in ↦ elim (cases_lt v 8) [
     | inl v_in ↦ subst P (sym (cell-table (within r d f) p v d p_in v_in)) (by_test (nat_le p (terminal r)) (nat_lt v (width r)) refl refl)
@@ -54,7 +54,7 @@ cell_has {X = X} P r d f p v none some = elim (cases_lt p 7) [
   by_test false b e g = subst (λ k. P (if k then f p v else d)) (sym (ap (λ k. k && nat_lt v (width r)) e)) none
 
 -- what stands at a place
-cell_is : {X : Type 0} (r : RouterState) (d : X) (f : ℕ → ℕ → X) (p v : ℕ) → terminal r ≤ 6 → width r ≤ 8 → IsPlace r p v → cell (table (within r d f)) p v d ≡ f p v
+pub cell_is : {X : Type 0} (r : RouterState) (d : X) (f : ℕ → ℕ → X) (p v : ℕ) → terminal r ≤ 6 → width r ≤ 8 → IsPlace r p v → cell (table (within r d f)) p v d ≡ f p v
 cell_is r d f p v few_ports few_channels place =
     let port_in : nat_le p (terminal r) ≡ true = let e = place.port_in in grind arith in
     let channel_in : nat_lt v (width r) ≡ true = let e = place.channel_in in grind arith in

@@ -28,7 +28,7 @@ pub no_winner : (a : ArbiterState) (asks : ℕ → Bool) → ((n : ℕ) → asks
 unfolding winner
 no_winner a asks none = find_none asks (asked_in_order a) none
 
-offered_to_none : (waiting : List (List (Option VcRequest))) (pass : VcPass) (out channel : ℕ)
+pub offered_to_none : (waiting : List (List (Option VcRequest))) (pass : VcPass) (out channel : ℕ)
     → ((p v : ℕ) → may_use (cell waiting p v None) out channel ≡ false) → offered waiting pass out channel ≡ pass
 unfolding offered
 offered_to_none waiting pass out channel none =

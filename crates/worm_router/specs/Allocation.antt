@@ -1,5 +1,5 @@
 -- What the channels of a router ask of its allocators, and what a pass of each leaves (Dally and Towles, chapters 16 and 19).
-use Rattle.std.specs.Prelude.{ℕ, ◌≡◌, ◌<◌, ◌≤◌, ◌+◌, ◌&&◌, nat_le, nat_lt, Bool, false, is_none, if◌then◌else◌, List, [], ◌∷◌, Option, None, Some, fold, replicate}
+use Rattle.std.specs.Prelude.{ℕ, ◌≡◌, ◌<◌, ◌≤◌, ◌+◌, ◌&&◌, nat_le, nat_lt, Bool, true, false, is_none, if◌then◌else◌, List, [], ◌∷◌, Option, None, Some, fold, replicate}
 use Rattle.std.specs.Option.{option_map}
 use Rattle.std.specs.List.{range_with_len}
 use Rattle.worm_flit.specs.declared.Flit.{Flit}
@@ -7,6 +7,7 @@ use Rattle.worm_flit.specs.Channels.{class_bits}
 use Rattle.worm_records.specs.declared.InRecord.{InRecord}
 use Rattle.worm_records.specs.declared.InRecord.TheVariants.{Idle, Waiting, Active}
 use Rattle.worm_vcalloc.specs.declared.request.VcRequest.{VcRequest}
+use Rattle.worm_vcalloc.specs.VcRequest.{may_use}
 use Rattle.worm_vcalloc.specs.Table.{cell}
 use Rattle.worm_vcalloc.specs.VcAlloc.{VcPass, vc_pass}
 use Rattle.worm_swalloc.specs.declared.grant.SwGrant.{SwGrant}
@@ -38,6 +39,10 @@ is_free r out c = is_none (output_at r out c).holder
 
 abbrev pub free_channels : RouterState → List (List Bool)
 free_channels r = table (within r false (is_free r))
+
+-- two tables say the same of each output channel that some input channel may use
+abbrev pub AgreeWhereAsked : List (List (Option VcRequest)) → List (List Bool) → List (List Bool) → Type 0
+AgreeWhereAsked waiting f g = (out c port vc : ℕ) → may_use (cell waiting port vc None) out c ≡ true → cell f out c false ≡ cell g out c false
 
 -- one pass of the channel allocator, over the requests and the free channels that the records state
 abbrev pub channel_pass : RouterState → VcPass

@@ -1,12 +1,12 @@
 //! One pass of each allocator, over what the records state.
 
-ghost use Rattle.std.specs.Prelude.{◌≡◌, ◌+◌, ◌≤◌, ◌<◌, ℕ, None, Some, IfSome, IsTrue, false, replicate};
+ghost use Rattle.std.specs.Prelude.{◌≡◌, ◌+◌, ◌≤◌, ◌<◌, ℕ, None, Some, IfSome, MatchOption, IsTrue, false, replicate};
 ghost use Rattle.worm_vcalloc.specs.Table.{IsTable};
 ghost use Rattle.worm_vcalloc.specs.VcAlloc.{IsChannelMatching};
 ghost use Rattle.worm_swalloc.specs.SwAlloc.{IsSwitchMatching};
 ghost use Rattle.worm_router.specs.Router.{IsPlace, terminal, width, input_at, output_at, after_grant};
 ghost use Rattle.worm_router.specs.Tables.{PutsRow};
-ghost use Rattle.worm_router.specs.Allocation.{request_at, requests, is_free, free_channels, ready_at, ready_outs, GrantsNothing, GrantsWithin, written, channel_pass, after_allocate, with_port_grants, with_grants, switch_grants, after_choose};
+ghost use Rattle.worm_router.specs.Allocation.{request_at, requests, is_free, free_channels, ready_at, ready_outs, AgreeWhereAsked, GrantsNothing, GrantsWithin, written, channel_pass, after_allocate, with_port_grants, with_grants, switch_grants, after_choose};
 ghost use Rattle.worm_router.specs.Allocation.{IsSameSize};
 
 use crate::router::Router;
@@ -63,13 +63,27 @@ impl Router {
         }
     }
 
-    /// Which output channels are free.
-    fn free_channels(&self) -> FreeChannels
-        ensures { result ≡ free_channels self.now }
+    /// Marks the free channels of the output port that a request is for, if there is one.
+    fn add_asked(&self, request: Option<VcRequest>, free: &mut FreeChannels)
+        requires there { IfSome request (λ asked. asked.out ≤ terminal self.now) }
+        requires few { terminal self.now ≤ 6 }
+        requires shape { IsTable free.old }
+        ensures { MatchOption request (free.new ≡ free.old) (λ asked. PutsRow false (is_free self.now asked.out) (width self.now) asked.out free.old free.new) }
+    {
+        if let Some(asked) = request {
+            self.add_free(asked.out, free);
+        }
+    }
+
+    /// Which output channels are free, of the ports that are asked for; no channel of another port is marked.
+    fn free_asked(&self, asked: &VcRequests) -> FreeChannels
+        requires { asked.now ≡ requests self.now }
+        ensures { AgreeWhereAsked asked.now result (free_channels self.now) }
     {
         let mut free = [[false; 8]; 7];
-        for out in 0..self.terminal() + 1 {
-            self.add_free(out, &mut free);
+        let mut left = self.busy.waiting;
+        while let Some((port, vc)) = left.pop_first() {
+            self.add_asked(asked.get(port, vc), &mut free);
         }
         free
     }
@@ -148,7 +162,7 @@ impl Router {
             return VcGrants::new();
         }
         let asked = self.requests();
-        let free = self.free_channels();
+        let free = self.free_asked(&asked);
         let grants = self.channel_alloc.grant(&asked, &free);
         if grants.keys().is_empty() {
             self.busy.in_vain = true;

@@ -5,6 +5,7 @@ use Rattle.worm_router.specs.Allocation.{requests, free_channels}
 use Rattle.worm_router.proofs.Filed.{busy_as}
 use Rattle.worm_router.proofs.InVain.{nobody_uses, no_pass_grants, passed_in_vain}
 use Rattle.worm_router.proofs.NothingWaits.{idle_pass, idle_allocate, idle_matching, pass_without}
+use Rattle.worm_router.proofs.FreeAsked.{pass_agrees, matching_agrees, pass_is, matching_is, written_is}
 use Rattle.worm_router.proofs.router.Router.allocate.Goals as goal
 
 pub returns-then-grants_nothing-clause-grants : goal.returns-then-grants_nothing-clause-grants
@@ -36,7 +37,8 @@ invariant_of-self c =
       };
       arbiters = c.self.invariant.arbiters;
       busy = busy_as _ _ _ _ _ _ c.self.invariant.busy refl refl refl refl;
-      in_vain = λ _. passed_in_vain _ c.args.self.now _ _ c.keys.result _ _ _ c.self.view_is c.self.invariant.router c.self.invariant.busy.few_ports c.self.invariant.busy.few_channels ports channels c.requests-asked.ensures c.free_channels-free.ensures c.grant-grants.ensures.matching
+      in_vain = λ _. passed_in_vain _ c.args.self.now _ _ c.keys.result _ _ _ c.self.view_is c.self.invariant.router c.self.invariant.busy.few_ports c.self.invariant.busy.few_channels ports channels c.requests-asked.ensures refl
+          (matching_agrees _ _ _ _ _ _ c.free_asked-free.ensures c.grant-grants.ensures.matching)
           (no_pass_grants _ c.args.self.now _ _ c.keys.result _ _ _ c.self.view_is c.self.invariant.busy.few_ports c.self.invariant.busy.few_channels ports channels c.grant-grants.ensures.matching c.keys.ensures (sym c.is_empty.ensures ∙ c.if-is_empty.true));
       holders = record { held = c.self.invariant.holders.held; fit = c.self.invariant.holders.fit };
       candidates = record { all = c.self.invariant.candidates.all; places = c.self.invariant.candidates.places };
@@ -46,5 +48,26 @@ pub returns-then-is_empty-clause-after : goal.returns-then-is_empty-clause-after
 returns-then-is_empty-clause-after c =
     let ports = c.self.invariant.router.allocators.channel_ports in
     let channels = c.self.invariant.router.allocators.channel_channels in
-    pass_without _ c.args.self.now _ _ _ _ c.self.view_is c.requests-asked.ensures c.free_channels-free.ensures c.grant-grants.ensures.pass
+    pass_without _ c.args.self.now _ _ _ _ c.self.view_is c.requests-asked.ensures refl (c.grant-grants.ensures.pass ∙ pass_agrees _ _ _ c.free_asked-free.ensures _)
     (no_pass_grants _ c.args.self.now _ _ c.keys.result _ _ _ c.self.view_is c.self.invariant.busy.few_ports c.self.invariant.busy.few_channels ports channels c.grant-grants.ensures.matching c.keys.ensures (sym c.is_empty.ensures ∙ c.if-is_empty.true))
+
+pub returns-then-is_empty-clause-grants : goal.returns-then-is_empty-clause-grants
+returns-then-is_empty-clause-grants c =
+    ap (λ (p : VcPass). p.grants) (pass_is _ c.args.self.now _ _ _ _ c.self.view_is c.requests-asked.ensures c.free_asked-free.ensures c.grant-grants.ensures.pass)
+
+pub returns-then-is_empty-clause-matching : goal.returns-then-is_empty-clause-matching
+returns-then-is_empty-clause-matching c =
+    matching_is _ c.args.self.now _ _ _ _ _ c.self.view_is c.self.invariant.router.allocators.channel_ports c.self.invariant.router.allocators.channel_channels
+    c.requests-asked.ensures c.free_asked-free.ensures c.grant-grants.ensures.matching
+
+pub returns-else-is_empty-clause-grants : goal.returns-else-is_empty-clause-grants
+returns-else-is_empty-clause-grants c =
+    ap (λ (p : VcPass). p.grants) (pass_is _ c.args.self.now _ _ _ _ c.self.view_is c.requests-asked.ensures c.free_asked-free.ensures c.grant-grants.ensures.pass)
+
+pub returns-else-is_empty-clause-matching : goal.returns-else-is_empty-clause-matching
+returns-else-is_empty-clause-matching c =
+    matching_is _ c.args.self.now _ _ _ _ _ c.self.view_is c.self.invariant.router.allocators.channel_ports c.self.invariant.router.allocators.channel_channels
+    c.requests-asked.ensures c.free_asked-free.ensures c.grant-grants.ensures.matching
+
+pub returns-else-is_empty-clause-after : goal.returns-else-is_empty-clause-after
+returns-else-is_empty-clause-after c = c.write.ensures.after ∙ written_is _ c.args.self.now _ _ _ _ c.self.view_is c.requests-asked.ensures c.free_asked-free.ensures c.grant-grants.ensures.pass
