@@ -22,6 +22,7 @@ pub mod Pointers
 pub mod Wired
 pub mod PortSets
 pub mod Arriving
+pub mod Giving
 pub mod Passages
 pub mod DueEntries
 pub mod Turning

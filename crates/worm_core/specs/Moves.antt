@@ -5,6 +5,7 @@ use Rattle.worm_mesh.specs.Address.{node_count, neighbour_of, opposite_of}
 use Rattle.worm_mesh.specs.Links.{links_before}
 use Rattle.worm_router.specs.Router.{RouterState, IsPlace, terminal, width, input_at, output_at, leaving, after_accept, after_route, after_grant, after_send, after_gave, after_credit, can_route}
 use Rattle.worm_router.specs.Allocation.{after_choose}
+use Rattle.worm_vcalloc.specs.ChannelSet.{has}
 use Rattle.worm_term.specs.Sink.{after_take as after_sink}
 use Rattle.worm_term.specs.Source.{front_of, after_offer, after_close, after_fed}
 use Rattle.worm_theory.specs.Steps.{Step, Offer, CloseLane, Feed, Route, Grant, Send, Take, GiveCredit, TakeCredit}
@@ -118,6 +119,16 @@ pub record NothingComes (s : NetState) (x : ℕ) : Type 0 where
   pub no_credit : (p : ℕ) → IsSome (neighbour_of s.mesh x p) → front_credit s x p ≡ None
   pub no_flit : (p : ℕ) → IsSome (neighbour_of s.mesh x p) → front_into s x p ≡ None
   pub no_feed : (k : ℕ) → k < length s.channels → can_enter (router_at s x) (terminal (router_at s x)) (front_of (source_at s x) k) ≡ false
+
+-- no mesh port of a node owes a credit but those of this set
+abbrev pub OwesWithin : NetState → ℕ → ℕ → Type 0
+OwesWithin s x owing =
+    (p v : ℕ) → p < 2 * length s.mesh → v < width (router_at s x) → ((c : ℕ) → c < 8 → has owing p c ≡ false) → (input_at (router_at s x) p v).owed ≡ 0
+
+-- the channel of a port owes what it owed
+pub record OwesTheSame (old new : NetState) (x p v : ℕ) : Type 0 where
+  pub there : v < width (router_at old x)
+  pub owed : (input_at (router_at new x) p v).owed ≡ (input_at (router_at old x) p v).owed
 
 -- Send, whatever is ready to leave
 abbrev pub after_ready : NetState → ℕ → ℕ → ℕ → Option (ℕ × Flit) → NetState

@@ -6,11 +6,11 @@ ghost use Rattle.worm_theory.specs.Steps.{empty};
 ghost use Rattle.worm_core.specs.NewNet.{IsConfig, IsFresh};
 ghost use Rattle.worm_core.specs.Headline.{DeliversInOrder, NothingFollowsMarks};
 ghost use Rattle.worm_core.specs.State.{IsNet, shape, network_of, queue_of, router_at, sink_at, source_at, texts_of, with_router};
-ghost use Rattle.worm_core.specs.Turns.{GivesCredits, NodePasses, Reaches, RoutesChannels, Tries, lowest_owed};
+ghost use Rattle.worm_core.specs.Turns.{NodePasses, Reaches, RoutesChannels, Tries, lowest_owed};
 ghost use Rattle.worm_mesh.specs.Address.{node_count};
 ghost use Rattle.worm_router.specs.Router.{input_at, width};
 ghost use Rattle.worm_router.specs.Allocation.{after_allocate, switch_grants};
-ghost use Rattle.worm_core.specs.Moves.{chosen_router};
+ghost use Rattle.worm_core.specs.Moves.{OwesWithin, chosen_router};
 
 use crate::config::copy_names;
 use crate::fabric::Fabric;
@@ -21,6 +21,7 @@ use worm_flit::{Flit, Lane, Packet, are_channels};
 use worm_mesh::Mesh;
 use worm_swalloc::SwGrants;
 use worm_term::{OfferFault, Sink, Source};
+use worm_vcalloc::ChannelSet;
 
 /// A sound network.
 #[derive(Drop)]
@@ -242,12 +243,12 @@ impl Net {
         self.fabric.next_flit(node, from)
     }
 
-    /// Whether no channel of the node owes a credit; then there is none to give.
-    pub(crate) fn owes_nothing(&self, node: u8) -> bool
+    /// The channels of the node that owe a credit; no mesh port owes one that has none of them.
+    pub(crate) fn owing(&self, node: u8) -> ChannelSet
         requires { node < node_count self.now.mesh }
-        ensures { IsTrue result → GivesCredits node self.now None self.now }
+        ensures { OwesWithin self.now node result }
     {
-        self.fabric.owes_nothing(node)
+        self.fabric.owing(node)
     }
 
     /// Whether the node is at rest, so that its turn goes past all but what its source is asked.
@@ -262,7 +263,8 @@ impl Net {
     pub(crate) fn lowest_owed(&self, node: u8, port: u8) -> Option<u8>
         requires node { node < node_count self.now.mesh }
         requires port { port ≤ 2 * length self.now.mesh }
-        ensures { result ≡ lowest_owed (router_at self.now node) port }
+        ensures value { result ≡ lowest_owed (router_at self.now node) port }
+        ensures sound { IsNet self.now }
     {
         self.fabric.lowest_owed(node, port)
     }

@@ -8,7 +8,10 @@ ghost use Rattle.worm_core.specs.Headline.{DeliversInOrder, NothingFollowsMarks}
 ghost use Rattle.worm_core.specs.Script.{begun_at, due};
 ghost use Rattle.worm_core.specs.State.{IsNet};
 ghost use Rattle.worm_core.specs.declared.script.Entry.{Entry};
-ghost use Rattle.worm_core.specs.Turns.{AsksSource, Does, FeedsClasses, GivesCredits, IsDetermined, NodePasses, NodeTurn, Reaches, RoutesChannels, RoutesPort, RunIsDetermined, SendsGranted, TakesCredits, TakesFlits, Turn, ask, fault_of};
+ghost use Rattle.worm_router.specs.Router.{width};
+ghost use Rattle.worm_core.specs.State.{router_at};
+ghost use Rattle.worm_core.specs.Moves.{OwesTheSame};
+ghost use Rattle.worm_core.specs.Turns.{AsksSource, Does, FeedsClasses, GivesCredit, GivesCredits, IsDetermined, NodePasses, NodeTurn, Reaches, RoutesChannels, RoutesPort, RunIsDetermined, SendsGranted, TakesCredits, TakesFlits, Turn, ask, fault_of};
 
 use crate::{Act, Entry, Moved, Net, Script, StepFault};
 
@@ -134,18 +137,31 @@ impl Net {
         Ok(())
     }
 
+    /// Gives a credit of the lowest channel of the port that owes one to the link into it.
+    fn give_credit(&mut self, node: u8, port: u8)
+        requires node { node < node_count self.old.mesh }
+        requires port { port < 2 * length self.old.mesh }
+        ensures given { Does (GivesCredit node port) self.old None self.new }
+        ensures others { (p : ℕ) (v : ℕ) → (p ≡ port → ⊥) → v < width (router_at self.new node) → OwesTheSame self.old self.new node p v }
+    {
+        if let Some(vc) = self.lowest_owed(node, port) {
+            let _moved = self.give(node, port, vc);
+        }
+    }
+
     /// Gives a credit of the lowest channel that owes one to each link into the node, ports rising.
     fn give_credits(&mut self, node: u8)
         requires { node < node_count self.old.mesh }
         ensures { Does (GivesCredits node) self.old None self.new }
     {
-        if self.owes_nothing(node) {
-            return;
-        }
-        for port in 0..self.terminal() {
-            if let Some(vc) = self.lowest_owed(node, port) {
-                let _moved = self.give(node, port, vc);
+        let terminal = self.terminal();
+        let mut owing = self.owing(node);
+        while let Some(port) = owing.pop_port() {
+            // The terminal has no link, and owes none.
+            if port >= terminal {
+                return;
             }
+            self.give_credit(node, port);
         }
     }
 

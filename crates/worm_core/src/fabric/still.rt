@@ -2,11 +2,12 @@
 
 ghost use Rattle.std.specs.Prelude.{ℕ, ◌≡◌, ◌<◌, ◌≤◌, ◌*◌, None, IfNone, IfSome, IsSome, IsTrue, length};
 ghost use Rattle.worm_mesh.specs.Address.{neighbour_of};
-ghost use Rattle.worm_router.specs.Rest.{OwesNothing};
+ghost use Rattle.worm_router.specs.Busy.{IsSetOf, owes};
 ghost use Rattle.worm_core.specs.State.{router_at};
 ghost use Rattle.worm_core.specs.Moves.{front_credit, front_into};
 
 use super::Fabric;
+use worm_vcalloc::ChannelSet;
 
 impl Fabric {
     /// A mesh port from this one on by which a credit may come in, and before which none does.
@@ -29,11 +30,11 @@ impl Fabric {
         self.links.next_flit(node, from)
     }
 
-    /// Whether no channel of the node owes a credit.
-    pub fn owes_nothing(&self, node: u8) -> bool
+    /// The channels of the node that owe a credit.
+    pub fn owing(&self, node: u8) -> ChannelSet
         requires { node < length self.now.nodes }
-        ensures { IsTrue result → OwesNothing (router_at self.now node) }
+        ensures { IsSetOf owes (router_at self.now node) result }
     {
-        self.node(node).router.owes_nothing()
+        self.node(node).router.owing()
     }
 }

@@ -1,24 +1,30 @@
-use Rattle.std.proofs.Common.{sym, ◌∙◌, ◌*◌, None, arith, length, refl}
-use Rattle.worm_core.specs.Turns.{GivesCredit, mesh_ports}
-use Rattle.worm_core.proofs.Passages.{loop_more, does_for}
-use Rattle.worm_core.proofs.Turning.{gives_one, gives_none}
+use Rattle.std.proofs.Common.{ℕ, List, ◌+◌, ap, arith, length}
+use Rattle.worm_core.proofs.Giving.{gave_all, gave_more, gave_past, gave_start}
 use Rattle.worm_core.proofs.net.Net.give_credits.Goals as goal
-use Rattle.worm_core.proofs.net.Net.give_credits.Goals.{in-Some, in_default}
 
-pub lowest_owed-requires-clause-node : goal.lowest_owed-requires-clause-node
-lowest_owed-requires-clause-node c = rw c.loop-port.invariant.reaches.config.mesh c.requires
-
-pub lowest_owed-requires-clause-port : goal.lowest_owed-requires-clause-port
-lowest_owed-requires-clause-port c = rw c.loop-port.invariant.reaches.config.mesh (omega arith)
+pub loop-port-init : goal.loop-port-init
+loop-port-init c = (0, gave_start c.args.node c.args.self.now c.owing-owing.result c.owing-owing.ensures)
 
 pub loop-port-preserved : goal.loop-port-preserved
-loop-port-preserved c = elim c.match-lowest_owed.branch [
-  | in-Some w ↦ rw w.self-is (loop_more (GivesCredit c.args.node) c.loop-port.port c.args.self.now c.loop-port.self w.give-moved.new.self None c.loop-port.invariant
-      (gives_one c.args.node c.loop-port.port w.in-Some.vc c.loop-port.self w.give-moved.new.self w.give-moved.result (sym w.in-Some.is ∙ c.lowest_owed.ensures) w.give-moved.ensures))
-  | in_default w ↦ rw w.self-is (loop_more (GivesCredit c.args.node) c.loop-port.port c.args.self.now c.loop-port.self c.loop-port.self None c.loop-port.invariant
-      (gives_none c.args.node c.loop-port.port c.loop-port.self (sym w.in_default.is ∙ c.lowest_owed.ensures)))
-]
+loop-port-preserved c =
+    let inv = c.loop-port.invariant in
+    let mesh = ap (λ (m : List ℕ). length m) inv.1.passed.reaches.config.mesh in
+    let last = c.terminal-terminal.ensures in
+    let port = c.if-port-terminal.false in (
+      c.in-Some.port + 1,
+      gave_more c.args.node c.args.self.now c.loop-port.self c.give_credit.new.self c.loop-port.owing c.pop_port.new.self inv.0 c.in-Some.port inv.1 c.in-Some.ensures (omega (arith, last.value)) (omega (arith, last.value, last.bound))
+          c.give_credit.ensures.given c.give_credit.ensures.others,
+    )
+
+pub returns-then-port-terminal : goal.returns-then-port-terminal
+returns-then-port-terminal c =
+    let inv = c.loop-port.invariant in
+    let mesh = ap (λ (m : List ℕ). length m) inv.1.passed.reaches.config.mesh in
+    let last = c.terminal-terminal.ensures in
+    let port = c.if-port-terminal.true in
+    gave_past c.args.node c.args.self.now c.loop-port.self c.loop-port.owing c.pop_port.new.self inv.0 c.in-Some.port inv.1 c.in-Some.ensures (omega (arith, last.value))
 
 pub returns : goal.returns
 returns c =
-    does_for mesh_ports (GivesCredit c.args.node) (2 * length c.args.self.now.mesh) c.loop-port.port c.args.self.now c.loop-port.self None refl (omega arith) c.loop-port.invariant
+    let inv = c.loop-port.invariant in
+    gave_all c.args.node c.args.self.now c.loop-port.self c.loop-port.owing inv.0 inv.1 c.in_default.ensures.0

@@ -1,7 +1,9 @@
-use Rattle.std.proofs.Common.{None}
-use Rattle.std.specs.List.{range_with_len}
-use Rattle.worm_core.specs.Turns.{Does, Each, GivesCredit}
+use Rattle.std.proofs.Common.{ℕ}
+use Rattle.worm_core.proofs.Giving.{Gave}
 use Rattle.worm_core.proofs.net.Net.give_credits.Given as goal
 
 abbrev pub invariant-loop-port : goal.invariant-loop-port
-invariant-loop-port l = Does (Each (GivesCredit l.node) (range_with_len 0 l.port)) l.initial.self None l.self
+invariant-loop-port l = (from : ℕ) × Gave l.node l.initial.self l.self l.owing from
+
+abbrev pub decreases-loop-port : goal.decreases-loop-port
+decreases-loop-port l = l.owing
