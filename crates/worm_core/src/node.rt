@@ -29,12 +29,12 @@ impl Node {
         ensures enabled { result ≡ can_enter self.old.router (terminal self.old.router) (front_of self.old.source class) }
         ensures after { self.new ≡ (if result then fed_node self.old class (front_of self.old.source class) else self.old) }
     {
+        if !self.can_feed(class, port) {
+            return false;
+        }
         let Some(flit) = self.source.front(class) else {
             return false;
         };
-        if !self.router.has_room(port, flit.vc) {
-            return false;
-        }
         let _done = self.router.accept(port, flit);
         self.source.fed(class);
         true
@@ -47,9 +47,9 @@ impl Node {
         requires front { FrontFits self.now.router (terminal self.now.router) (front_of self.now.source class) }
         ensures { result ≡ can_enter self.now.router (terminal self.now.router) (front_of self.now.source class) }
     {
-        match self.source.front(class) {
+        match self.source.next_channel(class) {
             None => false,
-            Some(flit) => self.router.has_room(port, flit.vc),
+            Some(vc) => self.router.has_room(port, vc),
         }
     }
 
