@@ -45,7 +45,7 @@ impl Router {
     }
 
     /// Whether no input channel owes a credit.
-    pub fn owes_nothing(&self) -> bool
+    fn owes_nothing(&self) -> bool
         ensures { IsTrue result → OwesNothing self.now }
     {
         self.owing().is_empty()
