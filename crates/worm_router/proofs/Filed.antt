@@ -51,6 +51,13 @@ set_kept test t w depth inputs set i had now sound within was same = record {
   outside = sound.outside;
 }
 
+-- whether a set has a channel that was read
+pub inside_of : (test : ChannelState → Bool) (r : RouterState) (port vc i set : ℕ) (had : ChannelState) → IsInput r port vc i had
+    → IsSetIn test (terminal r) (width r) r.depth r.inputs set → has set port vc ≡ test had
+inside_of test r port vc i set had input is =
+    is.inside port vc input.place.port_in input.place.channel_in
+    ∙ ap test (sym (input.was ∙ ap (λ k. slice_index_or r.inputs k (fresh_channel r.depth)) input.at))
+
 -- a set is filed anew at the channel, or the channel passes its test as before
 abbrev pub IsFiledBy : (ChannelState → Bool) → ℕ → ℕ → ℕ → ℕ → ChannelState → ChannelState → Type 0
 IsFiledBy test old new port vc had now = IsFiled old new port vc (test now) ⊎ ((new ≡ old) × (test now ≡ test had))
@@ -103,7 +110,7 @@ set_fresh test t w depth count inputs none all counted = record {
 
 pub fresh_busy : (t w depth count : ℕ) (inputs : List ChannelState) (sets : BusyChannels) → t ≤ 6 → w ≤ 8
     → inputs ≡ replicate count (fresh_channel depth) → count ≡ (t + 1) * w
-    → sets ≡ record { occupied = 0; waiting = 0; active = 0; owing = 0; in_vain = false; candidates = 0 }
+    → sets ≡ record { occupied = 0; waiting = 0; active = 0; owing = 0; in_vain = false; candidates = 0; held = 0 }
     → AreBusy t w depth inputs sets
 fresh_busy t w depth count inputs sets few_ports few_channels all counted none = rw none record {
   few_ports = few_ports;

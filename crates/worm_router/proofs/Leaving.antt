@@ -1,5 +1,6 @@
 -- What is there for a flit that may leave.
-use Rattle.std.proofs.Common.{ap, ℕ, ◌≤◌, ◌<◌, ◌≡◌, ◌==◌, ◌&&◌, ◌||◌, nat_lt, List, [], ◌∷◌, All, Bool, true, false, Some, None, arith, refl, subst, if◌then◌else◌}
+use Rattle.std.proofs.Common.{ap, sym, ◌∙◌, length, slice_get, ◌+◌, ℕ, ◌≤◌, ◌<◌, ◌≡◌, ◌==◌, ◌&&◌, ◌||◌, nat_lt, List, [], ◌∷◌, All, Bool, true, false, Some, None, arith, refl, subst, if◌then◌else◌}
+use Rattle.std.proofs.lemmas.Bool.{eq-eqb, ne_eqb}
 use Rattle.std.proofs.lemmas.Bool.Decides.{nat_tests}
 use Rattle.std.proofs.lemmas.List.Elements.{All-get_or}
 use Rattle.worm_flit.specs.declared.Flit.{Flit}
@@ -61,3 +62,36 @@ leaves_by_state r port c (Active o v) (f ∷ fs) d is = by_test ((o == terminal 
   by_test : (b : Bool) → (if b then Some (o, with_channel f v) else None) ≡ Some d → Active o v ≡ Active d.0 d.1.vc
   by_test true e = let pair : (o, with_channel f v) ≡ d = cc in ap (λ (k : ℕ × Flit). Active k.0 k.1.vc) pair
   by_test false e = absurd (cc)
+
+-- and has a flit
+pub leaves_flit : (r : RouterState) (port : ℕ) (c : ChannelState) (s : InRecord) (fs : List Flit) (d : ℕ × Flit) → leaving_by r port c s fs ≡ Some d → nat_lt 0 (length fs) ≡ true
+leaves_flit r port c Idle fs d is = absurd (cc)
+leaves_flit r port c (Waiting o) fs d is = absurd (cc)
+leaves_flit r port c (Active o v) [] d is = absurd (cc)
+leaves_flit r port c (Active o v) (f ∷ fs) d is = grind (arith, nat_tests)
+
+-- what may leave an active channel, by its front and its two tests
+pub leaving_is : (r : RouterState) (port vc out out_vc : ℕ) (c : ChannelState) (front : Flit) (credit owe : Bool) → c ≡ input_at r port vc → c.state ≡ Active out out_vc
+    → slice_get c.buffer 0 ≡ Some front → credit ≡ (out == terminal r || nat_lt 0 (output_at r out out_vc).credits) → owe ≡ (port == terminal r || nat_lt c.owed r.depth)
+    → leaving r port vc ≡ (if credit && owe then Some (out, with_channel front out_vc) else None)
+leaving_is r port vc out out_vc c front credit owe is active first a b =
+    ap (λ (x : ChannelState). leaving_by r port x x.state x.buffer) (sym is) ∙ ap (λ s. leaving_by r port c s c.buffer) active ∙ by_buffer c.buffer first where
+      by_buffer : (fs : List Flit) → slice_get fs 0 ≡ Some front → leaving_by r port c (Active out out_vc) fs ≡ (if credit && owe then Some (out, with_channel front out_vc) else None)
+      by_buffer [] e = absurd (cc)
+      by_buffer (f ∷ fs) e =
+          let same : f ≡ front = cc in
+          ap (λ g. if (out == terminal r || nat_lt 0 (output_at r out out_vc).credits) && (port == terminal r || nat_lt c.owed r.depth) then Some (out, with_channel g out_vc) else None) same
+          ∙ ap (λ k. if k && (port == terminal r || nat_lt c.owed r.depth) then Some (out, with_channel front out_vc) else None) (sym a)
+          ∙ ap (λ k. if credit && k then Some (out, with_channel front out_vc) else None) (sym b)
+
+pub not_both : {X : Type 0} (a b : Bool) (x : X) → (a && b) ≡ false → (if a && b then Some x else None) ≡ None
+not_both a b x e = ap (λ k. if k then Some x else None) e
+
+pub owes_more : (owed more : ℕ) → nat_lt 0 owed ≡ true → nat_lt 0 (owed + more) ≡ true
+owes_more owed more some = grind (arith, nat_tests)
+
+pub either_first : (a b : ℕ) (k : Bool) → a ≡ b → true ≡ (a == b || k)
+either_first a b k same = sym (ap (λ t. t || k) (eq-eqb a b same))
+
+pub either_second : (a b : ℕ) (k : Bool) → (a ≡ b → ⊥) → k ≡ (a == b || k)
+either_second a b k other = sym (ap (λ t. t || k) (ne_eqb a b other))

@@ -28,14 +28,14 @@ owes_none r owing is none = λ p v p_in v_in.
     let e : nat_lt 0 (input_at r p v).owed ≡ false = sym (is.inside p v p_in v_in) ∙ has-empty owing p v none in
     grind (arith, nat_tests)
 
-pub chooses_none : (r s : RouterState) (sets : BusyChannels) → r ≡ s → IsKept r sets → (sets.candidates == 0) ≡ true → after_choose s ≡ s
-chooses_none r s sets same kept none =
+pub chooses_none : (r s : RouterState) (sets : BusyChannels) (masks : List ℕ) → r ≡ s → IsKept r sets masks → (sets.candidates == 0) ≡ true → after_choose s ≡ s
+chooses_none r s sets masks same kept none =
     let ports = kept.router.allocators.switch_ports in
     let few = kept.busy.few_ports in
     subst (λ (q : RouterState). after_choose q ≡ q) same (idle_choose r (omega arith) kept.arbiters (none_ready_of r sets.candidates kept.candidates none))
 
-pub grants_none : (r s : RouterState) (sets : BusyChannels) → r ≡ s → IsKept r sets → (sets.candidates == 0) ≡ true → switch_grants s ≡ replicate 7 None
-grants_none r s sets same kept none =
+pub grants_none : (r s : RouterState) (sets : BusyChannels) (masks : List ℕ) → r ≡ s → IsKept r sets masks → (sets.candidates == 0) ≡ true → switch_grants s ≡ replicate 7 None
+grants_none r s sets masks same kept none =
     let ports = kept.router.allocators.switch_ports in
     let few = kept.busy.few_ports in
     subst (λ (q : RouterState). switch_grants q ≡ replicate 7 None) same (idle_grants r (omega arith) (none_ready_of r sets.candidates kept.candidates none))

@@ -1,12 +1,14 @@
 -- Which input channels have something to do: the sets that a router keeps beside its lists, so that a turn skips all others.
-use Rattle.std.specs.Prelude.{ℕ, ◌+◌, ◌*◌, ◌<◌, ◌≤◌, ◌≡◌, nat_lt, Bool, true, false, List, length, slice_index_or, IsTrue, is_some, All, Option, Some, None}
+use Rattle.std.specs.Prelude.{ℕ, ◌+◌, ◌*◌, ◌<◌, ◌≤◌, ◌≡◌, nat_lt, Bool, true, false, List, length, slice_index, slice_index_or, IsTrue, is_some, All, Option, Some, None}
+use Rattle.worm_flit.specs.Channels.{class_bits}
 use Rattle.worm_records.specs.declared.InRecord.{InRecord}
 use Rattle.worm_records.specs.declared.InRecord.TheVariants.{Idle, Waiting, Active}
+use Rattle.worm_records.specs.declared.OutRecord.{OutRecord}
 use Rattle.worm_vcalloc.specs.ChannelSet.{has}
 use Rattle.worm_swalloc.specs.SwAlloc.{SwAllocState}
 use Rattle.worm_router.specs.Allocation.{GrantsNothing}
 use Rattle.worm_router.specs.declared.busy.BusyChannels.{BusyChannels}
-use Rattle.worm_router.specs.Router.{ChannelState, RouterState, IsRouter, terminal, width, fresh_channel, input_at, output_at, leaving}
+use Rattle.worm_router.specs.Router.{ChannelState, RouterState, IsRouter, terminal, width, fresh_channel, free_output, input_at, output_at, leaving}
 
 -- an input channel has a flit
 abbrev pub is_occupied : ChannelState → Bool
@@ -72,16 +74,28 @@ pub record AreCandidates (r : RouterState) (set : ℕ) : Type 0 where
   pub all : (port vc : ℕ) → port ≤ terminal r → vc < width r → is_some (leaving r port vc) ≡ true → has set port vc ≡ true
   pub places : (port vc : ℕ) → port < 7 → vc < 8 → has set port vc ≡ true → (port ≤ terminal r) × (vc < width r)
 
+-- a set has those output channels that are held
+pub record IsHeldIn (terminal width depth : ℕ) (outputs : List OutRecord) (set : ℕ) : Type 0 where
+  pub all : (out vc : ℕ) → out ≤ terminal → vc < width → has set out vc ≡ is_some (slice_index_or outputs (out * width + vc) (free_output depth)).holder
+
+-- the channels of each class, as a bit for each
+pub record AreMasks (channels masks : List ℕ) : Type 0 where
+  pub few : length channels ≤ 4
+  pub four : length masks ≡ 4
+  pub each : (class : ℕ) → class < 4 → slice_index masks class ≡ class_bits channels class
+
 -- the allocator of the switch has an arbiter for each of its ports, on either side
 pub record HasArbiters (s : SwAllocState) : Type 0 where
   pub inputs : s.ports ≤ length s.inputs
   pub outputs : s.ports ≤ length s.outputs
 
--- what a router keeps: what contracts see, and the sets beside it
-pub record IsKept (r : RouterState) (sets : BusyChannels) : Type 0 where
+-- what a router keeps: what contracts see, and the sets and the masks of classes beside it
+pub record IsKept (r : RouterState) (sets : BusyChannels) (masks : List ℕ) : Type 0 where
   pub router : IsRouter r
   pub arbiters : HasArbiters r.switch_alloc
   pub busy : AreBusy (terminal r) (width r) r.depth r.inputs sets
   pub in_vain : IsTrue sets.in_vain → GrantsNothing r
   pub holders : AreHolders r
   pub candidates : AreCandidates r sets.candidates
+  pub held : IsHeldIn (terminal r) (width r) r.depth r.outputs sets.held
+  pub classes : AreMasks r.channels masks

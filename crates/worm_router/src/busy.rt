@@ -5,7 +5,7 @@ ghost use Rattle.worm_router.specs.Busy.{IsFiled, is_occupied, is_waiting, is_ac
 use crate::channel::InputChannel;
 use worm_vcalloc::ChannelSet;
 
-/// Which input channels have something to do, so that a turn skips all others.
+/// Which input channels have something to do, so that a turn skips all others, and which output channels are held.
 #[derive(Clone, Copy)]
 pub struct BusyChannels {
     /// Those that have a flit.
@@ -20,6 +20,8 @@ pub struct BusyChannels {
     pub in_vain: bool,
     /// Those that may be ready to send: all that are, and others at which no pass has looked since something came.
     pub candidates: ChannelSet,
+    /// The output channels that are held.
+    pub held: ChannelSet,
 }
 
 /// Takes a channel out of a set that it is in, unless it stays.
@@ -48,7 +50,7 @@ fn join_if(set: &mut ChannelSet, port: u8, vc: u8, comes: bool)
 impl BusyChannels {
     /// No channel has anything to do.
     pub fn new() -> BusyChannels
-        ensures { result ≡ record { occupied = 0; waiting = 0; active = 0; owing = 0; in_vain = false; candidates = 0 } }
+        ensures { result ≡ record { occupied = 0; waiting = 0; active = 0; owing = 0; in_vain = false; candidates = 0; held = 0 } }
     {
         BusyChannels {
             occupied: ChannelSet::new(),
@@ -57,6 +59,7 @@ impl BusyChannels {
             owing: ChannelSet::new(),
             in_vain: false,
             candidates: ChannelSet::new(),
+            held: ChannelSet::new(),
         }
     }
 
@@ -85,26 +88,33 @@ impl BusyChannels {
         self.in_vain = false;
     }
 
-    /// Files a channel that was granted an output channel.
-    pub fn file_active(&mut self, port: u8, vc: u8)
+    /// Files a channel that was granted this channel of an output port.
+    pub fn file_active(&mut self, port: u8, vc: u8, out: u8, out_vc: u8)
         requires port { port < 7 }
         requires vc { vc < 8 }
+        requires out { out < 7 }
+        requires out_vc { out_vc < 8 }
         ensures waiting { IsPut self.old.waiting self.new.waiting port vc false }
         ensures active { IsPut self.old.active self.new.active port vc true }
         ensures candidates { IsPut self.old.candidates self.new.candidates port vc true }
-        ensures others { self.new ≡ record self.old { waiting = self.new.waiting; active = self.new.active; in_vain = false; candidates = self.new.candidates } }
+        ensures held { IsPut self.old.held self.new.held out out_vc true }
+        ensures others { self.new ≡ record self.old { waiting = self.new.waiting; active = self.new.active; in_vain = false; candidates = self.new.candidates; held = self.new.held } }
     {
         self.waiting.put(port, vc, false);
         self.active.put(port, vc, true);
         self.candidates.put(port, vc, true);
+        self.held.put(out, out_vc, true);
         self.in_vain = false;
     }
 
-    /// Files a channel that let a flit out: it had one, held an output channel and was a candidate. A channel that still holds
-    /// its output channel freed none.
-    pub fn file_left(&mut self, port: u8, vc: u8, channel: &InputChannel)
+    /// Files a channel that let a flit out by this channel of an output port: it had one, held that and was a candidate. A
+    /// channel that still holds its output channel freed none.
+    pub fn file_left(&mut self, port: u8, vc: u8, channel: &InputChannel, out: u8, out_vc: u8)
         requires port { port < 7 }
         requires vc { vc < 8 }
+        requires out { out < 7 }
+        requires out_vc { out_vc < 8 }
+        requires was_held { has self.old.held out out_vc ≡ true }
         requires had_flit { has self.old.occupied port vc ≡ true }
         requires held { has self.old.active port vc ≡ true }
         requires was_candidate { has self.old.candidates port vc ≡ true }
@@ -114,13 +124,15 @@ impl BusyChannels {
         ensures owing { IsFiled self.old.owing self.new.owing port vc (owes channel.now) }
         ensures in_vain { self.new.in_vain ≡ (self.old.in_vain && is_active channel.now) }
         ensures candidates { IsFiled self.old.candidates self.new.candidates port vc (is_active channel.now && is_occupied channel.now) }
-        ensures others { self.new ≡ record self.old { occupied = self.new.occupied; active = self.new.active; owing = self.new.owing; in_vain = self.new.in_vain; candidates = self.new.candidates } }
+        ensures held { IsFiled self.old.held self.new.held out out_vc (is_active channel.now) }
+        ensures others { self.new ≡ record self.old { occupied = self.new.occupied; active = self.new.active; owing = self.new.owing; in_vain = self.new.in_vain; candidates = self.new.candidates; held = self.new.held } }
     {
         let has_flit = channel.is_occupied();
         let holds = channel.is_active();
         leave_unless(&mut self.occupied, port, vc, has_flit);
         leave_unless(&mut self.active, port, vc, holds);
         leave_unless(&mut self.candidates, port, vc, holds && has_flit);
+        leave_unless(&mut self.held, out, out_vc, holds);
         self.in_vain = self.in_vain && channel.is_active();
         join_if(&mut self.owing, port, vc, channel.owed() > 0);
     }

@@ -2,7 +2,7 @@ ghost use Rattle.std.specs.Prelude.{◌≡◌, ◌+◌, ◌*◌, ◌≤◌, ◌<
 ghost use Rattle.worm_flit.specs.Channels.{AreChannels};
 ghost use Rattle.worm_mesh.specs.Address.{node_count};
 ghost use Rattle.worm_router.specs.Router.{IsPlace, IsRouter, line, fresh_channel, free_output, fresh_router, input_at, output_at, terminal, width, after_accept, can_route, after_route, can_grant, after_grant, after_granting, leaving, MayLeave, passed, credit_of, after_send, after_gave, after_credit};
-ghost use Rattle.worm_router.specs.Busy.{IsSetOf, AreCandidates, is_occupied, is_waiting, is_active, owes};
+ghost use Rattle.worm_router.specs.Busy.{IsSetOf, AreCandidates, AreMasks, is_occupied, is_waiting, is_active, owes};
 
 mod allocation;
 mod rest;
@@ -35,6 +35,8 @@ pub struct Router {
     node: u8,
     /// The channels that classes own.
     classes: ClassChannels,
+    /// The channels of each class, as `ClassChannels::mask` tells them.
+    masks: [u8; 4],
     /// How many flits each buffer holds, 1 to 16.
     depth: u8,
     /// The input channels.
@@ -57,7 +59,7 @@ impl Model for Router {
 
     ghost view = { λ r. router_state r.mesh r.node r.classes r.depth r.inputs.items r.outputs.items r.channel_alloc r.switch_alloc };
 
-    ghost invariant = { λ r. IsKept (router_state r.mesh r.node r.classes r.depth r.inputs.items r.outputs.items r.channel_alloc r.switch_alloc) r.busy };
+    ghost invariant = { λ r. IsKept (router_state r.mesh r.node r.classes r.depth r.inputs.items r.outputs.items r.channel_alloc r.switch_alloc) r.busy r.masks };
 }
 
 /// So many input channels with empty buffers.
@@ -96,6 +98,18 @@ fn pass(output: &mut OutRecord, flit: Flit, spent: u8)
     }
 }
 
+/// The channels of each class, as a bit for each. A class that is not there has none.
+fn class_masks(classes: &ClassChannels) -> [u8; 4]
+    requires { length classes.now ≤ 4 }
+    ensures { AreMasks classes.now result }
+{
+    let mut masks = [0u8; 4];
+    for class in 0..4u8 {
+        masks[usize::from(class)] = classes.mask(class);
+    }
+    masks
+}
+
 impl Router {
     /// The router of a node of the mesh, with so many channels for each class and buffers of this depth, 1 to 16. All its
     /// buffers are made here, and no other call takes memory. `NoMemory` where there is none.
@@ -112,6 +126,7 @@ impl Router {
         ensures { IfOk result (λ r. r ≡ fresh_router mesh.now node channels.now depth) }
     {
         let classes = ClassChannels::new(channels);
+        let masks = class_masks(&classes);
         let ports = 2 * mesh.dims() + 1;
         let total = classes.total();
         let count = usize::from(ports) * usize::from(total);
@@ -121,6 +136,7 @@ impl Router {
             mesh: *mesh,
             node,
             classes,
+            masks,
             depth,
             inputs,
             outputs,
@@ -324,7 +340,7 @@ impl Router {
         let o = self.line(out, out_vc);
         let channel = &mut self.inputs[i];
         channel.set_state(InRecord::Active { out, out_vc });
-        self.busy.file_active(port, vc);
+        self.busy.file_active(port, vc, out, out_vc);
         let output = &mut self.outputs[o];
         output.grant(port, vc);
     }
@@ -401,7 +417,7 @@ impl Router {
         let spent = self.credit_of(out);
         let channel = &mut self.inputs[i];
         channel.let_out(flit, more_owed);
-        self.busy.file_left(port, vc, channel);
+        self.busy.file_left(port, vc, channel, out, flit.vc);
         let output = &mut self.outputs[o];
         pass(output, flit, spent);
     }

@@ -1,6 +1,7 @@
 //! One pass of each allocator, over what the records state.
 
 ghost use Rattle.std.specs.Prelude.{◌≡◌, ◌+◌, ◌≤◌, ◌<◌, ℕ, None, Some, IfSome, MatchOption, IsTrue, false, replicate};
+ghost use Rattle.worm_flit.specs.Channels.{class_bits};
 ghost use Rattle.worm_vcalloc.specs.Table.{IsTable};
 ghost use Rattle.worm_vcalloc.specs.VcAlloc.{IsChannelMatching};
 ghost use Rattle.worm_swalloc.specs.SwAlloc.{IsSwitchMatching};
@@ -15,6 +16,16 @@ use worm_swalloc::{ReadyOuts, SwGrants};
 use worm_vcalloc::{FreeChannels, VcGrants, VcRequest, VcRequests};
 
 impl Router {
+    /// The channels of a class, as a bit for each.
+    fn mask(&self, class: u8) -> u8
+        ensures { result ≡ class_bits self.now.channels class }
+    {
+        match self.masks.get(usize::from(class)) {
+            Some(mask) => *mask,
+            None => 0,
+        }
+    }
+
     /// What an input channel asks for.
     fn request(&self, port: u8, vc: u8) -> Option<VcRequest>
         requires { IsPlace self.now port vc }
@@ -27,7 +38,7 @@ impl Router {
         let front = channel.flit_at(0)?;
         Some(VcRequest {
             out,
-            allowed: self.classes.mask(front.lane.class),
+            allowed: self.mask(front.lane.class),
         })
     }
 

@@ -41,6 +41,8 @@ invariant_of-self c =
           (matching_agrees _ _ _ _ _ _ c.free_asked-free.ensures c.grant-grants.ensures.matching)
           (no_pass_grants _ c.args.self.now _ _ c.keys.result _ _ _ c.self.view_is c.self.invariant.busy.few_ports c.self.invariant.busy.few_channels ports channels c.grant-grants.ensures.matching c.keys.ensures (sym c.is_empty.ensures ∙ c.if-is_empty.true));
       holders = record { held = c.self.invariant.holders.held; fit = c.self.invariant.holders.fit };
+      held = c.self.invariant.held;
+      classes = c.self.invariant.classes;
       candidates = record { all = c.self.invariant.candidates.all; places = c.self.invariant.candidates.places };
     }
 

@@ -7,6 +7,7 @@ use Rattle.worm_router.proofs.Places.{output_of}
 use Rattle.worm_router.specs.declared.busy.BusyChannels.{BusyChannels}
 use Rattle.worm_router.proofs.Filed.{busy_as}
 use Rattle.worm_router.proofs.Holders.{holders_out, holder_places}
+use Rattle.worm_router.proofs.Held.{held_kept}
 use Rattle.worm_router.proofs.Candidates.{candidates_credit}
 use Rattle.worm_router.proofs.InVain.{vain_out}
 use Rattle.worm_router.proofs.router.Router.credit.Goals as goal
@@ -41,6 +42,8 @@ invariant_of-self-2 c =
           (ap (λ (b : BusyChannels). b.active) c.file_credit.ensures.others) (ap (λ (b : BusyChannels). b.owing) c.file_credit.ensures.others);
       in_vain = λ yes. vain_out _ _ _ _ _ _ output (ap (λ (u : OutRecord). u.holder) c.add_credit.ensures) (c.self.invariant.in_vain (sym (ap (λ (b : BusyChannels). b.in_vain) c.file_credit.ensures.others) ∙ yes));
       holders = holders_out _ _ _ _ _ _ output (ap (λ (u : OutRecord). u.holder) c.add_credit.ensures) c.self.invariant.holders;
+      held = held_kept _ _ _ _ _ _ _ _ output (ap (λ (u : OutRecord). u.holder) c.add_credit.ensures) (ap (λ (b : BusyChannels). b.held) c.file_credit.ensures.others) c.self.invariant.held;
+      classes = c.self.invariant.classes;
       candidates = candidates_credit _ _ _ _ _ _ _ _ (c.index_mut-output.result.now.credits == 0) c.index_mut-output.result.now.holder c.self.invariant.busy.few_ports c.self.invariant.busy.few_channels output c.self.invariant.holders refl refl
           (subst (λ k. MatchOption k (c.file_credit.new.self.candidates ≡ c.self.inside.busy.candidates) (λ h. IsPut c.self.inside.busy.candidates c.file_credit.new.self.candidates h.0 h.1 true)) woken_is c.file_credit.ensures.candidates) c.self.invariant.candidates;
     }

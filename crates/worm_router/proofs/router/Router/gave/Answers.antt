@@ -7,6 +7,7 @@ use Rattle.worm_router.proofs.Kept.{input_set_sound, read_sound, give_sound}
 use Rattle.worm_router.proofs.Filed.{busy_filed}
 use Rattle.worm_router.proofs.InVain.{vain_as}
 use Rattle.worm_router.proofs.Holders.{holders_in}
+use Rattle.worm_router.proofs.Held.{held_as}
 use Rattle.worm_router.proofs.Candidates.{candidates_given}
 use Rattle.worm_router.proofs.router.Router.gave.Goals as goal
 use Rattle.worm_router.proofs.router.Router.gave.Goals.{then-is_active, else-is_active}
@@ -36,5 +37,7 @@ invariant_of-self c =
       in_vain = λ yes. vain_as _ _ _ _ _ _ input (ap (λ (x : ChannelState). x.state) c.give.ensures) (ap (λ (x : ChannelState). x.buffer) c.give.ensures)
           (c.self.invariant.in_vain (sym (ap (λ (b : BusyChannels). b.in_vain) c.file_given.ensures.others) ∙ yes));
       holders = holders_in _ _ _ _ _ _ input (λ o k holds. sym (ap (λ (x : ChannelState). x.state) c.give.ensures) ∙ holds) c.self.invariant.holders;
+      held = held_as _ _ _ _ _ _ c.self.invariant.held (ap (λ (b : BusyChannels). b.held) c.file_given.ensures.others);
+      classes = c.self.invariant.classes;
       candidates = candidates_given _ _ _ _ _ _ _ _ _ input c.self.invariant.busy.few_ports c.self.invariant.busy.few_channels c.give.ensures had.owed_fits woken_is c.file_given.ensures.candidates c.self.invariant.candidates;
     }

@@ -1,4 +1,4 @@
-use Rattle.std.proofs.Common.{◌<◌, ◌*◌, ◌∙◌, ap, sym, subst, inl, inr, true, false, ◌≡◌, sum, length, arith}
+use Rattle.std.proofs.Common.{is_some, ◌<◌, ◌*◌, ◌∙◌, ap, sym, subst, inl, inr, true, false, ◌≡◌, sum, length, arith}
 use Rattle.std.proofs.lemmas.Grind.{common_steps, elements}
 use Rattle.worm_records.specs.declared.OutRecord.{OutRecord}
 use Rattle.worm_vcalloc.specs.ChannelSet.{IsPut}
@@ -9,6 +9,7 @@ use Rattle.worm_router.proofs.Places.{input_of, output_of, output_read}
 use Rattle.worm_router.proofs.Kept.{full_after, full_before}
 use Rattle.worm_router.proofs.Filed.{busy_filed, filed}
 use Rattle.worm_router.proofs.Holders.{holders_held}
+use Rattle.worm_router.proofs.Held.{held_filed}
 use Rattle.worm_router.proofs.Candidates.{candidates_held}
 use Rattle.worm_router.proofs.router.Router.hold.Goals as goal
 
@@ -40,5 +41,7 @@ invariant_of-self c =
           (inr (ap (λ (b : BusyChannels). b.owing) c.file_active.ensures.others, ap owes c.set_state.ensures));
       in_vain = λ yes. let no : true ≡ false = sym yes ∙ ap (λ (b : BusyChannels). b.in_vain) c.file_active.ensures.others in absurd (cc);
       holders = holders_held _ _ _ _ _ _ _ _ _ _ _ input output (ap (λ (x : ChannelState). x.state) c.set_state.ensures) (ap (λ (v : OutRecord). v.holder) read ∙ c.requires.free) (ap (λ (v : OutRecord). v.holder) c.grant.ensures) c.self.invariant.holders;
+      held = held_filed _ _ _ _ _ _ _ _ true output c.self.invariant.busy.few_ports c.self.invariant.busy.few_channels (filed _ _ _ _ _ c.file_active.ensures.held) (ap (λ (v : OutRecord). is_some v.holder) c.grant.ensures) c.self.invariant.held;
+      classes = c.self.invariant.classes;
       candidates = candidates_held _ _ _ _ _ _ _ _ _ _ _ _ _ input output c.self.invariant.busy.few_ports c.self.invariant.busy.few_channels c.file_active.ensures.candidates (ap (λ (v : OutRecord). v.credits) c.grant.ensures) c.self.invariant.candidates;
     }

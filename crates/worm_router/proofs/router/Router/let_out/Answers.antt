@@ -1,19 +1,20 @@
-use Rattle.std.proofs.Common.{arith, true, false, if◌then◌else◌, None, inl, inr, ◌∙◌, ap, sym, subst, ◌≤◌, ◌<◌, ◌+◌, ◌≡◌, ◌*◌, ℕ, sum, length}
+use Rattle.std.proofs.Common.{is_some, arith, true, false, if◌then◌else◌, None, inl, inr, ◌∙◌, ap, sym, subst, ◌≤◌, ◌<◌, ◌+◌, ◌≡◌, ◌*◌, ℕ, sum, length}
 use Rattle.std.proofs.lemmas.Grind.{common_steps}
 use Rattle.std.proofs.lemmas.List.Elements.{All-get_or}
 use Rattle.std.proofs.lemmas.Bool.{and_parts}
 use Rattle.worm_flit.specs.Kinds.{closes}
 use Rattle.worm_records.specs.declared.InRecord.TheVariants.{Active}
 use Rattle.worm_records.specs.declared.OutRecord.{OutRecord}
-use Rattle.worm_router.specs.Router.{RouterState, ChannelState, input_at, IsRouter, IsChannel, free_output, terminal, width}
+use Rattle.worm_router.specs.Router.{IsPlace, RouterState, ChannelState, input_at, IsRouter, IsChannel, free_output, terminal, width}
 use Rattle.worm_router.proofs.Kept.{both_set_sound, input_read, let_out_sound, full_after, full_before, no_credit}
-use Rattle.worm_router.specs.Busy.{is_waiting, is_active}
+use Rattle.worm_router.specs.Busy.{is_waiting, is_active, is_occupied, owes}
 use Rattle.worm_router.specs.declared.busy.BusyChannels.{BusyChannels}
 use Rattle.worm_router.proofs.Places.{input_of, output_of, output_read}
-use Rattle.worm_router.proofs.Filed.{busy_filed}
-use Rattle.worm_router.proofs.Leaving.{may_leave, leaves_active, leaves_by_state}
+use Rattle.worm_router.proofs.Filed.{busy_filed, inside_of}
+use Rattle.worm_router.proofs.Leaving.{may_leave, leaves_active, leaves_by_state, leaves_flit, owes_more}
 use Rattle.worm_router.proofs.InVain.{vain_left, holds_open, holds_waits_not, waits_not_after}
 use Rattle.worm_router.proofs.Holders.{holders_left}
+use Rattle.worm_router.proofs.Held.{held_filed, freed_or_held, held_by, has_held}
 use Rattle.worm_router.proofs.Candidates.{candidates_left}
 use Rattle.worm_router.proofs.router.Router.let_out.Goals as goal
 
@@ -71,5 +72,33 @@ invariant_of-self c =
           (ap (λ (u : OutRecord). u.holder) c.pass.ensures ∙ ap (λ b. if b then None else c.index_mut-output.result.now.holder) still)
           (c.self.invariant.in_vain parts.0);
       holders = holders_left _ _ _ _ _ _ _ _ _ _ _ (closes c.args.flit.kind) input output held_it (ap (λ (x : ChannelState). x.state) c.let_out.ensures) (ap (λ (u : OutRecord). u.holder) c.pass.ensures) c.self.invariant.holders;
+      held = held_filed _ _ _ _ _ _ _ _ (is_active c.let_out.new.self) output c.self.invariant.busy.few_ports c.self.invariant.busy.few_channels c.file_left.ensures.held
+          (ap (λ (u : OutRecord). is_some u.holder) c.pass.ensures
+          ∙ freed_or_held (closes c.args.flit.kind) c.index_mut-channel.result.now.state _ _ c.index_mut-output.result.now.holder held_it (held_by _ c.self.inside.busy.held _ _ _ _ _ _ _ _ input output held_it c.self.invariant.holders)
+          ∙ sym (ap is_active c.let_out.ensures))
+          c.self.invariant.held;
+      classes = c.self.invariant.classes;
       candidates = candidates_left _ _ _ _ _ _ _ _ _ _ _ c.credit_of-spent.result _ _ input output c.self.invariant.busy.few_ports c.self.invariant.busy.few_channels c.file_left.ensures.candidates (ap (λ (u : OutRecord). u.credits) c.pass.ensures) c.self.invariant.candidates;
     }
+
+pub file_left-requires-clause-was_held : goal.file_left-requires-clause-was_held
+file_left-requires-clause-was_held c =
+    let input = input_of _ c.args.self.now c.args.port c.args.vc c.line-i.result c.index_mut-channel.result.now c.self.view_is c.requires.place c.line-i.ensures.value c.line-i.ensures.in_inputs c.index_mut-channel.ensures.value in
+    let there = may_leave c.args.self.now c.args.port c.args.vc (c.args.out, c.args.flit) (subst IsRouter c.self.view_is c.self.invariant.router) c.requires.place c.requires.ready in
+    let here : c.index_mut-channel.result.now ≡ input_at c.args.self.now c.args.port c.args.vc = input_read _ c.args.self.now c.args.port c.args.vc c.line-i.result c.index_mut-channel.result.now c.self.view_is c.index_mut-channel.ensures.value c.line-i.ensures.value c.line-i.ensures.in_inputs in
+    let active = ap (λ (k : ChannelState). k.state) here
+    ∙ leaves_by_state c.args.self.now c.args.port (input_at c.args.self.now c.args.port c.args.vc) (input_at c.args.self.now c.args.port c.args.vc).state (input_at c.args.self.now c.args.port c.args.vc).buffer (c.args.out, c.args.flit) c.requires.ready in
+    has_held _ _ _ _ _ _ c.args.out c.args.flit.vc input (subst (λ (r : RouterState). IsPlace r c.args.out c.args.flit.vc) (sym c.self.view_is) (record { port_in = there.out_in; channel_in = there.channel_in })) active c.self.invariant.holders c.self.invariant.held
+
+pub file_left-requires-clause-had_flit : goal.file_left-requires-clause-had_flit
+file_left-requires-clause-had_flit c =
+    let input = input_of _ c.args.self.now c.args.port c.args.vc c.line-i.result c.index_mut-channel.result.now c.self.view_is c.requires.place c.line-i.ensures.value c.line-i.ensures.in_inputs c.index_mut-channel.ensures.value in
+    let here : c.index_mut-channel.result.now ≡ input_at c.args.self.now c.args.port c.args.vc = input_read _ c.args.self.now c.args.port c.args.vc c.line-i.result c.index_mut-channel.result.now c.self.view_is c.index_mut-channel.ensures.value c.line-i.ensures.value c.line-i.ensures.in_inputs in
+    inside_of is_occupied _ _ _ _ _ _ input c.self.invariant.busy.occupied ∙ ap is_occupied here
+    ∙ leaves_flit c.args.self.now c.args.port (input_at c.args.self.now c.args.port c.args.vc) (input_at c.args.self.now c.args.port c.args.vc).state (input_at c.args.self.now c.args.port c.args.vc).buffer (c.args.out, c.args.flit) c.requires.ready
+
+pub file_left-requires-clause-owes_no_less : goal.file_left-requires-clause-owes_no_less
+file_left-requires-clause-owes_no_less c = λ owed.
+    let input = input_of _ c.args.self.now c.args.port c.args.vc c.line-i.result c.index_mut-channel.result.now c.self.view_is c.requires.place c.line-i.ensures.value c.line-i.ensures.in_inputs c.index_mut-channel.ensures.value in
+    let some : owes c.index_mut-channel.result.now ≡ true = sym (inside_of owes _ _ _ _ _ _ input c.self.invariant.busy.owing) ∙ owed in
+    ap owes c.let_out.ensures ∙ owes_more c.index_mut-channel.result.now.owed c.credit_of-more_owed.result some

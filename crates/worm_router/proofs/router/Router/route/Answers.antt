@@ -8,6 +8,7 @@ use Rattle.worm_router.proofs.Kept.{input_set_sound, read_sound, waiting_sound}
 use Rattle.worm_router.proofs.Filed.{busy_filed, filed}
 use Rattle.worm_records.specs.declared.InRecord.TheVariants.{Idle}
 use Rattle.worm_router.proofs.Holders.{holders_in}
+use Rattle.worm_router.proofs.Held.{held_as}
 use Rattle.worm_router.proofs.Candidates.{candidates_waiting}
 use Rattle.worm_router.proofs.router.Router.route.Goals as goal
 use Rattle.worm_router.proofs.router.Router.route.Goals.{in-Idle, in_default}
@@ -32,5 +33,7 @@ invariant_of-self c =
           (inr (ap (λ (b : BusyChannels). b.owing) c.file_waiting.ensures.others, ap owes c.set_state.ensures));
       in_vain = λ yes. let no : true ≡ false = sym yes ∙ ap (λ (b : BusyChannels). b.in_vain) c.file_waiting.ensures.others in absurd (cc);
       holders = holders_in _ _ _ _ _ _ input (λ o k holds. let unlike = sym (ap (λ (x : ChannelState). x.state) c.set_state.ensures) ∙ holds in absurd (cc)) c.self.invariant.holders;
+      held = held_as _ _ _ _ _ _ c.self.invariant.held (ap (λ (b : BusyChannels). b.held) c.file_waiting.ensures.others);
+      classes = c.self.invariant.classes;
       candidates = subst (AreCandidates _) (sym (ap (λ (b : BusyChannels). b.candidates) c.file_waiting.ensures.others)) (candidates_waiting _ _ _ _ _ _ _ input c.self.invariant.busy.few_ports c.self.invariant.busy.few_channels (ap is_active c.set_state.ensures) c.self.invariant.candidates);
     }
