@@ -56,6 +56,13 @@ impl SwAlloc {
         }
     }
 
+    /// What holds of every allocator, for whoever has one.
+    pub fn is_sound(&self)
+        ensures { IsSwAlloc self.now.ports self.now.channels self.now.inputs self.now.outputs }
+    {
+        let _ports = self.ports;
+    }
+
     /// One pass over the ready channels: at most one grant for each input port and for each output
     /// port.
     pub fn grant(&mut self, ready: &ReadyOuts) -> SwGrants
