@@ -1,5 +1,5 @@
 -- Where no input channel can be granted an output channel, and what keeps that so.
-use Rattle.std.proofs.Common.{◌≡◌, ℕ, ◌+◌, ◌<◌, ◌≤◌, ◌&&◌, ◌==◌, Bool, true, false, not, nat_le, nat_lt, if◌then◌else◌, inl, inr, List, [], ◌∷◌, ◌++◌, length, slice_set, slice_index_or, Option, None, Some, is_some, is_none, Result, Ok, Err, OnOk, IfErr, refl, arith, ap, sym, ◌∙◌, subst}
+use Rattle.std.proofs.Common.{◌≡◌, ℕ, ◌<◌, ◌≤◌, ◌&&◌, ◌==◌, Bool, true, false, not, nat_le, nat_lt, if◌then◌else◌, inl, inr, List, [], ◌∷◌, ◌++◌, length, slice_set, slice_index_or, None, Some, is_none, Result, Ok, Err, OnOk, IfErr, refl, arith, ap, sym, ◌∙◌, subst}
 use Rattle.std.specs.Int.{bit_at}
 use Rattle.std.proofs.lemmas.Grind.{get_or-set_at}
 use Rattle.std.proofs.lemmas.Bool.{cases_eq, cases_lt, eq-eqb}
@@ -11,20 +11,16 @@ use Rattle.worm_flit.proofs.Masks.{class_bits-owns}
 use Rattle.worm_records.specs.declared.InRecord.{InRecord}
 use Rattle.worm_records.specs.declared.InRecord.TheVariants.{Idle, Waiting, Active}
 use Rattle.worm_records.specs.declared.OutRecord.{OutRecord}
-use Rattle.worm_vcalloc.specs.declared.request.VcRequest.{VcRequest}
 use Rattle.worm_vcalloc.specs.VcRequest.{may_use}
 use Rattle.worm_vcalloc.specs.Table.{cell}
-use Rattle.worm_vcalloc.specs.ChannelSet.{has}
-use Rattle.worm_vcalloc.specs.VcAlloc.{IsChannelMatching}
 use Rattle.worm_vcalloc.proofs.SetLemmas.{has-empty}
-use Rattle.worm_router.specs.Router.{RouterState, ChannelState, IsRouter, IsPlace, StateFits, terminal, width, line, fresh_channel, free_output, input_at, output_at, granting, put_in}
+use Rattle.worm_router.specs.Router.{RouterState, ChannelState, IsPlace, StateFits, terminal, width, line, fresh_channel, free_output, input_at, output_at, granting, put_in}
 use Rattle.worm_router.specs.Busy.{IsSetOf, waits, holds, is_waiting, is_occupied}
 use Rattle.worm_router.specs.Tables.{table}
 use Rattle.worm_router.specs.Allocation.{within, asking, request_at, requests, is_free, free_channels, GrantsNothing}
 use Rattle.worm_router.proofs.TableRows.{cell-table, IsTable-table}
-use Rattle.worm_router.proofs.NothingWaits.{NobodyUses, NoGrants}
+use Rattle.worm_router.proofs.NothingWaits.{NobodyUses}
 use Rattle.worm_router.proofs.Places.{IsInput, IsOutput, same_at}
-use Rattle.worm_router.proofs.Leaving.{channel_at}
 
 -- ---- no channel waits
 
@@ -88,22 +84,9 @@ nobody_uses r none = λ out c p v free.
     cell_has (λ q. may_use q out c ≡ false) r None (request_at r) p v refl
     (λ place. nobody_by r (input_at r p v).state (input_at r p v).buffer out c (none p v c place.port_in place.channel_in at.0.channel_in) at.1)
 
--- ---- a pass that granted nothing
+-- ---- where no free channel may be used
 
--- nothing but channels is granted
-none_given : (ports channels keys : ℕ) (waiting : List (List (Option VcRequest))) (free : List (List Bool)) (grants : List (List (Option ℕ)))
-    → ports ≤ 7 → channels ≤ 8 → IsChannelMatching ports channels waiting free grants
-    → ((p v : ℕ) → p < 7 → v < 8 → has keys p v ≡ is_some (cell grants p v None)) → (keys == 0) ≡ true
-    → (p v : ℕ) → cell grants p v None ≡ None
-none_given ports channels keys waiting free grants few_ports few_channels matching are none p v = by_cell (cell grants p v None) refl where
-  by_cell : (o : Option ℕ) → cell grants p v None ≡ o → cell grants p v None ≡ None
-  by_cell None e = e
-  by_cell (Some k) e =
-      let won = matching.requested p v k e in
-      let no : true ≡ false = sym (ap is_some e) ∙ sym (are p v (omega (arith, won.3)) (omega (arith, won.4))) ∙ has-empty keys p v none in
-      absurd (cc)
-
-vain_by : (r : RouterState) (s : InRecord) (fs : List Flit) (c : ℕ) → StateFits (terminal r) (width r) s
+pub vain_by : (r : RouterState) (s : InRecord) (fs : List Flit) (c : ℕ) → StateFits (terminal r) (width r) s
     → ((o : ℕ) → o ≤ terminal r → is_free r o c ≡ true → may_use (asking r s fs) o c ≡ true → ⊥) → granting r s fs c ≡ None
 vain_by r Idle fs c fits never = refl
 vain_by r (Active o v) fs c fits never = refl
@@ -114,20 +97,6 @@ vain_by r (Waiting o) (f ∷ fs) c fits never = by_test (is_none (output_at r o 
       absurd (never o fits e (ap (λ k. k && (bit_at (class_bits r.channels f.lane.class) c == 1)) (eq-eqb o o refl) ∙ class_bits-owns r.channels f.lane.class c ∙ g))
   by_test true false e g = refl
   by_test false b e g = refl
-
-pub all_in_vain : (r : RouterState) (grants : List (List (Option ℕ))) → IsRouter r → terminal r ≤ 6 → width r ≤ 8
-    → IsChannelMatching (terminal r + 1) (width r) (requests r) (free_channels r) grants → NoGrants grants → GrantsNothing r
-all_in_vain r grants sound few_ports few_channels matching none = λ p v c p_in v_in c_in.
-    let place : IsPlace r p v = record { port_in = p_in; channel_in = v_in } in
-    let here = channel_at r p v sound place in
-    vain_by r (input_at r p v).state (input_at r p v).buffer c here.state_fits (λ o o_in free asks.
-    let out_place : IsPlace r o c = record { port_in = o_in; channel_in = c_in } in
-    let winner = matching.complete o c p v (omega arith) c_in (omega arith) v_in
-    (cell_is r false (is_free r) o c few_ports few_channels out_place ∙ free)
-    (ap (λ q. may_use q o c) (cell_is r None (request_at r) p v few_ports few_channels place) ∙ asks)
-    (none p v) in
-    let no : None ≡ Some c = sym (none winner.0 winner.1) ∙ winner.2.granted in
-    absurd (cc))
 
 -- ---- what keeps it so
 
@@ -206,27 +175,6 @@ holds_open false s e = refl
 pub waits_not_after : (closed : Bool) (s : InRecord) → waits s ≡ false → waits (if closed then Idle else s) ≡ false
 waits_not_after true s e = refl
 waits_not_after false s e = e
-
--- a pass that granted nothing
-pub no_pass_grants : (r s : RouterState) (ports channels keys : ℕ) (waiting : List (List (Option VcRequest))) (free : List (List Bool)) (grants : List (List (Option ℕ)))
-    → r ≡ s → terminal r ≤ 6 → width r ≤ 8 → ports ≡ terminal r + 1 → channels ≡ width r → IsChannelMatching ports channels waiting free grants
-    → ((p v : ℕ) → p < 7 → v < 8 → has keys p v ≡ is_some (cell grants p v None)) → (keys == 0) ≡ true
-    → NoGrants grants
-no_pass_grants r s ports channels keys waiting free grants same few_ports few_channels all all' matching are none =
-    none_given ports channels keys waiting free grants (omega arith) (omega arith) matching are none
-
-pub passed_in_vain : (r s : RouterState) (ports channels keys : ℕ) (waiting : List (List (Option VcRequest))) (free : List (List Bool)) (grants : List (List (Option ℕ)))
-    → r ≡ s → IsRouter r → terminal r ≤ 6 → width r ≤ 8 → ports ≡ terminal r + 1 → channels ≡ width r → waiting ≡ requests s → free ≡ free_channels s
-    → IsChannelMatching ports channels waiting free grants → NoGrants grants → GrantsNothing r
-passed_in_vain r s ports channels keys waiting free grants same sound few_ports few_channels all all' asked unheld matching none =
-    let asked_here : waiting ≡ requests r = asked ∙ ap requests (sym same) in
-    let unheld_here : free ≡ free_channels r = unheld ∙ ap free_channels (sym same) in
-    let here : IsChannelMatching (terminal r + 1) (width r) (requests r) (free_channels r) grants =
-    subst (λ n. IsChannelMatching n (width r) (requests r) (free_channels r) grants) all
-    (subst (λ n. IsChannelMatching ports n (requests r) (free_channels r) grants) all'
-    (subst (λ (q : List (List (Option VcRequest))). IsChannelMatching ports channels q (free_channels r) grants) asked_here
-    (subst (λ (q : List (List Bool)). IsChannelMatching ports channels waiting q grants) unheld_here matching))) in
-    all_in_vain r grants sound few_ports few_channels here none
 
 -- a flit that left and did not close
 pub vain_left : (r : RouterState) (port vc i out out_vc o : ℕ) (had now : ChannelState) (had_out u : OutRecord) → IsInput r port vc i had → IsOutput r out out_vc o had_out

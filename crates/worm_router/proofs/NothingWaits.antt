@@ -6,13 +6,13 @@ use Rattle.worm_vcalloc.specs.declared.request.VcRequest.{VcRequest}
 use Rattle.worm_vcalloc.specs.VcRequest.{may_use}
 use Rattle.worm_vcalloc.specs.Arbiter.{ArbiterState, no_arbiter, winner, asked_in_order, after_pick}
 use Rattle.worm_vcalloc.specs.Table.{cell, with_cell}
-use Rattle.worm_vcalloc.specs.VcAlloc.{VcAllocState, VcPass, IsChannelMatching, is_requester, offered, vc_step, port_pass, vc_pass, with_grant}
+use Rattle.worm_vcalloc.specs.VcAlloc.{VcPass, IsChannelMatching, is_requester, offered, vc_step, port_pass, vc_pass, with_grant}
 use Rattle.worm_vcalloc.proofs.TableLemmas.{with_cell_same, cell-replicate}
 use Rattle.worm_router.specs.Router.{RouterState, terminal, width}
 use Rattle.worm_router.specs.Allocation.{requests, free_channels, channel_pass, written, with_port_grants, with_grants, after_allocate}
 
 -- steps that each leave what there is leave it together
-fold_same : {X : Type 0} (step : X → ℕ → X) (x : X) (ns : List ℕ) → ((n : ℕ) → step x n ≡ x) → fold step x ns ≡ x
+pub fold_same : {X : Type 0} (step : X → ℕ → X) (x : X) (ns : List ℕ) → ((n : ℕ) → step x n ≡ x) → fold step x ns ≡ x
 fold_same step x [] same = refl
 fold_same step x (n ∷ ns) same = ap (λ y. fold step y ns) (same n) ∙ fold_same step x ns same
 
@@ -89,18 +89,3 @@ idle_matching ports channels waiting free nobody = record {
   once = λ port vc port' vc' out channel one two. let no : None ≡ Some channel = sym (none_granted port vc) ∙ one.granted in absurd (cc);
   complete = λ out channel port vc _ _ _ _ is_free asks _. let no : true ≡ false = sym asks ∙ nobody out channel port vc is_free in absurd (cc);
 }
-
--- a pass that granted nothing leaves all but its arbiters
-pub pass_without : (r s : RouterState) (alloc : VcAllocState) (waiting : List (List (Option VcRequest))) (free : List (List Bool)) (grants : List (List (Option ℕ)))
-    → r ≡ s → waiting ≡ requests s → free ≡ free_channels s
-    → record { alloc = alloc; grants = grants } ≡ vc_pass waiting free (record { alloc = r.channel_alloc; grants = no_grants })
-    → NoGrants grants → record r { channel_alloc = alloc } ≡ after_allocate s
-pass_without r s alloc waiting free grants same asked unheld pass none =
-    let is : record { alloc = alloc; grants = grants } ≡ channel_pass s =
-    pass
-    ∙ ap (λ q. vc_pass q free (record { alloc = r.channel_alloc; grants = no_grants })) asked
-    ∙ ap (λ f. vc_pass (requests s) f (record { alloc = r.channel_alloc; grants = no_grants })) unheld
-    ∙ ap (λ (q : RouterState). vc_pass (requests s) (free_channels s) (record { alloc = q.channel_alloc; grants = no_grants })) same in
-    ap (λ (q : RouterState). record q { channel_alloc = alloc }) same
-    ∙ sym (ungranted grants none (record s { channel_alloc = alloc }))
-    ∙ ap (λ (p : VcPass). with_grants p.grants (record s { channel_alloc = p.alloc })) is

@@ -1,17 +1,16 @@
 -- Tables filled for the channels of a set alone, where any other channel has nothing to put there.
-use Rattle.std.proofs.Common.{◌≡◌, ℕ, ◌<◌, ◌&&◌, ◌==◌, Bool, true, false, nat_le, nat_lt, if◌then◌else◌, inl, inr, List, Option, None, replicate, refl, arith, ap, sym, ◌∙◌, subst}
+use Rattle.std.proofs.Common.{◌≡◌, ℕ, ◌<◌, ◌&&◌, ◌==◌, Bool, true, false, nat_le, nat_lt, if◌then◌else◌, inl, inr, List, Option, None, replicate, refl, arith, ap, sym, ◌∙◌, subst, Some, is_some, ◌≤◌}
+use Rattle.std.specs.Option.{option_map}
 use Rattle.std.proofs.lemmas.Bool.{cases_eq}
-use Rattle.worm_records.specs.declared.InRecord.{InRecord}
-use Rattle.worm_records.specs.declared.InRecord.TheVariants.{Idle, Waiting, Active}
 use Rattle.worm_flit.specs.declared.Flit.{Flit}
 use Rattle.worm_vcalloc.specs.ChannelSet.{has, IsFirst}
 use Rattle.worm_vcalloc.specs.Table.{cell, with_cell, IsTable}
 use Rattle.worm_vcalloc.proofs.SetLemmas.{has-zero}
 use Rattle.worm_vcalloc.proofs.TableLemmas.{cell-with_cell_same, cell-with_cell_other, IsTable-with_cell, cell-replicate, IsTable-replicate}
-use Rattle.worm_router.specs.Router.{RouterState, IsPlace, terminal, width, input_at}
-use Rattle.worm_router.specs.Busy.{IsSetOf, waits, is_waiting}
+use Rattle.worm_router.specs.Router.{RouterState, IsPlace, terminal, width, input_at, leaving}
+use Rattle.worm_router.specs.Busy.{IsSetOf, waits, is_waiting, AreCandidates}
 use Rattle.worm_router.specs.Tables.{table}
-use Rattle.worm_router.specs.Allocation.{within, asking, request_at, requests}
+use Rattle.worm_router.specs.Allocation.{within, asking, request_at, requests, ready_at, ready_outs}
 use Rattle.worm_router.proofs.TableRows.{same_tables, cell-table, IsTable-table}
 
 -- the channels that are left of a set are places of the router, and each other cell is filled
@@ -77,22 +76,3 @@ pub filled_all : {X : Type 0} (r : RouterState) (f : ℕ → ℕ → Option X) (
 filled_all r f left t done none =
     same_tables None t (table (within r None f)) done.shape (IsTable-table (within r None f)) (λ p v p_in v_in.
     done.filled p v p_in v_in (ap (λ s. has s p v) none ∙ has-zero p v) ∙ sym (cell-table (within r None f) p v None p_in v_in))
-
--- ---- the requests
-
-asks_nothing : (r : RouterState) (s : InRecord) (fs : List Flit) → waits s ≡ false → asking r s fs ≡ None
-asks_nothing r Idle fs e = refl
-asks_nothing r (Active o c) fs e = refl
-asks_nothing r (Waiting o) fs e = absurd (cc)
-
-pub requests_begin : (r : RouterState) (all : ℕ) → IsSetOf is_waiting r all → IsFilled r (request_at r) all (replicate 7 (replicate 8 None))
-requests_begin r all is =
-    filled_begins r (request_at r) all
-    (λ p v p_in v_in inside. let at = is.outside p v p_in v_in inside in record { port_in = at.0; channel_in = at.1 })
-    (λ p v place out. asks_nothing r (input_at r p v).state (input_at r p v).buffer (sym (is.inside p v place.port_in place.channel_in) ∙ out))
-
--- where no channel waits nothing is asked for
-pub nothing_asked : (r : RouterState) (all : ℕ) → IsSetOf is_waiting r all → (all == 0) ≡ true → requests r ≡ replicate 7 (replicate 8 None)
-nothing_asked r all is none =
-    let e : all ≡ 0 = grind arith in
-    sym (filled_all r (request_at r) all (replicate 7 (replicate 8 None)) (requests_begin r all is) e)

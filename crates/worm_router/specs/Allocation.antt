@@ -9,11 +9,12 @@ use Rattle.worm_records.specs.declared.InRecord.TheVariants.{Idle, Waiting, Acti
 use Rattle.worm_vcalloc.specs.declared.request.VcRequest.{VcRequest}
 use Rattle.worm_vcalloc.specs.VcRequest.{may_use}
 use Rattle.worm_vcalloc.specs.Table.{cell}
-use Rattle.worm_vcalloc.specs.VcAlloc.{VcPass, vc_pass}
+use Rattle.worm_vcalloc.specs.ChannelSet.{has}
+use Rattle.worm_vcalloc.specs.VcAlloc.{VcPass, IsChannelMatching, vc_pass}
 use Rattle.worm_swalloc.specs.declared.grant.SwGrant.{SwGrant}
 use Rattle.worm_swalloc.specs.SwAlloc.{sw_grants, sw_after}
 use Rattle.worm_router.specs.Tables.{table}
-use Rattle.worm_router.specs.Router.{RouterState, terminal, width, input_at, output_at, can_grant, after_grant, leaving}
+use Rattle.worm_router.specs.Router.{RouterState, IsPlace, terminal, width, input_at, output_at, can_grant, after_grant, leaving}
 
 -- what f says of a port and channel of the router; of any other, d
 abbrev pub within : {X : Type 0} → RouterState → X → (ℕ → ℕ → X) → ℕ → ℕ → X
@@ -40,9 +41,36 @@ is_free r out c = is_none (output_at r out c).holder
 abbrev pub free_channels : RouterState → List (List Bool)
 free_channels r = table (within r false (is_free r))
 
--- two tables say the same of each output channel that some input channel may use
-abbrev pub AgreeWhereAsked : List (List (Option VcRequest)) → List (List Bool) → List (List Bool) → Type 0
-AgreeWhereAsked waiting f g = (out c port vc : ℕ) → may_use (cell waiting port vc None) out c ≡ true → cell f out c false ≡ cell g out c false
+-- two tables of requests say the same of each free output channel
+abbrev pub AgreeWhereFree : List (List Bool) → List (List (Option VcRequest)) → List (List (Option VcRequest)) → Type 0
+AgreeWhereFree free v w = (out c port vc : ℕ) → cell free out c false ≡ true → may_use (cell v port vc None) out c ≡ may_use (cell w port vc None) out c
+
+-- an output channel is free, and an input channel may use it
+abbrev pub may_get : RouterState → ℕ → ℕ → ℕ → ℕ → Bool
+may_get r port vc out c = is_free r out c && may_use (request_at r port vc) out c
+
+-- no free output channel is for this input channel
+abbrev pub HasNoChoice : RouterState → ℕ → ℕ → Type 0
+HasNoChoice r port vc = (out c : ℕ) → IsPlace r out c → may_get r port vc out c ≡ false
+
+-- the first output channel that is free for this input channel
+pub record IsFirstChoice (r : RouterState) (port vc out c : ℕ) : Type 0 where
+  pub place : IsPlace r out c
+  pub gets : may_get r port vc out c ≡ true
+  pub first : (k : ℕ) → k < c → may_get r port vc out k ≡ false
+
+-- a set of input channels has each for which some output channel is free
+pub record IsHopeful (r : RouterState) (set : ℕ) : Type 0 where
+  pub all : (p v o c : ℕ) → IsPlace r p v → IsPlace r o c → may_get r p v o c ≡ true → has set p v ≡ true
+  pub places : (p v : ℕ) → p < 7 → v < 8 → has set p v ≡ true → IsPlace r p v
+
+-- output channels are free for this input channel alone
+abbrev pub IsSoleHope : RouterState → ℕ → ℕ → Type 0
+IsSoleHope r port vc = (p v o c : ℕ) → IsPlace r p v → IsPlace r o c → may_get r p v o c ≡ true → (p ≡ port) × (v ≡ vc)
+
+-- the requests of the input channels of a set
+abbrev pub requests_among : RouterState → ℕ → List (List (Option VcRequest))
+requests_among r set = table (within r None (λ port vc. if has set port vc then request_at r port vc else None))
 
 -- one pass of the channel allocator, over the requests and the free channels that the records state
 abbrev pub channel_pass : RouterState → VcPass
@@ -77,6 +105,13 @@ with_grants grants r = fold (with_port_grants grants) r (range_with_len 0 (termi
 
 abbrev pub after_allocate : RouterState → RouterState
 after_allocate r = with_grants (channel_pass r).grants (record r { channel_alloc = (channel_pass r).alloc })
+
+-- what a pass of the channel allocator leaves, with its grants
+pub record IsAllocated (old new : RouterState) (grants : List (List (Option ℕ))) : Type 0 where
+  pub grants_are : grants ≡ (channel_pass old).grants
+  pub after : new ≡ after_allocate old
+  pub same : IsSameSize old new
+  pub matching : IsChannelMatching (terminal old + 1) (width old) (requests old) (free_channels old) grants
 
 -- Switch allocation
 

@@ -7,3 +7,4 @@ pub mod FiledLemmas
 pub mod PassLemmas
 pub mod MatchingLemmas
 pub mod GatherLemmas
+pub mod SoleLemmas

@@ -16,7 +16,7 @@ use Rattle.worm_vcalloc.proofs.PassLemmas.{fold-range_next}
 -- ---- one step
 
 -- a request names one output port
-may_use_out : (r : Option VcRequest) (out channel out' channel' : ℕ) → may_use r out channel ≡ true → may_use r out' channel' ≡ true → out ≡ out'
+pub may_use_out : (r : Option VcRequest) (out channel out' channel' : ℕ) → may_use r out channel ≡ true → may_use r out' channel' ≡ true → out ≡ out'
 may_use_out r out channel out' channel' a b = one r (and_parts _ _ a).0 (and_parts _ _ b).0 where
   one : (r : Option VcRequest) → is_for r out ≡ true → is_for r out' ≡ true → out ≡ out'
   one None e e' = absurd (cc)

@@ -5,14 +5,14 @@ ghost use Rattle.worm_flit.specs.Channels.{class_bits};
 ghost use Rattle.worm_vcalloc.specs.Table.{IsTable};
 ghost use Rattle.worm_vcalloc.specs.VcAlloc.{IsChannelMatching};
 ghost use Rattle.worm_swalloc.specs.SwAlloc.{IsSwitchMatching};
-ghost use Rattle.worm_router.specs.Router.{IsPlace, terminal, width, input_at, output_at, after_grant};
+ghost use Rattle.worm_router.specs.Router.{IsPlace, IsRouter, terminal, width, input_at, output_at, after_grant};
 ghost use Rattle.worm_router.specs.Tables.{PutsRow};
-ghost use Rattle.worm_router.specs.Allocation.{request_at, requests, is_free, free_channels, ready_at, ready_outs, AgreeWhereAsked, GrantsNothing, GrantsWithin, written, channel_pass, after_allocate, with_port_grants, with_grants, switch_grants, after_choose};
+ghost use Rattle.worm_router.specs.Allocation.{request_at, requests, is_free, free_channels, HasNoChoice, IsFirstChoice, IsHopeful, IsSoleHope, requests_among, IsAllocated, ready_at, ready_outs, GrantsNothing, GrantsWithin, written, channel_pass, after_allocate, with_port_grants, with_grants, switch_grants, after_choose};
 ghost use Rattle.worm_router.specs.Allocation.{IsSameSize};
 
 use crate::router::Router;
 use worm_records::InRecord;
-use worm_vcalloc::{FreeChannels, VcGrants, VcRequest, VcRequests};
+use worm_vcalloc::{ChannelSet, FreeChannels, VcGrants, VcRequest, VcRequests};
 
 impl Router {
     /// The channels of a class, as a bit for each.
@@ -41,12 +41,38 @@ impl Router {
         })
     }
 
-    /// What all input channels ask for. Those that do not wait ask for nothing.
-    fn requests(&self) -> VcRequests
-        ensures { result ≡ requests self.now }
+    /// The first channel that is free for this input channel, with its output port.
+    fn first_choice(&self, port: u8, vc: u8) -> Option<(u8, u8)>
+        requires { IsPlace self.now port vc }
+        ensures { MatchOption result (HasNoChoice self.now port vc) (λ choice. IsFirstChoice self.now port vc choice.0 choice.1) }
+    {
+        let request = self.request(port, vc)?;
+        let channel = self.busy.held.first_outside(request.out, request.allowed)?;
+        Some((request.out, channel))
+    }
+
+    /// The input channels for which some output channel is free. A pass may leave out all others.
+    fn hopeful(&self) -> ChannelSet
+        ensures hopeful { IsHopeful self.now result }
+        ensures sound { IsRouter self.now }
+        ensures few_ports { terminal self.now ≤ 6 }
+        ensures few_channels { width self.now ≤ 8 }
+    {
+        let mut hopeful = ChannelSet::new();
+        let mut left = self.busy.waiting;
+        while let Some((port, vc)) = left.pop_first() {
+            hopeful.put(port, vc, self.first_choice(port, vc).is_some());
+        }
+        hopeful
+    }
+
+    /// What these input channels ask for.
+    fn requests(&self, among: ChannelSet) -> VcRequests
+        requires { IsHopeful self.now among }
+        ensures { result ≡ requests_among self.now among }
     {
         let mut asked = VcRequests::new();
-        let mut left = self.waiting();
+        let mut left = among;
         while let Some((port, vc)) = left.pop_first() {
             asked.set(port, vc, self.request(port, vc));
         }
@@ -73,27 +99,13 @@ impl Router {
         }
     }
 
-    /// Marks the free channels of the output port that a request is for, if there is one.
-    fn add_asked(&self, request: Option<VcRequest>, free: &mut FreeChannels)
-        requires there { IfSome request (λ asked. asked.out ≤ terminal self.now) }
-        requires few { terminal self.now ≤ 6 }
-        requires shape { IsTable free.old }
-        ensures { MatchOption request (free.new ≡ free.old) (λ asked. PutsRow false (is_free self.now asked.out) (width self.now) asked.out free.old free.new) }
-    {
-        if let Some(asked) = request {
-            self.add_free(asked.out, free);
-        }
-    }
-
-    /// Which output channels are free, of the ports that are asked for; no channel of another port is marked.
-    fn free_asked(&self, asked: &VcRequests) -> FreeChannels
-        requires { asked.now ≡ requests self.now }
-        ensures { AgreeWhereAsked asked.now result (free_channels self.now) }
+    /// Which output channels are free.
+    fn free_channels(&self) -> FreeChannels
+        ensures { result ≡ free_channels self.now }
     {
         let mut free = [[false; 8]; 7];
-        let mut left = self.busy.waiting;
-        while let Some((port, vc)) = left.pop_first() {
-            self.add_asked(asked.get(port, vc), &mut free);
+        for out in 0..self.terminal() + 1 {
+            self.add_free(out, &mut free);
         }
         free
     }
@@ -137,6 +149,44 @@ impl Router {
         }
     }
 
+    /// Remembers that those that wait do so in vain.
+    fn file_in_vain(&mut self)
+        requires { GrantsNothing self.old }
+        ensures { self.new ≡ self.old }
+    {
+        self.busy.in_vain = true;
+    }
+
+    /// The pass where output channels are free for one input channel alone: it gets the first of them.
+    fn grant_sole(&mut self, port: u8, vc: u8) -> VcGrants
+        requires place { IsPlace self.old port vc }
+        requires sole { IsSoleHope self.old port vc }
+        ensures { IsAllocated self.old self.new result }
+    {
+        let mut grants = VcGrants::new();
+        match self.first_choice(port, vc) {
+            None => self.file_in_vain(),
+            Some((out, out_vc)) => {
+                self.channel_alloc.grant_sole(port, vc, out, out_vc);
+                self.hold(port, vc, out, out_vc);
+                grants.set(port, vc, Some(out_vc));
+            }
+        }
+        grants
+    }
+
+    /// The pass where output channels are free for these input channels.
+    fn grant_among(&mut self, hopeful: ChannelSet) -> VcGrants
+        requires { IsHopeful self.old hopeful }
+        ensures { IsAllocated self.old self.new result }
+    {
+        let asked = self.requests(hopeful);
+        let free = self.free_channels();
+        let grants = self.channel_alloc.grant(&asked, &free);
+        self.write(&grants);
+        grants
+    }
+
     /// One pass of the channel allocator over the waiting channels and the free ones. Each grant is written into
     /// the records of the input channel and of the output channel (Dally and Towles, chapters 16 and 19).
     pub fn allocate(&mut self) -> VcGrants
@@ -148,14 +198,15 @@ impl Router {
         if self.grants_nothing() {
             return VcGrants::new();
         }
-        let asked = self.requests();
-        let free = self.free_asked(&asked);
-        let grants = self.channel_alloc.grant(&asked, &free);
-        if grants.keys().is_empty() {
-            self.busy.in_vain = true;
-        } else {
-            self.write(&grants);
+        let hopeful = self.hopeful();
+        let mut left = hopeful;
+        match left.pop_first() {
+            None => {
+                self.file_in_vain();
+                VcGrants::new()
+            }
+            Some((port, vc)) if left.is_empty() => self.grant_sole(port, vc),
+            Some(_) => self.grant_among(hopeful),
         }
-        grants
     }
 }
