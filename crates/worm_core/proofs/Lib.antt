@@ -28,6 +28,7 @@ pub mod DueEntries
 pub mod Turning
 pub mod Skipping
 pub mod Resting
+pub mod KeptStill
 pub mod Determined
 pub mod Allocating
 pub mod ViewLists

@@ -1,12 +1,10 @@
 ghost use Rattle.std.specs.Prelude.{IsTrue, true, false, ◌≡◌, ◌<◌, ◌≤◌, Some, OnOk, OnErr, IfErr, None, length, unwrap_or, if◌then◌else◌};
 ghost use Rattle.worm_router.specs.Router.{IsPlace, terminal, leaving};
-ghost use Rattle.worm_router.specs.Allocation.{switch_grants};
 ghost use Rattle.worm_term.specs.Source.{classes, front_of, refusal, after_offer, after_close};
-ghost use Rattle.worm_core.specs.Moves.{RoutesNothing, FrontFits, can_enter, chosen_router, fed_node, delivered_node};
+ghost use Rattle.worm_core.specs.Moves.{RoutesNothing, FrontFits, can_enter, fed_node, delivered_node};
 
 use worm_flit::{Flit, Lane, Packet};
 use worm_router::Router;
-use worm_swalloc::SwGrants;
 use worm_term::{OfferFault, Sink, Source};
 
 /// One node: its router, and the two ends of its lanes.
@@ -77,15 +75,6 @@ impl Node {
             .difference(&router.waiting())
             .difference(&router.active());
         unrouted.is_empty()
-    }
-
-    /// One pass of the switch allocator.
-    #[tactic(auto, unfolding(crate::specs::Moves::chosen_router))]
-    pub(crate) fn choose(&mut self) -> SwGrants
-        ensures grants { result ≡ switch_grants self.old.router }
-        ensures after { self.new ≡ record self.old { router = chosen_router self.old.router } }
-    {
-        self.router.choose()
     }
 
     /// Hands the packet to the source.
