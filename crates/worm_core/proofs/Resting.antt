@@ -119,7 +119,7 @@ credits_rest s x net x_in owes =
 
 -- a node that is kept as still
 
-is_nth : (s : NetState) (x : ℕ) → IsNet s → x < node_count s.mesh → nth_node s.nodes x ≡ node_at s x
+pub is_nth : (s : NetState) (x : ℕ) → IsNet s → x < node_count s.mesh → nth_node s.nodes x ≡ node_at s x
 is_nth s x net x_in = let all = net.framed.all_nodes in get_or_default s.nodes x no_node (fresh_node s.mesh s.channels s.depth x) (omega arith)
 
 -- a node whose router is at rest, and whose source has nothing to feed

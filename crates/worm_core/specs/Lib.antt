@@ -7,6 +7,7 @@ pub mod Ports
 pub mod Arrivals
 pub mod Moves
 pub mod Still
+pub mod UnderWay
 pub mod Runs
 pub mod Headline
 pub mod NewNet

@@ -8,6 +8,7 @@ ghost use Rattle.worm_router.specs.Router.{IsPlace, MayLeave, after_accept, afte
 ghost use Rattle.worm_term.specs.Source.{after_close, after_offer, classes, front_of, refusal};
 ghost use Rattle.worm_core.specs.State.{IsNetPlace, link_at, node_at, router_at, sink_at, source_at, texts_of, with_link, with_node, with_router, with_source};
 ghost use Rattle.worm_core.specs.Moves.{CreditFits, FrontFits, RoutesNothing, Sends, WayOut, after_getting, after_giving, after_take, can_enter, can_get, can_give, chosen_router, delivered_node, fed_node, front_credit, front_into, has_room, link_into, link_out};
+ghost use Rattle.worm_core.specs.UnderWay.{IsUnderWay, accepted_in, taken_in};
 
 mod parts;
 mod readers;
@@ -388,6 +389,21 @@ impl Fabric {
         ensures { result.now ≡ node_at self.now node }
     {
         self.nodes.node(node)
+    }
+
+    /// How many flits are under way, where it is known.
+    pub fn under_way(&self) -> Option<u64>
+        ensures { IsUnderWay (accepted_in self.now.nodes) (taken_in self.now.nodes) result }
+    {
+        self.nodes.under_way()
+    }
+
+    /// Keeps it that so many flits are under way, and counts on from there.
+    pub fn count(&mut self, under_way: Option<u64>)
+        requires { IsUnderWay (accepted_in self.old.nodes) (taken_in self.old.nodes) under_way }
+        ensures { self.new ≡ self.old }
+    {
+        self.nodes.count(under_way);
     }
 
     /// Whether each channel of the node with a flit has its route.

@@ -86,7 +86,7 @@ impl Net {
         let Ok(fabric) = Fabric::new(alloc, mesh, channels, config.depth, names) else {
             return Err(NetFault::NoMemory);
         };
-        Ok(Net { fabric })
+        Ok(Net { fabric }.counted())
     }
 
     /// What holds of every network, for whoever has one.

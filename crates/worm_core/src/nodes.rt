@@ -1,11 +1,13 @@
-//! The nodes of a network by number, and which of them are known to be still, so that a turn goes past them.
+//! The nodes of a network by number, which of them are known to be still, so that a turn goes past them, and how many flits are under
+//! way, so that a drain ends without a look at each node.
 
-ghost use Rattle.std.specs.Prelude.{◌≡◌, ◌<◌, ◌≤◌, IsTrue, IfErr, None, OnErr, OnOk, Some, length, slice_set, true, false, unwrap_or, if◌then◌else◌};
+ghost use Rattle.std.specs.Prelude.{ℕ, ◌≡◌, ◌+◌, ◌<◌, ◌≤◌, IsTrue, IfErr, None, OnErr, OnOk, Some, length, slice_set, true, false, unwrap_or, if◌then◌else◌};
 ghost use Rattle.std.specs.Borrow.{Lends, sem};
 ghost use Rattle.worm_router.specs.Router.{IsPlace, leaving, terminal};
 ghost use Rattle.worm_term.specs.Source.{after_close, after_offer, classes, front_of, refusal};
 ghost use Rattle.worm_core.specs.Moves.{FrontFits, can_enter, delivered_node, fed_node};
 ghost use Rattle.worm_core.specs.Still.{IsStill, nth_node, put_router, put_source};
+ghost use Rattle.worm_core.specs.UnderWay.{IsUnderWay, accepted_in, taken_in};
 ghost use Rattle.worm_core.specs.contracts.nodes.Nodes.{the_row};
 ghost use Rattle.worm_router.specs.contracts.router.Router.{the_row as router_row};
 
@@ -22,6 +24,8 @@ pub struct Nodes {
     list: Vec<Node>,
     /// Whether the node of this number is known to be still.
     still: [bool; 256],
+    /// How many flits their sources accepted and their sinks have not taken; `None` where that is not known.
+    under_way: Option<u64>,
 }
 
 impl Model for Nodes {
@@ -30,21 +34,38 @@ impl Model for Nodes {
 
     ghost Value = { List Node };
 
+    ghost use Rattle.std.specs.Prelude.{◌*◌};
     ghost use Rattle.worm_core.specs.Still.{KnowsStill};
+    ghost use Rattle.worm_core.specs.UnderWay.{IsUnderWay, accepted_in, taken_in};
 
     ghost view = { λ n. n.list.items };
 
-    ghost invariant = { λ n. KnowsStill n.list.items n.still };
+    ghost invariant = { λ n. KnowsStill n.list.items n.still × IsUnderWay (accepted_in n.list.items) (taken_in n.list.items) n.under_way };
+}
+
+/// The count after so many flits were accepted.
+fn more(count: Option<u64>, flits: u64) -> Option<u64>
+    ensures { (accepted taken : ℕ) → IsUnderWay accepted taken count → IsUnderWay (accepted + flits) taken result }
+{
+    count?.checked_add(flits)
+}
+
+/// The count after a flit was taken.
+fn one_fewer(count: Option<u64>) -> Option<u64>
+    ensures { (accepted taken : ℕ) → IsUnderWay accepted taken count → IsUnderWay accepted (taken + 1) result }
+{
+    count?.checked_sub(1)
 }
 
 impl Nodes {
-    /// These nodes.
+    /// These nodes. Nothing is known of them yet.
     pub fn new(list: Vec<Node>) -> Nodes
         ensures { result ≡ list.items }
     {
         Nodes {
             list,
             still: [false; 256],
+            under_way: None,
         }
     }
 
@@ -52,7 +73,11 @@ impl Nodes {
     pub fn into_list(self) -> Vec<Node>
         ensures { result.items ≡ self }
     {
-        let Nodes { list, still: _ } = self;
+        let Nodes {
+            list,
+            still: _,
+            under_way: _,
+        } = self;
         list
     }
 
@@ -91,6 +116,21 @@ impl Nodes {
         self.still[usize::from(node)] = true;
     }
 
+    /// How many flits are under way, where it is known.
+    pub fn under_way(&self) -> Option<u64>
+        ensures { IsUnderWay (accepted_in self.now) (taken_in self.now) result }
+    {
+        self.under_way
+    }
+
+    /// Keeps it that so many flits are under way, and counts on from there.
+    pub fn count(&mut self, under_way: Option<u64>)
+        requires { IsUnderWay (accepted_in self.old) (taken_in self.old) under_way }
+        ensures { self.new ≡ self.old }
+    {
+        self.under_way = under_way;
+    }
+
     /// Moves the next flit of the class from the node's source into its injection buffer, where there is one and that has room.
     pub fn feed(&mut self, node: u8, class: u8, port: u8) -> bool
         requires node { node < length self.old }
@@ -115,7 +155,11 @@ impl Nodes {
     {
         self.still[usize::from(node)] = false;
         let here = &mut self.list[usize::from(node)];
-        here.deliver(port, vc, out, flit)
+        if !here.deliver(port, vc, out, flit) {
+            return false;
+        }
+        self.under_way = one_fewer(self.under_way);
+        true
     }
 
     /// Hands the packet to the node's source.
@@ -129,7 +173,11 @@ impl Nodes {
     {
         self.still[usize::from(node)] = false;
         let here = &mut self.list[usize::from(node)];
-        here.offer(packet)
+        let answer = here.offer(packet);
+        if answer.is_ok() {
+            self.under_way = more(self.under_way, packet.words().len() as u64);
+        }
+        answer
     }
 
     /// Hands the lane's close mark to the node's source.
@@ -141,6 +189,10 @@ impl Nodes {
     {
         self.still[usize::from(node)] = false;
         let here = &mut self.list[usize::from(node)];
-        here.close(lane)
+        let answer = here.close(lane);
+        if answer.is_ok() {
+            self.under_way = more(self.under_way, 1);
+        }
+        answer
     }
 }
