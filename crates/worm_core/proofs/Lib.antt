@@ -28,6 +28,9 @@ pub mod DueEntries
 pub mod Turning
 pub mod Skipping
 pub mod Resting
+pub mod KeptStill
+pub mod CountsUnderWay
+pub mod TotalsUnderWay
 pub mod Determined
 pub mod Allocating
 pub mod ViewLists

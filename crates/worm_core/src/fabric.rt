@@ -8,6 +8,7 @@ ghost use Rattle.worm_router.specs.Router.{IsPlace, MayLeave, after_accept, afte
 ghost use Rattle.worm_term.specs.Source.{after_close, after_offer, classes, front_of, refusal};
 ghost use Rattle.worm_core.specs.State.{IsNetPlace, link_at, node_at, router_at, sink_at, source_at, texts_of, with_link, with_node, with_router, with_source};
 ghost use Rattle.worm_core.specs.Moves.{CreditFits, FrontFits, RoutesNothing, Sends, WayOut, after_getting, after_giving, after_take, can_enter, can_get, can_give, chosen_router, delivered_node, fed_node, front_credit, front_into, has_room, link_into, link_out};
+ghost use Rattle.worm_core.specs.UnderWay.{IsUnderWay, accepted_in, taken_in};
 
 mod parts;
 mod readers;
@@ -16,6 +17,7 @@ mod still;
 
 use crate::fresh::{make_links, make_nodes};
 use crate::links::Links;
+use crate::nodes::Nodes;
 use crate::{Moved, Name, Node, StepFault};
 use arrayvec::ArrayVec;
 use std::alloc::{AllocError, Global};
@@ -37,7 +39,7 @@ pub struct Fabric {
     /// The classes' names.
     names: ArrayVec<Name, 4>,
     /// The nodes by number.
-    nodes: Vec<Node>,
+    nodes: Nodes,
 }
 
 impl Model for Fabric {
@@ -45,7 +47,7 @@ impl Model for Fabric {
 
     ghost Value = { NetState };
 
-    ghost view = { λ n. net_state n.links.mesh n.classes n.depth (texts_of n.names.items) n.nodes.items n.links.states };
+    ghost view = { λ n. net_state n.links.mesh n.classes n.depth (texts_of n.names.items) n.nodes n.links.states };
 }
 
 impl Fabric {
@@ -71,7 +73,7 @@ impl Fabric {
             classes,
             depth,
             names,
-            nodes,
+            nodes: Nodes::new(nodes),
         })
     }
 
@@ -141,8 +143,7 @@ impl Fabric {
         ensures done { result ≡ has_room (router_at self.old node) port flit }
         ensures after { self.new ≡ (if result then with_router self.old node (after_accept (router_at self.old node) port flit) else self.old) }
     {
-        let node = &mut self.nodes[usize::from(node)];
-        node.router.accept(port, flit).is_ok()
+        self.nodes.router_mut(node).accept(port, flit).is_ok()
     }
 
     /// Moves the front of the link into a port to the buffer of its channel (Dally and Towles, chapter 13).
@@ -171,8 +172,7 @@ impl Fabric {
         ensures enabled { result ≡ can_route (router_at self.old node) port vc }
         ensures after { self.new ≡ (if result then with_router self.old node (after_route (router_at self.old node) port vc) else self.old) }
     {
-        let node = &mut self.nodes[usize::from(node)];
-        node.router.route(port, vc)
+        self.nodes.router_mut(node).route(port, vc)
     }
 
     /// Gives a waiting input channel an output channel (Dally and Towles, chapter 16).
@@ -182,8 +182,7 @@ impl Fabric {
         ensures enabled { result ≡ is_some (can_grant (router_at self.old node) port vc out_vc) }
         ensures after { self.new ≡ with_router self.old node (after_grant (router_at self.old node) port vc out_vc) }
     {
-        let node = &mut self.nodes[usize::from(node)];
-        node.router.grant(port, vc, out_vc)
+        self.nodes.router_mut(node).grant(port, vc, out_vc)
     }
 
     /// The out port and the flit that may leave this buffer now, as it would leave.
@@ -191,8 +190,7 @@ impl Fabric {
         requires { IsNetPlace self.now node port vc }
         ensures { result ≡ leaving (router_at self.now node) port vc }
     {
-        let node = &self.nodes[usize::from(node)];
-        node.router.ready(port, vc)
+        self.nodes.node(node).router.ready(port, vc)
     }
 
     /// Lets the ready flit out of its buffer, by the output port `out`.
@@ -201,8 +199,7 @@ impl Fabric {
         requires ready { leaving (router_at self.old node) port vc ≡ Some (out, flit) }
         ensures { self.new ≡ with_router self.old node (after_send (router_at self.old node) port vc) }
     {
-        let node = &mut self.nodes[usize::from(node)];
-        node.router.let_out(port, vc, out, flit);
+        self.nodes.router_mut(node).let_out(port, vc, out, flit);
     }
 
     /// Lets the ready flit out into the node's sink, by the output port `out`, if the sink can take it.
@@ -212,8 +209,7 @@ impl Fabric {
         requires home { flit.lane.dst ≡ (sink_at self.old node).node }
         ensures { self.new ≡ (if result then with_node self.old node (delivered_node (node_at self.old node) port vc flit) else self.old) }
     {
-        let node = &mut self.nodes[usize::from(node)];
-        node.deliver(port, vc, out, flit)
+        self.nodes.deliver(node, port, vc, out, flit)
     }
 
     /// Lets the ready flit out, into the sink or onto the link of its port (Dally and Towles, chapter 13). `NoMemory` where the sink cannot take it.
@@ -247,8 +243,7 @@ impl Fabric {
         ensures after { self.new ≡ (if result then with_node self.old node (fed_node (node_at self.old node) class (front_of (source_at self.old node) class)) else self.old) }
     {
         let terminal = self.terminal();
-        let node = &mut self.nodes[usize::from(node)];
-        node.feed(class, terminal)
+        self.nodes.feed(node, class, terminal)
     }
 
     /// Hands the packet to the node's source.
@@ -260,8 +255,7 @@ impl Fabric {
         ensures some { 1 ≤ length packet.now.words }
         ensures few { length packet.now.words ≤ 32 }
     {
-        let node = &mut self.nodes[usize::from(node)];
-        node.offer(packet)
+        self.nodes.offer(node, packet)
     }
 
     /// Hands the lane's close mark to the node's source.
@@ -271,8 +265,7 @@ impl Fabric {
         ensures fault { IfErr result (λ e. e ≡ unwrap_or (refusal (source_at self.old node) lane true) OfferFault.NoMemory) }
         ensures err { OnErr result (self.new ≡ self.old) }
     {
-        let node = &mut self.nodes[usize::from(node)];
-        node.close(lane)
+        self.nodes.close(node, lane)
     }
 
     /// Whether the input channel owes a credit.
@@ -280,8 +273,7 @@ impl Fabric {
         requires { IsNetPlace self.now node port vc }
         ensures { result ≡ can_give self.now node port vc }
     {
-        let node = &self.nodes[usize::from(node)];
-        node.router.owed_count(port, vc) > 0
+        self.nodes.node(node).router.owed_count(port, vc) > 0
     }
 
     /// The input channel owes one credit less.
@@ -290,8 +282,7 @@ impl Fabric {
         requires owed { 0 < (input_at (router_at self.old node) port vc).owed }
         ensures { self.new ≡ with_router self.old node (after_gave (router_at self.old node) port vc) }
     {
-        let node = &mut self.nodes[usize::from(node)];
-        node.router.gave(port, vc);
+        self.nodes.router_mut(node).gave(port, vc);
     }
 
     /// Gives a credit that the input channel owes to the link into its port (Dally and Towles, chapter 13).
@@ -317,8 +308,7 @@ impl Fabric {
         ensures enabled { result ≡ (if (output_at (router_at self.old node) port vc).credits == (router_at self.old node).depth then false else true) }
         ensures after { self.new ≡ (if result then with_router self.old node (after_credit (router_at self.old node) port vc) else self.old) }
     {
-        let node = &mut self.nodes[usize::from(node)];
-        node.router.credit(port, vc).is_ok()
+        self.nodes.router_mut(node).credit(port, vc).is_ok()
     }
 
     /// Takes the front credit of the link out of this port into its channel's count (Dally and Towles, chapter 13).
@@ -369,18 +359,17 @@ impl Fabric {
         requires { node < length self.old.nodes }
         ensures { self.new ≡ with_router self.old node (after_allocate (router_at self.old node)) }
     {
-        let node = &mut self.nodes[usize::from(node)];
-        let _grants = node.router.allocate();
+        let _grants = self.nodes.router_mut(node).allocate();
     }
 
     /// One pass of the node's switch allocator (Dally and Towles, chapters 16 and 19).
+    #[tactic(auto, unfolding(crate::specs::Moves::chosen_router))]
     pub fn choose(&mut self, node: u8) -> SwGrants
         requires { node < length self.old.nodes }
         ensures grants { result ≡ switch_grants (router_at self.old node) }
         ensures after { self.new ≡ with_router self.old node (chosen_router (router_at self.old node)) }
     {
-        let node = &mut self.nodes[usize::from(node)];
-        node.choose()
+        self.nodes.router_mut(node).choose()
     }
 
     /// The lowest channel of the port that owes a credit.
@@ -391,8 +380,7 @@ impl Fabric {
         ensures lowest { IfSome result (λ vc. (k : ℕ) → k < vc → (input_at (router_at self.now node) port k).owed ≡ 0) }
         ensures none { IfNone result ((k : ℕ) → k < width (router_at self.now node) → (input_at (router_at self.now node) port k).owed ≡ 0) }
     {
-        let node = &self.nodes[usize::from(node)];
-        node.router.owed(port)
+        self.nodes.node(node).router.owed(port)
     }
 
     /// The node of this number.
@@ -400,7 +388,22 @@ impl Fabric {
         requires { node < length self.now.nodes }
         ensures { result.now ≡ node_at self.now node }
     {
-        &self.nodes[usize::from(node)]
+        self.nodes.node(node)
+    }
+
+    /// How many flits are under way, where it is known.
+    pub fn under_way(&self) -> Option<u64>
+        ensures { IsUnderWay (accepted_in self.now.nodes) (taken_in self.now.nodes) result }
+    {
+        self.nodes.under_way()
+    }
+
+    /// Keeps it that so many flits are under way, and counts on from there.
+    pub fn count(&mut self, under_way: Option<u64>)
+        requires { IsUnderWay (accepted_in self.old.nodes) (taken_in self.old.nodes) under_way }
+        ensures { self.new ≡ self.old }
+    {
+        self.nodes.count(under_way);
     }
 
     /// Whether each channel of the node with a flit has its route.

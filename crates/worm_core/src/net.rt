@@ -86,7 +86,7 @@ impl Net {
         let Ok(fabric) = Fabric::new(alloc, mesh, channels, config.depth, names) else {
             return Err(NetFault::NoMemory);
         };
-        Ok(Net { fabric })
+        Ok(Net { fabric }.counted())
     }
 
     /// What holds of every network, for whoever has one.
@@ -252,11 +252,12 @@ impl Net {
     }
 
     /// Whether the node is at rest, so that its turn goes past all but what its source is asked.
-    pub(crate) fn is_at_rest(&self, node: u8) -> bool
-        requires { node < node_count self.now.mesh }
-        ensures { IsTrue result → NodePasses node self.now None self.now }
+    pub(crate) fn rests(&mut self, node: u8) -> bool
+        requires { node < node_count self.old.mesh }
+        ensures passes { IsTrue result → NodePasses node self.old None self.old }
+        ensures same { self.new ≡ self.old }
     {
-        self.fabric.is_at_rest(node)
+        self.fabric.rests(node)
     }
 
     /// The lowest channel of the mesh port that owes a credit.

@@ -1,12 +1,10 @@
 ghost use Rattle.std.specs.Prelude.{IsTrue, true, false, ◌≡◌, ◌<◌, ◌≤◌, Some, OnOk, OnErr, IfErr, None, length, unwrap_or, if◌then◌else◌};
 ghost use Rattle.worm_router.specs.Router.{IsPlace, terminal, leaving};
-ghost use Rattle.worm_router.specs.Allocation.{switch_grants};
 ghost use Rattle.worm_term.specs.Source.{classes, front_of, refusal, after_offer, after_close};
-ghost use Rattle.worm_core.specs.Moves.{RoutesNothing, FrontFits, can_enter, chosen_router, fed_node, delivered_node};
+ghost use Rattle.worm_core.specs.Moves.{RoutesNothing, FrontFits, can_enter, fed_node, delivered_node};
 
 use worm_flit::{Flit, Lane, Packet};
 use worm_router::Router;
-use worm_swalloc::SwGrants;
 use worm_term::{OfferFault, Sink, Source};
 
 /// One node: its router, and the two ends of its lanes.
@@ -79,20 +77,12 @@ impl Node {
         unrouted.is_empty()
     }
 
-    /// One pass of the switch allocator.
-    #[tactic(auto, unfolding(crate::specs::Moves::chosen_router))]
-    pub(crate) fn choose(&mut self) -> SwGrants
-        ensures grants { result ≡ switch_grants self.old.router }
-        ensures after { self.new ≡ record self.old { router = chosen_router self.old.router } }
-    {
-        self.router.choose()
-    }
-
     /// Hands the packet to the source.
     pub(crate) fn offer(&mut self, packet: &Packet) -> Result<u16, OfferFault>
         ensures ok { OnOk result ((refusal self.old.source packet.now.lane false ≡ None) × (self.new ≡ record self.old { source = after_offer self.old.source packet.now })) }
         ensures fault { IfErr result (λ e. e ≡ unwrap_or (refusal self.old.source packet.now.lane false) OfferFault.NoMemory) }
         ensures err { OnErr result (self.new ≡ self.old) }
+        ensures there { OnOk result (packet.now.lane.class < length self.old.source.queues) }
         ensures some { 1 ≤ length packet.now.words }
         ensures few { length packet.now.words ≤ 32 }
     {
@@ -105,6 +95,7 @@ impl Node {
         ensures ok { OnOk result ((refusal self.old.source lane true ≡ None) × (self.new ≡ record self.old { source = after_close self.old.source lane })) }
         ensures fault { IfErr result (λ e. e ≡ unwrap_or (refusal self.old.source lane true) OfferFault.NoMemory) }
         ensures err { OnErr result (self.new ≡ self.old) }
+        ensures there { OnOk result (lane.class < length self.old.source.queues) }
     {
         self.source.close(lane)
     }

@@ -170,7 +170,7 @@ impl Net {
         requires { node < node_count self.old.mesh }
         ensures { Does (NodePasses node) self.old (result_err result) self.new }
     {
-        if self.is_at_rest(node) {
+        if self.rests(node) {
             return Ok(());
         }
         self.take_credits(node);
