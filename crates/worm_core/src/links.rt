@@ -213,9 +213,19 @@ impl Links {
     {
         let link = &mut self.states[usize::from(number)];
         link.pop();
-        let more = link.front().is_some();
+        if link.front().is_none() {
+            self.forget_flits(node, port);
+        }
+    }
+
+    /// Keeps that no flit comes in by this port.
+    fn forget_flits(&mut self, node: u8, port: u8)
+        requires mesh_port { port < 6 }
+        requires none { flits_to self.old node port ≡ [] }
+        ensures { self.new ≡ self.old }
+    {
         let mut here = self.arrivals[usize::from(node)];
-        here.flits.put(port, more);
+        here.flits.remove(port);
         self.arrivals[usize::from(node)] = here;
     }
 
@@ -231,7 +241,7 @@ impl Links {
         link.push(flit);
         if let Some((beyond, into)) = self.wiring.other_end(node, port) {
             let mut there = self.arrivals[usize::from(beyond)];
-            there.flits.put(into, true);
+            there.flits.insert(into);
             self.arrivals[usize::from(beyond)] = there;
         }
     }
@@ -247,9 +257,19 @@ impl Links {
     {
         let link = &mut self.states[usize::from(number)];
         link.pop_credit();
-        let more = link.front_credit().is_some();
+        if link.front_credit().is_none() {
+            self.forget_credits(node, port);
+        }
+    }
+
+    /// Keeps that no credit comes in by this port.
+    fn forget_credits(&mut self, node: u8, port: u8)
+        requires mesh_port { port < 6 }
+        requires none { credits_to self.old node port ≡ [] }
+        ensures { self.new ≡ self.old }
+    {
         let mut here = self.arrivals[usize::from(node)];
-        here.credits.put(port, more);
+        here.credits.remove(port);
         self.arrivals[usize::from(node)] = here;
     }
 
@@ -265,7 +285,7 @@ impl Links {
         link.push_credit(vc);
         if let Some((beyond, out)) = self.wiring.other_end(node, port) {
             let mut there = self.arrivals[usize::from(beyond)];
-            there.credits.put(out, true);
+            there.credits.insert(out);
             self.arrivals[usize::from(beyond)] = there;
         }
     }
