@@ -7,7 +7,7 @@ use Rattle.std.proofs.lemmas.Bool.Decides.{nat_tests}
 use Rattle.worm_vcalloc.specs.ChannelSet.{has, IsFirstPort}
 use Rattle.worm_vcalloc.proofs.SetLemmas.{has-zero}
 use Rattle.worm_mesh.specs.Address.{node_count}
-use Rattle.worm_router.specs.Router.{ChannelState, RouterState, input_at, terminal, width, after_gave}
+use Rattle.worm_router.specs.Router.{ChannelState, RouterState, input_at, with_input, terminal, width, after_gave}
 use Rattle.worm_router.specs.Busy.{IsSetOf, owes}
 use Rattle.worm_theory.specs.Steps.{GiveCredit}
 use Rattle.worm_theory.proofs.Places.{same-false}
@@ -32,16 +32,21 @@ unchanged a b x p v same within = record {
   owed = ap (λ (s : NetState). (input_at (router_at s x) p v).owed) same;
 }
 
+-- what is written of one input channel of a router leaves the others
+pub input_elsewhere : (a : NetState) (x q c p v : ℕ) (one : ChannelState) → IsNet a → x < length a.nodes → q ≤ terminal (router_at a x) → c < width (router_at a x) → (p ≡ q → v ≡ c → ⊥) → v < width (router_at a x)
+    → input_at (with_input (router_at a x) q c one) p v ≡ input_at (router_at a x) p v
+input_elsewhere a x q c p v one net there q_in c_in away v_in =
+    let r = router_at a x in
+    let node = net.framed.each_node x there in
+    let put = input_of-put r q c one (record { port_in = q_in; channel_in = c_in }) node.all_inputs p v in
+    let apart = same-false p v q c away in
+    sym (input_of-there (with_input r q c one) p v v_in) ∙ (put ∙ (rw apart (input_of-there r p v v_in)))
+
 gave_elsewhere : (a : NetState) (x q c p v : ℕ) → IsNet a → x < length a.nodes → q ≤ terminal (router_at a x) → c < width (router_at a x) → (p ≡ q → ⊥) → v < width (router_at a x)
     → (input_at (after_gave (router_at a x) q c) p v).owed ≡ (input_at (router_at a x) p v).owed
 gave_elsewhere a x q c p v net there q_in c_in away v_in =
-    let r = router_at a x in
-    let node = net.framed.each_node x there in
-    let one : ChannelState = record (input_at r q c) { owed = (input_at r q c).owed - 1 } in
-    let put = input_of-put r q c one (record { port_in = q_in; channel_in = c_in }) node.all_inputs p v in
-    let apart = same-false p v q c (λ e f. away e) in
-    let new : input_at (after_gave r q c) p v ≡ input_at r p v = sym (input_of-there (after_gave r q c) p v v_in) ∙ (put ∙ (rw apart (input_of-there r p v v_in))) in
-    ap (λ (s : ChannelState). s.owed) new
+    let one : ChannelState = record (input_at (router_at a x) q c) { owed = (input_at (router_at a x) q c).owed - 1 } in
+    ap (λ (s : ChannelState). s.owed) (input_elsewhere a x q c p v one net there q_in c_in (λ e f. away e) v_in)
 
 pub give_elsewhere : (a b : NetState) (x q c : ℕ) (answer : Result Moved StepFault) → IsNet a → Answers a (GiveCredit x q c) answer b → (p v : ℕ) → (p ≡ q → ⊥) → v < width (router_at b x) → OwesTheSame a b x p v
 unfolding net_shape

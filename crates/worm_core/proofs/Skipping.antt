@@ -53,7 +53,7 @@ port_there s x p None e = elim (number_cases p (2 * length s.mesh)) [
   ])
 ]
 
-route_still : (s : NetState) (x p v : ℕ) → IsNet s → x < node_count s.mesh → v < sum s.channels → can_route (router_at s x) p v ≡ false → Tries (Route x p v) s None s
+pub route_still : (s : NetState) (x p v : ℕ) → IsNet s → x < node_count s.mesh → v < sum s.channels → can_route (router_at s x) p v ≡ false → Tries (Route x p v) s None s
 unfolding net_shape
 route_still s x p v net x_in v_in can = elim (port_there s x p (neighbour_of s.mesh x p) refl) [
   | inl port ↦

@@ -6,11 +6,11 @@ ghost use Rattle.worm_theory.specs.Steps.{empty};
 ghost use Rattle.worm_core.specs.NewNet.{IsConfig, IsFresh};
 ghost use Rattle.worm_core.specs.Headline.{DeliversInOrder, NothingFollowsMarks};
 ghost use Rattle.worm_core.specs.State.{IsNet, shape, network_of, queue_of, router_at, sink_at, source_at, texts_of, with_router};
-ghost use Rattle.worm_core.specs.Turns.{NodePasses, Reaches, RoutesChannels, Tries, lowest_owed};
+ghost use Rattle.worm_core.specs.Turns.{NodePasses, Reaches, Tries, lowest_owed};
 ghost use Rattle.worm_mesh.specs.Address.{node_count};
 ghost use Rattle.worm_router.specs.Router.{input_at, width};
 ghost use Rattle.worm_router.specs.Allocation.{after_allocate, switch_grants};
-ghost use Rattle.worm_core.specs.Moves.{OwesWithin, chosen_router};
+ghost use Rattle.worm_core.specs.Moves.{OwesWithin, RoutesWithin, chosen_router};
 
 use crate::config::copy_names;
 use crate::fabric::Fabric;
@@ -213,12 +213,13 @@ impl Net {
         self.fabric.choose(node)
     }
 
-    /// Whether each channel of the node with a flit has its route; then there is nothing to route there.
-    pub(crate) fn has_nothing_to_route(&self, node: u8) -> bool
+    /// The channels of the node with a flit that lack a route; no other has anything to route.
+    pub(crate) fn unrouted(&self, node: u8) -> ChannelSet
         requires { node < node_count self.now.mesh }
-        ensures { IsTrue result → RoutesChannels node self.now None self.now }
+        ensures routes { RoutesWithin self.now node result }
+        ensures sound { IsNet self.now }
     {
-        self.fabric.is_routed(node)
+        self.fabric.unrouted(node)
     }
 
     /// A mesh port from this one on by which a credit may come in; before it there is none to take, and where there is none, past it.

@@ -10,8 +10,9 @@ ghost use Rattle.worm_core.specs.State.{IsNet};
 ghost use Rattle.worm_core.specs.declared.script.Entry.{Entry};
 ghost use Rattle.worm_router.specs.Router.{width};
 ghost use Rattle.worm_core.specs.State.{router_at};
-ghost use Rattle.worm_core.specs.Moves.{OwesTheSame};
-ghost use Rattle.worm_core.specs.Turns.{AsksSource, Does, FeedsClasses, GivesCredit, GivesCredits, IsDetermined, NodePasses, NodeTurn, Reaches, RoutesChannels, RoutesPort, RunIsDetermined, SendsGranted, TakesCredits, TakesFlits, Turn, ask, fault_of};
+ghost use Rattle.worm_theory.specs.Steps.{Route};
+ghost use Rattle.worm_core.specs.Moves.{OwesTheSame, RoutesTheSame};
+ghost use Rattle.worm_core.specs.Turns.{AsksSource, Does, FeedsClasses, GivesCredit, GivesCredits, IsDetermined, NodePasses, NodeTurn, Reaches, RoutesChannels, RunIsDetermined, SendsGranted, TakesCredits, TakesFlits, Tries, Turn, ask, fault_of};
 
 use crate::{Act, Entry, Moved, Net, Script, StepFault};
 
@@ -101,25 +102,25 @@ impl Net {
         }
     }
 
-    /// Routes each channel of a port, rising.
-    fn route_port(&mut self, node: u8, port: u8)
-        ensures { Does (RoutesPort node port) self.old None self.new }
+    /// Routes a channel, which changes what no other has to route.
+    fn route_channel(&mut self, node: u8, port: u8, vc: u8)
+        ensures routed { Does (Tries (Route node port vc)) self.old None self.new }
+        ensures others { (p v : ℕ) → ((p ≡ port) → (v ≡ vc) → ⊥) → v < width (router_at self.new node) → RoutesTheSame self.old self.new node p v }
+        ensures sound { IsNet self.new }
     {
-        for vc in 0..self.channels() {
-            let _moved = self.route(node, port, vc);
-        }
+        self.is_sound();
+        let _moved = self.route(node, port, vc);
+        self.is_sound();
     }
 
-    /// Routes each channel, by rising port, then channel.
+    /// Routes each channel that lacks a route, by rising port, then channel.
     fn route_channels(&mut self, node: u8)
         requires { node < node_count self.old.mesh }
         ensures { Does (RoutesChannels node) self.old None self.new }
     {
-        if self.has_nothing_to_route(node) {
-            return;
-        }
-        for port in 0..self.terminal() + 1 {
-            self.route_port(node, port);
+        let mut unrouted = self.unrouted(node);
+        while let Some((port, vc)) = unrouted.pop_first() {
+            self.route_channel(node, port, vc);
         }
     }
 
