@@ -1,6 +1,6 @@
 -- Credits are given by the ports that owe one, and what any other port owes stays.
-use Rattle.std.proofs.Common.{◌≡◌, ◌==◌, ℕ, ◌+◌, ◌-◌, ◌*◌, ◌<◌, ◌≤◌, true, false, inl, inr, List, length, nat_lt, None, Ok, Err, refl, arith, ap, sym, subst, ◌∙◌}
-use Rattle.std.specs.Prelude.{Result}
+use Rattle.std.proofs.Common.{◌≡◌, ◌==◌, ℕ, ◌+◌, ◌-◌, ◌*◌, ◌<◌, ◌≤◌, true, false, inl, inr, List, length, nat_lt, sum, Option, Some, None, Ok, Err, refl, arith, ap, sym, subst, ◌∙◌}
+use Rattle.std.specs.Prelude.{IfSome, Result}
 use Rattle.std.specs.List.{range_with_len}
 use Rattle.std.proofs.lemmas.Bool.{cases_lt, eq-eqb}
 use Rattle.std.proofs.lemmas.Bool.Decides.{nat_tests}
@@ -132,3 +132,14 @@ owing_within s x owing net x_in set p v p_in v_in none =
     let mesh = ap (λ (m : List ℕ). length m) node.same_mesh in
     let few : width (router_at s x) ≤ 8 = rw node.same_channels net.framed.classes.total in
     none_owed (input_at (router_at s x) p v).owed (sym (set.inside p v (omega arith) v_in) ∙ none v (omega arith))
+
+-- the channel of a port that owes is one of the network
+pub owed_there : (s : NetState) (x p : ℕ) (o : Option ℕ) → IsNet s → x < node_count s.mesh → IfSome o (λ v. (v < width (router_at s x)) × (0 < (input_at (router_at s x) p v).owed))
+    → IfSome o (λ v. (v < sum s.channels) × (0 < (input_at (router_at s x) p v).owed))
+owed_there s x p None net x_in found = tt
+owed_there s x p (Some v) net x_in found =
+    let all = net.framed.all_nodes in
+    let node = net.framed.each_node x (omega arith) in
+    let wide : width (router_at s x) ≡ sum s.channels = ap (λ (m : List ℕ). sum m) node.same_channels in
+    let within = found.0 in
+    (omega arith, found.1)

@@ -126,6 +126,26 @@ impl Fabric {
         self.has_link(node, port) && vc < self.classes.total()
     }
 
+    /// The number of the link into this port, if the node has a neighbour there.
+    pub fn link_into(&self, node: u8, port: u8) -> Option<u16>
+        ensures there { IsSome result ↔ ((node < node_count self.now.mesh) × IsSome (neighbour_of self.now.mesh node port)) }
+        ensures value { IfSome result (λ number. number ≡ link_into self.now node port) }
+        ensures bound { IfSome result (λ number. number < link_count self.now.mesh) }
+        ensures mesh_port { IsSome result → port < 6 }
+    {
+        self.links.find_into(node, port)
+    }
+
+    /// The number of the link out of this port, if the node has a neighbour there.
+    pub fn link_out(&self, node: u8, port: u8) -> Option<u16>
+        ensures there { IsSome result ↔ ((node < node_count self.now.mesh) × IsSome (neighbour_of self.now.mesh node port)) }
+        ensures value { IfSome result (λ number. number ≡ link_out self.now node port) }
+        ensures bound { IfSome result (λ number. number < link_count self.now.mesh) }
+        ensures mesh_port { IsSome result → port < 6 }
+    {
+        self.links.find_out(node, port)
+    }
+
     /// The terminal port of each node.
     pub fn terminal(&self) -> u8
         ensures value { result ≡ 2 * length self.now.mesh }
@@ -145,16 +165,18 @@ impl Fabric {
         node.router.accept(port, flit).is_ok()
     }
 
-    /// Moves the front of the link into a port to the buffer of its channel (Dally and Towles, chapter 13).
-    pub fn take(&mut self, node: u8, port: u8) -> bool
+    /// Moves the front of the link into a port, which is that of this number, to the buffer of its channel (Dally and Towles, chapter 13).
+    pub fn take(&mut self, node: u8, port: u8, number: u16) -> bool
         requires node { node < length self.old.nodes }
+        requires number { number ≡ link_into self.old node port }
+        requires there { number < link_count self.old.mesh }
+        requires mesh_port { port < 6 }
         requires links { length self.old.links ≡ link_count self.old.mesh }
         requires linked { IsSome (neighbour_of self.old.mesh node port) }
         requires front { FrontFits (router_at self.old node) port (front_into self.old node port) }
         ensures enabled { result ≡ can_enter (router_at self.old node) port (front_into self.old node port) }
         ensures after { self.new ≡ (if result then after_take self.old node port (link_into self.old node port) (front_into self.old node port) else self.old) }
     {
-        let number = self.links.number_into(node, port);
         let Some(flit) = self.links.link(number).front() else {
             return false;
         };
@@ -276,7 +298,7 @@ impl Fabric {
     }
 
     /// Whether the input channel owes a credit.
-    fn owes(&self, node: u8, port: u8, vc: u8) -> bool
+    pub fn owes(&self, node: u8, port: u8, vc: u8) -> bool
         requires { IsNetPlace self.now node port vc }
         ensures { result ≡ can_give self.now node port vc }
     {
@@ -294,21 +316,19 @@ impl Fabric {
         node.router.gave(port, vc);
     }
 
-    /// Gives a credit that the input channel owes to the link into its port (Dally and Towles, chapter 13).
-    pub fn give(&mut self, node: u8, port: u8, vc: u8) -> bool
+    /// Gives a credit that the input channel owes to the link into its port, which is that of this number (Dally and Towles, chapter 13).
+    pub fn give(&mut self, node: u8, port: u8, vc: u8, number: u16)
         requires place { IsNetPlace self.old node port vc }
+        requires number { number ≡ link_into self.old node port }
+        requires there { number < link_count self.old.mesh }
         requires links { length self.old.links ≡ link_count self.old.mesh }
         requires linked { IsSome (neighbour_of self.old.mesh node port) }
-        requires room { 0 < (input_at (router_at self.old node) port vc).owed → length (link_at self.old (link_into self.old node port)).credits < (link_at self.old (link_into self.old node port)).room }
-        ensures enabled { result ≡ can_give self.old node port vc }
-        ensures after { self.new ≡ (if result then after_giving self.old node port vc (link_into self.old node port) else self.old) }
+        requires owed { 0 < (input_at (router_at self.old node) port vc).owed }
+        requires room { length (link_at self.old (link_into self.old node port)).credits < (link_at self.old (link_into self.old node port)).room }
+        ensures { self.new ≡ after_giving self.old node port vc (link_into self.old node port) }
     {
-        if !self.owes(node, port, vc) {
-            return false;
-        }
         self.gave(node, port, vc);
-        self.links.push_credit(node, port, vc);
-        true
+        self.links.push_credit(node, port, number, vc);
     }
 
     /// Counts a credit more for the output channel, if one is missing.
@@ -321,16 +341,18 @@ impl Fabric {
         node.router.credit(port, vc).is_ok()
     }
 
-    /// Takes the front credit of the link out of this port into its channel's count (Dally and Towles, chapter 13).
-    pub fn get(&mut self, node: u8, port: u8) -> bool
+    /// Takes the front credit of the link out of this port, which is that of this number, into its channel's count (Dally and Towles, chapter 13).
+    pub fn get(&mut self, node: u8, port: u8, number: u16) -> bool
         requires node { node < length self.old.nodes }
+        requires number { number ≡ link_out self.old node port }
+        requires there { number < link_count self.old.mesh }
+        requires mesh_port { port < 6 }
         requires links { length self.old.links ≡ link_count self.old.mesh }
         requires linked { IsSome (neighbour_of self.old.mesh node port) }
         requires front { CreditFits (router_at self.old node) port (front_credit self.old node port) }
         ensures enabled { result ≡ can_get (router_at self.old node) port (front_credit self.old node port) }
         ensures after { self.new ≡ (if result then after_getting self.old node port (front_credit self.old node port) else self.old) }
     {
-        let number = self.links.number_out(node, port);
         let Some(vc) = self.links.link(number).front_credit() else {
             return false;
         };

@@ -1,4 +1,4 @@
-ghost use Rattle.std.specs.Prelude.{None, ◌≡◌, ◌≤◌, ◌<◌, ◌*◌, ◌↔◌, ℕ, Result, IsTrue, IfNone, IfOk, sum, length, slice_get, IfSome, MatchOption, Err};
+ghost use Rattle.std.specs.Prelude.{None, ◌≡◌, ◌≤◌, ◌<◌, ◌*◌, ◌↔◌, ℕ, Result, IsTrue, IfNone, IfOk, Ok, sum, length, slice_get, IfSome, MatchOption, Err};
 ghost use Rattle.worm_theory.specs.Steps.{Step as Event};
 ghost use Rattle.worm_core.specs.Runs.{IsRun, event_of};
 ghost use Rattle.worm_core.specs.Answers.{Answers, ArbitersStand, accepted_of, moved_of};
@@ -265,6 +265,7 @@ impl Net {
         requires node { node < node_count self.now.mesh }
         requires port { port ≤ 2 * length self.now.mesh }
         ensures value { result ≡ lowest_owed (router_at self.now node) port }
+        ensures owed { IfSome result (λ vc. (vc < sum self.now.channels) × (0 < (input_at (router_at self.now node) port vc).owed)) }
         ensures sound { IsNet self.now }
     {
         self.fabric.lowest_owed(node, port)
@@ -294,7 +295,16 @@ impl Net {
         if !self.fabric.has_class(node, class) {
             return Err(StepFault::NoSuchPlace);
         }
-        Ok(moved(self.fabric.feed(node, class)))
+        Ok(moved(self.feed_there(node, class)))
+    }
+
+    /// The same where the node and the class are there.
+    pub(crate) fn feed_there(&mut self, node: u8, class: u8) -> bool
+        requires node { node < node_count self.old.mesh }
+        requires class { class < length self.old.channels }
+        ensures { Answers self.old (Event.Feed node class) (Ok (moved_of result)) self.new }
+    {
+        self.fabric.feed(node, class)
     }
 
     pub(crate) fn route(&mut self, node: u8, port: u8, vc: u8) -> Result<Moved, StepFault>
@@ -327,10 +337,10 @@ impl Net {
     pub(crate) fn take(&mut self, node: u8, port: u8) -> Result<Moved, StepFault>
         ensures { Answers self.old (Event.Take node port) result self.new }
     {
-        if !self.fabric.has_link(node, port) {
+        let Some(number) = self.fabric.link_into(node, port) else {
             return Err(StepFault::NoSuchPlace);
-        }
-        Ok(moved(self.fabric.take(node, port)))
+        };
+        Ok(moved(self.fabric.take(node, port, number)))
     }
 
     pub(crate) fn give(&mut self, node: u8, port: u8, vc: u8) -> Result<Moved, StepFault>
@@ -339,16 +349,32 @@ impl Net {
         if !self.fabric.has_line(node, port, vc) {
             return Err(StepFault::NoSuchPlace);
         }
-        Ok(moved(self.fabric.give(node, port, vc)))
+        if !self.fabric.owes(node, port, vc) {
+            return Ok(Moved::Idle);
+        }
+        self.give_owed(node, port, vc)
+    }
+
+    /// The same where the node and the channel are there, and the channel of the port owes a credit.
+    pub(crate) fn give_owed(&mut self, node: u8, port: u8, vc: u8) -> Result<Moved, StepFault>
+        requires channel { vc < sum self.old.channels }
+        requires owed { 0 < (input_at (router_at self.old node) port vc).owed }
+        ensures { Answers self.old (Event.GiveCredit node port vc) result self.new }
+    {
+        let Some(number) = self.fabric.link_into(node, port) else {
+            return Err(StepFault::NoSuchPlace);
+        };
+        self.fabric.give(node, port, vc, number);
+        Ok(Moved::Done)
     }
 
     pub(crate) fn get(&mut self, node: u8, port: u8) -> Result<Moved, StepFault>
         ensures { Answers self.old (Event.TakeCredit node port) result self.new }
     {
-        if !self.fabric.has_link(node, port) {
+        let Some(number) = self.fabric.link_out(node, port) else {
             return Err(StepFault::NoSuchPlace);
-        }
-        Ok(moved(self.fabric.get(node, port)))
+        };
+        Ok(moved(self.fabric.get(node, port, number)))
     }
 
     /// One step.

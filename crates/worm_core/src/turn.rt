@@ -95,10 +95,11 @@ impl Net {
 
     /// Feeds a flit of each class, rising.
     fn feed_classes(&mut self, node: u8)
+        requires { node < node_count self.old.mesh }
         ensures { Does (FeedsClasses node) self.old None self.new }
     {
         for class in 0..self.classes() {
-            let _moved = self.feed(node, class);
+            let _fed = self.feed_there(node, class);
         }
     }
 
@@ -146,7 +147,7 @@ impl Net {
         ensures others { (p : ℕ) (v : ℕ) → (p ≡ port → ⊥) → v < width (router_at self.new node) → OwesTheSame self.old self.new node p v }
     {
         if let Some(vc) = self.lowest_owed(node, port) {
-            let _moved = self.give(node, port, vc);
+            let _moved = self.give_owed(node, port, vc);
         }
     }
 
