@@ -25,7 +25,7 @@ use Rattle.worm_core.proofs.Bridge.{node_at-put}
 use Rattle.worm_core.proofs.Giving.{input_elsewhere}
 use Rattle.worm_core.proofs.Kept.{net_place}
 use Rattle.worm_core.proofs.Passages.{does_for, does_nothing, does_ranged, loop_more, loop_on}
-use Rattle.worm_core.proofs.Skipping.{each_still, route_still}
+use Rattle.worm_core.proofs.Skipping.{each_still, places_same, route_still}
 
 -- a route leaves what other channels have to route
 
@@ -134,15 +134,6 @@ passed_to x a b port vc q c passed net there vc_in q_in c_in (inl below) none =
 passed_to x a b port vc q c passed net there vc_in q_in c_in (inr here) none =
     subst (λ (p : ℕ). Passed x a b p c) here.0
     (let same = here.0 in along x a b port vc c passed net there here.1 c_in (λ v above v_in. none port v (omega arith) (omega arith) (omega arith) (omega arith)))
-
-places_same : (p q v c : ℕ) → ((p ≡ q) × (v ≡ c)) ⊎ (p ≡ q → v ≡ c → ⊥)
-places_same p q v c = elim (number_cases p q) [
-  | inl port ↦ elim (number_cases v c) [
-    | inl channel ↦ inl (port.1, channel.1)
-    | inr away ↦ inr (λ e f. away.1 f)
-  ]
-  | inr away ↦ inr (λ e f. away.1 e)
-]
 
 first_later : (set port vc q c : ℕ) → c < 8 → has set q c ≡ true → ((p v : ℕ) → v < 8 → 8 * p + v < 8 * port + vc → has set p v ≡ false) → 8 * port + vc ≤ 8 * q + c
 first_later set port vc q c c_in on later = elim (cases_lt (8 * q + c) (8 * port + vc)) [

@@ -20,6 +20,16 @@ use Rattle.worm_core.specs.declared.step.Moved.TheVariants.{Idle}
 use Rattle.worm_core.specs.declared.fault.StepFault.TheVariants.{NoSuchPlace}
 use Rattle.worm_core.proofs.RouteStep.{route_answers}
 
+-- one place of two numbers, or another
+pub places_same : (p q v c : ℕ) → ((p ≡ q) × (v ≡ c)) ⊎ (p ≡ q → v ≡ c → ⊥)
+places_same p q v c = elim (number_cases p q) [
+  | inl port ↦ elim (number_cases v c) [
+    | inl channel ↦ inl (port.1, channel.1)
+    | inr away ↦ inr (λ e f. away.1 f)
+  ]
+  | inr away ↦ inr (λ e f. away.1 e)
+]
+
 -- passages that change nothing, one after another
 
 pub each_still : {A : Type 0} (P : A → Passage) (f : ℕ → A) (s : NetState) (n from : ℕ) → ((i : ℕ) → i < from + n → P (f i) s None s) → Each P (map f (range_with_len from n)) s None s

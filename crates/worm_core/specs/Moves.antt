@@ -125,10 +125,10 @@ pub record NothingComes (s : NetState) (x : ℕ) : Type 0 where
   pub no_flit : (p : ℕ) → IsSome (neighbour_of s.mesh x p) → front_into s x p ≡ None
   pub no_feed : (k : ℕ) → k < length s.channels → can_enter (router_at s x) (terminal (router_at s x)) (front_of (source_at s x) k) ≡ false
 
--- no mesh port of a node owes a credit but those of this set
-abbrev pub OwesWithin : NetState → ℕ → ℕ → Type 0
-OwesWithin s x owing =
-    (p v : ℕ) → p < 2 * length s.mesh → v < width (router_at s x) → ((c : ℕ) → c < 8 → has owing p c ≡ false) → (input_at (router_at s x) p v).owed ≡ 0
+-- a set of the node's channels, and of those of its mesh ports it has just those that owe a credit
+pub record AreOwing (s : NetState) (x owing : ℕ) : Type 0 where
+  pub exact : (p v : ℕ) → p < 2 * length s.mesh → v < sum s.channels → has owing p v ≡ can_give s x p v
+  pub places : (p v : ℕ) → p < 7 → v < 8 → has owing p v ≡ true → v < sum s.channels
 
 -- the channel of a port owes what it owed
 pub record OwesTheSame (old new : NetState) (x p v : ℕ) : Type 0 where

@@ -405,18 +405,6 @@ impl Fabric {
         node.choose()
     }
 
-    /// The lowest channel of the port that owes a credit.
-    pub fn lowest_owed(&self, node: u8, port: u8) -> Option<u8>
-        requires node { node < length self.now.nodes }
-        requires port { port ≤ terminal (router_at self.now node) }
-        ensures found { IfSome result (λ vc. (vc < width (router_at self.now node)) × (0 < (input_at (router_at self.now node) port vc).owed)) }
-        ensures lowest { IfSome result (λ vc. (k : ℕ) → k < vc → (input_at (router_at self.now node) port k).owed ≡ 0) }
-        ensures none { IfNone result ((k : ℕ) → k < width (router_at self.now node) → (input_at (router_at self.now node) port k).owed ≡ 0) }
-    {
-        let node = &self.nodes[usize::from(node)];
-        node.router.owed(port)
-    }
-
     /// The node of this number.
     pub fn node(&self, node: u8) -> &Node
         requires { node < length self.now.nodes }

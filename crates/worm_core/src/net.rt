@@ -6,11 +6,11 @@ ghost use Rattle.worm_theory.specs.Steps.{empty};
 ghost use Rattle.worm_core.specs.NewNet.{IsConfig, IsFresh};
 ghost use Rattle.worm_core.specs.Headline.{DeliversInOrder, NothingFollowsMarks};
 ghost use Rattle.worm_core.specs.State.{IsNet, shape, network_of, queue_of, router_at, sink_at, source_at, texts_of, with_router};
-ghost use Rattle.worm_core.specs.Turns.{NodePasses, Reaches, Tries, lowest_owed};
+ghost use Rattle.worm_core.specs.Turns.{NodePasses, Reaches, Tries};
 ghost use Rattle.worm_mesh.specs.Address.{node_count};
 ghost use Rattle.worm_router.specs.Router.{input_at, width};
 ghost use Rattle.worm_router.specs.Allocation.{after_allocate, switch_grants};
-ghost use Rattle.worm_core.specs.Moves.{OwesWithin, RoutesWithin, chosen_router};
+ghost use Rattle.worm_core.specs.Moves.{AreOwing, RoutesWithin, chosen_router};
 
 use crate::config::copy_names;
 use crate::fabric::Fabric;
@@ -244,10 +244,11 @@ impl Net {
         self.fabric.next_flit(node, from)
     }
 
-    /// The channels of the node that owe a credit; no mesh port owes one that has none of them.
+    /// The channels of the node that owe a credit.
     pub(crate) fn owing(&self, node: u8) -> ChannelSet
         requires { node < node_count self.now.mesh }
-        ensures { OwesWithin self.now node result }
+        ensures owing { AreOwing self.now node result }
+        ensures sound { IsNet self.now }
     {
         self.fabric.owing(node)
     }
@@ -258,17 +259,6 @@ impl Net {
         ensures { IsTrue result → NodePasses node self.now None self.now }
     {
         self.fabric.is_at_rest(node)
-    }
-
-    /// The lowest channel of the mesh port that owes a credit.
-    pub(crate) fn lowest_owed(&self, node: u8, port: u8) -> Option<u8>
-        requires node { node < node_count self.now.mesh }
-        requires port { port ≤ 2 * length self.now.mesh }
-        ensures value { result ≡ lowest_owed (router_at self.now node) port }
-        ensures owed { IfSome result (λ vc. (vc < sum self.now.channels) × (0 < (input_at (router_at self.now node) port vc).owed)) }
-        ensures sound { IsNet self.now }
-    {
-        self.fabric.lowest_owed(node, port)
     }
 
     pub(crate) fn offer(&mut self, node: u8, packet: &Packet) -> Result<Moved, StepFault>
