@@ -27,6 +27,7 @@ pub mod Passages
 pub mod DueEntries
 pub mod Turning
 pub mod Skipping
+pub mod Routing
 pub mod Resting
 pub mod KeptStill
 pub mod CountsUnderWay

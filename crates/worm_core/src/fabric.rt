@@ -7,7 +7,7 @@ ghost use Rattle.worm_mesh.specs.Links.{link_count};
 ghost use Rattle.worm_router.specs.Router.{IsPlace, MayLeave, after_accept, after_credit, after_gave, after_grant, after_route, after_send, can_grant, can_route, input_at, leaving, output_at, terminal, width};
 ghost use Rattle.worm_term.specs.Source.{after_close, after_offer, classes, front_of, refusal};
 ghost use Rattle.worm_core.specs.State.{IsNetPlace, link_at, node_at, router_at, sink_at, source_at, texts_of, with_link, with_node, with_router, with_source};
-ghost use Rattle.worm_core.specs.Moves.{CreditFits, FrontFits, RoutesNothing, Sends, WayOut, after_getting, after_giving, after_take, can_enter, can_get, can_give, chosen_router, delivered_node, fed_node, front_credit, front_into, has_room, link_into, link_out};
+ghost use Rattle.worm_core.specs.Moves.{CreditFits, FrontFits, Sends, WayOut, after_getting, after_giving, after_take, can_enter, can_get, can_give, chosen_router, delivered_node, fed_node, front_credit, front_into, has_room, link_into, link_out};
 ghost use Rattle.worm_core.specs.UnderWay.{IsUnderWay, accepted_in, taken_in};
 
 mod parts;
@@ -128,6 +128,26 @@ impl Fabric {
         self.has_link(node, port) && vc < self.classes.total()
     }
 
+    /// The number of the link into this port, if the node has a neighbour there.
+    pub fn link_into(&self, node: u8, port: u8) -> Option<u16>
+        ensures there { IsSome result ↔ ((node < node_count self.now.mesh) × IsSome (neighbour_of self.now.mesh node port)) }
+        ensures value { IfSome result (λ number. number ≡ link_into self.now node port) }
+        ensures bound { IfSome result (λ number. number < link_count self.now.mesh) }
+        ensures mesh_port { IsSome result → port < 6 }
+    {
+        self.links.find_into(node, port)
+    }
+
+    /// The number of the link out of this port, if the node has a neighbour there.
+    pub fn link_out(&self, node: u8, port: u8) -> Option<u16>
+        ensures there { IsSome result ↔ ((node < node_count self.now.mesh) × IsSome (neighbour_of self.now.mesh node port)) }
+        ensures value { IfSome result (λ number. number ≡ link_out self.now node port) }
+        ensures bound { IfSome result (λ number. number < link_count self.now.mesh) }
+        ensures mesh_port { IsSome result → port < 6 }
+    {
+        self.links.find_out(node, port)
+    }
+
     /// The terminal port of each node.
     pub fn terminal(&self) -> u8
         ensures value { result ≡ 2 * length self.now.mesh }
@@ -146,16 +166,18 @@ impl Fabric {
         self.nodes.router_mut(node).accept(port, flit).is_ok()
     }
 
-    /// Moves the front of the link into a port to the buffer of its channel (Dally and Towles, chapter 13).
-    pub fn take(&mut self, node: u8, port: u8) -> bool
+    /// Moves the front of the link into a port, which is that of this number, to the buffer of its channel (Dally and Towles, chapter 13).
+    pub fn take(&mut self, node: u8, port: u8, number: u16) -> bool
         requires node { node < length self.old.nodes }
+        requires number { number ≡ link_into self.old node port }
+        requires there { number < link_count self.old.mesh }
+        requires mesh_port { port < 6 }
         requires links { length self.old.links ≡ link_count self.old.mesh }
         requires linked { IsSome (neighbour_of self.old.mesh node port) }
         requires front { FrontFits (router_at self.old node) port (front_into self.old node port) }
         ensures enabled { result ≡ can_enter (router_at self.old node) port (front_into self.old node port) }
         ensures after { self.new ≡ (if result then after_take self.old node port (link_into self.old node port) (front_into self.old node port) else self.old) }
     {
-        let number = self.links.number_into(node, port);
         let Some(flit) = self.links.link(number).front() else {
             return false;
         };
@@ -269,7 +291,7 @@ impl Fabric {
     }
 
     /// Whether the input channel owes a credit.
-    fn owes(&self, node: u8, port: u8, vc: u8) -> bool
+    pub fn owes(&self, node: u8, port: u8, vc: u8) -> bool
         requires { IsNetPlace self.now node port vc }
         ensures { result ≡ can_give self.now node port vc }
     {
@@ -285,21 +307,19 @@ impl Fabric {
         self.nodes.router_mut(node).gave(port, vc);
     }
 
-    /// Gives a credit that the input channel owes to the link into its port (Dally and Towles, chapter 13).
-    pub fn give(&mut self, node: u8, port: u8, vc: u8) -> bool
+    /// Gives a credit that the input channel owes to the link into its port, which is that of this number (Dally and Towles, chapter 13).
+    pub fn give(&mut self, node: u8, port: u8, vc: u8, number: u16)
         requires place { IsNetPlace self.old node port vc }
+        requires number { number ≡ link_into self.old node port }
+        requires there { number < link_count self.old.mesh }
         requires links { length self.old.links ≡ link_count self.old.mesh }
         requires linked { IsSome (neighbour_of self.old.mesh node port) }
-        requires room { 0 < (input_at (router_at self.old node) port vc).owed → length (link_at self.old (link_into self.old node port)).credits < (link_at self.old (link_into self.old node port)).room }
-        ensures enabled { result ≡ can_give self.old node port vc }
-        ensures after { self.new ≡ (if result then after_giving self.old node port vc (link_into self.old node port) else self.old) }
+        requires owed { 0 < (input_at (router_at self.old node) port vc).owed }
+        requires room { length (link_at self.old (link_into self.old node port)).credits < (link_at self.old (link_into self.old node port)).room }
+        ensures { self.new ≡ after_giving self.old node port vc (link_into self.old node port) }
     {
-        if !self.owes(node, port, vc) {
-            return false;
-        }
         self.gave(node, port, vc);
-        self.links.push_credit(node, port, vc);
-        true
+        self.links.push_credit(node, port, number, vc);
     }
 
     /// Counts a credit more for the output channel, if one is missing.
@@ -311,16 +331,18 @@ impl Fabric {
         self.nodes.router_mut(node).credit(port, vc).is_ok()
     }
 
-    /// Takes the front credit of the link out of this port into its channel's count (Dally and Towles, chapter 13).
-    pub fn get(&mut self, node: u8, port: u8) -> bool
+    /// Takes the front credit of the link out of this port, which is that of this number, into its channel's count (Dally and Towles, chapter 13).
+    pub fn get(&mut self, node: u8, port: u8, number: u16) -> bool
         requires node { node < length self.old.nodes }
+        requires number { number ≡ link_out self.old node port }
+        requires there { number < link_count self.old.mesh }
+        requires mesh_port { port < 6 }
         requires links { length self.old.links ≡ link_count self.old.mesh }
         requires linked { IsSome (neighbour_of self.old.mesh node port) }
         requires front { CreditFits (router_at self.old node) port (front_credit self.old node port) }
         ensures enabled { result ≡ can_get (router_at self.old node) port (front_credit self.old node port) }
         ensures after { self.new ≡ (if result then after_getting self.old node port (front_credit self.old node port) else self.old) }
     {
-        let number = self.links.number_out(node, port);
         let Some(vc) = self.links.link(number).front_credit() else {
             return false;
         };
@@ -372,17 +394,6 @@ impl Fabric {
         self.nodes.router_mut(node).choose()
     }
 
-    /// The lowest channel of the port that owes a credit.
-    pub fn lowest_owed(&self, node: u8, port: u8) -> Option<u8>
-        requires node { node < length self.now.nodes }
-        requires port { port ≤ terminal (router_at self.now node) }
-        ensures found { IfSome result (λ vc. (vc < width (router_at self.now node)) × (0 < (input_at (router_at self.now node) port vc).owed)) }
-        ensures lowest { IfSome result (λ vc. (k : ℕ) → k < vc → (input_at (router_at self.now node) port k).owed ≡ 0) }
-        ensures none { IfNone result ((k : ℕ) → k < width (router_at self.now node) → (input_at (router_at self.now node) port k).owed ≡ 0) }
-    {
-        self.nodes.node(node).router.owed(port)
-    }
-
     /// The node of this number.
     pub fn node(&self, node: u8) -> &Node
         requires { node < length self.now.nodes }
@@ -404,13 +415,5 @@ impl Fabric {
         ensures { self.new ≡ self.old }
     {
         self.nodes.count(under_way);
-    }
-
-    /// Whether each channel of the node with a flit has its route.
-    pub fn is_routed(&self, node: u8) -> bool
-        requires { node < length self.now.nodes }
-        ensures { IsTrue result → RoutesNothing (router_at self.now node) }
-    {
-        self.node(node).is_routed()
     }
 }

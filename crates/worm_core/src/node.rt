@@ -1,11 +1,12 @@
 ghost use Rattle.std.specs.Prelude.{IsTrue, true, false, ◌≡◌, ◌<◌, ◌≤◌, Some, OnOk, OnErr, IfErr, None, length, unwrap_or, if◌then◌else◌};
 ghost use Rattle.worm_router.specs.Router.{IsPlace, terminal, leaving};
 ghost use Rattle.worm_term.specs.Source.{classes, front_of, refusal, after_offer, after_close};
-ghost use Rattle.worm_core.specs.Moves.{RoutesNothing, FrontFits, can_enter, fed_node, delivered_node};
+ghost use Rattle.worm_core.specs.Moves.{AreUnrouted, FrontFits, can_enter, fed_node, delivered_node};
 
 use worm_flit::{Flit, Lane, Packet};
 use worm_router::Router;
 use worm_term::{OfferFault, Sink, Source};
+use worm_vcalloc::ChannelSet;
 
 /// One node: its router, and the two ends of its lanes.
 #[derive(Drop)]
@@ -65,16 +66,15 @@ impl Node {
         true
     }
 
-    /// Whether each channel with a flit has its route.
-    pub(crate) fn is_routed(&self) -> bool
-        ensures { IsTrue result → RoutesNothing self.now.router }
+    /// The channels with a flit that lack a route; no other has anything to route.
+    pub(crate) fn unrouted(&self) -> ChannelSet
+        ensures { AreUnrouted self.now.router result }
     {
         let router = &self.router;
-        let unrouted = router
+        router
             .occupied()
             .difference(&router.waiting())
-            .difference(&router.active());
-        unrouted.is_empty()
+            .difference(&router.active())
     }
 
     /// Hands the packet to the source.

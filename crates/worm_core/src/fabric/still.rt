@@ -4,7 +4,7 @@ ghost use Rattle.std.specs.Prelude.{ℕ, ◌≡◌, ◌<◌, ◌≤◌, ◌*◌,
 ghost use Rattle.worm_mesh.specs.Address.{neighbour_of};
 ghost use Rattle.worm_router.specs.Busy.{IsSetOf, owes};
 ghost use Rattle.worm_core.specs.State.{router_at};
-ghost use Rattle.worm_core.specs.Moves.{front_credit, front_into};
+ghost use Rattle.worm_core.specs.Moves.{AreUnrouted, front_credit, front_into};
 
 use super::Fabric;
 use worm_vcalloc::ChannelSet;
@@ -36,5 +36,13 @@ impl Fabric {
         ensures { IsSetOf owes (router_at self.now node) result }
     {
         self.node(node).router.owing()
+    }
+
+    /// The channels of the node with a flit that lack a route.
+    pub fn unrouted(&self, node: u8) -> ChannelSet
+        requires { node < length self.now.nodes }
+        ensures { AreUnrouted (router_at self.now node) result }
+    {
+        self.node(node).unrouted()
     }
 }
