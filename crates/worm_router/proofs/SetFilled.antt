@@ -1,16 +1,13 @@
 -- Tables filled for the channels of a set alone, where any other channel has nothing to put there.
-use Rattle.std.proofs.Common.{◌≡◌, ℕ, ◌<◌, ◌&&◌, ◌==◌, Bool, true, false, nat_le, nat_lt, if◌then◌else◌, inl, inr, List, Option, None, replicate, refl, arith, ap, sym, ◌∙◌, subst, Some, is_some, ◌≤◌}
-use Rattle.std.specs.Option.{option_map}
+use Rattle.std.proofs.Common.{◌≡◌, ℕ, ◌<◌, ◌&&◌, Bool, true, false, nat_le, nat_lt, if◌then◌else◌, inl, inr, List, Option, None, replicate, refl, arith, ap, sym, ◌∙◌, subst}
 use Rattle.std.proofs.lemmas.Bool.{cases_eq}
-use Rattle.worm_flit.specs.declared.Flit.{Flit}
 use Rattle.worm_vcalloc.specs.ChannelSet.{has, IsFirst}
 use Rattle.worm_vcalloc.specs.Table.{cell, with_cell, IsTable}
 use Rattle.worm_vcalloc.proofs.SetLemmas.{has-zero}
 use Rattle.worm_vcalloc.proofs.TableLemmas.{cell-with_cell_same, cell-with_cell_other, IsTable-with_cell, cell-replicate, IsTable-replicate}
-use Rattle.worm_router.specs.Router.{RouterState, IsPlace, terminal, width, input_at, leaving}
-use Rattle.worm_router.specs.Busy.{IsSetOf, waits, is_waiting, AreCandidates}
+use Rattle.worm_router.specs.Router.{RouterState, IsPlace, terminal, width}
 use Rattle.worm_router.specs.Tables.{table}
-use Rattle.worm_router.specs.Allocation.{within, asking, request_at, requests, ready_at, ready_outs}
+use Rattle.worm_router.specs.Allocation.{within}
 use Rattle.worm_router.proofs.TableRows.{same_tables, cell-table, IsTable-table}
 
 -- the channels that are left of a set are places of the router, and each other cell is filled
