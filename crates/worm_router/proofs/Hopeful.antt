@@ -1,14 +1,16 @@
 -- A pass of the channel allocator asks only those input channels for which some output channel is free.
-use Rattle.std.proofs.Common.{◌≡◌, ℕ, ◌+◌, ◌/◌, ◌%◌, ◌<◌, ◌≤◌, ◌==◌, ◌&&◌, ◌⊎◌, nat_le, nat_lt, Bool, true, false, not, cond, if◌then◌else◌, inl, inr, List, [], ◌∷◌, slice_index_or, Option, None, Some, is_some, is_none, IfSome, MatchOption, find, fold, replicate, refl, arith, ap, sym, ◌∙◌, subst}
+use Rattle.std.proofs.Common.{◌≡◌, ℕ, ◌+◌, ◌/◌, ◌%◌, ◌<◌, ◌≤◌, ◌==◌, ◌&&◌, ◌⊎◌, nat_le, nat_lt, Bool, true, false, not, cond, if◌then◌else◌, inl, inr, List, [], ◌∷◌, slice_index_or, Option, None, Some, is_some, is_none, IfSome, MatchOption, find, fold, replicate, refl, arith, ap, sym, ◌∙◌, subst, length, slice_set, ◌*◌}
 use Rattle.std.specs.Int.{bit_at}
 use Rattle.std.specs.List.{range_with_len}
 use Rattle.std.proofs.lemmas.Bool.{cases_eq, cases_lt, cases_Bool, and_parts, and_from, eq-eqb, eqb-true, true≢false}
-use Rattle.std.proofs.lemmas.List.{get_or_past}
+use Rattle.std.proofs.lemmas.List.{get_or_past, get_or-set_other}
+use Rattle.std.proofs.lemmas.Grind.{get_or-set_at}
 use Rattle.worm_flit.specs.declared.Flit.{Flit}
 use Rattle.worm_flit.specs.Channels.{owns, class_bits}
 use Rattle.worm_flit.proofs.Masks.{class_bits-owns}
 use Rattle.worm_records.specs.declared.InRecord.{InRecord}
 use Rattle.worm_records.specs.declared.InRecord.TheVariants.{Idle, Waiting, Active}
+use Rattle.worm_records.specs.declared.OutRecord.{OutRecord}
 use Rattle.worm_vcalloc.specs.declared.request.VcRequest.{VcRequest}
 use Rattle.worm_vcalloc.specs.VcRequest.{may_use}
 use Rattle.worm_vcalloc.specs.Arbiter.{ArbiterState, no_arbiter, winner, asked_in_order, after_pick}
@@ -19,12 +21,13 @@ use Rattle.worm_vcalloc.proofs.MatchingLemmas.{may_use_out}
 use Rattle.worm_vcalloc.proofs.SetLemmas.{has-zero, has-empty}
 use Rattle.worm_vcalloc.proofs.SoleLemmas.{fold_once}
 use Rattle.worm_vcalloc.proofs.TableLemmas.{cell-with_cell_same, cell-with_cell_other, cell-replicate, IsTable-replicate}
-use Rattle.worm_router.specs.Router.{RouterState, IsRouter, IsPlace, StateFits, terminal, width, input_at, output_at, granting, can_grant, after_granting}
+use Rattle.worm_router.specs.Router.{RouterState, IsRouter, IsPlace, StateFits, terminal, width, ChannelState, line, fresh_channel, free_output, in_state, input_at, output_at, granting, can_grant, after_granting}
 use Rattle.worm_router.specs.Busy.{IsSetOf, IsHeldIn, waits, is_waiting}
 use Rattle.worm_router.specs.Tables.{table}
 use Rattle.worm_router.specs.Allocation.{within, asking, request_at, requests, requests_among, is_free, free_channels, AgreeWhereFree, may_get, HasNoChoice, IsFirstChoice, IsHopeful, IsSoleHope, GrantsNothing, channel_pass, written, with_port_grants, with_grants, after_allocate, IsSameSize, IsAllocated}
 use Rattle.worm_router.proofs.GrantsWritten.{stays}
 use Rattle.worm_router.proofs.InVain.{cell_has, cell_is, vain_by, nobody_uses}
+use Rattle.worm_router.proofs.Laws.{line-places}
 use Rattle.worm_router.proofs.Leaving.{channel_at}
 use Rattle.worm_router.proofs.Masks.{owned_below}
 use Rattle.worm_router.proofs.NothingWaits.{no_grants, fold_same, idle_pass, idle_allocate, idle_matching}
@@ -454,3 +457,42 @@ sole_allocated r s new alloc port vc out c ports channels grants same few_ports 
           (subst (λ n. IsChannelMatching n (width s) (requests s) (free_channels s) (sole_grant port vc c)) (all ∙ ap (λ (k : RouterState). terminal k + 1) same)
           (subst (λ n. IsChannelMatching ports n (requests s) (free_channels s) (sole_grant port vc c)) (all' ∙ ap width same) matching));
     }
+
+-- ---- once the one that had a choice has its grant, nobody has any
+
+-- where an output channel is held that was free, no more is granted
+granting_less : (r : RouterState) (o : ℕ) (u : OutRecord) → o < length r.outputs → is_none u.holder ≡ false
+    → (s : InRecord) (fs : List Flit) (c : ℕ) → granting r s fs c ≡ None → granting (record r { outputs = slice_set r.outputs o u }) s fs c ≡ None
+granting_less r o u within holds Idle fs c none = refl
+granting_less r o u within holds (Active p v) fs c none = refl
+granting_less r o u within holds (Waiting p) [] c none = refl
+granting_less r o u within holds (Waiting p) (f ∷ fs) c none = elim (cases_eq (line r p c) o) [
+  | inl here ↦
+      ap (λ (w : OutRecord). if is_none w.holder && owns r.channels f.lane.class c then Some p else None) (get_or-set_at r.outputs o (line r p c) u (free_output r.depth) here within)
+      ∙ ap (λ b. if b && owns r.channels f.lane.class c then Some p else None) holds
+  | inr away ↦ ap (λ (w : OutRecord). if is_none w.holder && owns r.channels f.lane.class c then Some p else None) (get_or-set_other r.outputs o (line r p c) u (free_output r.depth) away) ∙ none
+]
+
+pub vain_after_sole : (r : RouterState) (port vc out out_vc : ℕ) → IsRouter r → IsPlace r port vc → IsPlace r out out_vc → IsSoleHope r port vc
+    → GrantsNothing (after_granting r port vc out_vc (Some out))
+vain_after_sole r port vc out out_vc sound place out_place sole = λ p v c p_in v_in c_in. elim (cases_eq (line r p v) (line r port vc)) [
+  | inl same ↦
+      ap (λ (x : ChannelState). granting (after_granting r port vc out_vc (Some out)) x.state x.buffer c)
+      (get_or-set_at r.inputs (line r port vc) (line r p v) (in_state (input_at r port vc) (Active out out_vc)) (fresh_channel r.depth) same in_inputs)
+  | inr other ↦
+      ap (λ (x : ChannelState). granting (after_granting r port vc out_vc (Some out)) x.state x.buffer c)
+      (get_or-set_other r.inputs (line r port vc) (line r p v) (in_state (input_at r port vc) (Active out out_vc)) (fresh_channel r.depth) other)
+      ∙ granting_less r (line r out out_vc) (record (output_at r out out_vc) { holder = Some (port, vc) }) in_outputs refl (input_at r p v).state (input_at r p v).buffer c
+      (before p v c (record { port_in = p_in; channel_in = v_in }) c_in other)
+] where
+  in_inputs : line r port vc < length r.inputs
+  in_inputs = let all = sound.lists.all_inputs in let here = line-places r port vc place in omega arith
+
+  in_outputs : line r out out_vc < length r.outputs
+  in_outputs = let all = sound.lists.all_outputs in let here = line-places r out out_vc out_place in omega arith
+
+  before : (p v c : ℕ) → IsPlace r p v → c < width r → (line r p v ≡ line r port vc → ⊥) → can_grant r p v c ≡ None
+  before p v c here c_in other =
+      vain_by r (input_at r p v).state (input_at r p v).buffer c (channel_at r p v sound here).state_fits (λ o o_in free asks.
+      let at = sole p v o c here (record { port_in = o_in; channel_in = c_in }) (and_from _ _ free asks) in
+      other (ap (λ k. k * width r + v) at.0 ∙ ap (λ k. port * width r + k) at.1))

@@ -157,7 +157,8 @@ impl Router {
         self.busy.in_vain = true;
     }
 
-    /// The pass where output channels are free for one input channel alone: it gets the first of them.
+    /// The pass where output channels are free for one input channel alone: it gets the first of them, and then no other has
+    /// any.
     fn grant_sole(&mut self, port: u8, vc: u8) -> VcGrants
         requires place { IsPlace self.old port vc }
         requires sole { IsSoleHope self.old port vc }
@@ -169,6 +170,7 @@ impl Router {
             Some((out, out_vc)) => {
                 self.channel_alloc.grant_sole(port, vc, out, out_vc);
                 self.hold(port, vc, out, out_vc);
+                self.file_in_vain();
                 grants.set(port, vc, Some(out_vc));
             }
         }
