@@ -2,7 +2,7 @@ ghost use Rattle.std.specs.Prelude.{IsTrue, true, false, ◌≡◌, ◌<◌, ◌
 ghost use Rattle.worm_router.specs.Router.{IsPlace, terminal, leaving};
 ghost use Rattle.worm_router.specs.Allocation.{switch_grants};
 ghost use Rattle.worm_term.specs.Source.{classes, front_of, refusal, after_offer, after_close};
-ghost use Rattle.worm_core.specs.Moves.{AreUnrouted, FrontFits, can_enter, chosen_router, fed_node, delivered_node};
+ghost use Rattle.worm_core.specs.Moves.{AreReady, AreUnrouted, FrontFits, can_enter, chosen_router, fed_node, delivered_node};
 
 use worm_flit::{Flit, Lane, Packet};
 use worm_router::Router;
@@ -84,6 +84,7 @@ impl Node {
     pub(crate) fn choose(&mut self) -> SwGrants
         ensures grants { result ≡ switch_grants self.old.router }
         ensures after { self.new ≡ record self.old { router = chosen_router self.old.router } }
+        ensures ready { AreReady self.old.router result }
     {
         self.router.choose()
     }

@@ -133,7 +133,7 @@ impl Net {
         let grants = self.choose(node);
         for port in 0..self.terminal() + 1 {
             if let Some(grant) = grants[usize::from(port)] {
-                tried(self.send(node, port, grant.vc))?;
+                tried(self.send_there(node, port, grant.vc))?;
             }
         }
         Ok(())
