@@ -7,7 +7,7 @@ ghost use Rattle.worm_theory.specs.Steps.{empty};
 ghost use Rattle.worm_core.specs.NewNet.{IsConfig, IsFresh};
 ghost use Rattle.worm_core.specs.Headline.{DeliversInOrder, NothingFollowsMarks};
 ghost use Rattle.worm_core.specs.State.{IsNet, shape, network_of, queue_of, router_at, sink_at, source_at, texts_of, with_router};
-ghost use Rattle.worm_core.specs.Turns.{NodePasses, Reaches, Tries};
+ghost use Rattle.worm_core.specs.Turns.{NodePasses, Reaches, SendsGranted, Tries};
 ghost use Rattle.worm_mesh.specs.Address.{node_count};
 ghost use Rattle.worm_router.specs.Router.{input_at, width};
 ghost use Rattle.worm_router.specs.Allocation.{after_allocate, switch_grants};
@@ -213,6 +213,14 @@ impl Net {
         ensures reaches { Reaches self.old self.new }
     {
         self.fabric.choose(node)
+    }
+
+    /// Whether no channel of the node may send; then nothing is granted, and nothing sent.
+    pub(crate) fn sends_nothing(&self, node: u8) -> bool
+        requires { node < node_count self.now.mesh }
+        ensures { IsTrue result → SendsGranted node self.now None self.now }
+    {
+        self.fabric.sends_nothing(node)
     }
 
     /// The channels of the node with a flit that lack a route; no other has anything to route.

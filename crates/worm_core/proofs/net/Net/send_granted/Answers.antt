@@ -1,8 +1,8 @@
 use Rattle.std.proofs.Common.{ℕ, List, get_or, ap, sym, ◌∙◌, ◌+◌, None, Some, arith, length}
 use Rattle.std.proofs.lemmas.Result.{err_from_is_err_and}
-use Rattle.worm_core.specs.Turns.{Each, Tries, granted_send}
+use Rattle.worm_core.specs.Turns.{Each, SendsGranted, Tries, granted_send}
 use Rattle.worm_core.proofs.Allocating.{there_still}
-use Rattle.worm_core.proofs.Passages.{loop_more, loop_cut}
+use Rattle.worm_core.proofs.Passages.{does_still, loop_more, loop_cut}
 use Rattle.worm_core.proofs.Turning.{sends_one, sends_none, sends_all}
 use Rattle.worm_core.proofs.net.Net.send_granted.Goals as goal
 use Rattle.worm_core.proofs.net.Net.send_granted.Goals.{in-Some+in_ok-tried, in_default}
@@ -33,3 +33,6 @@ send_there-requires c =
     there_still c.choose-grants.new.self c.loop-port.self c.args.node c.loop-port.port c.in-Some.grant.vc c.loop-port.invariant.reaches.config
     (there_still c.args.self.now c.choose-grants.new.self c.args.node c.loop-port.port c.in-Some.grant.vc c.choose-grants.ensures.reaches.config
     (c.choose-grants.ensures.there c.loop-port.port c.in-Some.grant (ap (λ (i : ℕ). get_or c.choose-grants.result i None) (sym c.from.ensures) ∙ c.in-Some.is)))
+
+pub returns-then-sends_nothing : goal.returns-then-sends_nothing
+returns-then-sends_nothing c = does_still (SendsGranted c.args.node) c.args.self.now (c.sends_nothing.ensures c.if-sends_nothing.true)
