@@ -65,7 +65,7 @@ sends_nothing grants x p is =
     ap (λ (gs : List (Option SwGrant)). granted_send gs x p) is
     ∙ ap (λ (g : Option SwGrant). option_to_list (option_map (λ g. Send x p g.vc) g)) (same_all_through None 7 p)
 
-sends_still : (s : NetState) (x : ℕ) → x < length s.nodes → after_choose (router_at s x) ≡ router_at s x → switch_grants (router_at s x) ≡ replicate 7 None → SendsGranted x s None s
+pub sends_still : (s : NetState) (x : ℕ) → x < length s.nodes → after_choose (router_at s x) ≡ router_at s x → switch_grants (router_at s x) ≡ replicate 7 None → SendsGranted x s None s
 unfolding chosen_router
 sends_still s x there same none =
     let r = router_at s x in

@@ -1,10 +1,11 @@
 -- What the moves of a network make of its lists, in the words of routers, terminals and links.
-use Rattle.std.specs.Prelude.{ℕ, ◌*◌, ◌<◌, ◌≤◌, ◌≡◌, ◌==◌, Bool, true, false, nat_lt, if◌then◌else◌, List, [], ◌∷◌, ◌++◌, length, sum, drop, slice_get, Option, Some, None, IsSome, Result, Ok, Err}
+use Rattle.std.specs.Prelude.{ℕ, ◌*◌, ◌<◌, ◌≤◌, ◌≡◌, ◌==◌, Bool, true, false, nat_lt, if◌then◌else◌, List, [], ◌∷◌, ◌++◌, length, sum, drop, slice_get, slice_index_or, Option, Some, None, IsSome, Result, Ok, Err}
 use Rattle.worm_flit.specs.declared.Flit.{Flit}
 use Rattle.worm_mesh.specs.Address.{node_count, neighbour_of, opposite_of}
 use Rattle.worm_mesh.specs.Links.{links_before}
 use Rattle.worm_router.specs.Router.{RouterState, IsPlace, terminal, width, input_at, output_at, leaving, after_accept, after_route, after_grant, after_send, after_gave, after_credit, can_route}
 use Rattle.worm_router.specs.Allocation.{after_choose}
+use Rattle.worm_swalloc.specs.declared.grant.SwGrant.{SwGrant}
 use Rattle.worm_vcalloc.specs.ChannelSet.{has}
 use Rattle.worm_term.specs.Sink.{after_take as after_sink}
 use Rattle.worm_term.specs.Source.{front_of, after_offer, after_close, after_fed}
@@ -28,6 +29,15 @@ RoutesNothing r = (p v : ℕ) → p < 7 → v < 8 → p ≤ terminal r → v < w
 pub record AreUnrouted (r : RouterState) (set : ℕ) : Type 0 where
   pub all : (p v : ℕ) → p < 7 → v < 8 → p ≤ terminal r → v < width r → has set p v ≡ false → can_route r p v ≡ false
   pub places : (p v : ℕ) → p < 7 → v < 8 → has set p v ≡ true → (p ≤ terminal r) × (v < width r)
+
+-- a flit may leave this channel now
+pub record IsReady (r : RouterState) (p v : ℕ) : Type 0 where
+  pub place : IsPlace r p v
+  pub leaves : IsSome (leaving r p v)
+
+-- what is granted to each input port is ready
+pub record AreReady (r : RouterState) (grants : List (Option SwGrant)) : Type 0 where
+  pub each : (p : ℕ) (g : SwGrant) → slice_index_or grants p None ≡ Some g → IsReady r p g.vc
 
 -- the number of the link that comes into a port from this neighbour
 abbrev pub into_from : List ℕ → ℕ → Option ℕ → ℕ

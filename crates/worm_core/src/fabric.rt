@@ -7,7 +7,7 @@ ghost use Rattle.worm_mesh.specs.Links.{link_count};
 ghost use Rattle.worm_router.specs.Router.{IsPlace, MayLeave, after_accept, after_credit, after_gave, after_grant, after_route, after_send, can_grant, can_route, input_at, leaving, output_at, terminal, width};
 ghost use Rattle.worm_term.specs.Source.{after_close, after_offer, classes, front_of, refusal};
 ghost use Rattle.worm_core.specs.State.{IsNetPlace, link_at, node_at, router_at, sink_at, source_at, texts_of, with_link, with_node, with_router, with_source};
-ghost use Rattle.worm_core.specs.Moves.{CreditFits, FrontFits, Sends, WayOut, after_getting, after_giving, after_take, can_enter, can_get, can_give, chosen_router, delivered_node, fed_node, front_credit, front_into, has_room, link_into, link_out};
+ghost use Rattle.worm_core.specs.Moves.{AreReady, CreditFits, FrontFits, Sends, WayOut, after_getting, after_giving, after_take, can_enter, can_get, can_give, chosen_router, delivered_node, fed_node, front_credit, front_into, has_room, link_into, link_out};
 ghost use Rattle.worm_core.specs.UnderWay.{IsUnderWay, accepted_in, taken_in};
 
 mod parts;
@@ -390,6 +390,7 @@ impl Fabric {
         requires { node < length self.old.nodes }
         ensures grants { result ≡ switch_grants (router_at self.old node) }
         ensures after { self.new ≡ with_router self.old node (chosen_router (router_at self.old node)) }
+        ensures ready { AreReady (router_at self.old node) result }
     {
         self.nodes.router_mut(node).choose()
     }

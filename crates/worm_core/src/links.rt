@@ -243,10 +243,10 @@ impl Links {
         requires room { length (state_at self.old (number_out self.old node port)).flits < (state_at self.old (number_out self.old node port)).room }
         ensures { self.new ≡ with_state self.old (number_out self.old node port) (record (state_at self.old (number_out self.old node port)) { flits = (state_at self.old (number_out self.old node port)).flits ++ flit ∷ [] }) }
     {
-        let number = self.number_out(node, port);
-        let link = &mut self.states[usize::from(number)];
-        link.push(flit);
         if let Some((beyond, into)) = self.wiring.other_end(node, port) {
+            let number = self.number_out(node, port);
+            let link = &mut self.states[usize::from(number)];
+            link.push(flit);
             let mut there = self.arrivals[usize::from(beyond)];
             there.flits.insert(into);
             self.arrivals[usize::from(beyond)] = there;

@@ -1,12 +1,13 @@
-ghost use Rattle.std.specs.Prelude.{None, ◌≡◌, ◌≤◌, ◌<◌, ◌*◌, ◌↔◌, ℕ, Result, IsTrue, IfNone, IfOk, Ok, sum, length, slice_get, IfSome, MatchOption, Err};
-ghost use Rattle.worm_theory.specs.Steps.{Step as Event};
+ghost use Rattle.std.specs.Prelude.{None, Some, slice_index_or, ◌≡◌, ◌≤◌, ◌<◌, ◌*◌, ◌↔◌, ℕ, Result, IsTrue, IfNone, IfOk, Ok, sum, length, slice_get, IfSome, MatchOption, Err};
+ghost use Rattle.worm_theory.specs.Steps.{IsThere, Step as Event};
+ghost use Rattle.worm_swalloc.specs.declared.grant.SwGrant.{SwGrant};
 ghost use Rattle.worm_core.specs.Runs.{IsRun, event_of};
 ghost use Rattle.worm_core.specs.Answers.{Answers, ArbitersStand, accepted_of, moved_of};
 ghost use Rattle.worm_theory.specs.Steps.{empty};
 ghost use Rattle.worm_core.specs.NewNet.{IsConfig, IsFresh};
 ghost use Rattle.worm_core.specs.Headline.{DeliversInOrder, NothingFollowsMarks};
 ghost use Rattle.worm_core.specs.State.{IsNet, shape, network_of, queue_of, router_at, sink_at, source_at, texts_of, with_router};
-ghost use Rattle.worm_core.specs.Turns.{NodePasses, Reaches, Tries};
+ghost use Rattle.worm_core.specs.Turns.{NodePasses, Reaches, SendsGranted, Tries};
 ghost use Rattle.worm_mesh.specs.Address.{node_count};
 ghost use Rattle.worm_router.specs.Router.{input_at, width};
 ghost use Rattle.worm_router.specs.Allocation.{after_allocate, switch_grants};
@@ -208,9 +209,18 @@ impl Net {
         requires { node < node_count self.old.mesh }
         ensures grants { result ≡ switch_grants (router_at self.old node) }
         ensures after { self.new ≡ with_router self.old node (chosen_router (router_at self.old node)) }
+        ensures there { (p : ℕ) (g : SwGrant) → slice_index_or result p None ≡ Some g → IsThere (shape self.old) (Event.Send node p g.vc) }
         ensures reaches { Reaches self.old self.new }
     {
         self.fabric.choose(node)
+    }
+
+    /// Whether no channel of the node may send; then nothing is granted, and nothing sent.
+    pub(crate) fn sends_nothing(&self, node: u8) -> bool
+        requires { node < node_count self.now.mesh }
+        ensures { IsTrue result → SendsGranted node self.now None self.now }
+    {
+        self.fabric.sends_nothing(node)
     }
 
     /// The channels of the node with a flit that lack a route; no other has anything to route.
@@ -322,6 +332,14 @@ impl Net {
         if !self.fabric.has_place(node, port, vc) {
             return Err(StepFault::NoSuchPlace);
         }
+        self.send_there(node, port, vc)
+    }
+
+    /// The same where the place is there.
+    pub(crate) fn send_there(&mut self, node: u8, port: u8, vc: u8) -> Result<Moved, StepFault>
+        requires { IsThere (shape self.old) (Event.Send node port vc) }
+        ensures { Answers self.old (Event.Send node port vc) result self.new }
+    {
         self.fabric.send(node, port, vc)
     }
 

@@ -130,10 +130,13 @@ impl Net {
         requires { node < node_count self.old.mesh }
         ensures { Does (SendsGranted node) self.old (result_err result) self.new }
     {
+        if self.sends_nothing(node) {
+            return Ok(());
+        }
         let grants = self.choose(node);
         for port in 0..self.terminal() + 1 {
             if let Some(grant) = grants[usize::from(port)] {
-                tried(self.send(node, port, grant.vc))?;
+                tried(self.send_there(node, port, grant.vc))?;
             }
         }
         Ok(())
