@@ -207,23 +207,6 @@ impl Fabric {
         self.nodes.router_mut(node).grant(port, vc, out_vc)
     }
 
-    /// The out port and the flit that may leave this buffer now, as it would leave.
-    fn ready(&self, node: u8, port: u8, vc: u8) -> Option<(u8, Flit)>
-        requires { IsNetPlace self.now node port vc }
-        ensures { result ≡ leaving (router_at self.now node) port vc }
-    {
-        self.nodes.node(node).router.ready(port, vc)
-    }
-
-    /// Lets the ready flit out of its buffer, by the output port `out`.
-    fn let_out(&mut self, node: u8, port: u8, vc: u8, out: u8, flit: Flit)
-        requires place { IsNetPlace self.old node port vc }
-        requires ready { leaving (router_at self.old node) port vc ≡ Some (out, flit) }
-        ensures { self.new ≡ with_router self.old node (after_send (router_at self.old node) port vc) }
-    {
-        self.nodes.router_mut(node).let_out(port, vc, out, flit);
-    }
-
     /// Lets the ready flit out into the node's sink, by the output port `out`, if the sink can take it.
     fn deliver(&mut self, node: u8, port: u8, vc: u8, out: u8, flit: Flit) -> bool
         requires place { IsNetPlace self.old node port vc }
@@ -241,16 +224,18 @@ impl Fabric {
         requires way { WayOut self.old node (leaving (router_at self.old node) port vc) }
         ensures { Sends self.old node port vc (leaving (router_at self.old node) port vc) result self.new }
     {
-        let Some((out, flit)) = self.ready(node, port, vc) else {
+        let terminal = self.terminal();
+        let router = self.nodes.router_mut(node);
+        let Some((out, flit)) = router.ready(port, vc) else {
             return Ok(Moved::Idle);
         };
-        if out == self.terminal() {
+        if out == terminal {
             if !self.deliver(node, port, vc, out, flit) {
                 return Err(StepFault::NoMemory);
             }
             return Ok(Moved::Done);
         }
-        self.let_out(node, port, vc, out, flit);
+        router.let_out(port, vc, out, flit);
         self.links.push(node, out, flit);
         Ok(Moved::Done)
     }
