@@ -55,14 +55,14 @@ pub enum Kind {
 pub struct Flit {
     /// Where it comes from and goes to, and its class.
     pub lane: Lane,
+    /// The virtual channel that it is on; in a source, the class.
+    pub vc: u8,
     /// Its packet's number in the lane, 0 to 65,534.
     pub packet: u16,
     /// Its place in the packet, 0 to 31.
     pub index: u8,
     /// Its part in the packet.
     pub kind: Kind,
-    /// The virtual channel that it is on; in a source, the class.
-    pub vc: u8,
     /// The 32 bits that it carries.
     pub word: u32,
 }
