@@ -208,6 +208,26 @@ mod tests {
         assert_eq!(rt; third[2], None);
     }
 
+    // Ports 0 and 2 both ask for output port 1, and port 1 for output port 0.
+    #[test]
+    fn what_is_named_is_granted_once_for_each_output_port(rt: HostRuntime) {
+        let mut alloc = SwAlloc::new(3, 2);
+        assert_eq!(rt; alloc.name(0, 0b10), Some(1));
+        assert_eq!(rt; alloc.name(0, 0), None);
+        let mut named = Named::new();
+        named.put(0, SwGrant { vc: 1, out: 1 });
+        named.put(1, SwGrant { vc: 0, out: 0 });
+        named.put(2, SwGrant { vc: 0, out: 1 });
+        assert_eq!(rt; named.get(2), Some(SwGrant { vc: 0, out: 1 }));
+        let first = alloc.grant_named(&named);
+        assert_eq!(rt; first[0], Some(SwGrant { vc: 1, out: 1 }));
+        assert_eq!(rt; first[1], Some(SwGrant { vc: 0, out: 0 }));
+        assert_eq!(rt; first[2], None);
+        let second = alloc.grant_named(&named);
+        assert_eq!(rt; second[0], None);
+        assert_eq!(rt; second[2], Some(SwGrant { vc: 0, out: 1 }));
+    }
+
     // Port 0 names its channel 1 in vain while port 2 sends, and names it again in the next pass:
     // with its pointer moved it would name channel 0.
     #[test]
