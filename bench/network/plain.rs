@@ -1,65 +1,71 @@
 //! The turns of a wormhole network in plain Rust: what the proved crates do, written apart from them and without a contract, to compare
-//! speed and deliveries with (Dally and Towles, chapters 8, 13, 16, 18 and 19). It reads a network text of the first format and a
-//! traffic text of `send` lines alone, neither with a fault, takes turns until all has arrived, prints turns and speed, and writes to
-//! the third file named a line for each flit delivered: node, source, class, packet, word.
+//! speed and deliveries with (Dally and Towles, chapters 8, 13, 16, 18 and 19). It is written for speed: sets of channels are words of
+//! bits, a node with nothing to do is gone past, buffers and links are rings in one array. It reads a network text of the first format
+//! and a traffic text of `send` lines alone, neither with a fault, takes turns until all has arrived, prints turns and speed, and writes
+//! to the third file named a line for each flit delivered: node, source, class, packet, word.
 
-use std::collections::{HashMap, VecDeque};
+use std::collections::HashMap;
 use std::io::{self, BufWriter, Write};
 use std::time::Instant;
 use std::{env, fs};
 
-#[derive(Clone, Copy)]
+#[derive(Clone, Copy, Default)]
 struct Flit {
+    word: u32,
+    packet: u16,
     src: u8,
     dst: u8,
     class: u8,
     vc: u8,
-    packet: u16,
     opens: bool,
     closes: bool,
-    word: u64,
 }
 
-#[derive(Clone, Copy)]
-enum State {
-    Idle,
-    Waiting { out: u8 },
-    Active { out: u8, out_vc: u8 },
+/// A queue of at most as many items as its slice of an array holds.
+#[derive(Clone, Copy, Default)]
+struct Ring {
+    start: u8,
+    count: u8,
 }
 
+impl Ring {
+    fn push<T: Copy>(&mut self, slots: &mut [T], item: T) {
+        let end = self.start as usize + self.count as usize;
+        slots[if end < slots.len() { end } else { end - slots.len() }] = item;
+        self.count += 1;
+    }
+
+    fn pop<T: Copy>(&mut self, slots: &[T]) -> T {
+        let item = slots[self.start as usize];
+        let next = self.start + 1;
+        self.start = if (next as usize) < slots.len() { next } else { 0 };
+        self.count -= 1;
+        item
+    }
+}
+
+/// An input channel: its buffer, the output channel that it waits for or holds, and the credits that it owes.
+#[derive(Clone, Copy, Default)]
 struct Input {
-    buffer: VecDeque<Flit>,
-    state: State,
+    buffer: Ring,
+    out: u8,
     owed: u8,
 }
 
-#[derive(Clone, Copy)]
+/// An output channel: the input channel that holds it, and its credits.
+#[derive(Clone, Copy, Default)]
 struct Output {
-    held: bool,
+    holder: u8,
     credits: u8,
 }
 
-/// A round-robin arbiter.
-#[derive(Clone, Copy)]
-struct Arbiter {
-    lines: usize,
-    pointer: usize,
-}
-
-impl Arbiter {
-    fn peek(&self, requests: u64) -> Option<usize> {
-        let ahead = requests >> self.pointer;
-        match (ahead, requests) {
-            (_, 0) => None,
-            (0, _) => Some(requests.trailing_zeros() as usize),
-            _ => Some(self.pointer + ahead.trailing_zeros() as usize),
-        }
-    }
-
-    fn pick(&mut self, requests: u64) -> Option<usize> {
-        let line = self.peek(requests)?;
-        self.pointer = if line + 1 < self.lines { line + 1 } else { 0 };
-        Some(line)
+/// The first of these lines at the pointer or after it, cyclically.
+fn first_from(lines: u64, pointer: u8) -> u8 {
+    let ahead = lines >> pointer;
+    if ahead != 0 {
+        pointer + ahead.trailing_zeros() as u8
+    } else {
+        lines.trailing_zeros() as u8
     }
 }
 
@@ -70,38 +76,63 @@ struct Queue {
     fed: usize,
 }
 
+/// Sets of channels have bit `8 * port + channel`.
 struct Node {
-    inputs: Vec<Input>,
-    outputs: Vec<Output>,
-    channel_arbiters: Vec<Arbiter>,
-    input_arbiters: Vec<Arbiter>,
-    output_arbiters: Vec<Arbiter>,
+    occupied: u64,
+    waiting: u64,
+    active: u64,
+    ready: u64,
+    owing: u64,
+    /// The output channels that no input channel holds.
+    free: u64,
+    /// The output channels that someone waits for.
+    asked: u64,
+    /// The ports at which a flit comes in, and those at which a credit does.
+    flits_in: u8,
+    credits_in: u8,
+    /// The classes with a flit that was not fed.
+    backlog: u8,
+    /// Nothing can be done until something comes in.
+    asleep: bool,
+    inputs: [Input; 56],
+    outputs: [Output; 56],
+    /// For each output channel the input channels that wait for it, and its arbiter's pointer.
+    askers: [u64; 56],
+    channel_pointers: [u8; 56],
+    input_pointers: [u8; 7],
+    output_pointers: [u8; 7],
     queues: Vec<Queue>,
     delivered: Vec<Flit>,
 }
 
-#[derive(Default)]
+#[derive(Clone, Copy, Default)]
 struct Link {
-    flits: VecDeque<Flit>,
-    credits: VecDeque<usize>,
+    flits: Ring,
+    credits: Ring,
 }
 
-/// The links of a node by port.
-#[derive(Clone, Default)]
+/// The links of a node by port, and the nodes beyond them.
+#[derive(Clone, Copy, Default)]
 struct Ports {
-    out: [Option<usize>; 6],
-    into: [Option<usize>; 6],
+    out: [u16; 6],
+    into: [u16; 6],
+    beyond: [u8; 6],
 }
 
 /// A network in which each class owns one channel, that of its number.
 struct Network {
     radix: usize,
     dims: usize,
-    depth: u8,
+    depth: usize,
     classes: usize,
     nodes: Vec<Node>,
+    buffers: Vec<Flit>,
     links: Vec<Link>,
+    link_flits: Vec<Flit>,
+    link_credits: Vec<u8>,
     ports: Vec<Ports>,
+    places: Vec<[u8; 3]>,
+    delivered: usize,
 }
 
 fn neighbour(radix: usize, dims: usize, node: usize, port: usize) -> Option<usize> {
@@ -117,25 +148,32 @@ fn neighbour(radix: usize, dims: usize, node: usize, port: usize) -> Option<usiz
 impl Network {
     fn new(radix: usize, dims: usize, depth: u8, classes: usize) -> Network {
         let count = radix.pow(dims as u32);
-        let (mut ports, mut links) = (vec![Ports::default(); count], Vec::new());
+        let depth = depth as usize;
+        let (mut ports, mut links) = (vec![Ports::default(); count], 0);
         for node in 0..count {
             for port in 0..2 * dims {
                 if let Some(to) = neighbour(radix, dims, node, port) {
-                    ports[node].out[port] = Some(links.len());
-                    ports[to].into[port ^ 1] = Some(links.len());
-                    links.push(Link::default());
+                    ports[node].out[port] = links;
+                    ports[node].beyond[port] = to as u8;
+                    ports[to].into[port ^ 1] = links;
+                    links += 1;
                 }
             }
         }
-        let nodes = (0..count).map(|_| Node::new(2 * dims + 1, classes, depth)).collect();
+        let digit = |node: usize, d: usize| (node / radix.pow(d as u32) % radix) as u8;
         Network {
             radix,
             dims,
             depth,
             classes,
-            nodes,
-            links,
+            nodes: (0..count).map(|_| Node::new(2 * dims + 1, classes, depth as u8)).collect(),
+            buffers: vec![Flit::default(); count * 56 * depth],
+            links: vec![Link::default(); links as usize],
+            link_flits: vec![Flit::default(); links as usize * classes * depth],
+            link_credits: vec![0; links as usize * classes * depth],
             ports,
+            places: (0..count).map(|node| [digit(node, 0), digit(node, 1), digit(node, 2)]).collect(),
+            delivered: 0,
         }
     }
 
@@ -145,198 +183,299 @@ impl Network {
 
     /// Dimension-order routing.
     fn next_port(&self, node: usize, dst: usize) -> usize {
-        let (mut node, mut dst) = (node, dst);
+        let (here, there) = (&self.places[node], &self.places[dst]);
         for d in 0..self.dims {
-            if node % self.radix != dst % self.radix {
-                return 2 * d + usize::from(node % self.radix < dst % self.radix);
+            if here[d] != there[d] {
+                return 2 * d + usize::from(here[d] < there[d]);
             }
-            (node, dst) = (node / self.radix, dst / self.radix);
         }
         self.terminal()
     }
 
     fn turn(&mut self) {
         for node in 0..self.nodes.len() {
-            self.take(node);
+            let here = &self.nodes[node];
+            if here.asleep && here.flits_in == 0 && here.credits_in == 0 {
+                continue;
+            }
+            self.take_credits(node);
+            self.take_flits(node);
             self.feed(node);
             self.route(node);
-            self.nodes[node].allocate(self.classes);
+            let (terminal, depth) = (self.terminal(), self.depth);
+            self.nodes[node].allocate(self.classes, terminal, depth);
             self.send(node);
             self.give(node);
+            self.rest(node);
         }
     }
 
-    /// Takes a credit from each link out of the node, and a flit from each link into it.
-    fn take(&mut self, node: usize) {
+    fn take_credits(&mut self, node: usize) {
+        let (room, terminal) = (self.classes * self.depth, self.terminal());
         let here = &mut self.nodes[node];
-        for port in 0..2 * self.dims {
-            let Some(link) = self.ports[node].out[port] else { continue };
-            if let Some(vc) = self.links[link].credits.pop_front() {
-                here.outputs[port * self.classes + vc].credits += 1;
+        let mut left = here.credits_in;
+        while left != 0 {
+            let port = left.trailing_zeros() as usize;
+            left &= left - 1;
+            let number = self.ports[node].out[port] as usize;
+            let link = &mut self.links[number];
+            let vc = link.credits.pop(&self.link_credits[number * room..][..room]) as usize;
+            if link.credits.count == 0 {
+                here.credits_in &= !(1 << port);
+            }
+            let place = 8 * port + vc;
+            here.outputs[place].credits += 1;
+            if here.free >> place & 1 == 0 {
+                here.look(here.outputs[place].holder as usize, terminal, self.depth);
             }
         }
-        for port in 0..2 * self.dims {
-            let Some(link) = self.ports[node].into[port] else { continue };
-            let Some(flit) = self.links[link].flits.front() else { continue };
-            let input = &mut here.inputs[port * self.classes + flit.vc as usize];
-            if input.buffer.len() < self.depth as usize {
-                input.buffer.extend(self.links[link].flits.pop_front());
+    }
+
+    fn take_flits(&mut self, node: usize) {
+        let room = self.classes * self.depth;
+        let terminal = self.terminal();
+        let here = &mut self.nodes[node];
+        let mut left = here.flits_in;
+        while left != 0 {
+            let port = left.trailing_zeros() as usize;
+            left &= left - 1;
+            let number = self.ports[node].into[port] as usize;
+            let link = &mut self.links[number];
+            let flit = link.flits.pop(&self.link_flits[number * room..][..room]);
+            if link.flits.count == 0 {
+                here.flits_in &= !(1 << port);
             }
+            let place = 8 * port + flit.vc as usize;
+            let slots = &mut self.buffers[(node * 56 + place) * self.depth..][..self.depth];
+            here.put(place, slots, flit, terminal, self.depth);
         }
     }
 
     fn feed(&mut self, node: usize) {
         let terminal = self.terminal();
         let here = &mut self.nodes[node];
-        for class in 0..self.classes {
-            let queue = &mut here.queues[class];
-            let input = &mut here.inputs[terminal * self.classes + class];
-            if queue.fed < queue.flits.len() && input.buffer.len() < self.depth as usize {
-                input.buffer.push_back(queue.flits[queue.fed]);
-                queue.fed += 1;
+        let mut left = here.backlog;
+        while left != 0 {
+            let class = left.trailing_zeros() as usize;
+            left &= left - 1;
+            let place = 8 * terminal + class;
+            if here.inputs[place].buffer.count as usize == self.depth {
+                continue;
             }
+            let queue = &mut here.queues[class];
+            let flit = queue.flits[queue.fed];
+            queue.fed += 1;
+            if queue.fed == queue.flits.len() {
+                here.backlog &= !(1 << class);
+            }
+            let slots = &mut self.buffers[(node * 56 + place) * self.depth..][..self.depth];
+            here.put(place, slots, flit, terminal, self.depth);
         }
     }
 
     fn route(&mut self, node: usize) {
-        for i in 0..self.nodes[node].inputs.len() {
-            let input = &self.nodes[node].inputs[i];
-            if let (State::Idle, Some(flit)) = (input.state, input.buffer.front()) {
-                if flit.opens {
-                    let out = self.next_port(node, flit.dst as usize);
-                    self.nodes[node].inputs[i].state = State::Waiting { out: out as u8 };
-                }
+        let here = &self.nodes[node];
+        let mut left = here.occupied & !here.waiting & !here.active;
+        while left != 0 {
+            let place = left.trailing_zeros() as usize;
+            left &= left - 1;
+            let input = &self.nodes[node].inputs[place];
+            let flit = self.buffers[(node * 56 + place) * self.depth + input.buffer.start as usize];
+            if flit.opens {
+                let out = 8 * self.next_port(node, flit.dst as usize) + flit.class as usize;
+                self.nodes[node].wait(place, out);
             }
         }
     }
 
     /// One pass of the switch allocator, and the flits that it lets out.
     fn send(&mut self, node: usize) {
-        let (terminal, classes, depth) = (self.terminal(), self.classes, self.depth);
+        let ready = self.nodes[node].ready;
+        if ready == 0 {
+            return;
+        }
         let here = &mut self.nodes[node];
-        let mut named = [None; 7];
-        let mut asking = [0u64; 7];
-        for port in 0..=terminal {
-            let ready = (0..classes).filter(|vc| here.ready(port, *vc, terminal, classes, depth).is_some());
-            let lines = ready.fold(0u64, |lines, vc| lines | 1 << vc);
-            let Some(vc) = here.input_arbiters[port].peek(lines) else {
-                continue;
-            };
-            if let Some(out) = here.ready(port, vc, terminal, classes, depth) {
-                named[port] = Some((vc, lines));
-                asking[out] |= 1 << port;
-            }
+        let mut named = [0u8; 7];
+        let mut asking = [0u8; 7];
+        let mut outs = 0u8;
+        let mut left = ready;
+        while left != 0 {
+            let port = left.trailing_zeros() as usize / 8;
+            let lines = ready >> (8 * port) & 0xff;
+            left &= !(0xff << (8 * port));
+            let vc = first_from(lines, here.input_pointers[port]);
+            let out = here.inputs[8 * port + vc as usize].out / 8;
+            named[port] = vc;
+            asking[out as usize] |= 1 << port;
+            outs |= 1 << out;
         }
-        let mut granted = 0u64;
-        for out in 0..=terminal {
-            if let Some(port) = here.output_arbiters[out].pick(asking[out]) {
-                granted |= 1 << port;
-            }
+        let mut granted = 0u8;
+        while outs != 0 {
+            let out = outs.trailing_zeros() as usize;
+            outs &= outs - 1;
+            let port = first_from(asking[out] as u64, here.output_pointers[out]);
+            here.output_pointers[out] = if (port as usize) < 2 * self.dims { port + 1 } else { 0 };
+            granted |= 1 << port;
         }
-        for port in 0..=terminal {
-            let Some((vc, lines)) = named[port] else { continue };
-            if granted >> port & 1 == 1 {
-                here.input_arbiters[port].pick(lines);
-                if let Some((out, flit)) = here.let_out(port, vc, terminal, classes) {
-                    match self.ports[node].out.get(out) {
-                        Some(Some(link)) => self.links[*link].flits.push_back(flit),
-                        _ => here.delivered.push(flit),
-                    }
-                }
-            }
+        while granted != 0 {
+            let port = granted.trailing_zeros() as usize;
+            granted &= granted - 1;
+            let vc = named[port];
+            self.nodes[node].input_pointers[port] = if (vc as usize) + 1 < self.classes { vc + 1 } else { 0 };
+            self.let_out(node, 8 * port + vc as usize);
         }
+    }
+
+    fn let_out(&mut self, node: usize, place: usize) {
+        let terminal = self.terminal();
+        let here = &mut self.nodes[node];
+        let out = here.inputs[place].out as usize;
+        let slots = &self.buffers[(node * 56 + place) * self.depth..][..self.depth];
+        let flit = here.inputs[place].buffer.pop(slots);
+        if here.inputs[place].buffer.count == 0 {
+            here.occupied &= !(1 << place);
+        }
+        if place / 8 != terminal {
+            here.inputs[place].owed += 1;
+            here.owing |= 1 << place;
+        }
+        if flit.closes {
+            here.active &= !(1 << place);
+            here.free |= 1 << out;
+        }
+        if out / 8 == terminal {
+            here.delivered.push(flit);
+            self.delivered += 1;
+        } else {
+            here.outputs[out].credits -= 1;
+            let room = self.classes * self.depth;
+            let number = self.ports[node].out[out / 8] as usize;
+            let slots = &mut self.link_flits[number * room..][..room];
+            self.links[number].flits.push(
+                slots,
+                Flit {
+                    vc: (out % 8) as u8,
+                    ..flit
+                },
+            );
+            let beyond = self.ports[node].beyond[out / 8] as usize;
+            self.nodes[beyond].flits_in |= 1 << (out / 8 ^ 1);
+        }
+        self.nodes[node].look(place, terminal, self.depth);
     }
 
     /// Gives a credit of the lowest channel that owes one to each link into the node.
     fn give(&mut self, node: usize) {
-        let here = &mut self.nodes[node];
-        for port in 0..2 * self.dims {
-            let Some(link) = self.ports[node].into[port] else { continue };
-            let inputs = &mut here.inputs[port * self.classes..][..self.classes];
-            if let Some(vc) = inputs.iter().position(|input| input.owed > 0) {
-                inputs[vc].owed -= 1;
-                self.links[link].credits.push_back(vc);
+        let terminal = self.terminal();
+        let room = self.classes * self.depth;
+        let mut left = self.nodes[node].owing;
+        while left != 0 {
+            let place = left.trailing_zeros() as usize;
+            let port = place / 8;
+            left &= !(0xff << (8 * port));
+            let here = &mut self.nodes[node];
+            here.inputs[place].owed -= 1;
+            if here.inputs[place].owed == 0 {
+                here.owing &= !(1 << place);
             }
+            here.look(place, terminal, self.depth);
+            let number = self.ports[node].into[port] as usize;
+            let slots = &mut self.link_credits[number * room..][..room];
+            self.links[number].credits.push(slots, (place % 8) as u8);
+            let beyond = self.ports[node].beyond[port] as usize;
+            self.nodes[beyond].credits_in |= 1 << (port ^ 1);
         }
     }
 
+    /// Whether the node may be gone past until something comes in.
+    fn rest(&mut self, node: usize) {
+        let terminal = self.terminal();
+        let depth = self.depth;
+        let here = &mut self.nodes[node];
+        let unrouted = here.occupied & !here.waiting & !here.active;
+        let blocked = |class: usize| here.inputs[8 * terminal + class].buffer.count as usize == depth;
+        let fed = (0..self.classes).all(|class| here.backlog >> class & 1 == 0 || blocked(class));
+        here.asleep = fed && unrouted == 0 && here.ready == 0 && here.owing == 0 && here.asked & here.free == 0;
+    }
+
     fn delivered(&self) -> usize {
-        self.nodes.iter().map(|node| node.delivered.len()).sum()
+        self.delivered
     }
 }
 
 impl Node {
     fn new(ports: usize, classes: usize, depth: u8) -> Node {
-        let places = ports * classes;
-        let arbiters = |count, lines| vec![Arbiter { lines, pointer: 0 }; count];
-        let input = || Input {
-            buffer: VecDeque::with_capacity(depth as usize),
-            state: State::Idle,
-            owed: 0,
-        };
+        let channels = (0..ports).fold(0, |set, port| set | ((1 << classes) - 1) << (8 * port));
         Node {
-            inputs: (0..places).map(|_| input()).collect(),
-            outputs: vec![
-                Output {
-                    held: false,
-                    credits: depth
-                };
-                places
-            ],
-            channel_arbiters: arbiters(places, places),
-            input_arbiters: arbiters(ports, classes),
-            output_arbiters: arbiters(ports, ports),
+            occupied: 0,
+            waiting: 0,
+            active: 0,
+            ready: 0,
+            owing: 0,
+            free: channels,
+            asked: 0,
+            flits_in: 0,
+            credits_in: 0,
+            backlog: 0,
+            asleep: false,
+            inputs: [Input::default(); 56],
+            outputs: [Output { holder: 0, credits: depth }; 56],
+            askers: [0; 56],
+            channel_pointers: [0; 56],
+            input_pointers: [0; 7],
+            output_pointers: [0; 7],
             queues: (0..classes).map(|_| Queue::default()).collect(),
             delivered: Vec::new(),
         }
     }
 
-    /// One pass of the channel allocator: a class's packets ask for the channel of its number.
-    fn allocate(&mut self, classes: usize) {
-        if !self.inputs.iter().any(|input| matches!(input.state, State::Waiting { .. })) {
-            return;
-        }
-        let mut asking = [0u64; 56];
-        for (i, input) in self.inputs.iter().enumerate() {
-            if let (State::Waiting { out }, Some(flit)) = (input.state, input.buffer.front()) {
-                asking[out as usize * classes + flit.class as usize] |= 1 << i;
-            }
-        }
-        for place in 0..self.outputs.len() {
-            if asking[place] == 0 || self.outputs[place].held {
-                continue;
-            }
-            if let Some(i) = self.channel_arbiters[place].pick(asking[place]) {
-                let (out, out_vc) = ((place / classes) as u8, (place % classes) as u8);
-                self.inputs[i].state = State::Active { out, out_vc };
-                self.outputs[place].held = true;
-            }
-        }
+    /// Puts a flit into the buffer of an input channel.
+    fn put(&mut self, place: usize, slots: &mut [Flit], flit: Flit, terminal: usize, depth: usize) {
+        self.inputs[place].buffer.push(slots, flit);
+        self.occupied |= 1 << place;
+        self.look(place, terminal, depth);
     }
 
-    /// The output port of an input channel that may send.
-    fn ready(&self, port: usize, vc: usize, terminal: usize, classes: usize, depth: u8) -> Option<usize> {
-        let input = &self.inputs[port * classes + vc];
-        let State::Active { out, out_vc } = input.state else { return None };
-        let (out, out_vc) = (out as usize, out_vc as usize);
-        let has_credit = out == terminal || self.outputs[out * classes + out_vc].credits > 0;
-        let may_owe = port == terminal || input.owed < depth;
-        (!input.buffer.is_empty() && has_credit && may_owe).then_some(out)
+    /// Whether an input channel may send is looked at again.
+    fn look(&mut self, place: usize, terminal: usize, depth: usize) {
+        let input = &self.inputs[place];
+        let out = input.out as usize;
+        let has_flit = (self.occupied & self.active) >> place & 1 == 1;
+        let has_credit = out / 8 == terminal || self.outputs[out].credits > 0;
+        let may_owe = (input.owed as usize) < depth;
+        let bit = u64::from(has_flit && has_credit && may_owe);
+        self.ready = self.ready & !(1 << place) | bit << place;
     }
 
-    fn let_out(&mut self, port: usize, vc: usize, terminal: usize, classes: usize) -> Option<(usize, Flit)> {
-        let input = &mut self.inputs[port * classes + vc];
-        let State::Active { out, out_vc } = input.state else { return None };
-        let (out, out_vc) = (out as usize, out_vc as usize);
-        let flit = input.buffer.pop_front()?;
-        let output = &mut self.outputs[out * classes + out_vc];
-        input.owed += u8::from(port != terminal);
-        output.credits -= u8::from(out != terminal);
-        if flit.closes {
-            input.state = State::Idle;
-            output.held = false;
+    /// An input channel comes to wait for an output channel.
+    fn wait(&mut self, place: usize, out: usize) {
+        self.inputs[place].out = out as u8;
+        self.waiting |= 1 << place;
+        self.askers[out] |= 1 << place;
+        self.asked |= 1 << out;
+    }
+
+    /// One pass of the channel allocator: a class's packets ask for the channel of its number. Lines are by port, then channel, so
+    /// the order of the set's bits is that of the lines.
+    fn allocate(&mut self, classes: usize, terminal: usize, depth: usize) {
+        let mut left = self.asked & self.free;
+        while left != 0 {
+            let out = left.trailing_zeros() as usize;
+            left &= left - 1;
+            let place = first_from(self.askers[out], self.channel_pointers[out]) as usize;
+            let (port, vc) = (place / 8, place % 8);
+            let next = if vc + 1 < classes { place + 1 } else { 8 * (port + 1) };
+            self.channel_pointers[out] = next as u8;
+            self.askers[out] &= !(1 << place);
+            if self.askers[out] == 0 {
+                self.asked &= !(1 << out);
+            }
+            self.waiting &= !(1 << place);
+            self.active |= 1 << place;
+            self.free &= !(1 << out);
+            self.outputs[out].holder = place as u8;
+            self.look(place, terminal, depth);
         }
-        Some((out, Flit { vc: out_vc as u8, ..flit }))
     }
 }
 
@@ -386,9 +525,11 @@ fn offer(network: &mut Network, packets: &mut HashMap<(usize, usize, usize), u16
             packet: *packet,
             opens: i == 0,
             closes: i + 1 == entry.words.len(),
-            word: *word,
+            word: *word as u32,
         });
     }
+    network.nodes[entry.src].backlog |= 1 << entry.class;
+    network.nodes[entry.src].asleep = false;
     *packet += 1;
 }
 

@@ -1,6 +1,6 @@
 -- A pass of an allocator leaves a network as a list of grants does; the arbiters are no part of what it stands for.
 use Rattle.std.proofs.Common.{◌≡◌, ℕ, zero, suc, ◌+◌, ◌*◌, ◌<◌, ◌≤◌, ◌==◌, cond, Bool, true, false, ◌&&◌, if◌then◌else◌, inl, inr, List, [], ◌∷◌, length, sum, drop, Ok, Option, Some, None, is_some, refl, arith, ap, sym, subst, ◌∙◌}
-use Rattle.std.specs.Prelude.{All, fold, IsSome, is_none}
+use Rattle.std.specs.Prelude.{All, fold, IsSome, is_none, option_map}
 use Rattle.std.specs.List.{range_with_len}
 use Rattle.std.proofs.lemmas.List.{set-set}
 use Rattle.std.proofs.Math.ListN.{length-set}
@@ -12,13 +12,14 @@ use Rattle.worm_flit.specs.Channels.{owns}
 use Rattle.worm_mesh.specs.Address.{node_count}
 use Rattle.worm_records.specs.declared.InRecord.{InRecord}
 use Rattle.worm_records.specs.declared.InRecord.TheVariants.{Idle, Waiting, Active}
-use Rattle.worm_router.specs.Router.{RouterState, width, terminal, input_at, output_at, granting, can_grant, after_grant, after_granting}
-use Rattle.worm_router.specs.Allocation.{written, with_port_grants, with_grants, channel_pass, after_allocate, after_choose}
+use Rattle.worm_router.specs.Router.{RouterState, width, terminal, input_at, output_at, granting, leaving, leaving_by, can_grant, after_grant, after_granting}
+use Rattle.worm_router.specs.Allocation.{written, with_port_grants, with_grants, channel_pass, after_allocate, after_choose, ready_at, ready_outs}
+use Rattle.worm_router.proofs.InVain.{cell_has}
 use Rattle.worm_shape.proofs.Channels.{owned_by}
 use Rattle.worm_swalloc.specs.SwAlloc.{SwAllocState}
 use Rattle.worm_theory.specs.Shape.{Shape, IsMesh, Enters, at_source, by_link}
 use Rattle.worm_theory.specs.Network.{Network}
-use Rattle.worm_theory.specs.Steps.{Grant, IsPort, IsThere}
+use Rattle.worm_theory.specs.Steps.{Grant, Send, IsPort, IsThere}
 use Rattle.worm_theory.specs.Sound.{Sound, OthersIdle, OnesClosed, InBuffer}
 use Rattle.worm_theory.specs.Cut.{LanesCut}
 use Rattle.worm_theory.specs.PacketCut.{PacketsHold}
@@ -27,9 +28,9 @@ use Rattle.worm_vcalloc.specs.Table.{cell}
 use Rattle.worm_vcalloc.specs.VcAlloc.{VcAllocState}
 use Rattle.worm_core.specs.Shape.{net_shape}
 use Rattle.worm_core.specs.declared.node.Node.{Node}
-use Rattle.worm_core.specs.State.{NetState, IsNet, IsNetPlace, shape, network_of, node_at, router_at, with_node, with_router, input_of, output_of, link_of}
+use Rattle.worm_core.specs.State.{NetState, IsNet, IsNetPlace, IsSameConfig, shape, network_of, node_at, router_at, with_node, with_router, input_of, output_of, link_of}
 use Rattle.worm_core.specs.Answers.{moved_of}
-use Rattle.worm_core.specs.Moves.{chosen_router}
+use Rattle.worm_core.specs.Moves.{IsReady, chosen_router}
 use Rattle.worm_core.specs.Turns.{Reaches}
 use Rattle.worm_core.proofs.Bridge.{node_at-put, node_kept}
 use Rattle.worm_core.proofs.Kept.{framed_mesh, node_framed}
@@ -135,6 +136,40 @@ granted_there s x p v k o net x_in place (Waiting q) (f ∷ rest) b e =
     let all = subst (λ (fs : List Flit). All (InBuffer (shape s) x p v) fs) (buffer_there s x p v place ∙ b) (net.sound.buffered x p v) in
     let entered = (All-head (InBuffer (shape s) x p v) f rest all).1.entered in
     (x_in, entered_port (shape s) (framed_mesh s net.framed) entered, rw (← node.same_channels) place.place.channel_in, rw (← node.same_channels) within)
+
+-- what is ready to leave is there
+leaving_there : (s : NetState) (x p v : ℕ) → IsNet s → x < node_count s.mesh → IsNetPlace s x p v → (st : InRecord) (fs : List Flit)
+    → (input_at (router_at s x) p v).buffer ≡ fs → IsSome (leaving_by (router_at s x) p (input_at (router_at s x) p v) st fs) → IsThere (shape s) (Send x p v)
+unfolding net_shape
+leaving_there s x p v net x_in place Idle fs b ready = absurd (cc)
+leaving_there s x p v net x_in place (Waiting o) fs b ready = absurd (cc)
+leaving_there s x p v net x_in place (Active o c) [] b ready = absurd (cc)
+leaving_there s x p v net x_in place (Active o c) (f ∷ rest) b ready =
+    let node = net.framed.each_node x place.node_in in
+    let all = subst (λ (fs : List Flit). All (InBuffer (shape s) x p v) fs) (buffer_there s x p v place ∙ b) (net.sound.buffered x p v) in
+    let entered = (All-head (InBuffer (shape s) x p v) f rest all).1.entered in
+    (x_in, entered_port (shape s) (framed_mesh s net.framed) entered, rw (← node.same_channels) place.place.channel_in)
+
+pub ready_there : (s : NetState) (x p v : ℕ) → IsNet s → x < node_count s.mesh → IsReady (router_at s x) p v → IsThere (shape s) (Send x p v)
+ready_there s x p v net x_in ready =
+    let all = net.framed.all_nodes in
+    let c = input_at (router_at s x) p v in
+    leaving_there s x p v net x_in (record { node_in = omega arith; place = ready.place }) c.state c.buffer refl ready.leaves
+
+-- what a table of the channels that may send names is ready
+some_ready : (o : Option (ℕ × Flit)) (out : ℕ) → option_map (λ (leave : ℕ × Flit). leave.0) o ≡ Some out → IsSome o
+some_ready None out e = let none : ◌≡◌ {A = Option ℕ} None (Some out) = e in absurd (cc)
+some_ready (Some leave) out e = refl
+
+pub named_ready : (r : RouterState) (p v out : ℕ) → cell (ready_outs r) p v None ≡ Some out → IsReady r p v
+named_ready r p v out = cell_has (λ (o : Option ℕ). o ≡ Some out → IsReady r p v) r None (ready_at r) p v (λ e. let none : ◌≡◌ {A = Option ℕ} None (Some out) = e in absurd (cc))
+    (λ place e. record { place = place; leaves = some_ready (leaving r p v) out e })
+
+-- a place that is there stays there
+pub there_still : (a b : NetState) (x p v : ℕ) → IsSameConfig a b → IsThere (shape a) (Send x p v) → IsThere (shape b) (Send x p v)
+there_still a b x p v config there =
+    let same : shape b ≡ shape a = λ t. net_shape (config.mesh t) (config.channels t) (config.depth t) in
+    subst (λ (s : Shape). IsThere s (Send x p v)) (sym same) there
 
 -- a grant that is tried
 grant_by : (s : NetState) (x p v k : ℕ) → IsNet s → IsNetPlace s x p v → x < node_count s.mesh → (o : Option ℕ) → can_grant (router_at s x) p v k ≡ o

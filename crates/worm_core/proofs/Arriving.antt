@@ -1,6 +1,6 @@
 -- What comes in at each node, after a write of one link.
 use Rattle.std.proofs.Common.{◌≡◌, ◌==◌, ◌≢◌, ℕ, ◌+◌, ◌*◌, ◌<◌, ◌≤◌, below_more, Bool, true, false, inl, inr, List, [], ◌∷◌, length, drop, get_or, set, Option, Some, None, refl, arith, ap, sym, subst, ◌∙◌}
-use Rattle.std.specs.Prelude.{IfNone, IfSome, IsTrue, option_map, IsSome, is_some, slice_get}
+use Rattle.std.specs.Prelude.{IfNone, IfSome, IsTrue, option_map, IsSome, is_some, not, slice_get}
 use Rattle.std.proofs.lemmas.List.{get_or_default, get_or-set_other, get_or-set_same}
 use Rattle.worm_flit.specs.declared.Flit.{Flit}
 use Rattle.worm_mesh.specs.Address.{IsMesh as IsRadices, Joins, neighbour_of, opposite_of}
@@ -113,43 +113,41 @@ put_known old new port within P put here others p p_in off = elim (number_cases 
   | inr away ↦ others p p_in away.1 (sym (put.elsewhere p p_in away.1) ∙ off)
 ]
 
--- The front flit of the link into a port is dropped; and the front credit of the link out of it
+-- The front flit of a link is dropped, or its front credit
 
-pub knows_pop : (l : LinksView) (kept : List Arrivals) (x p k bits : ℕ) (more : Bool) → KnowsAll l kept → x < 256 → x < length kept → k < length l.states → in_link l.mesh x p ≡ Some k
-    → IsPut (get_or kept x no_arrivals).flits bits p more → (more ≡ false → drop 1 (state_at l k).flits ≡ [])
-    → KnowsAll (with_state l k (record (state_at l k) { flits = drop 1 (state_at l k).flits })) (set kept x (record (get_or kept x no_arrivals) { flits = bits }))
-knows_pop l kept x p k bits more knows x_in x_there k_there at put none =
-    let popped : LinkView = record (state_at l k) { flits = drop 1 (state_at l k).flits } in
-    let one : more ≡ false → flits_to (with_state l k popped) x p ≡ [] = λ off.
-    ap (λ (n : Option ℕ). flits_of (set l.states k popped) n) at ∙ (ap (λ (s : LinkView). s.flits) (get_or-set_same l.states k popped blank_link k_there) ∙ none off) in
-    knows_set (with_state l k popped) kept x (record (get_or kept x no_arrivals) { flits = bits }) x_there
-    record {
-      flits = put_known (get_or kept x no_arrivals).flits bits p more (λ q. flits_to (with_state l k popped) x q ≡ []) put one
-          (λ q q_in away off. popped_flits l.states k k_there (in_link l.mesh x q) ((knows x x_in).flits q q_in off));
-      credits = λ o o_in off. same_credits l.states k popped k_there refl (out_link l.mesh x o) ∙ (knows x x_in).credits o o_in off;
-    }
-    (λ y y_in away. record {
-      flits = λ q q_in off. popped_flits l.states k k_there (in_link l.mesh y q) ((knows y y_in).flits q q_in off);
-      credits = λ o o_in off. same_credits l.states k popped k_there refl (out_link l.mesh y o) ∙ (knows y y_in).credits o o_in off;
-    })
+knows_popped : (l : LinksView) (kept : List Arrivals) (k : ℕ) → KnowsAll l kept → k < length l.states → KnowsAll (with_state l k (record (state_at l k) { flits = drop 1 (state_at l k).flits })) kept
+knows_popped l kept k knows there = λ y y_in. record {
+  flits = λ q q_in off. popped_flits l.states k there (in_link l.mesh y q) ((knows y y_in).flits q q_in off);
+  credits = λ q q_in off. same_credits l.states k (record (state_at l k) { flits = drop 1 (state_at l k).flits }) there refl (out_link l.mesh y q) ∙ (knows y y_in).credits q q_in off;
+}
 
-pub knows_pop_credit : (l : LinksView) (kept : List Arrivals) (x o k bits : ℕ) (more : Bool) → KnowsAll l kept → x < 256 → x < length kept → k < length l.states → out_link l.mesh x o ≡ Some k
-    → IsPut (get_or kept x no_arrivals).credits bits o more → (more ≡ false → drop 1 (state_at l k).credits ≡ [])
-    → KnowsAll (with_state l k (record (state_at l k) { credits = drop 1 (state_at l k).credits })) (set kept x (record (get_or kept x no_arrivals) { credits = bits }))
-knows_pop_credit l kept x o k bits more knows x_in x_there k_there at put none =
-    let popped : LinkView = record (state_at l k) { credits = drop 1 (state_at l k).credits } in
-    let one : more ≡ false → credits_to (with_state l k popped) x o ≡ [] = λ off.
-    ap (λ (n : Option ℕ). credits_of (set l.states k popped) n) at ∙ (ap (λ (s : LinkView). s.credits) (get_or-set_same l.states k popped blank_link k_there) ∙ none off) in
-    knows_set (with_state l k popped) kept x (record (get_or kept x no_arrivals) { credits = bits }) x_there
+knows_popped_credit : (l : LinksView) (kept : List Arrivals) (k : ℕ) → KnowsAll l kept → k < length l.states → KnowsAll (with_state l k (record (state_at l k) { credits = drop 1 (state_at l k).credits })) kept
+knows_popped_credit l kept k knows there = λ y y_in. record {
+  flits = λ q q_in off. same_flits l.states k (record (state_at l k) { credits = drop 1 (state_at l k).credits }) there refl (in_link l.mesh y q) ∙ (knows y y_in).flits q q_in off;
+  credits = λ q q_in off. popped_credits l.states k there (out_link l.mesh y q) ((knows y y_in).credits q q_in off);
+}
+
+-- A port by which nothing comes in is left out
+
+knows_no_flits : (l : LinksView) (kept : List Arrivals) (x p bits : ℕ) → KnowsAll l kept → x < 256 → x < length kept → IsPut (get_or kept x no_arrivals).flits bits p false → flits_to l x p ≡ []
+    → KnowsAll l (set kept x (record (get_or kept x no_arrivals) { flits = bits }))
+knows_no_flits l kept x p bits knows x_in x_there put none =
+    knows_set l kept x (record (get_or kept x no_arrivals) { flits = bits }) x_there
     record {
-      flits = λ q q_in off. same_flits l.states k popped k_there refl (in_link l.mesh x q) ∙ (knows x x_in).flits q q_in off;
-      credits = put_known (get_or kept x no_arrivals).credits bits o more (λ q. credits_to (with_state l k popped) x q ≡ []) put one
-          (λ q q_in away off. popped_credits l.states k k_there (out_link l.mesh x q) ((knows x x_in).credits q q_in off));
+      flits = put_known (get_or kept x no_arrivals).flits bits p false (λ q. flits_to l x q ≡ []) put (λ off. none) (λ q q_in away off. (knows x x_in).flits q q_in off);
+      credits = (knows x x_in).credits;
     }
-    (λ y y_in away. record {
-      flits = λ q q_in off. same_flits l.states k popped k_there refl (in_link l.mesh y q) ∙ (knows y y_in).flits q q_in off;
-      credits = λ q q_in off. popped_credits l.states k k_there (out_link l.mesh y q) ((knows y y_in).credits q q_in off);
-    })
+    (λ y y_in away. knows y y_in)
+
+knows_no_credits : (l : LinksView) (kept : List Arrivals) (x o bits : ℕ) → KnowsAll l kept → x < 256 → x < length kept → IsPut (get_or kept x no_arrivals).credits bits o false → credits_to l x o ≡ []
+    → KnowsAll l (set kept x (record (get_or kept x no_arrivals) { credits = bits }))
+knows_no_credits l kept x o bits knows x_in x_there put none =
+    knows_set l kept x (record (get_or kept x no_arrivals) { credits = bits }) x_there
+    record {
+      flits = (knows x x_in).flits;
+      credits = put_known (get_or kept x no_arrivals).credits bits o false (λ q. credits_to l x q ≡ []) put (λ off. none) (λ q q_in away off. (knows x x_in).credits q q_in off);
+    }
+    (λ y y_in away. knows y y_in)
 
 -- A flit goes onto the link that leads from the port o of x into the port p of y; and a credit onto that out of it
 
@@ -210,43 +208,65 @@ front_gone : {A : Type 0} (xs : List A) (more : Bool) → more ≡ is_some (slic
 front_gone [] more is off = refl
 front_gone (f ∷ fs) more is off = absurd (cc)
 
-pub pops : (mesh : List ℕ) (states : List LinkView) (now : LinksView) (kept : List Arrivals) (x p k m i j bits : ℕ) (d : Arrivals) (read new : LinkView) (more : Bool) → KnowsAll (record { mesh = mesh; states = states }) kept → length kept ≡ 256 → record { mesh = mesh; states = states } ≡ now
-    → x < 256 → i ≡ x → j ≡ x → m ≡ k → IsSome (neighbour_of now.mesh x p) → k ≡ number_into now x p → k < link_count now.mesh → length now.states ≡ link_count now.mesh → read ≡ get_or states m read
-    → new ≡ record read { flits = drop 1 read.flits } → IsPut (get_or kept i d).flits bits p more → more ≡ is_some (slice_get new.flits 0)
-    → KnowsAll (record { mesh = mesh; states = set states m new }) (set kept j (record { flits = bits; credits = (get_or kept i d).credits }))
-pops mesh states now kept x p k m i j bits d read new more knows all same x_in at_i at_j at_m linked_now number_now below full reads news put is =
-    let l : LinksView = record { mesh = mesh; states = states } in
+-- the first of a list is asked for, and there is none
+pub front_none : {A : Type 0} (xs : List A) (none : Bool) → is_some (slice_get xs 0) ≡ not none → none ≡ true → xs ≡ []
+front_none [] none is on = refl
+front_none (f ∷ fs) none is on = absurd (cc)
+
+pub pops : (mesh : List ℕ) (states : List LinkView) (now : LinksView) (kept : List Arrivals) (k m : ℕ) (read new : LinkView) → KnowsAll (record { mesh = mesh; states = states }) kept → record { mesh = mesh; states = states } ≡ now
+    → m ≡ k → k < link_count now.mesh → length now.states ≡ link_count now.mesh → read ≡ get_or states m read → new ≡ record read { flits = drop 1 read.flits }
+    → KnowsAll (record { mesh = mesh; states = set states m new }) kept
+pops mesh states now kept k m read new knows same at below full reads news =
+    let counted : length states ≡ link_count now.mesh = ap (λ (v : LinksView). length v.states) same ∙ full in
+    let there : k < length states = omega arith in
+    let link : read ≡ get_or states k blank_link = reads ∙ (ap (λ (v : ℕ). get_or states v read) at ∙ get_or_default states k read blank_link there) in
+    let written : new ≡ record (get_or states k blank_link) { flits = drop 1 (get_or states k blank_link).flits } = news ∙ ap (λ (s : LinkView). record s { flits = drop 1 s.flits }) link in
+    rw (at, written) (knows_popped (record { mesh = mesh; states = states }) kept k knows there)
+
+pub pops_credit : (mesh : List ℕ) (states : List LinkView) (now : LinksView) (kept : List Arrivals) (k m : ℕ) (read new : LinkView) → KnowsAll (record { mesh = mesh; states = states }) kept → record { mesh = mesh; states = states } ≡ now
+    → m ≡ k → k < link_count now.mesh → length now.states ≡ link_count now.mesh → read ≡ get_or states m read → new ≡ record read { credits = drop 1 read.credits }
+    → KnowsAll (record { mesh = mesh; states = set states m new }) kept
+pops_credit mesh states now kept k m read new knows same at below full reads news =
+    let counted : length states ≡ link_count now.mesh = ap (λ (v : LinksView). length v.states) same ∙ full in
+    let there : k < length states = omega arith in
+    let link : read ≡ get_or states k blank_link = reads ∙ (ap (λ (v : ℕ). get_or states v read) at ∙ get_or_default states k read blank_link there) in
+    let written : new ≡ record (get_or states k blank_link) { credits = drop 1 (get_or states k blank_link).credits } = news ∙ ap (λ (s : LinkView). record s { credits = drop 1 s.credits }) link in
+    rw (at, written) (knows_popped_credit (record { mesh = mesh; states = states }) kept k knows there)
+
+-- the link into a port, or out of it, is left without any
+pub empties : (mesh : List ℕ) (states : List LinkView) (now : LinksView) (x p k m : ℕ) (new : LinkView) → record { mesh = mesh; states = states } ≡ now → m ≡ k → k < link_count now.mesh → length now.states ≡ link_count now.mesh
+    → IsSome (neighbour_of now.mesh x p) → k ≡ number_into now x p → new.flits ≡ [] → flits_of (set states m new) (in_link mesh x p) ≡ []
+empties mesh states now x p k m new same at below full linked_now number_now none =
     let linked : IsSome (neighbour_of mesh x p) = subst (λ (v : LinksView). IsSome (neighbour_of v.mesh x p)) (sym same) linked_now in
     let number : k ≡ into_from mesh p (neighbour_of mesh x p) = subst (λ (v : LinksView). k ≡ number_into v x p) (sym same) number_now in
     let counted : length states ≡ link_count now.mesh = ap (λ (v : LinksView). length v.states) same ∙ full in
-    let k_there : k < length states = omega arith in
-    let i_there : i < length kept = omega arith in
-    let at : in_link mesh x p ≡ Some k = into_is mesh p (neighbour_of mesh x p) linked ∙ ap (λ (v : ℕ). Some v) (sym number) in
-    let entry : get_or kept i d ≡ get_or kept x no_arrivals = get_or_default kept i d no_arrivals i_there ∙ ap (λ (v : ℕ). get_or kept v no_arrivals) at_i in
-    let link : read ≡ get_or states k blank_link = reads ∙ (ap (λ (v : ℕ). get_or states v read) at_m ∙ get_or_default states k read blank_link k_there) in
-    let written : new ≡ record (get_or states k blank_link) { flits = drop 1 (get_or states k blank_link).flits } = news ∙ ap (λ (s : LinkView). record s { flits = drop 1 s.flits }) link in
-    let put_here : IsPut (get_or kept x no_arrivals).flits bits p more = subst (λ (a : Arrivals). IsPut a.flits bits p more) entry put in
-    let gone : more ≡ false → drop 1 (get_or states k blank_link).flits ≡ [] = λ off. ap (λ (s : LinkView). s.flits) (sym written) ∙ front_gone new.flits more is off in
-    rw (at_j, at_m, written, entry) (knows_pop (record { mesh = mesh; states = states }) kept x p k bits more knows x_in (omega arith) k_there at put_here gone)
+    let there : k < length states = omega arith in
+    let by : in_link mesh x p ≡ Some k = into_is mesh p (neighbour_of mesh x p) linked ∙ ap (λ (v : ℕ). Some v) (sym number) in
+    rw (at, by) (ap (λ (s : LinkView). s.flits) (get_or-set_same states k new blank_link there) ∙ none)
 
-pub pops_credit : (mesh : List ℕ) (states : List LinkView) (now : LinksView) (kept : List Arrivals) (x o k m i j bits : ℕ) (d : Arrivals) (read new : LinkView) (more : Bool) → KnowsAll (record { mesh = mesh; states = states }) kept → length kept ≡ 256 → record { mesh = mesh; states = states } ≡ now
-    → x < 256 → i ≡ x → j ≡ x → m ≡ k → IsSome (neighbour_of now.mesh x o) → k ≡ number_out now x o → k < link_count now.mesh → length now.states ≡ link_count now.mesh → read ≡ get_or states m read
-    → new ≡ record read { credits = drop 1 read.credits } → IsPut (get_or kept i d).credits bits o more → more ≡ is_some (slice_get new.credits 0)
-    → KnowsAll (record { mesh = mesh; states = set states m new }) (set kept j (record { flits = (get_or kept i d).flits; credits = bits }))
-pops_credit mesh states now kept x o k m i j bits d read new more knows all same x_in at_i at_j at_m linked_now number_now below full reads news put is =
-    let l : LinksView = record { mesh = mesh; states = states } in
+pub empties_credits : (mesh : List ℕ) (states : List LinkView) (now : LinksView) (x o k m : ℕ) (new : LinkView) → record { mesh = mesh; states = states } ≡ now → m ≡ k → k < link_count now.mesh → length now.states ≡ link_count now.mesh
+    → IsSome (neighbour_of now.mesh x o) → k ≡ number_out now x o → new.credits ≡ [] → credits_of (set states m new) (out_link mesh x o) ≡ []
+empties_credits mesh states now x o k m new same at below full linked_now number_now none =
     let linked : IsSome (neighbour_of mesh x o) = subst (λ (v : LinksView). IsSome (neighbour_of v.mesh x o)) (sym same) linked_now in
     let number : k ≡ links_before mesh x o = subst (λ (v : LinksView). k ≡ number_out v x o) (sym same) number_now in
     let counted : length states ≡ link_count now.mesh = ap (λ (v : LinksView). length v.states) same ∙ full in
-    let k_there : k < length states = omega arith in
-    let i_there : i < length kept = omega arith in
-    let at : out_link mesh x o ≡ Some k = out_is mesh x o (neighbour_of mesh x o) linked ∙ ap (λ (v : ℕ). Some v) (sym number) in
-    let entry : get_or kept i d ≡ get_or kept x no_arrivals = get_or_default kept i d no_arrivals i_there ∙ ap (λ (v : ℕ). get_or kept v no_arrivals) at_i in
-    let link : read ≡ get_or states k blank_link = reads ∙ (ap (λ (v : ℕ). get_or states v read) at_m ∙ get_or_default states k read blank_link k_there) in
-    let written : new ≡ record (get_or states k blank_link) { credits = drop 1 (get_or states k blank_link).credits } = news ∙ ap (λ (s : LinkView). record s { credits = drop 1 s.credits }) link in
-    let put_here : IsPut (get_or kept x no_arrivals).credits bits o more = subst (λ (a : Arrivals). IsPut a.credits bits o more) entry put in
-    let gone : more ≡ false → drop 1 (get_or states k blank_link).credits ≡ [] = λ off. ap (λ (s : LinkView). s.credits) (sym written) ∙ front_gone new.credits more is off in
-    rw (at_j, at_m, written, entry) (knows_pop_credit (record { mesh = mesh; states = states }) kept x o k bits more knows x_in (omega arith) k_there at put_here gone)
+    let there : k < length states = omega arith in
+    let by : out_link mesh x o ≡ Some k = out_is mesh x o (neighbour_of mesh x o) linked ∙ ap (λ (v : ℕ). Some v) (sym number) in
+    rw (at, by) (ap (λ (s : LinkView). s.credits) (get_or-set_same states k new blank_link there) ∙ none)
+
+pub forgets_flits : (l : LinksView) (kept : List Arrivals) (x p i j bits : ℕ) (d : Arrivals) → KnowsAll l kept → length kept ≡ 256 → x < 256 → i ≡ x → j ≡ x → IsPut (get_or kept i d).flits bits p false → flits_to l x p ≡ []
+    → KnowsAll l (set kept j (record { flits = bits; credits = (get_or kept i d).credits }))
+forgets_flits l kept x p i j bits d knows all x_in at_i at_j put none =
+    let entry : get_or kept i d ≡ get_or kept x no_arrivals = get_or_default kept i d no_arrivals (omega arith) ∙ ap (λ (v : ℕ). get_or kept v no_arrivals) at_i in
+    let put_here : IsPut (get_or kept x no_arrivals).flits bits p false = subst (λ (a : Arrivals). IsPut a.flits bits p false) entry put in
+    rw (at_j, entry) (knows_no_flits l kept x p bits knows x_in (omega arith) put_here none)
+
+pub forgets_credits : (l : LinksView) (kept : List Arrivals) (x o i j bits : ℕ) (d : Arrivals) → KnowsAll l kept → length kept ≡ 256 → x < 256 → i ≡ x → j ≡ x → IsPut (get_or kept i d).credits bits o false → credits_to l x o ≡ []
+    → KnowsAll l (set kept j (record { flits = (get_or kept i d).flits; credits = bits }))
+forgets_credits l kept x o i j bits d knows all x_in at_i at_j put none =
+    let entry : get_or kept i d ≡ get_or kept x no_arrivals = get_or_default kept i d no_arrivals (omega arith) ∙ ap (λ (v : ℕ). get_or kept v no_arrivals) at_i in
+    let put_here : IsPut (get_or kept x no_arrivals).credits bits o false = subst (λ (a : Arrivals). IsPut a.credits bits o false) entry put in
+    rw (at_j, entry) (knows_no_credits l kept x o bits knows x_in (omega arith) put_here none)
 
 -- the other end of a port that has a neighbour
 end_is : (y q p : ℕ) (n : Option ℕ) → ◌≡◌ {A = Option (ℕ × ℕ)} (Some (y, q)) (option_map (λ (z : ℕ). (z, opposite_of p)) n) → (n ≡ Some y) × (q ≡ opposite_of p)

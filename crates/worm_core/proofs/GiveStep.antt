@@ -20,6 +20,7 @@ use Rattle.worm_core.proofs.There.{owed_there}
 use Rattle.worm_core.proofs.Room.{one_of, sum_none, sum_add, sum_same, bounded_less}
 use Rattle.worm_core.proofs.Kept.{kept, router_framed, framed_mesh, net_place}
 use Rattle.worm_core.proofs.Ends.{feeder}
+use Rattle.worm_core.proofs.Turning.{owing}
 
 -- only what an input channel owes is changed
 owed_bridge : (s : NetState) (x p v : ℕ) → IsFramed s → IsNetPlace s x p v
@@ -148,3 +149,14 @@ unfolding net_shape
 give_room s x p v net there =
     let place = net_place s x p v net.framed there.0 (inr there.1) there.2 in
     room_by s x p v net place there.2 (neighbour_of s.mesh x p) refl there.1
+
+-- a credit that is owed is given
+pub gave_owed : (s : NetState) (x p v : ℕ) → IsNet s → IsThere (shape s) (GiveCredit x p v) → 0 < (input_at (router_at s x) p v).owed
+    → IsNet (after_giving s x p v (link_into s x p)) × Answers s (GiveCredit x p v) (Ok (moved_of true)) (after_giving s x p v (link_into s x p))
+gave_owed s x p v net there owed =
+    let can : true ≡ can_give s x p v = sym (owing (input_at (router_at s x) p v).owed owed) in
+    give_answers s x p v net there true can
+
+-- and where none is owed, none can be
+pub gave_none : (s : NetState) (x p v : ℕ) → IsNet s → IsThere (shape s) (GiveCredit x p v) → can_give s x p v ≡ false → Answers s (GiveCredit x p v) (Ok (moved_of false)) s
+gave_none s x p v net there none = (give_answers s x p v net there false (sym none)).1

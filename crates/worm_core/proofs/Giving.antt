@@ -1,30 +1,32 @@
 -- Credits are given by the ports that owe one, and what any other port owes stays.
-use Rattle.std.proofs.Common.{◌≡◌, ◌==◌, ℕ, ◌+◌, ◌-◌, ◌*◌, ◌<◌, ◌≤◌, true, false, inl, inr, List, length, nat_lt, None, Ok, Err, refl, arith, ap, sym, subst, ◌∙◌}
+use Rattle.std.proofs.Common.{◌≡◌, ◌==◌, ℕ, ◌+◌, ◌-◌, ◌*◌, ◌<◌, ◌≤◌, true, false, inl, inr, List, length, nat_lt, sum, Some, None, Ok, Err, refl, arith, ap, sym, subst, ◌∙◌}
 use Rattle.std.specs.Prelude.{Result}
 use Rattle.std.specs.List.{range_with_len}
-use Rattle.std.proofs.lemmas.Bool.{cases_lt, eq-eqb}
+use Rattle.std.proofs.lemmas.Bool.{eq-eqb}
 use Rattle.std.proofs.lemmas.Bool.Decides.{nat_tests}
-use Rattle.worm_vcalloc.specs.ChannelSet.{has, IsFirstPort}
+use Rattle.worm_vcalloc.specs.ChannelSet.{has, IsFirst}
 use Rattle.worm_vcalloc.proofs.SetLemmas.{has-zero}
 use Rattle.worm_mesh.specs.Address.{node_count}
-use Rattle.worm_router.specs.Router.{ChannelState, RouterState, input_at, terminal, width, after_gave}
+use Rattle.worm_router.specs.Router.{ChannelState, RouterState, input_at, with_input, terminal, width, after_gave}
 use Rattle.worm_router.specs.Busy.{IsSetOf, owes}
 use Rattle.worm_theory.specs.Steps.{GiveCredit}
 use Rattle.worm_theory.proofs.Places.{same-false}
 use Rattle.worm_core.specs.Shape.{net_shape}
 use Rattle.worm_core.specs.State.{NetState, IsNet, node_at, router_at, with_node}
 use Rattle.worm_core.specs.Answers.{Answers}
-use Rattle.worm_core.specs.Moves.{OwesTheSame, OwesWithin}
-use Rattle.worm_core.specs.Turns.{Each, Does, GivesCredit, GivesCredits, mesh_ports}
+use Rattle.worm_core.specs.Moves.{AreOwing, OwesTheSame, can_give}
+use Rattle.worm_core.specs.Turns.{Each, Does, GivesCredit, GivesCredits, lowest_owed, mesh_ports}
 use Rattle.worm_core.specs.declared.node.Node.{Node}
 use Rattle.worm_core.specs.declared.step.Moved.{Moved}
 use Rattle.worm_core.specs.declared.step.Moved.TheVariants.{Done, Idle}
 use Rattle.worm_core.specs.declared.fault.StepFault.{StepFault}
 use Rattle.worm_core.specs.declared.fault.StepFault.TheVariants.{NoSuchPlace, Refused, NoMemory}
+use Rattle.worm_core.proofs.Arriving.{true_of}
 use Rattle.worm_core.proofs.Bridge.{node_at-put, input_of-put, input_of-there}
 use Rattle.worm_core.proofs.Kept.{net_place}
 use Rattle.worm_core.proofs.Passages.{does_for, does_nothing, loop_more, loop_on}
-use Rattle.worm_core.proofs.Turning.{gives_none, owed_lowest}
+use Rattle.worm_core.proofs.Skipping.{places_same}
+use Rattle.worm_core.proofs.Turning.{gives_none, owed_lowest, owing_some}
 
 unchanged : (a b : NetState) (x p v : ℕ) → b ≡ a → v < width (router_at b x) → OwesTheSame a b x p v
 unchanged a b x p v same within = record {
@@ -32,16 +34,21 @@ unchanged a b x p v same within = record {
   owed = ap (λ (s : NetState). (input_at (router_at s x) p v).owed) same;
 }
 
+-- what is written of one input channel of a router leaves the others
+pub input_elsewhere : (a : NetState) (x q c p v : ℕ) (one : ChannelState) → IsNet a → x < length a.nodes → q ≤ terminal (router_at a x) → c < width (router_at a x) → (p ≡ q → v ≡ c → ⊥) → v < width (router_at a x)
+    → input_at (with_input (router_at a x) q c one) p v ≡ input_at (router_at a x) p v
+input_elsewhere a x q c p v one net there q_in c_in away v_in =
+    let r = router_at a x in
+    let node = net.framed.each_node x there in
+    let put = input_of-put r q c one (record { port_in = q_in; channel_in = c_in }) node.all_inputs p v in
+    let apart = same-false p v q c away in
+    sym (input_of-there (with_input r q c one) p v v_in) ∙ (put ∙ (rw apart (input_of-there r p v v_in)))
+
 gave_elsewhere : (a : NetState) (x q c p v : ℕ) → IsNet a → x < length a.nodes → q ≤ terminal (router_at a x) → c < width (router_at a x) → (p ≡ q → ⊥) → v < width (router_at a x)
     → (input_at (after_gave (router_at a x) q c) p v).owed ≡ (input_at (router_at a x) p v).owed
 gave_elsewhere a x q c p v net there q_in c_in away v_in =
-    let r = router_at a x in
-    let node = net.framed.each_node x there in
-    let one : ChannelState = record (input_at r q c) { owed = (input_at r q c).owed - 1 } in
-    let put = input_of-put r q c one (record { port_in = q_in; channel_in = c_in }) node.all_inputs p v in
-    let apart = same-false p v q c (λ e f. away e) in
-    let new : input_at (after_gave r q c) p v ≡ input_at r p v = sym (input_of-there (after_gave r q c) p v v_in) ∙ (put ∙ (rw apart (input_of-there r p v v_in))) in
-    ap (λ (s : ChannelState). s.owed) new
+    let one : ChannelState = record (input_at (router_at a x) q c) { owed = (input_at (router_at a x) q c).owed - 1 } in
+    ap (λ (s : ChannelState). s.owed) (input_elsewhere a x q c p v one net there q_in c_in (λ e f. away e) v_in)
 
 pub give_elsewhere : (a b : NetState) (x q c : ℕ) (answer : Result Moved StepFault) → IsNet a → Answers a (GiveCredit x q c) answer b → (p v : ℕ) → (p ≡ q → ⊥) → v < width (router_at b x) → OwesTheSame a b x p v
 unfolding net_shape
@@ -62,68 +69,124 @@ give_elsewhere a b x q c (Err NoSuchPlace) net none p v away within = unchanged 
 give_elsewhere a b x q c (Err (Refused why)) net none p v away within = unchanged a b x p v none.3 within
 give_elsewhere a b x q c (Err NoMemory) net none p v away within = unchanged a b x p v none.3 within
 
--- how far the ports have come that owe a credit: those below `from` are done, and of the others only those in the set owe one
-pub record Gave (x : ℕ) (a b : NetState) (owing from : ℕ) : Type 0 where
-  pub passed : Does (Each (GivesCredit x) (range_with_len 0 from)) a None b
-  pub few : from ≤ 2 * length b.mesh
-  pub later : (p c : ℕ) → p < from → c < 8 → has owing p c ≡ false
-  pub rest : (p v : ℕ) → from ≤ p → p < 2 * length b.mesh → v < width (router_at b x) → ((c : ℕ) → c < 8 → has owing p c ≡ false) → (input_at (router_at b x) p v).owed ≡ 0
-
-pub gave_start : (x : ℕ) (a : NetState) (owing : ℕ) → OwesWithin a x owing → Gave x a a owing 0
-gave_start x a owing within = record {
-  passed = does_nothing a;
-  few = omega arith;
-  later = λ p c below c_in. absurd (omega arith);
-  rest = λ p v above p_in v_in none. within p v p_in v_in none;
-}
-
-port_still : (x p : ℕ) (b : NetState) → ((v : ℕ) → v < width (router_at b x) → (input_at (router_at b x) p v).owed ≡ 0) → GivesCredit x p b None b
-port_still x p b owes = (gives_none x p b (owed_lowest (router_at b x) p None tt tt owes)).exact
-
-first_later : (owing new from q : ℕ) → IsFirstPort owing new q → ((p c : ℕ) → p < from → c < 8 → has owing p c ≡ false) → from ≤ q
-first_later owing new from q first later = elim (cases_lt q from) [
-  | inl before ↦ let off = later q first.some_in.0 before first.some_in.1 in let on = first.some_in.2 in absurd (cc)
-  | inr after ↦ after
-]
-
-pub gave_more : (x : ℕ) (a b b_new : NetState) (owing new from q : ℕ) → Gave x a b owing from → IsFirstPort owing new q → q < 2 * length b.mesh → 2 * length b.mesh ≤ 6 → Does (GivesCredit x q) b None b_new
-    → ((p v : ℕ) → (p ≡ q → ⊥) → v < width (router_at b_new x) → OwesTheSame b b_new x p v) → Gave x a b_new new (q + 1)
-gave_more x a b b_new owing new from q gave first q_in few does same =
-    let less = first_later owing new from q first gave.later in
-    let mesh = ap (λ (m : List ℕ). length m) does.reaches.config.mesh in
-    let up_to = loop_on (GivesCredit x) from q a b less gave.passed (λ p above below. port_still x p b (λ v v_in. gave.rest p v above (omega arith) v_in (λ c c_in. first.none_before p c below c_in))) in
-    record {
-      passed = loop_more (GivesCredit x) q a b b_new None up_to does;
-      few = omega arith;
-      later = λ p c below c_in. elim (cases_lt p q) [
-        | inl before ↦ first.elsewhere p c (omega arith) c_in (λ e. omega arith) ∙ first.none_before p c before c_in
-        | inr at ↦ let here : p ≡ q = omega arith in subst (λ (i : ℕ). has new i c ≡ false) (sym here) (first.taken c c_in)
-      ];
-      rest = λ p v above p_in v_in none.
-          let kept = same p v (λ e. omega arith) v_in in
-          kept.owed ∙ gave.rest p v (omega arith) (omega arith) kept.there (λ c c_in. sym (first.elsewhere p c (omega arith) c_in (λ e. omega arith)) ∙ none c c_in);
-    }
-
-gave_end : (x : ℕ) (a b : NetState) (owing from : ℕ) → Gave x a b owing from → ((p c : ℕ) → p < 2 * length b.mesh → c < 8 → has owing p c ≡ false) → Does (GivesCredits x) a None b
-gave_end x a b owing from gave none =
-    let mesh = ap (λ (m : List ℕ). length m) gave.passed.reaches.config.mesh in
-    let all = loop_on (GivesCredit x) from (2 * length b.mesh) a b gave.few gave.passed (λ p above below. port_still x p b (λ v v_in. gave.rest p v above below v_in (λ c c_in. none p c below c_in))) in
-    does_for mesh_ports (GivesCredit x) (2 * length a.mesh) (2 * length b.mesh) a b None refl (omega arith) all
-
-pub gave_all : (x : ℕ) (a b : NetState) (owing from : ℕ) → Gave x a b owing from → owing ≡ 0 → Does (GivesCredits x) a None b
-gave_all x a b owing from gave none = gave_end x a b owing from gave (λ p c p_in c_in. ap (λ (s : ℕ). has s p c) none ∙ has-zero p c)
-
-pub gave_past : (x : ℕ) (a b : NetState) (owing new from q : ℕ) → Gave x a b owing from → IsFirstPort owing new q → 2 * length b.mesh ≤ q → Does (GivesCredits x) a None b
-gave_past x a b owing new from q gave first past = gave_end x a b owing from gave (λ p c p_in c_in. first.none_before p c (omega arith) c_in)
-
 -- the set of a router's channels that owe
+
 none_owed : (n : ℕ) → nat_lt 0 n ≡ false → n ≡ 0
 none_owed n none = grind (arith, nat_tests)
 
-pub owing_within : (s : NetState) (x owing : ℕ) → IsNet s → x < node_count s.mesh → IsSetOf owes (router_at s x) owing → OwesWithin s x owing
-owing_within s x owing net x_in set p v p_in v_in none =
+pub are_owing : (s : NetState) (x owing : ℕ) → IsNet s → x < node_count s.mesh → IsSetOf owes (router_at s x) owing → AreOwing s x owing
+are_owing s x owing net x_in set =
     let all = net.framed.all_nodes in
     let node = net.framed.each_node x (omega arith) in
     let mesh = ap (λ (m : List ℕ). length m) node.same_mesh in
-    let few : width (router_at s x) ≤ 8 = rw node.same_channels net.framed.classes.total in
-    none_owed (input_at (router_at s x) p v).owed (sym (set.inside p v (omega arith) v_in) ∙ none v (omega arith))
+    let wide : width (router_at s x) ≡ sum s.channels = ap (λ (m : List ℕ). sum m) node.same_channels in
+    record {
+      exact = λ p v p_in v_in. set.inside p v (omega arith) (omega arith);
+      places = λ p v p_few v_few some. let place = set.outside p v p_few v_few some in omega (arith, place.1);
+    }
+
+-- how far the ports have come that owe a credit: those below `from` are done, and of the others just the channels of the set owe one
+pub record Gave (x : ℕ) (a b : NetState) (owing from : ℕ) : Type 0 where
+  pub passed : Does (Each (GivesCredit x) (range_with_len 0 from)) a None b
+  pub there : x < node_count b.mesh
+  pub sound : IsNet b
+  pub few : from ≤ 2 * length b.mesh
+  pub rest : (p v : ℕ) → from ≤ p → p < 2 * length b.mesh → v < sum b.channels → has owing p v ≡ can_give b x p v
+  pub places : (p v : ℕ) → p < 7 → v < 8 → has owing p v ≡ true → v < sum b.channels
+
+pub gave_start : (x : ℕ) (a : NetState) (owing : ℕ) → x < node_count a.mesh → IsNet a → AreOwing a x owing → Gave x a a owing 0
+gave_start x a owing there sound owes = record {
+  passed = does_nothing a;
+  there = there;
+  sound = sound;
+  few = omega arith;
+  rest = λ p v above p_in v_in. owes.exact p v p_in v_in;
+  places = owes.places;
+}
+
+wide_as : (x : ℕ) (b : NetState) → IsNet b → x < node_count b.mesh → width (router_at b x) ≡ sum b.channels
+wide_as x b net there =
+    let all = net.framed.all_nodes in
+    let node = net.framed.each_node x (omega arith) in
+    ap (λ (m : List ℕ). sum m) node.same_channels
+
+port_still : (x p : ℕ) (b : NetState) → IsNet b → x < node_count b.mesh → ((v : ℕ) → v < sum b.channels → can_give b x p v ≡ false) → GivesCredit x p b None b
+port_still x p b net there none =
+    let wide = wide_as x b net there in
+    (gives_none x p b (owed_lowest (router_at b x) p None tt tt (λ v v_in. none_owed (input_at (router_at b x) p v).owed (none v (omega arith))))).exact
+
+-- the first channel of the set, where its port is to give yet, owes a credit and is the lowest of its port
+pub owed_first : (x : ℕ) (a b : NetState) (owing new from q c : ℕ) → Gave x a b owing from → IsFirst owing new q c → from ≤ q → q < 2 * length b.mesh → (c < sum b.channels) × (0 < (input_at (router_at b x) q c).owed)
+owed_first x a b owing new from q c gave first to_give q_in =
+    let on : has owing q c ≡ true = true_of (has owing q c) first.was_in in
+    let c_in = gave.places q c first.port_in first.channel_in on in
+    (c_in, owing_some (input_at (router_at b x) q c).owed (sym (gave.rest q c to_give q_in c_in) ∙ on))
+
+lowest_first : (x : ℕ) (a b : NetState) (owing new from q c : ℕ) → Gave x a b owing from → IsFirst owing new q c → from ≤ q → q < 2 * length b.mesh → Some c ≡ lowest_owed (router_at b x) q
+lowest_first x a b owing new from q c gave first to_give q_in =
+    let owes = owed_first x a b owing new from q c gave first to_give q_in in
+    let c_in = owes.0 in
+    let wide = wide_as x b gave.sound gave.there in
+    owed_lowest (router_at b x) q (Some c) (omega arith, owes.1)
+    (λ k below. none_owed (input_at (router_at b x) q k).owed (sym (gave.rest q k to_give q_in (omega arith)) ∙ first.none_before q k (omega (arith, first.channel_in)) (omega arith)))
+    tt
+
+-- what is left of the set after its first channel was taken out
+still_in : (owing new q c p v : ℕ) → IsFirst owing new q c → p < 7 → v < 8 → has new p v ≡ true → has owing p v ≡ true
+still_in owing new q c p v first p_few v_few some = elim (places_same p q v c) [
+  | inl here ↦ absurd (let is = (λ t. has new (here.0 t) (here.1 t)) ∙ first.taken.here in cc)
+  | inr away ↦ sym (first.taken.elsewhere p v p_few v_few away) ∙ some
+]
+
+pub gave_same : (x : ℕ) (a b : NetState) (owing new from q c : ℕ) → Gave x a b owing from → IsFirst owing new q c → q < from → Gave x a b new from
+gave_same x a b owing new from q c gave first below =
+    let few = gave.sound.framed.classes.total in
+    let few_dims = gave.sound.framed.radices.few_dims in
+    record {
+      passed = gave.passed;
+      there = gave.there;
+      sound = gave.sound;
+      few = gave.few;
+      rest = λ p v above p_in v_in. first.taken.elsewhere p v (omega (arith, few_dims)) (omega (arith, few)) (λ e f. omega arith) ∙ gave.rest p v above p_in v_in;
+      places = λ p v p_few v_few some. gave.places p v p_few v_few (still_in owing new q c p v first p_few v_few some);
+    }
+
+pub gave_more : (x : ℕ) (a b b_new : NetState) (owing new from q c : ℕ) → Gave x a b owing from → IsFirst owing new q c → from ≤ q → q < 2 * length b.mesh → (Some c ≡ lowest_owed (router_at b x) q → Does (GivesCredit x q) b None b_new)
+    → ((p v : ℕ) → (p ≡ q → ⊥) → v < width (router_at b_new x) → OwesTheSame b b_new x p v) → IsNet b_new → Gave x a b_new new (q + 1)
+gave_more x a b b_new owing new from q c gave first to_give q_in given same net_new =
+    let net = gave.sound in
+    let few = net.framed.classes.total in
+    let few_dims = net.framed.radices.few_dims in
+    let does = given (lowest_first x a b owing new from q c gave first to_give q_in) in
+    let config = does.reaches.config in
+    let mesh = ap (λ (m : List ℕ). length m) config.mesh in
+    let nodes = ap node_count config.mesh in
+    let wide = ap (λ (cs : List ℕ). sum cs) config.channels in
+    let there : x < node_count b_new.mesh = omega (arith, gave.there) in
+    let wide_new = wide_as x b_new net_new there in
+    let up_to = loop_on (GivesCredit x) from q a b to_give gave.passed
+    (λ p above below. port_still x p b net gave.there (λ v v_in. sym (gave.rest p v above (omega arith) v_in) ∙ first.none_before p v (omega (arith, few)) (omega (arith, few)))) in
+    record {
+      passed = loop_more (GivesCredit x) q a b b_new None up_to does;
+      there = there;
+      sound = net_new;
+      few = omega arith;
+      rest = λ p v above p_in v_in.
+          let kept = same p v (λ e. omega arith) (omega arith) in
+          first.taken.elsewhere p v (omega (arith, few_dims)) (omega (arith, few)) (λ e f. omega arith) ∙ (gave.rest p v (omega arith) (omega arith) (omega arith) ∙ ap (λ (n : ℕ). nat_lt 0 n) (sym kept.owed));
+      places = λ p v p_few v_few some. let was = gave.places p v p_few v_few (still_in owing new q c p v first p_few v_few some) in omega arith;
+    }
+
+gave_end : (x : ℕ) (a b : NetState) (owing from : ℕ) → Gave x a b owing from → ((p v : ℕ) → p < 2 * length b.mesh → v < 8 → has owing p v ≡ false) → Does (GivesCredits x) a None b
+gave_end x a b owing from gave none =
+    let few = gave.sound.framed.classes.total in
+    let mesh = ap (λ (m : List ℕ). length m) gave.passed.reaches.config.mesh in
+    let all = loop_on (GivesCredit x) from (2 * length b.mesh) a b gave.few gave.passed
+    (λ p above below. port_still x p b gave.sound gave.there (λ v v_in. sym (gave.rest p v above below v_in) ∙ none p v below (omega (arith, few)))) in
+    does_for mesh_ports (GivesCredit x) (2 * length a.mesh) (2 * length b.mesh) a b None refl (omega arith) all
+
+pub gave_all : (x : ℕ) (a b : NetState) (owing from : ℕ) → Gave x a b owing from → owing ≡ 0 → Does (GivesCredits x) a None b
+gave_all x a b owing from gave none = gave_end x a b owing from gave (λ p v p_in v_in. ap (λ (s : ℕ). has s p v) none ∙ has-zero p v)
+
+pub gave_past : (x : ℕ) (a b : NetState) (owing new from q c : ℕ) → Gave x a b owing from → IsFirst owing new q c → 2 * length b.mesh ≤ q → Does (GivesCredits x) a None b
+gave_past x a b owing new from q c gave first past = gave_end x a b owing from gave (λ p v p_in v_in. first.none_before p v v_in (omega arith))

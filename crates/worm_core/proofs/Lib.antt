@@ -27,7 +27,11 @@ pub mod Passages
 pub mod DueEntries
 pub mod Turning
 pub mod Skipping
+pub mod Routing
 pub mod Resting
+pub mod KeptStill
+pub mod CountsUnderWay
+pub mod TotalsUnderWay
 pub mod Determined
 pub mod Allocating
 pub mod ViewLists

@@ -3,6 +3,7 @@ use Rattle.std.proofs.Common.{◌≡◌, ℕ, zero, suc, ◌*◌, ◌<◌, ◌�
 use Rattle.std.specs.Prelude.{IsSome, option_map}
 use Rattle.std.specs.List.{flat_map}
 use Rattle.std.specs.Option.{option_to_list}
+use Rattle.std.proofs.lemmas.List.{get_or_default}
 use Rattle.worm_mesh.specs.Address.{node_count, neighbour_of}
 use Rattle.worm_router.specs.Router.{RouterState, terminal}
 use Rattle.worm_router.specs.Allocation.{after_allocate, after_choose, switch_grants}
@@ -11,8 +12,9 @@ use Rattle.worm_swalloc.specs.declared.grant.SwGrant.{SwGrant}
 use Rattle.worm_term.specs.Source.{front_of}
 use Rattle.worm_theory.specs.Steps.{Step, Feed, Send, Take, TakeCredit}
 use Rattle.worm_core.specs.Shape.{net_shape}
-use Rattle.worm_core.specs.State.{NetState, IsNet, router_at, source_at, with_router}
+use Rattle.worm_core.specs.State.{NetState, IsNet, fresh_node, node_at, router_at, source_at, with_router}
 use Rattle.worm_core.specs.Moves.{NothingComes, can_enter, can_get, chosen_router, front_credit, front_into}
+use Rattle.worm_core.specs.Still.{IsStill, no_node, nth_node}
 use Rattle.worm_core.specs.Turns.{Each, Tries, SendsGranted, GivesCredit, GivesCredits, NodePasses, all_ports, granted_send}
 use Rattle.worm_core.specs.declared.step.Moved.TheVariants.{Idle}
 use Rattle.worm_core.specs.declared.fault.StepFault.TheVariants.{NoSuchPlace}
@@ -63,7 +65,7 @@ sends_nothing grants x p is =
     ap (λ (gs : List (Option SwGrant)). granted_send gs x p) is
     ∙ ap (λ (g : Option SwGrant). option_to_list (option_map (λ g. Send x p g.vc) g)) (same_all_through None 7 p)
 
-sends_still : (s : NetState) (x : ℕ) → x < length s.nodes → after_choose (router_at s x) ≡ router_at s x → switch_grants (router_at s x) ≡ replicate 7 None → SendsGranted x s None s
+pub sends_still : (s : NetState) (x : ℕ) → x < length s.nodes → after_choose (router_at s x) ≡ router_at s x → switch_grants (router_at s x) ≡ replicate 7 None → SendsGranted x s None s
 unfolding chosen_router
 sends_still s x there same none =
     let r = router_at s x in
@@ -114,3 +116,29 @@ credits_rest s x net x_in owes =
     let all = net.framed.all_nodes in
     let node = net.framed.each_node x (omega arith) in
     numbers_still (GivesCredit x) s (2 * length s.mesh) 0 (λ p below. gives_still s x p (rw node.same_mesh (omega arith)) owes)
+
+-- a node that is kept as still
+
+pub is_nth : (s : NetState) (x : ℕ) → IsNet s → x < node_count s.mesh → nth_node s.nodes x ≡ node_at s x
+is_nth s x net x_in = let all = net.framed.all_nodes in get_or_default s.nodes x no_node (fresh_node s.mesh s.channels s.depth x) (omega arith)
+
+-- a node whose router is at rest, and whose source has nothing to feed
+pub found_still : (s : NetState) (x : ℕ) → IsNet s → x < node_count s.mesh → IsAtRest (router_at s x) → ((k : ℕ) → k < length s.channels → can_enter (router_at s x) (terminal (router_at s x)) (front_of (source_at s x) k) ≡ false)
+    → IsStill (nth_node s.nodes x)
+found_still s x net x_in rest no_feed =
+    let all = net.framed.all_nodes in
+    let node = net.framed.each_node x (omega arith) in
+    subst IsStill (sym (is_nth s x net x_in)) (record { rest = rest; no_feed = λ k below. no_feed k (rw node.source_channels at below) })
+
+-- where no link brings anything, a still node rests
+pub still_rests : (s : NetState) (x : ℕ) → IsNet s → x < node_count s.mesh → IsStill (nth_node s.nodes x)
+    → ((p : ℕ) → IsSome (neighbour_of s.mesh x p) → front_credit s x p ≡ None) → ((p : ℕ) → IsSome (neighbour_of s.mesh x p) → front_into s x p ≡ None) → NodePasses x s None s
+still_rests s x net x_in still no_credit no_flit =
+    let all = net.framed.all_nodes in
+    let node = net.framed.each_node x (omega arith) in
+    let here : IsStill (node_at s x) = subst IsStill (is_nth s x net x_in) still in
+    node_rests s x net x_in here.rest record {
+      no_credit = no_credit;
+      no_flit = no_flit;
+      no_feed = λ k below. here.no_feed k (rw node.source_channels below);
+    }

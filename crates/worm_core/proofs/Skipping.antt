@@ -20,6 +20,16 @@ use Rattle.worm_core.specs.declared.step.Moved.TheVariants.{Idle}
 use Rattle.worm_core.specs.declared.fault.StepFault.TheVariants.{NoSuchPlace}
 use Rattle.worm_core.proofs.RouteStep.{route_answers}
 
+-- one place of two numbers, or another
+pub places_same : (p q v c : ℕ) → ((p ≡ q) × (v ≡ c)) ⊎ (p ≡ q → v ≡ c → ⊥)
+places_same p q v c = elim (number_cases p q) [
+  | inl port ↦ elim (number_cases v c) [
+    | inl channel ↦ inl (port.1, channel.1)
+    | inr away ↦ inr (λ e f. away.1 f)
+  ]
+  | inr away ↦ inr (λ e f. away.1 e)
+]
+
 -- passages that change nothing, one after another
 
 pub each_still : {A : Type 0} (P : A → Passage) (f : ℕ → A) (s : NetState) (n from : ℕ) → ((i : ℕ) → i < from + n → P (f i) s None s) → Each P (map f (range_with_len from n)) s None s
@@ -53,7 +63,7 @@ port_there s x p None e = elim (number_cases p (2 * length s.mesh)) [
   ])
 ]
 
-route_still : (s : NetState) (x p v : ℕ) → IsNet s → x < node_count s.mesh → v < sum s.channels → can_route (router_at s x) p v ≡ false → Tries (Route x p v) s None s
+pub route_still : (s : NetState) (x p v : ℕ) → IsNet s → x < node_count s.mesh → v < sum s.channels → can_route (router_at s x) p v ≡ false → Tries (Route x p v) s None s
 unfolding net_shape
 route_still s x p v net x_in v_in can = elim (port_there s x p (neighbour_of s.mesh x p) refl) [
   | inl port ↦

@@ -1,5 +1,6 @@
 -- What the theory's functions are at a place that is there.
-use Rattle.std.proofs.Common.{◌≡◌, ℕ, ◌<◌, ap}
+use Rattle.std.proofs.Common.{◌≡◌, ℕ, ◌<◌, None, ap}
+use Rattle.std.specs.Prelude.{IsSome}
 use Rattle.worm_records.specs.declared.OutRecord.{OutRecord}
 use Rattle.worm_router.specs.Router.{ChannelState, width, input_at, output_at}
 use Rattle.worm_core.specs.State.{NetState, IsNetPlace, network_of, router_at}
@@ -24,3 +25,7 @@ holder_there s x o c within = ap (λ (u : OutRecord). u.holder) (output_of-there
 pub spent_there : (s : NetState) (x o c : ℕ) → c < width (router_at s x) → (network_of s).credits x o c ≡ (output_at (router_at s x) o c).credits
 unfolding network_of
 spent_there s x o c within = ap (λ (u : OutRecord). u.credits) (output_of-there (router_at s x) o c within)
+
+-- a number that was looked for and is not there
+pub not_found : IsSome {T = ℕ} None → ⊥
+not_found some = absurd (cc)

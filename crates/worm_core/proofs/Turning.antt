@@ -1,5 +1,6 @@
 -- The parts of a node's turn, as its calls make them.
 use Rattle.std.proofs.Common.{◌≡◌, ℕ, zero, suc, Bool, nat_lt, ◌≤◌, inl, inr, ◌+◌, ◌*◌, ◌<◌, ◌==◌, true, false, eq-eqb, get_or, take, map, List, [], ◌∷◌, ◌++◌, slice_set, length, Option, Some, None, refl, arith, ap, sym, subst, ◌∙◌}
+use Rattle.std.proofs.lemmas.Bool.Decides.{nat_tests}
 use Rattle.std.proofs.lemmas.List.{take_more}
 use Rattle.std.proofs.lemmas.List.Elements.{filter-append}
 use Rattle.std.specs.Prelude.{Result, option_map, filter, slice_index_or, IfSome, IfNone}
@@ -129,8 +130,11 @@ find_nothing f (suc n) from others =
     let first : f from ≡ false = others from (omega arith) in
     rw first (find_nothing f n (from + 1) (λ k below. others k (omega arith)))
 
-owing : (n : ℕ) → 0 < n → nat_lt 0 n ≡ true
+pub owing : (n : ℕ) → 0 < n → nat_lt 0 n ≡ true
 owing n some = grind arith
+
+pub owing_some : (n : ℕ) → nat_lt 0 n ≡ true → 0 < n
+owing_some n some = grind (arith, nat_tests)
 
 owing_none : (n : ℕ) → n ≡ 0 → nat_lt 0 n ≡ false
 owing_none n none = grind arith

@@ -6,6 +6,8 @@ pub mod Wiring
 pub mod Ports
 pub mod Arrivals
 pub mod Moves
+pub mod Still
+pub mod UnderWay
 pub mod Runs
 pub mod Headline
 pub mod NewNet

@@ -1,10 +1,11 @@
 -- What the moves of a network make of its lists, in the words of routers, terminals and links.
-use Rattle.std.specs.Prelude.{ℕ, ◌*◌, ◌<◌, ◌≤◌, ◌≡◌, ◌==◌, Bool, true, false, nat_lt, if◌then◌else◌, List, [], ◌∷◌, ◌++◌, length, drop, slice_get, Option, Some, None, IsSome, Result, Ok, Err}
+use Rattle.std.specs.Prelude.{ℕ, ◌*◌, ◌<◌, ◌≤◌, ◌≡◌, ◌==◌, Bool, true, false, nat_lt, if◌then◌else◌, List, [], ◌∷◌, ◌++◌, length, sum, drop, slice_get, slice_index_or, Option, Some, None, IsSome, Result, Ok, Err}
 use Rattle.worm_flit.specs.declared.Flit.{Flit}
 use Rattle.worm_mesh.specs.Address.{node_count, neighbour_of, opposite_of}
 use Rattle.worm_mesh.specs.Links.{links_before}
 use Rattle.worm_router.specs.Router.{RouterState, IsPlace, terminal, width, input_at, output_at, leaving, after_accept, after_route, after_grant, after_send, after_gave, after_credit, can_route}
 use Rattle.worm_router.specs.Allocation.{after_choose}
+use Rattle.worm_swalloc.specs.declared.grant.SwGrant.{SwGrant}
 use Rattle.worm_vcalloc.specs.ChannelSet.{has}
 use Rattle.worm_term.specs.Sink.{after_take as after_sink}
 use Rattle.worm_term.specs.Source.{front_of, after_offer, after_close, after_fed}
@@ -23,6 +24,20 @@ chosen_router r = after_choose r
 -- no channel of the router has an opening flit that waits for its route; routers have at most 7 ports and 8 channels
 abbrev pub RoutesNothing : RouterState → Type 0
 RoutesNothing r = (p v : ℕ) → p < 7 → v < 8 → p ≤ terminal r → v < width r → can_route r p v ≡ false
+
+-- a set of the router's channels, and no channel that is left out has an opening flit that waits for its route
+pub record AreUnrouted (r : RouterState) (set : ℕ) : Type 0 where
+  pub all : (p v : ℕ) → p < 7 → v < 8 → p ≤ terminal r → v < width r → has set p v ≡ false → can_route r p v ≡ false
+  pub places : (p v : ℕ) → p < 7 → v < 8 → has set p v ≡ true → (p ≤ terminal r) × (v < width r)
+
+-- a flit may leave this channel now
+pub record IsReady (r : RouterState) (p v : ℕ) : Type 0 where
+  pub place : IsPlace r p v
+  pub leaves : IsSome (leaving r p v)
+
+-- what is granted to each input port is ready
+pub record AreReady (r : RouterState) (grants : List (Option SwGrant)) : Type 0 where
+  pub each : (p : ℕ) (g : SwGrant) → slice_index_or grants p None ≡ Some g → IsReady r p g.vc
 
 -- the number of the link that comes into a port from this neighbour
 abbrev pub into_from : List ℕ → ℕ → Option ℕ → ℕ
@@ -120,15 +135,25 @@ pub record NothingComes (s : NetState) (x : ℕ) : Type 0 where
   pub no_flit : (p : ℕ) → IsSome (neighbour_of s.mesh x p) → front_into s x p ≡ None
   pub no_feed : (k : ℕ) → k < length s.channels → can_enter (router_at s x) (terminal (router_at s x)) (front_of (source_at s x) k) ≡ false
 
--- no mesh port of a node owes a credit but those of this set
-abbrev pub OwesWithin : NetState → ℕ → ℕ → Type 0
-OwesWithin s x owing =
-    (p v : ℕ) → p < 2 * length s.mesh → v < width (router_at s x) → ((c : ℕ) → c < 8 → has owing p c ≡ false) → (input_at (router_at s x) p v).owed ≡ 0
+-- a set of the node's channels, and of those of its mesh ports it has just those that owe a credit
+pub record AreOwing (s : NetState) (x owing : ℕ) : Type 0 where
+  pub exact : (p v : ℕ) → p < 2 * length s.mesh → v < sum s.channels → has owing p v ≡ can_give s x p v
+  pub places : (p v : ℕ) → p < 7 → v < 8 → has owing p v ≡ true → v < sum s.channels
 
 -- the channel of a port owes what it owed
 pub record OwesTheSame (old new : NetState) (x p v : ℕ) : Type 0 where
   pub there : v < width (router_at old x)
   pub owed : (input_at (router_at new x) p v).owed ≡ (input_at (router_at old x) p v).owed
+
+-- a set of the node's channels, and no channel that is left out has anything to route
+pub record RoutesWithin (s : NetState) (x set : ℕ) : Type 0 where
+  pub all : (p v : ℕ) → p ≤ 2 * length s.mesh → v < sum s.channels → has set p v ≡ false → can_route (router_at s x) p v ≡ false
+  pub places : (p v : ℕ) → p < 7 → v < 8 → has set p v ≡ true → (p ≤ 2 * length s.mesh) × (v < sum s.channels)
+
+-- the channel of a port has to route what it had
+pub record RoutesTheSame (old new : NetState) (x p v : ℕ) : Type 0 where
+  pub there : v < width (router_at old x)
+  pub routes : can_route (router_at new x) p v ≡ can_route (router_at old x) p v
 
 -- Send, whatever is ready to leave
 abbrev pub after_ready : NetState → ℕ → ℕ → ℕ → Option (ℕ × Flit) → NetState

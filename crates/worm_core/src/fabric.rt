@@ -7,7 +7,8 @@ ghost use Rattle.worm_mesh.specs.Links.{link_count};
 ghost use Rattle.worm_router.specs.Router.{IsPlace, MayLeave, after_accept, after_credit, after_gave, after_grant, after_route, after_send, can_grant, can_route, input_at, leaving, output_at, terminal, width};
 ghost use Rattle.worm_term.specs.Source.{after_close, after_offer, classes, front_of, refusal};
 ghost use Rattle.worm_core.specs.State.{IsNetPlace, link_at, node_at, router_at, sink_at, source_at, texts_of, with_link, with_node, with_router, with_source};
-ghost use Rattle.worm_core.specs.Moves.{CreditFits, FrontFits, RoutesNothing, Sends, WayOut, after_getting, after_giving, after_take, can_enter, can_get, can_give, chosen_router, delivered_node, fed_node, front_credit, front_into, has_room, link_into, link_out};
+ghost use Rattle.worm_core.specs.Moves.{AreReady, CreditFits, FrontFits, Sends, WayOut, after_getting, after_giving, after_take, can_enter, can_get, can_give, chosen_router, delivered_node, fed_node, front_credit, front_into, has_room, link_into, link_out};
+ghost use Rattle.worm_core.specs.UnderWay.{IsUnderWay, accepted_in, taken_in};
 
 mod parts;
 mod readers;
@@ -16,6 +17,7 @@ mod still;
 
 use crate::fresh::{make_links, make_nodes};
 use crate::links::Links;
+use crate::nodes::Nodes;
 use crate::{Moved, Name, Node, StepFault};
 use arrayvec::ArrayVec;
 use std::alloc::{AllocError, Global};
@@ -37,7 +39,7 @@ pub struct Fabric {
     /// The classes' names.
     names: ArrayVec<Name, 4>,
     /// The nodes by number.
-    nodes: Vec<Node>,
+    nodes: Nodes,
 }
 
 impl Model for Fabric {
@@ -45,7 +47,7 @@ impl Model for Fabric {
 
     ghost Value = { NetState };
 
-    ghost view = { λ n. net_state n.links.mesh n.classes n.depth (texts_of n.names.items) n.nodes.items n.links.states };
+    ghost view = { λ n. net_state n.links.mesh n.classes n.depth (texts_of n.names.items) n.nodes n.links.states };
 }
 
 impl Fabric {
@@ -71,7 +73,7 @@ impl Fabric {
             classes,
             depth,
             names,
-            nodes,
+            nodes: Nodes::new(nodes),
         })
     }
 
@@ -126,6 +128,26 @@ impl Fabric {
         self.has_link(node, port) && vc < self.classes.total()
     }
 
+    /// The number of the link into this port, if the node has a neighbour there.
+    pub fn link_into(&self, node: u8, port: u8) -> Option<u16>
+        ensures there { IsSome result ↔ ((node < node_count self.now.mesh) × IsSome (neighbour_of self.now.mesh node port)) }
+        ensures value { IfSome result (λ number. number ≡ link_into self.now node port) }
+        ensures bound { IfSome result (λ number. number < link_count self.now.mesh) }
+        ensures mesh_port { IsSome result → port < 6 }
+    {
+        self.links.find_into(node, port)
+    }
+
+    /// The number of the link out of this port, if the node has a neighbour there.
+    pub fn link_out(&self, node: u8, port: u8) -> Option<u16>
+        ensures there { IsSome result ↔ ((node < node_count self.now.mesh) × IsSome (neighbour_of self.now.mesh node port)) }
+        ensures value { IfSome result (λ number. number ≡ link_out self.now node port) }
+        ensures bound { IfSome result (λ number. number < link_count self.now.mesh) }
+        ensures mesh_port { IsSome result → port < 6 }
+    {
+        self.links.find_out(node, port)
+    }
+
     /// The terminal port of each node.
     pub fn terminal(&self) -> u8
         ensures value { result ≡ 2 * length self.now.mesh }
@@ -141,20 +163,21 @@ impl Fabric {
         ensures done { result ≡ has_room (router_at self.old node) port flit }
         ensures after { self.new ≡ (if result then with_router self.old node (after_accept (router_at self.old node) port flit) else self.old) }
     {
-        let node = &mut self.nodes[usize::from(node)];
-        node.router.accept(port, flit).is_ok()
+        self.nodes.router_mut(node).accept(port, flit).is_ok()
     }
 
-    /// Moves the front of the link into a port to the buffer of its channel (Dally and Towles, chapter 13).
-    pub fn take(&mut self, node: u8, port: u8) -> bool
+    /// Moves the front of the link into a port, which is that of this number, to the buffer of its channel (Dally and Towles, chapter 13).
+    pub fn take(&mut self, node: u8, port: u8, number: u16) -> bool
         requires node { node < length self.old.nodes }
+        requires number { number ≡ link_into self.old node port }
+        requires there { number < link_count self.old.mesh }
+        requires mesh_port { port < 6 }
         requires links { length self.old.links ≡ link_count self.old.mesh }
         requires linked { IsSome (neighbour_of self.old.mesh node port) }
         requires front { FrontFits (router_at self.old node) port (front_into self.old node port) }
         ensures enabled { result ≡ can_enter (router_at self.old node) port (front_into self.old node port) }
         ensures after { self.new ≡ (if result then after_take self.old node port (link_into self.old node port) (front_into self.old node port) else self.old) }
     {
-        let number = self.links.number_into(node, port);
         let Some(flit) = self.links.link(number).front() else {
             return false;
         };
@@ -171,8 +194,7 @@ impl Fabric {
         ensures enabled { result ≡ can_route (router_at self.old node) port vc }
         ensures after { self.new ≡ (if result then with_router self.old node (after_route (router_at self.old node) port vc) else self.old) }
     {
-        let node = &mut self.nodes[usize::from(node)];
-        node.router.route(port, vc)
+        self.nodes.router_mut(node).route(port, vc)
     }
 
     /// Gives a waiting input channel an output channel (Dally and Towles, chapter 16).
@@ -182,8 +204,7 @@ impl Fabric {
         ensures enabled { result ≡ is_some (can_grant (router_at self.old node) port vc out_vc) }
         ensures after { self.new ≡ with_router self.old node (after_grant (router_at self.old node) port vc out_vc) }
     {
-        let node = &mut self.nodes[usize::from(node)];
-        node.router.grant(port, vc, out_vc)
+        self.nodes.router_mut(node).grant(port, vc, out_vc)
     }
 
     /// The out port and the flit that may leave this buffer now, as it would leave.
@@ -191,8 +212,7 @@ impl Fabric {
         requires { IsNetPlace self.now node port vc }
         ensures { result ≡ leaving (router_at self.now node) port vc }
     {
-        let node = &self.nodes[usize::from(node)];
-        node.router.ready(port, vc)
+        self.nodes.node(node).router.ready(port, vc)
     }
 
     /// Lets the ready flit out of its buffer, by the output port `out`.
@@ -201,8 +221,7 @@ impl Fabric {
         requires ready { leaving (router_at self.old node) port vc ≡ Some (out, flit) }
         ensures { self.new ≡ with_router self.old node (after_send (router_at self.old node) port vc) }
     {
-        let node = &mut self.nodes[usize::from(node)];
-        node.router.let_out(port, vc, out, flit);
+        self.nodes.router_mut(node).let_out(port, vc, out, flit);
     }
 
     /// Lets the ready flit out into the node's sink, by the output port `out`, if the sink can take it.
@@ -212,8 +231,7 @@ impl Fabric {
         requires home { flit.lane.dst ≡ (sink_at self.old node).node }
         ensures { self.new ≡ (if result then with_node self.old node (delivered_node (node_at self.old node) port vc flit) else self.old) }
     {
-        let node = &mut self.nodes[usize::from(node)];
-        node.deliver(port, vc, out, flit)
+        self.nodes.deliver(node, port, vc, out, flit)
     }
 
     /// Lets the ready flit out, into the sink or onto the link of its port (Dally and Towles, chapter 13). `NoMemory` where the sink cannot take it.
@@ -247,8 +265,7 @@ impl Fabric {
         ensures after { self.new ≡ (if result then with_node self.old node (fed_node (node_at self.old node) class (front_of (source_at self.old node) class)) else self.old) }
     {
         let terminal = self.terminal();
-        let node = &mut self.nodes[usize::from(node)];
-        node.feed(class, terminal)
+        self.nodes.feed(node, class, terminal)
     }
 
     /// Hands the packet to the node's source.
@@ -260,8 +277,7 @@ impl Fabric {
         ensures some { 1 ≤ length packet.now.words }
         ensures few { length packet.now.words ≤ 32 }
     {
-        let node = &mut self.nodes[usize::from(node)];
-        node.offer(packet)
+        self.nodes.offer(node, packet)
     }
 
     /// Hands the lane's close mark to the node's source.
@@ -271,17 +287,15 @@ impl Fabric {
         ensures fault { IfErr result (λ e. e ≡ unwrap_or (refusal (source_at self.old node) lane true) OfferFault.NoMemory) }
         ensures err { OnErr result (self.new ≡ self.old) }
     {
-        let node = &mut self.nodes[usize::from(node)];
-        node.close(lane)
+        self.nodes.close(node, lane)
     }
 
     /// Whether the input channel owes a credit.
-    fn owes(&self, node: u8, port: u8, vc: u8) -> bool
+    pub fn owes(&self, node: u8, port: u8, vc: u8) -> bool
         requires { IsNetPlace self.now node port vc }
         ensures { result ≡ can_give self.now node port vc }
     {
-        let node = &self.nodes[usize::from(node)];
-        node.router.owed_count(port, vc) > 0
+        self.nodes.node(node).router.owed_count(port, vc) > 0
     }
 
     /// The input channel owes one credit less.
@@ -290,25 +304,22 @@ impl Fabric {
         requires owed { 0 < (input_at (router_at self.old node) port vc).owed }
         ensures { self.new ≡ with_router self.old node (after_gave (router_at self.old node) port vc) }
     {
-        let node = &mut self.nodes[usize::from(node)];
-        node.router.gave(port, vc);
+        self.nodes.router_mut(node).gave(port, vc);
     }
 
-    /// Gives a credit that the input channel owes to the link into its port (Dally and Towles, chapter 13).
-    pub fn give(&mut self, node: u8, port: u8, vc: u8) -> bool
+    /// Gives a credit that the input channel owes to the link into its port, which is that of this number (Dally and Towles, chapter 13).
+    pub fn give(&mut self, node: u8, port: u8, vc: u8, number: u16)
         requires place { IsNetPlace self.old node port vc }
+        requires number { number ≡ link_into self.old node port }
+        requires there { number < link_count self.old.mesh }
         requires links { length self.old.links ≡ link_count self.old.mesh }
         requires linked { IsSome (neighbour_of self.old.mesh node port) }
-        requires room { 0 < (input_at (router_at self.old node) port vc).owed → length (link_at self.old (link_into self.old node port)).credits < (link_at self.old (link_into self.old node port)).room }
-        ensures enabled { result ≡ can_give self.old node port vc }
-        ensures after { self.new ≡ (if result then after_giving self.old node port vc (link_into self.old node port) else self.old) }
+        requires owed { 0 < (input_at (router_at self.old node) port vc).owed }
+        requires room { length (link_at self.old (link_into self.old node port)).credits < (link_at self.old (link_into self.old node port)).room }
+        ensures { self.new ≡ after_giving self.old node port vc (link_into self.old node port) }
     {
-        if !self.owes(node, port, vc) {
-            return false;
-        }
         self.gave(node, port, vc);
-        self.links.push_credit(node, port, vc);
-        true
+        self.links.push_credit(node, port, number, vc);
     }
 
     /// Counts a credit more for the output channel, if one is missing.
@@ -317,20 +328,21 @@ impl Fabric {
         ensures enabled { result ≡ (if (output_at (router_at self.old node) port vc).credits == (router_at self.old node).depth then false else true) }
         ensures after { self.new ≡ (if result then with_router self.old node (after_credit (router_at self.old node) port vc) else self.old) }
     {
-        let node = &mut self.nodes[usize::from(node)];
-        node.router.credit(port, vc).is_ok()
+        self.nodes.router_mut(node).credit(port, vc).is_ok()
     }
 
-    /// Takes the front credit of the link out of this port into its channel's count (Dally and Towles, chapter 13).
-    pub fn get(&mut self, node: u8, port: u8) -> bool
+    /// Takes the front credit of the link out of this port, which is that of this number, into its channel's count (Dally and Towles, chapter 13).
+    pub fn get(&mut self, node: u8, port: u8, number: u16) -> bool
         requires node { node < length self.old.nodes }
+        requires number { number ≡ link_out self.old node port }
+        requires there { number < link_count self.old.mesh }
+        requires mesh_port { port < 6 }
         requires links { length self.old.links ≡ link_count self.old.mesh }
         requires linked { IsSome (neighbour_of self.old.mesh node port) }
         requires front { CreditFits (router_at self.old node) port (front_credit self.old node port) }
         ensures enabled { result ≡ can_get (router_at self.old node) port (front_credit self.old node port) }
         ensures after { self.new ≡ (if result then after_getting self.old node port (front_credit self.old node port) else self.old) }
     {
-        let number = self.links.number_out(node, port);
         let Some(vc) = self.links.link(number).front_credit() else {
             return false;
         };
@@ -369,30 +381,18 @@ impl Fabric {
         requires { node < length self.old.nodes }
         ensures { self.new ≡ with_router self.old node (after_allocate (router_at self.old node)) }
     {
-        let node = &mut self.nodes[usize::from(node)];
-        let _grants = node.router.allocate();
+        let _grants = self.nodes.router_mut(node).allocate();
     }
 
     /// One pass of the node's switch allocator (Dally and Towles, chapters 16 and 19).
+    #[tactic(auto, unfolding(crate::specs::Moves::chosen_router))]
     pub fn choose(&mut self, node: u8) -> SwGrants
         requires { node < length self.old.nodes }
         ensures grants { result ≡ switch_grants (router_at self.old node) }
         ensures after { self.new ≡ with_router self.old node (chosen_router (router_at self.old node)) }
+        ensures ready { AreReady (router_at self.old node) result }
     {
-        let node = &mut self.nodes[usize::from(node)];
-        node.choose()
-    }
-
-    /// The lowest channel of the port that owes a credit.
-    pub fn lowest_owed(&self, node: u8, port: u8) -> Option<u8>
-        requires node { node < length self.now.nodes }
-        requires port { port ≤ terminal (router_at self.now node) }
-        ensures found { IfSome result (λ vc. (vc < width (router_at self.now node)) × (0 < (input_at (router_at self.now node) port vc).owed)) }
-        ensures lowest { IfSome result (λ vc. (k : ℕ) → k < vc → (input_at (router_at self.now node) port k).owed ≡ 0) }
-        ensures none { IfNone result ((k : ℕ) → k < width (router_at self.now node) → (input_at (router_at self.now node) port k).owed ≡ 0) }
-    {
-        let node = &self.nodes[usize::from(node)];
-        node.router.owed(port)
+        self.nodes.router_mut(node).choose()
     }
 
     /// The node of this number.
@@ -400,14 +400,21 @@ impl Fabric {
         requires { node < length self.now.nodes }
         ensures { result.now ≡ node_at self.now node }
     {
-        &self.nodes[usize::from(node)]
+        self.nodes.node(node)
     }
 
-    /// Whether each channel of the node with a flit has its route.
-    pub fn is_routed(&self, node: u8) -> bool
-        requires { node < length self.now.nodes }
-        ensures { IsTrue result → RoutesNothing (router_at self.now node) }
+    /// How many flits are under way, where it is known.
+    pub fn under_way(&self) -> Option<u64>
+        ensures { IsUnderWay (accepted_in self.now.nodes) (taken_in self.now.nodes) result }
     {
-        self.node(node).is_routed()
+        self.nodes.under_way()
+    }
+
+    /// Keeps it that so many flits are under way, and counts on from there.
+    pub fn count(&mut self, under_way: Option<u64>)
+        requires { IsUnderWay (accepted_in self.old.nodes) (taken_in self.old.nodes) under_way }
+        ensures { self.new ≡ self.old }
+    {
+        self.nodes.count(under_way);
     }
 }

@@ -19,6 +19,7 @@ mod link;
 mod links;
 mod net;
 mod node;
+mod nodes;
 mod parts;
 mod port_set;
 mod script;

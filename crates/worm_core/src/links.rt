@@ -1,6 +1,6 @@
 //! The links of a mesh with what is on them, and by node the ports at which something comes in, so that a turn goes past all others.
 
-ghost use Rattle.std.specs.Prelude.{◌≡◌, ◌<◌, ◌≤◌, ◌*◌, ◌==◌, ◌++◌, ◌∷◌, [], ℕ, IfNone, IfSome, IsSome, IsTrue, Option, false, drop, length, slice_get, slice_set};
+ghost use Rattle.std.specs.Prelude.{◌≡◌, ◌<◌, ◌≤◌, ◌*◌, ◌↔◌, ◌==◌, ◌++◌, ◌∷◌, [], ℕ, IfNone, IfSome, IsSome, IsTrue, Option, false, drop, length, slice_get, slice_set};
 ghost use Rattle.worm_mesh.specs.Address.{IsMesh as IsRadices, neighbour_of};
 ghost use Rattle.worm_mesh.specs.Links.{link_count};
 ghost use Rattle.worm_core.specs.State.{LinkView};
@@ -176,17 +176,24 @@ impl Links {
         Some(port)
     }
 
-    /// The number of the link that comes into this port.
-    pub fn number_into(&self, node: u8, port: u8) -> u16
-        requires { IsSome (neighbour_of self.now.mesh node port) }
-        ensures value { result ≡ number_into self.now node port }
-        ensures bound { result < link_count self.now.mesh }
-        ensures mesh_port { port < 6 }
+    /// The number of the link that comes into this port, if there is one.
+    pub fn find_into(&self, node: u8, port: u8) -> Option<u16>
+        ensures there { IsSome result ↔ IsSome (neighbour_of self.now.mesh node port) }
+        ensures value { IfSome result (λ number. number ≡ number_into self.now node port) }
+        ensures bound { IfSome result (λ number. number < link_count self.now.mesh) }
+        ensures mesh_port { IsSome result → port < 6 }
     {
-        let Some(number) = self.wiring.link_into(node, port) else {
-            return 0;
-        };
-        number
+        self.wiring.link_into(node, port)
+    }
+
+    /// The number of the link that goes out of this port, if there is one.
+    pub fn find_out(&self, node: u8, port: u8) -> Option<u16>
+        ensures there { IsSome result ↔ IsSome (neighbour_of self.now.mesh node port) }
+        ensures value { IfSome result (λ number. number ≡ number_out self.now node port) }
+        ensures bound { IfSome result (λ number. number < link_count self.now.mesh) }
+        ensures mesh_port { IsSome result → port < 6 }
+    {
+        self.wiring.link_out(node, port)
     }
 
     /// The number of the link that goes out of this port.
@@ -213,9 +220,19 @@ impl Links {
     {
         let link = &mut self.states[usize::from(number)];
         link.pop();
-        let more = link.front().is_some();
+        if link.front().is_none() {
+            self.forget_flits(node, port);
+        }
+    }
+
+    /// Keeps that no flit comes in by this port.
+    fn forget_flits(&mut self, node: u8, port: u8)
+        requires mesh_port { port < 6 }
+        requires none { flits_to self.old node port ≡ [] }
+        ensures { self.new ≡ self.old }
+    {
         let mut here = self.arrivals[usize::from(node)];
-        here.flits.put(port, more);
+        here.flits.remove(port);
         self.arrivals[usize::from(node)] = here;
     }
 
@@ -226,12 +243,12 @@ impl Links {
         requires room { length (state_at self.old (number_out self.old node port)).flits < (state_at self.old (number_out self.old node port)).room }
         ensures { self.new ≡ with_state self.old (number_out self.old node port) (record (state_at self.old (number_out self.old node port)) { flits = (state_at self.old (number_out self.old node port)).flits ++ flit ∷ [] }) }
     {
-        let number = self.number_out(node, port);
-        let link = &mut self.states[usize::from(number)];
-        link.push(flit);
         if let Some((beyond, into)) = self.wiring.other_end(node, port) {
+            let number = self.number_out(node, port);
+            let link = &mut self.states[usize::from(number)];
+            link.push(flit);
             let mut there = self.arrivals[usize::from(beyond)];
-            there.flits.put(into, true);
+            there.flits.insert(into);
             self.arrivals[usize::from(beyond)] = there;
         }
     }
@@ -247,25 +264,36 @@ impl Links {
     {
         let link = &mut self.states[usize::from(number)];
         link.pop_credit();
-        let more = link.front_credit().is_some();
+        if link.front_credit().is_none() {
+            self.forget_credits(node, port);
+        }
+    }
+
+    /// Keeps that no credit comes in by this port.
+    fn forget_credits(&mut self, node: u8, port: u8)
+        requires mesh_port { port < 6 }
+        requires none { credits_to self.old node port ≡ [] }
+        ensures { self.new ≡ self.old }
+    {
         let mut here = self.arrivals[usize::from(node)];
-        here.credits.put(port, more);
+        here.credits.remove(port);
         self.arrivals[usize::from(node)] = here;
     }
 
-    /// Puts a credit of the channel at the end of the credits of the link into this port.
-    pub fn push_credit(&mut self, node: u8, port: u8, vc: u8)
+    /// Puts a credit of the channel at the end of the credits of the link into this port, which is that of this number.
+    pub fn push_credit(&mut self, node: u8, port: u8, number: u16, vc: u8)
+        requires number { number ≡ number_into self.old node port }
+        requires there { number < link_count self.old.mesh }
         requires links { length self.old.states ≡ link_count self.old.mesh }
         requires linked { IsSome (neighbour_of self.old.mesh node port) }
         requires room { length (state_at self.old (number_into self.old node port)).credits < (state_at self.old (number_into self.old node port)).room }
         ensures { self.new ≡ with_state self.old (number_into self.old node port) (record (state_at self.old (number_into self.old node port)) { credits = (state_at self.old (number_into self.old node port)).credits ++ vc ∷ [] }) }
     {
-        let number = self.number_into(node, port);
         let link = &mut self.states[usize::from(number)];
         link.push_credit(vc);
         if let Some((beyond, out)) = self.wiring.other_end(node, port) {
             let mut there = self.arrivals[usize::from(beyond)];
-            there.credits.put(out, true);
+            there.credits.insert(out);
             self.arrivals[usize::from(beyond)] = there;
         }
     }

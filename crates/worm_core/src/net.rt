@@ -1,16 +1,17 @@
-ghost use Rattle.std.specs.Prelude.{None, ◌≡◌, ◌≤◌, ◌<◌, ◌*◌, ◌↔◌, ℕ, Result, IsTrue, IfNone, IfOk, sum, length, slice_get, IfSome, MatchOption, Err};
-ghost use Rattle.worm_theory.specs.Steps.{Step as Event};
+ghost use Rattle.std.specs.Prelude.{None, Some, slice_index_or, ◌≡◌, ◌≤◌, ◌<◌, ◌*◌, ◌↔◌, ℕ, Result, IsTrue, IfNone, IfOk, Ok, sum, length, slice_get, IfSome, MatchOption, Err};
+ghost use Rattle.worm_theory.specs.Steps.{IsThere, Step as Event};
+ghost use Rattle.worm_swalloc.specs.declared.grant.SwGrant.{SwGrant};
 ghost use Rattle.worm_core.specs.Runs.{IsRun, event_of};
 ghost use Rattle.worm_core.specs.Answers.{Answers, ArbitersStand, accepted_of, moved_of};
 ghost use Rattle.worm_theory.specs.Steps.{empty};
 ghost use Rattle.worm_core.specs.NewNet.{IsConfig, IsFresh};
 ghost use Rattle.worm_core.specs.Headline.{DeliversInOrder, NothingFollowsMarks};
 ghost use Rattle.worm_core.specs.State.{IsNet, shape, network_of, queue_of, router_at, sink_at, source_at, texts_of, with_router};
-ghost use Rattle.worm_core.specs.Turns.{NodePasses, Reaches, RoutesChannels, Tries, lowest_owed};
+ghost use Rattle.worm_core.specs.Turns.{NodePasses, Reaches, SendsGranted, Tries};
 ghost use Rattle.worm_mesh.specs.Address.{node_count};
 ghost use Rattle.worm_router.specs.Router.{input_at, width};
 ghost use Rattle.worm_router.specs.Allocation.{after_allocate, switch_grants};
-ghost use Rattle.worm_core.specs.Moves.{OwesWithin, chosen_router};
+ghost use Rattle.worm_core.specs.Moves.{AreOwing, RoutesWithin, chosen_router};
 
 use crate::config::copy_names;
 use crate::fabric::Fabric;
@@ -86,7 +87,7 @@ impl Net {
         let Ok(fabric) = Fabric::new(alloc, mesh, channels, config.depth, names) else {
             return Err(NetFault::NoMemory);
         };
-        Ok(Net { fabric })
+        Ok(Net { fabric }.counted())
     }
 
     /// What holds of every network, for whoever has one.
@@ -208,17 +209,27 @@ impl Net {
         requires { node < node_count self.old.mesh }
         ensures grants { result ≡ switch_grants (router_at self.old node) }
         ensures after { self.new ≡ with_router self.old node (chosen_router (router_at self.old node)) }
+        ensures there { (p : ℕ) (g : SwGrant) → slice_index_or result p None ≡ Some g → IsThere (shape self.old) (Event.Send node p g.vc) }
         ensures reaches { Reaches self.old self.new }
     {
         self.fabric.choose(node)
     }
 
-    /// Whether each channel of the node with a flit has its route; then there is nothing to route there.
-    pub(crate) fn has_nothing_to_route(&self, node: u8) -> bool
+    /// Whether no channel of the node may send; then nothing is granted, and nothing sent.
+    pub(crate) fn sends_nothing(&self, node: u8) -> bool
         requires { node < node_count self.now.mesh }
-        ensures { IsTrue result → RoutesChannels node self.now None self.now }
+        ensures { IsTrue result → SendsGranted node self.now None self.now }
     {
-        self.fabric.is_routed(node)
+        self.fabric.sends_nothing(node)
+    }
+
+    /// The channels of the node with a flit that lack a route; no other has anything to route.
+    pub(crate) fn unrouted(&self, node: u8) -> ChannelSet
+        requires { node < node_count self.now.mesh }
+        ensures routes { RoutesWithin self.now node result }
+        ensures sound { IsNet self.now }
+    {
+        self.fabric.unrouted(node)
     }
 
     /// A mesh port from this one on by which a credit may come in; before it there is none to take, and where there is none, past it.
@@ -243,30 +254,22 @@ impl Net {
         self.fabric.next_flit(node, from)
     }
 
-    /// The channels of the node that owe a credit; no mesh port owes one that has none of them.
+    /// The channels of the node that owe a credit.
     pub(crate) fn owing(&self, node: u8) -> ChannelSet
         requires { node < node_count self.now.mesh }
-        ensures { OwesWithin self.now node result }
+        ensures owing { AreOwing self.now node result }
+        ensures sound { IsNet self.now }
     {
         self.fabric.owing(node)
     }
 
     /// Whether the node is at rest, so that its turn goes past all but what its source is asked.
-    pub(crate) fn is_at_rest(&self, node: u8) -> bool
-        requires { node < node_count self.now.mesh }
-        ensures { IsTrue result → NodePasses node self.now None self.now }
+    pub(crate) fn rests(&mut self, node: u8) -> bool
+        requires { node < node_count self.old.mesh }
+        ensures passes { IsTrue result → NodePasses node self.old None self.old }
+        ensures same { self.new ≡ self.old }
     {
-        self.fabric.is_at_rest(node)
-    }
-
-    /// The lowest channel of the mesh port that owes a credit.
-    pub(crate) fn lowest_owed(&self, node: u8, port: u8) -> Option<u8>
-        requires node { node < node_count self.now.mesh }
-        requires port { port ≤ 2 * length self.now.mesh }
-        ensures value { result ≡ lowest_owed (router_at self.now node) port }
-        ensures sound { IsNet self.now }
-    {
-        self.fabric.lowest_owed(node, port)
+        self.fabric.rests(node)
     }
 
     pub(crate) fn offer(&mut self, node: u8, packet: &Packet) -> Result<Moved, StepFault>
@@ -293,7 +296,16 @@ impl Net {
         if !self.fabric.has_class(node, class) {
             return Err(StepFault::NoSuchPlace);
         }
-        Ok(moved(self.fabric.feed(node, class)))
+        Ok(moved(self.feed_there(node, class)))
+    }
+
+    /// The same where the node and the class are there.
+    pub(crate) fn feed_there(&mut self, node: u8, class: u8) -> bool
+        requires node { node < node_count self.old.mesh }
+        requires class { class < length self.old.channels }
+        ensures { Answers self.old (Event.Feed node class) (Ok (moved_of result)) self.new }
+    {
+        self.fabric.feed(node, class)
     }
 
     pub(crate) fn route(&mut self, node: u8, port: u8, vc: u8) -> Result<Moved, StepFault>
@@ -320,16 +332,24 @@ impl Net {
         if !self.fabric.has_place(node, port, vc) {
             return Err(StepFault::NoSuchPlace);
         }
+        self.send_there(node, port, vc)
+    }
+
+    /// The same where the place is there.
+    pub(crate) fn send_there(&mut self, node: u8, port: u8, vc: u8) -> Result<Moved, StepFault>
+        requires { IsThere (shape self.old) (Event.Send node port vc) }
+        ensures { Answers self.old (Event.Send node port vc) result self.new }
+    {
         self.fabric.send(node, port, vc)
     }
 
     pub(crate) fn take(&mut self, node: u8, port: u8) -> Result<Moved, StepFault>
         ensures { Answers self.old (Event.Take node port) result self.new }
     {
-        if !self.fabric.has_link(node, port) {
+        let Some(number) = self.fabric.link_into(node, port) else {
             return Err(StepFault::NoSuchPlace);
-        }
-        Ok(moved(self.fabric.take(node, port)))
+        };
+        Ok(moved(self.fabric.take(node, port, number)))
     }
 
     pub(crate) fn give(&mut self, node: u8, port: u8, vc: u8) -> Result<Moved, StepFault>
@@ -338,16 +358,32 @@ impl Net {
         if !self.fabric.has_line(node, port, vc) {
             return Err(StepFault::NoSuchPlace);
         }
-        Ok(moved(self.fabric.give(node, port, vc)))
+        if !self.fabric.owes(node, port, vc) {
+            return Ok(Moved::Idle);
+        }
+        self.give_owed(node, port, vc)
+    }
+
+    /// The same where the node and the channel are there, and the channel of the port owes a credit.
+    pub(crate) fn give_owed(&mut self, node: u8, port: u8, vc: u8) -> Result<Moved, StepFault>
+        requires channel { vc < sum self.old.channels }
+        requires owed { 0 < (input_at (router_at self.old node) port vc).owed }
+        ensures { Answers self.old (Event.GiveCredit node port vc) result self.new }
+    {
+        let Some(number) = self.fabric.link_into(node, port) else {
+            return Err(StepFault::NoSuchPlace);
+        };
+        self.fabric.give(node, port, vc, number);
+        Ok(Moved::Done)
     }
 
     pub(crate) fn get(&mut self, node: u8, port: u8) -> Result<Moved, StepFault>
         ensures { Answers self.old (Event.TakeCredit node port) result self.new }
     {
-        if !self.fabric.has_link(node, port) {
+        let Some(number) = self.fabric.link_out(node, port) else {
             return Err(StepFault::NoSuchPlace);
-        }
-        Ok(moved(self.fabric.get(node, port)))
+        };
+        Ok(moved(self.fabric.get(node, port, number)))
     }
 
     /// One step.

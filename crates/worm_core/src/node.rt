@@ -1,13 +1,12 @@
 ghost use Rattle.std.specs.Prelude.{IsTrue, true, false, ◌≡◌, ◌<◌, ◌≤◌, Some, OnOk, OnErr, IfErr, None, length, unwrap_or, if◌then◌else◌};
 ghost use Rattle.worm_router.specs.Router.{IsPlace, terminal, leaving};
-ghost use Rattle.worm_router.specs.Allocation.{switch_grants};
 ghost use Rattle.worm_term.specs.Source.{classes, front_of, refusal, after_offer, after_close};
-ghost use Rattle.worm_core.specs.Moves.{RoutesNothing, FrontFits, can_enter, chosen_router, fed_node, delivered_node};
+ghost use Rattle.worm_core.specs.Moves.{AreUnrouted, FrontFits, can_enter, fed_node, delivered_node};
 
 use worm_flit::{Flit, Lane, Packet};
 use worm_router::Router;
-use worm_swalloc::SwGrants;
 use worm_term::{OfferFault, Sink, Source};
+use worm_vcalloc::ChannelSet;
 
 /// One node: its router, and the two ends of its lanes.
 #[derive(Drop)]
@@ -67,25 +66,15 @@ impl Node {
         true
     }
 
-    /// Whether each channel with a flit has its route.
-    pub(crate) fn is_routed(&self) -> bool
-        ensures { IsTrue result → RoutesNothing self.now.router }
+    /// The channels with a flit that lack a route; no other has anything to route.
+    pub(crate) fn unrouted(&self) -> ChannelSet
+        ensures { AreUnrouted self.now.router result }
     {
         let router = &self.router;
-        let unrouted = router
+        router
             .occupied()
             .difference(&router.waiting())
-            .difference(&router.active());
-        unrouted.is_empty()
-    }
-
-    /// One pass of the switch allocator.
-    #[tactic(auto, unfolding(crate::specs::Moves::chosen_router))]
-    pub(crate) fn choose(&mut self) -> SwGrants
-        ensures grants { result ≡ switch_grants self.old.router }
-        ensures after { self.new ≡ record self.old { router = chosen_router self.old.router } }
-    {
-        self.router.choose()
+            .difference(&router.active())
     }
 
     /// Hands the packet to the source.
@@ -93,6 +82,7 @@ impl Node {
         ensures ok { OnOk result ((refusal self.old.source packet.now.lane false ≡ None) × (self.new ≡ record self.old { source = after_offer self.old.source packet.now })) }
         ensures fault { IfErr result (λ e. e ≡ unwrap_or (refusal self.old.source packet.now.lane false) OfferFault.NoMemory) }
         ensures err { OnErr result (self.new ≡ self.old) }
+        ensures there { OnOk result (packet.now.lane.class < length self.old.source.queues) }
         ensures some { 1 ≤ length packet.now.words }
         ensures few { length packet.now.words ≤ 32 }
     {
@@ -105,6 +95,7 @@ impl Node {
         ensures ok { OnOk result ((refusal self.old.source lane true ≡ None) × (self.new ≡ record self.old { source = after_close self.old.source lane })) }
         ensures fault { IfErr result (λ e. e ≡ unwrap_or (refusal self.old.source lane true) OfferFault.NoMemory) }
         ensures err { OnErr result (self.new ≡ self.old) }
+        ensures there { OnOk result (lane.class < length self.old.source.queues) }
     {
         self.source.close(lane)
     }

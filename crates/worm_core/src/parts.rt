@@ -45,6 +45,6 @@ impl Net {
         requires { IsNet (parts_state parts) }
         ensures { result ≡ parts_state parts }
     {
-        Net::from_fabric(Fabric::from_parts(parts))
+        Net::from_fabric(Fabric::from_parts(parts)).counted()
     }
 }

@@ -1,6 +1,6 @@
 //! Sets of the mesh ports of a node.
 
-ghost use Rattle.std.specs.Prelude.{ℕ, ◌≡◌, ◌==◌, ◌<◌, ◌≤◌, MatchOption, false};
+ghost use Rattle.std.specs.Prelude.{ℕ, ◌≡◌, ◌==◌, ◌<◌, ◌≤◌, MatchOption, false, true};
 ghost use Rattle.worm_core.specs.Ports.{has, IsFirstFrom, IsPut};
 
 use std::marker::Model;
@@ -49,16 +49,31 @@ impl PortSet {
         Some(from + rest.trailing_zeros() as u8)
     }
 
+    /// Puts the port into the set.
+    pub fn insert(&mut self, port: u8)
+        requires { port < 6 }
+        ensures { IsPut self.old self.new port true }
+    {
+        self.bits |= 1 << port;
+    }
+
+    /// Takes the port out of the set.
+    pub fn remove(&mut self, port: u8)
+        requires { port < 6 }
+        ensures { IsPut self.old self.new port false }
+    {
+        self.bits &= !(1 << port);
+    }
+
     /// Puts the port into the set, or takes it out where `within` is false.
     pub fn put(&mut self, port: u8, within: bool)
         requires { port < 6 }
         ensures { IsPut self.old self.new port within }
     {
-        let bit = 1 << port;
         if within {
-            self.bits |= bit;
+            self.insert(port);
         } else {
-            self.bits &= !bit;
+            self.remove(port);
         }
     }
 }

@@ -3,6 +3,7 @@ ghost use Rattle.worm_mesh.specs.Address.{node_count};
 ghost use Rattle.worm_theory.specs.Steps.{packets_in};
 ghost use Rattle.worm_core.specs.State.{sink_at};
 ghost use Rattle.worm_core.specs.Totals.{accepted_below, accepted_total, delivered_total, injected_below, injected_total};
+ghost use Rattle.worm_core.specs.UnderWay.{IsUnderWay};
 
 use crate::Net;
 use worm_flit::{Flit, is_closing};
@@ -32,6 +33,13 @@ fn packets_ended(flits: &[Flit]) -> u64
     ended
 }
 
+/// How many more flits were accepted than delivered, where the number is in range.
+fn difference(injected: u128, delivered: u128) -> Option<u64>
+    ensures { IsUnderWay injected delivered result }
+{
+    u64::try_from(injected.checked_sub(delivered)?).ok()
+}
+
 impl Net {
     /// The sums over all sources and sinks.
     pub fn totals(&self) -> Totals
@@ -55,9 +63,32 @@ impl Net {
         totals
     }
 
-    /// Whether as many flits were delivered as were accepted, so that a drain is over. Reads lengths alone.
+    /// Whether as many flits were delivered as were accepted, so that a drain is over. Reads the number of flits under way, or lengths
+    /// alone.
     pub fn is_drained(&self) -> bool
         ensures { result ≡ (injected_total self.now == delivered_total self.now) }
+    {
+        if let Some(under_way) = self.fabric().under_way() {
+            return under_way == 0;
+        }
+        let (injected, delivered) = self.flits();
+        injected == delivered
+    }
+
+    /// The same network, of which it is known how many flits are under way.
+    pub(crate) fn counted(self) -> Net
+        ensures { result ≡ self }
+    {
+        let (injected, delivered) = self.flits();
+        let mut fabric = self.into_fabric();
+        fabric.count(difference(injected, delivered));
+        Net::from_fabric(fabric)
+    }
+
+    /// The flits that all sources accepted, and those that all sinks took.
+    fn flits(&self) -> (u128, u128)
+        ensures injected { result.0 ≡ injected_total self.now }
+        ensures delivered { result.1 ≡ delivered_total self.now }
     {
         let mut injected = 0u128;
         let mut delivered = 0u128;
@@ -65,7 +96,7 @@ impl Net {
             injected += self.node_injected(node as u8);
             delivered += self.delivered(node as u8).len() as u128;
         }
-        injected == delivered
+        (injected, delivered)
     }
 
     /// How many flits one node's source accepted.

@@ -1,6 +1,6 @@
 //! The turn of a node, and the turns of all nodes in rising number.
 
-ghost use Rattle.std.specs.Prelude.{ℕ, List, [], ◌≡◌, ◌<◌, ◌≤◌, ◌*◌, None, true, false, length, slice_index_or};
+ghost use Rattle.std.specs.Prelude.{ℕ, List, [], ◌≡◌, ◌<◌, ◌≤◌, ◌*◌, None, Some, true, false, length, slice_index_or, sum};
 ghost use Rattle.std.specs.Result.{result_err};
 ghost use Rattle.worm_mesh.specs.Address.{node_count};
 ghost use Rattle.worm_core.specs.Answers.{Answers};
@@ -8,10 +8,11 @@ ghost use Rattle.worm_core.specs.Headline.{DeliversInOrder, NothingFollowsMarks}
 ghost use Rattle.worm_core.specs.Script.{begun_at, due};
 ghost use Rattle.worm_core.specs.State.{IsNet};
 ghost use Rattle.worm_core.specs.declared.script.Entry.{Entry};
-ghost use Rattle.worm_router.specs.Router.{width};
+ghost use Rattle.worm_router.specs.Router.{input_at, width};
 ghost use Rattle.worm_core.specs.State.{router_at};
-ghost use Rattle.worm_core.specs.Moves.{OwesTheSame};
-ghost use Rattle.worm_core.specs.Turns.{AsksSource, Does, FeedsClasses, GivesCredit, GivesCredits, IsDetermined, NodePasses, NodeTurn, Reaches, RoutesChannels, RoutesPort, RunIsDetermined, SendsGranted, TakesCredits, TakesFlits, Turn, ask, fault_of};
+ghost use Rattle.worm_theory.specs.Steps.{Route};
+ghost use Rattle.worm_core.specs.Moves.{OwesTheSame, RoutesTheSame};
+ghost use Rattle.worm_core.specs.Turns.{AsksSource, Does, FeedsClasses, GivesCredit, GivesCredits, IsDetermined, NodePasses, NodeTurn, Reaches, RoutesChannels, RunIsDetermined, SendsGranted, TakesCredits, TakesFlits, Tries, Turn, ask, fault_of, lowest_owed};
 
 use crate::{Act, Entry, Moved, Net, Script, StepFault};
 
@@ -94,32 +95,33 @@ impl Net {
 
     /// Feeds a flit of each class, rising.
     fn feed_classes(&mut self, node: u8)
+        requires { node < node_count self.old.mesh }
         ensures { Does (FeedsClasses node) self.old None self.new }
     {
         for class in 0..self.classes() {
-            let _moved = self.feed(node, class);
+            let _fed = self.feed_there(node, class);
         }
     }
 
-    /// Routes each channel of a port, rising.
-    fn route_port(&mut self, node: u8, port: u8)
-        ensures { Does (RoutesPort node port) self.old None self.new }
+    /// Routes a channel, which changes what no other has to route.
+    fn route_channel(&mut self, node: u8, port: u8, vc: u8)
+        ensures routed { Does (Tries (Route node port vc)) self.old None self.new }
+        ensures others { (p v : ℕ) → ((p ≡ port) → (v ≡ vc) → ⊥) → v < width (router_at self.new node) → RoutesTheSame self.old self.new node p v }
+        ensures sound { IsNet self.new }
     {
-        for vc in 0..self.channels() {
-            let _moved = self.route(node, port, vc);
-        }
+        self.is_sound();
+        let _moved = self.route(node, port, vc);
+        self.is_sound();
     }
 
-    /// Routes each channel, by rising port, then channel.
+    /// Routes each channel that lacks a route, by rising port, then channel.
     fn route_channels(&mut self, node: u8)
         requires { node < node_count self.old.mesh }
         ensures { Does (RoutesChannels node) self.old None self.new }
     {
-        if self.has_nothing_to_route(node) {
-            return;
-        }
-        for port in 0..self.terminal() + 1 {
-            self.route_port(node, port);
+        let mut unrouted = self.unrouted(node);
+        while let Some((port, vc)) = unrouted.pop_first() {
+            self.route_channel(node, port, vc);
         }
     }
 
@@ -128,25 +130,29 @@ impl Net {
         requires { node < node_count self.old.mesh }
         ensures { Does (SendsGranted node) self.old (result_err result) self.new }
     {
+        if self.sends_nothing(node) {
+            return Ok(());
+        }
         let grants = self.choose(node);
         for port in 0..self.terminal() + 1 {
             if let Some(grant) = grants[usize::from(port)] {
-                tried(self.send(node, port, grant.vc))?;
+                tried(self.send_there(node, port, grant.vc))?;
             }
         }
         Ok(())
     }
 
-    /// Gives a credit of the lowest channel of the port that owes one to the link into it.
-    fn give_credit(&mut self, node: u8, port: u8)
-        requires node { node < node_count self.old.mesh }
-        requires port { port < 2 * length self.old.mesh }
-        ensures given { Does (GivesCredit node port) self.old None self.new }
+    /// Gives a credit that a channel of the port owes to the link into it.
+    fn give_credit(&mut self, node: u8, port: u8, vc: u8)
+        requires channel { vc < sum self.old.channels }
+        requires owed { 0 < (input_at (router_at self.old node) port vc).owed }
+        ensures given { Some vc ≡ lowest_owed (router_at self.old node) port → Does (GivesCredit node port) self.old None self.new }
         ensures others { (p : ℕ) (v : ℕ) → (p ≡ port → ⊥) → v < width (router_at self.new node) → OwesTheSame self.old self.new node p v }
+        ensures sound { IsNet self.new }
     {
-        if let Some(vc) = self.lowest_owed(node, port) {
-            let _moved = self.give(node, port, vc);
-        }
+        self.is_sound();
+        let _moved = self.give_owed(node, port, vc);
+        self.is_sound();
     }
 
     /// Gives a credit of the lowest channel that owes one to each link into the node, ports rising.
@@ -156,12 +162,17 @@ impl Net {
     {
         let terminal = self.terminal();
         let mut owing = self.owing(node);
-        while let Some(port) = owing.pop_port() {
+        let mut from = 0;
+        while let Some((port, vc)) = owing.pop_first() {
             // The terminal has no link, and owes none.
             if port >= terminal {
                 return;
             }
-            self.give_credit(node, port);
+            // A port has given one already where a lower channel of it owed one, too.
+            if from <= port {
+                self.give_credit(node, port, vc);
+                from = port + 1;
+            }
         }
     }
 
@@ -170,7 +181,7 @@ impl Net {
         requires { node < node_count self.old.mesh }
         ensures { Does (NodePasses node) self.old (result_err result) self.new }
     {
-        if self.is_at_rest(node) {
+        if self.rests(node) {
             return Ok(());
         }
         self.take_credits(node);

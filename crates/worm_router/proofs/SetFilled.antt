@@ -1,16 +1,13 @@
 -- Tables filled for the channels of a set alone, where any other channel has nothing to put there.
-use Rattle.std.proofs.Common.{◌≡◌, ℕ, ◌<◌, ◌&&◌, Bool, true, false, nat_le, nat_lt, if◌then◌else◌, inl, inr, List, Option, None, Some, is_some, ◌≤◌, replicate, refl, arith, ap, sym, ◌∙◌, subst}
-use Rattle.std.specs.Option.{option_map}
+use Rattle.std.proofs.Common.{◌≡◌, ℕ, ◌<◌, ◌&&◌, Bool, true, false, nat_le, nat_lt, if◌then◌else◌, inl, inr, List, Option, None, replicate, refl, arith, ap, sym, ◌∙◌, subst}
 use Rattle.std.proofs.lemmas.Bool.{cases_eq}
-use Rattle.worm_flit.specs.declared.Flit.{Flit}
 use Rattle.worm_vcalloc.specs.ChannelSet.{has, IsFirst}
 use Rattle.worm_vcalloc.specs.Table.{cell, with_cell, IsTable}
 use Rattle.worm_vcalloc.proofs.SetLemmas.{has-zero}
 use Rattle.worm_vcalloc.proofs.TableLemmas.{cell-with_cell_same, cell-with_cell_other, IsTable-with_cell, cell-replicate, IsTable-replicate}
-use Rattle.worm_router.specs.Router.{RouterState, IsPlace, terminal, width, leaving}
-use Rattle.worm_router.specs.Busy.{AreCandidates}
+use Rattle.worm_router.specs.Router.{RouterState, IsPlace, terminal, width}
 use Rattle.worm_router.specs.Tables.{table}
-use Rattle.worm_router.specs.Allocation.{within, ready_at, ready_outs}
+use Rattle.worm_router.specs.Allocation.{within}
 use Rattle.worm_router.proofs.TableRows.{same_tables, cell-table, IsTable-table}
 
 -- the channels that are left of a set are places of the router, and each other cell is filled
@@ -20,7 +17,7 @@ pub record IsFilled {X : Type 0} (r : RouterState) (f : ℕ → ℕ → Option X
   pub filled : (p v : ℕ) → p < 7 → v < 8 → has left p v ≡ false → cell t p v None ≡ within r None f p v
 
 -- what f says of a place
-at_place : {X : Type 0} (r : RouterState) (f : ℕ → ℕ → Option X) (p v : ℕ) → IsPlace r p v → within r None f p v ≡ f p v
+pub at_place : {X : Type 0} (r : RouterState) (f : ℕ → ℕ → Option X) (p v : ℕ) → IsPlace r p v → within r None f p v ≡ f p v
 at_place r f p v place =
     let port_in : nat_le p (terminal r) ≡ true = let e = place.port_in in grind arith in
     let channel_in : nat_lt v (width r) ≡ true = let e = place.channel_in in grind arith in
@@ -76,41 +73,3 @@ pub filled_all : {X : Type 0} (r : RouterState) (f : ℕ → ℕ → Option X) (
 filled_all r f left t done none =
     same_tables None t (table (within r None f)) done.shape (IsTable-table (within r None f)) (λ p v p_in v_in.
     done.filled p v p_in v_in (ap (λ s. has s p v) none ∙ has-zero p v) ∙ sym (cell-table (within r None f) p v None p_in v_in))
-
--- ---- the channels that may send
-
-pub ready_begin : (r : RouterState) (all : ℕ) → AreCandidates r all → IsFilled r (ready_at r) all (replicate 7 (replicate 8 None))
-ready_begin r all are =
-    filled_begins r (ready_at r) all
-    (λ p v p_in v_in inside. let at = are.places p v p_in v_in inside in record { port_in = at.0; channel_in = at.1 })
-    (λ p v place out. by_leaving p v place out (leaving r p v) refl)
-  where
-    by_leaving : (p v : ℕ) → IsPlace r p v → has all p v ≡ false → (o : Option (ℕ × Flit)) → leaving r p v ≡ o → ready_at r p v ≡ None
-    by_leaving p v place out None e = ap (λ (o : Option (ℕ × Flit)). option_map (λ leave. leave.0) o) e
-    by_leaving p v place out (Some d) e = let no : true ≡ false = sym (are.all p v place.port_in place.channel_in (ap is_some e)) ∙ out in absurd (cc)
-
--- the channels of the table are those that may send
-keys_are : (r : RouterState) (keys : ℕ) (t : List (List (Option ℕ))) → terminal r ≤ 6 → width r ≤ 8 → t ≡ ready_outs r
-    → ((p v : ℕ) → p < 7 → v < 8 → has keys p v ≡ is_some (cell t p v None)) → AreCandidates r keys
-keys_are r keys t few_ports few_channels is are = record {
-  all = λ p v p_in v_in some.
-      are p v (omega arith) (omega arith) ∙ ap (λ (u : List (List (Option ℕ))). is_some (cell u p v None)) is
-      ∙ ap is_some (cell-table (within r None (ready_at r)) p v None (omega arith) (omega arith) ∙ at_place r (ready_at r) p v (record { port_in = p_in; channel_in = v_in }))
-      ∙ by_leaving (leaving r p v) some;
-  places = λ p v p_in v_in inside.
-      let some : is_some (within r None (ready_at r) p v) ≡ true =
-      ap is_some (sym (cell-table (within r None (ready_at r)) p v None p_in v_in)) ∙ ap (λ (u : List (List (Option ℕ))). is_some (cell u p v None)) (sym is) ∙ sym (are p v p_in v_in) ∙ inside in
-      by_test p v (nat_le p (terminal r)) (nat_lt v (width r)) refl refl some;
-} where
-  by_leaving : (o : Option (ℕ × Flit)) → is_some o ≡ true → is_some (option_map (λ leave. leave.0) o) ≡ true
-  by_leaving None e = absurd (cc)
-  by_leaving (Some d) e = refl
-
-  by_test : (p v : ℕ) (a b : Bool) → nat_le p (terminal r) ≡ a → nat_lt v (width r) ≡ b → is_some (if a && b then ready_at r p v else None) ≡ true → (p ≤ terminal r) × (v < width r)
-  by_test p v true true e g some = (grind arith, grind arith)
-  by_test p v true false e g some = absurd (cc)
-  by_test p v false b e g some = absurd (cc)
-
-pub ready_keys : (r s : RouterState) (keys : ℕ) (t : List (List (Option ℕ))) → r ≡ s → terminal r ≤ 6 → width r ≤ 8 → t ≡ ready_outs s
-    → ((p v : ℕ) → p < 7 → v < 8 → has keys p v ≡ is_some (cell t p v None)) → AreCandidates r keys
-ready_keys r s keys t same few_ports few_channels is are = keys_are r keys t few_ports few_channels (is ∙ sym (ap ready_outs same)) are

@@ -78,6 +78,17 @@ pub record AreCandidates (r : RouterState) (set : ℕ) : Type 0 where
 pub record IsHeldIn (terminal width depth : ℕ) (outputs : List OutRecord) (set : ℕ) : Type 0 where
   pub all : (out vc : ℕ) → out ≤ terminal → vc < width → has set out vc ≡ is_some (slice_index_or outputs (out * width + vc) (free_output depth)).holder
 
+-- a set has the input channels of a router that may send, and no others
+pub record IsReadySet (r : RouterState) (set : ℕ) : Type 0 where
+  pub inside : (port vc : ℕ) → port ≤ terminal r → vc < width r → has set port vc ≡ is_some (leaving r port vc)
+  pub outside : (port vc : ℕ) → port < 7 → vc < 8 → has set port vc ≡ true → (port ≤ terminal r) × (vc < width r)
+
+-- the output port whose channel an input channel holds
+abbrev pub port_held : InRecord → Option ℕ
+port_held Idle = None
+port_held (Waiting o) = None
+port_held (Active o c) = Some o
+
 -- the channels of each class, as a bit for each
 pub record AreMasks (channels masks : List ℕ) : Type 0 where
   pub few : length channels ≤ 4

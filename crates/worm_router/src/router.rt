@@ -6,6 +6,7 @@ ghost use Rattle.worm_router.specs.Busy.{IsSetOf, AreCandidates, AreMasks, is_oc
 
 mod allocation;
 mod rest;
+mod switching;
 
 use crate::busy::BusyChannels;
 use crate::channel::InputChannel;

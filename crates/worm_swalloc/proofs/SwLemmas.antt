@@ -28,13 +28,12 @@ pub winner_of_lines : (a : ArbiterState) (width lines : ℕ) (asks : ℕ → Boo
 winner_of_lines a width lines asks wide low same = winner_same a (line_requests lines) asks (omega arith) (λ i l. same i (omega arith))
 
 -- the channel that an input arbiter names, from the lines that the code gathers
-pub named_is : (s : SwAllocState) (ready : List (List (Option ℕ))) (port lines : ℕ) (d : ArbiterState) (w : Option ℕ) → IsSwAlloc s.ports s.channels s.inputs s.outputs → port < s.ports → port < length s.inputs
+pub named_is : (s : SwAllocState) (ready : List (List (Option ℕ))) (port lines : ℕ) (w : Option ℕ) → IsSwAlloc s.ports s.channels s.inputs s.outputs → port < s.ports
     → ((line : ℕ) → line < s.channels → line_requests lines line ≡ is_some (cell ready port line None))
-    → w ≡ winner (slice_index_or s.inputs port d) (line_requests lines) → w ≡ named_channel s ready port
-named_is s ready port lines d w r lp within same e =
+    → w ≡ winner (slice_index_or s.inputs port no_arbiter) (line_requests lines) → w ≡ named_channel s ready port
+named_is s ready port lines w r lp same e =
     let few = r.few_ports in
-    e ∙ ap (λ a. winner a (line_requests lines)) (get_or_default s.inputs port d no_arbiter within)
-    ∙ winner_of_lines (slice_index_or s.inputs port no_arbiter) s.channels lines (λ vc. is_some (cell ready port vc None)) (r.input_width port (omega arith)) (r.input_pointer port (omega arith)) same
+    e ∙ winner_of_lines (slice_index_or s.inputs port no_arbiter) s.channels lines (λ vc. is_some (cell ready port vc None)) (r.input_width port (omega arith)) (r.input_pointer port (omega arith)) same
 
 -- the input port that an output arbiter chooses, likewise
 pub chosen_is : (s : SwAllocState) (requests : List (Option SwGrant)) (out lines : ℕ) (d : ArbiterState) (w : Option ℕ) → IsSwAlloc s.ports s.channels s.inputs s.outputs → out < s.ports → out < length s.outputs
@@ -79,11 +78,10 @@ named_unready s ready port r lp none =
     (winner_none (slice_index_or s.inputs port no_arbiter) (λ vc. is_some (cell ready port vc None)) (omega arith) (λ vc l. ap is_some (none vc (omega arith))))
 
 -- the input ports below n have been asked, where n is as far as the walk has come
-pub record AskedBelow (s : SwAllocState) (ready : List (List (Option ℕ))) (keys left : ℕ) (requests : List (Option SwGrant)) (askers : ℕ) : Type 0 where
+pub record AskedBelow (s : SwAllocState) (ready : List (List (Option ℕ))) (keys left : ℕ) (requests : List (Option SwGrant)) : Type 0 where
   pub next : ℕ
   pub walked : IsWalked keys left next s.ports
   pub requests_are : requests ≡ with_front next (named s ready) (replicate 7 None)
-  pub askers_are : AreAskers requests askers
 
 -- no input port asks
 pub askers_none : (requests : List (Option SwGrant)) (askers : ℕ) → requests ≡ replicate 7 None → askers ≡ 0 → AreAskers requests askers
@@ -118,32 +116,31 @@ asked_to s ready keys left n m r from within keyed none =
     named_unready s ready i r (omega arith) (λ v lv. none_where_not_some (cell ready i v None) (sym (keyed i v (omega arith) lv) ∙ none i v l l' lv))
     ∙ sym (get_or-replicate_same 7 i None))
 
-pub asked_start : (s : SwAllocState) (ready : List (List (Option ℕ))) (keys : ℕ) (requests : List (Option SwGrant)) (askers : ℕ) → requests ≡ replicate 7 None → askers ≡ 0
-    → AskedBelow s ready keys keys requests askers
-asked_start s ready keys requests askers e e' = record {
+pub asked_start : (s : SwAllocState) (ready : List (List (Option ℕ))) (keys : ℕ) (requests : List (Option SwGrant)) → requests ≡ replicate 7 None
+    → AskedBelow s ready keys keys requests
+asked_start s ready keys requests e = record {
   next = 0;
   walked = walked_start keys s.ports;
   requests_are = e ∙ sym (with_front_zero (named s ready) (replicate 7 None));
-  askers_are = askers_none requests askers e e';
 }
 
 -- a port that has yet to be asked has no request
-pub not_asked : (s : SwAllocState) (ready : List (List (Option ℕ))) (keys left left' port : ℕ) (requests : List (Option SwGrant)) (askers : ℕ) → AskedBelow s ready keys left requests askers → IsFirstPort left left' port
+pub not_asked : (s : SwAllocState) (ready : List (List (Option ℕ))) (keys left left' port : ℕ) (requests : List (Option SwGrant)) → AskedBelow s ready keys left requests → IsFirstPort left left' port
     → slice_index_or requests port None ≡ None
-not_asked s ready keys left left' port requests askers b f =
+not_asked s ready keys left left' port requests b f =
     let from = walked_from keys left left' b.next s.ports port b.walked f in
     ap (λ xs. slice_index_or xs port None) b.requests_are
     ∙ slice_index_or-with_front_past b.next port (named s ready) (replicate 7 None) None from
     ∙ get_or-replicate_same 7 port None
 
 -- the next port has been asked
-pub asked_more : (s : SwAllocState) (ready : List (List (Option ℕ))) (keys left left' port : ℕ) (requests requests' : List (Option SwGrant)) (askers askers' : ℕ)
+pub asked_more : (s : SwAllocState) (ready : List (List (Option ℕ))) (keys left left' port : ℕ) (requests requests' : List (Option SwGrant))
     → IsSwAlloc s.ports s.channels s.inputs s.outputs
     → ((p v : ℕ) → p < 7 → v < 8 → has keys p v ≡ is_some (cell ready p v None))
-    → AskedBelow s ready keys left requests askers → IsFirstPort left left' port → port < s.ports
-    → requests' ≡ slice_set requests port (named s ready port) → AreAskers requests' askers'
-    → AskedBelow s ready keys left' requests' askers'
-asked_more s ready keys left left' port requests requests' askers askers' r keyed b f within e e' =
+    → AskedBelow s ready keys left requests → IsFirstPort left left' port → port < s.ports
+    → requests' ≡ slice_set requests port (named s ready port)
+    → AskedBelow s ready keys left' requests'
+asked_more s ready keys left left' port requests requests' r keyed b f within e =
     let few = r.few_ports in
     let from = walked_from keys left left' b.next s.ports port b.walked f in
     record {
@@ -153,15 +150,14 @@ asked_more s ready keys left left' port requests requests' askers askers' r keye
           ∙ ap (λ xs. slice_set xs port (named s ready port))
           (b.requests_are ∙ asked_to s ready keys left b.next port r from (omega arith) keyed (λ p v l l' lv. walked_over keys left left' b.next s.ports port p v b.walked f l l' (omega arith) lv))
           ∙ slice_set-with_front port (named s ready) (replicate 7 None) None (omega arith);
-      askers_are = e';
     }
 
 -- all have been asked
-pub asked_all : (s : SwAllocState) (ready : List (List (Option ℕ))) (keys left : ℕ) (requests : List (Option SwGrant)) (askers : ℕ)
+pub asked_all : (s : SwAllocState) (ready : List (List (Option ℕ))) (keys left : ℕ) (requests : List (Option SwGrant))
     → IsSwAlloc s.ports s.channels s.inputs s.outputs
     → ((p v : ℕ) → p < 7 → v < 8 → has keys p v ≡ is_some (cell ready p v None))
-    → AskedBelow s ready keys left requests askers → left ≡ 0 → requests ≡ all_named s ready
-asked_all s ready keys left requests askers r keyed b e =
+    → AskedBelow s ready keys left requests → left ≡ 0 → requests ≡ all_named s ready
+asked_all s ready keys left requests r keyed b e =
     let few = b.walked.few in
     b.requests_are ∙ asked_to s ready keys left b.next s.ports r few (omega arith) keyed (λ p v l l' lv. walked_all keys left b.next s.ports p v b.walked e l l' lv)
 

@@ -15,7 +15,9 @@
 #![tactic(auto)]
 
 mod grant;
+mod named;
 mod sw_alloc;
 
 pub use grant::{ReadyOuts, SwGrant, SwGrants};
+pub use named::Named;
 pub use sw_alloc::SwAlloc;

@@ -5,8 +5,9 @@ ghost use Rattle.worm_swalloc.specs.Front.{with_front};
 ghost use Rattle.worm_swalloc.specs.SwAlloc.{SwAllocState, IsSwAlloc, IsSwitchMatching, AreChannelsBelow, AreAskers, request_of, named, all_named, is_for, channel_of, chosen, granted, sw_grants, sw_after, output_after, after_grant, with_choice, with_move};
 
 use crate::grant::{ReadyOuts, SwGrant, SwGrants};
+use crate::named::Named;
 use std::marker::Model;
-use worm_vcalloc::{Arbiter, ChannelSet};
+use worm_vcalloc::Arbiter;
 
 /// The allocator of the switch, separable and input first (Dally and Towles, chapter 19).
 ///
@@ -55,6 +56,13 @@ impl SwAlloc {
         }
     }
 
+    /// What holds of every allocator, for whoever has one.
+    pub fn is_sound(&self)
+        ensures { IsSwAlloc self.now.ports self.now.channels self.now.inputs self.now.outputs }
+    {
+        let _ports = self.ports;
+    }
+
     /// One pass over the ready channels: at most one grant for each input port and for each output
     /// port.
     pub fn grant(&mut self, ready: &ReadyOuts) -> SwGrants
@@ -64,49 +72,38 @@ impl SwAlloc {
     {
         // The proof of the first answer needs the widths of the arbiters.
         let _ = &self.ports;
-        let mut grants = [None; 7];
         if ready.keys().is_empty() {
-            return grants;
+            return [None; 7];
         }
-        let mut requests = [None; 7];
-        let mut askers = ChannelSet::new();
-        self.gather(ready, &mut requests, &mut askers);
-        self.choose(&requests, &askers, &mut grants);
-        grants
+        let mut named = Named::new();
+        self.gather(ready, &mut named);
+        self.grant_named(&named)
     }
 
-    /// Gathers what each input port names, and for each output port the input ports that ask for it.
-    fn gather(&self, ready: &ReadyOuts, requests: &mut SwGrants, askers: &mut ChannelSet)
-        requires requests { requests.old ≡ replicate 7 None }
-        requires askers { askers.old ≡ 0 }
-        ensures named { requests.new ≡ all_named self.now ready.now }
-        ensures askers { AreAskers requests.new askers.new }
+    /// Gathers what each input port names.
+    fn gather(&self, ready: &ReadyOuts, asked: &mut Named)
+        requires { asked.old ≡ replicate 7 None }
+        ensures named { asked.new ≡ all_named self.now ready.now }
         ensures ready { IsSwAlloc self.now.ports self.now.channels self.now.inputs self.now.outputs }
     {
         let ports = self.ports;
         let mut left = ready.keys();
         while let Some(port) = left.pop_port() {
             if port < ports {
-                self.ask(port, ready, requests, askers);
+                self.ask(port, ready, asked);
             }
         }
     }
 
     /// Adds what one input port names.
-    fn ask(&self, port: u8, ready: &ReadyOuts, requests: &mut SwGrants, askers: &mut ChannelSet)
+    fn ask(&self, port: u8, ready: &ReadyOuts, asked: &mut Named)
         requires port { port < self.now.ports }
         requires few { port < 7 }
-        requires none { slice_index_or requests.old port None ≡ None }
-        requires askers { AreAskers requests.old askers.old }
-        ensures named { requests.new ≡ slice_set requests.old port (named self.now ready.now port) }
-        ensures askers { AreAskers requests.new askers.new }
+        requires none { slice_index_or asked.old port None ≡ None }
+        ensures { asked.new ≡ slice_set asked.old port (named self.now ready.now port) }
     {
-        let Some(request) = self.request(port, ready) else {
-            return;
-        };
-        requests[port as usize] = Some(request);
-        if request.out < 7 {
-            askers.put(request.out, port, true);
+        if let Some(request) = self.request(port, ready) {
+            asked.put(port, request);
         }
     }
 
@@ -116,39 +113,54 @@ impl SwAlloc {
         ensures { result ≡ named self.now ready.now port }
     {
         let lines = ready_lines(ready, port, self.channels);
-        let vc = self.inputs[port as usize].peek(lines)?;
+        let vc = self.name(port, lines)?;
         ready.get(port, vc).map(|out| SwGrant { vc, out })
     }
 
-    /// The arbiter of each output port that is asked for chooses among its requests.
-    fn choose(&mut self, requests: &SwGrants, askers: &ChannelSet, grants: &mut SwGrants)
-        requires grants { grants.old ≡ replicate 7 None }
-        requires channels { AreChannelsBelow self.old.channels requests.now }
-        requires askers { AreAskers requests.now askers.now }
-        ensures grants { grants.new ≡ with_front self.old.ports (granted self.old requests.now self.old.ports) (replicate 7 None) }
-        ensures after { self.new ≡ record self.old { inputs = with_front self.old.ports (after_grant self.old grants.new) self.old.inputs; outputs = with_front self.old.ports (output_after self.old requests.now) self.old.outputs } }
+    /// The channel that an input port names among its ready ones, bit `vc` of `lines` for each: the first at its arbiter's pointer or
+    /// after it, cyclically. The pointer stays.
+    pub fn name(&self, port: u8, lines: u64) -> Option<u8>
+        requires port { port < self.now.ports }
+        requires lines { lines < 2 ^ self.now.channels }
+        ensures named { result ≡ winner (slice_index_or self.now.inputs port no_arbiter) (line_requests lines) }
+        ensures within { IfSome result (λ vc. vc < self.now.channels) }
+        ensures sound { IsSwAlloc self.now.ports self.now.channels self.now.inputs self.now.outputs }
+    {
+        self.inputs[port as usize].peek(lines)
+    }
+
+    /// The second half of a pass: the arbiter of each output port that is asked for chooses among the input ports that ask for it. It
+    /// moves, and so does that of the chosen input port, past the channel that it named.
+    pub fn grant_named(&mut self, named: &Named) -> SwGrants
+        requires { AreChannelsBelow self.old.channels named.now }
+        ensures grants { result ≡ with_front self.old.ports (granted self.old named.now self.old.ports) (replicate 7 None) }
+        ensures after { self.new ≡ record self.old { inputs = with_front self.old.ports (after_grant self.old result) self.old.inputs; outputs = with_front self.old.ports (output_after self.old named.now) self.old.outputs } }
     {
         let ports = self.ports;
-        let mut left = *askers;
+        let askers = named.askers();
+        let mut grants = [None; 7];
+        let mut left = askers;
         while let Some(out) = left.pop_port() {
             if out < ports {
-                self.choose_for(out, askers.row(out, ports), requests, grants);
+                self.choose_for(out, askers.row(out, ports), named, &mut grants);
             }
         }
+        grants
     }
 
     /// The arbiter of one output port chooses, and that of the chosen input port moves.
-    fn choose_for(&mut self, out: u8, lines: u64, requests: &SwGrants, grants: &mut SwGrants)
+    fn choose_for(&mut self, out: u8, lines: u64, named: &Named, grants: &mut SwGrants)
         requires out { out < self.old.ports }
-        requires channels { AreChannelsBelow self.old.channels requests.now }
+        requires channels { AreChannelsBelow self.old.channels named.now }
         requires few { lines < 2 ^ self.old.ports }
-        requires lines { (line : ℕ) → line < self.old.ports → line_requests lines line ≡ is_for (slice_index_or requests.now line None) out }
-        ensures grants { grants.new ≡ with_choice grants.old requests.now (chosen self.old requests.now out) }
-        ensures after { self.new ≡ record self.old { inputs = with_move self.old.inputs requests.now (chosen self.old requests.now out); outputs = slice_set self.old.outputs out (output_after self.old requests.now out) } }
+        requires lines { (line : ℕ) → line < self.old.ports → line_requests lines line ≡ is_for (slice_index_or named.now line None) out }
+        ensures grants { grants.new ≡ with_choice grants.old named.now (chosen self.old named.now out) }
+        ensures after { self.new ≡ record self.old { inputs = with_move self.old.inputs named.now (chosen self.old named.now out); outputs = slice_set self.old.outputs out (output_after self.old named.now out) } }
     {
         if let Some(port) = self.outputs[out as usize].pick(lines) {
-            grants[port as usize] = requests[port as usize];
-            self.commit(port, requests[port as usize]);
+            let request = named.get(port);
+            grants[port as usize] = request;
+            self.commit(port, request);
         }
     }
 

@@ -153,6 +153,7 @@ impl Source {
         ensures ok { IfOk result (λ n. (refusal self.old packet.now.lane false ≡ None) × (n ≡ next_number self.old packet.now.lane) × (self.new ≡ after_offer self.old packet.now)) }
         ensures fault { IfErr result (λ e. e ≡ unwrap_or (refusal self.old packet.now.lane false) OfferFault.NoMemory) }
         ensures err { OnErr result (self.new ≡ self.old) }
+        ensures there { OnOk result (packet.now.lane.class < length self.old.queues) }
     {
         let lane = packet.lane();
         let i = self.admit(lane, false)?;
@@ -175,6 +176,7 @@ impl Source {
         ensures ok { IfOk result (λ n. (refusal self.old lane true ≡ None) × (n ≡ next_number self.old lane) × (self.new ≡ after_close self.old lane)) }
         ensures fault { IfErr result (λ e. e ≡ unwrap_or (refusal self.old lane true) OfferFault.NoMemory) }
         ensures err { OnErr result (self.new ≡ self.old) }
+        ensures there { OnOk result (lane.class < length self.old.queues) }
     {
         let i = self.admit(lane, true)?;
         let number = self.lanes[i].next;

@@ -8,6 +8,7 @@ ghost use Rattle.worm_core.specs.Parts.{IsConfigOf, parts_state};
 use super::Fabric;
 use crate::config::copy_names;
 use crate::links::Links;
+use crate::nodes::Nodes;
 use crate::{Config, NetParts};
 use arrayvec::ArrayVec;
 use worm_flit::ClassChannels;
@@ -67,7 +68,7 @@ impl Fabric {
         };
         NetParts {
             config,
-            nodes,
+            nodes: nodes.into_list(),
             links: links.into_states(),
         }
     }
@@ -97,7 +98,7 @@ impl Fabric {
             classes: ClassChannels::new(channels.as_slice()),
             depth,
             names,
-            nodes,
+            nodes: Nodes::new(nodes),
         }
     }
 }

@@ -6,6 +6,7 @@ ghost use Rattle.worm_router.specs.Router.{terminal};
 ghost use Rattle.worm_term.specs.Source.{front_of};
 ghost use Rattle.worm_core.specs.Moves.{can_enter, front_credit, front_into};
 ghost use Rattle.worm_core.specs.State.{IsNet, router_at, source_at};
+ghost use Rattle.worm_core.specs.Still.{IsStill, nth_node};
 ghost use Rattle.worm_core.specs.Turns.{NodePasses};
 
 use super::Fabric;
@@ -35,19 +36,31 @@ impl Fabric {
         true
     }
 
+    /// Whether the node is found to be still; that is kept, so that it is not asked again until the node changes.
+    fn settles(&mut self, node: u8) -> bool
+        requires sound { IsNet self.old }
+        requires node { node < node_count self.old.mesh }
+        ensures still { IsTrue result → IsStill (nth_node self.old.nodes node) }
+        ensures same { self.new ≡ self.old }
+    {
+        if !self.node(node).router.is_at_rest() || !self.feeds_nothing(node) {
+            return false;
+        }
+        self.nodes.settle(node);
+        true
+    }
+
     /// Whether the node is at rest: what it would do in a turn once its source was asked would change nothing. Where it is at rest
     /// this may not be found.
-    pub fn is_at_rest(&self, node: u8) -> bool
-        requires sound { IsNet self.now }
-        requires node { node < node_count self.now.mesh }
-        ensures { IsTrue result → NodePasses node self.now None self.now }
+    pub fn rests(&mut self, node: u8) -> bool
+        requires sound { IsNet self.old }
+        requires node { node < node_count self.old.mesh }
+        ensures passes { IsTrue result → NodePasses node self.old None self.old }
+        ensures same { self.new ≡ self.old }
     {
         if !self.are_links_still(node) {
             return false;
         }
-        if !self.node(node).router.is_at_rest() {
-            return false;
-        }
-        self.feeds_nothing(node)
+        self.nodes.is_still(node) || self.settles(node)
     }
 }

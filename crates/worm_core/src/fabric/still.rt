@@ -1,10 +1,11 @@
 //! What is read of a fabric to pass over what would change nothing.
 
-ghost use Rattle.std.specs.Prelude.{ℕ, ◌≡◌, ◌<◌, ◌≤◌, ◌*◌, None, IfNone, IfSome, IsSome, IsTrue, length};
+ghost use Rattle.std.specs.Prelude.{ℕ, ◌≡◌, ◌<◌, ◌≤◌, ◌*◌, None, IfNone, IfSome, IsSome, IsTrue, length, replicate};
 ghost use Rattle.worm_mesh.specs.Address.{neighbour_of};
+ghost use Rattle.worm_router.specs.Allocation.{after_choose, switch_grants};
 ghost use Rattle.worm_router.specs.Busy.{IsSetOf, owes};
 ghost use Rattle.worm_core.specs.State.{router_at};
-ghost use Rattle.worm_core.specs.Moves.{front_credit, front_into};
+ghost use Rattle.worm_core.specs.Moves.{AreUnrouted, front_credit, front_into};
 
 use super::Fabric;
 use worm_vcalloc::ChannelSet;
@@ -36,5 +37,22 @@ impl Fabric {
         ensures { IsSetOf owes (router_at self.now node) result }
     {
         self.node(node).router.owing()
+    }
+
+    /// Whether no channel of the node may send. Where none may this may not be found.
+    pub fn sends_nothing(&self, node: u8) -> bool
+        requires { node < length self.now.nodes }
+        ensures chooses { IsTrue result → after_choose (router_at self.now node) ≡ router_at self.now node }
+        ensures grants { IsTrue result → switch_grants (router_at self.now node) ≡ replicate 7 None }
+    {
+        self.node(node).router.sends_nothing()
+    }
+
+    /// The channels of the node with a flit that lack a route.
+    pub fn unrouted(&self, node: u8) -> ChannelSet
+        requires { node < length self.now.nodes }
+        ensures { AreUnrouted (router_at self.now node) result }
+    {
+        self.node(node).unrouted()
     }
 }

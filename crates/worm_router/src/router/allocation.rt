@@ -1,4 +1,4 @@
-//! One pass of each allocator, over what the records state.
+//! One pass of the channel allocator, over what the records state.
 
 ghost use Rattle.std.specs.Prelude.{◌≡◌, ◌+◌, ◌≤◌, ◌<◌, ℕ, None, Some, IfSome, MatchOption, IsTrue, false, replicate};
 ghost use Rattle.worm_flit.specs.Channels.{class_bits};
@@ -12,7 +12,6 @@ ghost use Rattle.worm_router.specs.Allocation.{IsSameSize};
 
 use crate::router::Router;
 use worm_records::InRecord;
-use worm_swalloc::{ReadyOuts, SwGrants};
 use worm_vcalloc::{ChannelSet, FreeChannels, VcGrants, VcRequest, VcRequests};
 
 impl Router {
@@ -109,29 +108,6 @@ impl Router {
             self.add_free(out, &mut free);
         }
         free
-    }
-
-    /// The output port of an input channel that may send.
-    fn ready_out(&self, port: u8, vc: u8) -> Option<u8>
-        requires { IsPlace self.now port vc }
-        ensures { result ≡ ready_at self.now port vc }
-    {
-        match self.ready(port, vc) {
-            None => None,
-            Some((out, _)) => Some(out),
-        }
-    }
-
-    /// The input channels that may send, each with its output port.
-    fn ready_outs(&self) -> ReadyOuts
-        ensures { result ≡ ready_outs self.now }
-    {
-        let mut ready = ReadyOuts::new();
-        let mut left = self.candidates();
-        while let Some((port, vc)) = left.pop_first() {
-            ready.set(port, vc, self.ready_out(port, vc));
-        }
-        ready
     }
 
     /// Writes the grant of an input channel, if it has one, into the records.
@@ -234,20 +210,5 @@ impl Router {
             Some((port, vc)) if left.is_empty() => self.grant_sole(port, vc),
             Some(_) => self.grant_among(hopeful),
         }
-    }
-
-    /// One pass of the switch allocator over the channels that may send now (Dally and Towles, chapter 19). The
-    /// arbiters of the granted ports move on; nothing is sent.
-    pub fn choose(&mut self) -> SwGrants
-        ensures grants { result ≡ switch_grants self.old }
-        ensures after { self.new ≡ after_choose self.old }
-        ensures matching { IsSwitchMatching self.old.switch_alloc (ready_outs self.old) result }
-    {
-        if self.busy.candidates.is_empty() {
-            return [None; 7];
-        }
-        let ready = self.ready_outs();
-        self.busy.candidates = ready.keys();
-        self.switch_alloc.grant(&ready)
     }
 }

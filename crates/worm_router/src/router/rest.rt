@@ -36,8 +36,8 @@ impl Router {
         self.grants_nothing()
     }
 
-    /// Whether no channel may send.
-    fn sends_nothing(&self) -> bool
+    /// Whether no channel may send. Where none may this may not be found.
+    pub fn sends_nothing(&self) -> bool
         ensures chooses { IsTrue result → after_choose self.now ≡ self.now }
         ensures grants { IsTrue result → switch_grants self.now ≡ replicate 7 None }
     {

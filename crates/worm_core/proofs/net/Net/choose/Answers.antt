@@ -1,7 +1,8 @@
 use Rattle.std.proofs.Common.{subst}
-use Rattle.worm_core.specs.State.{NetState}
+use Rattle.worm_theory.specs.Steps.{IsThere, Send}
+use Rattle.worm_core.specs.State.{NetState, shape}
 use Rattle.worm_core.specs.Turns.{Reaches}
-use Rattle.worm_core.proofs.Allocating.{chosen_in}
+use Rattle.worm_core.proofs.Allocating.{chosen_in, ready_there}
 use Rattle.worm_core.proofs.net.Net.choose.Goals as goal
 
 pub invariant_of-self : goal.invariant_of-self
@@ -11,3 +12,8 @@ pub returns-clause-reaches : goal.returns-clause-reaches
 returns-clause-reaches c =
     subst (λ (s : NetState). Reaches s c.choose.new.self) c.self.view_is
     (rw c.choose.ensures.after (chosen_in c.self.inside.fabric c.args.node c.self.invariant (rw (c.self.view_is) c.requires)).1)
+
+pub returns-clause-there : goal.returns-clause-there
+returns-clause-there c = λ p g granted.
+    subst (λ (s : NetState). IsThere (shape s) (Send c.args.node p g.vc)) c.self.view_is
+    (ready_there c.self.inside.fabric c.args.node p g.vc c.self.invariant (rw (c.self.view_is) c.requires) (c.choose.ensures.ready.each p g granted))

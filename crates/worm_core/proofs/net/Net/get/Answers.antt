@@ -4,29 +4,30 @@ use Rattle.worm_core.specs.Shape.{net_shape}
 use Rattle.worm_core.specs.State.{NetState, shape}
 use Rattle.worm_core.specs.Answers.{Answers}
 use Rattle.worm_core.proofs.GetStep.{get_answers, credit_fits}
+use Rattle.worm_core.proofs.There.{not_found}
 use Rattle.worm_core.proofs.net.Net.get.Goals as goal
 
-pub returns-then-not-has_link : goal.returns-then-not-has_link
+pub returns-in_default : goal.returns-in_default
 unfolding net_shape
-returns-then-not-has_link c = (
+returns-in_default c = (
   subst (λ (s : NetState). IsThere (shape s) (TakeCredit c.args.node c.args.port) → ⊥) c.self.view_is
-      (λ there. let found = c.has_link.ensures.1 there in let missing = c.if-not-has_link.true in absurd (cc)),
+      (λ there. not_found (c.in_default.ensures.there.1 there)),
   refl,
 )
 
 pub get-requires-clause-front : goal.get-requires-clause-front
 unfolding net_shape
 get-requires-clause-front c =
-    credit_fits c.self.inside.fabric c.args.node c.args.port c.self.invariant (c.has_link.ensures.0 c.if-not-has_link.false)
+    credit_fits c.self.inside.fabric c.args.node c.args.port c.self.invariant (c.in-Some.ensures.there.0 refl)
 
 pub invariant_of-self : goal.invariant_of-self
 unfolding net_shape
 invariant_of-self c =
-    rw c.get.ensures.after (get_answers c.self.inside.fabric c.args.node c.args.port c.self.invariant (c.has_link.ensures.0 c.if-not-has_link.false) c.get.result c.get.ensures.enabled).0
+    rw c.get.ensures.after (get_answers c.self.inside.fabric c.args.node c.args.port c.self.invariant (c.in-Some.ensures.there.0 refl) c.get.result c.get.ensures.enabled).0
 
 pub returns : goal.returns
 unfolding net_shape
 returns c =
-    let a = (get_answers c.self.inside.fabric c.args.node c.args.port c.self.invariant (c.has_link.ensures.0 c.if-not-has_link.false) c.get.result c.get.ensures.enabled).1 in
+    let a = (get_answers c.self.inside.fabric c.args.node c.args.port c.self.invariant (c.in-Some.ensures.there.0 refl) c.get.result c.get.ensures.enabled).1 in
     let moved : Answers c.self.inside.fabric (TakeCredit c.args.node c.args.port) (Ok c.moved.result) c.get.new.self = rw (c.moved.ensures, c.get.ensures.after) a in
     subst (λ (s : NetState). Answers s (TakeCredit c.args.node c.args.port) (Ok c.moved.result) c.get.new.self) c.self.view_is moved

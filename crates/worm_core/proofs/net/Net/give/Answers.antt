@@ -1,9 +1,11 @@
-use Rattle.std.proofs.Common.{Ok, refl, subst}
+use Rattle.std.proofs.Common.{◌<◌, Ok, refl, subst, sym, ◌∙◌, false}
 use Rattle.worm_theory.specs.Steps.{GiveCredit, IsThere}
+use Rattle.worm_router.specs.Router.{input_at}
 use Rattle.worm_core.specs.Shape.{net_shape}
-use Rattle.worm_core.specs.State.{NetState, shape}
-use Rattle.worm_core.specs.Answers.{Answers}
-use Rattle.worm_core.proofs.GiveStep.{give_answers, give_room}
+use Rattle.worm_core.specs.State.{NetState, router_at, shape}
+use Rattle.worm_core.specs.Answers.{Answers, moved_of}
+use Rattle.worm_core.proofs.GiveStep.{gave_none}
+use Rattle.worm_core.proofs.Turning.{owing_some}
 use Rattle.worm_core.proofs.net.Net.give.Goals as goal
 
 pub returns-then-not-has_line : goal.returns-then-not-has_line
@@ -14,19 +16,13 @@ returns-then-not-has_line c = (
   refl,
 )
 
-pub give-requires-clause-room : goal.give-requires-clause-room
+pub returns-then-not-owes : goal.returns-then-not-owes
 unfolding net_shape
-give-requires-clause-room c =
-    give_room c.self.inside.fabric c.args.node c.args.port c.args.vc c.self.invariant (c.has_line.ensures.0 c.if-not-has_line.false)
+returns-then-not-owes c =
+    subst (λ (s : NetState). Answers s (GiveCredit c.args.node c.args.port c.args.vc) (Ok (moved_of false)) s) c.self.view_is
+    (gave_none c.self.inside.fabric c.args.node c.args.port c.args.vc c.self.invariant (c.has_line.ensures.0 c.if-not-has_line.false) (sym c.owes.ensures ∙ c.if-not-owes.true))
 
-pub invariant_of-self : goal.invariant_of-self
-unfolding net_shape
-invariant_of-self c =
-    rw c.give.ensures.after (give_answers c.self.inside.fabric c.args.node c.args.port c.args.vc c.self.invariant (c.has_line.ensures.0 c.if-not-has_line.false) c.give.result c.give.ensures.enabled).0
-
-pub returns : goal.returns
-unfolding net_shape
-returns c =
-    let a = (give_answers c.self.inside.fabric c.args.node c.args.port c.args.vc c.self.invariant (c.has_line.ensures.0 c.if-not-has_line.false) c.give.result c.give.ensures.enabled).1 in
-    let moved : Answers c.self.inside.fabric (GiveCredit c.args.node c.args.port c.args.vc) (Ok c.moved.result) c.give.new.self = rw (c.moved.ensures, c.give.ensures.after) a in
-    subst (λ (s : NetState). Answers s (GiveCredit c.args.node c.args.port c.args.vc) (Ok c.moved.result) c.give.new.self) c.self.view_is moved
+pub give_owed-requires-clause-owed : goal.give_owed-requires-clause-owed
+give_owed-requires-clause-owed c =
+    subst (λ (s : NetState). 0 < (input_at (router_at s c.args.node) c.args.port c.args.vc).owed) c.self.view_is
+    (owing_some (input_at (router_at c.self.inside.fabric c.args.node) c.args.port c.args.vc).owed (sym c.owes.ensures ∙ c.if-not-owes.false))

@@ -13,7 +13,7 @@ returns-in_err-send_granted c =
     let routed = does_then (RoutesChannels c.args.node) (Allocates c.args.node and_then SendsGranted c.args.node and_then GivesCredits c.args.node) c.feed_classes.new.self c.route_channels.new.self c.send_granted.new.self (Some c.in_err-send_granted.field-0.0) c.route_channels.ensures allocated in
     let fed = does_then (FeedsClasses c.args.node) (RoutesChannels c.args.node and_then Allocates c.args.node and_then SendsGranted c.args.node and_then GivesCredits c.args.node) c.take_flits.new.self c.feed_classes.new.self c.send_granted.new.self (Some c.in_err-send_granted.field-0.0) c.feed_classes.ensures routed in
     let taken = does_then (TakesFlits c.args.node) (FeedsClasses c.args.node and_then RoutesChannels c.args.node and_then Allocates c.args.node and_then SendsGranted c.args.node and_then GivesCredits c.args.node) c.take_credits.new.self c.take_flits.new.self c.send_granted.new.self (Some c.in_err-send_granted.field-0.0) c.take_flits.ensures fed in
-    rw (p.1, p.2) (does_then (TakesCredits c.args.node) (TakesFlits c.args.node and_then FeedsClasses c.args.node and_then RoutesChannels c.args.node and_then Allocates c.args.node and_then SendsGranted c.args.node and_then GivesCredits c.args.node) c.args.self.now c.take_credits.new.self c.send_granted.new.self (Some c.in_err-send_granted.field-0.0) c.take_credits.ensures taken)
+    rw (p.1, p.2) (does_then (TakesCredits c.args.node) (TakesFlits c.args.node and_then FeedsClasses c.args.node and_then RoutesChannels c.args.node and_then Allocates c.args.node and_then SendsGranted c.args.node and_then GivesCredits c.args.node) c.args.self.now c.take_credits.new.self c.send_granted.new.self (Some c.in_err-send_granted.field-0.0) (rw c.rests.ensures.same at c.take_credits.ensures) taken)
 
 pub returns : goal.returns
 returns c =
@@ -23,7 +23,7 @@ returns c =
     let routed = does_then (RoutesChannels c.args.node) (Allocates c.args.node and_then SendsGranted c.args.node and_then GivesCredits c.args.node) c.feed_classes.new.self c.route_channels.new.self c.give_credits.new.self None c.route_channels.ensures allocated in
     let fed = does_then (FeedsClasses c.args.node) (RoutesChannels c.args.node and_then Allocates c.args.node and_then SendsGranted c.args.node and_then GivesCredits c.args.node) c.take_flits.new.self c.feed_classes.new.self c.give_credits.new.self None c.feed_classes.ensures routed in
     let taken = does_then (TakesFlits c.args.node) (FeedsClasses c.args.node and_then RoutesChannels c.args.node and_then Allocates c.args.node and_then SendsGranted c.args.node and_then GivesCredits c.args.node) c.take_credits.new.self c.take_flits.new.self c.give_credits.new.self None c.take_flits.ensures fed in
-    does_then (TakesCredits c.args.node) (TakesFlits c.args.node and_then FeedsClasses c.args.node and_then RoutesChannels c.args.node and_then Allocates c.args.node and_then SendsGranted c.args.node and_then GivesCredits c.args.node) c.args.self.now c.take_credits.new.self c.give_credits.new.self None c.take_credits.ensures taken
+    does_then (TakesCredits c.args.node) (TakesFlits c.args.node and_then FeedsClasses c.args.node and_then RoutesChannels c.args.node and_then Allocates c.args.node and_then SendsGranted c.args.node and_then GivesCredits c.args.node) c.args.self.now c.take_credits.new.self c.give_credits.new.self None (rw c.rests.ensures.same at c.take_credits.ensures) taken
 
-pub returns-then-is_at_rest : goal.returns-then-is_at_rest
-returns-then-is_at_rest c = let still = does_nothing c.args.self.now in record { exact = c.is_at_rest.ensures c.if-is_at_rest.true; reaches = still.reaches }
+pub returns-then-rests : goal.returns-then-rests
+returns-then-rests c = let still = does_nothing c.args.self.now in rw c.rests.ensures.same record { exact = c.rests.ensures.passes c.if-rests.true; reaches = still.reaches }

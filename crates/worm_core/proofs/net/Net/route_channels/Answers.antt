@@ -1,12 +1,20 @@
-use Rattle.std.proofs.Common.{◌+◌, ◌*◌, None, arith, length, refl}
-use Rattle.worm_core.specs.Turns.{RoutesPort, all_ports}
-use Rattle.worm_core.proofs.Passages.{loop_more, does_for}
+use Rattle.std.proofs.Common.{◌+◌}
+use Rattle.worm_core.proofs.Routing.{routed_all, routed_more, routed_start}
 use Rattle.worm_core.proofs.net.Net.route_channels.Goals as goal
+
+pub loop-port-init : goal.loop-port-init
+loop-port-init c = (0, 0, routed_start c.args.node c.args.self.now c.unrouted-unrouted.result c.requires c.unrouted-unrouted.ensures.sound c.unrouted-unrouted.ensures.routes)
 
 pub loop-port-preserved : goal.loop-port-preserved
 loop-port-preserved c =
-    loop_more (RoutesPort c.args.node) c.loop-port.port c.args.self.now c.loop-port.self c.route_port.new.self None c.loop-port.invariant c.route_port.ensures
+    let inv = c.loop-port.invariant in (
+      c.in-Some.port,
+      c.in-Some.vc + 1,
+      routed_more c.args.node c.args.self.now c.loop-port.self c.route_channel.new.self c.loop-port.unrouted c.pop_first.new.self inv.0 inv.1 c.in-Some.port c.in-Some.vc inv.2 c.in-Some.ensures
+          c.route_channel.ensures.routed c.route_channel.ensures.others c.route_channel.ensures.sound,
+    )
 
 pub returns : goal.returns
 returns c =
-    does_for all_ports (RoutesPort c.args.node) (2 * length c.args.self.now.mesh + 1) c.loop-port.port c.args.self.now c.loop-port.self None refl (omega arith) c.loop-port.invariant
+    let inv = c.loop-port.invariant in
+    routed_all c.args.node c.args.self.now c.loop-port.self c.loop-port.unrouted inv.0 inv.1 inv.2 c.in_default.ensures.0

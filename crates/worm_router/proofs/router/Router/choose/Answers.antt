@@ -1,16 +1,38 @@
-use Rattle.std.proofs.Common.{refl, subst, ◌∙◌, sym, arith}
+use Rattle.std.proofs.Common.{◌≡◌, List, Option, None, replicate, refl, ap, subst, ◌∙◌, sym, arith}
 use Rattle.std.proofs.lemmas.Grind.{common_steps}
-use Rattle.worm_router.specs.Busy.{HasArbiters}
-use Rattle.worm_router.proofs.Filed.{busy_as}
-use Rattle.worm_router.proofs.SetFilled.{ready_keys}
+use Rattle.worm_swalloc.specs.declared.grant.SwGrant.{SwGrant}
+use Rattle.worm_swalloc.specs.Front.{with_front}
+use Rattle.worm_swalloc.specs.SwAlloc.{SwAllocState, IsSwitchMatching, granted, sw_after}
+use Rattle.worm_swalloc.proofs.SwLemmas.{matching, named_within, pass_is}
+use Rattle.worm_router.specs.Router.{RouterState, router_state}
+use Rattle.worm_router.specs.Allocation.{ready_outs, switch_grants, after_choose}
+use Rattle.worm_router.specs.Busy.{HasArbiters, AreCandidates}
 use Rattle.worm_router.specs.Rest.{SendsNothing}
+use Rattle.worm_router.proofs.Filed.{busy_as}
+use Rattle.worm_router.proofs.Switching.{ready_candidates}
 use Rattle.worm_router.proofs.NothingReady.{arbiters_stay, idle_choice}
 use Rattle.worm_router.proofs.Candidates.{none_ready_of}
 use Rattle.worm_router.proofs.Resting.{chooses_none, grants_none}
 use Rattle.worm_router.proofs.router.Router.choose.Goals as goal
 
-pub invariant_of-self : goal.invariant_of-self
-invariant_of-self c = record {
+-- the router as the code has it
+abbrev here : goal.After-grant_named → RouterState
+here c = router_state c.self.inside.mesh c.self.inside.node c.self.inside.classes c.self.inside.depth c.self.inside.inputs.items c.self.inside.outputs.items c.self.inside.channel_alloc c.self.inside.switch_alloc
+
+granted_are : (c : goal.After-grant_named) → c.grant_named.result ≡ switch_grants (here c)
+granted_are c =
+    let s : SwAllocState = c.self.inside.switch_alloc in
+    c.grant_named.ensures.grants ∙ ap (λ (requests : List (Option SwGrant)). with_front s.ports (granted s requests s.ports) (replicate 7 None)) c.name_ports.ensures.named
+
+passed : (c : goal.After-grant_named) → c.grant_named.new.self ≡ sw_after c.self.inside.switch_alloc (ready_outs (here c))
+passed c =
+    pass_is c.self.inside.switch_alloc c.grant_named.new.self (ready_outs (here c)) c.name_ports.new.asked c.grant_named.result c.self.invariant.arbiters.inputs c.name_ports.ensures.named (granted_are c) c.grant_named.ensures.after
+
+pub grant_named-requires : goal.grant_named-requires
+grant_named-requires c = named_within _ _ c.name_ports.new.asked c.name_ports.ensures.sound c.name_ports.ensures.named
+
+pub invariant_of-self-2 : goal.invariant_of-self-2
+invariant_of-self-2 c = record {
   router = record {
     lists = c.self.invariant.router.lists;
     allocators = record {
@@ -20,16 +42,28 @@ invariant_of-self c = record {
       switch_channels = grind (arith, common_steps);
     };
   };
-  arbiters = subst HasArbiters (sym c.grant.ensures.after) (arbiters_stay _ _ c.self.invariant.arbiters);
+  arbiters = subst HasArbiters (sym (passed c)) (arbiters_stay _ _ c.self.invariant.arbiters);
   busy = busy_as _ _ _ _ _ _ c.self.invariant.busy refl refl refl refl;
   in_vain = c.self.invariant.in_vain;
   holders = record { held = c.self.invariant.holders.held; fit = c.self.invariant.holders.fit };
+  candidates =
+      let are : AreCandidates (here c) c.ready_set-ready.result =
+      subst (λ (r : RouterState). AreCandidates r c.ready_set-ready.result) (sym c.self.view_is) (ready_candidates c.args.self.now c.ready_set-ready.result c.ready_set-ready.ensures) in
+      record { all = are.all; places = are.places };
   held = c.self.invariant.held;
   classes = c.self.invariant.classes;
-  candidates =
-      let keys = ready_keys _ c.args.self.now c.keys-self-inside.result c.ready_outs-ready.result c.self.view_is c.self.invariant.busy.few_ports c.self.invariant.busy.few_channels c.ready_outs-ready.ensures c.keys-self-inside.ensures in
-      record { all = keys.all; places = keys.places };
 }
+
+pub returns-clause-grants : goal.returns-clause-grants
+returns-clause-grants c = granted_are c ∙ ap switch_grants c.self.view_is
+
+pub returns-clause-after : goal.returns-clause-after
+returns-clause-after c = ap (λ (s : SwAllocState). record (here c) { switch_alloc = s }) (passed c) ∙ ap after_choose c.self.view_is
+
+pub returns-clause-matching : goal.returns-clause-matching
+returns-clause-matching c =
+    subst (λ (r : RouterState). IsSwitchMatching r.switch_alloc (ready_outs r) c.grant_named.result) c.self.view_is
+    (subst (IsSwitchMatching c.self.inside.switch_alloc (ready_outs (here c))) (sym (granted_are c)) (matching c.self.inside.switch_alloc (ready_outs (here c)) c.name_ports.ensures.sound))
 
 pub returns-then-is_empty-clause-grants : goal.returns-then-is_empty-clause-grants
 returns-then-is_empty-clause-grants c = sym (grants_none _ c.args.self.now _ _ c.self.view_is c.self.invariant (sym c.is_empty.ensures ∙ c.if-is_empty.true))

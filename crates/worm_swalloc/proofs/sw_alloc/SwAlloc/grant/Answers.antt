@@ -27,19 +27,19 @@ returns-then-is_empty-clause-matching c =
     let s : SwAllocState = record { ports = c.self.inside.ports; channels = c.self.inside.channels; inputs = c.self.inside.inputs; outputs = c.self.inside.outputs } in
     rw (← c.self.view_is) (subst (IsSwitchMatching s c.args.ready.now) (sw_grants_none s c.args.ready.now c.self.invariant (nothing_ready c)) (matching s c.args.ready.now c.self.invariant))
 
-pub choose-requires-clause-channels : goal.choose-requires-clause-channels
-choose-requires-clause-channels c = named_within c.args.self.now c.args.ready.now c.gather.new.requests c.gather.ensures.ready c.gather.ensures.named
+pub grant_named-requires : goal.grant_named-requires
+grant_named-requires c = named_within c.args.self.now c.args.ready.now c.gather.new.asked c.gather.ensures.ready c.gather.ensures.named
 
 pub returns-clause-after : goal.returns-clause-after
 returns-clause-after c =
     let s : SwAllocState = record { ports = c.self.inside.ports; channels = c.self.inside.channels; inputs = c.self.inside.inputs; outputs = c.self.inside.outputs } in
     let few = c.self.invariant.few_ports in
-    let is : c.choose.new.grants ≡ sw_grants c.args.self.now c.args.ready.now =
-    c.choose.ensures.grants ∙ ap (λ r. with_front c.args.self.now.ports (granted c.args.self.now r c.args.self.now.ports) (replicate 7 None)) c.gather.ensures.named in
-    pass_is c.args.self.now c.choose.new.self c.args.ready.now c.gather.new.requests c.choose.new.grants (rw (← c.self.view_is) (omega arith)) c.gather.ensures.named is c.choose.ensures.after
+    let is : c.grant_named.result ≡ sw_grants c.args.self.now c.args.ready.now =
+    c.grant_named.ensures.grants ∙ ap (λ r. with_front c.args.self.now.ports (granted c.args.self.now r c.args.self.now.ports) (replicate 7 None)) c.gather.ensures.named in
+    pass_is c.args.self.now c.grant_named.new.self c.args.ready.now c.gather.new.asked c.grant_named.result (rw (← c.self.view_is) (omega arith)) c.gather.ensures.named is c.grant_named.ensures.after
 
 pub returns-clause-matching : goal.returns-clause-matching
 returns-clause-matching c =
-    let is : c.choose.new.grants ≡ sw_grants c.args.self.now c.args.ready.now =
-    c.choose.ensures.grants ∙ ap (λ r. with_front c.args.self.now.ports (granted c.args.self.now r c.args.self.now.ports) (replicate 7 None)) c.gather.ensures.named in
+    let is : c.grant_named.result ≡ sw_grants c.args.self.now c.args.ready.now =
+    c.grant_named.ensures.grants ∙ ap (λ r. with_front c.args.self.now.ports (granted c.args.self.now r c.args.self.now.ports) (replicate 7 None)) c.gather.ensures.named in
     subst (IsSwitchMatching c.args.self.now c.args.ready.now) (sym is) (matching c.args.self.now c.args.ready.now c.gather.ensures.ready)

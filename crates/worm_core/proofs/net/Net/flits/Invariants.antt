@@ -1,0 +1,13 @@
+use Rattle.std.proofs.Common.{◌≡◌, ◌≤◌, ◌*◌, ◌^◌, length}
+use Rattle.worm_mesh.specs.Links.{sum_below}
+use Rattle.worm_core.specs.State.{sink_at}
+use Rattle.worm_core.specs.Totals.{injected_below}
+use Rattle.worm_core.proofs.net.Net.flits.Given as goal
+
+abbrev pub invariant-loop-node : goal.invariant-loop-node
+invariant-loop-node l = record {
+  injected : l.injected ≡ sum_below (λ x. injected_below l.self x (length l.self.channels)) l.node;
+  delivered : l.delivered ≡ sum_below (λ x. length (sink_at l.self x).delivered) l.node;
+  few_injected : l.injected ≤ l.node * (4 * 2 ^ 64);
+  few_delivered : l.delivered ≤ l.node * 2 ^ 64;
+}

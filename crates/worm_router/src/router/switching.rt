@@ -1,0 +1,98 @@
+//! One pass of the switch allocator, over what the records state.
+
+ghost use Rattle.std.specs.Prelude.{◌≡◌, ◌≤◌, ◌<◌, ℕ, None, is_some, replicate, slice_index_or, slice_set};
+ghost use Rattle.worm_vcalloc.specs.ChannelSet.{has};
+ghost use Rattle.worm_vcalloc.specs.Table.{cell};
+ghost use Rattle.worm_swalloc.specs.SwAlloc.{IsSwAlloc, IsSwitchMatching, all_named, named};
+ghost use Rattle.worm_router.specs.Router.{IsPlace, terminal, input_at, leaving};
+ghost use Rattle.worm_router.specs.Busy.{IsReadySet, port_held};
+ghost use Rattle.worm_router.specs.Allocation.{ready_outs, switch_grants, after_choose};
+
+use crate::router::Router;
+use worm_records::InRecord;
+use worm_swalloc::{Named, SwGrant, SwGrants};
+use worm_vcalloc::ChannelSet;
+
+impl Router {
+    /// Whether an input channel may send.
+    fn is_ready(&self, port: u8, vc: u8) -> bool
+        requires { IsPlace self.now port vc }
+        ensures { result ≡ is_some (leaving self.now port vc) }
+    {
+        self.ready(port, vc).is_some()
+    }
+
+    /// The input channels that may send.
+    fn ready_set(&self) -> ChannelSet
+        ensures { IsReadySet self.now result }
+    {
+        let mut ready = self.busy.candidates;
+        let mut left = ready;
+        while let Some((port, vc)) = left.pop_first() {
+            if !self.is_ready(port, vc) {
+                ready.put(port, vc, false);
+            }
+        }
+        ready
+    }
+
+    /// The output port whose channel an input channel holds, if it holds one.
+    fn held_port(&self, port: u8, vc: u8) -> Option<u8>
+        requires { IsPlace self.now port vc }
+        ensures { result ≡ port_held (input_at self.now port vc).state }
+    {
+        let channel = &self.inputs[self.line(port, vc)];
+        match channel.state() {
+            InRecord::Active { out, out_vc: _ } => Some(out),
+            _ => None,
+        }
+    }
+
+    /// Adds what one input port names among the channels that may send.
+    fn name_port(&self, port: u8, ready: &ChannelSet, asked: &mut Named)
+        requires port { port ≤ terminal self.now }
+        requires few { port < 7 }
+        requires ready { IsReadySet self.now ready.now }
+        requires none { slice_index_or asked.old port None ≡ None }
+        ensures { asked.new ≡ slice_set asked.old port (named self.now.switch_alloc (ready_outs self.now) port) }
+    {
+        let lines = ready.row(port, self.classes.total());
+        let Some(vc) = self.switch_alloc.name(port, lines) else {
+            return;
+        };
+        if let Some(out) = self.held_port(port, vc) {
+            asked.put(port, SwGrant { vc, out });
+        }
+    }
+
+    /// Gathers what each input port names among the channels that may send.
+    fn name_ports(&self, ready: &ChannelSet, asked: &mut Named)
+        requires ready { IsReadySet self.now ready.now }
+        requires none { asked.old ≡ replicate 7 None }
+        ensures named { asked.new ≡ all_named self.now.switch_alloc (ready_outs self.now) }
+        ensures sound { IsSwAlloc self.now.switch_alloc.ports self.now.switch_alloc.channels self.now.switch_alloc.inputs self.now.switch_alloc.outputs }
+    {
+        self.switch_alloc.is_sound();
+        let mut left = *ready;
+        while let Some(port) = left.pop_port() {
+            self.name_port(port, ready, asked);
+        }
+    }
+
+    /// One pass of the switch allocator over the channels that may send now (Dally and Towles, chapter 19). The
+    /// arbiters of the granted ports move on; nothing is sent.
+    pub fn choose(&mut self) -> SwGrants
+        ensures grants { result ≡ switch_grants self.old }
+        ensures after { self.new ≡ after_choose self.old }
+        ensures matching { IsSwitchMatching self.old.switch_alloc (ready_outs self.old) result }
+    {
+        if self.busy.candidates.is_empty() {
+            return [None; 7];
+        }
+        let ready = self.ready_set();
+        self.busy.candidates = ready;
+        let mut asked = Named::new();
+        self.name_ports(&ready, &mut asked);
+        self.switch_alloc.grant_named(&asked)
+    }
+}

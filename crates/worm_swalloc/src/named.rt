@@ -1,0 +1,73 @@
+ghost use Rattle.std.specs.Prelude.{◌≡◌, ◌<◌, None, Some, replicate, slice_index_or, slice_set};
+ghost use Rattle.worm_swalloc.specs.SwAlloc.{AreAskers};
+
+use crate::grant::{SwGrant, SwGrants};
+use std::marker::Model;
+use worm_vcalloc::ChannelSet;
+
+/// What the input ports name in the first half of a pass: each a ready channel of its own, with its output port. Beside the list it
+/// keeps the input ports filed by the output port that they ask for, so that the second half goes past all others.
+///
+/// ```text
+/// let mut named = Named::new();
+/// if let Some(vc) = alloc.name(port, ready_lines) { named.put(port, SwGrant { vc, out }); }
+/// let grants = alloc.grant_named(&named);
+/// ```
+#[derive(Drop)]
+pub struct Named {
+    /// By input port.
+    requests: SwGrants,
+    /// The input ports that ask for each output port: a channel stands for an input port here.
+    askers: ChannelSet,
+}
+
+impl Model for Named {
+    ghost use Rattle.std.specs.Prelude.{List, Option};
+    ghost use Rattle.worm_swalloc.specs.SwAlloc.{AreAskers};
+    ghost use Rattle.worm_swalloc.specs.declared.grant.SwGrant.{SwGrant};
+
+    ghost Value = { List (Option SwGrant) };
+
+    ghost view = { λ n. n.requests };
+
+    ghost invariant = { λ n. AreAskers n.requests n.askers };
+}
+
+impl Named {
+    /// No input port names anything.
+    pub fn new() -> Named
+        ensures { result ≡ replicate 7 None }
+    {
+        Named {
+            requests: [None; 7],
+            askers: ChannelSet::new(),
+        }
+    }
+
+    /// An input port that has named nothing names this. A request for an output port past the seventh is kept and never met.
+    pub fn put(&mut self, port: u8, request: SwGrant)
+        requires port { port < 7 }
+        requires none { slice_index_or self.old port None ≡ None }
+        ensures { self.new ≡ slice_set self.old port (Some request) }
+    {
+        self.requests[port as usize] = Some(request);
+        if request.out < 7 {
+            self.askers.put(request.out, port, true);
+        }
+    }
+
+    /// What an input port names, if anything.
+    pub fn get(&self, port: u8) -> Option<SwGrant>
+        requires { port < 7 }
+        ensures { result ≡ slice_index_or self.now port None }
+    {
+        self.requests[usize::from(port)]
+    }
+
+    /// The input ports that ask for each output port.
+    pub(crate) fn askers(&self) -> ChannelSet
+        ensures { AreAskers self.now result }
+    {
+        self.askers
+    }
+}
