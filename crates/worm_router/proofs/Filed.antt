@@ -110,7 +110,7 @@ set_fresh test t w depth count inputs none all counted = record {
 
 pub fresh_busy : (t w depth count : ℕ) (inputs : List ChannelState) (sets : BusyChannels) → t ≤ 6 → w ≤ 8
     → inputs ≡ replicate count (fresh_channel depth) → count ≡ (t + 1) * w
-    → sets ≡ record { occupied = 0; waiting = 0; active = 0; owing = 0; in_vain = false; candidates = 0; held = 0 }
+    → sets ≡ record { occupied = 0; waiting = 0; active = 0; owing = 0; in_vain = false; ready = 0; held = 0 }
     → AreBusy t w depth inputs sets
 fresh_busy t w depth count inputs sets few_ports few_channels all counted none = rw none record {
   few_ports = few_ports;

@@ -10,7 +10,7 @@ use Rattle.worm_router.specs.Busy.{IsKept, IsSetOf, is_occupied, is_waiting, is_
 use Rattle.worm_router.specs.Allocation.{switch_grants, after_choose}
 use Rattle.worm_router.specs.Rest.{OwesNothing}
 use Rattle.worm_router.specs.declared.busy.BusyChannels.{BusyChannels}
-use Rattle.worm_router.proofs.Candidates.{none_ready_of}
+use Rattle.worm_router.proofs.ReadySet.{none_ready_of}
 use Rattle.worm_router.proofs.NothingReady.{idle_grants, idle_choose}
 
 -- a channel with a flit that neither waits nor is active is idle; any other has nothing to route
@@ -28,14 +28,14 @@ owes_none r owing is none = λ p v p_in v_in.
     let e : nat_lt 0 (input_at r p v).owed ≡ false = sym (is.inside p v p_in v_in) ∙ has-empty owing p v none in
     grind (arith, nat_tests)
 
-pub chooses_none : (r s : RouterState) (sets : BusyChannels) (masks : List ℕ) → r ≡ s → IsKept r sets masks → (sets.candidates == 0) ≡ true → after_choose s ≡ s
+pub chooses_none : (r s : RouterState) (sets : BusyChannels) (masks : List ℕ) → r ≡ s → IsKept r sets masks → (sets.ready == 0) ≡ true → after_choose s ≡ s
 chooses_none r s sets masks same kept none =
     let ports = kept.router.allocators.switch_ports in
     let few = kept.busy.few_ports in
-    subst (λ (q : RouterState). after_choose q ≡ q) same (idle_choose r (omega arith) kept.arbiters (none_ready_of r sets.candidates kept.candidates none))
+    subst (λ (q : RouterState). after_choose q ≡ q) same (idle_choose r (omega arith) kept.arbiters (none_ready_of r sets.ready kept.ready none))
 
-pub grants_none : (r s : RouterState) (sets : BusyChannels) (masks : List ℕ) → r ≡ s → IsKept r sets masks → (sets.candidates == 0) ≡ true → switch_grants s ≡ replicate 7 None
+pub grants_none : (r s : RouterState) (sets : BusyChannels) (masks : List ℕ) → r ≡ s → IsKept r sets masks → (sets.ready == 0) ≡ true → switch_grants s ≡ replicate 7 None
 grants_none r s sets masks same kept none =
     let ports = kept.router.allocators.switch_ports in
     let few = kept.busy.few_ports in
-    subst (λ (q : RouterState). switch_grants q ≡ replicate 7 None) same (idle_grants r (omega arith) (none_ready_of r sets.candidates kept.candidates none))
+    subst (λ (q : RouterState). switch_grants q ≡ replicate 7 None) same (idle_grants r (omega arith) (none_ready_of r sets.ready kept.ready none))

@@ -8,105 +8,19 @@ use Rattle.worm_flit.specs.Stamps.{with_channel}
 use Rattle.worm_records.specs.declared.InRecord.{InRecord}
 use Rattle.worm_records.specs.declared.InRecord.TheVariants.{Idle, Waiting, Active}
 use Rattle.worm_vcalloc.specs.Arbiter.{no_arbiter, winner, line_requests}
-use Rattle.worm_vcalloc.specs.ChannelSet.{has, IsFirst, IsFirstPort, IsPut}
+use Rattle.worm_vcalloc.specs.ChannelSet.{has, IsFirstPort}
 use Rattle.worm_vcalloc.specs.Table.{cell}
 use Rattle.worm_vcalloc.proofs.ArbiterLemmas.{winner_requests}
-use Rattle.worm_vcalloc.proofs.SetLemmas.{has-zero}
 use Rattle.worm_swalloc.specs.declared.grant.SwGrant.{SwGrant}
 use Rattle.worm_swalloc.specs.SwAlloc.{IsSwAlloc, named, all_named, named_channel, request_of}
 use Rattle.worm_swalloc.proofs.SwLemmas.{AskedBelow, named_is, asked_start, asked_more, asked_all}
 use Rattle.worm_router.specs.Router.{RouterState, ChannelState, terminal, width, input_at, output_at, leaving, leaving_by}
 use Rattle.worm_router.specs.Allocation.{within, ready_at, ready_outs}
-use Rattle.worm_router.specs.Busy.{AreCandidates, IsReadySet, port_held}
+use Rattle.worm_router.specs.Busy.{IsReadySet, port_held}
 use Rattle.worm_router.proofs.TableRows.{cell-table}
 use Rattle.worm_router.proofs.SetFilled.{at_place}
 
--- ---- the set of those that may send
-
--- the candidates that are left to look at are kept so far, and each other channel is kept where it may send
-pub record IsSifted (r : RouterState) (left kept : ℕ) : Type 0 where
-  pub looked : (p v : ℕ) → p ≤ terminal r → v < width r → has left p v ≡ false → has kept p v ≡ is_some (leaving r p v)
-  pub unseen : (p v : ℕ) → p < 7 → v < 8 → has left p v ≡ true → has kept p v ≡ true
-  pub places : (p v : ℕ) → p < 7 → v < 8 → has kept p v ≡ true → (p ≤ terminal r) × (v < width r)
-
-pub sifting_begins : (r : RouterState) (all : ℕ) → AreCandidates r all → IsSifted r all all
-sifting_begins r all are = record {
-  looked = λ p v p_in v_in out. out ∙ sym (never p v p_in v_in out);
-  unseen = λ p v p_in v_in is. is;
-  places = are.places;
-} where
-  never : (p v : ℕ) → p ≤ terminal r → v < width r → has all p v ≡ false → is_some (leaving r p v) ≡ false
-  never p v p_in v_in out = elim (cases_Bool (is_some (leaving r p v))) [
-    | inl some ↦ absurd (true≢false (sym (are.all p v p_in v_in some) ∙ out))
-    | inr none ↦ none
-  ]
-
--- a candidate that may send stays
-pub sifted_stays : (r : RouterState) (left next kept port vc : ℕ) → terminal r ≤ 6 → width r ≤ 8 → IsSifted r left kept → IsFirst left next port vc → is_some (leaving r port vc) ≡ true → IsSifted r next kept
-sifted_stays r left next kept port vc few_ports few_channels s first ready = record {
-  looked = λ p v p_in v_in out. elim (cases_eq p port) [
-    | inl a ↦ elim (cases_eq v vc) [
-      | inl b ↦
-          s.unseen p v (omega arith) (omega arith) (ap (λ k. has left k v) a ∙ ap (λ k. has left port k) b ∙ first.was_in)
-          ∙ sym (ap (λ k. is_some (leaving r k v)) a ∙ ap (λ k. is_some (leaving r port k)) b ∙ ready)
-      | inr ne ↦ s.looked p v p_in v_in (sym (first.taken.elsewhere p v (omega arith) (omega arith) (λ _ e. ne e)) ∙ out)
-    ]
-    | inr ne ↦ s.looked p v p_in v_in (sym (first.taken.elsewhere p v (omega arith) (omega arith) (λ e _. ne e)) ∙ out)
-  ];
-  unseen = λ p v p_in v_in is. s.unseen p v p_in v_in (left_before p v p_in v_in is);
-  places = s.places;
-} where
-  left_before : (p v : ℕ) → p < 7 → v < 8 → has next p v ≡ true → has left p v ≡ true
-  left_before p v p_in v_in is = elim (cases_eq p port) [
-    | inl a ↦ elim (cases_eq v vc) [
-      | inl b ↦ absurd (true≢false (sym is ∙ ap (λ k. has next k v) a ∙ ap (λ k. has next port k) b ∙ first.taken.here))
-      | inr ne ↦ sym (first.taken.elsewhere p v p_in v_in (λ _ e. ne e)) ∙ is
-    ]
-    | inr ne ↦ sym (first.taken.elsewhere p v p_in v_in (λ e _. ne e)) ∙ is
-  ]
-
--- one that may not is taken out
-pub sifted_out : (r : RouterState) (left next kept fewer port vc : ℕ) → terminal r ≤ 6 → width r ≤ 8 → IsSifted r left kept → IsFirst left next port vc → is_some (leaving r port vc) ≡ false → IsPut kept fewer port vc false → IsSifted r next fewer
-sifted_out r left next kept fewer port vc few_ports few_channels s first never put = record {
-  looked = λ p v p_in v_in out. elim (cases_eq p port) [
-    | inl a ↦ elim (cases_eq v vc) [
-      | inl b ↦
-          ap (λ k. has fewer k v) a ∙ ap (λ k. has fewer port k) b ∙ put.here
-          ∙ sym (ap (λ k. is_some (leaving r k v)) a ∙ ap (λ k. is_some (leaving r port k)) b ∙ never)
-      | inr ne ↦
-          put.elsewhere p v (omega arith) (omega arith) (λ _ e. ne e)
-          ∙ s.looked p v p_in v_in (sym (first.taken.elsewhere p v (omega arith) (omega arith) (λ _ e. ne e)) ∙ out)
-    ]
-    | inr ne ↦
-        put.elsewhere p v (omega arith) (omega arith) (λ e _. ne e)
-        ∙ s.looked p v p_in v_in (sym (first.taken.elsewhere p v (omega arith) (omega arith) (λ e _. ne e)) ∙ out)
-  ];
-  unseen = λ p v p_in v_in is. elim (cases_eq p port) [
-    | inl a ↦ elim (cases_eq v vc) [
-      | inl b ↦ absurd (true≢false (sym is ∙ ap (λ k. has next k v) a ∙ ap (λ k. has next port k) b ∙ first.taken.here))
-      | inr ne ↦ put.elsewhere p v p_in v_in (λ _ e. ne e) ∙ s.unseen p v p_in v_in (sym (first.taken.elsewhere p v p_in v_in (λ _ e. ne e)) ∙ is)
-    ]
-    | inr ne ↦ put.elsewhere p v p_in v_in (λ e _. ne e) ∙ s.unseen p v p_in v_in (sym (first.taken.elsewhere p v p_in v_in (λ e _. ne e)) ∙ is)
-  ];
-  places = λ p v p_in v_in is. elim (cases_eq p port) [
-    | inl a ↦ elim (cases_eq v vc) [
-      | inl b ↦ absurd (true≢false (sym is ∙ ap (λ k. has fewer k v) a ∙ ap (λ k. has fewer port k) b ∙ put.here))
-      | inr ne ↦ s.places p v p_in v_in (sym (put.elsewhere p v p_in v_in (λ _ e. ne e)) ∙ is)
-    ]
-    | inr ne ↦ s.places p v p_in v_in (sym (put.elsewhere p v p_in v_in (λ e _. ne e)) ∙ is)
-  ];
-}
-
-pub sifted_all : (r : RouterState) (left kept : ℕ) → IsSifted r left kept → left ≡ 0 → IsReadySet r kept
-sifted_all r left kept s none = record {
-  inside = λ p v p_in v_in. s.looked p v p_in v_in (ap (λ k. has k p v) none ∙ has-zero p v);
-  outside = s.places;
-}
-
-pub ready_candidates : (r : RouterState) (set : ℕ) → IsReadySet r set → AreCandidates r set
-ready_candidates r set is = record { all = λ p v p_in v_in some. is.inside p v p_in v_in ∙ some; places = is.outside }
-
--- ---- its table
+-- ---- the table of those that may send
 
 some_mapped : (o : Option (ℕ × Flit)) → is_some (option_map (λ leave. leave.0) o) ≡ is_some o
 some_mapped None = refl

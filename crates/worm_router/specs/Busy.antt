@@ -1,5 +1,5 @@
 -- Which input channels have something to do: the sets that a router keeps beside its lists, so that a turn skips all others.
-use Rattle.std.specs.Prelude.{ℕ, ◌+◌, ◌*◌, ◌<◌, ◌≤◌, ◌≡◌, nat_lt, Bool, true, false, List, length, slice_index, slice_index_or, IsTrue, is_some, All, Option, Some, None}
+use Rattle.std.specs.Prelude.{ℕ, ◌+◌, ◌*◌, ◌<◌, ◌≤◌, ◌≡◌, ◌==◌, ◌&&◌, ◌||◌, nat_lt, Bool, true, false, List, length, slice_index, slice_index_or, IsTrue, is_some, All, Option, Some, None}
 use Rattle.worm_flit.specs.Channels.{class_bits}
 use Rattle.worm_records.specs.declared.InRecord.{InRecord}
 use Rattle.worm_records.specs.declared.InRecord.TheVariants.{Idle, Waiting, Active}
@@ -8,7 +8,7 @@ use Rattle.worm_vcalloc.specs.ChannelSet.{has}
 use Rattle.worm_swalloc.specs.SwAlloc.{SwAllocState}
 use Rattle.worm_router.specs.Allocation.{GrantsNothing}
 use Rattle.worm_router.specs.declared.busy.BusyChannels.{BusyChannels}
-use Rattle.worm_router.specs.Router.{ChannelState, RouterState, IsRouter, terminal, width, fresh_channel, free_output, input_at, output_at, leaving}
+use Rattle.worm_router.specs.Router.{ChannelState, RouterState, IsRouter, IsPlace, terminal, width, fresh_channel, free_output, input_at, output_at, leaving}
 
 -- an input channel has a flit
 abbrev pub is_occupied : ChannelState → Bool
@@ -69,11 +69,6 @@ pub record AreHolders (r : RouterState) : Type 0 where
   pub held : (p v o c : ℕ) → p ≤ terminal r → v < width r → (input_at r p v).state ≡ Active o c → (output_at r o c).holder ≡ Some (p, v)
   pub fit : All (λ u. IsHolder (terminal r) (width r) u.holder) r.outputs
 
--- a set has each input channel of a router that may send, and nothing but channels of it
-pub record AreCandidates (r : RouterState) (set : ℕ) : Type 0 where
-  pub all : (port vc : ℕ) → port ≤ terminal r → vc < width r → is_some (leaving r port vc) ≡ true → has set port vc ≡ true
-  pub places : (port vc : ℕ) → port < 7 → vc < 8 → has set port vc ≡ true → (port ≤ terminal r) × (vc < width r)
-
 -- a set has those output channels that are held
 pub record IsHeldIn (terminal width depth : ℕ) (outputs : List OutRecord) (set : ℕ) : Type 0 where
   pub all : (out vc : ℕ) → out ≤ terminal → vc < width → has set out vc ≡ is_some (slice_index_or outputs (out * width + vc) (free_output depth)).holder
@@ -82,6 +77,32 @@ pub record IsHeldIn (terminal width depth : ℕ) (outputs : List OutRecord) (set
 pub record IsReadySet (r : RouterState) (set : ℕ) : Type 0 where
   pub inside : (port vc : ℕ) → port ≤ terminal r → vc < width r → has set port vc ≡ is_some (leaving r port vc)
   pub outside : (port vc : ℕ) → port < 7 → vc < 8 → has set port vc ≡ true → (port ≤ terminal r) × (vc < width r)
+
+-- there is a credit for a flit of a channel in this state, at the output channel that it holds
+abbrev pub has_way : RouterState → InRecord → Bool
+has_way r Idle = false
+has_way r (Waiting o) = false
+has_way r (Active o c) = o == terminal r || nat_lt 0 (output_at r o c).credits
+
+-- and so many credits owed leave room for one more
+abbrev pub could_send : RouterState → ℕ → InRecord → ℕ → Bool
+could_send r port s owed = has_way r s && (port == terminal r || nat_lt owed r.depth)
+
+-- it holds this output channel
+abbrev pub is_of : InRecord → ℕ → ℕ → Bool
+is_of Idle out vc = false
+is_of (Waiting o) out vc = false
+is_of (Active o c) out vc = o == out && c == vc
+
+-- from one router to the next an input channel comes to be ready, and no other changes in that
+pub record IsWoken (old new : RouterState) (port vc : ℕ) : Type 0 where
+  pub place : IsPlace old port vc
+  pub ready : is_some (leaving new port vc) ≡ true
+  pub others : (p v : ℕ) → IsPlace old p v → ((p ≡ port) → (v ≡ vc) → ⊥) → is_some (leaving new p v) ≡ is_some (leaving old p v)
+
+-- none does
+abbrev pub NoneWoken : (old new : RouterState) → Type 0
+NoneWoken old new = (p v : ℕ) → IsPlace old p v → is_some (leaving new p v) ≡ is_some (leaving old p v)
 
 -- the output port whose channel an input channel holds
 abbrev pub port_held : InRecord → Option ℕ
@@ -107,6 +128,6 @@ pub record IsKept (r : RouterState) (sets : BusyChannels) (masks : List ℕ) : T
   pub busy : AreBusy (terminal r) (width r) r.depth r.inputs sets
   pub in_vain : IsTrue sets.in_vain → GrantsNothing r
   pub holders : AreHolders r
-  pub candidates : AreCandidates r sets.candidates
+  pub ready : IsReadySet r sets.ready
   pub held : IsHeldIn (terminal r) (width r) r.depth r.outputs sets.held
   pub classes : AreMasks r.channels masks

@@ -18,8 +18,8 @@ pub struct BusyChannels {
     pub owing: ChannelSet,
     /// That those that wait do so in vain: none of them can be granted an output channel. One-sided.
     pub in_vain: bool,
-    /// Those that may be ready to send: all that are, and others at which no pass has looked since something came.
-    pub candidates: ChannelSet,
+    /// Those that may send.
+    pub ready: ChannelSet,
     /// The output channels that are held.
     pub held: ChannelSet,
 }
@@ -50,7 +50,7 @@ fn join_if(set: &mut ChannelSet, port: u8, vc: u8, comes: bool)
 impl BusyChannels {
     /// No channel has anything to do.
     pub fn new() -> BusyChannels
-        ensures { result ≡ record { occupied = 0; waiting = 0; active = 0; owing = 0; in_vain = false; candidates = 0; held = 0 } }
+        ensures { result ≡ record { occupied = 0; waiting = 0; active = 0; owing = 0; in_vain = false; ready = 0; held = 0 } }
     {
         BusyChannels {
             occupied: ChannelSet::new(),
@@ -58,23 +58,24 @@ impl BusyChannels {
             active: ChannelSet::new(),
             owing: ChannelSet::new(),
             in_vain: false,
-            candidates: ChannelSet::new(),
+            ready: ChannelSet::new(),
             held: ChannelSet::new(),
         }
     }
 
-    /// Files a channel whose buffer was empty until a flit came.
-    pub fn file_first(&mut self, port: u8, vc: u8, channel: &InputChannel)
+    /// Files a channel whose buffer was empty until a flit came; `sends` where it can send what flits it has.
+    pub fn file_first(&mut self, port: u8, vc: u8, channel: &InputChannel, sends: bool)
         requires port { port < 7 }
         requires vc { vc < 8 }
         ensures occupied { IsPut self.old.occupied self.new.occupied port vc (is_occupied channel.now) }
         ensures in_vain { self.new.in_vain ≡ (self.old.in_vain && not (is_waiting channel.now)) }
-        ensures candidates { IsPut self.old.candidates self.new.candidates port vc (is_active channel.now) }
-        ensures others { self.new ≡ record self.old { occupied = self.new.occupied; in_vain = self.new.in_vain; candidates = self.new.candidates } }
+        ensures ready { IsPut self.old.ready self.new.ready port vc (sends && is_occupied channel.now) }
+        ensures others { self.new ≡ record self.old { occupied = self.new.occupied; in_vain = self.new.in_vain; ready = self.new.ready } }
     {
-        self.occupied.put(port, vc, channel.is_occupied());
+        let has_flit = channel.is_occupied();
+        self.occupied.put(port, vc, has_flit);
         self.in_vain = self.in_vain && !channel.is_waiting();
-        self.candidates.put(port, vc, channel.is_active());
+        self.ready.put(port, vc, sends && has_flit);
     }
 
     /// Files a channel that comes to wait, and may be granted what others wait for in vain.
@@ -88,28 +89,36 @@ impl BusyChannels {
         self.in_vain = false;
     }
 
-    /// Files a channel that was granted this channel of an output port.
-    pub fn file_active(&mut self, port: u8, vc: u8, out: u8, out_vc: u8)
+    /// Files a channel that was granted this channel of an output port; `sends` where it may send now.
+    pub fn file_active(&mut self, port: u8, vc: u8, out: u8, out_vc: u8, sends: bool)
         requires port { port < 7 }
         requires vc { vc < 8 }
         requires out { out < 7 }
         requires out_vc { out_vc < 8 }
         ensures waiting { IsPut self.old.waiting self.new.waiting port vc false }
         ensures active { IsPut self.old.active self.new.active port vc true }
-        ensures candidates { IsPut self.old.candidates self.new.candidates port vc true }
+        ensures ready { IsPut self.old.ready self.new.ready port vc sends }
         ensures held { IsPut self.old.held self.new.held out out_vc true }
-        ensures others { self.new ≡ record self.old { waiting = self.new.waiting; active = self.new.active; in_vain = false; candidates = self.new.candidates; held = self.new.held } }
+        ensures others { self.new ≡ record self.old { waiting = self.new.waiting; active = self.new.active; in_vain = false; ready = self.new.ready; held = self.new.held } }
     {
         self.waiting.put(port, vc, false);
         self.active.put(port, vc, true);
-        self.candidates.put(port, vc, true);
+        self.ready.put(port, vc, sends);
         self.held.put(out, out_vc, true);
         self.in_vain = false;
     }
 
-    /// Files a channel that let a flit out by this channel of an output port: it had one, held that and was a candidate. A
-    /// channel that still holds its output channel freed none.
-    pub fn file_left(&mut self, port: u8, vc: u8, channel: &InputChannel, out: u8, out_vc: u8)
+    /// Files a channel that let a flit out by this channel of an output port: it had one, held that and might send;
+    /// `follows` where a next flit has its credits. A channel that still holds its output channel freed none.
+    pub fn file_left(
+        &mut self,
+        port: u8,
+        vc: u8,
+        channel: &InputChannel,
+        out: u8,
+        out_vc: u8,
+        follows: bool,
+    )
         requires port { port < 7 }
         requires vc { vc < 8 }
         requires out { out < 7 }
@@ -117,21 +126,21 @@ impl BusyChannels {
         requires was_held { has self.old.held out out_vc ≡ true }
         requires had_flit { has self.old.occupied port vc ≡ true }
         requires held { has self.old.active port vc ≡ true }
-        requires was_candidate { has self.old.candidates port vc ≡ true }
+        requires was_ready { has self.old.ready port vc ≡ true }
         requires owes_no_less { has self.old.owing port vc ≡ true → owes channel.now ≡ true }
         ensures occupied { IsFiled self.old.occupied self.new.occupied port vc (is_occupied channel.now) }
         ensures active { IsFiled self.old.active self.new.active port vc (is_active channel.now) }
         ensures owing { IsFiled self.old.owing self.new.owing port vc (owes channel.now) }
         ensures in_vain { self.new.in_vain ≡ (self.old.in_vain && is_active channel.now) }
-        ensures candidates { IsFiled self.old.candidates self.new.candidates port vc (is_active channel.now && is_occupied channel.now) }
+        ensures ready { IsFiled self.old.ready self.new.ready port vc ((is_active channel.now && is_occupied channel.now) && follows) }
         ensures held { IsFiled self.old.held self.new.held out out_vc (is_active channel.now) }
-        ensures others { self.new ≡ record self.old { occupied = self.new.occupied; active = self.new.active; owing = self.new.owing; in_vain = self.new.in_vain; candidates = self.new.candidates; held = self.new.held } }
+        ensures others { self.new ≡ record self.old { occupied = self.new.occupied; active = self.new.active; owing = self.new.owing; in_vain = self.new.in_vain; ready = self.new.ready; held = self.new.held } }
     {
         let has_flit = channel.is_occupied();
         let holds = channel.is_active();
         leave_unless(&mut self.occupied, port, vc, has_flit);
         leave_unless(&mut self.active, port, vc, holds);
-        leave_unless(&mut self.candidates, port, vc, holds && has_flit);
+        leave_unless(&mut self.ready, port, vc, holds && has_flit && follows);
         leave_unless(&mut self.held, out, out_vc, holds);
         self.in_vain = self.in_vain && channel.is_active();
         join_if(&mut self.owing, port, vc, channel.owed() > 0);
@@ -143,21 +152,21 @@ impl BusyChannels {
         requires vc { vc < 8 }
         requires owed { has self.old.owing port vc ≡ true }
         ensures owing { IsFiled self.old.owing self.new.owing port vc (owes channel.now) }
-        ensures candidates { IsFiled self.old.candidates self.new.candidates port vc (woken || has self.old.candidates port vc) }
-        ensures others { self.new ≡ record self.old { owing = self.new.owing; candidates = self.new.candidates } }
+        ensures ready { IsFiled self.old.ready self.new.ready port vc (woken || has self.old.ready port vc) }
+        ensures others { self.new ≡ record self.old { owing = self.new.owing; ready = self.new.ready } }
     {
         leave_unless(&mut self.owing, port, vc, channel.owed() > 0);
-        join_if(&mut self.candidates, port, vc, woken);
+        join_if(&mut self.ready, port, vc, woken);
     }
 
-    /// Files that a credit has come for which this channel may have waited.
+    /// Files that a credit has come for which this channel waited, if any did.
     pub fn file_credit(&mut self, woken: Option<(u8, u8)>)
         requires { IfSome woken (λ place. (place.0 < 7) × (place.1 < 8)) }
-        ensures candidates { MatchOption woken (self.new.candidates ≡ self.old.candidates) (λ place. IsPut self.old.candidates self.new.candidates place.0 place.1 true) }
-        ensures others { self.new ≡ record self.old { candidates = self.new.candidates } }
+        ensures ready { MatchOption woken (self.new.ready ≡ self.old.ready) (λ place. IsPut self.old.ready self.new.ready place.0 place.1 true) }
+        ensures others { self.new ≡ record self.old { ready = self.new.ready } }
     {
         if let Some((port, vc)) = woken {
-            self.candidates.put(port, vc, true);
+            self.ready.put(port, vc, true);
         }
     }
 }

@@ -1,10 +1,11 @@
-ghost use Rattle.std.specs.Prelude.{◌≡◌, ◌+◌, ◌*◌, ◌≤◌, ◌<◌, ◌^◌, ◌↔◌, length, sum, IfOk, IfErr, OnOk, OnErr, IsOk, IsErr, IsSome, IfSome, IfNone, None, Some, ℕ, is_some, nat_lt, slice_get, replicate, if◌then◌else◌};
+ghost use Rattle.std.specs.Prelude.{◌≡◌, ◌==◌, ◌&&◌, ◌||◌, ◌+◌, ◌*◌, ◌≤◌, ◌<◌, ◌^◌, ◌↔◌, length, sum, IfOk, IfErr, OnOk, OnErr, IsOk, IsErr, IsSome, IfSome, IfNone, None, Some, ℕ, is_some, nat_lt, slice_get, replicate, if◌then◌else◌};
 ghost use Rattle.worm_flit.specs.Channels.{AreChannels};
 ghost use Rattle.worm_mesh.specs.Address.{node_count};
 ghost use Rattle.worm_router.specs.Router.{IsPlace, IsRouter, line, fresh_channel, free_output, fresh_router, input_at, output_at, terminal, width, after_accept, can_route, after_route, can_grant, after_grant, after_granting, leaving, MayLeave, passed, credit_of, after_send, after_gave, after_credit};
-ghost use Rattle.worm_router.specs.Busy.{IsSetOf, AreCandidates, AreMasks, is_occupied, is_waiting, is_active, owes};
+ghost use Rattle.worm_router.specs.Busy.{IsSetOf, AreMasks, is_occupied, is_waiting, is_active, owes};
 
 mod allocation;
+mod readiness;
 mod rest;
 mod switching;
 
@@ -97,6 +98,14 @@ fn pass(output: &mut OutRecord, flit: Flit, spent: u8)
     if is_closing(flit.kind) {
         output.holder = None;
     }
+}
+
+/// Whether a flit may follow one that left: there is a credit for it, and room for one more owed. `more_owed` and `spent` are
+/// what a flit costs.
+fn may_follow(owed: u8, more_owed: u8, credits: u8, spent: u8, depth: u8) -> bool
+    ensures { result ≡ ((spent == 0 || nat_lt 0 credits) && (more_owed == 0 || nat_lt owed depth)) }
+{
+    (spent == 0 || credits > 0) && (more_owed == 0 || owed < depth)
 }
 
 /// The channels of each class, as a bit for each. A class that is not there has none.
@@ -203,13 +212,6 @@ impl Router {
         self.busy.owing
     }
 
-    /// The input channels that may be ready to send: no other is.
-    fn candidates(&self) -> ChannelSet
-        ensures { AreCandidates self.now result }
-    {
-        self.busy.candidates
-    }
-
     /// The flit at place `i` of an input buffer, counted from the front.
     pub fn buffer_at(&self, port: u8, vc: u8, i: usize) -> Option<Flit>
         requires { IsPlace self.now port vc }
@@ -276,11 +278,12 @@ impl Router {
         ensures err { IfErr result (λ f. (f ≡ flit) × (self.new ≡ self.old)) }
     {
         let i = self.line(port, flit.vc);
+        let was_empty = !self.inputs[i].is_occupied();
+        let sends = was_empty && self.sends_what_comes(port, flit.vc);
         let channel = &mut self.inputs[i];
-        let was_empty = !channel.is_occupied();
         let put = channel.put(flit);
         if was_empty {
-            self.busy.file_first(port, flit.vc, channel);
+            self.busy.file_first(port, flit.vc, channel, sends);
         }
         put
     }
@@ -339,9 +342,10 @@ impl Router {
     {
         let i = self.line(port, vc);
         let o = self.line(out, out_vc);
+        let sends = self.sends_by(port, vc, out, out_vc);
         let channel = &mut self.inputs[i];
         channel.set_state(InRecord::Active { out, out_vc });
-        self.busy.file_active(port, vc, out, out_vc);
+        self.busy.file_active(port, vc, out, out_vc, sends);
         let output = &mut self.outputs[o];
         output.grant(port, vc);
     }
@@ -418,9 +422,11 @@ impl Router {
         let spent = self.credit_of(out);
         let channel = &mut self.inputs[i];
         channel.let_out(flit, more_owed);
-        self.busy.file_left(port, vc, channel, out, flit.vc);
         let output = &mut self.outputs[o];
         pass(output, flit, spent);
+        let follows = may_follow(channel.owed(), more_owed, output.credits, spent, self.depth);
+        self.busy
+            .file_left(port, vc, channel, out, flit.vc, follows);
     }
 
     /// The lowest channel of the port that owes a credit upstream.
@@ -444,8 +450,9 @@ impl Router {
         ensures { self.new ≡ after_gave self.old port vc }
     {
         let i = self.line(port, vc);
+        let owes_all = self.inputs[i].owed() == self.depth;
+        let woken = owes_all && self.waits_to_owe_less(port, vc);
         let channel = &mut self.inputs[i];
-        let woken = channel.is_active() && channel.owed() == self.depth;
         channel.give();
         self.busy.file_given(port, vc, channel, woken);
     }
@@ -460,15 +467,11 @@ impl Router {
     {
         let o = self.line(out_port, vc);
         let depth = self.depth;
-        let output = &mut self.outputs[o];
-        if output.credits == depth {
+        if self.outputs[o].credits == depth {
             return Err(TooMany);
         }
-        let woken = if output.credits == 0 {
-            output.holder
-        } else {
-            None
-        };
+        let woken = self.waits_for_credit(out_port, vc);
+        let output = &mut self.outputs[o];
         output.add_credit(depth);
         self.busy.file_credit(woken);
         Ok(())

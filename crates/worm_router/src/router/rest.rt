@@ -36,12 +36,12 @@ impl Router {
         self.grants_nothing()
     }
 
-    /// Whether no channel may send. Where none may this may not be found.
+    /// Whether no channel may send.
     pub fn sends_nothing(&self) -> bool
         ensures chooses { IsTrue result → after_choose self.now ≡ self.now }
         ensures grants { IsTrue result → switch_grants self.now ≡ replicate 7 None }
     {
-        self.busy.candidates.is_empty()
+        self.busy.ready.is_empty()
     }
 
     /// Whether no input channel owes a credit.

@@ -14,26 +14,11 @@ use worm_swalloc::{Named, SwGrant, SwGrants};
 use worm_vcalloc::ChannelSet;
 
 impl Router {
-    /// Whether an input channel may send.
-    fn is_ready(&self, port: u8, vc: u8) -> bool
-        requires { IsPlace self.now port vc }
-        ensures { result ≡ is_some (leaving self.now port vc) }
-    {
-        self.ready(port, vc).is_some()
-    }
-
     /// The input channels that may send.
     fn ready_set(&self) -> ChannelSet
         ensures { IsReadySet self.now result }
     {
-        let mut ready = self.busy.candidates;
-        let mut left = ready;
-        while let Some((port, vc)) = left.pop_first() {
-            if !self.is_ready(port, vc) {
-                ready.put(port, vc, false);
-            }
-        }
-        ready
+        self.busy.ready
     }
 
     /// The output port whose channel an input channel holds, if it holds one.
@@ -86,11 +71,10 @@ impl Router {
         ensures after { self.new ≡ after_choose self.old }
         ensures matching { IsSwitchMatching self.old.switch_alloc (ready_outs self.old) result }
     {
-        if self.busy.candidates.is_empty() {
+        if self.busy.ready.is_empty() {
             return [None; 7];
         }
         let ready = self.ready_set();
-        self.busy.candidates = ready;
         let mut asked = Named::new();
         self.name_ports(&ready, &mut asked);
         self.switch_alloc.grant_named(&asked)

@@ -12,5 +12,5 @@ invariant_of-self c = record {
   holders = c.self.invariant.holders;
   held = c.self.invariant.held;
   classes = c.self.invariant.classes;
-  candidates = c.self.invariant.candidates;
+  ready = c.self.invariant.ready;
 }

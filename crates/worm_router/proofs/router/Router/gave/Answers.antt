@@ -1,28 +1,31 @@
-use Rattle.std.proofs.Common.{◌≡◌, ◌==◌, ◌&&◌, sym, ap, ◌∙◌, inl, inr}
-use Rattle.worm_router.specs.Router.{ChannelState}
+use Rattle.std.proofs.Common.{◌<◌, subst, arith, ◌||◌, ◌≡◌, sym, ap, ◌∙◌, inl, inr}
+use Rattle.std.proofs.lemmas.Bool.{ne_eqb}
+use Rattle.worm_router.specs.Router.{RouterState, ChannelState, router_state}
 use Rattle.worm_router.specs.Busy.{is_occupied, is_waiting, is_active}
 use Rattle.worm_router.specs.declared.busy.BusyChannels.{BusyChannels}
 use Rattle.worm_router.proofs.Places.{input_of}
-use Rattle.worm_router.proofs.Kept.{input_set_sound, read_sound, give_sound}
+use Rattle.worm_router.proofs.Kept.{input_read, input_set_sound, read_sound, give_sound}
 use Rattle.worm_router.proofs.Filed.{busy_filed}
 use Rattle.worm_router.proofs.InVain.{vain_as}
 use Rattle.worm_router.proofs.Holders.{holders_in}
 use Rattle.worm_router.proofs.Held.{held_as}
-use Rattle.worm_router.proofs.Candidates.{candidates_given}
+use Rattle.worm_router.proofs.ReadySet.{ready_by, ready_given, gave_wakes}
 use Rattle.worm_router.proofs.router.Router.gave.Goals as goal
-use Rattle.worm_router.proofs.router.Router.gave.Goals.{then-is_active, else-is_active}
+use Rattle.worm_router.proofs.router.Router.gave.Goals.{then-owes_all, else-owes_all}
 
 pub invariant_of-self : goal.invariant_of-self
 invariant_of-self c =
+    let at : RouterState = router_state c.self.inside.mesh c.self.inside.node c.self.inside.classes c.self.inside.depth c.self.inside.inputs.items c.self.inside.outputs.items c.self.inside.channel_alloc c.self.inside.switch_alloc in
     let input = input_of _ c.args.self.now c.args.port c.args.vc c.line-i.result c.index_mut-channel.result.now c.self.view_is c.requires.place c.line-i.ensures.value c.line-i.ensures.in_inputs c.index_mut-channel.ensures.value in
     let had = read_sound _ _ _ _ _ c.index_mut-channel.result.now c.index_mut-channel.ensures.value input.within c.self.invariant.router.lists.inputs_sound in
-    let woken_is : c.if-is_active.woken ≡ (is_active c.index_mut-channel.result.now && (c.index_mut-channel.result.now.owed == c.self.inside.depth)) =
-    elim c.if-is_active.branch [
-      | then-is_active w ↦
-          w.woken-is ∙ ap (λ n. n == c.self.inside.depth) w.owed.ensures
-          ∙ sym (ap (λ b. b && (c.index_mut-channel.result.now.owed == c.self.inside.depth)) (sym c.is_active.ensures ∙ w.if-is_active.true))
-      | else-is_active w ↦ w.woken-is ∙ w.if-is_active.false ∙ sym (ap (λ b. b && (c.index_mut-channel.result.now.owed == c.self.inside.depth)) (sym c.is_active.ensures ∙ w.if-is_active.false))
-    ] in
+    let here = input_read _ c.args.self.now c.args.port c.args.vc c.line-i.result c.index_mut-channel.result.now c.self.view_is c.index_mut-channel.ensures.value c.line-i.ensures.value c.line-i.ensures.in_inputs in
+    let read = input_of _ c.args.self.now c.args.port c.args.vc c.line-i.result c.index.result.now c.self.view_is c.requires.place c.line-i.ensures.value c.line-i.ensures.in_inputs c.index.ensures in
+    let owed_some : 0 < c.index_mut-channel.result.now.owed = subst (λ (x : ChannelState). 0 < x.owed) (sym here) c.requires.owed in
+    let wakes : (c.if-owes_all.woken || ready_by at c.args.port c.index_mut-channel.result.now) ≡ ready_by at c.args.port c.give.new.self =
+    gave_wakes at c.args.self.now c.args.port c.args.vc c.line-i.result c.index_mut-channel.result.now c.give.new.self c.if-owes_all.woken c.self.view_is input c.give.ensures (omega (arith, owed_some)) had.owed_fits (elim c.if-owes_all.branch [
+      | then-owes_all w ↦ inl (w.woken-is ∙ w.waits_to_owe_less-woken.ensures)
+      | else-owes_all w ↦ inr (w.woken-is ∙ ne_eqb _ _ w.if-owes_all.false, λ full. w.if-owes_all.false (c.owed.ensures ∙ ap (λ (x : ChannelState). x.owed) (read.was ∙ sym input.was) ∙ full))
+    ]) in
     record {
       router = record {
         lists = input_set_sound _ _ _ _ _ _ _ _ c.self.invariant.router.lists (give_sound _ _ _ _ _ had c.give.ensures);
@@ -39,5 +42,5 @@ invariant_of-self c =
       holders = holders_in _ _ _ _ _ _ input (λ o k holds. sym (ap (λ (x : ChannelState). x.state) c.give.ensures) ∙ holds) c.self.invariant.holders;
       held = held_as _ _ _ _ _ _ c.self.invariant.held (ap (λ (b : BusyChannels). b.held) c.file_given.ensures.others);
       classes = c.self.invariant.classes;
-      candidates = candidates_given _ _ _ _ _ _ _ _ _ input c.self.invariant.busy.few_ports c.self.invariant.busy.few_channels c.give.ensures had.owed_fits woken_is c.file_given.ensures.candidates c.self.invariant.candidates;
+      ready = ready_given _ _ _ _ _ _ _ _ c.if-owes_all.woken input c.self.invariant.busy.few_ports c.self.invariant.busy.few_channels wakes c.file_given.ensures.ready c.self.invariant.ready;
     }

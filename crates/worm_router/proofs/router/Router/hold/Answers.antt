@@ -1,24 +1,32 @@
-use Rattle.std.proofs.Common.{is_some, ◌<◌, ◌*◌, ◌∙◌, ap, sym, subst, inl, inr, true, false, ◌≡◌, sum, length, arith}
+use Rattle.std.proofs.Common.{◌&&◌, is_some, ◌<◌, ◌*◌, ◌∙◌, ap, sym, subst, inl, inr, true, false, ◌≡◌, sum, length, arith}
 use Rattle.std.proofs.lemmas.Grind.{common_steps, elements}
+use Rattle.worm_records.specs.declared.InRecord.TheVariants.{Active}
 use Rattle.worm_records.specs.declared.OutRecord.{OutRecord}
 use Rattle.worm_vcalloc.specs.ChannelSet.{IsPut}
-use Rattle.worm_router.specs.Router.{ChannelState, free_output}
-use Rattle.worm_router.specs.Busy.{is_occupied, is_waiting, is_active, owes}
+use Rattle.worm_router.specs.Router.{RouterState, ChannelState, router_state, free_output}
+use Rattle.worm_router.specs.Busy.{could_send, is_occupied, is_waiting, is_active, owes}
 use Rattle.worm_router.specs.declared.busy.BusyChannels.{BusyChannels}
 use Rattle.worm_router.proofs.Places.{input_of, output_of, output_read}
-use Rattle.worm_router.proofs.Kept.{full_after, full_before}
+use Rattle.worm_router.proofs.Kept.{full_after, full_before, input_read}
 use Rattle.worm_router.proofs.Filed.{busy_filed, filed}
 use Rattle.worm_router.proofs.Holders.{holders_held}
 use Rattle.worm_router.proofs.Held.{held_filed}
-use Rattle.worm_router.proofs.Candidates.{candidates_held}
+use Rattle.worm_router.proofs.ReadySet.{ready_held}
 use Rattle.worm_router.proofs.router.Router.hold.Goals as goal
 
 pub invariant_of-self : goal.invariant_of-self
 invariant_of-self c =
+    let at : RouterState = router_state c.self.inside.mesh c.self.inside.node c.self.inside.classes c.self.inside.depth c.self.inside.inputs.items c.self.inside.outputs.items c.self.inside.channel_alloc c.self.inside.switch_alloc in
     let within : c.line-o.result < length c.self.inside.outputs.items = grind (arith, common_steps) in
     let input = input_of _ c.args.self.now c.args.port c.args.vc c.line-i.result c.index_mut-channel.result.now c.self.view_is c.requires.place c.line-i.ensures.value c.line-i.ensures.in_inputs c.index_mut-channel.ensures.value in
     let output = output_of _ c.args.self.now c.args.out c.args.out_vc c.line-o.result c.index_mut-output.result.now c.self.view_is c.requires.out_place c.line-o.ensures.value c.line-o.ensures.in_outputs c.index_mut-output.ensures.value in
     let read = output_read _ c.args.self.now c.args.out c.args.out_vc c.line-o.result c.index_mut-output.result.now c.self.view_is c.index_mut-output.ensures.value c.line-o.ensures.value c.line-o.ensures.in_outputs in
+    let here = input_read _ c.args.self.now c.args.port c.args.vc c.line-i.result c.index_mut-channel.result.now c.self.view_is c.index_mut-channel.ensures.value c.line-i.ensures.value c.line-i.ensures.in_inputs in
+    let sends : c.sends_by-sends.result ≡ (could_send at c.args.port (Active c.args.out c.args.out_vc) c.index_mut-channel.result.now.owed && is_occupied c.index_mut-channel.result.now) =
+    c.sends_by-sends.ensures
+    ∙ sym (ap (λ (x : ChannelState). could_send c.args.self.now c.args.port (Active c.args.out c.args.out_vc) x.owed && is_occupied x) here)
+    ∙ sym (ap (λ (r : RouterState). could_send r c.args.port (Active c.args.out c.args.out_vc) c.index_mut-channel.result.now.owed && is_occupied c.index_mut-channel.result.now) c.self.view_is) in
+    let put = subst (IsPut c.self.inside.busy.ready c.file_active.new.self.ready c.args.port c.args.vc) sends c.file_active.ensures.ready in
     record {
       router = record {
         lists = record {
@@ -43,5 +51,5 @@ invariant_of-self c =
       holders = holders_held _ _ _ _ _ _ _ _ _ _ _ input output (ap (λ (x : ChannelState). x.state) c.set_state.ensures) (ap (λ (v : OutRecord). v.holder) read ∙ c.requires.free) (ap (λ (v : OutRecord). v.holder) c.grant.ensures) c.self.invariant.holders;
       held = held_filed _ _ _ _ _ _ _ _ true output c.self.invariant.busy.few_ports c.self.invariant.busy.few_channels (filed _ _ _ _ _ c.file_active.ensures.held) (ap (λ (v : OutRecord). is_some v.holder) c.grant.ensures) c.self.invariant.held;
       classes = c.self.invariant.classes;
-      candidates = candidates_held _ _ _ _ _ _ _ _ _ _ _ _ _ input output c.self.invariant.busy.few_ports c.self.invariant.busy.few_channels c.file_active.ensures.candidates (ap (λ (v : OutRecord). v.credits) c.grant.ensures) c.self.invariant.candidates;
+      ready = ready_held _ _ _ _ _ _ _ _ _ _ _ _ _ input output c.self.invariant.busy.few_ports c.self.invariant.busy.few_channels c.set_state.ensures put (ap (λ (v : OutRecord). v.credits) c.grant.ensures) c.self.invariant.ready;
     }

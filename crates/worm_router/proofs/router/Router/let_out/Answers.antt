@@ -1,11 +1,11 @@
-use Rattle.std.proofs.Common.{is_some, arith, true, false, if◌then◌else◌, None, inl, inr, ◌∙◌, ap, sym, subst, ◌≤◌, ◌<◌, ◌+◌, ◌≡◌, ◌*◌, ℕ, sum, length}
+use Rattle.std.proofs.Common.{◌==◌, ◌&&◌, ◌||◌, nat_lt, is_some, arith, true, false, if◌then◌else◌, None, inl, inr, ◌∙◌, ap, sym, subst, ◌≤◌, ◌<◌, ◌+◌, ◌≡◌, ◌*◌, ℕ, sum, length}
 use Rattle.std.proofs.lemmas.Grind.{common_steps}
 use Rattle.std.proofs.lemmas.List.Elements.{All-get_or}
 use Rattle.std.proofs.lemmas.Bool.{and_parts}
 use Rattle.worm_flit.specs.Kinds.{closes}
 use Rattle.worm_records.specs.declared.InRecord.TheVariants.{Active}
 use Rattle.worm_records.specs.declared.OutRecord.{OutRecord}
-use Rattle.worm_router.specs.Router.{IsPlace, RouterState, ChannelState, input_at, IsRouter, IsChannel, free_output, terminal, width}
+use Rattle.worm_router.specs.Router.{IsPlace, credit_of, RouterState, ChannelState, input_at, IsRouter, IsChannel, free_output, terminal, width}
 use Rattle.worm_router.proofs.Kept.{both_set_sound, input_read, let_out_sound, full_after, full_before, no_credit}
 use Rattle.worm_router.specs.Busy.{is_waiting, is_active, is_occupied, owes}
 use Rattle.worm_router.specs.declared.busy.BusyChannels.{BusyChannels}
@@ -15,7 +15,7 @@ use Rattle.worm_router.proofs.Leaving.{may_leave, leaves_active, leaves_by_state
 use Rattle.worm_router.proofs.InVain.{vain_left, holds_open, holds_waits_not, waits_not_after}
 use Rattle.worm_router.proofs.Holders.{holders_left}
 use Rattle.worm_router.proofs.Held.{held_filed, freed_or_held, held_by, has_held}
-use Rattle.worm_router.proofs.Candidates.{candidates_left}
+use Rattle.worm_router.proofs.ReadySet.{ready_left}
 use Rattle.worm_router.proofs.router.Router.let_out.Goals as goal
 
 pub pass-requires : goal.pass-requires
@@ -78,7 +78,12 @@ invariant_of-self c =
           ∙ sym (ap is_active c.let_out.ensures))
           c.self.invariant.held;
       classes = c.self.invariant.classes;
-      candidates = candidates_left _ _ _ _ _ _ _ _ _ _ _ c.credit_of-spent.result _ _ input output c.self.invariant.busy.few_ports c.self.invariant.busy.few_channels c.file_left.ensures.candidates (ap (λ (u : OutRecord). u.credits) c.pass.ensures) c.self.invariant.candidates;
+      ready = ready_left _ _ _ _ _ _ _ _ _ _ _ c.credit_of-spent.result c.credit_of-more_owed.result _ _ (closes c.args.flit.kind) c.may_follow-follows.result input output c.self.invariant.busy.few_ports c.self.invariant.busy.few_channels held_it
+          (ap (λ (x : ChannelState). x.state) c.let_out.ensures)
+          (c.credit_of-spent.ensures.value ∙ ap (λ (r : RouterState). credit_of r c.args.out) (sym c.self.view_is))
+          (c.credit_of-more_owed.ensures.value ∙ ap (λ (r : RouterState). credit_of r c.args.port) (sym c.self.view_is))
+          (c.may_follow-follows.ensures ∙ ap (λ n. (c.credit_of-spent.result == 0 || nat_lt 0 c.pass.new.output.credits) && (c.credit_of-more_owed.result == 0 || nat_lt n c.self.inside.depth)) c.owed.ensures)
+          c.file_left.ensures.ready c.self.invariant.holders c.self.invariant.ready;
     }
 
 pub file_left-requires-clause-was_held : goal.file_left-requires-clause-was_held

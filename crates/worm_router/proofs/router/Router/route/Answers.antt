@@ -1,6 +1,6 @@
 use Rattle.std.proofs.Common.{subst, sym, ap, ◌∙◌, inl, inr, true, false, ◌≡◌, arith}
 use Rattle.worm_vcalloc.specs.ChannelSet.{IsPut}
-use Rattle.worm_router.specs.Busy.{AreCandidates, is_occupied, is_waiting, is_active, owes, holds}
+use Rattle.worm_router.specs.Busy.{IsReadySet, is_occupied, is_waiting, is_active, owes, holds}
 use Rattle.worm_router.specs.declared.busy.BusyChannels.{BusyChannels}
 use Rattle.worm_router.specs.Router.{ChannelState}
 use Rattle.worm_router.proofs.Places.{input_of}
@@ -9,7 +9,7 @@ use Rattle.worm_router.proofs.Filed.{busy_filed, filed}
 use Rattle.worm_records.specs.declared.InRecord.TheVariants.{Idle}
 use Rattle.worm_router.proofs.Holders.{holders_in}
 use Rattle.worm_router.proofs.Held.{held_as}
-use Rattle.worm_router.proofs.Candidates.{candidates_waiting}
+use Rattle.worm_router.proofs.ReadySet.{ready_waiting}
 use Rattle.worm_router.proofs.router.Router.route.Goals as goal
 use Rattle.worm_router.proofs.router.Router.route.Goals.{in-Idle, in_default}
 
@@ -35,5 +35,5 @@ invariant_of-self c =
       holders = holders_in _ _ _ _ _ _ input (λ o k holds. let unlike = sym (ap (λ (x : ChannelState). x.state) c.set_state.ensures) ∙ holds in absurd (cc)) c.self.invariant.holders;
       held = held_as _ _ _ _ _ _ c.self.invariant.held (ap (λ (b : BusyChannels). b.held) c.file_waiting.ensures.others);
       classes = c.self.invariant.classes;
-      candidates = subst (AreCandidates _) (sym (ap (λ (b : BusyChannels). b.candidates) c.file_waiting.ensures.others)) (candidates_waiting _ _ _ _ _ _ _ input c.self.invariant.busy.few_ports c.self.invariant.busy.few_channels (ap is_active c.set_state.ensures) c.self.invariant.candidates);
+      ready = subst (IsReadySet _) (sym (ap (λ (b : BusyChannels). b.ready) c.file_waiting.ensures.others)) (ready_waiting _ _ _ _ _ _ _ input c.self.invariant.busy.few_ports c.self.invariant.busy.few_channels was_idle (ap is_active c.set_state.ensures) c.self.invariant.ready);
     }
