@@ -45,12 +45,12 @@ pub struct Router {
     inputs: Vec<InputChannel>,
     /// The records of the output channels. The terminal's always have `depth` credits.
     outputs: Vec<OutRecord>,
-    /// The allocator of output channels.
-    channel_alloc: VcAlloc,
     /// The allocator of the switch.
     switch_alloc: SwAlloc,
     /// Which input channels have something to do.
     busy: BusyChannels,
+    /// The allocator of output channels. It stands last: a turn mostly reads what is before it, and seldom this.
+    channel_alloc: VcAlloc,
 }
 
 impl Model for Router {
