@@ -44,6 +44,22 @@ impl Ring {
     }
 }
 
+/// The bits of a set, rising.
+struct Bits(u64);
+
+impl Iterator for Bits {
+    type Item = usize;
+
+    fn next(&mut self) -> Option<usize> {
+        if self.0 == 0 {
+            return None;
+        }
+        let bit = self.0.trailing_zeros() as usize;
+        self.0 &= self.0 - 1;
+        Some(bit)
+    }
+}
+
 /// An input channel: its buffer, the output channel that it waits for or holds, and the credits that it owes.
 #[derive(Clone, Copy, Default)]
 struct Input {
@@ -213,10 +229,7 @@ impl Network {
     fn take_credits(&mut self, node: usize) {
         let (room, terminal) = (self.classes * self.depth, self.terminal());
         let here = &mut self.nodes[node];
-        let mut left = here.credits_in;
-        while left != 0 {
-            let port = left.trailing_zeros() as usize;
-            left &= left - 1;
+        for port in Bits(here.credits_in.into()) {
             let number = self.ports[node].out[port] as usize;
             let link = &mut self.links[number];
             let vc = link.credits.pop(&self.link_credits[number * room..][..room]) as usize;
@@ -235,10 +248,7 @@ impl Network {
         let room = self.classes * self.depth;
         let terminal = self.terminal();
         let here = &mut self.nodes[node];
-        let mut left = here.flits_in;
-        while left != 0 {
-            let port = left.trailing_zeros() as usize;
-            left &= left - 1;
+        for port in Bits(here.flits_in.into()) {
             let number = self.ports[node].into[port] as usize;
             let link = &mut self.links[number];
             let flit = link.flits.pop(&self.link_flits[number * room..][..room]);
@@ -254,10 +264,7 @@ impl Network {
     fn feed(&mut self, node: usize) {
         let terminal = self.terminal();
         let here = &mut self.nodes[node];
-        let mut left = here.backlog;
-        while left != 0 {
-            let class = left.trailing_zeros() as usize;
-            left &= left - 1;
+        for class in Bits(here.backlog.into()) {
             let place = 8 * terminal + class;
             if here.inputs[place].buffer.count as usize == self.depth {
                 continue;
@@ -275,10 +282,7 @@ impl Network {
 
     fn route(&mut self, node: usize) {
         let here = &self.nodes[node];
-        let mut left = here.occupied & !here.waiting & !here.active;
-        while left != 0 {
-            let place = left.trailing_zeros() as usize;
-            left &= left - 1;
+        for place in Bits(here.occupied & !here.waiting & !here.active) {
             let input = &self.nodes[node].inputs[place];
             let flit = self.buffers[(node * 56 + place) * self.depth + input.buffer.start as usize];
             if flit.opens {
@@ -310,16 +314,12 @@ impl Network {
             outs |= 1 << out;
         }
         let mut granted = 0u8;
-        while outs != 0 {
-            let out = outs.trailing_zeros() as usize;
-            outs &= outs - 1;
+        for out in Bits(outs.into()) {
             let port = first_from(asking[out] as u64, here.output_pointers[out]);
             here.output_pointers[out] = if (port as usize) < 2 * self.dims { port + 1 } else { 0 };
             granted |= 1 << port;
         }
-        while granted != 0 {
-            let port = granted.trailing_zeros() as usize;
-            granted &= granted - 1;
+        for port in Bits(granted.into()) {
             let vc = named[port];
             self.nodes[node].input_pointers[port] = if (vc as usize) + 1 < self.classes { vc + 1 } else { 0 };
             self.let_out(node, 8 * port + vc as usize);
@@ -458,10 +458,7 @@ impl Node {
     /// One pass of the channel allocator: a class's packets ask for the channel of its number. Lines are by port, then channel, so
     /// the order of the set's bits is that of the lines.
     fn allocate(&mut self, classes: usize, terminal: usize, depth: usize) {
-        let mut left = self.asked & self.free;
-        while left != 0 {
-            let out = left.trailing_zeros() as usize;
-            left &= left - 1;
+        for out in Bits(self.asked & self.free) {
             let place = first_from(self.askers[out], self.channel_pointers[out]) as usize;
             let (port, vc) = (place / 8, place % 8);
             let next = if vc + 1 < classes { place + 1 } else { 8 * (port + 1) };
