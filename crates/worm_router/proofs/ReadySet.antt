@@ -1,5 +1,5 @@
 -- The set of the input channels that are ready to send, and what keeps it exact.
-use Rattle.std.proofs.Common.{◌≡◌, ℕ, ◌+◌, ◌-◌, ◌*◌, ◌<◌, ◌≤◌, ◌&&◌, ◌||◌, ◌==◌, Bool, true, false, nat_lt, if◌then◌else◌, inl, inr, List, [], ◌∷◌, length, slice_set, slice_index_or, replicate, Option, None, Some, is_some, Result, Ok, Err, OnOk, IfErr, IfSome, MatchOption, ◌⊎◌, refl, arith, ap, sym, ◌∙◌, subst}
+use Rattle.std.proofs.Common.{◌≡◌, ℕ, ◌+◌, ◌-◌, ◌*◌, ◌<◌, ◌≤◌, ◌&&◌, ◌||◌, ◌==◌, Bool, true, false, nat_lt, if◌then◌else◌, inl, inr, List, [], ◌∷◌, length, slice_get, slice_set, slice_index_or, replicate, Option, None, Some, is_some, Result, Ok, Err, OnOk, IfErr, IfSome, MatchOption, ◌⊎◌, refl, arith, ap, sym, ◌∙◌, subst}
 use Rattle.std.proofs.lemmas.Grind.{get_or-set_at}
 use Rattle.std.proofs.lemmas.Bool.{cases_eq}
 use Rattle.std.proofs.lemmas.Bool.Decides.{nat_tests}
@@ -12,10 +12,11 @@ use Rattle.worm_records.specs.declared.InRecord.TheVariants.{Idle, Waiting, Acti
 use Rattle.worm_records.specs.declared.OutRecord.{OutRecord}
 use Rattle.worm_vcalloc.specs.ChannelSet.{has, IsPut}
 use Rattle.worm_vcalloc.proofs.SetLemmas.{has-empty, has-zero}
-use Rattle.worm_router.specs.Router.{RouterState, ChannelState, terminal, width, line, fresh_channel, free_output, input_at, output_at, leaving, leaving_by, put_in, credit_of, after_gave, after_credit}
+use Rattle.worm_router.specs.Router.{RouterState, ChannelState, IsPlace, terminal, width, line, fresh_channel, free_output, input_at, output_at, leaving, leaving_by, put_in, credit_of, after_gave, after_credit}
 use Rattle.worm_router.specs.Busy.{IsFiled, IsReadySet, AreHolders, IsWoken, NoneWoken, is_active, is_occupied, holds, has_way, could_send}
 use Rattle.worm_router.specs.Rest.{SendsNothing}
 use Rattle.worm_router.proofs.NothingReady.{get_or-replicate_same}
+use Rattle.worm_router.proofs.Leaving.{leaving_is}
 use Rattle.worm_router.proofs.Places.{IsInput, IsOutput}
 
 -- whether a channel in this state would be ready
@@ -55,6 +56,18 @@ idle_way r (Active o c) e = absurd (cc)
 -- a channel that holds no output channel is not ready
 pub idle_unready : (r : RouterState) (p : ℕ) (c : ChannelState) → is_active c ≡ false → ready_by r p c ≡ false
 idle_unready r p c idle = ready_parts r p c c.state c.buffer ∙ ap (λ b. (b && (p == terminal r || nat_lt c.owed r.depth)) && is_occupied c) (idle_way r c.state idle)
+
+some_if : {X : Type 0} (b : Bool) (x : X) → is_some (if b then Some x else None) ≡ true → (if b then Some x else None) ≡ Some x
+some_if true x e = refl
+some_if false x e = absurd (cc)
+
+-- the front of a channel of the set may leave, by the output channel that it holds
+pub leaves_by_set : (r : RouterState) (port vc set out out_vc : ℕ) (c : ChannelState) (front : Flit) → IsReadySet r set → IsPlace r port vc → has set port vc ≡ true
+    → c ≡ input_at r port vc → c.state ≡ Active out out_vc → slice_get c.buffer 0 ≡ Some front → leaving r port vc ≡ Some (out, with_channel front out_vc)
+leaves_by_set r port vc set out out_vc c front are place within is active first =
+    leaves ∙ some_if _ (out, with_channel front out_vc) (ap is_some (sym leaves) ∙ sym (are.inside port vc place.port_in place.channel_in) ∙ within) where
+      leaves : leaving r port vc ≡ (if (out == terminal r || nat_lt 0 (output_at r out out_vc).credits) && (port == terminal r || nat_lt c.owed r.depth) then Some (out, with_channel front out_vc) else None)
+      leaves = leaving_is r port vc out out_vc c front _ _ is active first refl refl
 
 pub none_ready_of : (r : RouterState) (set : ℕ) → IsReadySet r set → (set == 0) ≡ true → SendsNothing r
 none_ready_of r set are none = λ p v p_in v_in. not_some (leaving r p v) (sym (are.inside p v p_in v_in) ∙ has-empty set p v none)

@@ -374,28 +374,21 @@ impl Router {
         ensures leaves { result ≡ leaving self.now port vc }
         ensures room { IfSome result (MayLeave self.now port vc) }
     {
-        let i = self.line(port, vc);
-        let channel = &self.inputs[i];
+        if !self.busy.ready.contains(port, vc) {
+            return None;
+        }
+        let channel = &self.inputs[self.line(port, vc)];
         let InRecord::Active { out, out_vc } = channel.state() else {
             return None;
         };
-        let Some(front) = channel.flit_at(0) else {
-            return None;
-        };
-        let terminal = self.terminal();
-        let has_credit = out == terminal || self.outputs[self.line(out, out_vc)].credits > 0;
-        let may_owe = port == terminal || channel.owed() < self.depth;
-        if has_credit && may_owe {
-            Some((
-                out,
-                Flit {
-                    vc: out_vc,
-                    ..front
-                },
-            ))
-        } else {
-            None
-        }
+        let front = channel.flit_at(0)?;
+        Some((
+            out,
+            Flit {
+                vc: out_vc,
+                ..front
+            },
+        ))
     }
 
     /// The flit that `ready` names has left. A credit is spent for it and one is owed; a closing flit frees both channels.
