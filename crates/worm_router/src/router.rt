@@ -381,14 +381,9 @@ impl Router {
         let InRecord::Active { out, out_vc } = channel.state() else {
             return None;
         };
-        let front = channel.flit_at(0)?;
-        Some((
-            out,
-            Flit {
-                vc: out_vc,
-                ..front
-            },
-        ))
+        let mut flit = channel.flit_at(0)?;
+        flit.vc = out_vc;
+        Some((out, flit))
     }
 
     /// The flit that `ready` names has left. A credit is spent for it and one is owed; a closing flit frees both channels.
