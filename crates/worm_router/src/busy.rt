@@ -108,7 +108,7 @@ impl BusyChannels {
         self.in_vain = false;
     }
 
-    /// Files a channel that let a flit out by this channel of an output port: it had one, held that and might send;
+    /// Files a channel that let a flit out by this channel of an output port, which it held;
     /// `follows` where a next flit has its credits. A channel that still holds its output channel freed none.
     pub fn file_left(
         &mut self,
@@ -124,9 +124,7 @@ impl BusyChannels {
         requires out { out < 7 }
         requires out_vc { out_vc < 8 }
         requires was_held { has self.old.held out out_vc ≡ true }
-        requires had_flit { has self.old.occupied port vc ≡ true }
         requires held { has self.old.active port vc ≡ true }
-        requires was_ready { has self.old.ready port vc ≡ true }
         requires owes_no_less { has self.old.owing port vc ≡ true → owes channel.now ≡ true }
         ensures occupied { IsFiled self.old.occupied self.new.occupied port vc (is_occupied channel.now) }
         ensures active { IsFiled self.old.active self.new.active port vc (is_active channel.now) }
@@ -136,13 +134,15 @@ impl BusyChannels {
         ensures held { IsFiled self.old.held self.new.held out out_vc (is_active channel.now) }
         ensures others { self.new ≡ record self.old { occupied = self.new.occupied; active = self.new.active; owing = self.new.owing; in_vain = self.new.in_vain; ready = self.new.ready; held = self.new.held } }
     {
-        let has_flit = channel.is_occupied();
+        let has_more = channel.is_occupied();
         let holds = channel.is_active();
-        leave_unless(&mut self.occupied, port, vc, has_flit);
-        leave_unless(&mut self.active, port, vc, holds);
-        leave_unless(&mut self.ready, port, vc, holds && has_flit && follows);
-        leave_unless(&mut self.held, out, out_vc, holds);
-        self.in_vain = self.in_vain && channel.is_active();
+        self.occupied.put(port, vc, has_more);
+        self.ready.put(port, vc, holds && has_more && follows);
+        if !holds {
+            self.active.put(port, vc, false);
+            self.held.put(out, out_vc, false);
+        }
+        self.in_vain = self.in_vain && holds;
         join_if(&mut self.owing, port, vc, channel.owed() > 0);
     }
 

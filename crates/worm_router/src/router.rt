@@ -103,9 +103,13 @@ fn pass(output: &mut OutRecord, flit: Flit, spent: u8)
 /// Whether a flit may follow one that left: there is a credit for it, and room for one more owed. `more_owed` and `spent` are
 /// what a flit costs.
 fn may_follow(owed: u8, more_owed: u8, credits: u8, spent: u8, depth: u8) -> bool
+    requires spent { spent ≤ 1 }
+    requires more_owed { more_owed ≤ 1 }
+    requires owed { owed ≤ depth }
+    requires depth { depth ≤ 16 }
     ensures { result ≡ ((spent == 0 || nat_lt 0 credits) && (more_owed == 0 || nat_lt owed depth)) }
 {
-    (spent == 0 || credits > 0) && (more_owed == 0 || owed < depth)
+    credits >= spent && owed + more_owed <= depth
 }
 
 /// The channels of each class, as a bit for each. A class that is not there has none.

@@ -1,6 +1,8 @@
 -- Lemmas on sets of channels: what the operations on words do to their members.
 use Rattle.std.proofs.Common.{◌≡◌, ℕ, ◌+◌, ◌-◌, ◌*◌, ◌/◌, ◌%◌, ◌^◌, ◌<◌, ◌≤◌, Bool, true, false, refl, ◌==◌, not, ◌&&◌, ◌||◌, bit_and, bit_or, min, max, sym, ap, ◌∙◌, subst, arith, inl, inr}
 use Rattle.std.specs.Int.{bit_at, bit_not, trailing_zeros, w64}
+use Rattle.std.specs.Int.Bits.{or_zero_r}
+use mir.Val.{bool_byte}
 use Rattle.std.proofs.lemmas.Bool.{cases_eq, cases_lt, eq-eqb, eqb-true, ne_eqb, and_from, and_parts, and_right, true≢false}
 use Rattle.std.proofs.lemmas.Nat.{one_shl, or_lt, and_le_l, shr-shr, shr_le, pow_below}
 use Rattle.std.proofs.lemmas.Nat.Bits.{bit_at_and, bit_at_or, bit_at_not, bit_at_ones, bit_at-lt, bit_at_set_same, bit_at_set_other, bit_at_clear_same, bit_at_clear_other, bit_at_above, bit_at-trailing_zeros}
@@ -76,6 +78,24 @@ put_out bits port channel fits lp lc = record {
   elsewhere = λ p c l l' apart. ap (λ b. b == 1) (bit_at_clear_other w64 bits (8 * port + channel) (omega arith) (8 * p + c) (omega arith) (λ e. apart (omega arith) (omega arith)));
   small = let below = and_le_l bits (bit_not w64 (1 * 2 ^ (8 * port + channel) % 2 ^ 64)) in omega arith;
 }
+
+-- the place is cleared, and the channel put there where it comes
+abbrev pub written : ℕ → ℕ → ℕ → ℕ
+written bits place comes = bit_or (bit_and bits (bit_not w64 (1 * 2 ^ place % 2 ^ 64))) (comes * 2 ^ place % 2 ^ 64)
+
+zero_times : (n : ℕ) → 0 * n ≡ 0
+zero_times n = omega arith
+
+pub put_as : (bits port channel : ℕ) (within : Bool) → bits < 2 ^ 56 → port < 7 → channel < 8 → IsPut bits (written bits (8 * port + channel) (bool_byte within)) port channel within
+put_as bits port channel true fits lp lc =
+    let out = put_out bits port channel fits lp lc in
+    let both = put_in (bit_and bits (bit_not w64 (1 * 2 ^ (8 * port + channel) % 2 ^ 64))) port channel out.small lp lc in
+    record { here = both.here; elsewhere = λ p c l l' apart. both.elsewhere p c l l' apart ∙ out.elsewhere p c l l' apart; small = both.small }
+put_as bits port channel false fits lp lc =
+    let nothing : 0 * 2 ^ (8 * port + channel) % 2 ^ 64 ≡ 0 = ap (λ n. n % 2 ^ 64) (zero_times (2 ^ (8 * port + channel))) in
+    subst (λ n. IsPut bits n port channel false)
+    (sym (ap (bit_or (bit_and bits (bit_not w64 (1 * 2 ^ (8 * port + channel) % 2 ^ 64)))) nothing ∙ or_zero_r (bit_and bits (bit_not w64 (1 * 2 ^ (8 * port + channel) % 2 ^ 64)))))
+    (put_out bits port channel fits lp lc)
 
 -- ---- two sets
 

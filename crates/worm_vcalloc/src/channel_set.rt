@@ -57,12 +57,9 @@ impl ChannelSet {
         requires channel { channel < 8 }
         ensures { IsPut self.old self.new port channel within }
     {
-        let bit = 1 << (8 * port + channel);
-        if within {
-            self.bits |= bit;
-        } else {
-            self.bits &= !bit;
-        }
+        // Without a branch, since whether it comes or goes can seldom be foretold.
+        let place = 8 * port + channel;
+        self.bits = self.bits & !(1 << place) | u64::from(within) << place;
     }
 
     /// Takes out the first channel, by rising port and then channel; None where the set is empty.

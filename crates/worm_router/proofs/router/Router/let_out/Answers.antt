@@ -7,11 +7,11 @@ use Rattle.worm_records.specs.declared.InRecord.TheVariants.{Active}
 use Rattle.worm_records.specs.declared.OutRecord.{OutRecord}
 use Rattle.worm_router.specs.Router.{IsPlace, credit_of, RouterState, ChannelState, input_at, IsRouter, IsChannel, free_output, terminal, width}
 use Rattle.worm_router.proofs.Kept.{both_set_sound, input_read, let_out_sound, full_after, full_before, no_credit}
-use Rattle.worm_router.specs.Busy.{is_waiting, is_active, is_occupied, owes}
+use Rattle.worm_router.specs.Busy.{is_waiting, is_active, owes}
 use Rattle.worm_router.specs.declared.busy.BusyChannels.{BusyChannels}
 use Rattle.worm_router.proofs.Places.{input_of, output_of, output_read}
 use Rattle.worm_router.proofs.Filed.{busy_filed, inside_of}
-use Rattle.worm_router.proofs.Leaving.{may_leave, leaves_active, leaves_by_state, leaves_flit, owes_more}
+use Rattle.worm_router.proofs.Leaving.{may_leave, leaves_active, leaves_by_state, owes_more}
 use Rattle.worm_router.proofs.InVain.{vain_left, holds_open, holds_waits_not, waits_not_after}
 use Rattle.worm_router.proofs.Holders.{holders_left}
 use Rattle.worm_router.proofs.Held.{held_filed, freed_or_held, held_by, has_held}
@@ -94,13 +94,6 @@ file_left-requires-clause-was_held c =
     let active = ap (λ (k : ChannelState). k.state) here
     ∙ leaves_by_state c.args.self.now c.args.port (input_at c.args.self.now c.args.port c.args.vc) (input_at c.args.self.now c.args.port c.args.vc).state (input_at c.args.self.now c.args.port c.args.vc).buffer (c.args.out, c.args.flit) c.requires.ready in
     has_held _ _ _ _ _ _ c.args.out c.args.flit.vc input (subst (λ (r : RouterState). IsPlace r c.args.out c.args.flit.vc) (sym c.self.view_is) (record { port_in = there.out_in; channel_in = there.channel_in })) active c.self.invariant.holders c.self.invariant.held
-
-pub file_left-requires-clause-had_flit : goal.file_left-requires-clause-had_flit
-file_left-requires-clause-had_flit c =
-    let input = input_of _ c.args.self.now c.args.port c.args.vc c.line-i.result c.index_mut-channel.result.now c.self.view_is c.requires.place c.line-i.ensures.value c.line-i.ensures.in_inputs c.index_mut-channel.ensures.value in
-    let here : c.index_mut-channel.result.now ≡ input_at c.args.self.now c.args.port c.args.vc = input_read _ c.args.self.now c.args.port c.args.vc c.line-i.result c.index_mut-channel.result.now c.self.view_is c.index_mut-channel.ensures.value c.line-i.ensures.value c.line-i.ensures.in_inputs in
-    inside_of is_occupied _ _ _ _ _ _ input c.self.invariant.busy.occupied ∙ ap is_occupied here
-    ∙ leaves_flit c.args.self.now c.args.port (input_at c.args.self.now c.args.port c.args.vc) (input_at c.args.self.now c.args.port c.args.vc).state (input_at c.args.self.now c.args.port c.args.vc).buffer (c.args.out, c.args.flit) c.requires.ready
 
 pub file_left-requires-clause-owes_no_less : goal.file_left-requires-clause-owes_no_less
 file_left-requires-clause-owes_no_less c = λ owed.

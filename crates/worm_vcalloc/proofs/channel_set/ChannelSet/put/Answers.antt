@@ -1,11 +1,15 @@
-use Rattle.worm_vcalloc.proofs.SetLemmas.{put_in, put_in_fits, put_out}
+use Rattle.std.proofs.Common.{sym, subst, ◌+◌, ◌*◌, ◌<◌, ◌^◌}
+use Rattle.worm_vcalloc.specs.ChannelSet.{IsPut}
+use Rattle.worm_vcalloc.proofs.SetLemmas.{put_as, written}
 use Rattle.worm_vcalloc.proofs.channel_set.ChannelSet.put.Goals as goal
 
 pub invariant_of-self : goal.invariant_of-self
-invariant_of-self c = put_in_fits c.self.inside.bits c.args.port c.args.channel c.self.invariant c.requires.port c.requires.channel
+invariant_of-self c =
+    let put = put_as c.self.inside.bits c.args.port c.args.channel c.args.within c.self.invariant c.requires.port c.requires.channel in
+    subst (λ n. written c.self.inside.bits (8 * c.args.port + c.args.channel) n < 2 ^ 56) (sym c.from.ensures) put.small
 
-pub returns-then-within : goal.returns-then-within
-returns-then-within c = rw (← c.self.view_is, c.if-within.true) (put_in c.self.inside.bits c.args.port c.args.channel c.self.invariant c.requires.port c.requires.channel)
-
-pub returns-else-within : goal.returns-else-within
-returns-else-within c = rw (← c.self.view_is, c.if-within.false) (put_out c.self.inside.bits c.args.port c.args.channel c.self.invariant c.requires.port c.requires.channel)
+pub returns : goal.returns
+returns c =
+    let put = put_as c.self.inside.bits c.args.port c.args.channel c.args.within c.self.invariant c.requires.port c.requires.channel in
+    subst (λ old. IsPut old (written c.self.inside.bits (8 * c.args.port + c.args.channel) c.from.result) c.args.port c.args.channel c.args.within) c.self.view_is
+    (subst (λ n. IsPut c.self.inside.bits (written c.self.inside.bits (8 * c.args.port + c.args.channel) n) c.args.port c.args.channel c.args.within) (sym c.from.ensures) put)
