@@ -73,9 +73,10 @@ impl BusyChannels {
         ensures others { self.new ≡ record self.old { occupied = self.new.occupied; in_vain = self.new.in_vain; ready = self.new.ready } }
     {
         let has_flit = channel.is_occupied();
+        let waits = channel.is_waiting();
         self.occupied.put(port, vc, has_flit);
-        self.in_vain = self.in_vain && !channel.is_waiting();
         self.ready.put(port, vc, sends && has_flit);
+        self.in_vain = self.in_vain && !waits;
     }
 
     /// Files a channel that comes to wait, and may be granted what others wait for in vain.
