@@ -29,15 +29,19 @@ pub fn next_port(mesh: &Mesh, here: u8, dst: u8) -> u8
     ensures arrived { here ≡ dst → result ≡ 2 * length mesh.now }
     ensures onward { here ≢ dst → LeadsOn mesh.now here result dst }
 {
+    // What is left of the two addresses, as numbers, above the dimensions that were looked at.
+    let (mut at, mut goal) = (here, dst);
     for d in 0..mesh.dims() {
-        let at = mesh.digit(here, d);
-        let goal = mesh.digit(dst, d);
-        if at < goal {
+        let radix = mesh.radix(d);
+        let (digit, aim) = (at % radix, goal % radix);
+        if digit < aim {
             return 2 * d + 1;
         }
-        if at > goal {
+        if digit > aim {
             return 2 * d;
         }
+        at /= radix;
+        goal /= radix;
     }
     2 * mesh.dims()
 }
