@@ -13,6 +13,7 @@ pub mod Sources
 pub mod FeedStep
 pub mod SendBridge
 pub mod SendStep
+pub mod Sending
 pub mod OfferStep
 pub mod RunSteps
 pub mod Headline

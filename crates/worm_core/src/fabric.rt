@@ -2,6 +2,7 @@ ghost use Rattle.std.specs.Prelude.{true, false, ℕ, IfNone, IfOk, ◌==◌, �
 ghost use Rattle.worm_flit.specs.Channels.{AreChannels};
 ghost use Rattle.worm_core.specs.NewNet.{IsFresh};
 ghost use Rattle.worm_router.specs.Allocation.{after_allocate, switch_grants};
+ghost use Rattle.worm_swalloc.specs.SwAlloc.{AreGranted};
 ghost use Rattle.worm_mesh.specs.Address.{IsMesh as IsRadices, node_count, neighbour_of};
 ghost use Rattle.worm_mesh.specs.Links.{link_count};
 ghost use Rattle.worm_router.specs.Router.{IsPlace, MayLeave, after_accept, after_credit, after_gave, after_grant, after_route, after_send, can_grant, can_route, input_at, leaving, output_at, terminal, width};
@@ -24,8 +25,8 @@ use std::alloc::{AllocError, Global};
 use std::marker::Model;
 use worm_flit::{ClassChannels, Flit, Lane, Packet};
 use worm_mesh::Mesh;
-use worm_swalloc::SwGrants;
 use worm_term::OfferFault;
+use worm_vcalloc::ChannelSet;
 
 /// The nodes by number and the links by number, whatever they hold (Dally and Towles, chapters 5, 13 and 16).
 #[derive(Drop)]
@@ -369,15 +370,14 @@ impl Fabric {
         let _grants = self.nodes.router_mut(node).allocate();
     }
 
-    /// One pass of the node's switch allocator (Dally and Towles, chapters 16 and 19).
-    #[tactic(auto, unfolding(crate::specs::Moves::chosen_router))]
-    pub fn choose(&mut self, node: u8) -> SwGrants
+    /// One pass of the node's switch allocator: the channels that it grants (Dally and Towles, chapters 16 and 19).
+    pub fn choose(&mut self, node: u8) -> ChannelSet
         requires { node < length self.old.nodes }
-        ensures grants { result ≡ switch_grants (router_at self.old node) }
+        ensures granted { AreGranted (switch_grants (router_at self.old node)) result }
         ensures after { self.new ≡ with_router self.old node (chosen_router (router_at self.old node)) }
-        ensures ready { AreReady (router_at self.old node) result }
+        ensures ready { AreReady (router_at self.old node) (switch_grants (router_at self.old node)) }
     {
-        self.nodes.router_mut(node).choose()
+        self.nodes.router_mut(node).choose().channels()
     }
 
     /// The node of this number.

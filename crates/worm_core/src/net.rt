@@ -1,5 +1,6 @@
 ghost use Rattle.std.specs.Prelude.{None, Some, slice_index_or, ◌≡◌, ◌≤◌, ◌<◌, ◌*◌, ◌↔◌, ℕ, Result, IsTrue, IfNone, IfOk, Ok, sum, length, slice_get, IfSome, MatchOption, Err};
 ghost use Rattle.worm_theory.specs.Steps.{IsThere, Step as Event};
+ghost use Rattle.worm_swalloc.specs.SwAlloc.{AreGranted};
 ghost use Rattle.worm_swalloc.specs.declared.grant.SwGrant.{SwGrant};
 ghost use Rattle.worm_core.specs.Runs.{IsRun, event_of};
 ghost use Rattle.worm_core.specs.Answers.{Answers, ArbitersStand, accepted_of, moved_of};
@@ -20,7 +21,6 @@ use std::alloc::Global;
 use std::marker::Model;
 use worm_flit::{Flit, Lane, Packet, are_channels};
 use worm_mesh::Mesh;
-use worm_swalloc::SwGrants;
 use worm_term::{OfferFault, Sink, Source};
 use worm_vcalloc::ChannelSet;
 
@@ -204,12 +204,12 @@ impl Net {
         self.fabric.allocate(node);
     }
 
-    /// One pass of the node's switch allocator.
-    pub(crate) fn choose(&mut self, node: u8) -> SwGrants
+    /// One pass of the node's switch allocator: the channels that it grants.
+    pub(crate) fn choose(&mut self, node: u8) -> ChannelSet
         requires { node < node_count self.old.mesh }
-        ensures grants { result ≡ switch_grants (router_at self.old node) }
+        ensures granted { AreGranted (switch_grants (router_at self.old node)) result }
         ensures after { self.new ≡ with_router self.old node (chosen_router (router_at self.old node)) }
-        ensures there { (p : ℕ) (g : SwGrant) → slice_index_or result p None ≡ Some g → IsThere (shape self.old) (Event.Send node p g.vc) }
+        ensures there { (p : ℕ) (g : SwGrant) → slice_index_or (switch_grants (router_at self.old node)) p None ≡ Some g → IsThere (shape self.old) (Event.Send node p g.vc) }
         ensures reaches { Reaches self.old self.new }
     {
         self.fabric.choose(node)

@@ -125,7 +125,7 @@ impl Net {
         }
     }
 
-    /// Lets each input port that a pass of the switch allocator grants send, ports rising, up to the first fault.
+    /// Lets each channel that a pass of the switch allocator grants send, ports rising, up to the first fault.
     fn send_granted(&mut self, node: u8) -> Result<(), StepFault>
         requires { node < node_count self.old.mesh }
         ensures { Does (SendsGranted node) self.old (result_err result) self.new }
@@ -133,11 +133,10 @@ impl Net {
         if self.sends_nothing(node) {
             return Ok(());
         }
-        let grants = self.choose(node);
-        for port in 0..self.terminal() + 1 {
-            if let Some(grant) = grants[usize::from(port)] {
-                tried(self.send_there(node, port, grant.vc))?;
-            }
+        self.is_sound();
+        let mut granted = self.choose(node);
+        while let Some((port, vc)) = granted.pop_first() {
+            tried(self.send_there(node, port, vc))?;
         }
         Ok(())
     }

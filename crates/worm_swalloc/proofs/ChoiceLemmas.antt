@@ -3,14 +3,14 @@ use Rattle.std.proofs.Common.{◌≡◌, ℕ, ◌+◌, ◌-◌, zero, suc, ◌<�
 use Rattle.std.proofs.lemmas.Bool.{cases_eq, cases_lt, lt-ltb, le-ltb, eqb-true, eq-eqb, ne_eqb, and_from, and_right}
 use Rattle.std.proofs.lemmas.List.{length-set, ext_get_or}
 use Rattle.worm_vcalloc.specs.ChannelSet.{has, IsFirstPort}
-use Rattle.worm_vcalloc.specs.Arbiter.{ArbiterState, no_arbiter, winner, after_pick}
+use Rattle.worm_vcalloc.specs.Arbiter.{ArbiterState, no_arbiter, winner, after_pick, line_requests}
 use Rattle.worm_vcalloc.proofs.ArbiterLemmas.{winner_none, winner_requests}
 use Rattle.worm_swalloc.specs.declared.grant.SwGrant.{SwGrant}
 use Rattle.worm_swalloc.specs.Front.{with_front}
 use Rattle.worm_swalloc.specs.SwAlloc.{SwAllocState, IsSwAlloc, AreAskers, is_for, chosen, with_choice, is_line, if_chosen, granted, output_after, channel_of, with_move, after_grant}
 use Rattle.worm_swalloc.proofs.FrontLemmas.{with_front_zero, slice_set-with_front, with_front_more, length-with_front, slice_index_or-with_front_below, slice_index_or-with_front_past, with_front_same, with_front_kept}
 use Rattle.worm_swalloc.proofs.WalkLemmas.{IsWalked, walked_start, walked_from, walked_over, walked_more, walked_all}
-use Rattle.worm_swalloc.proofs.SwLemmas.{get_or-replicate_same}
+use Rattle.worm_swalloc.proofs.SwLemmas.{get_or-replicate_same, chosen_is}
 
 -- the output ports below n have chosen, and the input ports that they chose have moved
 pub record ChosenBelow (s : SwAllocState) (requests : List (Option SwGrant)) (n : ℕ) (now : SwAllocState) (grants : List (Option SwGrant)) : Type 0 where
@@ -79,10 +79,10 @@ choice_granted s requests n few wide low (Some q) e =
     ])
 
 -- an input port that an output port has yet to choose has no grant
-not_yet : (s : SwAllocState) (requests : List (Option SwGrant)) (n port : ℕ) (o : Option SwGrant) → is_for o n ≡ true → if_chosen s requests n port o ≡ None
-not_yet s requests n port None e = refl
-not_yet s requests n port (Some g) e =
-    let same : g.out ≡ n = eqb-true g.out n e in
+not_yet : (s : SwAllocState) (requests : List (Option SwGrant)) (n out port : ℕ) (o : Option SwGrant) → n ≤ out → is_for o out ≡ true → if_chosen s requests n port o ≡ None
+not_yet s requests n out port None from e = refl
+not_yet s requests n out port (Some g) from e =
+    let same : g.out ≡ out = eqb-true g.out out e in
     ap (λ b. cond (b && is_line (chosen s requests g.out) port) (Some g) None) (le-ltb g.out n (omega arith))
 
 -- the input arbiters once output port n has chosen too
@@ -99,7 +99,7 @@ choice_moved s requests grants n few long wide low are (Some q) e =
     let none : slice_index_or grants q None ≡ None =
     ap (λ xs. slice_index_or xs q None) are
     ∙ slice_index_or-with_front_below s.ports q (granted s requests n) (replicate 7 None) None lq
-    ∙ not_yet s requests n q (slice_index_or requests q None) won.1 in
+    ∙ not_yet s requests n n q (slice_index_or requests q None) (omega arith) won.1 in
     let before : List ArbiterState = with_front s.ports (after_grant s grants) s.inputs in
     let grants' : List (Option SwGrant) = slice_set grants q (slice_index_or requests q None) in
     let after : List ArbiterState = with_front s.ports (after_grant s grants') s.inputs in
@@ -222,6 +222,28 @@ choosing_start s requests grants askers few long e = record { next = 0; walked =
 pub choosing_size : (s : SwAllocState) (requests : List (Option SwGrant)) (askers left : ℕ) (now : SwAllocState) (grants : List (Option SwGrant)) → ChoosingBelow s requests askers left now grants
     → (now.ports ≡ s.ports) × (now.channels ≡ s.channels)
 choosing_size s requests askers left now grants b = (ap (λ (t : SwAllocState). t.ports) b.chosen_are.state, ap (λ (t : SwAllocState). t.channels) b.chosen_are.state)
+
+-- those that ask for the next output port have no grant
+pub not_granted : (s : SwAllocState) (requests : List (Option SwGrant)) (askers left left' out port : ℕ) (now : SwAllocState) (grants : List (Option SwGrant))
+    → ChoosingBelow s requests askers left now grants → IsFirstPort left left' out → is_for (slice_index_or requests port None) out ≡ true → slice_index_or grants port None ≡ None
+not_granted s requests askers left left' out port now grants b f asks =
+    let from = walked_from askers left left' b.next s.ports out b.walked f in
+    ap (λ xs. slice_index_or xs port None) b.chosen_are.grants_are
+    ∙ elim (cases_lt port s.ports) [
+      | inl below ↦ slice_index_or-with_front_below s.ports port (granted s requests b.next) (replicate 7 None) None below ∙ not_yet s requests b.next out port (slice_index_or requests port None) from asks
+      | inr past ↦ slice_index_or-with_front_past s.ports port (granted s requests b.next) (replicate 7 None) None past ∙ get_or-replicate_same 7 port None
+    ]
+
+-- the chosen input port asks for the output port
+pub chosen_asks : (s : SwAllocState) (requests : List (Option SwGrant)) (out lines : ℕ) (d : ArbiterState) (port : ℕ) → IsSwAlloc s.ports s.channels s.inputs s.outputs → out < s.ports → out < length s.outputs
+    → ((line : ℕ) → line < s.ports → line_requests lines line ≡ is_for (slice_index_or requests line None) out)
+    → Some port ≡ winner (slice_index_or s.outputs out d) (line_requests lines) → is_for (slice_index_or requests port None) out ≡ true
+chosen_asks s requests out lines d port r lo within same won =
+    let few = r.few_ports in
+    let wide = r.output_width out (omega arith) in
+    let low = r.output_pointer out (omega arith) in
+    (winner_requests (slice_index_or s.outputs out no_arbiter) (λ line. is_for (slice_index_or requests line None) out) port (omega arith)
+    (sym (chosen_is s requests out lines d (Some port) r lo within same won))).1
 
 -- the next output port has chosen
 pub choosing_more : (s : SwAllocState) (requests : List (Option SwGrant)) (askers left left' out : ℕ) (now next : SwAllocState) (grants grants' : List (Option SwGrant))

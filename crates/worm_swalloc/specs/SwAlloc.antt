@@ -77,6 +77,17 @@ AreChannelsBelow n requests = (port : ℕ) → IfSome (slice_index_or requests p
 abbrev pub AreAskers : List (Option SwGrant) → ℕ → Type 0
 AreAskers requests askers = (out port : ℕ) → out < 7 → port < 8 → has askers out port ≡ is_for (slice_index_or requests port None) out
 
+-- whether a grant is of this channel
+abbrev pub is_of : Option SwGrant → ℕ → Bool
+is_of None vc = false
+is_of (Some g) vc = g.vc == vc
+
+-- the channels that are granted, as a set
+pub record AreGranted (grants : List (Option SwGrant)) (channels : ℕ) : Type 0 where
+  pub each : (port vc : ℕ) → port < 7 → vc < 8 → has channels port vc ≡ is_of (slice_index_or grants port None) vc
+  -- and none is left out
+  pub few : AreChannelsBelow 8 grants
+
 -- whether the choice is this port
 abbrev pub is_line : Option ℕ → ℕ → Bool
 is_line None port = false

@@ -1,7 +1,7 @@
 ghost use Rattle.std.specs.Prelude.{◌≡◌, ◌<◌, None, Some, replicate, slice_index_or, slice_set};
 ghost use Rattle.worm_swalloc.specs.SwAlloc.{AreAskers};
 
-use crate::grant::{SwGrant, SwGrants};
+use crate::grant::SwGrant;
 use std::marker::Model;
 use worm_vcalloc::ChannelSet;
 
@@ -16,7 +16,7 @@ use worm_vcalloc::ChannelSet;
 #[derive(Drop)]
 pub struct Named {
     /// By input port.
-    requests: SwGrants,
+    requests: [Option<SwGrant>; 7],
     /// The input ports that ask for each output port: a channel stands for an input port here.
     askers: ChannelSet,
 }

@@ -1,4 +1,4 @@
-ghost use Rattle.std.specs.Prelude.{◌≡◌, ℕ, ◌+◌, ◌^◌, ◌<◌, ◌≤◌, IfSome, None, is_some, replicate, slice_index_or, slice_set};
+ghost use Rattle.std.specs.Prelude.{◌≡◌, ℕ, ◌+◌, ◌^◌, ◌<◌, ◌≤◌, IfSome, None, is_some, replicate, true, slice_index_or, slice_set};
 ghost use Rattle.worm_vcalloc.specs.Arbiter.{no_arbiter, line_requests, winner, after_pick};
 ghost use Rattle.worm_vcalloc.specs.Table.{cell};
 ghost use Rattle.worm_swalloc.specs.Front.{with_front};
@@ -73,7 +73,7 @@ impl SwAlloc {
         // The proof of the first answer needs the widths of the arbiters.
         let _ = &self.ports;
         if ready.keys().is_empty() {
-            return [None; 7];
+            return SwGrants::new();
         }
         let mut named = Named::new();
         self.gather(ready, &mut named);
@@ -138,7 +138,7 @@ impl SwAlloc {
     {
         let ports = self.ports;
         let askers = named.askers();
-        let mut grants = [None; 7];
+        let mut grants = SwGrants::new();
         let mut left = askers;
         while let Some(out) = left.pop_port() {
             if out < ports {
@@ -154,23 +154,25 @@ impl SwAlloc {
         requires channels { AreChannelsBelow self.old.channels named.now }
         requires few { lines < 2 ^ self.old.ports }
         requires lines { (line : ℕ) → line < self.old.ports → line_requests lines line ≡ is_for (slice_index_or named.now line None) out }
+        requires none { (port : ℕ) → is_for (slice_index_or named.now port None) out ≡ true → slice_index_or grants.old port None ≡ None }
         ensures grants { grants.new ≡ with_choice grants.old named.now (chosen self.old named.now out) }
         ensures after { self.new ≡ record self.old { inputs = with_move self.old.inputs named.now (chosen self.old named.now out); outputs = slice_set self.old.outputs out (output_after self.old named.now out) } }
     {
         if let Some(port) = self.outputs[out as usize].pick(lines) {
-            let request = named.get(port);
-            grants[port as usize] = request;
-            self.commit(port, request);
+            self.commit(port, named.get(port), grants);
         }
     }
 
-    /// The arbiter of an input port moves past the channel that it was granted.
-    fn commit(&mut self, port: u8, granted: Option<SwGrant>)
+    /// An input port is granted what it named, and its arbiter moves past that channel.
+    fn commit(&mut self, port: u8, request: Option<SwGrant>, grants: &mut SwGrants)
         requires port { port < self.old.ports }
-        requires channel { IfSome granted (λ g. g.vc < self.old.channels) }
-        ensures { self.new ≡ record self.old { inputs = slice_set self.old.inputs port (after_pick (slice_index_or self.old.inputs port no_arbiter) (channel_of granted)) } }
+        requires channel { IfSome request (λ g. g.vc < self.old.channels) }
+        requires none { slice_index_or grants.old port None ≡ None }
+        ensures grants { grants.new ≡ slice_set grants.old port request }
+        ensures after { self.new ≡ record self.old { inputs = slice_set self.old.inputs port (after_pick (slice_index_or self.old.inputs port no_arbiter) (channel_of request)) } }
     {
-        if let Some(grant) = granted {
+        if let Some(grant) = request {
+            grants.put(port, grant);
             self.inputs[port as usize].move_past(grant.vc);
         }
     }
@@ -198,14 +200,14 @@ mod tests {
         ready.set(0, 1, Some(1));
         ready.set(2, 0, Some(1));
         let first = alloc.grant(&ready);
-        assert_eq!(rt; first[0], Some(SwGrant { vc: 0, out: 1 }));
-        assert_eq!(rt; first[2], None);
+        assert_eq!(rt; first.get(0), Some(SwGrant { vc: 0, out: 1 }));
+        assert_eq!(rt; first.get(2), None);
         let second = alloc.grant(&ready);
-        assert_eq!(rt; second[0], None);
-        assert_eq!(rt; second[2], Some(SwGrant { vc: 0, out: 1 }));
+        assert_eq!(rt; second.get(0), None);
+        assert_eq!(rt; second.get(2), Some(SwGrant { vc: 0, out: 1 }));
         let third = alloc.grant(&ready);
-        assert_eq!(rt; third[0], Some(SwGrant { vc: 1, out: 1 }));
-        assert_eq!(rt; third[2], None);
+        assert_eq!(rt; third.get(0), Some(SwGrant { vc: 1, out: 1 }));
+        assert_eq!(rt; third.get(2), None);
     }
 
     // Ports 0 and 2 both ask for output port 1, and port 1 for output port 0.
@@ -220,12 +222,16 @@ mod tests {
         named.put(2, SwGrant { vc: 0, out: 1 });
         assert_eq!(rt; named.get(2), Some(SwGrant { vc: 0, out: 1 }));
         let first = alloc.grant_named(&named);
-        assert_eq!(rt; first[0], Some(SwGrant { vc: 1, out: 1 }));
-        assert_eq!(rt; first[1], Some(SwGrant { vc: 0, out: 0 }));
-        assert_eq!(rt; first[2], None);
+        assert_eq!(rt; first.get(0), Some(SwGrant { vc: 1, out: 1 }));
+        assert_eq!(rt; first.get(1), Some(SwGrant { vc: 0, out: 0 }));
+        assert_eq!(rt; first.get(2), None);
+        let mut granted = first.channels();
+        assert_eq!(rt; granted.pop_first(), Some((0, 1)));
+        assert_eq!(rt; granted.pop_first(), Some((1, 0)));
+        assert_eq!(rt; granted.pop_first(), None);
         let second = alloc.grant_named(&named);
-        assert_eq!(rt; second[0], None);
-        assert_eq!(rt; second[2], Some(SwGrant { vc: 0, out: 1 }));
+        assert_eq!(rt; second.get(0), None);
+        assert_eq!(rt; second.get(2), Some(SwGrant { vc: 0, out: 1 }));
     }
 
     // Port 0 names its channel 1 in vain while port 2 sends, and names it again in the next pass:
@@ -240,11 +246,11 @@ mod tests {
         let _first = alloc.grant(&ready);
         let before = alloc.inputs[0].pointer();
         let second = alloc.grant(&ready);
-        assert_eq!(rt; second[0], None);
+        assert_eq!(rt; second.get(0), None);
         assert_eq!(rt; alloc.inputs[0].pointer(), before);
         assert_eq!(rt; before, 1);
         ready.set(2, 0, None);
         let third = alloc.grant(&ready);
-        assert_eq!(rt; third[0], Some(SwGrant { vc: 1, out: 1 }));
+        assert_eq!(rt; third.get(0), Some(SwGrant { vc: 1, out: 1 }));
     }
 }

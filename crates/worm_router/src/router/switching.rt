@@ -72,7 +72,7 @@ impl Router {
         ensures matching { IsSwitchMatching self.old.switch_alloc (ready_outs self.old) result }
     {
         if self.busy.ready.is_empty() {
-            return [None; 7];
+            return SwGrants::new();
         }
         let ready = self.ready_set();
         let mut asked = Named::new();

@@ -70,10 +70,10 @@ returns-clause-matching c =
     (subst (IsSwitchMatching c.self.inside.switch_alloc (ready_outs (here c))) (sym (granted_are c)) (matching c.self.inside.switch_alloc (ready_outs (here c)) (sound_here c)))
 
 pub returns-then-is_empty-clause-grants : goal.returns-then-is_empty-clause-grants
-returns-then-is_empty-clause-grants c = sym (grants_none _ c.args.self.now _ _ c.self.view_is c.self.invariant (sym c.is_empty.ensures ∙ c.if-is_empty.true))
+returns-then-is_empty-clause-grants c = c.new.ensures ∙ sym (grants_none _ c.args.self.now _ _ c.self.view_is c.self.invariant (sym c.is_empty.ensures ∙ c.if-is_empty.true))
 
 pub returns-then-is_empty-clause-after : goal.returns-then-is_empty-clause-after
 returns-then-is_empty-clause-after c = sym (chooses_none _ c.args.self.now _ _ c.self.view_is c.self.invariant (sym c.is_empty.ensures ∙ c.if-is_empty.true))
 
 pub returns-then-is_empty-clause-matching : goal.returns-then-is_empty-clause-matching
-returns-then-is_empty-clause-matching c = idle_choice c.args.self.now (subst SendsNothing c.self.view_is (none_ready_of _ _ c.self.invariant.ready (sym c.is_empty.ensures ∙ c.if-is_empty.true)))
+returns-then-is_empty-clause-matching c = subst (IsSwitchMatching c.args.self.now.switch_alloc (ready_outs c.args.self.now)) (sym c.new.ensures) (idle_choice c.args.self.now (subst SendsNothing c.self.view_is (none_ready_of _ _ c.self.invariant.ready (sym c.is_empty.ensures ∙ c.if-is_empty.true))))
