@@ -23,14 +23,16 @@ pub struct LaneState {
 /// Where a node's packets come in: what it accepted, and how much of it was fed.
 #[derive(Drop)]
 pub struct Source {
+    /// Whether the class of this number has a flit that was not fed. A turn mostly reads this and the next alone.
+    unfed: [bool; 4],
+    /// The first channel of each class.
+    firsts: [u8; 4],
     /// The node where its lanes begin.
     node: u8,
     /// The number of nodes, 1 to 256.
     nodes: u16,
     /// The channels that classes own.
     classes: ClassChannels,
-    /// The first channel of each class.
-    firsts: [u8; 4],
     /// The flits of each class.
     queues: Vec<Queue>,
     /// The lanes by destination, then class.
@@ -38,13 +40,13 @@ pub struct Source {
 }
 
 impl Model for Source {
-    ghost use Rattle.worm_term.specs.Source.{SourceState, IsSource, AreFirsts, source_state};
+    ghost use Rattle.worm_term.specs.Source.{SourceState, IsSource, AreFirsts, KnowsUnfed, source_state};
 
     ghost Value = { SourceState };
 
     ghost view = { λ s. source_state s.node s.nodes s.classes s.queues.items s.lanes.items };
 
-    ghost invariant = { λ s. IsSource (source_state s.node s.nodes s.classes s.queues.items s.lanes.items) × AreFirsts s.classes s.firsts };
+    ghost invariant = { λ s. IsSource (source_state s.node s.nodes s.classes s.queues.items s.lanes.items) × AreFirsts s.classes s.firsts × KnowsUnfed s.queues.items s.unfed };
 }
 
 /// The first channel of each class; past the last class 0.
@@ -96,10 +98,11 @@ impl Source {
         let queues = make_queues(alloc, count)?;
         let lanes = make_lanes(alloc, usize::from(nodes) * usize::from(count))?;
         Ok(Source {
+            unfed: [false; 4],
+            firsts,
             node,
             nodes,
             classes,
-            firsts,
             queues,
             lanes,
         })
@@ -162,6 +165,7 @@ impl Source {
         if queue.append_packet(packet, number).is_err() {
             return Err(OfferFault::NoMemory);
         }
+        self.unfed[usize::from(lane.class)] = true;
         self.lanes[i] = LaneState {
             next: number + 1,
             closed: false,
@@ -184,6 +188,7 @@ impl Source {
         if queue.append(close_flit(lane, number)).is_err() {
             return Err(OfferFault::NoMemory);
         }
+        self.unfed[usize::from(lane.class)] = true;
         self.lanes[i] = LaneState {
             closed: true,
             next: number + 1,
@@ -204,8 +209,7 @@ impl Source {
         requires { class < classes self.now }
         ensures { result ≡ option_map (λ f. f.vc) (front_of self.now class) }
     {
-        let queue = &self.queues[usize::from(class)];
-        if queue.fed() == queue.injected().len() {
+        if !self.unfed[usize::from(class)] {
             return None;
         }
         Some(self.first_channel(class))
@@ -228,7 +232,7 @@ impl Source {
         ensures { self.new ≡ after_fed self.old class }
     {
         let queue = &mut self.queues[usize::from(class)];
-        queue.feed();
+        self.unfed[usize::from(class)] = queue.feed();
     }
 
     /// All flits of the class that were accepted, in order.
