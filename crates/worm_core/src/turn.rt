@@ -98,8 +98,10 @@ impl Net {
         requires { node < node_count self.old.mesh }
         ensures { Does (FeedsClasses node) self.old None self.new }
     {
-        for class in 0..self.classes() {
+        let mut from = 0;
+        while let Some(class) = self.next_class(node, from) {
             let _fed = self.feed_there(node, class);
+            from = class + 1;
         }
     }
 
