@@ -23,10 +23,6 @@ pub struct LaneState {
 /// Where a node's packets come in: what it accepted, and how much of it was fed.
 #[derive(Drop)]
 pub struct Source {
-    /// Whether the class of this number has a flit that was not fed. A turn mostly reads this and the next alone.
-    unfed: [bool; 4],
-    /// The first channel of each class.
-    firsts: [u8; 4],
     /// The node where its lanes begin.
     node: u8,
     /// The number of nodes, 1 to 256.
@@ -37,6 +33,11 @@ pub struct Source {
     queues: Vec<Queue>,
     /// The lanes by destination, then class.
     lanes: Vec<LaneState>,
+    /// The first channel of each class.
+    firsts: [u8; 4],
+    /// Whether the class of this number has a flit that was not fed. This and `firsts` stand last, since a turn mostly reads them alone
+    /// and goes on with what stands behind the source.
+    unfed: [bool; 4],
 }
 
 impl Model for Source {
@@ -98,13 +99,13 @@ impl Source {
         let queues = make_queues(alloc, count)?;
         let lanes = make_lanes(alloc, usize::from(nodes) * usize::from(count))?;
         Ok(Source {
-            unfed: [false; 4],
-            firsts,
             node,
             nodes,
             classes,
             queues,
             lanes,
+            firsts,
+            unfed: [false; 4],
         })
     }
 
