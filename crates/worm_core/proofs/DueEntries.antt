@@ -65,7 +65,7 @@ stands_in_order n t xs a b d within below stands =
     let high = stands.behind b d (omega arith) (omega arith) in
     omega arith
 
-less : (a b : ℕ) → nat_lt a b ≡ true → a < b
+pub less : (a b : ℕ) → nat_lt a b ≡ true → a < b
 less a b e = grind arith
 
 not_less : (a b : ℕ) → nat_lt a b ≡ false → b ≤ a
@@ -110,3 +110,19 @@ due_part entries turn a b within first next =
     let stands = stands_by (λ (e : Entry). e.turn) turn entries a b first next in
     let rise = places_rise (λ (e : Entry). e.turn) turn entries a b within stands in
     (rise, sym (stands_part (λ (e : Entry). e.turn) turn entries a b rise stands))
+
+-- a turn behind the last entry's has none
+pub none_behind : (entries : List Entry) (turn : ℕ) → AreInOrder entries → ((d : Entry) → 0 < length entries → (get_or entries (length entries - 1) d).turn < turn) → due turn entries ≡ []
+none_behind entries turn in_order last =
+    let rise = turns_rise entries in_order in
+    let below : (k : ℕ) (d : Entry) → k < length entries → (get_or entries k d).turn < turn = λ k d there.
+    let risen = rise k (length entries - 1) d (omega arith) (omega arith) in
+    let end = last d (omega arith) in
+    omega arith in
+    let none : length entries - length entries ≡ 0 = omega arith in
+    stands_part (λ (e : Entry). e.turn) turn entries (length entries) (length entries) (omega arith) record {
+      before = below;
+      from = λ k d above within. absurd (omega arith);
+      to = λ k d within. let strictly = below k d within in omega arith;
+      behind = λ k d above within. absurd (omega arith);
+    } ∙ ap (λ (n : ℕ). take n (drop (length entries) entries)) none

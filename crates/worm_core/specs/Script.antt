@@ -1,5 +1,5 @@
 -- The order of a script's entries, and those of a turn and of a node.
-use Rattle.std.specs.Prelude.{ℕ, ◌≤◌, ◌+◌, ◌-◌, ◌<◌, ◌==◌, List, length, map, filter, slice_index}
+use Rattle.std.specs.Prelude.{ℕ, ◌≤◌, ◌+◌, ◌-◌, ◌<◌, ◌==◌, Bool, false, true, List, Option, None, Some, length, map, filter, slice_index, slice_index_or}
 use Rattle.worm_flit.specs.declared.Lane.{Lane}
 use Rattle.worm_core.specs.declared.script.Act.{Act}
 use Rattle.worm_core.specs.declared.script.Act.TheVariants.{Offer, Close}
@@ -29,3 +29,8 @@ due turn entries = filter (λ (e : Entry). e.turn == turn) entries
 -- those whose lane begins at a node, in their order
 abbrev pub begun_at : ℕ → List Entry → List Entry
 begun_at x entries = filter (λ (e : Entry). (lane_of e.act).src == x) entries
+
+-- a node of a list with a mark for each, if there is one
+abbrev pub is_marked : Option (List Bool) → ℕ → Bool
+is_marked None x = false
+is_marked (Some marks) x = slice_index_or marks x true

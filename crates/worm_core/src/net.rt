@@ -254,6 +254,16 @@ impl Net {
         self.fabric.next_flit(node, from)
     }
 
+    /// The first class from this one on of which the node can feed a flit; before it there is none to feed, and where there is none, past it.
+    pub(crate) fn next_class(&self, node: u8, from: u8) -> Option<u8>
+        requires { node < node_count self.now.mesh }
+        ensures class { IfSome result (λ class. (from ≤ class) × (class < length self.now.channels) × (class < 4)) }
+        ensures before { IfSome result (λ class. (k : ℕ) → from ≤ k → k < class → Tries (Event.Feed node k) self.now None self.now) }
+        ensures none { IfNone result ((k : ℕ) → from ≤ k → k < length self.now.channels → Tries (Event.Feed node k) self.now None self.now) }
+    {
+        self.fabric.next_class(node, from)
+    }
+
     /// The channels of the node that owe a credit.
     pub(crate) fn owing(&self, node: u8) -> ChannelSet
         requires { node < node_count self.now.mesh }

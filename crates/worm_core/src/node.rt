@@ -11,10 +11,10 @@ use worm_vcalloc::ChannelSet;
 /// One node: its router, and the two ends of its lanes.
 #[derive(Drop)]
 pub struct Node {
-    /// The router, whose terminal port is fed by the source and drained by the sink.
-    pub router: Router,
     /// Where the packets of this node's lanes come in.
     pub source: Source,
+    /// The router, whose terminal port is fed by the source and drained by the sink.
+    pub router: Router,
     /// Where the flits for this node come out.
     pub sink: Sink,
 }

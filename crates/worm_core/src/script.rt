@@ -1,4 +1,4 @@
-ghost use Rattle.std.specs.Prelude.{◌≡◌, ◌<◌, ◌≤◌, ◌↔◌, ◌++◌, ◌∷◌, [], OnOk, OnErr, length, slice_range};
+ghost use Rattle.std.specs.Prelude.{◌≡◌, ◌<◌, ◌≤◌, ◌↔◌, ◌++◌, ◌∷◌, [], IsTrue, OnOk, OnErr, length, slice_range};
 ghost use Rattle.worm_core.specs.Script.{AreInOrder, due, lane_of, last_turn};
 
 use std::alloc::Global;
@@ -112,11 +112,24 @@ impl Script {
         self.entries.as_slice()
     }
 
+    /// Whether all entries are of turns before this one, so that it has none.
+    fn is_over(&self, turn: u64) -> bool
+        ensures { IsTrue result → due turn self.now ≡ [] }
+    {
+        match self.entries.last() {
+            None => true,
+            Some(last) => u64::from(last.turn) < turn,
+        }
+    }
+
     /// The entries of a turn, in order.
     pub fn due(&self, turn: u64) -> &[Entry]
         ensures { result.now ≡ due turn self.now }
     {
         let entries = self.entries.as_slice();
+        if self.is_over(turn) {
+            return &entries[..0];
+        }
         let (first, next) = due_places(entries, turn);
         &entries[first..next]
     }

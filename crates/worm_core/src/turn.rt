@@ -1,11 +1,11 @@
 //! The turn of a node, and the turns of all nodes in rising number.
 
-ghost use Rattle.std.specs.Prelude.{ℕ, List, [], ◌≡◌, ◌<◌, ◌≤◌, ◌*◌, None, Some, true, false, length, slice_index_or, sum};
+ghost use Rattle.std.specs.Prelude.{ℕ, List, [], ◌≡◌, ◌<◌, ◌≤◌, ◌*◌, None, Some, true, false, length, sum};
 ghost use Rattle.std.specs.Result.{result_err};
 ghost use Rattle.worm_mesh.specs.Address.{node_count};
 ghost use Rattle.worm_core.specs.Answers.{Answers};
 ghost use Rattle.worm_core.specs.Headline.{DeliversInOrder, NothingFollowsMarks};
-ghost use Rattle.worm_core.specs.Script.{begun_at, due};
+ghost use Rattle.worm_core.specs.Script.{begun_at, due, is_marked};
 ghost use Rattle.worm_core.specs.State.{IsNet};
 ghost use Rattle.worm_core.specs.declared.script.Entry.{Entry};
 ghost use Rattle.worm_router.specs.Router.{input_at, width};
@@ -27,15 +27,28 @@ fn tried(answer: Result<Moved, StepFault>) -> Result<(), StepFault>
     }
 }
 
-/// The nodes whose sources these entries ask, by number: an entry is for none of the others.
-fn sources_of(entries: &[Entry]) -> [bool; 256]
-    ensures { (x : ℕ) → x < 256 → slice_index_or result x true ≡ false → begun_at x entries.now ≡ [] }
+/// The nodes whose sources these entries ask, by number: an entry is for none of the others. None where there is no entry.
+fn sources_of(entries: &[Entry]) -> Option<[bool; 256]>
+    ensures { (x : ℕ) → x < 256 → is_marked result x ≡ false → begun_at x entries.now ≡ [] }
 {
+    if entries.is_empty() {
+        return None;
+    }
     let mut sources = [false; 256];
     for entry in entries {
         sources[usize::from(entry.act.lane().src)] = true;
     }
-    sources
+    Some(sources)
+}
+
+/// Whether the node is one of these.
+fn asks(sources: &Option<[bool; 256]>, node: u8) -> bool
+    ensures { result ≡ is_marked sources.now node }
+{
+    match sources {
+        None => false,
+        Some(sources) => sources[usize::from(node)],
+    }
 }
 
 /// Turns are functions of the network and the script: unless want of memory ends it, a turn leads from one network to one alone, with
@@ -98,8 +111,10 @@ impl Net {
         requires { node < node_count self.old.mesh }
         ensures { Does (FeedsClasses node) self.old None self.new }
     {
-        for class in 0..self.classes() {
+        let mut from = 0;
+        while let Some(class) = self.next_class(node, from) {
             let _fed = self.feed_there(node, class);
+            from = class + 1;
         }
     }
 
@@ -211,7 +226,7 @@ impl Net {
     {
         let sources = sources_of(entries);
         for node in 0..self.nodes() {
-            self.node_turn(node as u8, entries, sources[usize::from(node)])?;
+            self.node_turn(node as u8, entries, asks(&sources, node as u8))?;
         }
         Ok(())
     }

@@ -1,5 +1,5 @@
 -- What a contract sees of a source, and what each call makes of it.
-use Rattle.std.specs.Prelude.{ℕ, ◌+◌, ◌*◌, ◌≤◌, ◌<◌, ◌≡◌, ◌==◌, Bool, true, false, ◌&&◌, not, nat_lt, nat_le, if◌then◌else◌, List, [], ◌∷◌, length, slice_index, slice_index_or, slice_set, replicate, All, Option, None, Some, option_map}
+use Rattle.std.specs.Prelude.{ℕ, ◌+◌, ◌*◌, ◌≤◌, ◌<◌, ◌≡◌, ◌==◌, Bool, true, false, ◌&&◌, not, nat_lt, nat_le, if◌then◌else◌, List, [], ◌∷◌, length, slice_index, slice_index_or, slice_set, replicate, All, Option, None, Some, is_some, option_map}
 use Rattle.worm_flit.specs.declared.Lane.{Lane}
 use Rattle.worm_flit.specs.declared.Flit.{Flit}
 use Rattle.worm_flit.specs.Channels.{first_channel}
@@ -116,3 +116,8 @@ pub record IsSource (s : SourceState) : Type 0 where
 pub record AreFirsts (channels firsts : List ℕ) : Type 0 where
   pub few : length channels ≤ 4
   pub each : (class : ℕ) → class < length channels → slice_index firsts class ≡ first_channel channels class
+
+-- what is kept of each class is whether it has a flit that was not fed
+pub record KnowsUnfed (queues : List QueueState) (unfed : List Bool) : Type 0 where
+  pub all : length unfed ≡ 4
+  pub each : (class : ℕ) → class < length queues → slice_index_or unfed class false ≡ is_some (waiting (slice_index_or queues class empty_queue))

@@ -1,4 +1,4 @@
-ghost use Rattle.std.specs.Prelude.{◌≡◌, ◌+◌, ◌≤◌, ◌<◌, [], ◌∷◌, ◌++◌, length, OnOk, OnErr, IsSome};
+ghost use Rattle.std.specs.Prelude.{◌≡◌, ◌+◌, ◌≤◌, ◌<◌, [], ◌∷◌, ◌++◌, length, OnOk, OnErr, IsSome, is_some};
 ghost use Rattle.worm_flit.specs.Packets.{packet_flits};
 ghost use Rattle.worm_term.specs.Queue.{empty_queue, appended, waiting, one_fed};
 
@@ -56,6 +56,7 @@ impl Queue {
     pub fn append_packet(&mut self, packet: &Packet, number: u16) -> Result<(), AllocError>
         ensures ok { OnOk result (self.new ≡ appended self.old (packet_flits packet.now.lane number packet.now.words)) }
         ensures err { OnErr result (self.new ≡ self.old) }
+        ensures waits { OnOk result (IsSome (waiting self.new)) }
         ensures some { 1 ≤ length packet.now.words }
         ensures few { length packet.now.words ≤ 32 }
     {
@@ -66,6 +67,7 @@ impl Queue {
     pub fn append(&mut self, flit: Flit) -> Result<(), AllocError>
         ensures ok { OnOk result (self.new ≡ appended self.old (flit ∷ [])) }
         ensures err { OnErr result (self.new ≡ self.old) }
+        ensures waits { OnOk result (IsSome (waiting self.new)) }
     {
         self.injected.push(flit)?;
         Ok(())
@@ -78,12 +80,14 @@ impl Queue {
         self.injected.get(self.fed).copied()
     }
 
-    /// The first flit that was not fed is fed.
-    pub fn feed(&mut self)
+    /// The first flit that was not fed is fed. Whether one is left.
+    pub fn feed(&mut self) -> bool
         requires { IsSome (waiting self.old) }
-        ensures { self.new ≡ one_fed self.old }
+        ensures after { self.new ≡ one_fed self.old }
+        ensures left { result ≡ is_some (waiting self.new) }
     {
         self.fed += 1;
+        self.fed < self.injected.len()
     }
 
     /// All flits that were accepted.

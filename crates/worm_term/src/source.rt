@@ -29,22 +29,25 @@ pub struct Source {
     nodes: u16,
     /// The channels that classes own.
     classes: ClassChannels,
-    /// The first channel of each class.
-    firsts: [u8; 4],
     /// The flits of each class.
     queues: Vec<Queue>,
     /// The lanes by destination, then class.
     lanes: Vec<LaneState>,
+    /// The first channel of each class.
+    firsts: [u8; 4],
+    /// Whether the class of this number has a flit that was not fed. This and `firsts` stand last, since a turn mostly reads them alone
+    /// and goes on with what stands behind the source.
+    unfed: [bool; 4],
 }
 
 impl Model for Source {
-    ghost use Rattle.worm_term.specs.Source.{SourceState, IsSource, AreFirsts, source_state};
+    ghost use Rattle.worm_term.specs.Source.{SourceState, IsSource, AreFirsts, KnowsUnfed, source_state};
 
     ghost Value = { SourceState };
 
     ghost view = { λ s. source_state s.node s.nodes s.classes s.queues.items s.lanes.items };
 
-    ghost invariant = { λ s. IsSource (source_state s.node s.nodes s.classes s.queues.items s.lanes.items) × AreFirsts s.classes s.firsts };
+    ghost invariant = { λ s. IsSource (source_state s.node s.nodes s.classes s.queues.items s.lanes.items) × AreFirsts s.classes s.firsts × KnowsUnfed s.queues.items s.unfed };
 }
 
 /// The first channel of each class; past the last class 0.
@@ -99,9 +102,10 @@ impl Source {
             node,
             nodes,
             classes,
-            firsts,
             queues,
             lanes,
+            firsts,
+            unfed: [false; 4],
         })
     }
 
@@ -162,6 +166,7 @@ impl Source {
         if queue.append_packet(packet, number).is_err() {
             return Err(OfferFault::NoMemory);
         }
+        self.unfed[usize::from(lane.class)] = true;
         self.lanes[i] = LaneState {
             next: number + 1,
             closed: false,
@@ -184,6 +189,7 @@ impl Source {
         if queue.append(close_flit(lane, number)).is_err() {
             return Err(OfferFault::NoMemory);
         }
+        self.unfed[usize::from(lane.class)] = true;
         self.lanes[i] = LaneState {
             closed: true,
             next: number + 1,
@@ -204,8 +210,7 @@ impl Source {
         requires { class < classes self.now }
         ensures { result ≡ option_map (λ f. f.vc) (front_of self.now class) }
     {
-        let queue = &self.queues[usize::from(class)];
-        if queue.fed() == queue.injected().len() {
+        if !self.unfed[usize::from(class)] {
             return None;
         }
         Some(self.first_channel(class))
@@ -228,7 +233,7 @@ impl Source {
         ensures { self.new ≡ after_fed self.old class }
     {
         let queue = &mut self.queues[usize::from(class)];
-        queue.feed();
+        self.unfed[usize::from(class)] = queue.feed();
     }
 
     /// All flits of the class that were accepted, in order.

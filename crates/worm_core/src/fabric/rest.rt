@@ -1,6 +1,6 @@
 //! Whether a node is at rest: nothing can come into it, and its router has nothing to do.
 
-ghost use Rattle.std.specs.Prelude.{ℕ, ◌≡◌, ◌<◌, ◌*◌, IsTrue, IsSome, None, false, length};
+ghost use Rattle.std.specs.Prelude.{ℕ, ◌≡◌, ◌<◌, ◌≤◌, ◌*◌, IfNone, IfSome, IsTrue, IsSome, None, false, length};
 ghost use Rattle.worm_mesh.specs.Address.{node_count, neighbour_of};
 ghost use Rattle.worm_router.specs.Router.{terminal};
 ghost use Rattle.worm_term.specs.Source.{front_of};
@@ -21,19 +21,31 @@ impl Fabric {
         self.links.is_quiet(node)
     }
 
+    /// The first class from this one on of which the node's source has a flit, and for that there is room.
+    pub fn next_class(&self, node: u8, from: u8) -> Option<u8>
+        requires sound { IsNet self.now }
+        requires node { node < node_count self.now.mesh }
+        ensures class { IfSome result (λ class. (from ≤ class) × (class < length self.now.channels) × (class < 4)) }
+        ensures before { IfSome result (λ class. (k : ℕ) → from ≤ k → k < class → can_enter (router_at self.now node) (terminal (router_at self.now node)) (front_of (source_at self.now node) k) ≡ false) }
+        ensures none { IfNone result ((k : ℕ) → from ≤ k → k < length self.now.channels → can_enter (router_at self.now node) (terminal (router_at self.now node)) (front_of (source_at self.now node) k) ≡ false) }
+    {
+        let terminal = self.terminal();
+        let here = self.node(node);
+        for class in from..self.classes.classes() {
+            if here.can_feed(class, terminal) {
+                return Some(class);
+            }
+        }
+        None
+    }
+
     /// Whether the node's source has no flit for which there is room.
     fn feeds_nothing(&self, node: u8) -> bool
         requires sound { IsNet self.now }
         requires node { node < node_count self.now.mesh }
         ensures { IsTrue result → (k : ℕ) → k < length self.now.channels → can_enter (router_at self.now node) (terminal (router_at self.now node)) (front_of (source_at self.now node) k) ≡ false }
     {
-        let terminal = self.terminal();
-        for class in 0..self.classes.classes() {
-            if self.node(node).can_feed(class, terminal) {
-                return false;
-            }
-        }
-        true
+        self.next_class(node, 0).is_none()
     }
 
     /// Whether the node is found to be still; that is kept, so that it is not asked again until the node changes.

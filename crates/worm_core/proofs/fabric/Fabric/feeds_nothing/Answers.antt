@@ -1,29 +1,12 @@
-use Rattle.std.proofs.Common.{◌≡◌, ◌<◌, false, length, inl, inr, arith, sym, subst}
-use Rattle.worm_router.specs.Router.{terminal}
-use Rattle.worm_term.specs.Source.{front_of}
-use Rattle.worm_theory.proofs.Places.{number_cases}
-use Rattle.worm_core.specs.Shape.{net_shape}
-use Rattle.worm_core.specs.State.{NetState}
-use Rattle.worm_core.specs.Moves.{can_enter}
-use Rattle.worm_core.specs.declared.node.Node.{Node}
-use Rattle.worm_core.proofs.FeedStep.{feed_fits}
+use Rattle.std.proofs.Common.{◌≡◌, Bool, Option, None, Some, arith, false, not, true}
+use Rattle.std.specs.Prelude.{IfNone, is_some}
+use Rattle.worm_core.proofs.Arriving.{true_of}
 use Rattle.worm_core.proofs.fabric.Fabric.feeds_nothing.Goals as goal
 
-pub can_feed-requires-clause-front : goal.can_feed-requires-clause-front
-unfolding net_shape
-can_feed-requires-clause-front c =
-    let all : c.classes-class-end.result ≡ length c.args.self.now.channels = subst (λ (s : NetState). c.classes-class-end.result ≡ length s.channels) c.self.view_is c.classes-class-end.ensures.value in
-    let below : c.loop-class.class < length c.args.self.now.channels = let test = c.loop-class-test.true in omega arith in
-    rw c.node.ensures (feed_fits c.args.self.now c.args.node c.loop-class.class c.requires.sound (c.requires.node, below))
-
-pub loop-class-preserved : goal.loop-class-preserved
-loop-class-preserved c = λ k below. elim (number_cases k c.loop-class.class) [
-  | inl here ↦
-      rw here.1 (subst (λ (n : Node). can_enter n.router (terminal n.router) (front_of n.source c.loop-class.class) ≡ false) c.node.ensures (sym c.if-can_feed.ensures))
-  | inr away ↦ let other = away.1 in c.loop-class.invariant k (omega arith)
-]
+where_none : {A : Type 0} (o : Option A) (none : Bool) (P : Type 0) → IfNone o P → is_some o ≡ not none → none ≡ true → P
+where_none None none P holds is sure = holds
+where_none (Some a) true P holds is sure = absurd (cc)
+where_none (Some a) false P holds is sure = absurd (cc)
 
 pub returns : goal.returns
-returns c = λ yes k below.
-    let all : c.classes-class-end.result ≡ length c.args.self.now.channels = subst (λ (s : NetState). c.classes-class-end.result ≡ length s.channels) c.self.view_is c.classes-class-end.ensures.value in
-    c.loop-class.invariant k (let ended = c.loop-class-test.false in omega arith)
+returns c = λ yes k below. where_none c.next_class.result c.is_none.result _ c.next_class.ensures.none c.is_none.ensures (true_of c.is_none.result yes) k (omega arith) below

@@ -1,22 +1,29 @@
 use Rattle.std.proofs.Common.{List, Ok, ℕ, None, ap, arith, length, map, refl}
-use Rattle.worm_mesh.specs.Address.{node_count}
 use Rattle.worm_theory.specs.Steps.{Feed}
 use Rattle.worm_core.specs.Answers.{moved_of}
 use Rattle.worm_core.specs.Turns.{Tries, all_classes}
-use Rattle.worm_core.proofs.Passages.{loop_more, does_quietly, does_ranged}
+use Rattle.worm_core.proofs.Passages.{loop_more, loop_on, does_quietly, does_ranged}
 use Rattle.worm_core.proofs.net.Net.feed_classes.Goals as goal
-
-pub feed_there-fed-requires-clause-node : goal.feed_there-fed-requires-clause-node
-feed_there-fed-requires-clause-node c = let same = ap (λ (m : List ℕ). node_count m) c.loop-class.invariant.reaches.config.mesh in omega arith
-
-pub feed_there-fed-requires-clause-class : goal.feed_there-fed-requires-clause-class
-feed_there-fed-requires-clause-class c = let same = ap (λ (m : List ℕ). length m) c.loop-class.invariant.reaches.config.channels in omega arith
 
 pub loop-class-preserved : goal.loop-class-preserved
 loop-class-preserved c =
-    loop_more (λ i. Tries (Feed c.args.node i)) c.loop-class.class c.args.self.now c.loop-class.self c.feed_there-fed.new.self None c.loop-class.invariant
-    (does_quietly c.loop-class.self c.feed_there-fed.new.self (Feed c.args.node c.loop-class.class) (Ok (moved_of c.feed_there-fed.result)) refl (λ grows. grows) c.feed_there-fed.ensures)
+    let inv = c.loop-class.invariant in
+    let class = c.in-Some.ensures.class in
+    let on = loop_on (λ i. Tries (Feed c.args.node i)) c.loop-class.from c.in-Some.class c.args.self.now c.loop-class.self class.0 inv.passed c.in-Some.ensures.before in
+    let more = loop_more (λ i. Tries (Feed c.args.node i)) c.in-Some.class c.args.self.now c.loop-class.self c.feed_there-fed.new.self None on
+    (does_quietly c.loop-class.self c.feed_there-fed.new.self (Feed c.args.node c.in-Some.class) (Ok (moved_of c.feed_there-fed.result)) refl (λ grows. grows) c.feed_there-fed.ensures) in
+    let before = ap (λ (cs : List ℕ). length cs) inv.passed.reaches.config.channels in
+    let after = ap (λ (cs : List ℕ). length cs) more.reaches.config.channels in
+    record {
+      passed = more;
+      class = omega (arith, class.1);
+      few = omega (arith, class.2);
+    }
 
 pub returns : goal.returns
 returns c =
-    does_ranged (λ s. map (Feed c.args.node) (all_classes s)) (Feed c.args.node) (length c.args.self.now.channels) c.loop-class.class c.args.self.now c.loop-class.self refl (omega arith) c.loop-class.invariant
+    let inv = c.loop-class.invariant in
+    let same = ap (λ (cs : List ℕ). length cs) inv.passed.reaches.config.channels in
+    let none = c.in_default.ensures.none in
+    let on = loop_on (λ i. Tries (Feed c.args.node i)) c.loop-class.from (length c.loop-class.self.channels) c.args.self.now c.loop-class.self inv.class inv.passed none in
+    does_ranged (λ s. map (Feed c.args.node) (all_classes s)) (Feed c.args.node) (length c.args.self.now.channels) (length c.loop-class.self.channels) c.args.self.now c.loop-class.self refl (omega arith) on
