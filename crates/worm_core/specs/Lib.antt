@@ -4,6 +4,7 @@ pub mod State
 pub mod Answers
 pub mod Wiring
 pub mod Ports
+pub mod Fronts
 pub mod Arrivals
 pub mod Moves
 pub mod Still

@@ -1,5 +1,5 @@
 ghost use Rattle.worm_core.specs.NewNet.{empty_link};
-ghost use Rattle.std.specs.Prelude.{◌≡◌, [], ◌∷◌, ◌++◌, ◌<◌, length, drop, slice_get, Some, IfOk, ◌≤◌, vec_capacity};
+ghost use Rattle.std.specs.Prelude.{◌≡◌, [], ◌∷◌, ◌++◌, ◌<◌, length, drop, slice_get, Some, IfOk, ◌≤◌, IfNone, IsSome, option_to_list, vec_len, vec_capacity};
 
 use std::alloc::{AllocError, Global};
 use std::marker::Model;
@@ -15,23 +15,56 @@ use worm_flit::Flit;
 /// ```
 #[derive(Drop)]
 pub struct LinkState {
-    /// The flits, in the order in which they were sent, on whatever channels.
-    flits: Vec<Flit>,
-    /// The channels whose credits are on their way back.
-    credits: Vec<u8>,
+    /// The front flit. Mostly there is one at most, so it lies here and not in the list.
+    front: Option<Flit>,
+    /// The channel of the front credit.
+    front_credit: Option<u8>,
+    /// Whether there are flits behind the front, so that mostly the list is not looked at.
+    has_more: bool,
+    /// Whether there are credits behind the front.
+    has_more_credits: bool,
     /// How many of each fit without growing; in a network at least the number of channels times the depth.
     room: u16,
+    /// The flits behind the front, in the order in which they were sent, on whatever channels.
+    flits: Vec<Flit>,
+    /// The channels whose credits are on their way back behind the front.
+    credits: Vec<u8>,
 }
 
 impl Model for LinkState {
-    ghost use Rattle.std.specs.Prelude.{vec_capacity, ◌≤◌};
+    ghost use Rattle.std.specs.Prelude.{vec_capacity, ◌++◌, option_to_list};
     ghost use Rattle.worm_core.specs.State.{LinkView};
+    ghost use Rattle.worm_core.specs.Fronts.{IsFronted};
 
     ghost Value = { LinkView };
 
-    ghost view = { λ l. record { flits = l.flits.items; credits = l.credits.items; room = l.room } };
+    ghost view = { λ l. record { flits = option_to_list l.front ++ l.flits.items; credits = option_to_list l.front_credit ++ l.credits.items; room = l.room } };
 
-    ghost invariant = { λ l. (l.room ≤ vec_capacity l.flits) × (l.room ≤ vec_capacity l.credits) };
+    ghost invariant = { λ l. (IsFronted l.front l.has_more l.flits.items (vec_capacity l.flits) l.room) × (IsFronted l.front_credit l.has_more_credits l.credits.items (vec_capacity l.credits) l.room) };
+}
+
+/// Takes the first out of the list, if there is one.
+fn take_first<T: Copy>(list: &mut Vec<T>) -> Option<T>
+    ensures items { list.old.items ≡ option_to_list result ++ list.new.items }
+    ensures none { IfNone result (list.new.items ≡ []) }
+    ensures capacity { vec_capacity list.new ≡ vec_capacity list.old }
+    ensures fits { IsSome result → vec_len list.new < vec_capacity list.new }
+{
+    if list.is_empty() {
+        return None;
+    }
+    Some(list.remove(0))
+}
+
+/// Puts it before the first of the list, which has room for it.
+fn put_first<T: Copy>(list: &mut Vec<T>, first: Option<T>)
+    requires { IsSome first → vec_len list.old < vec_capacity list.old }
+    ensures items { list.new.items ≡ option_to_list first ++ list.old.items }
+    ensures capacity { vec_capacity list.old ≤ vec_capacity list.new }
+{
+    if let Some(first) = first {
+        let _done = list.insert(0, first);
+    }
 }
 
 impl LinkState {
@@ -41,11 +74,7 @@ impl LinkState {
     {
         let flits = Vec::with_capacity(alloc, usize::from(room))?;
         let credits = Vec::with_capacity(alloc, usize::from(room))?;
-        Ok(LinkState {
-            flits,
-            credits,
-            room,
-        })
+        Ok(LinkState::from_lists(flits, credits, room))
     }
 
     /// The link with these flits and these credits on it, front first, which both have room for so many.
@@ -54,10 +83,18 @@ impl LinkState {
         requires credits { room ≤ vec_capacity credits }
         ensures { result ≡ record { flits = flits.items; credits = credits.items; room = room } }
     {
+        let mut flits = flits;
+        let mut credits = credits;
+        let front = take_first(&mut flits);
+        let front_credit = take_first(&mut credits);
         LinkState {
+            front,
+            front_credit,
+            has_more: !flits.is_empty(),
+            has_more_credits: !credits.is_empty(),
+            room,
             flits,
             credits,
-            room,
         }
     }
 
@@ -69,10 +106,16 @@ impl LinkState {
         ensures credit_room { self.room ≤ vec_capacity result.1 }
     {
         let LinkState {
-            flits,
-            credits,
+            front,
+            front_credit,
+            has_more: _,
+            has_more_credits: _,
             room: _,
+            mut flits,
+            mut credits,
         } = self;
+        put_first(&mut flits, front);
+        put_first(&mut credits, front_credit);
         (flits, credits)
     }
 
@@ -87,14 +130,18 @@ impl LinkState {
     pub fn front(&self) -> Option<Flit>
         ensures { result ≡ slice_get self.now.flits 0 }
     {
-        self.flits.first().copied()
+        // No flit is behind where there is no front.
+        self.front
     }
 
     /// How many flits are on it.
     pub fn count(&self) -> usize
         ensures { result ≡ length self.now.flits }
     {
-        self.flits.len()
+        match self.front {
+            None => 0,
+            Some(_) => 1 + self.flits.len(),
+        }
     }
 
     /// The flit at place `i`, counted from the front.
@@ -102,18 +149,21 @@ impl LinkState {
         requires { i < length self.now.flits }
         ensures { slice_get self.now.flits i ≡ Some result }
     {
-        self.flits[i]
+        match self.front {
+            Some(front) if i == 0 => front,
+            _ => self.flits[i - 1],
+        }
     }
 
     /// Drops the front flit, if there is one.
     pub fn pop(&mut self)
         ensures { self.new ≡ record self.old { flits = drop 1 self.old.flits } }
     {
-        // Mostly it is the only one, and then nothing moves up.
-        if self.flits.len() <= 1 {
-            self.flits.clear();
+        if self.has_more {
+            self.front = take_first(&mut self.flits);
+            self.has_more = !self.flits.is_empty();
         } else {
-            self.flits.remove(0);
+            self.front = None;
         }
     }
 
@@ -122,24 +172,31 @@ impl LinkState {
         requires { length self.old.flits < self.old.room }
         ensures { self.new ≡ record self.old { flits = self.old.flits ++ flit ∷ [] } }
     {
-        let _done = self.flits.push(flit);
+        if self.front.is_none() {
+            self.front = Some(flit);
+        } else {
+            let _done = self.flits.push(flit);
+            self.has_more = true;
+        }
     }
 
     /// The channel of the front credit, if there is one.
     pub fn front_credit(&self) -> Option<u8>
         ensures { result ≡ slice_get self.now.credits 0 }
     {
-        self.credits.first().copied()
+        // No credit is behind where there is no front.
+        self.front_credit
     }
 
     /// Drops the front credit, if there is one.
     pub fn pop_credit(&mut self)
         ensures { self.new ≡ record self.old { credits = drop 1 self.old.credits } }
     {
-        if self.credits.len() <= 1 {
-            self.credits.clear();
+        if self.has_more_credits {
+            self.front_credit = take_first(&mut self.credits);
+            self.has_more_credits = !self.credits.is_empty();
         } else {
-            self.credits.remove(0);
+            self.front_credit = None;
         }
     }
 
@@ -148,6 +205,11 @@ impl LinkState {
         requires { length self.old.credits < self.old.room }
         ensures { self.new ≡ record self.old { credits = self.old.credits ++ vc ∷ [] } }
     {
-        let _done = self.credits.push(vc);
+        if self.front_credit.is_none() {
+            self.front_credit = Some(vc);
+        } else {
+            let _done = self.credits.push(vc);
+            self.has_more_credits = true;
+        }
     }
 }
