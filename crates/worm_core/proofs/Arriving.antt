@@ -11,13 +11,14 @@ use Rattle.worm_mesh.proofs.Numbers.{one_link}
 use Rattle.worm_theory.proofs.Places.{number_cases}
 use Rattle.worm_core.specs.State.{LinkView, blank_link}
 use Rattle.worm_core.specs.Moves.{into_from}
-use Rattle.worm_core.specs.Wiring.{out_link, in_link}
+use Rattle.worm_core.specs.Wiring.{out_link, in_link, port_links}
 use Rattle.worm_core.specs.Ports.{has, IsFirstFrom, IsPut}
 use Rattle.worm_core.specs.Arrivals.{LinksView, KnowsArrivals, KnowsAll, credits_of, credits_to, flits_of, flits_to, no_arrivals, number_into, number_out, state_at, with_state}
 use Rattle.worm_core.specs.declared.links.Arrivals.{Arrivals}
+use Rattle.worm_core.specs.declared.wiring.PortLinks.{PortLinks}
 use Rattle.std.proofs.lemmas.Bool.{cases_lt}
 use Rattle.worm_core.proofs.PortSets.{has_none}
-use Rattle.worm_core.proofs.Wired.{in_none, out_none}
+use Rattle.worm_core.proofs.Wired.{in_none, out_none, parts, ports_within}
 
 -- Each link is that of one port
 
@@ -268,52 +269,45 @@ forgets_credits l kept x o i j bits d knows all x_in at_i at_j put none =
     let put_here : IsPut (get_or kept x no_arrivals).credits bits o false = subst (λ (a : Arrivals). IsPut a.credits bits o false) entry put in
     rw (at_j, entry) (knows_no_credits l kept x o bits knows x_in (omega arith) put_here none)
 
--- the other end of a port that has a neighbour
-end_is : (y q p : ℕ) (n : Option ℕ) → ◌≡◌ {A = Option (ℕ × ℕ)} (Some (y, q)) (option_map (λ (z : ℕ). (z, opposite_of p)) n) → (n ≡ Some y) × (q ≡ opposite_of p)
-end_is y q p None e = let no : ◌≡◌ {A = Option (ℕ × ℕ)} (Some (y, q)) None = e in absurd (cc)
-end_is y q p (Some z) e =
-    let is : ◌≡◌ {A = Option (ℕ × ℕ)} (Some (y, q)) (Some (z, opposite_of p)) = e in
-    let pair : ◌≡◌ {A = ℕ × ℕ} (y, q) (z, opposite_of p) = cc in
-    (ap (λ (v : ℕ). Some v) (sym (ap (λ (e : ℕ × ℕ). e.0) pair)), ap (λ (e : ℕ × ℕ). e.1) pair)
-
-pub pushes : (mesh : List ℕ) (states : List LinkView) (now : LinksView) (kept : List Arrivals) (x o y q k m i j bits : ℕ) (d : Arrivals) (read new : LinkView) (flits : List Flit) → KnowsAll (record { mesh = mesh; states = states }) kept → length kept ≡ 256 → record { mesh = mesh; states = states } ≡ now → IsRadices mesh
-    → y < 256 → i ≡ y → j ≡ y → m ≡ k → ◌≡◌ {A = Option (ℕ × ℕ)} (Some (y, q)) (option_map (λ (z : ℕ). (z, opposite_of o)) (neighbour_of mesh x o)) → k ≡ number_out now x o → k < link_count now.mesh → length now.states ≡ link_count now.mesh → read ≡ get_or states m read
-    → new ≡ record read { flits = flits } → IsPut (get_or kept i d).flits bits q true
+pub pushes : (mesh : List ℕ) (states : List LinkView) (now : LinksView) (kept : List Arrivals) (x o m i j bits : ℕ) (links : PortLinks) (d : Arrivals) (read new : LinkView) (flits : List Flit) → KnowsAll (record { mesh = mesh; states = states }) kept → length kept ≡ 256 → record { mesh = mesh; states = states } ≡ now → IsRadices mesh
+    → links.beyond < 256 → i ≡ links.beyond → j ≡ links.beyond → m ≡ links.out → ◌≡◌ {A = Option PortLinks} (Some links) (port_links mesh x o) → length now.states ≡ link_count now.mesh → read ≡ get_or states m read
+    → new ≡ record read { flits = flits } → IsPut (get_or kept i d).flits bits links.entered true
     → KnowsAll (record { mesh = mesh; states = set states m new }) (set kept j (record { flits = bits; credits = (get_or kept i d).credits }))
-pushes mesh states now kept x o y q k m i j bits d read new flits knows all same radices y_in at_i at_j at_m ends number_now below full reads news put =
-    let l : LinksView = record { mesh = mesh; states = states } in
-    let number : k ≡ links_before mesh x o = subst (λ (v : LinksView). k ≡ number_out v x o) (sym same) number_now in
-    let counted : length states ≡ link_count now.mesh = ap (λ (v : LinksView). length v.states) same ∙ full in
-    let k_there : k < length states = omega arith in
-    let i_there : i < length kept = omega arith in
-    let other = end_is y q o (neighbour_of mesh x o) ends in
-    let entry : get_or kept i d ≡ get_or kept y no_arrivals = get_or_default kept i d no_arrivals i_there ∙ ap (λ (v : ℕ). get_or kept v no_arrivals) at_i in
+pushes mesh states now kept x o m i j bits links d read new flits knows all same radices y_in at_i at_j at_m linked full reads news put =
+    let y = links.beyond in
+    let these = parts mesh x o links linked in
+    let counted : length states ≡ link_count mesh = subst (λ (v : LinksView). length v.states ≡ link_count v.mesh) (sym same) full in
+    let below = (ports_within mesh x o links radices linked).0 in
+    let number : links.out ≡ links_before mesh x o = ap (λ (l : PortLinks). l.out) these.1 in
+    let entered : links.entered ≡ opposite_of o = ap (λ (l : PortLinks). l.entered) these.1 in
+    let entry : get_or kept i d ≡ get_or kept y no_arrivals = get_or_default kept i d no_arrivals (omega arith) ∙ ap (λ (v : ℕ). get_or kept v no_arrivals) at_i in
     let place : m ≡ links_before mesh x o = at_m ∙ number in
-    let here : links_before mesh x o < length states = omega (arith, number) in
+    let here : links_before mesh x o < length states = omega arith in
     let link : read ≡ get_or states (links_before mesh x o) blank_link = reads ∙ (ap (λ (v : ℕ). get_or states v read) place ∙ get_or_default states (links_before mesh x o) read blank_link here) in
     let kept_too : new.credits ≡ (get_or states (links_before mesh x o) blank_link).credits = ap (λ (s : LinkView). s.credits) news ∙ ap (λ (s : LinkView). s.credits) link in
-    let put_there : IsPut (get_or kept y no_arrivals).flits bits (opposite_of o) true = subst (λ (a : Arrivals). IsPut a.flits bits (opposite_of o) true) entry (subst (λ (v : ℕ). IsPut (get_or kept i d).flits bits v true) other.1 put) in
-    rw (at_j, place, entry) (knows_push (record { mesh = mesh; states = states }) kept x o y bits new knows radices other.0 y_in (omega arith) here kept_too put_there)
+    let put_there : IsPut (get_or kept y no_arrivals).flits bits (opposite_of o) true = subst (λ (a : Arrivals). IsPut a.flits bits (opposite_of o) true) entry (subst (λ (v : ℕ). IsPut (get_or kept i d).flits bits v true) entered put) in
+    rw (at_j, place, entry) (knows_push (record { mesh = mesh; states = states }) kept x o y bits new knows radices these.0 y_in (omega arith) here kept_too put_there)
 
-pub pushes_credit : (mesh : List ℕ) (states : List LinkView) (now : LinksView) (kept : List Arrivals) (x p y q k m i j bits : ℕ) (d : Arrivals) (read new : LinkView) (credits : List ℕ) → KnowsAll (record { mesh = mesh; states = states }) kept → length kept ≡ 256 → record { mesh = mesh; states = states } ≡ now → IsRadices mesh
-    → y < 256 → i ≡ y → j ≡ y → m ≡ k → ◌≡◌ {A = Option (ℕ × ℕ)} (Some (y, q)) (option_map (λ (z : ℕ). (z, opposite_of p)) (neighbour_of mesh x p)) → k ≡ number_into now x p → k < link_count now.mesh → length now.states ≡ link_count now.mesh → read ≡ get_or states m read
-    → new ≡ record read { credits = credits } → IsPut (get_or kept i d).credits bits q true
+pub pushes_credit : (mesh : List ℕ) (states : List LinkView) (now : LinksView) (kept : List Arrivals) (x p m i j bits : ℕ) (links : PortLinks) (d : Arrivals) (read new : LinkView) (credits : List ℕ) → KnowsAll (record { mesh = mesh; states = states }) kept → length kept ≡ 256 → record { mesh = mesh; states = states } ≡ now → IsRadices now.mesh
+    → links.beyond < 256 → i ≡ links.beyond → j ≡ links.beyond → m ≡ links.into → ◌≡◌ {A = Option PortLinks} (Some links) (port_links now.mesh x p) → length now.states ≡ link_count now.mesh → read ≡ get_or states m read
+    → new ≡ record read { credits = credits } → IsPut (get_or kept i d).credits bits links.entered true
     → KnowsAll (record { mesh = mesh; states = set states m new }) (set kept j (record { flits = (get_or kept i d).flits; credits = bits }))
-pushes_credit mesh states now kept x p y q k m i j bits d read new credits knows all same radices y_in at_i at_j at_m ends number_now below full reads news put =
-    let l : LinksView = record { mesh = mesh; states = states } in
-    let number : k ≡ into_from mesh p (neighbour_of mesh x p) = subst (λ (v : LinksView). k ≡ number_into v x p) (sym same) number_now in
-    let counted : length states ≡ link_count now.mesh = ap (λ (v : LinksView). length v.states) same ∙ full in
-    let k_there : k < length states = omega arith in
-    let i_there : i < length kept = omega arith in
-    let other = end_is y q p (neighbour_of mesh x p) ends in
-    let entry : get_or kept i d ≡ get_or kept y no_arrivals = get_or_default kept i d no_arrivals i_there ∙ ap (λ (v : ℕ). get_or kept v no_arrivals) at_i in
-    let named : k ≡ links_before mesh y (opposite_of p) = number ∙ ap (λ (n : Option ℕ). into_from mesh p n) other.0 in
-    let place : m ≡ links_before mesh y (opposite_of p) = at_m ∙ named in
-    let here : links_before mesh y (opposite_of p) < length states = omega (arith, named) in
+pushes_credit mesh states now kept x p m i j bits links d read new credits knows all same radices_now y_in at_i at_j at_m linked_now full reads news put =
+    let y = links.beyond in
+    let radices : IsRadices mesh = subst (λ (v : LinksView). IsRadices v.mesh) (sym same) radices_now in
+    let linked : ◌≡◌ {A = Option PortLinks} (Some links) (port_links mesh x p) = subst (λ (v : LinksView). ◌≡◌ {A = Option PortLinks} (Some links) (port_links v.mesh x p)) (sym same) linked_now in
+    let these = parts mesh x p links linked in
+    let counted : length states ≡ link_count mesh = subst (λ (v : LinksView). length v.states ≡ link_count v.mesh) (sym same) full in
+    let below = (ports_within mesh x p links radices linked).1 in
+    let number : links.into ≡ links_before mesh y (opposite_of p) = ap (λ (l : PortLinks). l.into) these.1 in
+    let entered : links.entered ≡ opposite_of p = ap (λ (l : PortLinks). l.entered) these.1 in
+    let entry : get_or kept i d ≡ get_or kept y no_arrivals = get_or_default kept i d no_arrivals (omega arith) ∙ ap (λ (v : ℕ). get_or kept v no_arrivals) at_i in
+    let place : m ≡ links_before mesh y (opposite_of p) = at_m ∙ number in
+    let here : links_before mesh y (opposite_of p) < length states = omega arith in
     let link : read ≡ get_or states (links_before mesh y (opposite_of p)) blank_link = reads ∙ (ap (λ (v : ℕ). get_or states v read) place ∙ get_or_default states (links_before mesh y (opposite_of p)) read blank_link here) in
     let kept_too : new.flits ≡ (get_or states (links_before mesh y (opposite_of p)) blank_link).flits = ap (λ (s : LinkView). s.flits) news ∙ ap (λ (s : LinkView). s.flits) link in
-    let put_there : IsPut (get_or kept y no_arrivals).credits bits (opposite_of p) true = subst (λ (a : Arrivals). IsPut a.credits bits (opposite_of p) true) entry (subst (λ (v : ℕ). IsPut (get_or kept i d).credits bits v true) other.1 put) in
-    rw (at_j, place, entry) (knows_push_credit (record { mesh = mesh; states = states }) kept x p y bits new knows radices other.0 y_in (omega arith) here kept_too put_there)
+    let put_there : IsPut (get_or kept y no_arrivals).credits bits (opposite_of p) true = subst (λ (a : Arrivals). IsPut a.credits bits (opposite_of p) true) entry (subst (λ (v : ℕ). IsPut (get_or kept i d).credits bits v true) entered put) in
+    rw (at_j, place, entry) (knows_push_credit (record { mesh = mesh; states = states }) kept x p y bits new knows radices these.0 y_in (omega arith) here kept_too put_there)
 
 -- a link of which a look found no flit
 pub found_none : (states : List LinkView) (k i : ℕ) (read : LinkView) (some : Bool) → i ≡ k → i < length states → read ≡ get_or states i read → some ≡ is_some (slice_get read.flits 0) → some ≡ false → flits_of states (Some k) ≡ []
