@@ -1,6 +1,6 @@
 -- What comes in at each node, after a write of one link.
 use Rattle.std.proofs.Common.{◌≡◌, ◌==◌, ◌≢◌, ℕ, ◌+◌, ◌*◌, ◌<◌, ◌≤◌, below_more, Bool, true, false, inl, inr, List, [], ◌∷◌, length, drop, get_or, set, Option, Some, None, refl, arith, ap, sym, subst, ◌∙◌}
-use Rattle.std.specs.Prelude.{IfNone, IfSome, IsTrue, option_map, IsSome, is_some, not, slice_get}
+use Rattle.std.specs.Prelude.{IfNone, IfSome, MatchOption, IsTrue, option_map, IsSome, is_some, not, slice_get}
 use Rattle.std.proofs.lemmas.List.{get_or_default, get_or-set_other, get_or-set_same}
 use Rattle.worm_flit.specs.declared.Flit.{Flit}
 use Rattle.worm_mesh.specs.Address.{IsMesh as IsRadices, Joins, neighbour_of, opposite_of}
@@ -111,7 +111,14 @@ knows_set l kept i a there here others = λ x x_in. elim (number_cases x i) [
 put_known : (old new port : ℕ) (within : Bool) (P : ℕ → Type 0) → IsPut old new port within → (within ≡ false → P port) → ((p : ℕ) → p < 6 → (p ≡ port → ⊥) → has old p ≡ false → P p) → (p : ℕ) → p < 6 → has new p ≡ false → P p
 put_known old new port within P put here others p p_in off = elim (number_cases p port) [
   | inl at ↦ subst P (sym at.1) (here (sym put.here ∙ (ap (λ (q : ℕ). has new q) (sym at.1) ∙ off)))
-  | inr away ↦ others p p_in away.1 (sym (put.elsewhere p p_in away.1) ∙ off)
+  | inr away ↦ others p p_in away.1 (sym (put.elsewhere p (omega arith) away.1) ∙ off)
+]
+
+-- and the same of all ports that it has
+put_within : (old new port : ℕ) (within : Bool) (P : ℕ → Type 0) → IsPut old new port within → (within ≡ true → P port) → ((p : ℕ) → p < 8 → has old p ≡ true → P p) → (p : ℕ) → p < 8 → has new p ≡ true → P p
+put_within old new port within P put here others p p_in on = elim (number_cases p port) [
+  | inl at ↦ subst P (sym at.1) (here (sym put.here ∙ (ap (λ (q : ℕ). has new q) (sym at.1) ∙ on)))
+  | inr away ↦ others p p_in (sym (put.elsewhere p p_in away.1) ∙ on)
 ]
 
 -- The front flit of a link is dropped, or its front credit
@@ -120,12 +127,16 @@ knows_popped : (l : LinksView) (kept : List Arrivals) (k : ℕ) → KnowsAll l k
 knows_popped l kept k knows there = λ y y_in. record {
   flits = λ q q_in off. popped_flits l.states k there (in_link l.mesh y q) ((knows y y_in).flits q q_in off);
   credits = λ q q_in off. same_credits l.states k (record (state_at l k) { flits = drop 1 (state_at l k).flits }) there refl (out_link l.mesh y q) ∙ (knows y y_in).credits q q_in off;
+  flit_ports = (knows y y_in).flit_ports;
+  credit_ports = (knows y y_in).credit_ports;
 }
 
 knows_popped_credit : (l : LinksView) (kept : List Arrivals) (k : ℕ) → KnowsAll l kept → k < length l.states → KnowsAll (with_state l k (record (state_at l k) { credits = drop 1 (state_at l k).credits })) kept
 knows_popped_credit l kept k knows there = λ y y_in. record {
   flits = λ q q_in off. same_flits l.states k (record (state_at l k) { credits = drop 1 (state_at l k).credits }) there refl (in_link l.mesh y q) ∙ (knows y y_in).flits q q_in off;
   credits = λ q q_in off. popped_credits l.states k there (out_link l.mesh y q) ((knows y y_in).credits q q_in off);
+  flit_ports = (knows y y_in).flit_ports;
+  credit_ports = (knows y y_in).credit_ports;
 }
 
 -- A port by which nothing comes in is left out
@@ -137,6 +148,8 @@ knows_no_flits l kept x p bits knows x_in x_there put none =
     record {
       flits = put_known (get_or kept x no_arrivals).flits bits p false (λ q. flits_to l x q ≡ []) put (λ off. none) (λ q q_in away off. (knows x x_in).flits q q_in off);
       credits = (knows x x_in).credits;
+      flit_ports = put_within (get_or kept x no_arrivals).flits bits p false (λ q. q < 2 * length l.mesh) put (λ on. absurd (cc)) (knows x x_in).flit_ports;
+      credit_ports = (knows x x_in).credit_ports;
     }
     (λ y y_in away. knows y y_in)
 
@@ -147,8 +160,14 @@ knows_no_credits l kept x o bits knows x_in x_there put none =
     record {
       flits = (knows x x_in).flits;
       credits = put_known (get_or kept x no_arrivals).credits bits o false (λ q. credits_to l x q ≡ []) put (λ off. none) (λ q q_in away off. (knows x x_in).credits q q_in off);
+      flit_ports = (knows x x_in).flit_ports;
+      credit_ports = put_within (get_or kept x no_arrivals).credits bits o false (λ q. q < 2 * length l.mesh) put (λ on. absurd (cc)) (knows x x_in).credit_ports;
     }
     (λ y y_in away. knows y y_in)
+
+-- the port that is entered is a mesh port
+entered_there : (mesh : List ℕ) (x o y : ℕ) → IsRadices mesh → neighbour_of mesh x o ≡ Some y → opposite_of o < 2 * length mesh
+entered_there mesh x o y radices e = (Joins-back mesh x o y (Joins-from mesh x o y (AreLarge-from_radices mesh radices.radices) e)).mesh_port
 
 -- A flit goes onto the link that leads from the port o of x into the port p of y; and a credit onto that out of it
 
@@ -162,10 +181,14 @@ knows_push l kept x o y bits new knows radices e y_in y_there k_there same put =
       flits = put_known (get_or kept y no_arrivals).flits bits (opposite_of o) true (λ q. flits_to (with_state l k new) y q ≡ []) put (λ off. absurd (cc))
           (λ q q_in away off. away_flits l.states k new (in_link l.mesh y q) (λ at. away (in_apart l.mesh x o y y q radices e at).1) ∙ (knows y y_in).flits q q_in off);
       credits = λ q q_in off. same_credits l.states k new k_there same (out_link l.mesh y q) ∙ (knows y y_in).credits q q_in off;
+      flit_ports = put_within (get_or kept y no_arrivals).flits bits (opposite_of o) true (λ q. q < 2 * length l.mesh) put (λ on. entered_there l.mesh x o y radices e) (knows y y_in).flit_ports;
+      credit_ports = (knows y y_in).credit_ports;
     }
     (λ z z_in away. record {
       flits = λ q q_in off. away_flits l.states k new (in_link l.mesh z q) (λ at. away (in_apart l.mesh x o y z q radices e at).0) ∙ (knows z z_in).flits q q_in off;
       credits = λ q q_in off. same_credits l.states k new k_there same (out_link l.mesh z q) ∙ (knows z z_in).credits q q_in off;
+      flit_ports = (knows z z_in).flit_ports;
+      credit_ports = (knows z z_in).credit_ports;
     })
 
 pub knows_push_credit : (l : LinksView) (kept : List Arrivals) (x p y bits : ℕ) (new : LinkView) → KnowsAll l kept → IsRadices l.mesh → neighbour_of l.mesh x p ≡ Some y → y < 256 → y < length kept → links_before l.mesh y (opposite_of p) < length l.states
@@ -178,13 +201,34 @@ knows_push_credit l kept x p y bits new knows radices e y_in y_there k_there sam
       flits = λ q q_in off. same_flits l.states k new k_there same (in_link l.mesh y q) ∙ (knows y y_in).flits q q_in off;
       credits = put_known (get_or kept y no_arrivals).credits bits (opposite_of p) true (λ q. credits_to (with_state l k new) y q ≡ []) put (λ off. absurd (cc))
           (λ q q_in away off. away_credits l.states k new (out_link l.mesh y q) (λ at. away (out_apart l.mesh x p y y q radices e at).1) ∙ (knows y y_in).credits q q_in off);
+      flit_ports = (knows y y_in).flit_ports;
+      credit_ports = put_within (get_or kept y no_arrivals).credits bits (opposite_of p) true (λ q. q < 2 * length l.mesh) put (λ on. entered_there l.mesh x p y radices e) (knows y y_in).credit_ports;
     }
     (λ z z_in away. record {
       flits = λ q q_in off. same_flits l.states k new k_there same (in_link l.mesh z q) ∙ (knows z z_in).flits q q_in off;
       credits = λ q q_in off. away_credits l.states k new (out_link l.mesh z q) (λ at. away (out_apart l.mesh x p y z q radices e at).0) ∙ (knows z z_in).credits q q_in off;
+      flit_ports = (knows z z_in).flit_ports;
+      credit_ports = (knows z z_in).credit_ports;
     })
 
 -- One port more, and one node more
+
+-- a port with a link is a mesh port
+
+pub in_there : (mesh : List ℕ) (x p : ℕ) → IsSome (in_link mesh x p) → p < 2 * length mesh
+in_there mesh x p some = elim (cases_lt p (2 * length mesh)) [
+  | inl there ↦ there
+  | inr past ↦ let none : IsSome {T = ℕ} None = subst (λ (n : Option ℕ). IsSome n) (in_none mesh x p past) some in absurd (cc)
+]
+
+pub out_there : (mesh : List ℕ) (x o : ℕ) → IsSome (out_link mesh x o) → o < 2 * length mesh
+out_there mesh x o some = elim (cases_lt o (2 * length mesh)) [
+  | inl there ↦ there
+  | inr past ↦ let none : IsSome {T = ℕ} None = subst (λ (n : Option ℕ). IsSome n) (out_none mesh x o past) some in absurd (cc)
+]
+
+pub within_more : (old new port : ℕ) (within : Bool) (last : ℕ) → IsPut old new port within → (within ≡ true → port < last) → ((p : ℕ) → p < 8 → has old p ≡ true → p < last) → (p : ℕ) → p < 8 → has new p ≡ true → p < last
+within_more old new port within last put here before = put_within old new port within (λ q. q < last) put here before
 
 pub ports_more : (old new port : ℕ) (within : Bool) (P : ℕ → Type 0) → IsPut old new port within → port < 6 → (within ≡ false → P port) → ((p : ℕ) → p < port → has old p ≡ false → P p) → (p : ℕ) → p < port + 1 → has new p ≡ false → P p
 ports_more old new port within P put port_in here before p below off =
@@ -344,12 +388,14 @@ lacks_flits l kept x i d knows all x_in at_i few p none = elim (cases_lt p 6) [
 pub quiet_flits : (l : LinksView) (kept : List Arrivals) (x i : ℕ) (d : Arrivals) → KnowsAll l kept → length kept ≡ 256 → x < 256 → i ≡ x → 2 * length l.mesh ≤ 6 → ((get_or kept i d).flits == 0) ≡ true → (p : ℕ) → flits_to l x p ≡ []
 quiet_flits l kept x i d knows all x_in at_i few none p = lacks_flits l kept x i d knows all x_in at_i few p (λ below. has_none (get_or kept i d).flits p none)
 
--- from one port on, where the first of the set is past the mesh ports
-pub past_flits : (l : LinksView) (kept : List Arrivals) (x i from port : ℕ) (d : Arrivals) → KnowsAll l kept → length kept ≡ 256 → x < 256 → i ≡ x → 2 * length l.mesh ≤ 6 → IsFirstFrom (get_or kept i d).flits from port → 2 * length l.mesh ≤ port → (p : ℕ) → from ≤ p → flits_to l x p ≡ []
-past_flits l kept x i from port d knows all x_in at_i few first past p above = elim (cases_lt p port) [
-  | inl before ↦ lacks_flits l kept x i d knows all x_in at_i few p (λ below. first.none_before p above before)
-  | inr after ↦ ap (λ (n : Option ℕ). flits_of l.states n) (in_none l.mesh x p (omega arith))
-]
+-- from one port on, the first of the set
+pub next_flits : (l : LinksView) (kept : List Arrivals) (x i from : ℕ) (d : Arrivals) (r : Option ℕ) → KnowsAll l kept → length kept ≡ 256 → x < 256 → i ≡ x → 2 * length l.mesh ≤ 6 → MatchOption r ((p : ℕ) → from ≤ p → p < 8 → has (get_or kept i d).flits p ≡ false) (IsFirstFrom (get_or kept i d).flits from)
+    → (IfSome r (λ port. (from ≤ port) × (port < 2 * length l.mesh) × (port < 6)) × IfSome r (λ port. (p : ℕ) → from ≤ p → p < port → flits_to l x p ≡ [])) × IfNone r ((p : ℕ) → from ≤ p → flits_to l x p ≡ [])
+next_flits l kept x i from d None knows all x_in at_i few none = ((tt, tt), λ p above. lacks_flits l kept x i d knows all x_in at_i few p (λ below. none p above below))
+next_flits l kept x i from d (Some port) knows all x_in at_i few first =
+    let entry : get_or kept i d ≡ get_or kept x no_arrivals = get_or_default kept i d no_arrivals (omega arith) ∙ ap (λ (v : ℕ). get_or kept v no_arrivals) at_i in
+    let there = (knows x x_in).flit_ports port first.in_range (ap (λ (a : Arrivals). has a.flits port) (sym entry) ∙ first.within) in
+    (((first.from_there, there, omega arith), λ p above before. lacks_flits l kept x i d knows all x_in at_i few p (λ below. first.none_before p above before)), tt)
 
 pub lacks_credits : (l : LinksView) (kept : List Arrivals) (x i : ℕ) (d : Arrivals) → KnowsAll l kept → length kept ≡ 256 → x < 256 → i ≡ x → 2 * length l.mesh ≤ 6 → (o : ℕ) → (o < 8 → has (get_or kept i d).credits o ≡ false) → credits_to l x o ≡ []
 lacks_credits l kept x i d knows all x_in at_i few o none = elim (cases_lt o 6) [
@@ -362,12 +408,14 @@ lacks_credits l kept x i d knows all x_in at_i few o none = elim (cases_lt o 6) 
 pub quiet_credits : (l : LinksView) (kept : List Arrivals) (x i : ℕ) (d : Arrivals) → KnowsAll l kept → length kept ≡ 256 → x < 256 → i ≡ x → 2 * length l.mesh ≤ 6 → ((get_or kept i d).credits == 0) ≡ true → (o : ℕ) → credits_to l x o ≡ []
 quiet_credits l kept x i d knows all x_in at_i few none o = lacks_credits l kept x i d knows all x_in at_i few o (λ below. has_none (get_or kept i d).credits o none)
 
--- from one port on, where the first of the set is past the mesh ports
-pub past_credits : (l : LinksView) (kept : List Arrivals) (x i from port : ℕ) (d : Arrivals) → KnowsAll l kept → length kept ≡ 256 → x < 256 → i ≡ x → 2 * length l.mesh ≤ 6 → IsFirstFrom (get_or kept i d).credits from port → 2 * length l.mesh ≤ port → (o : ℕ) → from ≤ o → credits_to l x o ≡ []
-past_credits l kept x i from port d knows all x_in at_i few first past o above = elim (cases_lt o port) [
-  | inl before ↦ lacks_credits l kept x i d knows all x_in at_i few o (λ below. first.none_before o above before)
-  | inr after ↦ ap (λ (n : Option ℕ). credits_of l.states n) (out_none l.mesh x o (omega arith))
-]
+-- from one port on, the first of the set
+pub next_credits : (l : LinksView) (kept : List Arrivals) (x i from : ℕ) (d : Arrivals) (r : Option ℕ) → KnowsAll l kept → length kept ≡ 256 → x < 256 → i ≡ x → 2 * length l.mesh ≤ 6 → MatchOption r ((p : ℕ) → from ≤ p → p < 8 → has (get_or kept i d).credits p ≡ false) (IsFirstFrom (get_or kept i d).credits from)
+    → (IfSome r (λ port. (from ≤ port) × (port < 2 * length l.mesh) × (port < 6)) × IfSome r (λ port. (p : ℕ) → from ≤ p → p < port → credits_to l x p ≡ [])) × IfNone r ((p : ℕ) → from ≤ p → credits_to l x p ≡ [])
+next_credits l kept x i from d None knows all x_in at_i few none = ((tt, tt), λ p above. lacks_credits l kept x i d knows all x_in at_i few p (λ below. none p above below))
+next_credits l kept x i from d (Some port) knows all x_in at_i few first =
+    let entry : get_or kept i d ≡ get_or kept x no_arrivals = get_or_default kept i d no_arrivals (omega arith) ∙ ap (λ (v : ℕ). get_or kept v no_arrivals) at_i in
+    let there = (knows x x_in).credit_ports port first.in_range (ap (λ (a : Arrivals). has a.credits port) (sym entry) ∙ first.within) in
+    (((first.from_there, there, omega arith), λ p above before. lacks_credits l kept x i d knows all x_in at_i few p (λ below. first.none_before p above before)), tt)
 
 pub true_of : (b : Bool) → IsTrue b → b ≡ true
 true_of true h = refl

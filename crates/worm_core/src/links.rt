@@ -1,6 +1,6 @@
 //! The links of a mesh with what is on them, and by node the ports at which something comes in, so that a turn goes past all others.
 
-ghost use Rattle.std.specs.Prelude.{◌≡◌, ◌<◌, ◌≤◌, ◌*◌, ◌↔◌, ◌==◌, ◌++◌, ◌∷◌, [], ℕ, IfNone, IfSome, IsSome, IsTrue, Option, Some, false, drop, length, slice_get, slice_set};
+ghost use Rattle.std.specs.Prelude.{◌≡◌, ◌<◌, ◌≤◌, ◌*◌, ◌↔◌, ◌==◌, ◌++◌, ◌∷◌, [], ℕ, IfNone, IfSome, IsSome, IsTrue, Option, Some, false, true, drop, length, slice_get, slice_set};
 ghost use Rattle.worm_mesh.specs.Address.{IsMesh as IsRadices, neighbour_of};
 ghost use Rattle.worm_mesh.specs.Links.{link_count};
 ghost use Rattle.worm_core.specs.State.{LinkView};
@@ -46,7 +46,8 @@ impl Model for Links {
 
 /// Whether the link of this number, if it is there, has a flit.
 fn has_flits(states: &[LinkState], number: Option<u16>) -> bool
-    ensures { result ≡ false → flits_of states.now number ≡ [] }
+    ensures none { result ≡ false → flits_of states.now number ≡ [] }
+    ensures there { result ≡ true → IsSome number }
 {
     let Some(number) = number else {
         return false;
@@ -59,7 +60,8 @@ fn has_flits(states: &[LinkState], number: Option<u16>) -> bool
 
 /// Whether the link of this number, if it is there, has a credit.
 fn has_credits(states: &[LinkState], number: Option<u16>) -> bool
-    ensures { result ≡ false → credits_of states.now number ≡ [] }
+    ensures none { result ≡ false → credits_of states.now number ≡ [] }
+    ensures there { result ≡ true → IsSome number }
 {
     let Some(number) = number else {
         return false;
@@ -149,14 +151,8 @@ impl Links {
         ensures none { IfNone result ((p : ℕ) → from ≤ p → flits_to self.now node p ≡ []) }
     {
         let here = self.arrivals[usize::from(node)];
-        let terminal = self.wiring.terminal();
-        let Some(port) = here.flits.first_from(from) else {
-            return None;
-        };
-        if port >= terminal {
-            return None;
-        }
-        Some(port)
+        let _terminal = self.wiring.terminal();
+        here.flits.first_from(from)
     }
 
     /// A mesh port from this one on by which a credit may come in, and before which none does.
@@ -167,14 +163,8 @@ impl Links {
         ensures none { IfNone result ((p : ℕ) → from ≤ p → credits_to self.now node p ≡ []) }
     {
         let here = self.arrivals[usize::from(node)];
-        let terminal = self.wiring.terminal();
-        let Some(port) = here.credits.first_from(from) else {
-            return None;
-        };
-        if port >= terminal {
-            return None;
-        }
-        Some(port)
+        let _terminal = self.wiring.terminal();
+        here.credits.first_from(from)
     }
 
     /// The number of the link that comes into this port, if there is one.
