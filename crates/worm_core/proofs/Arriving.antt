@@ -1,6 +1,6 @@
 -- What comes in at each node, after a write of one link.
 use Rattle.std.proofs.Common.{◌≡◌, ◌==◌, ◌≢◌, ℕ, ◌+◌, ◌*◌, ◌<◌, ◌≤◌, below_more, Bool, true, false, inl, inr, List, [], ◌∷◌, length, drop, get_or, set, Option, Some, None, refl, arith, ap, sym, subst, ◌∙◌}
-use Rattle.std.specs.Prelude.{IfNone, IfSome, IsTrue, option_map, IsSome, is_some, not, slice_get}
+use Rattle.std.specs.Prelude.{IfNone, IfSome, MatchOption, IsTrue, option_map, IsSome, is_some, not, slice_get}
 use Rattle.std.proofs.lemmas.List.{get_or_default, get_or-set_other, get_or-set_same}
 use Rattle.worm_flit.specs.declared.Flit.{Flit}
 use Rattle.worm_mesh.specs.Address.{IsMesh as IsRadices, Joins, neighbour_of, opposite_of}
@@ -11,13 +11,14 @@ use Rattle.worm_mesh.proofs.Numbers.{one_link}
 use Rattle.worm_theory.proofs.Places.{number_cases}
 use Rattle.worm_core.specs.State.{LinkView, blank_link}
 use Rattle.worm_core.specs.Moves.{into_from}
-use Rattle.worm_core.specs.Wiring.{out_link, in_link}
+use Rattle.worm_core.specs.Wiring.{out_link, in_link, port_links}
 use Rattle.worm_core.specs.Ports.{has, IsFirstFrom, IsPut}
 use Rattle.worm_core.specs.Arrivals.{LinksView, KnowsArrivals, KnowsAll, credits_of, credits_to, flits_of, flits_to, no_arrivals, number_into, number_out, state_at, with_state}
 use Rattle.worm_core.specs.declared.links.Arrivals.{Arrivals}
+use Rattle.worm_core.specs.declared.wiring.PortLinks.{PortLinks}
 use Rattle.std.proofs.lemmas.Bool.{cases_lt}
 use Rattle.worm_core.proofs.PortSets.{has_none}
-use Rattle.worm_core.proofs.Wired.{in_none, out_none}
+use Rattle.worm_core.proofs.Wired.{in_none, out_none, parts, ports_within}
 
 -- Each link is that of one port
 
@@ -110,7 +111,14 @@ knows_set l kept i a there here others = λ x x_in. elim (number_cases x i) [
 put_known : (old new port : ℕ) (within : Bool) (P : ℕ → Type 0) → IsPut old new port within → (within ≡ false → P port) → ((p : ℕ) → p < 6 → (p ≡ port → ⊥) → has old p ≡ false → P p) → (p : ℕ) → p < 6 → has new p ≡ false → P p
 put_known old new port within P put here others p p_in off = elim (number_cases p port) [
   | inl at ↦ subst P (sym at.1) (here (sym put.here ∙ (ap (λ (q : ℕ). has new q) (sym at.1) ∙ off)))
-  | inr away ↦ others p p_in away.1 (sym (put.elsewhere p p_in away.1) ∙ off)
+  | inr away ↦ others p p_in away.1 (sym (put.elsewhere p (omega arith) away.1) ∙ off)
+]
+
+-- and the same of all ports that it has
+put_within : (old new port : ℕ) (within : Bool) (P : ℕ → Type 0) → IsPut old new port within → (within ≡ true → P port) → ((p : ℕ) → p < 8 → has old p ≡ true → P p) → (p : ℕ) → p < 8 → has new p ≡ true → P p
+put_within old new port within P put here others p p_in on = elim (number_cases p port) [
+  | inl at ↦ subst P (sym at.1) (here (sym put.here ∙ (ap (λ (q : ℕ). has new q) (sym at.1) ∙ on)))
+  | inr away ↦ others p p_in (sym (put.elsewhere p p_in away.1) ∙ on)
 ]
 
 -- The front flit of a link is dropped, or its front credit
@@ -119,12 +127,16 @@ knows_popped : (l : LinksView) (kept : List Arrivals) (k : ℕ) → KnowsAll l k
 knows_popped l kept k knows there = λ y y_in. record {
   flits = λ q q_in off. popped_flits l.states k there (in_link l.mesh y q) ((knows y y_in).flits q q_in off);
   credits = λ q q_in off. same_credits l.states k (record (state_at l k) { flits = drop 1 (state_at l k).flits }) there refl (out_link l.mesh y q) ∙ (knows y y_in).credits q q_in off;
+  flit_ports = (knows y y_in).flit_ports;
+  credit_ports = (knows y y_in).credit_ports;
 }
 
 knows_popped_credit : (l : LinksView) (kept : List Arrivals) (k : ℕ) → KnowsAll l kept → k < length l.states → KnowsAll (with_state l k (record (state_at l k) { credits = drop 1 (state_at l k).credits })) kept
 knows_popped_credit l kept k knows there = λ y y_in. record {
   flits = λ q q_in off. same_flits l.states k (record (state_at l k) { credits = drop 1 (state_at l k).credits }) there refl (in_link l.mesh y q) ∙ (knows y y_in).flits q q_in off;
   credits = λ q q_in off. popped_credits l.states k there (out_link l.mesh y q) ((knows y y_in).credits q q_in off);
+  flit_ports = (knows y y_in).flit_ports;
+  credit_ports = (knows y y_in).credit_ports;
 }
 
 -- A port by which nothing comes in is left out
@@ -136,6 +148,8 @@ knows_no_flits l kept x p bits knows x_in x_there put none =
     record {
       flits = put_known (get_or kept x no_arrivals).flits bits p false (λ q. flits_to l x q ≡ []) put (λ off. none) (λ q q_in away off. (knows x x_in).flits q q_in off);
       credits = (knows x x_in).credits;
+      flit_ports = put_within (get_or kept x no_arrivals).flits bits p false (λ q. q < 2 * length l.mesh) put (λ on. absurd (cc)) (knows x x_in).flit_ports;
+      credit_ports = (knows x x_in).credit_ports;
     }
     (λ y y_in away. knows y y_in)
 
@@ -146,8 +160,14 @@ knows_no_credits l kept x o bits knows x_in x_there put none =
     record {
       flits = (knows x x_in).flits;
       credits = put_known (get_or kept x no_arrivals).credits bits o false (λ q. credits_to l x q ≡ []) put (λ off. none) (λ q q_in away off. (knows x x_in).credits q q_in off);
+      flit_ports = (knows x x_in).flit_ports;
+      credit_ports = put_within (get_or kept x no_arrivals).credits bits o false (λ q. q < 2 * length l.mesh) put (λ on. absurd (cc)) (knows x x_in).credit_ports;
     }
     (λ y y_in away. knows y y_in)
+
+-- the port that is entered is a mesh port
+entered_there : (mesh : List ℕ) (x o y : ℕ) → IsRadices mesh → neighbour_of mesh x o ≡ Some y → opposite_of o < 2 * length mesh
+entered_there mesh x o y radices e = (Joins-back mesh x o y (Joins-from mesh x o y (AreLarge-from_radices mesh radices.radices) e)).mesh_port
 
 -- A flit goes onto the link that leads from the port o of x into the port p of y; and a credit onto that out of it
 
@@ -161,10 +181,14 @@ knows_push l kept x o y bits new knows radices e y_in y_there k_there same put =
       flits = put_known (get_or kept y no_arrivals).flits bits (opposite_of o) true (λ q. flits_to (with_state l k new) y q ≡ []) put (λ off. absurd (cc))
           (λ q q_in away off. away_flits l.states k new (in_link l.mesh y q) (λ at. away (in_apart l.mesh x o y y q radices e at).1) ∙ (knows y y_in).flits q q_in off);
       credits = λ q q_in off. same_credits l.states k new k_there same (out_link l.mesh y q) ∙ (knows y y_in).credits q q_in off;
+      flit_ports = put_within (get_or kept y no_arrivals).flits bits (opposite_of o) true (λ q. q < 2 * length l.mesh) put (λ on. entered_there l.mesh x o y radices e) (knows y y_in).flit_ports;
+      credit_ports = (knows y y_in).credit_ports;
     }
     (λ z z_in away. record {
       flits = λ q q_in off. away_flits l.states k new (in_link l.mesh z q) (λ at. away (in_apart l.mesh x o y z q radices e at).0) ∙ (knows z z_in).flits q q_in off;
       credits = λ q q_in off. same_credits l.states k new k_there same (out_link l.mesh z q) ∙ (knows z z_in).credits q q_in off;
+      flit_ports = (knows z z_in).flit_ports;
+      credit_ports = (knows z z_in).credit_ports;
     })
 
 pub knows_push_credit : (l : LinksView) (kept : List Arrivals) (x p y bits : ℕ) (new : LinkView) → KnowsAll l kept → IsRadices l.mesh → neighbour_of l.mesh x p ≡ Some y → y < 256 → y < length kept → links_before l.mesh y (opposite_of p) < length l.states
@@ -177,13 +201,34 @@ knows_push_credit l kept x p y bits new knows radices e y_in y_there k_there sam
       flits = λ q q_in off. same_flits l.states k new k_there same (in_link l.mesh y q) ∙ (knows y y_in).flits q q_in off;
       credits = put_known (get_or kept y no_arrivals).credits bits (opposite_of p) true (λ q. credits_to (with_state l k new) y q ≡ []) put (λ off. absurd (cc))
           (λ q q_in away off. away_credits l.states k new (out_link l.mesh y q) (λ at. away (out_apart l.mesh x p y y q radices e at).1) ∙ (knows y y_in).credits q q_in off);
+      flit_ports = (knows y y_in).flit_ports;
+      credit_ports = put_within (get_or kept y no_arrivals).credits bits (opposite_of p) true (λ q. q < 2 * length l.mesh) put (λ on. entered_there l.mesh x p y radices e) (knows y y_in).credit_ports;
     }
     (λ z z_in away. record {
       flits = λ q q_in off. same_flits l.states k new k_there same (in_link l.mesh z q) ∙ (knows z z_in).flits q q_in off;
       credits = λ q q_in off. away_credits l.states k new (out_link l.mesh z q) (λ at. away (out_apart l.mesh x p y z q radices e at).0) ∙ (knows z z_in).credits q q_in off;
+      flit_ports = (knows z z_in).flit_ports;
+      credit_ports = (knows z z_in).credit_ports;
     })
 
 -- One port more, and one node more
+
+-- a port with a link is a mesh port
+
+pub in_there : (mesh : List ℕ) (x p : ℕ) → IsSome (in_link mesh x p) → p < 2 * length mesh
+in_there mesh x p some = elim (cases_lt p (2 * length mesh)) [
+  | inl there ↦ there
+  | inr past ↦ let none : IsSome {T = ℕ} None = subst (λ (n : Option ℕ). IsSome n) (in_none mesh x p past) some in absurd (cc)
+]
+
+pub out_there : (mesh : List ℕ) (x o : ℕ) → IsSome (out_link mesh x o) → o < 2 * length mesh
+out_there mesh x o some = elim (cases_lt o (2 * length mesh)) [
+  | inl there ↦ there
+  | inr past ↦ let none : IsSome {T = ℕ} None = subst (λ (n : Option ℕ). IsSome n) (out_none mesh x o past) some in absurd (cc)
+]
+
+pub within_more : (old new port : ℕ) (within : Bool) (last : ℕ) → IsPut old new port within → (within ≡ true → port < last) → ((p : ℕ) → p < 8 → has old p ≡ true → p < last) → (p : ℕ) → p < 8 → has new p ≡ true → p < last
+within_more old new port within last put here before = put_within old new port within (λ q. q < last) put here before
 
 pub ports_more : (old new port : ℕ) (within : Bool) (P : ℕ → Type 0) → IsPut old new port within → port < 6 → (within ≡ false → P port) → ((p : ℕ) → p < port → has old p ≡ false → P p) → (p : ℕ) → p < port + 1 → has new p ≡ false → P p
 ports_more old new port within P put port_in here before p below off =
@@ -268,52 +313,45 @@ forgets_credits l kept x o i j bits d knows all x_in at_i at_j put none =
     let put_here : IsPut (get_or kept x no_arrivals).credits bits o false = subst (λ (a : Arrivals). IsPut a.credits bits o false) entry put in
     rw (at_j, entry) (knows_no_credits l kept x o bits knows x_in (omega arith) put_here none)
 
--- the other end of a port that has a neighbour
-end_is : (y q p : ℕ) (n : Option ℕ) → ◌≡◌ {A = Option (ℕ × ℕ)} (Some (y, q)) (option_map (λ (z : ℕ). (z, opposite_of p)) n) → (n ≡ Some y) × (q ≡ opposite_of p)
-end_is y q p None e = let no : ◌≡◌ {A = Option (ℕ × ℕ)} (Some (y, q)) None = e in absurd (cc)
-end_is y q p (Some z) e =
-    let is : ◌≡◌ {A = Option (ℕ × ℕ)} (Some (y, q)) (Some (z, opposite_of p)) = e in
-    let pair : ◌≡◌ {A = ℕ × ℕ} (y, q) (z, opposite_of p) = cc in
-    (ap (λ (v : ℕ). Some v) (sym (ap (λ (e : ℕ × ℕ). e.0) pair)), ap (λ (e : ℕ × ℕ). e.1) pair)
-
-pub pushes : (mesh : List ℕ) (states : List LinkView) (now : LinksView) (kept : List Arrivals) (x o y q k m i j bits : ℕ) (d : Arrivals) (read new : LinkView) (flits : List Flit) → KnowsAll (record { mesh = mesh; states = states }) kept → length kept ≡ 256 → record { mesh = mesh; states = states } ≡ now → IsRadices mesh
-    → y < 256 → i ≡ y → j ≡ y → m ≡ k → ◌≡◌ {A = Option (ℕ × ℕ)} (Some (y, q)) (option_map (λ (z : ℕ). (z, opposite_of o)) (neighbour_of mesh x o)) → k ≡ number_out now x o → k < link_count now.mesh → length now.states ≡ link_count now.mesh → read ≡ get_or states m read
-    → new ≡ record read { flits = flits } → IsPut (get_or kept i d).flits bits q true
+pub pushes : (mesh : List ℕ) (states : List LinkView) (now : LinksView) (kept : List Arrivals) (x o m i j bits : ℕ) (links : PortLinks) (d : Arrivals) (read new : LinkView) (flits : List Flit) → KnowsAll (record { mesh = mesh; states = states }) kept → length kept ≡ 256 → record { mesh = mesh; states = states } ≡ now → IsRadices mesh
+    → links.beyond < 256 → i ≡ links.beyond → j ≡ links.beyond → m ≡ links.out → ◌≡◌ {A = Option PortLinks} (Some links) (port_links mesh x o) → length now.states ≡ link_count now.mesh → read ≡ get_or states m read
+    → new ≡ record read { flits = flits } → IsPut (get_or kept i d).flits bits links.entered true
     → KnowsAll (record { mesh = mesh; states = set states m new }) (set kept j (record { flits = bits; credits = (get_or kept i d).credits }))
-pushes mesh states now kept x o y q k m i j bits d read new flits knows all same radices y_in at_i at_j at_m ends number_now below full reads news put =
-    let l : LinksView = record { mesh = mesh; states = states } in
-    let number : k ≡ links_before mesh x o = subst (λ (v : LinksView). k ≡ number_out v x o) (sym same) number_now in
-    let counted : length states ≡ link_count now.mesh = ap (λ (v : LinksView). length v.states) same ∙ full in
-    let k_there : k < length states = omega arith in
-    let i_there : i < length kept = omega arith in
-    let other = end_is y q o (neighbour_of mesh x o) ends in
-    let entry : get_or kept i d ≡ get_or kept y no_arrivals = get_or_default kept i d no_arrivals i_there ∙ ap (λ (v : ℕ). get_or kept v no_arrivals) at_i in
+pushes mesh states now kept x o m i j bits links d read new flits knows all same radices y_in at_i at_j at_m linked full reads news put =
+    let y = links.beyond in
+    let these = parts mesh x o links linked in
+    let counted : length states ≡ link_count mesh = subst (λ (v : LinksView). length v.states ≡ link_count v.mesh) (sym same) full in
+    let below = (ports_within mesh x o links radices linked).0 in
+    let number : links.out ≡ links_before mesh x o = ap (λ (l : PortLinks). l.out) these.1 in
+    let entered : links.entered ≡ opposite_of o = ap (λ (l : PortLinks). l.entered) these.1 in
+    let entry : get_or kept i d ≡ get_or kept y no_arrivals = get_or_default kept i d no_arrivals (omega arith) ∙ ap (λ (v : ℕ). get_or kept v no_arrivals) at_i in
     let place : m ≡ links_before mesh x o = at_m ∙ number in
-    let here : links_before mesh x o < length states = omega (arith, number) in
+    let here : links_before mesh x o < length states = omega arith in
     let link : read ≡ get_or states (links_before mesh x o) blank_link = reads ∙ (ap (λ (v : ℕ). get_or states v read) place ∙ get_or_default states (links_before mesh x o) read blank_link here) in
     let kept_too : new.credits ≡ (get_or states (links_before mesh x o) blank_link).credits = ap (λ (s : LinkView). s.credits) news ∙ ap (λ (s : LinkView). s.credits) link in
-    let put_there : IsPut (get_or kept y no_arrivals).flits bits (opposite_of o) true = subst (λ (a : Arrivals). IsPut a.flits bits (opposite_of o) true) entry (subst (λ (v : ℕ). IsPut (get_or kept i d).flits bits v true) other.1 put) in
-    rw (at_j, place, entry) (knows_push (record { mesh = mesh; states = states }) kept x o y bits new knows radices other.0 y_in (omega arith) here kept_too put_there)
+    let put_there : IsPut (get_or kept y no_arrivals).flits bits (opposite_of o) true = subst (λ (a : Arrivals). IsPut a.flits bits (opposite_of o) true) entry (subst (λ (v : ℕ). IsPut (get_or kept i d).flits bits v true) entered put) in
+    rw (at_j, place, entry) (knows_push (record { mesh = mesh; states = states }) kept x o y bits new knows radices these.0 y_in (omega arith) here kept_too put_there)
 
-pub pushes_credit : (mesh : List ℕ) (states : List LinkView) (now : LinksView) (kept : List Arrivals) (x p y q k m i j bits : ℕ) (d : Arrivals) (read new : LinkView) (credits : List ℕ) → KnowsAll (record { mesh = mesh; states = states }) kept → length kept ≡ 256 → record { mesh = mesh; states = states } ≡ now → IsRadices mesh
-    → y < 256 → i ≡ y → j ≡ y → m ≡ k → ◌≡◌ {A = Option (ℕ × ℕ)} (Some (y, q)) (option_map (λ (z : ℕ). (z, opposite_of p)) (neighbour_of mesh x p)) → k ≡ number_into now x p → k < link_count now.mesh → length now.states ≡ link_count now.mesh → read ≡ get_or states m read
-    → new ≡ record read { credits = credits } → IsPut (get_or kept i d).credits bits q true
+pub pushes_credit : (mesh : List ℕ) (states : List LinkView) (now : LinksView) (kept : List Arrivals) (x p m i j bits : ℕ) (links : PortLinks) (d : Arrivals) (read new : LinkView) (credits : List ℕ) → KnowsAll (record { mesh = mesh; states = states }) kept → length kept ≡ 256 → record { mesh = mesh; states = states } ≡ now → IsRadices now.mesh
+    → links.beyond < 256 → i ≡ links.beyond → j ≡ links.beyond → m ≡ links.into → ◌≡◌ {A = Option PortLinks} (Some links) (port_links now.mesh x p) → length now.states ≡ link_count now.mesh → read ≡ get_or states m read
+    → new ≡ record read { credits = credits } → IsPut (get_or kept i d).credits bits links.entered true
     → KnowsAll (record { mesh = mesh; states = set states m new }) (set kept j (record { flits = (get_or kept i d).flits; credits = bits }))
-pushes_credit mesh states now kept x p y q k m i j bits d read new credits knows all same radices y_in at_i at_j at_m ends number_now below full reads news put =
-    let l : LinksView = record { mesh = mesh; states = states } in
-    let number : k ≡ into_from mesh p (neighbour_of mesh x p) = subst (λ (v : LinksView). k ≡ number_into v x p) (sym same) number_now in
-    let counted : length states ≡ link_count now.mesh = ap (λ (v : LinksView). length v.states) same ∙ full in
-    let k_there : k < length states = omega arith in
-    let i_there : i < length kept = omega arith in
-    let other = end_is y q p (neighbour_of mesh x p) ends in
-    let entry : get_or kept i d ≡ get_or kept y no_arrivals = get_or_default kept i d no_arrivals i_there ∙ ap (λ (v : ℕ). get_or kept v no_arrivals) at_i in
-    let named : k ≡ links_before mesh y (opposite_of p) = number ∙ ap (λ (n : Option ℕ). into_from mesh p n) other.0 in
-    let place : m ≡ links_before mesh y (opposite_of p) = at_m ∙ named in
-    let here : links_before mesh y (opposite_of p) < length states = omega (arith, named) in
+pushes_credit mesh states now kept x p m i j bits links d read new credits knows all same radices_now y_in at_i at_j at_m linked_now full reads news put =
+    let y = links.beyond in
+    let radices : IsRadices mesh = subst (λ (v : LinksView). IsRadices v.mesh) (sym same) radices_now in
+    let linked : ◌≡◌ {A = Option PortLinks} (Some links) (port_links mesh x p) = subst (λ (v : LinksView). ◌≡◌ {A = Option PortLinks} (Some links) (port_links v.mesh x p)) (sym same) linked_now in
+    let these = parts mesh x p links linked in
+    let counted : length states ≡ link_count mesh = subst (λ (v : LinksView). length v.states ≡ link_count v.mesh) (sym same) full in
+    let below = (ports_within mesh x p links radices linked).1 in
+    let number : links.into ≡ links_before mesh y (opposite_of p) = ap (λ (l : PortLinks). l.into) these.1 in
+    let entered : links.entered ≡ opposite_of p = ap (λ (l : PortLinks). l.entered) these.1 in
+    let entry : get_or kept i d ≡ get_or kept y no_arrivals = get_or_default kept i d no_arrivals (omega arith) ∙ ap (λ (v : ℕ). get_or kept v no_arrivals) at_i in
+    let place : m ≡ links_before mesh y (opposite_of p) = at_m ∙ number in
+    let here : links_before mesh y (opposite_of p) < length states = omega arith in
     let link : read ≡ get_or states (links_before mesh y (opposite_of p)) blank_link = reads ∙ (ap (λ (v : ℕ). get_or states v read) place ∙ get_or_default states (links_before mesh y (opposite_of p)) read blank_link here) in
     let kept_too : new.flits ≡ (get_or states (links_before mesh y (opposite_of p)) blank_link).flits = ap (λ (s : LinkView). s.flits) news ∙ ap (λ (s : LinkView). s.flits) link in
-    let put_there : IsPut (get_or kept y no_arrivals).credits bits (opposite_of p) true = subst (λ (a : Arrivals). IsPut a.credits bits (opposite_of p) true) entry (subst (λ (v : ℕ). IsPut (get_or kept i d).credits bits v true) other.1 put) in
-    rw (at_j, place, entry) (knows_push_credit (record { mesh = mesh; states = states }) kept x p y bits new knows radices other.0 y_in (omega arith) here kept_too put_there)
+    let put_there : IsPut (get_or kept y no_arrivals).credits bits (opposite_of p) true = subst (λ (a : Arrivals). IsPut a.credits bits (opposite_of p) true) entry (subst (λ (v : ℕ). IsPut (get_or kept i d).credits bits v true) entered put) in
+    rw (at_j, place, entry) (knows_push_credit (record { mesh = mesh; states = states }) kept x p y bits new knows radices these.0 y_in (omega arith) here kept_too put_there)
 
 -- a link of which a look found no flit
 pub found_none : (states : List LinkView) (k i : ℕ) (read : LinkView) (some : Bool) → i ≡ k → i < length states → read ≡ get_or states i read → some ≡ is_some (slice_get read.flits 0) → some ≡ false → flits_of states (Some k) ≡ []
@@ -350,12 +388,14 @@ lacks_flits l kept x i d knows all x_in at_i few p none = elim (cases_lt p 6) [
 pub quiet_flits : (l : LinksView) (kept : List Arrivals) (x i : ℕ) (d : Arrivals) → KnowsAll l kept → length kept ≡ 256 → x < 256 → i ≡ x → 2 * length l.mesh ≤ 6 → ((get_or kept i d).flits == 0) ≡ true → (p : ℕ) → flits_to l x p ≡ []
 quiet_flits l kept x i d knows all x_in at_i few none p = lacks_flits l kept x i d knows all x_in at_i few p (λ below. has_none (get_or kept i d).flits p none)
 
--- from one port on, where the first of the set is past the mesh ports
-pub past_flits : (l : LinksView) (kept : List Arrivals) (x i from port : ℕ) (d : Arrivals) → KnowsAll l kept → length kept ≡ 256 → x < 256 → i ≡ x → 2 * length l.mesh ≤ 6 → IsFirstFrom (get_or kept i d).flits from port → 2 * length l.mesh ≤ port → (p : ℕ) → from ≤ p → flits_to l x p ≡ []
-past_flits l kept x i from port d knows all x_in at_i few first past p above = elim (cases_lt p port) [
-  | inl before ↦ lacks_flits l kept x i d knows all x_in at_i few p (λ below. first.none_before p above before)
-  | inr after ↦ ap (λ (n : Option ℕ). flits_of l.states n) (in_none l.mesh x p (omega arith))
-]
+-- from one port on, the first of the set
+pub next_flits : (l : LinksView) (kept : List Arrivals) (x i from : ℕ) (d : Arrivals) (r : Option ℕ) → KnowsAll l kept → length kept ≡ 256 → x < 256 → i ≡ x → 2 * length l.mesh ≤ 6 → MatchOption r ((p : ℕ) → from ≤ p → p < 8 → has (get_or kept i d).flits p ≡ false) (IsFirstFrom (get_or kept i d).flits from)
+    → (IfSome r (λ port. (from ≤ port) × (port < 2 * length l.mesh) × (port < 6)) × IfSome r (λ port. (p : ℕ) → from ≤ p → p < port → flits_to l x p ≡ [])) × IfNone r ((p : ℕ) → from ≤ p → flits_to l x p ≡ [])
+next_flits l kept x i from d None knows all x_in at_i few none = ((tt, tt), λ p above. lacks_flits l kept x i d knows all x_in at_i few p (λ below. none p above below))
+next_flits l kept x i from d (Some port) knows all x_in at_i few first =
+    let entry : get_or kept i d ≡ get_or kept x no_arrivals = get_or_default kept i d no_arrivals (omega arith) ∙ ap (λ (v : ℕ). get_or kept v no_arrivals) at_i in
+    let there = (knows x x_in).flit_ports port first.in_range (ap (λ (a : Arrivals). has a.flits port) (sym entry) ∙ first.within) in
+    (((first.from_there, there, omega arith), λ p above before. lacks_flits l kept x i d knows all x_in at_i few p (λ below. first.none_before p above before)), tt)
 
 pub lacks_credits : (l : LinksView) (kept : List Arrivals) (x i : ℕ) (d : Arrivals) → KnowsAll l kept → length kept ≡ 256 → x < 256 → i ≡ x → 2 * length l.mesh ≤ 6 → (o : ℕ) → (o < 8 → has (get_or kept i d).credits o ≡ false) → credits_to l x o ≡ []
 lacks_credits l kept x i d knows all x_in at_i few o none = elim (cases_lt o 6) [
@@ -368,12 +408,14 @@ lacks_credits l kept x i d knows all x_in at_i few o none = elim (cases_lt o 6) 
 pub quiet_credits : (l : LinksView) (kept : List Arrivals) (x i : ℕ) (d : Arrivals) → KnowsAll l kept → length kept ≡ 256 → x < 256 → i ≡ x → 2 * length l.mesh ≤ 6 → ((get_or kept i d).credits == 0) ≡ true → (o : ℕ) → credits_to l x o ≡ []
 quiet_credits l kept x i d knows all x_in at_i few none o = lacks_credits l kept x i d knows all x_in at_i few o (λ below. has_none (get_or kept i d).credits o none)
 
--- from one port on, where the first of the set is past the mesh ports
-pub past_credits : (l : LinksView) (kept : List Arrivals) (x i from port : ℕ) (d : Arrivals) → KnowsAll l kept → length kept ≡ 256 → x < 256 → i ≡ x → 2 * length l.mesh ≤ 6 → IsFirstFrom (get_or kept i d).credits from port → 2 * length l.mesh ≤ port → (o : ℕ) → from ≤ o → credits_to l x o ≡ []
-past_credits l kept x i from port d knows all x_in at_i few first past o above = elim (cases_lt o port) [
-  | inl before ↦ lacks_credits l kept x i d knows all x_in at_i few o (λ below. first.none_before o above before)
-  | inr after ↦ ap (λ (n : Option ℕ). credits_of l.states n) (out_none l.mesh x o (omega arith))
-]
+-- from one port on, the first of the set
+pub next_credits : (l : LinksView) (kept : List Arrivals) (x i from : ℕ) (d : Arrivals) (r : Option ℕ) → KnowsAll l kept → length kept ≡ 256 → x < 256 → i ≡ x → 2 * length l.mesh ≤ 6 → MatchOption r ((p : ℕ) → from ≤ p → p < 8 → has (get_or kept i d).credits p ≡ false) (IsFirstFrom (get_or kept i d).credits from)
+    → (IfSome r (λ port. (from ≤ port) × (port < 2 * length l.mesh) × (port < 6)) × IfSome r (λ port. (p : ℕ) → from ≤ p → p < port → credits_to l x p ≡ [])) × IfNone r ((p : ℕ) → from ≤ p → credits_to l x p ≡ [])
+next_credits l kept x i from d None knows all x_in at_i few none = ((tt, tt), λ p above. lacks_credits l kept x i d knows all x_in at_i few p (λ below. none p above below))
+next_credits l kept x i from d (Some port) knows all x_in at_i few first =
+    let entry : get_or kept i d ≡ get_or kept x no_arrivals = get_or_default kept i d no_arrivals (omega arith) ∙ ap (λ (v : ℕ). get_or kept v no_arrivals) at_i in
+    let there = (knows x x_in).credit_ports port first.in_range (ap (λ (a : Arrivals). has a.credits port) (sym entry) ∙ first.within) in
+    (((first.from_there, there, omega arith), λ p above before. lacks_credits l kept x i d knows all x_in at_i few p (λ below. first.none_before p above before)), tt)
 
 pub true_of : (b : Bool) → IsTrue b → b ≡ true
 true_of true h = refl

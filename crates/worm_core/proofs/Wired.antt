@@ -1,5 +1,5 @@
 -- The numbers of a node's links, against the mesh.
-use Rattle.std.proofs.Common.{◌≡◌, ℕ, ◌*◌, ◌+◌, ◌<◌, ◌≤◌, ◌≢◌, List, length, Option, Some, None, refl, arith, ap, sym, ◌∙◌, get_or, set, below_more, get_or-set_other, get_or-set_same}
+use Rattle.std.proofs.Common.{◌≡◌, ℕ, ◌*◌, ◌+◌, ◌<◌, ◌≤◌, ◌≢◌, List, length, Option, Some, None, refl, arith, ap, sym, subst, ◌∙◌, get_or, set, below_more, get_or-set_other, get_or-set_same}
 use Rattle.std.specs.Prelude.{IfSome, option_map}
 use Rattle.std.specs.Option.{SomeIff}
 use Rattle.worm_mesh.specs.Address.{IsMesh as IsRadices, neighbour_of, opposite_of}
@@ -7,8 +7,10 @@ use Rattle.worm_mesh.specs.Links.{IsLink, links_before, link_count}
 use Rattle.worm_mesh.proofs.Digits.{AreLarge-from_radices}
 use Rattle.worm_mesh.proofs.Neighbours.{Joins-from, Joins-back, neighbour_of-some, neighbour_of-none, no_port}
 use Rattle.worm_mesh.proofs.Numbers.{below_count}
-use Rattle.worm_core.specs.Wiring.{AreLinksOf, AreWired, no_links, other_end, out_link, in_link}
+use Rattle.worm_core.specs.Moves.{into_from}
+use Rattle.worm_core.specs.Wiring.{AreLinksOf, AreWired, no_links, out_link, in_link, port_links}
 use Rattle.worm_core.specs.declared.wiring.NodeLinks.{NodeLinks}
+use Rattle.worm_core.specs.declared.wiring.PortLinks.{PortLinks}
 
 out_by : (mesh : List ℕ) (x p : ℕ) → IsRadices mesh → (n r : Option ℕ) → neighbour_of mesh x p ≡ n → SomeIff r (IsLink mesh x p) (links_before mesh x p) → r ≡ option_map (λ y. links_before mesh x p) n
 out_by mesh x p radices None None e has = refl
@@ -37,25 +39,6 @@ out_none mesh x p past = ap (λ (n : Option ℕ). option_map (λ y. links_before
 pub in_none : (mesh : List ℕ) (x p : ℕ) → 2 * length mesh ≤ p → in_link mesh x p ≡ None
 in_none mesh x p past = ap (λ (n : Option ℕ). option_map (λ y. links_before mesh y (opposite_of p)) n) (neighbour_of-none mesh x p (no_port mesh x p past))
 
--- each number is a link's
-out_bound_by : (mesh : List ℕ) (x p : ℕ) → IsRadices mesh → (n : Option ℕ) → neighbour_of mesh x p ≡ n → IfSome (option_map (λ y. links_before mesh x p) n) (λ k. k < link_count mesh)
-out_bound_by mesh x p radices None e = tt
-out_bound_by mesh x p radices (Some y) e =
-    let large = AreLarge-from_radices mesh radices.radices in
-    below_count mesh large x p (y, Joins-from mesh x p y large e)
-
-pub out_bound : (mesh : List ℕ) (x p : ℕ) → IsRadices mesh → IfSome (out_link mesh x p) (λ k. k < link_count mesh)
-out_bound mesh x p radices = out_bound_by mesh x p radices (neighbour_of mesh x p) refl
-
-in_bound_by : (mesh : List ℕ) (x p : ℕ) → IsRadices mesh → (n : Option ℕ) → neighbour_of mesh x p ≡ n → IfSome (option_map (λ y. links_before mesh y (opposite_of p)) n) (λ k. k < link_count mesh)
-in_bound_by mesh x p radices None e = tt
-in_bound_by mesh x p radices (Some y) e =
-    let large = AreLarge-from_radices mesh radices.radices in
-    below_count mesh large y (opposite_of p) (x, Joins-back mesh x p y (Joins-from mesh x p y large e))
-
-pub in_bound : (mesh : List ℕ) (x p : ℕ) → IsRadices mesh → IfSome (in_link mesh x p) (λ k. k < link_count mesh)
-in_bound mesh x p radices = in_bound_by mesh x p radices (neighbour_of mesh x p) refl
-
 -- one row more of a table
 pub row_more : {A : Type 0} (f : ℕ → A) (d : A) (xs : List A) (i : ℕ) (v : A) → i < length xs → v ≡ f i → ((k : ℕ) → k < i → get_or xs k d ≡ f k) → (k : ℕ) → k < i + 1 → get_or (set xs i v) k d ≡ f k
 row_more f d xs i v there here before =
@@ -65,26 +48,75 @@ pub wired_more : (mesh : List ℕ) (nodes : List NodeLinks) (i : ℕ) (v : NodeL
 wired_more mesh nodes i v there here before =
     below_more _ _ (λ x below. let away : x ≢ i = omega arith in rw get_or-set_other (before x below)) (rw get_or-set_same here)
 
-pub beyond_kept : (mesh now : List ℕ) (nodes : List NodeLinks) (x p i q : ℕ) → AreWired mesh nodes → mesh ≡ now → x < 256 → p < 6 → i ≡ x → q ≡ p → get_or (get_or nodes i no_links).beyond q None ≡ other_end now x p
-beyond_kept mesh now nodes x p i q wired same x_in p_in at_x at_p =
-    (λ t. get_or (get_or nodes (at_x t) no_links).beyond (at_p t) None) ∙ ((wired x x_in).beyond p p_in ∙ ap (λ (m : List ℕ). other_end m x p) same)
-
 -- what is kept, at a place that is named by other numbers
-pub out_kept : (mesh now : List ℕ) (nodes : List NodeLinks) (x p i q : ℕ) → AreWired mesh nodes → mesh ≡ now → x < 256 → p < 6 → i ≡ x → q ≡ p → get_or (get_or nodes i no_links).out q None ≡ out_link now x p
-out_kept mesh now nodes x p i q wired same x_in p_in at_x at_p =
-    (λ t. get_or (get_or nodes (at_x t) no_links).out (at_p t) None) ∙ ((wired x x_in).out p p_in ∙ ap (λ (m : List ℕ). out_link m x p) same)
+pub ports_kept : (mesh now : List ℕ) (nodes : List NodeLinks) (x p i q : ℕ) → AreWired mesh nodes → mesh ≡ now → x < 256 → p < 6 → i ≡ x → q ≡ p → get_or (get_or nodes i no_links).ports q None ≡ port_links now x p
+ports_kept mesh now nodes x p i q wired same x_in p_in at_x at_p =
+    (λ t. get_or (get_or nodes (at_x t) no_links).ports (at_p t) None) ∙ (wired x x_in p p_in ∙ ap (λ (m : List ℕ). port_links m x p) same)
 
-pub in_kept : (mesh now : List ℕ) (nodes : List NodeLinks) (x p i q : ℕ) → AreWired mesh nodes → mesh ≡ now → x < 256 → p < 6 → i ≡ x → q ≡ p → get_or (get_or nodes i no_links).into q None ≡ in_link now x p
-in_kept mesh now nodes x p i q wired same x_in p_in at_x at_p =
-    (λ t. get_or (get_or nodes (at_x t) no_links).into (at_p t) None) ∙ ((wired x x_in).into p p_in ∙ ap (λ (m : List ℕ). in_link m x p) same)
+-- the links of a port put together of their parts
+pub joined : (mesh : List ℕ) (x p y k j : ℕ) → neighbour_of mesh x p ≡ Some y → Some k ≡ out_link mesh x p → Some j ≡ in_link mesh x p
+    → ◌≡◌ {A = Option PortLinks} (Some (record { beyond = y; entered = opposite_of p; out = k; into = j })) (port_links mesh x p)
+joined mesh x p y k j e out into =
+    let one : ◌≡◌ {A = Option ℕ} (Some k) (Some (links_before mesh x p)) = out ∙ ap (λ (n : Option ℕ). option_map (λ z. links_before mesh x p) n) e in
+    let two : ◌≡◌ {A = Option ℕ} (Some j) (Some (links_before mesh y (opposite_of p))) = into ∙ ap (λ (n : Option ℕ). option_map (λ z. links_before mesh z (opposite_of p)) n) e in
+    rw e (cc)
 
--- each other end is a mesh port of a node
-end_bound_by : (mesh : List ℕ) (x p : ℕ) → IsRadices mesh → (n : Option ℕ) → neighbour_of mesh x p ≡ n → IfSome {T = ℕ × ℕ} (option_map (λ y. (y, opposite_of p)) n) (λ e. (e.0 < 256) × (e.1 < 6))
-end_bound_by mesh x p radices None e = tt
-end_bound_by mesh x p radices (Some y) e =
+-- and taken apart
+parts_by : (mesh : List ℕ) (x p : ℕ) (links : PortLinks) (n : Option ℕ)
+    → ◌≡◌ {A = Option PortLinks} (Some links) (option_map (λ y. record { beyond = y; entered = opposite_of p; out = links_before mesh x p; into = links_before mesh y (opposite_of p) }) n)
+    → (n ≡ Some links.beyond) × (links ≡ record { beyond = links.beyond; entered = opposite_of p; out = links_before mesh x p; into = links_before mesh links.beyond (opposite_of p) })
+parts_by mesh x p links None e = let no : ◌≡◌ {A = Option PortLinks} (Some links) None = e in absurd (cc)
+parts_by mesh x p links (Some y) e =
+    let is : ◌≡◌ {A = Option PortLinks} (Some links) (Some (record { beyond = y; entered = opposite_of p; out = links_before mesh x p; into = links_before mesh y (opposite_of p) })) = e in
+    let same : links ≡ record { beyond = y; entered = opposite_of p; out = links_before mesh x p; into = links_before mesh y (opposite_of p) } = cc in
+    let at : links.beyond ≡ y = ap (λ (l : PortLinks). l.beyond) same in
+    (ap (λ (v : ℕ). Some v) (sym at), same ∙ ap (λ (v : ℕ). record { beyond = v; entered = opposite_of p; out = links_before mesh x p; into = links_before mesh v (opposite_of p) }) (sym at))
+
+pub parts : (mesh : List ℕ) (x p : ℕ) (links : PortLinks) → ◌≡◌ {A = Option PortLinks} (Some links) (port_links mesh x p)
+    → (neighbour_of mesh x p ≡ Some links.beyond) × (links ≡ record { beyond = links.beyond; entered = opposite_of p; out = links_before mesh x p; into = links_before mesh links.beyond (opposite_of p) })
+parts mesh x p links e = parts_by mesh x p links (neighbour_of mesh x p) e
+
+-- the numbers are those of the links out and in
+numbers_by : (mesh : List ℕ) (x p : ℕ) (n : Option ℕ)
+    → IfSome {T = PortLinks} (option_map (λ y. record { beyond = y; entered = opposite_of p; out = links_before mesh x p; into = links_before mesh y (opposite_of p) }) n) (λ links. links.out ≡ links_before mesh x p)
+    × IfSome {T = PortLinks} (option_map (λ y. record { beyond = y; entered = opposite_of p; out = links_before mesh x p; into = links_before mesh y (opposite_of p) }) n) (λ links. links.into ≡ into_from mesh p n)
+numbers_by mesh x p None = (tt, tt)
+numbers_by mesh x p (Some y) = (refl, refl)
+
+pub numbers : (mesh : List ℕ) (x p : ℕ)
+    → IfSome {T = PortLinks} (port_links mesh x p) (λ links. links.out ≡ links_before mesh x p) × IfSome {T = PortLinks} (port_links mesh x p) (λ links. links.into ≡ into_from mesh p (neighbour_of mesh x p))
+numbers mesh x p = numbers_by mesh x p (neighbour_of mesh x p)
+
+-- each number is a link's
+bound_by : (mesh : List ℕ) (x p : ℕ) → IsRadices mesh → (n : Option ℕ) → neighbour_of mesh x p ≡ n
+    → IfSome {T = PortLinks} (option_map (λ y. record { beyond = y; entered = opposite_of p; out = links_before mesh x p; into = links_before mesh y (opposite_of p) }) n) (λ links. (links.out < link_count mesh) × (links.into < link_count mesh))
+bound_by mesh x p radices None e = tt
+bound_by mesh x p radices (Some y) e =
     let large = AreLarge-from_radices mesh radices.radices in
     let joins = Joins-from mesh x p y large e in
-    (omega (arith, joins.to_node, radices.few_nodes), omega (arith, joins.mesh_port, radices.few_dims))
+    (below_count mesh large x p (y, joins), below_count mesh large y (opposite_of p) (x, Joins-back mesh x p y joins))
 
-pub end_bound : (mesh : List ℕ) (x p : ℕ) → IsRadices mesh → IfSome (other_end mesh x p) (λ e. (e.0 < 256) × (e.1 < 6))
-end_bound mesh x p radices = end_bound_by mesh x p radices (neighbour_of mesh x p) refl
+pub ports_bound : (mesh : List ℕ) (x p : ℕ) → IsRadices mesh → IfSome {T = PortLinks} (port_links mesh x p) (λ links. (links.out < link_count mesh) × (links.into < link_count mesh))
+ports_bound mesh x p radices = bound_by mesh x p radices (neighbour_of mesh x p) refl
+
+-- and each port entered a mesh port
+entered_by : (mesh : List ℕ) (x p : ℕ) → p < 6 → IsRadices mesh → (n : Option ℕ) → neighbour_of mesh x p ≡ n
+    → IfSome {T = PortLinks} (option_map (λ y. record { beyond = y; entered = opposite_of p; out = links_before mesh x p; into = links_before mesh y (opposite_of p) }) n) (λ links. (p < 6) × (links.entered < 6))
+entered_by mesh x p p_in radices None e = tt
+entered_by mesh x p p_in radices (Some y) e =
+    let joins = Joins-from mesh x p y (AreLarge-from_radices mesh radices.radices) e in
+    (p_in, omega (arith, joins.mesh_port, radices.few_dims))
+
+pub ports_entered : (mesh : List ℕ) (x p : ℕ) → p < 6 → IsRadices mesh → IfSome {T = PortLinks} (port_links mesh x p) (λ links. (p < 6) × (links.entered < 6))
+ports_entered mesh x p p_in radices = entered_by mesh x p p_in radices (neighbour_of mesh x p) refl
+
+-- the same of links that are there
+pub ports_within : (mesh : List ℕ) (x p : ℕ) (links : PortLinks) → IsRadices mesh → ◌≡◌ {A = Option PortLinks} (Some links) (port_links mesh x p) → (links.out < link_count mesh) × (links.into < link_count mesh)
+ports_within mesh x p links radices e = subst (λ (o : Option PortLinks). IfSome o (λ l. (l.out < link_count mesh) × (l.into < link_count mesh))) (sym e) (ports_bound mesh x p radices)
+
+pub entered_within : (mesh : List ℕ) (x p : ℕ) (links : PortLinks) → IsRadices mesh → ◌≡◌ {A = Option PortLinks} (Some links) (port_links mesh x p) → links.entered < 6
+entered_within mesh x p links radices e =
+    let these = parts mesh x p links e in
+    let joins = Joins-from mesh x p links.beyond (AreLarge-from_radices mesh radices.radices) these.0 in
+    let entered : links.entered ≡ opposite_of p = ap (λ (l : PortLinks). l.entered) these.1 in
+    omega (arith, joins.mesh_port, radices.few_dims)

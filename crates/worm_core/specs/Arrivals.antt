@@ -1,6 +1,6 @@
 -- The mesh ports of a node at which something may come in: a flit from the link into the port, or a credit from the link out
--- of it (Dally and Towles, chapter 13). A port that is not kept has nothing coming in; one that is kept may have nothing.
-use Rattle.std.specs.Prelude.{ℕ, ◌≡◌, ◌<◌, false, List, [], slice_index_or, slice_set, Option, None, Some}
+-- of it (Dally and Towles, chapter 13). A port that is not kept has nothing coming in; one that is kept may have nothing, but is there.
+use Rattle.std.specs.Prelude.{ℕ, ◌≡◌, ◌<◌, ◌*◌, false, true, length, List, [], slice_index_or, slice_set, Option, None, Some}
 use Rattle.worm_flit.specs.declared.Flit.{Flit}
 use Rattle.worm_mesh.specs.Address.{neighbour_of}
 use Rattle.worm_mesh.specs.Links.{links_before}
@@ -48,6 +48,8 @@ credits_to l x o = credits_of l.states (out_link l.mesh x o)
 pub record KnowsArrivals (l : LinksView) (x : ℕ) (kept : Arrivals) : Type 0 where
   pub flits : (p : ℕ) → p < 6 → has kept.flits p ≡ false → flits_to l x p ≡ []
   pub credits : (o : ℕ) → o < 6 → has kept.credits o ≡ false → credits_to l x o ≡ []
+  pub flit_ports : (p : ℕ) → p < 8 → has kept.flits p ≡ true → p < 2 * length l.mesh
+  pub credit_ports : (o : ℕ) → o < 8 → has kept.credits o ≡ true → o < 2 * length l.mesh
 
 abbrev pub no_arrivals : Arrivals
 no_arrivals = record { flits = 0; credits = 0 }

@@ -16,4 +16,4 @@ pub record IsFirstFrom (set from port : ℕ) : Type 0 where
 -- the set has changed at one port alone, which is now in it or not
 pub record IsPut (old new port : ℕ) (within : Bool) : Type 0 where
   pub here : has new port ≡ within
-  pub elsewhere : (p : ℕ) → p < 6 → (p ≡ port → ⊥) → has new p ≡ has old p
+  pub elsewhere : (p : ℕ) → p < 8 → (p ≡ port → ⊥) → has new p ≡ has old p

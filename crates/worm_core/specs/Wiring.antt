@@ -3,6 +3,7 @@ use Rattle.std.specs.Prelude.{ℕ, ◌≡◌, ◌*◌, ◌<◌, ◌≤◌, lengt
 use Rattle.worm_mesh.specs.Address.{node_count, neighbour_of, opposite_of}
 use Rattle.worm_mesh.specs.Links.{links_before}
 use Rattle.worm_core.specs.declared.wiring.NodeLinks.{NodeLinks}
+use Rattle.worm_core.specs.declared.wiring.PortLinks.{PortLinks}
 
 -- the link out of a node by a port, and the link into it by a port, where there is a neighbour
 abbrev pub out_link : List ℕ → ℕ → ℕ → Option ℕ
@@ -11,18 +12,17 @@ out_link mesh x o = option_map (λ y. links_before mesh x o) (neighbour_of mesh 
 abbrev pub in_link : List ℕ → ℕ → ℕ → Option ℕ
 in_link mesh x p = option_map (λ y. links_before mesh y (opposite_of p)) (neighbour_of mesh x p)
 
--- the node beyond a port, and the port by which it is entered
-abbrev pub other_end : List ℕ → ℕ → ℕ → Option (ℕ × ℕ)
-other_end mesh x p = option_map (λ y. (y, opposite_of p)) (neighbour_of mesh x p)
+-- the node beyond a port, the port by which that is entered, and the two numbers
+abbrev pub port_links : List ℕ → ℕ → ℕ → Option PortLinks
+port_links mesh x p =
+    option_map (λ y. record { beyond = y; entered = opposite_of p; out = links_before mesh x p; into = links_before mesh y (opposite_of p) }) (neighbour_of mesh x p)
 
 -- what is kept of a node
-pub record AreLinksOf (mesh : List ℕ) (x : ℕ) (links : NodeLinks) : Type 0 where
-  pub beyond : (p : ℕ) → p < 6 → slice_index_or links.beyond p None ≡ other_end mesh x p
-  pub out : (p : ℕ) → p < 6 → slice_index_or links.out p None ≡ out_link mesh x p
-  pub into : (p : ℕ) → p < 6 → slice_index_or links.into p None ≡ in_link mesh x p
+abbrev pub AreLinksOf : List ℕ → ℕ → NodeLinks → Type 0
+AreLinksOf mesh x links = (p : ℕ) → p < 6 → slice_index_or links.ports p None ≡ port_links mesh x p
 
 abbrev pub no_links : NodeLinks
-no_links = record { beyond = []; out = []; into = [] }
+no_links = record { ports = [] }
 
 -- the links of each number, a node's or not
 abbrev pub AreWired : List ℕ → List NodeLinks → Type 0

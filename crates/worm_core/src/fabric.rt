@@ -9,6 +9,7 @@ ghost use Rattle.worm_router.specs.Router.{IsPlace, MayLeave, after_accept, afte
 ghost use Rattle.worm_term.specs.Source.{after_close, after_offer, classes, front_of, refusal};
 ghost use Rattle.worm_core.specs.State.{IsNetPlace, link_at, node_at, router_at, sink_at, source_at, texts_of, with_link, with_node, with_router, with_source};
 ghost use Rattle.worm_core.specs.Moves.{AreReady, CreditFits, FrontFits, Sends, WayOut, after_getting, after_giving, after_take, can_enter, can_get, can_give, chosen_router, delivered_node, fed_node, front_credit, front_into, has_room, link_into, link_out};
+ghost use Rattle.worm_core.specs.Wiring.{port_links};
 ghost use Rattle.worm_core.specs.UnderWay.{IsUnderWay, accepted_in, taken_in};
 
 mod parts;
@@ -19,6 +20,7 @@ mod still;
 use crate::fresh::{make_links, make_nodes};
 use crate::links::Links;
 use crate::nodes::Nodes;
+use crate::wiring::PortLinks;
 use crate::{Moved, Name, Node, StepFault};
 use arrayvec::ArrayVec;
 use std::alloc::{AllocError, Global};
@@ -147,6 +149,15 @@ impl Fabric {
         ensures mesh_port { IsSome result → port < 6 }
     {
         self.links.find_out(node, port)
+    }
+
+    /// The links of this port, if the node has a neighbour there.
+    pub fn links_at(&self, node: u8, port: u8) -> Option<PortLinks>
+        ensures there { IsSome result ↔ ((node < node_count self.now.mesh) × IsSome (neighbour_of self.now.mesh node port)) }
+        ensures value { result ≡ port_links self.now.mesh node port }
+        ensures mesh { IsRadices self.now.mesh }
+    {
+        self.links.links_at(node, port)
     }
 
     /// The terminal port of each node.
@@ -293,19 +304,18 @@ impl Fabric {
         self.nodes.router_mut(node).gave(port, vc);
     }
 
-    /// Gives a credit that the input channel owes to the link into its port, which is that of this number (Dally and Towles, chapter 13).
-    pub fn give(&mut self, node: u8, port: u8, vc: u8, number: u16)
+    /// Gives a credit that the input channel owes to the link into its port, whose links are these (Dally and Towles, chapter 13).
+    pub fn give(&mut self, node: u8, port: u8, vc: u8, links: PortLinks)
         requires place { IsNetPlace self.old node port vc }
-        requires number { number ≡ link_into self.old node port }
-        requires there { number < link_count self.old.mesh }
+        requires mesh { IsRadices self.old.mesh }
+        requires ports { Some links ≡ port_links self.old.mesh node port }
         requires links { length self.old.links ≡ link_count self.old.mesh }
-        requires linked { IsSome (neighbour_of self.old.mesh node port) }
         requires owed { 0 < (input_at (router_at self.old node) port vc).owed }
         requires room { length (link_at self.old (link_into self.old node port)).credits < (link_at self.old (link_into self.old node port)).room }
         ensures { self.new ≡ after_giving self.old node port vc (link_into self.old node port) }
     {
         self.gave(node, port, vc);
-        self.links.push_credit(node, port, number, vc);
+        self.links.push_credit(node, port, links, vc);
     }
 
     /// Counts a credit more for the output channel, if one is missing.

@@ -1,14 +1,15 @@
 //! The links of a mesh with what is on them, and by node the ports at which something comes in, so that a turn goes past all others.
 
-ghost use Rattle.std.specs.Prelude.{◌≡◌, ◌<◌, ◌≤◌, ◌*◌, ◌↔◌, ◌==◌, ◌++◌, ◌∷◌, [], ℕ, IfNone, IfSome, IsSome, IsTrue, Option, false, drop, length, slice_get, slice_set};
+ghost use Rattle.std.specs.Prelude.{◌≡◌, ◌<◌, ◌≤◌, ◌*◌, ◌↔◌, ◌==◌, ◌++◌, ◌∷◌, [], ℕ, IfNone, IfSome, IsSome, IsTrue, Option, Some, false, true, drop, length, slice_get, slice_set};
 ghost use Rattle.worm_mesh.specs.Address.{IsMesh as IsRadices, neighbour_of};
 ghost use Rattle.worm_mesh.specs.Links.{link_count};
 ghost use Rattle.worm_core.specs.State.{LinkView};
 ghost use Rattle.worm_core.specs.Arrivals.{KnowsArrivals, LinksView, credits_of, credits_to, flits_of, flits_to, number_into, number_out, state_at, with_state};
+ghost use Rattle.worm_core.specs.Wiring.{port_links};
 
 use crate::LinkState;
 use crate::port_set::PortSet;
-use crate::wiring::Wiring;
+use crate::wiring::{PortLinks, Wiring};
 use std::marker::Model;
 use worm_flit::Flit;
 use worm_mesh::Mesh;
@@ -45,7 +46,8 @@ impl Model for Links {
 
 /// Whether the link of this number, if it is there, has a flit.
 fn has_flits(states: &[LinkState], number: Option<u16>) -> bool
-    ensures { result ≡ false → flits_of states.now number ≡ [] }
+    ensures none { result ≡ false → flits_of states.now number ≡ [] }
+    ensures there { result ≡ true → IsSome number }
 {
     let Some(number) = number else {
         return false;
@@ -58,7 +60,8 @@ fn has_flits(states: &[LinkState], number: Option<u16>) -> bool
 
 /// Whether the link of this number, if it is there, has a credit.
 fn has_credits(states: &[LinkState], number: Option<u16>) -> bool
-    ensures { result ≡ false → credits_of states.now number ≡ [] }
+    ensures none { result ≡ false → credits_of states.now number ≡ [] }
+    ensures there { result ≡ true → IsSome number }
 {
     let Some(number) = number else {
         return false;
@@ -148,14 +151,8 @@ impl Links {
         ensures none { IfNone result ((p : ℕ) → from ≤ p → flits_to self.now node p ≡ []) }
     {
         let here = self.arrivals[usize::from(node)];
-        let terminal = self.wiring.terminal();
-        let Some(port) = here.flits.first_from(from) else {
-            return None;
-        };
-        if port >= terminal {
-            return None;
-        }
-        Some(port)
+        let _terminal = self.wiring.terminal();
+        here.flits.first_from(from)
     }
 
     /// A mesh port from this one on by which a credit may come in, and before which none does.
@@ -166,14 +163,8 @@ impl Links {
         ensures none { IfNone result ((p : ℕ) → from ≤ p → credits_to self.now node p ≡ []) }
     {
         let here = self.arrivals[usize::from(node)];
-        let terminal = self.wiring.terminal();
-        let Some(port) = here.credits.first_from(from) else {
-            return None;
-        };
-        if port >= terminal {
-            return None;
-        }
-        Some(port)
+        let _terminal = self.wiring.terminal();
+        here.credits.first_from(from)
     }
 
     /// The number of the link that comes into this port, if there is one.
@@ -194,6 +185,15 @@ impl Links {
         ensures mesh_port { IsSome result → port < 6 }
     {
         self.wiring.link_out(node, port)
+    }
+
+    /// The links of this port, if the node has a neighbour there.
+    pub fn links_at(&self, node: u8, port: u8) -> Option<PortLinks>
+        ensures there { IsSome result ↔ IsSome (neighbour_of self.now.mesh node port) }
+        ensures value { result ≡ port_links self.now.mesh node port }
+        ensures mesh { IsRadices self.now.mesh }
+    {
+        self.wiring.links_at(node, port)
     }
 
     /// The number of the link that goes out of this port.
@@ -243,13 +243,12 @@ impl Links {
         requires room { length (state_at self.old (number_out self.old node port)).flits < (state_at self.old (number_out self.old node port)).room }
         ensures { self.new ≡ with_state self.old (number_out self.old node port) (record (state_at self.old (number_out self.old node port)) { flits = (state_at self.old (number_out self.old node port)).flits ++ flit ∷ [] }) }
     {
-        if let Some((beyond, into)) = self.wiring.other_end(node, port) {
-            let number = self.number_out(node, port);
-            let link = &mut self.states[usize::from(number)];
+        if let Some(links) = self.wiring.links_at(node, port) {
+            let link = &mut self.states[usize::from(links.out)];
             link.push(flit);
-            let mut there = self.arrivals[usize::from(beyond)];
-            there.flits.insert(into);
-            self.arrivals[usize::from(beyond)] = there;
+            let mut there = self.arrivals[usize::from(links.beyond)];
+            there.flits.insert(links.entered);
+            self.arrivals[usize::from(links.beyond)] = there;
         }
     }
 
@@ -280,21 +279,18 @@ impl Links {
         self.arrivals[usize::from(node)] = here;
     }
 
-    /// Puts a credit of the channel at the end of the credits of the link into this port, which is that of this number.
-    pub fn push_credit(&mut self, node: u8, port: u8, number: u16, vc: u8)
-        requires number { number ≡ number_into self.old node port }
-        requires there { number < link_count self.old.mesh }
+    /// Puts a credit of the channel at the end of the credits of the link into this port, whose links are these.
+    pub fn push_credit(&mut self, node: u8, port: u8, links: PortLinks, vc: u8)
+        requires mesh { IsRadices self.old.mesh }
+        requires ports { Some links ≡ port_links self.old.mesh node port }
         requires links { length self.old.states ≡ link_count self.old.mesh }
-        requires linked { IsSome (neighbour_of self.old.mesh node port) }
         requires room { length (state_at self.old (number_into self.old node port)).credits < (state_at self.old (number_into self.old node port)).room }
         ensures { self.new ≡ with_state self.old (number_into self.old node port) (record (state_at self.old (number_into self.old node port)) { credits = (state_at self.old (number_into self.old node port)).credits ++ vc ∷ [] }) }
     {
-        let link = &mut self.states[usize::from(number)];
+        let link = &mut self.states[usize::from(links.into)];
         link.push_credit(vc);
-        if let Some((beyond, out)) = self.wiring.other_end(node, port) {
-            let mut there = self.arrivals[usize::from(beyond)];
-            there.credits.insert(out);
-            self.arrivals[usize::from(beyond)] = there;
-        }
+        let mut there = self.arrivals[usize::from(links.beyond)];
+        there.credits.insert(links.entered);
+        self.arrivals[usize::from(links.beyond)] = there;
     }
 }

@@ -380,10 +380,10 @@ impl Net {
         requires owed { 0 < (input_at (router_at self.old node) port vc).owed }
         ensures { Answers self.old (Event.GiveCredit node port vc) result self.new }
     {
-        let Some(number) = self.fabric.link_into(node, port) else {
+        let Some(links) = self.fabric.links_at(node, port) else {
             return Err(StepFault::NoSuchPlace);
         };
-        self.fabric.give(node, port, vc, number);
+        self.fabric.give(node, port, vc, links);
         Ok(Moved::Done)
     }
 

@@ -1,22 +1,32 @@
 //! A mesh with the numbers of its links kept by node and port, so that no step searches for a link.
 
 ghost use Rattle.std.specs.Prelude.{◌≡◌, ◌<◌, ◌≤◌, ◌*◌, ℕ, IfSome, IsSome, length};
-ghost use Rattle.worm_mesh.specs.Address.{IsMesh as IsRadices, node_count};
-ghost use Rattle.worm_mesh.specs.Links.{link_count};
-ghost use Rattle.worm_core.specs.Wiring.{AreLinksOf, in_link, other_end, out_link};
+ghost use Rattle.worm_mesh.specs.Address.{IsMesh as IsRadices, neighbour_of, node_count};
+ghost use Rattle.worm_mesh.specs.Links.{link_count, links_before};
+ghost use Rattle.worm_core.specs.Moves.{into_from};
+ghost use Rattle.worm_core.specs.Wiring.{AreLinksOf, in_link, out_link, port_links};
 
 use std::marker::Model;
 use worm_mesh::Mesh;
 
-/// The neighbours and the links of a node by mesh port, each by its number, where the port has a neighbour.
+/// The links of a mesh port that has a neighbour: the node beyond, and the numbers of the two links between.
+#[derive(Clone, Copy)]
+pub struct PortLinks {
+    /// The node beyond the port.
+    pub beyond: u8,
+    /// The port by which the link out of this one enters the node beyond.
+    pub entered: u8,
+    /// The number of the link out of the port.
+    pub out: u16,
+    /// The number of the link into the port.
+    pub into: u16,
+}
+
+/// The links of a node by mesh port, where the port has a neighbour.
 #[derive(Clone, Copy)]
 pub struct NodeLinks {
-    /// The node beyond each port, and the port by which it is entered.
-    pub beyond: [Option<(u8, u8)>; 6],
-    /// The link out of each port.
-    pub out: [Option<u16>; 6],
-    /// The link into each port.
-    pub into: [Option<u16>; 6],
+    /// By port.
+    pub ports: [Option<PortLinks>; 6],
 }
 
 /// A mesh and the links of each of its nodes.
@@ -44,15 +54,6 @@ impl Model for Wiring {
     ghost invariant = { λ w. IsWired w.mesh w.count w.terminal w.nodes };
 }
 
-/// The other end of the links at this port: the node beyond, and its port.
-fn end_beyond(mesh: &Mesh, node: u8, port: u8) -> Option<(u8, u8)>
-    requires { IsRadices mesh.now }
-    ensures { result ≡ other_end mesh.now node port }
-{
-    let beyond = mesh.neighbour(node, port)?;
-    Some((beyond, mesh.opposite(port)))
-}
-
 /// The number of the link out of this port.
 fn number_out(mesh: &Mesh, node: u8, port: u8) -> Option<u16>
     requires { IsRadices mesh.now }
@@ -70,20 +71,29 @@ fn number_into(mesh: &Mesh, node: u8, port: u8) -> Option<u16>
     mesh.link_number(from, mesh.opposite(port))
 }
 
+/// The links of this port.
+fn links_of_port(mesh: &Mesh, node: u8, port: u8) -> Option<PortLinks>
+    requires { IsRadices mesh.now }
+    ensures { result ≡ port_links mesh.now node port }
+{
+    Some(PortLinks {
+        beyond: mesh.neighbour(node, port)?,
+        entered: mesh.opposite(port),
+        out: number_out(mesh, node, port)?,
+        into: number_into(mesh, node, port)?,
+    })
+}
+
 /// The links of a node; none of a node that is not there.
 fn links_of(mesh: &Mesh, node: u8) -> NodeLinks
     requires { IsRadices mesh.now }
     ensures { AreLinksOf mesh.now node result }
 {
-    let mut beyond = [None; 6];
-    let mut out = [None; 6];
-    let mut into = [None; 6];
+    let mut ports = [None; 6];
     for port in 0..6u8 {
-        beyond[usize::from(port)] = end_beyond(mesh, node, port);
-        out[usize::from(port)] = number_out(mesh, node, port);
-        into[usize::from(port)] = number_into(mesh, node, port);
+        ports[usize::from(port)] = links_of_port(mesh, node, port);
     }
-    NodeLinks { beyond, out, into }
+    NodeLinks { ports }
 }
 
 impl Wiring {
@@ -92,11 +102,7 @@ impl Wiring {
         requires { IsRadices mesh }
         ensures { result ≡ mesh }
     {
-        let mut nodes = [NodeLinks {
-            beyond: [None; 6],
-            out: [None; 6],
-            into: [None; 6],
-        }; 256];
+        let mut nodes = [NodeLinks { ports: [None; 6] }; 256];
         for node in 0..256u16 {
             nodes[usize::from(node)] = links_of(&mesh, node as u8);
         }
@@ -133,15 +139,20 @@ impl Wiring {
         self.terminal
     }
 
-    /// The other end of the links at this port, if there are any: the node beyond, and its port.
-    pub fn other_end(&self, node: u8, port: u8) -> Option<(u8, u8)>
-        ensures value { result ≡ other_end self.now node port }
+    /// The links of this port of the node, if there is a neighbour.
+    pub fn links_at(&self, node: u8, port: u8) -> Option<PortLinks>
+        ensures value { result ≡ port_links self.now node port }
         ensures mesh { IsRadices self.now }
-        ensures there { IfSome result (λ end. (end.0 < 256) × (end.1 < 6)) }
+
+        // The numbers again, by themselves.
+        ensures out { IfSome result (λ links. links.out ≡ links_before self.now node port) }
+        ensures into { IfSome result (λ links. links.into ≡ into_from self.now port (neighbour_of self.now node port)) }
+        ensures bound { IfSome result (λ links. (links.out < link_count self.now) × (links.into < link_count self.now)) }
+        ensures mesh_ports { IfSome result (λ links. (port < 6) × (links.entered < 6)) }
     {
         let _nodes = self.mesh.nodes();
         if port < 6 {
-            self.nodes[usize::from(node)].beyond[usize::from(port)]
+            self.nodes[usize::from(node)].ports[usize::from(port)]
         } else {
             None
         }
@@ -153,12 +164,8 @@ impl Wiring {
         ensures bound { IfSome result (λ number. number < link_count self.now) }
         ensures mesh_port { IsSome result → port < 6 }
     {
-        let _nodes = self.mesh.nodes();
-        if port < 6 {
-            self.nodes[usize::from(node)].out[usize::from(port)]
-        } else {
-            None
-        }
+        let links = self.links_at(node, port)?;
+        Some(links.out)
     }
 
     /// The number of the link that comes into this port of the node, if there is one.
@@ -167,11 +174,7 @@ impl Wiring {
         ensures bound { IfSome result (λ number. number < link_count self.now) }
         ensures mesh_port { IsSome result → port < 6 }
     {
-        let _nodes = self.mesh.nodes();
-        if port < 6 {
-            self.nodes[usize::from(node)].into[usize::from(port)]
-        } else {
-            None
-        }
+        let links = self.links_at(node, port)?;
+        Some(links.into)
     }
 }

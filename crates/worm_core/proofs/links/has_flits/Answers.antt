@@ -5,8 +5,8 @@ use Rattle.worm_core.specs.Arrivals.{flits_of}
 use Rattle.worm_core.proofs.Arriving.{found_none}
 use Rattle.worm_core.proofs.links.has_flits.Goals as goal
 
-pub returns-in-Some-get : goal.returns-in-Some-get
-returns-in-Some-get c = λ off.
+pub returns-in-Some-get-clause-none : goal.returns-in-Some-get-clause-none
+returns-in-Some-get-clause-none c = λ off.
     let found = c.in-Some-get.ensures.lookup in
     subst (λ (n : Option ℕ). flits_of c.args.states.now n ≡ []) (sym c.in-Some.is)
     (found_none c.args.states.now c.in-Some.number c.from.result c.in-Some-get.link.now c.is_some.result c.from.ensures found.3.0 found.1 (c.is_some.ensures ∙ ap (λ (o : Option Flit). is_some o) c.front.ensures) off)
