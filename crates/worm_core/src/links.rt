@@ -139,7 +139,7 @@ impl Links {
         ensures credits { IsTrue result → (o : ℕ) → credits_to self.now node o ≡ [] }
     {
         let _terminal = self.wiring.terminal();
-        let here = self.arrivals[usize::from(node)];
+        let here = &self.arrivals[usize::from(node)];
         here.flits.is_empty() && here.credits.is_empty()
     }
 
@@ -150,7 +150,7 @@ impl Links {
         ensures before { IfSome result (λ port. (p : ℕ) → from ≤ p → p < port → flits_to self.now node p ≡ []) }
         ensures none { IfNone result ((p : ℕ) → from ≤ p → flits_to self.now node p ≡ []) }
     {
-        let here = self.arrivals[usize::from(node)];
+        let here = &self.arrivals[usize::from(node)];
         let _terminal = self.wiring.terminal();
         here.flits.first_from(from)
     }
@@ -162,7 +162,7 @@ impl Links {
         ensures before { IfSome result (λ port. (p : ℕ) → from ≤ p → p < port → credits_to self.now node p ≡ []) }
         ensures none { IfNone result ((p : ℕ) → from ≤ p → credits_to self.now node p ≡ []) }
     {
-        let here = self.arrivals[usize::from(node)];
+        let here = &self.arrivals[usize::from(node)];
         let _terminal = self.wiring.terminal();
         here.credits.first_from(from)
     }
@@ -231,9 +231,8 @@ impl Links {
         requires none { flits_to self.old node port ≡ [] }
         ensures { self.new ≡ self.old }
     {
-        let mut here = self.arrivals[usize::from(node)];
+        let here = &mut self.arrivals[usize::from(node)];
         here.flits.remove(port);
-        self.arrivals[usize::from(node)] = here;
     }
 
     /// Puts the flit at the end of the link out of this port.
@@ -246,9 +245,8 @@ impl Links {
         if let Some(links) = self.wiring.links_at(node, port) {
             let link = &mut self.states[usize::from(links.out)];
             link.push(flit);
-            let mut there = self.arrivals[usize::from(links.beyond)];
+            let there = &mut self.arrivals[usize::from(links.beyond)];
             there.flits.insert(links.entered);
-            self.arrivals[usize::from(links.beyond)] = there;
         }
     }
 
@@ -274,9 +272,8 @@ impl Links {
         requires none { credits_to self.old node port ≡ [] }
         ensures { self.new ≡ self.old }
     {
-        let mut here = self.arrivals[usize::from(node)];
+        let here = &mut self.arrivals[usize::from(node)];
         here.credits.remove(port);
-        self.arrivals[usize::from(node)] = here;
     }
 
     /// Puts a credit of the channel at the end of the credits of the link into this port, whose links are these.
@@ -289,8 +286,7 @@ impl Links {
     {
         let link = &mut self.states[usize::from(links.into)];
         link.push_credit(vc);
-        let mut there = self.arrivals[usize::from(links.beyond)];
+        let there = &mut self.arrivals[usize::from(links.beyond)];
         there.credits.insert(links.entered);
-        self.arrivals[usize::from(links.beyond)] = there;
     }
 }
