@@ -1,8 +1,7 @@
 -- The channels that may send, and what the input ports name among them.
-use Rattle.std.proofs.Common.{◌≡◌, ℕ, ◌+◌, ◌<◌, ◌≤◌, ◌==◌, ◌&&◌, ◌||◌, Bool, true, false, nat_le, nat_lt, if◌then◌else◌, inl, inr, List, [], ◌∷◌, Option, None, Some, is_some, slice_index_or, slice_set, replicate, refl, arith, ap, sym, subst, ◌∙◌}
+use Rattle.std.proofs.Common.{◌≡◌, ℕ, ◌+◌, ◌<◌, ◌≤◌, ◌==◌, ◌&&◌, ◌||◌, Bool, true, false, nat_le, nat_lt, if◌then◌else◌, inl, inr, List, [], ◌∷◌, Option, None, Some, is_some, IfSome, slice_index_or, slice_set, replicate, refl, arith, ap, sym, subst, ◌∙◌}
 use Rattle.std.specs.Option.{option_map}
 use Rattle.std.proofs.lemmas.Bool.{cases_eq, cases_Bool, true≢false}
-use Rattle.std.proofs.lemmas.List.{set-get_or}
 use Rattle.worm_flit.specs.declared.Flit.{Flit}
 use Rattle.worm_flit.specs.Stamps.{with_channel}
 use Rattle.worm_records.specs.declared.InRecord.{InRecord}
@@ -12,8 +11,9 @@ use Rattle.worm_vcalloc.specs.ChannelSet.{has, IsFirstPort}
 use Rattle.worm_vcalloc.specs.Table.{cell}
 use Rattle.worm_vcalloc.proofs.ArbiterLemmas.{winner_requests}
 use Rattle.worm_swalloc.specs.declared.grant.SwGrant.{SwGrant}
-use Rattle.worm_swalloc.specs.SwAlloc.{IsSwAlloc, named, all_named, named_channel, request_of}
-use Rattle.worm_swalloc.proofs.SwLemmas.{AskedBelow, named_is, asked_start, asked_more, asked_all}
+use Rattle.worm_swalloc.specs.SwAlloc.{sole_named, IsSwAlloc, named, all_named, named_channel, request_of}
+use Rattle.worm_swalloc.proofs.SwLemmas.{named_within, AskedBelow, named_is, asked_start, asked_more, asked_all}
+use Rattle.worm_swalloc.proofs.SoleLemmas.{sole_here}
 use Rattle.worm_router.specs.Router.{RouterState, ChannelState, terminal, width, input_at, output_at, leaving, leaving_by}
 use Rattle.worm_router.specs.Allocation.{within, ready_at, ready_outs}
 use Rattle.worm_router.specs.Busy.{IsReadySet, port_held}
@@ -90,31 +90,25 @@ names_some r set port vc held sound ports channels few_ports few_channels port_i
     ∙ held_ready r port (input_at r port vc) (input_at r port vc).state (input_at r port vc).buffer may_send
     ∙ sym held_is)
 
--- a port that names nothing leaves the list as it is
-pub nothing_put : (asked : List (Option SwGrant)) (port : ℕ) (o : Option SwGrant) → o ≡ None → slice_index_or asked port None ≡ None → asked ≡ slice_set asked port o
-nothing_put asked port o e none = sym (set-get_or asked port None) ∙ ap (slice_set asked port) (none ∙ sym e)
-
 -- the same of a router as its code has it
-
-pub leaves_it : (r now : RouterState) (set port lines : ℕ) (asked : List (Option SwGrant)) → r ≡ now → IsSwAlloc r.switch_alloc.ports r.switch_alloc.channels r.switch_alloc.inputs r.switch_alloc.outputs
+pub none_named : (r now : RouterState) (set port lines : ℕ) → r ≡ now → IsSwAlloc r.switch_alloc.ports r.switch_alloc.channels r.switch_alloc.inputs r.switch_alloc.outputs
     → r.switch_alloc.ports ≡ terminal r + 1 → r.switch_alloc.channels ≡ width r → terminal r ≤ 6 → width r ≤ 8 → port ≤ terminal now → IsReadySet now set
     → ((line : ℕ) → line < width r → line_requests lines line ≡ has set port line)
     → None ≡ winner (slice_index_or r.switch_alloc.inputs port no_arbiter) (line_requests lines)
-    → slice_index_or asked port None ≡ None → asked ≡ slice_set asked port (named now.switch_alloc (ready_outs now) port)
-leaves_it r now set port lines asked e sound ports channels few_ports few_channels port_in is same won none =
+    → named now.switch_alloc (ready_outs now) port ≡ None
+none_named r now set port lines e sound ports channels few_ports few_channels port_in is same won =
     let ready : IsReadySet r set = subst (λ (q : RouterState). IsReadySet q set) (sym e) is in
     let port_there : port ≤ terminal r = subst (λ (q : RouterState). port ≤ terminal q) (sym e) port_in in
-    subst (λ (q : RouterState). asked ≡ slice_set asked port (named q.switch_alloc (ready_outs q) port)) e
-    (nothing_put asked port (named r.switch_alloc (ready_outs r) port)
-    (names_none r port (port_names r set port lines None sound ports channels few_ports few_channels port_there ready same won)) none)
+    subst (λ (q : RouterState). named q.switch_alloc (ready_outs q) port ≡ None) e
+    (names_none r port (port_names r set port lines None sound ports channels few_ports few_channels port_there ready same won))
 
-pub put_it : (r now : RouterState) (set port lines vc : ℕ) (held : Option ℕ) → r ≡ now → IsSwAlloc r.switch_alloc.ports r.switch_alloc.channels r.switch_alloc.inputs r.switch_alloc.outputs
+pub one_named : (r now : RouterState) (set port lines vc : ℕ) (held : Option ℕ) → r ≡ now → IsSwAlloc r.switch_alloc.ports r.switch_alloc.channels r.switch_alloc.inputs r.switch_alloc.outputs
     → r.switch_alloc.ports ≡ terminal r + 1 → r.switch_alloc.channels ≡ width r → terminal r ≤ 6 → width r ≤ 8 → port ≤ terminal now → IsReadySet now set
     → ((line : ℕ) → line < width r → line_requests lines line ≡ has set port line)
     → Some vc ≡ winner (slice_index_or r.switch_alloc.inputs port no_arbiter) (line_requests lines)
     → held ≡ port_held (input_at now port vc).state
     → named now.switch_alloc (ready_outs now) port ≡ option_map (λ out. record { vc = vc; out = out }) held
-put_it r now set port lines vc held e sound ports channels few_ports few_channels port_in is same won held_is =
+one_named r now set port lines vc held e sound ports channels few_ports few_channels port_in is same won held_is =
     let ready : IsReadySet r set = subst (λ (q : RouterState). IsReadySet q set) (sym e) is in
     let port_there : port ≤ terminal r = subst (λ (q : RouterState). port ≤ terminal q) (sym e) port_in in
     let held_here : held ≡ port_held (input_at r port vc).state = held_is ∙ ap (λ (q : RouterState). port_held (input_at q port vc).state) (sym e) in
@@ -154,3 +148,22 @@ pub named_all : (r : RouterState) (all left : ℕ) (asked : List (Option SwGrant
     → IsSwAlloc r.switch_alloc.ports r.switch_alloc.channels r.switch_alloc.inputs r.switch_alloc.outputs
     → IsNaming r all left asked → IsReadySet r all → left ≡ 0 → asked ≡ all_named r.switch_alloc (ready_outs r)
 named_all r all left asked sound n is e = asked_all r.switch_alloc (ready_outs r) all left asked sound (ready_keyed r all is) n.below e
+
+-- ---- one port alone
+
+module _ (r : RouterState) (all port : ℕ) (sound : IsSwAlloc r.switch_alloc.ports r.switch_alloc.channels r.switch_alloc.inputs r.switch_alloc.outputs) (ports : r.switch_alloc.ports ≡ terminal r + 1) (is : IsReadySet r all) (sole : IsFirstPort all 0 port) where
+  pub sole_in : port ≤ terminal r
+  sole_in = next_in r all all 0 port (replicate 7 None) (naming_begins r all (replicate 7 None) refl) sole is
+
+  -- what it names is all that is named
+  pub sole_is_all : (request : Option SwGrant) → request ≡ named r.switch_alloc (ready_outs r) port → sole_named port request ≡ all_named r.switch_alloc (ready_outs r)
+  sole_is_all request e =
+      named_all r all 0 (sole_named port request) sound
+      (naming_goes_on r all all 0 port (replicate 7 None) (sole_named port request) sound ports (naming_begins r all (replicate 7 None) refl) sole is (ap (slice_set (replicate 7 None) port) e)) is refl
+
+  -- a channel of the router
+  pub sole_within : (request : Option SwGrant) → request ≡ named r.switch_alloc (ready_outs r) port → IfSome request (λ g. g.vc < r.switch_alloc.channels)
+  sole_within request e =
+      let few = sound.few_ports in
+      subst (λ (o : Option SwGrant). IfSome o (λ g. g.vc < r.switch_alloc.channels)) (sole_here port request (let there = sole_in in omega arith))
+      (named_within r.switch_alloc (ready_outs r) (sole_named port request) sound (sole_is_all request e) port)

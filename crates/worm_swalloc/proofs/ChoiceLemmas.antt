@@ -180,7 +180,7 @@ chosen_more s requests n now next grants grants' b few long within wide low g e 
     }
 
 -- output port n has no choice where nobody asks for it
-chosen_pass : (s : SwAllocState) (requests : List (Option SwGrant)) (n : ℕ) (now : SwAllocState) (grants : List (Option SwGrant))
+pub chosen_pass : (s : SwAllocState) (requests : List (Option SwGrant)) (n : ℕ) (now : SwAllocState) (grants : List (Option SwGrant))
     → ChosenBelow s requests n now grants → s.ports ≤ 7 → n < length s.outputs
     → (slice_index_or s.outputs n no_arbiter).width ≡ s.ports → (slice_index_or s.outputs n no_arbiter).pointer < s.ports
     → chosen s requests n ≡ None

@@ -2,7 +2,7 @@ ghost use Rattle.std.specs.Prelude.{◌≡◌, ℕ, ◌+◌, ◌^◌, ◌<◌, �
 ghost use Rattle.worm_vcalloc.specs.Arbiter.{no_arbiter, line_requests, winner, after_pick};
 ghost use Rattle.worm_vcalloc.specs.Table.{cell};
 ghost use Rattle.worm_swalloc.specs.Front.{with_front};
-ghost use Rattle.worm_swalloc.specs.SwAlloc.{SwAllocState, IsSwAlloc, IsSwitchMatching, AreChannelsBelow, AreAskers, request_of, named, all_named, is_for, channel_of, chosen, granted, sw_grants, sw_after, output_after, after_grant, with_choice, with_move};
+ghost use Rattle.worm_swalloc.specs.SwAlloc.{SwAllocState, IsSwAlloc, IsSwitchMatching, AreChannelsBelow, AreAskers, request_of, named, all_named, sole_named, is_for, channel_of, chosen, granted, sw_grants, sw_after, output_after, after_grant, with_choice, with_move};
 
 use crate::grant::{ReadyOuts, SwGrant, SwGrants};
 use crate::named::Named;
@@ -148,6 +148,25 @@ impl SwAlloc {
         grants
     }
 
+    /// The second half of a pass in which one input port alone may name anything: it has no rival, so what it names is granted.
+    pub fn grant_sole(&mut self, port: u8, request: Option<SwGrant>) -> SwGrants
+        requires port { port < self.old.ports }
+        requires channel { IfSome request (λ g. g.vc < self.old.channels) }
+        ensures grants { result ≡ with_front self.old.ports (granted self.old (sole_named port request) self.old.ports) (replicate 7 None) }
+        ensures after { self.new ≡ record self.old { inputs = with_front self.old.ports (after_grant self.old result) self.old.inputs; outputs = with_front self.old.ports (output_after self.old (sole_named port request)) self.old.outputs } }
+    {
+        let ports = self.ports;
+        let mut grants = SwGrants::new();
+        let Some(grant) = request else {
+            return grants;
+        };
+        if grant.out < ports {
+            self.outputs[grant.out as usize].move_past(port);
+            self.commit(port, request, &mut grants);
+        }
+        grants
+    }
+
     /// The arbiter of one output port chooses, and that of the chosen input port moves.
     fn choose_for(&mut self, out: u8, lines: u64, named: &Named, grants: &mut SwGrants)
         requires out { out < self.old.ports }
@@ -232,6 +251,20 @@ mod tests {
         let second = alloc.grant_named(&named);
         assert_eq!(rt; second.get(0), None);
         assert_eq!(rt; second.get(2), Some(SwGrant { vc: 0, out: 1 }));
+    }
+
+    // Both arbiters move as in a whole pass: after it output port 1 prefers port 2, and port 0 its channel 1.
+    #[test]
+    fn a_sole_request_is_granted(rt: HostRuntime) {
+        let mut alloc = SwAlloc::new(3, 2);
+        let request = SwGrant { vc: 0, out: 1 };
+        assert_eq!(rt; alloc.grant_sole(0, None).get(0), None);
+        assert_eq!(rt; alloc.grant_sole(0, Some(request)).get(0), Some(request));
+        assert_eq!(rt; alloc.name(0, 0b11), Some(1));
+        let mut named = Named::new();
+        named.put(0, request);
+        named.put(2, request);
+        assert_eq!(rt; alloc.grant_named(&named).get(2), Some(request));
     }
 
     // Port 0 names its channel 1 in vain while port 2 sends, and names it again in the next pass:

@@ -1,7 +1,7 @@
 //! One pass of the switch allocator, over what the records state.
 
-ghost use Rattle.std.specs.Prelude.{◌≡◌, ◌≤◌, ◌<◌, ℕ, None, is_some, replicate, slice_index_or, slice_set};
-ghost use Rattle.worm_vcalloc.specs.ChannelSet.{has};
+ghost use Rattle.std.specs.Prelude.{◌≡◌, ◌≤◌, ◌<◌, ℕ, IfSome, None, is_some, replicate, slice_index_or, slice_set};
+ghost use Rattle.worm_vcalloc.specs.ChannelSet.{has, IsFirstPort};
 ghost use Rattle.worm_vcalloc.specs.Table.{cell};
 ghost use Rattle.worm_swalloc.specs.SwAlloc.{IsSwAlloc, IsSwitchMatching, all_named, named};
 ghost use Rattle.worm_router.specs.Router.{IsPlace, terminal, input_at, leaving};
@@ -33,6 +33,19 @@ impl Router {
         }
     }
 
+    /// What one input port names among the channels that may send.
+    fn named_by(&self, port: u8, ready: &ChannelSet) -> Option<SwGrant>
+        requires port { port ≤ terminal self.now }
+        requires few { port < 7 }
+        requires ready { IsReadySet self.now ready.now }
+        ensures { result ≡ named self.now.switch_alloc (ready_outs self.now) port }
+    {
+        let lines = ready.row(port, self.classes.total());
+        let vc = self.switch_alloc.name(port, lines)?;
+        let out = self.held_port(port, vc)?;
+        Some(SwGrant { vc, out })
+    }
+
     /// Adds what one input port names among the channels that may send.
     fn name_port(&self, port: u8, ready: &ChannelSet, asked: &mut Named)
         requires port { port ≤ terminal self.now }
@@ -41,12 +54,8 @@ impl Router {
         requires none { slice_index_or asked.old port None ≡ None }
         ensures { asked.new ≡ slice_set asked.old port (named self.now.switch_alloc (ready_outs self.now) port) }
     {
-        let lines = ready.row(port, self.classes.total());
-        let Some(vc) = self.switch_alloc.name(port, lines) else {
-            return;
-        };
-        if let Some(out) = self.held_port(port, vc) {
-            asked.put(port, SwGrant { vc, out });
+        if let Some(request) = self.named_by(port, ready) {
+            asked.put(port, request);
         }
     }
 
@@ -64,6 +73,19 @@ impl Router {
         }
     }
 
+    /// One pass of the switch allocator where one input port alone has channels that may send.
+    fn choose_sole(&mut self, port: u8, ready: &ChannelSet) -> SwGrants
+        requires ready { IsReadySet self.old ready.now }
+        requires sole { IsFirstPort ready.now 0 port }
+        ensures grants { result ≡ switch_grants self.old }
+        ensures after { self.new ≡ after_choose self.old }
+        ensures matching { IsSwitchMatching self.old.switch_alloc (ready_outs self.old) result }
+    {
+        self.switch_alloc.is_sound();
+        let request = self.named_by(port, ready);
+        self.switch_alloc.grant_sole(port, request)
+    }
+
     /// One pass of the switch allocator over the channels that may send now (Dally and Towles, chapter 19). The
     /// arbiters of the granted ports move on; nothing is sent.
     pub fn choose(&mut self) -> SwGrants
@@ -75,8 +97,23 @@ impl Router {
             return SwGrants::new();
         }
         let ready = self.ready_set();
+        if let Some(port) = sole_port(&ready) {
+            return self.choose_sole(port, &ready);
+        }
         let mut asked = Named::new();
         self.name_ports(&ready, &mut asked);
         self.switch_alloc.grant_named(&asked)
     }
+}
+
+/// The port that alone has channels in the set, if there is one.
+fn sole_port(set: &ChannelSet) -> Option<u8>
+    ensures { IfSome result (IsFirstPort set.now 0) }
+{
+    let mut left = *set;
+    let port = left.pop_port()?;
+    if !left.is_empty() {
+        return None;
+    }
+    Some(port)
 }
