@@ -1,6 +1,6 @@
 -- The numbers of a node's links, against the mesh.
 use Rattle.std.proofs.Common.{◌≡◌, ℕ, ◌*◌, ◌+◌, ◌<◌, ◌≤◌, ◌≢◌, List, length, Option, Some, None, refl, arith, ap, sym, subst, ◌∙◌, get_or, set, below_more, get_or-set_other, get_or-set_same}
-use Rattle.std.specs.Prelude.{IfSome, option_map}
+use Rattle.std.specs.Prelude.{IfSome, IsSome, option_map}
 use Rattle.std.specs.Option.{SomeIff}
 use Rattle.worm_mesh.specs.Address.{IsMesh as IsRadices, neighbour_of, opposite_of}
 use Rattle.worm_mesh.specs.Links.{IsLink, links_before, link_count}
@@ -120,3 +120,13 @@ entered_within mesh x p links radices e =
     let joins = Joins-from mesh x p links.beyond (AreLarge-from_radices mesh radices.radices) these.0 in
     let entered : links.entered ≡ opposite_of p = ap (λ (l : PortLinks). l.entered) these.1 in
     omega (arith, joins.mesh_port, radices.few_dims)
+
+-- a port with a neighbour is a mesh port
+there_by : (mesh : List ℕ) (x p : ℕ) → IsRadices mesh → (n : Option ℕ) → neighbour_of mesh x p ≡ n → IsSome n → p < 6
+there_by mesh x p radices None e some = absurd (cc)
+there_by mesh x p radices (Some y) e some =
+    let joins = Joins-from mesh x p y (AreLarge-from_radices mesh radices.radices) e in
+    omega (arith, joins.mesh_port, radices.few_dims)
+
+pub port_there : (mesh : List ℕ) (x p : ℕ) → IsRadices mesh → IsSome (neighbour_of mesh x p) → p < 6
+port_there mesh x p radices some = there_by mesh x p radices (neighbour_of mesh x p) refl some

@@ -242,12 +242,11 @@ impl Links {
         requires room { length (state_at self.old (number_out self.old node port)).flits < (state_at self.old (number_out self.old node port)).room }
         ensures { self.new ≡ with_state self.old (number_out self.old node port) (record (state_at self.old (number_out self.old node port)) { flits = (state_at self.old (number_out self.old node port)).flits ++ flit ∷ [] }) }
     {
-        if let Some(links) = self.wiring.links_at(node, port) {
-            let link = &mut self.states[usize::from(links.out)];
-            link.push(flit);
-            let there = &mut self.arrivals[usize::from(links.beyond)];
-            there.flits.insert(links.entered);
-        }
+        let links = self.wiring.links_beyond(node, port);
+        let link = &mut self.states[usize::from(links.out)];
+        link.push(flit);
+        let there = &mut self.arrivals[usize::from(links.beyond)];
+        there.flits.insert(links.entered);
     }
 
     /// Drops the front credit of the link out of this port, which is that of this number.

@@ -1,6 +1,6 @@
 //! A mesh with the numbers of its links kept by node and port, so that no step searches for a link.
 
-ghost use Rattle.std.specs.Prelude.{◌≡◌, ◌<◌, ◌≤◌, ◌*◌, ℕ, IfSome, IsSome, length};
+ghost use Rattle.std.specs.Prelude.{◌≡◌, ◌<◌, ◌≤◌, ◌*◌, ℕ, IfSome, IsSome, Some, length};
 ghost use Rattle.worm_mesh.specs.Address.{IsMesh as IsRadices, neighbour_of, node_count};
 ghost use Rattle.worm_mesh.specs.Links.{link_count, links_before};
 ghost use Rattle.worm_core.specs.Moves.{into_from};
@@ -156,6 +156,21 @@ impl Wiring {
         } else {
             None
         }
+    }
+
+    /// The links of this port of the node, which has a neighbour there.
+    pub fn links_beyond(&self, node: u8, port: u8) -> PortLinks
+        requires { IsSome (neighbour_of self.now node port) }
+        ensures value { Some result ≡ port_links self.now node port }
+        ensures mesh { IsRadices self.now }
+        ensures bound { result.out < link_count self.now }
+        ensures entered { result.entered < 6 }
+    {
+        let _nodes = self.mesh.nodes();
+        let Some(links) = self.nodes[usize::from(node)].ports[usize::from(port)] else {
+            unreachable!()
+        };
+        links
     }
 
     /// The number of the link that leaves the node by this port, if there is one.
