@@ -60,10 +60,11 @@ impl Arbiter {
         if requests == 0 {
             return None;
         }
-        // Both are at hand before it is known which it is, so that the choice takes no branch.
-        let next = self.pointer + ahead.trailing_zeros() as u8;
-        let first = requests.trailing_zeros() as u8;
-        if ahead != 0 { Some(next) } else { Some(first) }
+        if ahead != 0 {
+            Some(self.pointer + ahead.trailing_zeros() as u8)
+        } else {
+            Some(requests.trailing_zeros() as u8)
+        }
     }
 
     /// Moves the pointer past a line, as `pick` does where it chooses that line.
