@@ -24,7 +24,7 @@ channel_line s net lane k x o = joined s.channels (λ v. packet_held lane k (on_
 
 -- A channel has flits of a packet only where the packet's class owns it.
 module _ (s : Shape) (lane : Lane) (k : ℕ) where
-  stored_none : (x p v : ℕ) (fs : List Flit) → All (InBuffer s x p v) fs → (s.owner v ≡ lane.class → ⊥) → packet_held lane k fs ≡ []
+  pub stored_none : (x p v : ℕ) (fs : List Flit) → All (InBuffer s x p v) fs → (s.owner v ≡ lane.class → ⊥) → packet_held lane k fs ≡ []
   stored_none x p v [] h other = refl
   stored_none x p v (f ∷ fs) h other =
       elim (packet_cases lane k f) [

@@ -28,7 +28,7 @@ module _ (lane : Lane) (k : ℕ) where
   pub on-other : (v : ℕ) (f : Flit) (fs : List Flit) → (v == f.vc) ≡ false → packet_held lane k (on_channel v (f ∷ fs)) ≡ packet_held lane k (on_channel v fs)
   on-other v f fs e = rw e refl
 
-  none_on : (v : ℕ) (fs : List Flit) → packet_held lane k fs ≡ [] → packet_held lane k (on_channel v fs) ≡ []
+  pub none_on : (v : ℕ) (fs : List Flit) → packet_held lane k fs ≡ [] → packet_held lane k (on_channel v fs) ≡ []
   none_on v [] e = refl
   none_on v (f ∷ fs) e =
       let parts = nil_parts (packet_one lane k f) (packet_held lane k fs) (sym (packet-cons lane k f fs) ∙ e) in

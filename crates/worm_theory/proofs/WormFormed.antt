@@ -15,7 +15,7 @@ use Rattle.worm_theory.specs.WormFormed.{channel_holds, awaited, IsDone, EndsAt,
 use Rattle.worm_theory.proofs.Runs.{within-is}
 use Rattle.worm_theory.proofs.Places.{number_cases}
 
-Follows-cases : (b : Bool) (f g : Flit) → MayCome (cond b Between (Within (bare f))) g → MatchBool b (Opens g) ((opens g.kind ≡ false) × (g.lane ≡ f.lane) × (g.packet ≡ f.packet) × (g.index ≡ f.index + 1))
+pub Follows-cases : (b : Bool) (f g : Flit) → MayCome (cond b Between (Within (bare f))) g → MatchBool b (Opens g) ((opens g.kind ≡ false) × (g.lane ≡ f.lane) × (g.packet ≡ f.packet) × (g.index ≡ f.index + 1))
 Follows-cases true f g h = h
 Follows-cases false f g h = h
 
