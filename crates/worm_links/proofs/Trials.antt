@@ -21,8 +21,10 @@ zeros (suc (suc (suc (suc (suc (suc zero)))))) h = refl
 zeros (suc (suc (suc (suc (suc (suc (suc zero))))))) h = refl
 zeros (suc (suc (suc (suc (suc (suc (suc (suc c)))))))) h = absurd (omega arith)
 
-may_cross : (channels depth packet index : ℕ) (kind : Kind) (vc : ℕ) → vc < channels → vc < 8 → MayCross (pair_link channels depth) (trial_flit packet index kind vc)
-may_cross channels depth packet index kind vc below few = record { channel = below; owned = zeros vc few; route = refl }
+may_cross : (channels depth packet index : ℕ) (kind : Kind) (vc : ℕ) → vc < channels → vc < 8 →
+    MayCross (pair_link channels depth) (trial_flit packet index kind vc)
+may_cross channels depth packet index kind vc below few =
+    record { channel = below; owned = zeros vc few; source = omega arith; destination = omega arith; route = refl }
 
 pub crosses_pair : (link : LinkCfg) (f : Flit) (channels depth packet index : ℕ) (kind : Kind) (vc : ℕ) → link ≡ pair_link channels depth → f ≡ trial_flit packet index kind vc → vc < channels → vc < 8 → MayCross link f
 crosses_pair link f channels depth packet index kind vc e d below few =

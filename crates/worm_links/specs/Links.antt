@@ -5,6 +5,7 @@ use Rattle.worm_flit.specs.declared.Flit.{Flit}
 use Rattle.worm_flit.specs.Packing.{is_word}
 use Rattle.worm_flit.specs.Stamps.{on_channel}
 use Rattle.worm_flit.specs.Worms.{IsWorm}
+use Rattle.worm_mesh.specs.Address.{node_count}
 use Rattle.worm_route.specs.Crossing.{crosses}
 use Rattle.worm_links.specs.declared.LinkCfg.{LinkCfg}
 use Rattle.worm_links.specs.declared.history.Opened.{Opened}
@@ -13,10 +14,13 @@ use Rattle.worm_links.specs.declared.history.Opened.{Opened}
 abbrev pub IsWord : ℕ → Type 0
 IsWord x = is_word x ≡ true
 
--- the flit's channel is one of the link's and owned by its class, and its route crosses the link
+-- the flit's channel is one of the link's and owned by its class, and its route, from a node of the mesh to a node of the
+-- mesh, crosses the link
 pub record MayCross (link : LinkCfg) (f : Flit) : Type 0 where
   pub channel : f.vc < link.channels
   pub owned : slice_get link.owners f.vc ≡ Some f.lane.class
+  pub source : f.lane.src < node_count link.mesh
+  pub destination : f.lane.dst < node_count link.mesh
   pub route : crosses link.mesh link.node link.port f.lane.src f.lane.dst ≡ true
 
 -- the flits are a worm on each channel
