@@ -39,17 +39,20 @@ last_here tx f = ap (latest_on f.vc) (sym (append_assoc tx.past tx.sent (f ∷ [
 last_else : (c : ℕ) (tx : TxView) (f : Flit) → (c == f.vc) ≡ false → last_on c (with_flit tx f) ≡ last_on c tx
 last_else c tx f e = ap (latest_on c) (sym (append_assoc tx.past tx.sent (f ∷ []))) ∙ latest_else c (tx.past ++ tx.sent) f e
 
-pub opened : (tx now : TxView) (f : Flit) → IsReady tx → now ≡ with_flit tx f → IsOpen now f
-opened tx now f ready is =
-    subst (λ (t : TxView). IsOpen t f) (sym is) (record { link = ready.link; last = last_here tx f; clear = λ c e. subst IsClear (sym (last_else c tx f e)) (ready.clear c) })
+pub opened : {channels : ℕ} (tx now : TxView) (f : Flit) → IsReady channels tx → now ≡ with_flit tx f →
+    IsOpen channels now f
+opened {channels} tx now f ready is =
+    subst (λ (t : TxView). IsOpen channels t f) (sym is) (record { link = ready.link; last = last_here tx f; clear = λ c e. subst IsClear (sym (last_else c tx f e)) (ready.clear c) })
 
-pub carried : (tx now : TxView) (g f : Flit) → g.vc ≡ f.vc → IsOpen tx g → now ≡ with_flit tx f → IsOpen now f
-carried tx now g f same was is =
-    subst (λ (t : TxView). IsOpen t f) (sym is)
+pub carried : {channels : ℕ} (tx now : TxView) (g f : Flit) → g.vc ≡ f.vc → IsOpen channels tx g →
+    now ≡ with_flit tx f → IsOpen channels now f
+carried {channels} tx now g f same was is =
+    subst (λ (t : TxView). IsOpen channels t f) (sym is)
     (record { link = was.link; last = last_here tx f; clear = λ c e. subst IsClear (sym (last_else c tx f e)) (was.clear c (ap (λ k. c == k) same ∙ e)) })
 
-pub ended : (tx : TxView) (f : Flit) → closes f.kind ≡ true → IsOpen tx f → IsReady tx
-ended tx f end was = record { link = was.link; clear = λ c. by_test c (c == f.vc) refl }
+pub ended : {channels : ℕ} (tx : TxView) (f : Flit) → closes f.kind ≡ true → IsOpen channels tx f →
+    IsReady channels tx
+ended {channels} tx f end was = record { link = was.link; clear = λ c. by_test c (c == f.vc) refl }
   where
     by_test : (c : ℕ) (b : Bool) → (c == f.vc) ≡ b → IsClear (last_on c tx)
     by_test c true e = subst (λ k. IsClear (last_on k tx)) (sym (eqb-true c f.vc e)) (subst IsClear (sym was.last) end)
@@ -59,12 +62,13 @@ may_begin : (last : Option Flit) (f : Flit) → IsClear last → opens f.kind �
 may_begin None f clear first at = tt
 may_begin (Some g) f clear first at = subst (λ b. MatchBool b (Opens f) ((opens f.kind ≡ false) × (f.lane ≡ g.lane) × (f.packet ≡ g.packet) × (f.index ≡ g.index + 1))) (sym clear) (first, at)
 
-pub begins_packet : (tx : TxView) (f : Flit) → IsReady tx → opens f.kind ≡ true → f.index ≡ 0 → MayFollow (last_on f.vc tx) f
-begins_packet tx f ready first at = may_begin (last_on f.vc tx) f (ready.clear f.vc) first at
+pub begins_packet : {channels : ℕ} (tx : TxView) (f : Flit) → IsReady channels tx → opens f.kind ≡ true →
+    f.index ≡ 0 → MayFollow (last_on f.vc tx) f
+begins_packet {channels} tx f ready first at = may_begin (last_on f.vc tx) f (ready.clear f.vc) first at
 
-pub goes_on : (tx : TxView) (packet index : ℕ) (before kind : Kind) (vc : ℕ) → 0 < index → closes before ≡ false → opens kind ≡ false → IsOpen tx (trial_flit packet (index - 1) before vc)
+pub goes_on : {channels : ℕ} (tx : TxView) (packet index : ℕ) (before kind : Kind) (vc : ℕ) → 0 < index → closes before ≡ false → opens kind ≡ false → IsOpen channels tx (trial_flit packet (index - 1) before vc)
     → MayFollow (last_on vc tx) (trial_flit packet index kind vc)
-goes_on tx packet index before kind vc some more next was =
+goes_on {channels} tx packet index before kind vc some more next was =
     let g = trial_flit packet (index - 1) before vc in
     let f = trial_flit packet index kind vc in
     let follows : Follows g f =
@@ -72,7 +76,7 @@ goes_on tx packet index before kind vc some more next was =
     subst (λ l. MayFollow l f) (sym was.last) follows
 
 -- a link whose past is one flit of a packet that is still open
-pub resumed : (tx : TxView) (f : Flit) → tx.link ≡ pair_link 2 tx.link.depth → tx.past ≡ f ∷ [] → tx.sent ≡ [] → IsOpen tx f
+pub resumed : (tx : TxView) (f : Flit) → tx.link ≡ pair_link 2 tx.link.depth → tx.past ≡ f ∷ [] → tx.sent ≡ [] → IsOpen 2 tx f
 resumed tx f link past sent =
     let seen : tx.past ++ tx.sent ≡ [] ++ f ∷ [] = (λ i. past i ++ sent i) in
     record {

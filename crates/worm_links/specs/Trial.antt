@@ -23,13 +23,13 @@ abbrev pub IsClear : Option Flit → Type 0
 IsClear None = Unit {0}
 IsClear (Some f) = closes f.kind ≡ true
 
--- no packet is open on any channel
-pub record IsReady (tx : TxView) : Type 0 where
-  pub link : tx.link ≡ pair_link 2 tx.link.depth
+-- the link of so many channels, on none of which a packet is open
+pub record IsReady (channels : ℕ) (tx : TxView) : Type 0 where
+  pub link : tx.link ≡ pair_link channels tx.link.depth
   pub clear : (c : ℕ) → IsClear (last_on c tx)
 
 -- the packet of the flit f is open, and no other
-pub record IsOpen (tx : TxView) (f : Flit) : Type 0 where
-  pub link : tx.link ≡ pair_link 2 tx.link.depth
+pub record IsOpen (channels : ℕ) (tx : TxView) (f : Flit) : Type 0 where
+  pub link : tx.link ≡ pair_link channels tx.link.depth
   pub last : last_on f.vc tx ≡ Some f
   pub clear : (c : ℕ) → (c == f.vc) ≡ false → IsClear (last_on c tx)

@@ -68,6 +68,23 @@ fn credits_of_one_channel_of_depth_one(rt: HostRuntime) -> Result<(), Fail> {
     Ok(())
 }
 
+// The widest and deepest link: its queue has room for 8 times 17 credits.
+#[test]
+fn credits_of_eight_channels_of_depth_seventeen(rt: HostRuntime) -> Result<(), Fail> {
+    let (mut tx, mut rx) = credit_line(rt.alloc(), pair(8, 17)?)
+        .ok()
+        .ok_or("no memory")?;
+    for credit in 0..136u8 {
+        assert_eq!(rt; tx.push(&rt, credit % 8), Ok(()));
+    }
+    assert_eq!(rt; tx.push(&rt, 0), Err(0));
+    for credit in 0..136u8 {
+        assert_eq!(rt; rx.pop(&rt), Some(credit % 8));
+    }
+    assert_eq!(rt; rx.pop(&rt), None);
+    Ok(())
+}
+
 // Pushes the flit. False where the tries run out.
 fn offer<R: Wait>(rt: &R, tx: &mut FlitTx, flit: Flit, tries: &mut u32) -> bool
     requires next { MayFollow (last_on flit.vc tx.old) flit }
@@ -86,12 +103,26 @@ fn offer<R: Wait>(rt: &R, tx: &mut FlitTx, flit: Flit, tries: &mut u32) -> bool
     false
 }
 
+// Pushes packets of one flit, on eight channels in turn. How many landed before one came back.
+fn fill<R: Wait>(rt: &R, tx: &mut FlitTx, packets: u16) -> u16
+    requires { IsReady 8 tx.old }
+{
+    for packet in 0..packets {
+        let single = flit(packet, 0, Kind::Single, (packet % 8) as u8);
+        let mut tries = 1;
+        if !offer(rt, tx, single, &mut tries) {
+            return packet;
+        }
+    }
+    packets
+}
+
 // Pushes the first flit of a packet.
 fn begin<R: Wait>(rt: &R, tx: &mut FlitTx, packet: u16, kind: Kind, vc: u8, tries: &mut u32) -> bool
     requires channel { vc < 2 }
     requires first { opens kind ≡ true }
-    requires ready { IsReady tx.old }
-    ensures landed { result ≡ true → IsOpen tx.new (trial_flit packet 0 kind vc) }
+    requires ready { IsReady 2 tx.old }
+    ensures landed { result ≡ true → IsOpen 2 tx.new (trial_flit packet 0 kind vc) }
     ensures queue { tx.new.queue ≡ tx.old.queue }
 {
     offer(rt, tx, flit(packet, 0, kind, vc), tries)
@@ -111,8 +142,8 @@ fn follow<R: Wait>(
     requires channel { vc < 2 }
     requires index { 0 < index }
     requires kinds { (closes before ≡ false) × (opens kind ≡ false) }
-    requires was { IsOpen tx.old (trial_flit packet (index - 1) before vc) }
-    ensures landed { result ≡ true → IsOpen tx.new (trial_flit packet index kind vc) }
+    requires was { IsOpen 2 tx.old (trial_flit packet (index - 1) before vc) }
+    ensures landed { result ≡ true → IsOpen 2 tx.new (trial_flit packet index kind vc) }
     ensures queue { tx.new.queue ≡ tx.old.queue }
 {
     let _ = before;
@@ -129,8 +160,8 @@ fn offer_packet<R: Wait>(
     tries: &mut u32,
 ) -> bool
     requires channel { vc < 2 }
-    requires ready { IsReady tx.old }
-    ensures landed { result ≡ true → IsReady tx.new }
+    requires ready { IsReady 2 tx.old }
+    ensures landed { result ≡ true → IsReady 2 tx.new }
     ensures queue { tx.new.queue ≡ tx.old.queue }
 {
     if length == 1 {
@@ -150,7 +181,7 @@ fn offer_packet<R: Wait>(
 
 // Pushes packets, on channels 0 and 1 in turn. False where the tries run out.
 fn offer_all<R: Wait>(rt: &R, mut tx: FlitTx, packets: u16) -> bool
-    requires { IsReady tx }
+    requires { IsReady 2 tx }
 {
     let mut tries = 10_000_000;
     for packet in 0..packets {
@@ -222,6 +253,19 @@ fn on_one(alloc: Global, flits: &[Flit], vc: u8) -> Result<Vec<Flit>, AllocError
         }
     }
     Ok(found)
+}
+
+// The widest and deepest link: its queue has room for 8 times 17 flits.
+#[test]
+fn eight_channels_of_depth_seventeen(rt: HostRuntime) -> Result<(), Fail> {
+    let (mut tx, mut rx) = link(rt.alloc(), pair(8, 17)?).ok().ok_or("no memory")?;
+    assert_eq!(rt; fill(&rt, &mut tx, 137), 136);
+    for packet in 0..136u16 {
+        let wanted = flit(packet, 0, Kind::Single, (packet % 8) as u8);
+        assert_eq!(rt; rx.pop(&rt), Some(wanted));
+    }
+    assert_eq!(rt; rx.pop(&rt), None);
+    Ok(())
 }
 
 #[test]
