@@ -9,7 +9,10 @@ pub no_credit : (link : Opened) → IsCreditHistory link []
 no_credit link = All-nil (λ (c : ℕ). c < link.cfg.channels)
 
 pub credits_front : (link : Opened) (xs ys : List ℕ) → IsCreditHistory link (xs ++ ys) → IsCreditHistory link xs
-credits_front link xs ys h = subst (IsCreditHistory link) (take-append_seam xs ys) (All-take (λ (c : ℕ). c < link.cfg.channels) (length xs) (xs ++ ys) h)
+credits_front link xs ys h =
+    subst (IsCreditHistory link) (take-append_seam xs ys)
+    (All-take (λ (c : ℕ). c < link.cfg.channels) (length xs) (xs ++ ys) h)
 
-pub credits_grow : (link : Opened) (xs : List ℕ) (c : ℕ) → c < link.cfg.channels → IsCreditHistory link xs → IsCreditHistory link (xs ++ c ∷ [])
+pub credits_grow : (link : Opened) (xs : List ℕ) (c : ℕ) → c < link.cfg.channels → IsCreditHistory link xs →
+    IsCreditHistory link (xs ++ c ∷ [])
 credits_grow link xs c below h = All-push (λ (c : ℕ). c < link.cfg.channels) xs c h below

@@ -1,5 +1,5 @@
--- The rule of a queue with one sender and one taker: what was sent is what was taken and then what the queue holds, and what was
--- sent is a history that the link allows. A view is what one pass of the queue knows.
+-- The rule of a queue with one sender and one taker: what was sent is what was taken and then what the queue holds,
+-- and what was sent is a history that the link allows. A view is what one pass of the queue knows.
 use Rattle.std.specs.Prelude.{◌≡◌, ℕ, ◌≤◌, Bool, true, false, List, [], ◌∷◌, ◌++◌, length, map, All}
 use mathlib.Core.Option.{some}
 use lib.ListN.{get_elem?}
@@ -45,12 +45,13 @@ module _ {C X : Type 0} where
   -- only the writer may push, and it knows what was sent; only the reader may pop, and it knows what was taken
   abbrev pub Fits : ℕ → ℕ → C → List X → List X → ℕ → Known C X → Type 0
   Fits writer reader link sent taken pass v =
-      (v.pushes ≡ true → (pass ≡ writer) × (v.link ≡ link) × (v.sent ≡ sent)) × (v.pops ≡ true → (pass ≡ reader) × (v.link ≡ link) × (v.taken ≡ taken))
+      (v.pushes ≡ true → (pass ≡ writer) × (v.link ≡ link) × (v.sent ≡ sent)) ×
+      (v.pops ≡ true → (pass ≡ reader) × (v.link ≡ link) × (v.taken ≡ taken))
 
   -- `read` is what an item of the queue stands for, and a sound item stands for something
   module _ {T : Type 0} (read : T → X) (Sound : T → Type 0) (IsHistory : C → List X → Type 0) where
-    -- the rule of a queue that holds these items, whose passes know this: there is one list of all that was sent and one of all
-    -- that was taken, which the pass `writer` and the pass `reader` know
+    -- the rule of a queue that holds these items, whose passes know this: there is one list of all that was sent and
+    -- one of all that was taken, which the pass `writer` and the pass `reader` know
     pub record IsKept (items : List T) (views : List (Known C X)) : Type 0 where
       pub link : C
       pub writer : ℕ
@@ -69,7 +70,8 @@ module _ {C X : Type 0} where
     -- the item stands at the end of what was taken, which is a history; who may push too knows that it was sent next
     abbrev pub Popped : Known C X → T → Known C X → Type 0
     Popped v x w =
-        (w ≡ known v.link v.pushes v.pops v.sent (v.taken ++ read x ∷ [])) × Sound x × IsHistory v.link (v.taken ++ read x ∷ [])
+        (w ≡ known v.link v.pushes v.pops v.sent (v.taken ++ read x ∷ [])) × Sound x ×
+        IsHistory v.link (v.taken ++ read x ∷ [])
         × (v.pushes ≡ true → (rest : List X) × (v.sent ≡ (v.taken ++ read x ∷ []) ++ rest))
 
     -- what the queue holds was sent

@@ -1,4 +1,5 @@
--- What a link carries, and how contracts see its ends. The buffers' room goes back as credits (Dally and Towles, chapter 13).
+-- What a link carries, and how contracts see its ends. The buffers' room goes back as credits (Dally and Towles,
+-- chapter 13).
 use Rattle.std.specs.Prelude.{◌≡◌, ℕ, ◌*◌, ◌<◌, true, List, [], ◌++◌, All, Some, slice_get, replicate}
 use Rattle.worm_links.specs.History.{QueueName}
 use Rattle.worm_flit.specs.declared.Flit.{Flit}
@@ -14,8 +15,8 @@ use Rattle.worm_links.specs.declared.history.Opened.{Opened}
 abbrev pub IsWord : ℕ → Type 0
 IsWord x = is_word x ≡ true
 
--- the flit's channel is one of the link's and owned by its class, and its route, from a node of the mesh to a node of the
--- mesh, crosses the link
+-- the flit's channel is one of the link's and owned by its class, and its route, from a node of the mesh to a node of
+-- the mesh, crosses the link
 pub record MayCross (link : LinkCfg) (f : Flit) : Type 0 where
   pub channel : f.vc < link.channels
   pub owned : slice_get link.owners f.vc ≡ Some f.lane.class

@@ -6,7 +6,8 @@ use Rattle.crossbeam_queue.specs.Passes.{Pass, view, IsPassOf, ruled_capacity}
 use Rattle.worm_links.specs.declared.history.Known.{Known}
 use Rattle.worm_links.specs.History.{sender, taker, whole}
 
-module _ {C T X Q A : Type 0} (IsHistory : C → List X → Type 0) (line : Slotted (Option T) (Doing T (Known C X)) Q A) (pass : Pass T (Known C X)) where
+module _ {C T X Q A : Type 0} (IsHistory : C → List X → Type 0) (line : Slotted (Option T) (Doing T (Known C X)) Q A)
+    (pass : Pass T (Known C X)) where
   pub record IsSender (capacity : ℕ) : Type 0 where
     pub here : IsPassOf line pass
     pub room : ruled_capacity line ≡ capacity

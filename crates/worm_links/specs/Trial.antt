@@ -9,10 +9,27 @@ use Rattle.worm_links.specs.Links.{TxView}
 
 abbrev pub pair_link : ℕ → ℕ → LinkCfg
 pair_link channels depth =
-    record { mesh = 2 ∷ []; node = 0; port = 1; channels = channels; depth = depth; owners = 0 ∷ 0 ∷ 0 ∷ 0 ∷ 0 ∷ 0 ∷ 0 ∷ 0 ∷ [] }
+    record {
+      mesh =
+          2 ∷ [];
+      node = 0;
+      port = 1;
+      channels = channels;
+      depth = depth;
+      owners = 0 ∷ 0 ∷ 0 ∷ 0 ∷ 0 ∷ 0 ∷ 0 ∷ 0 ∷ [];
+    }
 
 abbrev pub trial_flit : ℕ → ℕ → Kind → ℕ → Flit
-trial_flit packet index kind vc = record { lane = record { src = 0; dst = 1; class = 0 }; packet = packet; index = index; kind = kind; vc = vc; word = packet }
+trial_flit packet index kind vc =
+    record {
+      lane =
+          record { src = 0; dst = 1; class = 0 };
+      packet = packet;
+      index = index;
+      kind = kind;
+      vc = vc;
+      word = packet;
+    }
 
 -- the last flit of a channel, those of the link's past among them
 abbrev pub last_on : ℕ → TxView → Option Flit

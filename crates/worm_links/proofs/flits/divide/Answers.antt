@@ -8,4 +8,5 @@ use Rattle.worm_links.proofs.flits.divide.Goals as goal
 pub another-requires-clause-rule : goal.another-requires-clause-rule
 another-requires-clause-rule g c =
     let is = c.requires.queue.1 in
-    divides flit_of IsWord IsLinkHistory _ _ _ (ap (λ v. v.pushes) is) (ap (λ v. v.pops) is) (ap (λ v. v.sent) is) (none_yet g.B.Naming.link c.requires.past)
+    divides flit_of IsWord IsLinkHistory _ _ _ (ap (λ v. v.pushes) is) (ap (λ v. v.pops) is) (ap (λ v. v.sent) is)
+    (none_yet g.B.Naming.link c.requires.past)

@@ -12,6 +12,8 @@ push_as-requires-clause-rule g c =
     let before = view c.args.pass.now in
     let may = ap (λ v. v.pushes) c.requires.queue.1 in (
       sends flit_of IsWord IsLinkHistory _ _ _ _ may c.pack.ensures.back.0
-          (subst (λ (f : Flit). IsLinkHistory before.link before.sent → IsLinkHistory before.link (before.sent ++ f ∷ [])) (sym c.pack.ensures.back.1) (history_grows before.link _ _ c.requires.continues c.requires.crossing)),
+          (subst (λ (f : Flit). IsLinkHistory before.link before.sent →
+          IsLinkHistory before.link (before.sent ++ f ∷ [])) (sym c.pack.ensures.back.1)
+          (history_grows before.link _ _ c.requires.continues c.requires.crossing)),
       learns_sent flit_of IsWord IsLinkHistory _ _ may,
     )

@@ -7,7 +7,10 @@ use Rattle.worm_links.proofs.tests.offer.Goals as goal
 
 pub push-requires-clause-continues : goal.push-requires-clause-continues
 push-requires-clause-continues g c =
-    continues_latest _ _ (c.history.ensures.worms c.args.flit.vc) (subst (λ (s : TxView). MayFollow (last_on c.args.flit.vc s) c.args.flit) (sym c.loop-tries.invariant) c.requires.next)
+    continues_latest _ _ (c.history.ensures.worms c.args.flit.vc)
+    (subst (λ (s : TxView). MayFollow (last_on c.args.flit.vc s) c.args.flit)
+    (sym c.loop-tries.invariant) c.requires.next)
 
 pub push-requires-clause-crossing : goal.push-requires-clause-crossing
-push-requires-clause-crossing g c = subst (λ (s : TxView). MayCross s.link c.args.flit) (sym c.loop-tries.invariant) c.requires.crossing
+push-requires-clause-crossing g c =
+    subst (λ (s : TxView). MayCross s.link c.args.flit) (sym c.loop-tries.invariant) c.requires.crossing

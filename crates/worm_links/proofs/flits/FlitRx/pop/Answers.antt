@@ -17,7 +17,10 @@ pop_as-requires-clause-rule g c =
 pub returns-clause-continues : goal.returns-clause-continues
 returns-clause-continues g c =
     let f = c.flit_in.result in
-    subst (λ (s : RxView). Continues (on_channel f.vc (s.past ++ s.taken)) f) c.self.view_is (pop_tells _ _ _ _ c.flit_in.ensures c.in_ok-word.ensures.rule).0
+    subst (λ (s : RxView). Continues (on_channel f.vc (s.past ++ s.taken)) f) c.self.view_is
+    (pop_tells _ _ _ _ c.flit_in.ensures c.in_ok-word.ensures.rule).0
 
 pub returns-clause-crossing : goal.returns-clause-crossing
-returns-clause-crossing g c = subst (λ (s : RxView). MayCross s.link c.flit_in.result) c.self.view_is (pop_tells _ _ _ _ c.flit_in.ensures c.in_ok-word.ensures.rule).1
+returns-clause-crossing g c =
+    subst (λ (s : RxView). MayCross s.link c.flit_in.result) c.self.view_is
+    (pop_tells _ _ _ _ c.flit_in.ensures c.in_ok-word.ensures.rule).1
