@@ -16,8 +16,7 @@ use Rattle.worm_links.specs.History.{HoldsRest}
 pub same_name : {T V : Type 0} (p q : Pass T V) → p.table_id ≡ q.table_id → queue_of p ≡ queue_of q
 same_name p q e =
     λ i. record {
-      words =
-          (e i).words;
+      words = (e i).words;
       slots = (e i).slots;
       views_name = (e i).views_name;
       atom = (e i).atom;

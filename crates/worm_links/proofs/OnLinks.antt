@@ -28,8 +28,7 @@ All-last P (y ∷ xs) x h = All-last P xs x (All-drop P 1 (y ∷ (xs ++ x ∷ []
 pub history_front : (link : Opened) (xs ys : List Flit) → IsLinkHistory link (xs ++ ys) → IsLinkHistory link xs
 history_front link xs ys h =
     record {
-      worms =
-          worms_front (link.past ++ xs) ys (subst AreWorms (sym (append_assoc link.past xs ys)) h.worms);
+      worms = worms_front (link.past ++ xs) ys (subst AreWorms (sym (append_assoc link.past xs ys)) h.worms);
       crossing = All-front (MayCross link.cfg) xs ys h.crossing;
     }
 
@@ -37,8 +36,7 @@ pub history_grows : (link : Opened) (xs : List Flit) (f : Flit) → Continues (o
     MayCross link.cfg f → IsLinkHistory link xs → IsLinkHistory link (xs ++ f ∷ [])
 history_grows link xs f more may h =
     record {
-      worms =
-          subst AreWorms (append_assoc link.past xs (f ∷ [])) (worms_grow (link.past ++ xs) f h.worms more);
+      worms = subst AreWorms (append_assoc link.past xs (f ∷ [])) (worms_grow (link.past ++ xs) f h.worms more);
       crossing = All-push (MayCross link.cfg) xs f h.crossing may;
     }
 

@@ -48,8 +48,7 @@ pub opened : {channels : ℕ} (tx now : TxView) (f : Flit) → IsReady channels 
 opened {channels} tx now f ready is =
     subst (λ (t : TxView). IsOpen channels t f) (sym is)
     (record {
-      link =
-          ready.link;
+      link = ready.link;
       last = last_here tx f;
       clear = λ c e. subst IsClear (sym (last_else c tx f e)) (ready.clear c);
     })
@@ -59,8 +58,7 @@ pub carried : {channels : ℕ} (tx now : TxView) (g f : Flit) → g.vc ≡ f.vc 
 carried {channels} tx now g f same was is =
     subst (λ (t : TxView). IsOpen channels t f) (sym is)
     (record {
-      link =
-          was.link;
+      link = was.link;
       last = last_here tx f;
       clear = λ c e. subst IsClear (sym (last_else c tx f e)) (was.clear c (ap (λ k. c == k) same ∙ e));
     })

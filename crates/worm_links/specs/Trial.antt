@@ -10,8 +10,7 @@ use Rattle.worm_links.specs.Links.{TxView}
 abbrev pub pair_link : ℕ → ℕ → LinkCfg
 pair_link channels depth =
     record {
-      mesh =
-          2 ∷ [];
+      mesh = 2 ∷ [];
       node = 0;
       port = 1;
       channels = channels;
@@ -22,8 +21,7 @@ pair_link channels depth =
 abbrev pub trial_flit : ℕ → ℕ → Kind → ℕ → Flit
 trial_flit packet index kind vc =
     record {
-      lane =
-          record { src = 0; dst = 1; class = 0 };
+      lane = record { src = 0; dst = 1; class = 0 };
       packet = packet;
       index = index;
       kind = kind;
