@@ -1,17 +1,17 @@
 -- One network is reached from another by steps.
-use Rattle.std.proofs.Common.{◌≡◌, [], ◌∷◌, ◌++◌, Ok, Err, refl, sym, subst, ◌∙◌}
+use Rattle.std.proofs.Common.{◌≡◌, [], ◌∷◌, ◌++◌, Ok, Err, inl, refl, sym, subst, ◌∙◌}
 use Rattle.std.specs.Prelude.{Result}
 use Rattle.worm_theory.specs.Shape.{Shape}
 use Rattle.worm_theory.specs.Steps.{Step, StepsLead}
 use Rattle.worm_theory.proofs.Lists.{steps-append}
 use Rattle.worm_core.specs.Shape.{net_shape}
 use Rattle.worm_core.specs.declared.step.Moved.{Moved}
+use Rattle.worm_core.specs.declared.step.Moved.TheVariants.{Done, Idle}
 use Rattle.worm_core.specs.declared.fault.StepFault.{StepFault}
 use Rattle.worm_core.specs.declared.fault.StepFault.TheVariants.{NoSuchPlace, Refused, NoMemory}
 use Rattle.worm_core.specs.State.{NetState, shape, network_of}
-use Rattle.worm_core.specs.Answers.{Answers}
+use Rattle.worm_core.specs.RegionAnswers.{Answers}
 use Rattle.worm_core.specs.Turns.{Reaches}
-use Rattle.worm_core.proofs.RunSteps.{steps_to, config_to}
 
 pub reached : (s : NetState) → Reaches s s
 reached s = record { steps = []; led = refl; config = record { mesh = refl; channels = refl; depth = refl; names = refl } }
@@ -28,11 +28,12 @@ joined old mid new first then =
 
 -- whatever a step was answered
 pub by_answer : (old new : NetState) (step : Step) (answer : Result Moved StepFault) → Answers old step answer new → Reaches old new
-by_answer old new step (Ok moved) a = record {
+by_answer old new step (Ok Done) a = record {
   steps = step ∷ [];
-  led = (network_of new, steps_to old new step moved a, refl);
-  config = config_to old new step moved a;
+  led = (network_of new, inl (a.there, a.enabled, a.after_it), refl);
+  config = a.config;
 }
+by_answer old new step (Ok Idle) a = subst (λ (s : NetState). Reaches old s) (sym a.3) (reached old)
 by_answer old new step (Err NoSuchPlace) a = subst (λ (s : NetState). Reaches old s) (sym a.1) (reached old)
 by_answer old new step (Err (Refused fault)) a = subst (λ (s : NetState). Reaches old s) (sym a.3) (reached old)
 by_answer old new step (Err NoMemory) a = subst (λ (s : NetState). Reaches old s) (sym a.3) (reached old)
