@@ -25,7 +25,7 @@ use Rattle.worm_vcalloc.specs.VcAlloc.{VcAllocState}
 use Rattle.worm_core.specs.Shape.{net_shape}
 use Rattle.worm_core.specs.declared.node.Node.{Node}
 use Rattle.worm_core.specs.State.{NetState, IsNetPlace, IsSameConfig, shape, network_of, node_at, router_at, with_node, with_router, input_of, output_of, link_of}
-use Rattle.worm_core.specs.Workable.{all_own, IsWorkable, IsKept, Works}
+use Rattle.worm_core.specs.Workable.{IsWorkable, owned, IsKept, Works}
 use Rattle.worm_core.specs.Answers.{moved_of}
 use Rattle.worm_core.specs.Moves.{IsReady, chosen_router}
 use Rattle.worm_core.specs.Turns.{Reaches}
@@ -93,9 +93,9 @@ arbiters_moved s x a b net there =
           fed_within = old.fed_within;
           sink_node = old.sink_node;
         };
-        works = subst (λ (m : Network). Works (shape s) all_own m) back net.works;
+        works = subst (λ (m : Network). Works (shape s) (owned s) m) back net.works;
       },
-      record { steps = []; led = same; config = record { mesh = refl; channels = refl; depth = refl; names = refl } },
+      record { steps = []; led = same; config = record { mesh = refl; channels = refl; depth = refl; names = refl; own = refl } },
     )
 
 some_if : (b : Bool) (q o : ℕ) → (if b then Some q else None) ≡ Some o → b ≡ true

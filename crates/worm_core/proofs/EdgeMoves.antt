@@ -16,7 +16,7 @@ use Rattle.worm_core.specs.Shape.{net_shape}
 use Rattle.worm_core.specs.State.{NetState, LinkView, IsNetPlace, shape, network_of, router_at, with_router, link_at, with_link}
 use Rattle.worm_core.specs.Workable.{EndsElsewhere, IsWorkableBy, IsSent, Works}
 use Rattle.worm_core.specs.Moves.{into_from, link_out}
-use Rattle.worm_core.specs.Edges.{LetsOut, LetsGive, after_arriving, after_credit_back}
+use Rattle.worm_core.specs.Edges.{Arrives, ComesBack, LetsOut, LetsGive, after_arriving, after_credit_back}
 use Rattle.worm_core.proofs.Bridge.{put2_same}
 use Rattle.worm_core.proofs.Ends.{feeder, leader}
 use Rattle.worm_core.proofs.GiveStep.{owed_bridge}
@@ -28,10 +28,13 @@ use Rattle.worm_core.proofs.There.{buffer_there, owed_there, record_there}
 use Rattle.worm_core.proofs.OwnEdges.{let_out_works, arrive_works, back_works, gave_works}
 
 -- a flit that comes onto a link
-pub arrived : (s : NetState) (x o : ℕ) (f : Flit) → {own : ℕ → Bool} → IsWorkableBy own s → own x ≡ false → IsSome (neighbour_of s.mesh x o) → f.vc < sum s.channels → f.lane.dst < node_count s.mesh → IsWorkableBy own (after_arriving s x o f)
+pub arrived : (s : NetState) (x o : ℕ) (f : Flit) → {own : ℕ → Bool} → IsWorkableBy own s → own x ≡ false → IsSome (neighbour_of s.mesh x o)
+    → f.vc < sum s.channels → f.lane.dst < node_count s.mesh
+    → IsWorkableBy own (after_arriving s x o f) × Arrives s x o f (after_arriving s x o f)
 unfolding net_shape
 arrived s x o f {own} net elsewhere linked channel goal = by_link (neighbour_of s.mesh x o) refl linked where
-  by_link : (n : Option ℕ) → neighbour_of s.mesh x o ≡ n → IsSome n → IsWorkableBy own (after_arriving s x o f)
+  by_link : (n : Option ℕ) → neighbour_of s.mesh x o ≡ n → IsSome n
+      → IsWorkableBy own (after_arriving s x o f) × Arrives s x o f (after_arriving s x o f)
   by_link None e some = absurd (cc)
   by_link (Some y) e some =
       let N = network_of s in
@@ -40,20 +43,34 @@ arrived s x o f {own} net elsewhere linked channel goal = by_link (neighbour_of 
       let l : LinkView = record (link_at s k) { flits = (link_at s k).flits ++ f ∷ [] } in
       let flits : (link_at s k).flits ≡ N.out x o = sym (out_there s x o net.framed lead.has) in
       let credits = put2_same N.credit_list x o (link_at s k).credits (sym (credits_there s x o net.framed lead.has)) in
-      let same : record N { out = put2 N.out x o ((link_at s k).flits ++ f ∷ []); credit_list = put2 N.credit_list x o (link_at s k).credits } ≡ record N { out = put2 N.out x o (N.out x o ++ f ∷ []) }
+      let same : record N {
+        out = put2 N.out x o ((link_at s k).flits ++ f ∷ []);
+        credit_list = put2 N.credit_list x o (link_at s k).credits;
+      } ≡ record N { out = put2 N.out x o (N.out x o ++ f ∷ []) }
       = λ t. record N { out = put2 N.out x o (flits t ++ f ∷ []); credit_list = credits t } in
       let is = link_bridge s x o l net.framed lead.has ∙ same in
       let is_sent : IsSent (shape s) f = record { goal = goal; channel = channel } in
-      record {
-        framed = link_framed s k l net.framed lead.bound refl;
-        works = subst (λ (n : Network). Works (shape s) own n) (sym is) (arrive_works (shape s) (framed_mesh s net.framed) N net.works x o f is_sent elsewhere);
-      }
+      let works = arrive_works (shape s) (framed_mesh s net.framed) N net.works x o f is_sent elsewhere in (
+        record {
+          framed = link_framed s k l net.framed lead.bound refl;
+          works = subst (λ (n : Network). Works (shape s) own n) (sym is) works;
+        },
+        record { exact = refl; after_it = is },
+      )
+
+-- a credit more on the way back over the link into a port, whose neighbour is this
+abbrev back_by : NetState → ℕ → ℕ → Option ℕ → NetState
+back_by s p v n =
+    let link = link_at s (into_from s.mesh p n) in
+    with_link s (into_from s.mesh p n) (record link { credits = link.credits ++ v ∷ [] })
 
 -- a credit that comes back
-pub credited : (s : NetState) (x p v : ℕ) → {own : ℕ → Bool} → IsWorkableBy own s → own x ≡ false → IsSome (neighbour_of s.mesh x p) → v < sum s.channels → IsWorkableBy own (after_credit_back s x p v)
+pub credited : (s : NetState) (x p v : ℕ) → {own : ℕ → Bool} → IsWorkableBy own s → own x ≡ false → IsSome (neighbour_of s.mesh x p)
+    → v < sum s.channels → IsWorkableBy own (after_credit_back s x p v) × ComesBack s x p v (after_credit_back s x p v)
 unfolding net_shape
 credited s x p v {own} net elsewhere linked channel = by_link (neighbour_of s.mesh x p) refl linked where
-  by_link : (n : Option ℕ) → neighbour_of s.mesh x p ≡ n → IsSome n → IsWorkableBy own (with_link s (into_from s.mesh p n) (record (link_at s (into_from s.mesh p n)) { credits = (link_at s (into_from s.mesh p n)).credits ++ v ∷ [] }))
+  by_link : (n : Option ℕ) → neighbour_of s.mesh x p ≡ n → IsSome n
+      → IsWorkableBy own (back_by s p v n) × ComesBack s x p v (after_credit_back s x p v)
   by_link None e some = absurd (cc)
   by_link (Some y) e some =
       let N = network_of s in
@@ -61,17 +78,36 @@ credited s x p v {own} net elsewhere linked channel = by_link (neighbour_of s.me
       let k = links_before s.mesh y o in
       let fed = feeder s x p y net.framed e in
       let back : neighbour_of s.mesh y o ≡ Some x = (framed_mesh s net.framed).link_back x p y e in
-      let crosses : (z : ℕ) → neighbour_of s.mesh y o ≡ Some z → own z ≡ false = λ z to. let one : ◌≡◌ {A = Option ℕ} (Some x) (Some z) = sym back ∙ to in let same : z ≡ x = cc in ap own same ∙ elsewhere in
+      let crosses : (z : ℕ) → neighbour_of s.mesh y o ≡ Some z → own z ≡ false = λ z to.
+      let one : ◌≡◌ {A = Option ℕ} (Some x) (Some z) = sym back ∙ to in
+      let same : z ≡ x = cc in
+      ap own same ∙ elsewhere in
       let l : LinkView = record (link_at s k) { credits = (link_at s k).credits ++ v ∷ [] } in
       let list : (link_at s k).credits ≡ N.credit_list y o = sym (credits_there s y o net.framed fed.has) in
       let flits = put2_same N.out y o (link_at s k).flits (sym (out_there s y o net.framed fed.has)) in
-      let same : record N { out = put2 N.out y o (link_at s k).flits; credit_list = put2 N.credit_list y o ((link_at s k).credits ++ v ∷ []) } ≡ record N { credit_list = put2 N.credit_list y o (N.credit_list y o ++ v ∷ []) }
+      let same : record N {
+        out = put2 N.out y o (link_at s k).flits;
+        credit_list = put2 N.credit_list y o ((link_at s k).credits ++ v ∷ []);
+      } ≡ record N { credit_list = put2 N.credit_list y o (N.credit_list y o ++ v ∷ []) }
       = λ t. record N { out = flits t; credit_list = put2 N.credit_list y o (list t ++ v ∷ []) } in
       let is = link_bridge s y o l net.framed fed.has ∙ same in
-      record {
-        framed = link_framed s k l net.framed fed.bound refl;
-        works = subst (λ (n : Network). Works (shape s) own n) (sym is) (back_works (shape s) (framed_mesh s net.framed) N net.works y o v channel crosses);
-      }
+      let works = back_works (shape s) (framed_mesh s net.framed) N net.works y o v channel crosses in
+      let at : network_of (after_credit_back s x p v) ≡ record N { credit_list = put2 N.credit_list y o (N.credit_list y o ++ v ∷ []) } =
+      ap (λ (n : Option ℕ). network_of (back_by s p v n)) e ∙ is in (
+        record {
+          framed = link_framed s k l net.framed fed.bound refl;
+          works = subst (λ (n : Network). Works (shape s) own n) (sym is) works;
+        },
+        record {
+          exact = refl;
+          after_it = λ z to.
+              let one : ◌≡◌ {A = Option ℕ} (Some y) (Some z) = sym e ∙ to in
+              let same_node : y ≡ z = cc in
+              at ∙ (λ t. record N {
+                credit_list = put2 N.credit_list (same_node t) o (N.credit_list (same_node t) o ++ v ∷ []);
+              });
+        },
+      )
 
 -- a credit that goes elsewhere
 pub gave_away : (s : NetState) (x p v : ℕ) → {own : ℕ → Bool} → IsWorkableBy own s → EndsElsewhere (shape s) own x p → IsThere (shape s) (GiveCredit x p v) → 0 < (input_at (router_at s x) p v).owed

@@ -206,7 +206,7 @@ feed_at s x k net x_in k_in there (Some f) true next can same =
     let step = feed_done s x k f net x_in k_in next can in
     let new = with_node s x (fed_node (node_at s x) k (Some (with_channel f (first_channel (source_at s x).channels k)))) in (
       kept s new.nodes new.links (Feed x k) net there step.0 step.2 step.1,
-      record { there = there; enabled = step.0; after_it = step.1; config = record { mesh = refl; channels = refl; depth = refl; names = refl }; exact = same; framed = step.2 },
+      record { there = there; enabled = step.0; after_it = step.1; config = record { mesh = refl; channels = refl; depth = refl; names = refl; own = refl }; exact = same; framed = step.2 },
     )
 feed_at s x k net x_in k_in there (Some f) false next can same = (net, (there, feed_full s x k f net x_in k_in next can, refl, refl))
 

@@ -114,7 +114,7 @@ get_at s x o y net x_in there e (Some c) true first can same =
     let step = get_done s x o y c net x_in e first can in
     let new = after_getting s x o (Some c) in (
       kept s new.nodes new.links (TakeCredit x o) net there step.0 step.2 step.1,
-      record { there = there; enabled = step.0; after_it = step.1; config = record { mesh = refl; channels = refl; depth = refl; names = refl }; exact = same; framed = step.2 },
+      record { there = there; enabled = step.0; after_it = step.1; config = record { mesh = refl; channels = refl; depth = refl; names = refl; own = refl }; exact = same; framed = step.2 },
     )
 get_at s x o y net x_in there e c false first can same = (net, (there, get_idle s x o y net x_in e c first can, refl, refl))
 

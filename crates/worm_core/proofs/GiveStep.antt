@@ -12,7 +12,7 @@ use Rattle.worm_theory.specs.Steps.{GiveCredit, IsThere, Enabled, after, gave, g
 use Rattle.worm_theory.proofs.Credit.{count-cons}
 use Rattle.worm_core.specs.Shape.{net_shape}
 use Rattle.worm_core.specs.State.{NetState, LinkView, IsFramed, IsNetPlace, shape, network_of, router_at, with_router, link_at}
-use Rattle.worm_core.specs.Workable.{IsWorkableBy}
+use Rattle.worm_core.specs.Workable.{EndsWithin, IsWorkableBy}
 use Rattle.worm_core.specs.RegionAnswers.{Answers}
 use Rattle.worm_core.specs.Answers.{moved_of}
 use Rattle.worm_core.specs.Moves.{done_step, into_from, link_into, can_give, after_giving}
@@ -124,7 +124,7 @@ give_at s x p v y net place there e true can same =
     let step = give_done s x p v y net place e can in
     let new = after_giving s x p v (links_before s.mesh y (opposite_of p)) in (
       kept s new.nodes new.links (GiveCredit x p v) net there step.0 step.2 step.1,
-      record { there = there; enabled = step.0; after_it = step.1; config = record { mesh = refl; channels = refl; depth = refl; names = refl }; exact = same; framed = step.2 },
+      record { there = there; enabled = step.0; after_it = step.1; config = record { mesh = refl; channels = refl; depth = refl; names = refl; own = refl }; exact = same; framed = step.2 },
     )
 give_at s x p v y net place there e false can same = (net, (there, give_idle s x p v place can, refl, refl))
 
@@ -140,12 +140,15 @@ give_answers s x p v net there done e =
     let place = net_place s x p v net.framed there.0 (inr there.1) there.2 in
     rw e (give_by s x p v net place there (neighbour_of s.mesh x p) refl there.1 refl)
 
-room_by : (s : NetState) (x p v : ℕ) → {own : ℕ → Bool} → IsWorkableBy own s → ((y : ℕ) → neighbour_of s.mesh x p ≡ Some y → (own y ≡ true) × (own x ≡ true)) → IsNetPlace s x p v → v < sum s.channels → (n : Option ℕ) → neighbour_of s.mesh x p ≡ n → IsSome n
-    → 0 < (input_at (router_at s x) p v).owed → length (link_at s (into_from s.mesh p n)).credits < (link_at s (into_from s.mesh p n)).room
+room_by : (s : NetState) (x p v : ℕ) → {own : ℕ → Bool} → IsWorkableBy own s → EndsWithin (shape s) own x p → IsNetPlace s x p v → v < sum s.channels
+    → (n : Option ℕ) → neighbour_of s.mesh x p ≡ n → IsSome n → 0 < (input_at (router_at s x) p v).owed → length (link_at s (into_from s.mesh p n)).credits < (link_at s (into_from s.mesh p n)).room
+unfolding net_shape
 room_by s x p v net inner place v_in None e some = absurd (cc)
-room_by s x p v net inner place v_in (Some y) e some = credit_room s x p v y net (inner y e) place e v_in
+room_by s x p v net inner place v_in (Some y) e some =
+    let ends = inner y e in
+    credit_room s x p v y net (ends.1, ends.0) place e v_in
 
-pub give_room : (s : NetState) (x p v : ℕ) → {own : ℕ → Bool} → IsWorkableBy own s → ((y : ℕ) → neighbour_of s.mesh x p ≡ Some y → (own y ≡ true) × (own x ≡ true)) → IsThere (shape s) (GiveCredit x p v)
+pub give_room : (s : NetState) (x p v : ℕ) → {own : ℕ → Bool} → IsWorkableBy own s → EndsWithin (shape s) own x p → IsThere (shape s) (GiveCredit x p v)
     → 0 < (input_at (router_at s x) p v).owed → length (link_at s (link_into s x p)).credits < (link_at s (link_into s x p)).room
 unfolding net_shape
 give_room s x p v net inner there =

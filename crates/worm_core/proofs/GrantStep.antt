@@ -146,7 +146,7 @@ grant_answers_by s x p v k net there (Some o) e =
     let r = after_granting (router_at s x) p v k (Some o) in
     let framed = router_framed s x r.inputs r.outputs net.framed place.node_in (rw length-set refl) (rw length-set refl) in (
       kept s (with_router s x r).nodes s.links (Grant x p v k) net there step.0 framed step.1,
-      record { there = there; enabled = step.0; after_it = step.1; config = record { mesh = refl; channels = refl; depth = refl; names = refl }; exact = ap (λ (g : Option ℕ). with_router s x (after_granting (router_at s x) p v k g)) (sym e); framed = framed },
+      record { there = there; enabled = step.0; after_it = step.1; config = record { mesh = refl; channels = refl; depth = refl; names = refl; own = refl }; exact = ap (λ (g : Option ℕ). with_router s x (after_granting (router_at s x) p v k g)) (sym e); framed = framed },
     )
 grant_answers_by s x p v k {own} net there None e =
     let place = net_place s x p v net.framed there.0 there.1 there.2 in

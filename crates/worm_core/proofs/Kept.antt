@@ -39,6 +39,7 @@ pub node_framed : (s : NetState) (x : ℕ) (n : Node) → IsFramed s → x < len
 node_framed s x n framed there new = record {
   radices = framed.radices;
   classes = framed.classes;
+  least_depth = framed.least_depth;
   all_nodes = rw length-set framed.all_nodes;
   all_links = framed.all_links;
   each_node = λ y within. elim (number_cases y x) [

@@ -3,6 +3,7 @@ pub mod LinkBridge
 pub mod OwnCredits
 pub mod Working
 pub mod Kept
+pub mod Owning
 pub mod Ends
 pub mod There
 pub mod RouteStep

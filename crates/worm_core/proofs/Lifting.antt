@@ -1,5 +1,5 @@
 -- In a sound network nothing is hindered, so what its region does, it does; and it stays sound.
-use Rattle.std.proofs.Common.{◌≡◌, ℕ, ◌≤◌, inl, inr, List, [], ◌∷◌, length, Option, None, Ok, Err, ap, sym, subst}
+use Rattle.std.proofs.Common.{◌≡◌, ℕ, ◌≤◌, inl, inr, List, [], ◌∷◌, length, Option, None, Ok, Err, ap, sym, subst, ◌∙◌}
 use Rattle.std.specs.Prelude.{Result}
 use Rattle.std.proofs.lemmas.Bool.{cases_lt}
 use Rattle.std.proofs.lemmas.List.{set_past}
@@ -39,6 +39,7 @@ net_reached a b net reaches framed =
     let same : shape a ≡ shape b = λ t. net_shape (sym reaches.config.mesh t) (sym reaches.config.channels t) (sym reaches.config.depth t) in
     record {
       framed = framed;
+      all_owned = reaches.config.own ∙ net.all_owned;
       sound = subst (λ (s : Shape). Sound s (network_of b)) same (steps_sound (shape a) mesh reaches.steps (network_of a) (network_of b) reaches.led net.sound);
       cut = subst (λ (s : Shape). LanesCut s (network_of b)) same (steps_keep (shape a) mesh reaches.steps (network_of a) (network_of b) reaches.led net.sound net.cut).1;
       packets = subst (λ (s : Shape). PacketsHold s (network_of b)) same (steps_packets (shape a) mesh reaches.steps (network_of a) (network_of b) reaches.led net.sound net.packets);

@@ -275,7 +275,7 @@ module _ (s : NetState) (x : ℕ) {own : ℕ → Bool} (net : IsWorkableBy own s
             let sound = offer_sound (source_at s x) p node.source_holds is_open some few in
             let new = with_source s x (after_offer (source_at s x) p) in
             let framed = node_framed s x _ net.framed x_in (new_node s x p.lane (packet_flits p.lane (next_of_lane (source_at s x) p.lane) p.words) false net.framed x_in k_in sound) in
-            (kept s new.nodes s.links (Offer x p.lane p.words) net there (accepting, some, few) framed step, step, record { mesh = refl; channels = refl; depth = refl; names = refl });
+            (kept s new.nodes s.links (Offer x p.lane p.words) net there (accepting, some, few) framed step, step, record { mesh = refl; channels = refl; depth = refl; names = refl; own = refl });
       }
 
   close_judges : (lane : Lane) → x < (shape s).nodes → Judges own s x lane true (CloseLane x lane) (with_source s x (after_close (source_at s x) lane))
@@ -301,7 +301,7 @@ module _ (s : NetState) (x : ℕ) {own : ℕ → Bool} (net : IsWorkableBy own s
             let sound = close_sound (source_at s x) lane node.source_holds is_open in
             let new = with_source s x (after_close (source_at s x) lane) in
             let framed = node_framed s x _ net.framed x_in (new_node s x lane (mark lane (next_of_lane (source_at s x) lane) ∷ []) true net.framed x_in k_in sound) in
-            (kept s new.nodes s.links (CloseLane x lane) net there (accepting, one (found.1 refl)) framed step, step, record { mesh = refl; channels = refl; depth = refl; names = refl });
+            (kept s new.nodes s.links (CloseLane x lane) net there (accepting, one (found.1 refl)) framed step, step, record { mesh = refl; channels = refl; depth = refl; names = refl; own = refl });
       }
 
   pub offer_answers : (p : PacketState) → 1 ≤ length p.words → length p.words ≤ 32 → x < (shape s).nodes → (answer : Result ℕ OfferFault) (new : NetState)

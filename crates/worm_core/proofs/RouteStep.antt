@@ -73,7 +73,7 @@ route_answers s x p v net there true e =
     let r = after_route (router_at s x) p v in
     let framed = router_framed s x r.inputs r.outputs net.framed place.node_in (rw length-set refl) refl in (
       kept s (with_router s x r).nodes s.links (Route x p v) net there step.0 framed step.1,
-      record { there = there; enabled = step.0; after_it = step.1; config = record { mesh = refl; channels = refl; depth = refl; names = refl }; exact = refl; framed = framed },
+      record { there = there; enabled = step.0; after_it = step.1; config = record { mesh = refl; channels = refl; depth = refl; names = refl; own = refl }; exact = refl; framed = framed },
     )
 route_answers s x p v net there false e =
     let place = net_place s x p v net.framed there.0 there.1 there.2 in

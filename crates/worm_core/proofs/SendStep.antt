@@ -1,6 +1,6 @@
 -- The step Send.
 use Rattle.std.proofs.Common.{◌≡◌, ℕ, ◌+◌, ◌-◌, ◌*◌, ◌<◌, ◌≤◌, ◌==◌, cond, nat_lt, Bool, true, false, ◌&&◌, ◌||◌, if◌then◌else◌, ◌⊎◌, inl, inr, List, [], ◌∷◌, ◌++◌, length, drop, sum, Ok, Err, Option, Some, None, is_some, refl, arith, ap, sym, subst, ◌∙◌}
-use Rattle.std.specs.Prelude.{IsSome, Result}
+use Rattle.std.specs.Prelude.{IfSome, IsSome, Result}
 use Rattle.std.proofs.Math.ListN.{length-set}
 use Rattle.worm_flit.specs.declared.Flit.{Flit}
 use Rattle.worm_flit.specs.Kinds.{closes}
@@ -21,7 +21,7 @@ use Rattle.worm_core.specs.declared.step.Moved.TheVariants.{Done, Idle as Stayed
 use Rattle.worm_core.specs.declared.fault.StepFault.{StepFault}
 use Rattle.worm_core.specs.declared.fault.StepFault.TheVariants.{NoSuchPlace, Refused, NoMemory}
 use Rattle.worm_core.specs.State.{NetState, IsFramed, IsNetPlace, IsSameConfig, shape, network_of, node_at, router_at, sink_at, source_at, with_node, with_router, with_link, link_at}
-use Rattle.worm_core.specs.Workable.{IsWorkableBy}
+use Rattle.worm_core.specs.Workable.{EndsWithin, IsWorkableBy}
 use Rattle.worm_core.specs.RegionAnswers.{IsDone, Answers}
 use Rattle.worm_core.specs.Answers.{Grows}
 use Rattle.worm_core.specs.Moves.{done_step, link_out, after_ready, after_sending, HasWay, LeavesByLink, Sends}
@@ -270,7 +270,7 @@ module _ (s : NetState) (x p v o c : ℕ) (f : Flit) (rest : List Flit) {own : �
       let r = after_leaving (router_at s x) p v leaves in
       let framed = node_framed s x _ net.framed place.node_in (node_of s.mesh s.channels s.depth x (node_at s x) r.inputs r.outputs ((sink_at s x).delivered ++ with_channel f c ∷ []) (net.framed.each_node x place.node_in) (rw length-set refl) (rw length-set refl)) in (
         kept s at_home.nodes s.links (Send x p v) net there enabled framed step,
-        record { there = there; enabled = enabled; after_it = step; config = record { mesh = refl; channels = refl; depth = refl; names = refl }; framed = framed },
+        record { there = there; enabled = enabled; after_it = step; config = record { mesh = refl; channels = refl; depth = refl; names = refl; own = refl }; framed = framed },
       )
 
   made_over : IsThere (shape s) (Send x p v) → may_leave s x p v o c ≡ true → (y : ℕ) → neighbour_of s.mesh x o ≡ Some y → Made on_link
@@ -286,7 +286,7 @@ module _ (s : NetState) (x p v o c : ℕ) (f : Flit) (rest : List Flit) {own : �
       let mid_framed = router_framed s x r.inputs r.outputs net.framed place.node_in (rw length-set refl) (rw length-set refl) in
       let framed = link_framed mid (link_out s x o) (record (link_at s (link_out s x o)) { flits = (link_at s (link_out s x o)).flits ++ with_channel f c ∷ [] }) mid_framed lead.bound refl in (
         kept s on_link.nodes on_link.links (Send x p v) net there enabled framed step,
-        record { there = there; enabled = enabled; after_it = step; config = record { mesh = refl; channels = refl; depth = refl; names = refl }; framed = framed },
+        record { there = there; enabled = enabled; after_it = step; config = record { mesh = refl; channels = refl; depth = refl; names = refl; own = refl }; framed = framed },
       )
 
   -- at the terminal or not
@@ -347,14 +347,18 @@ done_answers s x p v d {own} net there enabled grows made same is (Err (Refused 
 done_answers s x p v d {own} net there enabled grows made same is (Err NoMemory) new sends =
     (subst (IsWorkableBy own) (sym sends.1) net, (there, enabled, grows (same_true d.0 (2 * length s.mesh) sends.0), sends.1))
 
+-- what leaves stays among the nodes that are owned
+abbrev pub SendsWithin : (ℕ → Bool) → NetState → ℕ → ℕ → ℕ → Type 0
+SendsWithin own s x p v = IfSome (leaving (router_at s x) p v) (λ out. EndsWithin (shape s) own x out.0)
+
 -- of each state and list of an input channel
 abbrev Judged : (ℕ → Bool) → NetState → ℕ → ℕ → ℕ → InRecord → List Flit → Type 0
 Judged own s x p v st fs =
     LeavesByLink s x (leaving_by (router_at s x) p (input_at (router_at s x) p v) st fs)
     × ((answer : Result Moved StepFault) (new : NetState) → Sends s x p v (leaving_by (router_at s x) p (input_at (router_at s x) p v) st fs) answer new → Outcome own s x p v answer new)
 
-judged : (s : NetState) (x p v : ℕ) → {own : ℕ → Bool} → IsWorkableBy own s → ((o c : ℕ) → (input_at (router_at s x) p v).state ≡ Active o c → (y : ℕ) → neighbour_of s.mesh x o ≡ Some y → (own x ≡ true) × (own y ≡ true)) → IsNetPlace s x p v → x < node_count s.mesh → IsPort (shape s) x p → IsThere (shape s) (Send x p v)
-    → (st : InRecord) (fs : List Flit) → (input_at (router_at s x) p v).state ≡ st → (input_at (router_at s x) p v).buffer ≡ fs → Judged own s x p v st fs
+judged : (s : NetState) (x p v : ℕ) → {own : ℕ → Bool} → IsWorkableBy own s → SendsWithin own s x p v
+    → IsNetPlace s x p v → x < node_count s.mesh → IsPort (shape s) x p → IsThere (shape s) (Send x p v) → (st : InRecord) (fs : List Flit) → (input_at (router_at s x) p v).state ≡ st → (input_at (router_at s x) p v).buffer ≡ fs → Judged own s x p v st fs
 unfolding net_shape
 judged s x p v net inner place x_in port there Idle fs e b =
     (tt, idle_answers s x p v net there (λ h. subst (λ (r : InRecord). IsActiveAt r (MaySend (shape s) (network_of s) x p v)) (record_there s x p v place ∙ e) h))
@@ -367,7 +371,7 @@ judged s x p v net inner place x_in port there (Active o c) [] e b = (
       let some : 0 < length ((network_of s).buffer x p v) = may.0 in
       absurd (omega (arith, ap (λ (fs : List Flit). length fs) (buffer_there s x p v place ∙ b)))),
 )
-judged s x p v net inner place x_in port there (Active o c) (f ∷ rest) e b = elim (bool_cases (may_leave s x p v o c)) [
+judged s x p v {own} net inner place x_in port there (Active o c) (f ∷ rest) e b = elim (bool_cases (may_leave s x p v o c)) [
   | inl test ↦
       let leaves_is : leaving (router_at s x) p v ≡ Some (o, with_channel f c) =
       ap (λ (r : InRecord). leaving_by (router_at s x) p (input_at (router_at s x) p v) r (input_at (router_at s x) p v).buffer) e
@@ -375,7 +379,7 @@ judged s x p v net inner place x_in port there (Active o c) (f ∷ rest) e b = e
       let grows : o ≡ 2 * length s.mesh → Grows (shape s) (network_of s) (Send x p v) = λ at. subst (λ (r : InRecord). IsActiveAt r (λ o c. o ≡ 2 * length s.mesh)) (sym (record_there s x p v place ∙ e)) at in
       let all = made s x p v o c f rest net place x_in port e b there test leaves_is in
       rw test (
-        leads_off s x p v o c f rest net place x_in port e b (inner o c e) test,
+        leads_off s x p v o c f rest net place x_in port e b (subst (λ (l : Option (ℕ × Flit)). IfSome l (λ out. EndsWithin (shape s) own x out.0)) leaves_is inner) test,
         done_answers s x p v (o, with_channel f c) net there (enabled_by s x p v o c f rest net place x_in port e b test) grows all (ap (after_ready s x p v) (sym leaves_is)) leaves_is,
       )
   | inr test ↦
@@ -388,14 +392,15 @@ judged s x p v net inner place x_in port there (Active o c) (f ∷ rest) e b = e
       )
 ]
 
-pub send_answers : (s : NetState) (x p v : ℕ) → {own : ℕ → Bool} → IsWorkableBy own s → ((o c : ℕ) → (input_at (router_at s x) p v).state ≡ Active o c → (y : ℕ) → neighbour_of s.mesh x o ≡ Some y → (own x ≡ true) × (own y ≡ true)) → IsThere (shape s) (Send x p v) → (answer : Result Moved StepFault) (new : NetState)
-    → Sends s x p v (leaving (router_at s x) p v) answer new → IsWorkableBy own new × Answers s (Send x p v) answer new
+pub send_answers : (s : NetState) (x p v : ℕ) → {own : ℕ → Bool} → IsWorkableBy own s → SendsWithin own s x p v → IsThere (shape s) (Send x p v)
+    → (answer : Result Moved StepFault) (new : NetState) → Sends s x p v (leaving (router_at s x) p v) answer new → IsWorkableBy own new × Answers s (Send x p v) answer new
 unfolding net_shape Outcome
 send_answers s x p v net inner there answer new sends =
     let place = net_place s x p v net.framed there.0 there.1 there.2 in
     (judged s x p v net inner place there.0 there.1 there (input_at (router_at s x) p v).state (input_at (router_at s x) p v).buffer refl refl).1 answer new sends
 
-pub send_leads : (s : NetState) (x p v : ℕ) → {own : ℕ → Bool} → IsWorkableBy own s → ((o c : ℕ) → (input_at (router_at s x) p v).state ≡ Active o c → (y : ℕ) → neighbour_of s.mesh x o ≡ Some y → (own x ≡ true) × (own y ≡ true)) → IsThere (shape s) (Send x p v) → LeavesByLink s x (leaving (router_at s x) p v)
+pub send_leads : (s : NetState) (x p v : ℕ) → {own : ℕ → Bool} → IsWorkableBy own s → SendsWithin own s x p v → IsThere (shape s) (Send x p v)
+    → LeavesByLink s x (leaving (router_at s x) p v)
 unfolding net_shape
 send_leads s x p v net inner there =
     let place = net_place s x p v net.framed there.0 there.1 there.2 in

@@ -136,7 +136,7 @@ take_at s x p y net x_in there e (Some f) true first can same =
     let step = take_done s x p y f net x_in e first can in
     let new = after_take s x p (links_before s.mesh y (opposite_of p)) (Some f) in (
       kept s new.nodes new.links (Take x p) net there step.0 step.2 step.1,
-      record { there = there; enabled = step.0; after_it = step.1; config = record { mesh = refl; channels = refl; depth = refl; names = refl }; exact = same; framed = step.2 },
+      record { there = there; enabled = step.0; after_it = step.1; config = record { mesh = refl; channels = refl; depth = refl; names = refl; own = refl }; exact = same; framed = step.2 },
     )
 take_at s x p y net x_in there e (Some f) false first can same = (net, (there, take_idle s x p y net x_in e (Some f) first can, refl, refl))
 

@@ -1,5 +1,6 @@
 pub mod Script
 pub mod Shape
+pub mod Owned
 pub mod State
 pub mod Workable
 pub mod Answers
@@ -10,7 +11,6 @@ pub mod Arrivals
 pub mod Moves
 pub mod Still
 pub mod UnderWay
-pub mod Owned
 pub mod Edges
 pub mod Runs
 pub mod Headline

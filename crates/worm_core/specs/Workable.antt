@@ -10,6 +10,7 @@ use Rattle.worm_theory.specs.Shape.{Shape}
 use Rattle.worm_theory.specs.Network.{Network}
 use Rattle.worm_theory.specs.Steps.{IsPort}
 use Rattle.worm_theory.specs.Sound.{CreditsAreChannels}
+use Rattle.worm_core.specs.Owned.{owned_by}
 use Rattle.worm_core.specs.State.{NetState, IsFramed, shape, network_of}
 
 -- a record that waits, waits for a port of the node; one that is active has a channel of such a port, and holds it
@@ -36,15 +37,16 @@ IsBound s f = f.lane.dst < s.nodes
 -- the buffer, a credit owed or a credit on its way back. Of a link of which one end is elsewhere nothing is said.
 abbrev pub OwnCreditsAdd : Shape → (ℕ → Bool) → Network → Type 0
 OwnCreditsAdd s own net = (y o x v : ℕ) → v < s.channels → s.neighbour y o ≡ Some x → own y ≡ true → own x ≡ true →
-    net.credits y o v + length (on_channel v (net.out y o)) + length (net.buffer x (s.opposite o) v) + net.owed x (s.opposite o) v + count_by (λ c. v == c) (net.credit_list y o) ≡ s.depth
-
--- each node is owned
-abbrev pub all_own : ℕ → Bool
-all_own x = true
+    net.credits y o v + length (on_channel v (net.out y o)) + length (net.buffer x (s.opposite o) v)
+    + net.owed x (s.opposite o) v + count_by (λ c. v == c) (net.credit_list y o) ≡ s.depth
 
 -- an output channel of a link has no more credits than its buffer has places
 abbrev pub CreditsFit : Shape → Network → Type 0
 CreditsFit s net = (x o y c : ℕ) → s.neighbour x o ≡ Some y → c < s.channels → net.credits x o c ≤ s.depth
+
+-- a port's links, if it has any, have both ends among the nodes that are owned
+abbrev pub EndsWithin : Shape → (ℕ → Bool) → ℕ → ℕ → Type 0
+EndsWithin s own x o = (y : ℕ) → s.neighbour x o ≡ Some y → (own x ≡ true) × (own y ≡ true)
 
 -- the node at the other end of a link is elsewhere
 abbrev pub EndsElsewhere : Shape → (ℕ → Bool) → ℕ → ℕ → Type 0
@@ -64,6 +66,9 @@ pub record IsWorkableBy (own : ℕ → Bool) (s : NetState) : Type 0 where
   pub framed : IsFramed s
   pub works : Works (shape s) own (network_of s)
 
--- and where each is
+-- whether the node is owned by whoever has these lists
+abbrev pub owned : NetState → ℕ → Bool
+owned s = owned_by s.own
+
 abbrev pub IsWorkable : NetState → Type 0
-IsWorkable s = IsWorkableBy all_own s
+IsWorkable s = IsWorkableBy (owned s) s

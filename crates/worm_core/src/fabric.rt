@@ -22,7 +22,7 @@ use crate::fresh::{make_links, make_nodes};
 use crate::links::Links;
 use crate::nodes::Nodes;
 use crate::wiring::PortLinks;
-use crate::{Moved, Name, Node, StepFault};
+use crate::{Moved, Name, Node, Own, StepFault};
 use arrayvec::ArrayVec;
 use std::alloc::{AllocError, Global};
 use std::marker::Model;
@@ -44,6 +44,8 @@ pub struct Fabric {
     names: ArrayVec<Name, 4>,
     /// The nodes by number.
     nodes: Nodes,
+    /// Which of the nodes are owned by whoever has the fabric. No code asks; what holds of a fabric does.
+    own: Own,
 }
 
 impl Model for Fabric {
@@ -51,7 +53,7 @@ impl Model for Fabric {
 
     ghost Value = { NetState };
 
-    ghost view = { λ n. net_state n.links.mesh n.classes n.depth (texts_of n.names.items) n.nodes n.links.states };
+    ghost view = { λ n. net_state n.links.mesh n.classes n.depth (texts_of n.names.items) n.nodes n.links.states n.own };
 }
 
 impl Fabric {
@@ -78,6 +80,7 @@ impl Fabric {
             depth,
             names,
             nodes: Nodes::new(nodes),
+            own: Own::sole(),
         })
     }
 

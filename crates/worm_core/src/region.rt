@@ -8,13 +8,16 @@ ghost use Rattle.worm_core.specs.Runs.{event_of};
 ghost use Rattle.worm_core.specs.RegionAnswers.{Answers};
 ghost use Rattle.worm_core.specs.Answers.{accepted_of, moved_of};
 ghost use Rattle.worm_core.specs.State.{shape, router_at, with_router};
-ghost use Rattle.worm_core.specs.Workable.{IsWorkable};
+ghost use Rattle.worm_core.specs.Owned.{sole};
+ghost use Rattle.worm_core.specs.Workable.{EndsWithin, IsWorkable, owned};
 ghost use Rattle.worm_core.specs.RegionTurns.{NodePasses, SendsGranted, Tries};
 ghost use Rattle.worm_core.specs.Turns.{Reaches};
 ghost use Rattle.worm_mesh.specs.Address.{node_count};
-ghost use Rattle.worm_router.specs.Router.{input_at, width};
+ghost use Rattle.worm_router.specs.Router.{input_at, leaving, width};
 ghost use Rattle.worm_router.specs.Allocation.{after_allocate, switch_grants};
 ghost use Rattle.worm_core.specs.Moves.{AreOwing, RoutesWithin, chosen_router};
+
+mod edges;
 
 use crate::fabric::Fabric;
 use crate::{Moved, Step, StepFault};
@@ -23,7 +26,9 @@ use worm_flit::{Lane, Packet};
 use worm_term::OfferFault;
 use worm_vcalloc::ChannelSet;
 
-/// The nodes and links of a network, in which each move can be made.
+/// The nodes and links of a network, some nodes or all owned by whoever has it: what a move of a node needs holds of it, and each
+/// move keeps that. Of the nodes that are not owned it has others in their places, which are not moved; of a link that comes
+/// from one of them what was taken off its queue and is in no buffer.
 #[derive(Drop)]
 pub(crate) struct Region {
     fabric: Fabric,
@@ -244,7 +249,8 @@ impl Region {
         Ok(moved(self.fabric.grant(node, port, vc, out_vc)))
     }
 
-    pub(crate) fn send(&mut self, node: u8, port: u8, vc: u8) -> Result<Moved, StepFault>
+    fn send(&mut self, node: u8, port: u8, vc: u8) -> Result<Moved, StepFault>
+        requires { self.old.own ≡ sole }
         ensures { Answers self.old (Event.Send node port vc) result self.new }
     {
         if !self.fabric.has_place(node, port, vc) {
@@ -253,9 +259,10 @@ impl Region {
         self.send_there(node, port, vc)
     }
 
-    /// The same where the place is there.
+    /// The same where the place is there. What leaves over a link stays among the nodes that are owned.
     pub(crate) fn send_there(&mut self, node: u8, port: u8, vc: u8) -> Result<Moved, StepFault>
-        requires { IsThere (shape self.old) (Event.Send node port vc) }
+        requires there { IsThere (shape self.old) (Event.Send node port vc) }
+        requires within { IfSome (leaving (router_at self.old node) port vc) (λ out. EndsWithin (shape self.old) (owned self.old) node out.0) }
         ensures { Answers self.old (Event.Send node port vc) result self.new }
     {
         self.fabric.send(node, port, vc)
@@ -270,7 +277,8 @@ impl Region {
         Ok(moved(self.fabric.take(node, port, number)))
     }
 
-    pub(crate) fn give(&mut self, node: u8, port: u8, vc: u8) -> Result<Moved, StepFault>
+    fn give(&mut self, node: u8, port: u8, vc: u8) -> Result<Moved, StepFault>
+        requires { self.old.own ≡ sole }
         ensures { Answers self.old (Event.GiveCredit node port vc) result self.new }
     {
         if !self.fabric.has_line(node, port, vc) {
@@ -286,6 +294,7 @@ impl Region {
     pub(crate) fn give_owed(&mut self, node: u8, port: u8, vc: u8) -> Result<Moved, StepFault>
         requires channel { vc < sum self.old.channels }
         requires owed { 0 < (input_at (router_at self.old node) port vc).owed }
+        requires within { EndsWithin (shape self.old) (owned self.old) node port }
         ensures { Answers self.old (Event.GiveCredit node port vc) result self.new }
     {
         let Some(links) = self.fabric.links_at(node, port) else {
@@ -304,8 +313,9 @@ impl Region {
         Ok(moved(self.fabric.get(node, port, number)))
     }
 
-    /// One step.
+    /// One step of a whole network.
     pub(crate) fn step(&mut self, step: &Step) -> Result<Moved, StepFault>
+        requires { self.old.own ≡ sole }
         ensures { Answers self.old (event_of step.now) result self.new }
     {
         match step {

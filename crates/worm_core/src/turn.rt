@@ -5,6 +5,7 @@ ghost use Rattle.std.specs.Result.{result_err};
 ghost use Rattle.worm_mesh.specs.Address.{node_count};
 ghost use Rattle.worm_core.specs.RegionAnswers.{Answers};
 ghost use Rattle.worm_core.specs.Script.{begun_at, is_marked};
+ghost use Rattle.worm_core.specs.Owned.{sole};
 ghost use Rattle.worm_core.specs.Workable.{IsWorkable};
 ghost use Rattle.worm_core.specs.declared.script.Entry.{Entry};
 ghost use Rattle.worm_router.specs.Router.{input_at, width};
@@ -135,7 +136,8 @@ impl Region {
 
     /// Lets each channel that a pass of the switch allocator grants send, ports rising, up to the first fault.
     fn send_granted(&mut self, node: u8) -> Result<(), StepFault>
-        requires { node < node_count self.old.mesh }
+        requires node { node < node_count self.old.mesh }
+        requires whole { self.old.own ≡ sole }
         ensures { Does (SendsGranted node) self.old (result_err result) self.new }
     {
         if self.sends_nothing(node) {
@@ -153,6 +155,7 @@ impl Region {
     fn give_credit(&mut self, node: u8, port: u8, vc: u8)
         requires channel { vc < sum self.old.channels }
         requires owed { 0 < (input_at (router_at self.old node) port vc).owed }
+        requires whole { self.old.own ≡ sole }
         ensures given { Some vc ≡ lowest_owed (router_at self.old node) port → Does (GivesCredit node port) self.old None self.new }
         ensures others { (p : ℕ) (v : ℕ) → (p ≡ port → ⊥) → v < width (router_at self.new node) → OwesTheSame self.old self.new node p v }
         ensures sound { IsWorkable self.new }
@@ -164,7 +167,8 @@ impl Region {
 
     /// Gives a credit of the lowest channel that owes one to each link into the node, ports rising.
     fn give_credits(&mut self, node: u8)
-        requires { node < node_count self.old.mesh }
+        requires node { node < node_count self.old.mesh }
+        requires whole { self.old.own ≡ sole }
         ensures { Does (GivesCredits node) self.old None self.new }
     {
         let terminal = self.terminal();
@@ -185,7 +189,8 @@ impl Region {
 
     /// What a node does in a turn once its source was asked.
     fn node_passes(&mut self, node: u8) -> Result<(), StepFault>
-        requires { node < node_count self.old.mesh }
+        requires node { node < node_count self.old.mesh }
+        requires whole { self.old.own ≡ sole }
         ensures { Does (NodePasses node) self.old (result_err result) self.new }
     {
         if self.rests(node) {
@@ -205,6 +210,7 @@ impl Region {
     fn node_turn(&mut self, node: u8, entries: &[Entry], is_asked: bool) -> Result<(), StepFault>
         requires node { node < node_count self.old.mesh }
         requires asked { is_asked ≡ false → begun_at node entries.now ≡ [] }
+        requires whole { self.old.own ≡ sole }
         ensures { Does (NodeTurn entries.now node) self.old (result_err result) self.new }
     {
         if is_asked {
@@ -215,6 +221,7 @@ impl Region {
 
     /// The turns of all nodes with these entries, in rising number.
     pub(crate) fn all_turns(&mut self, entries: &[Entry]) -> Result<(), StepFault>
+        requires { self.old.own ≡ sole }
         ensures { Does (Turn entries.now) self.old (result_err result) self.new }
     {
         let sources = sources_of(entries);

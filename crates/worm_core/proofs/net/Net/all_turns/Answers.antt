@@ -15,3 +15,6 @@ returns-clause-exact c =
 
 pub returns-clause-reaches : goal.returns-clause-reaches
 returns-clause-reaches c = subst (λ (s : NetState). Reaches s c.all_turns.new.self) c.self.view_is c.all_turns.ensures.reaches
+
+pub all_turns-requires : goal.all_turns-requires
+all_turns-requires c = c.self.invariant.all_owned

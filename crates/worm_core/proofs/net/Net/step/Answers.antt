@@ -18,3 +18,6 @@ pub returns-clause-pointers : goal.returns-clause-pointers
 returns-clause-pointers c =
     subst (λ (s : NetState). ArbitersStand s c.step.new.self) c.self.view_is
     (arbiters_stand c.self.inside.region c.step.new.self (event_of c.args.step.now) c.step.result (net_answers c.self.inside.region c.step.new.self (event_of c.args.step.now) c.step.result c.self.invariant c.step.ensures).1)
+
+pub step-requires : goal.step-requires
+step-requires c = c.self.invariant.all_owned

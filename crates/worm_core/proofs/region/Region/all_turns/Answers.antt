@@ -4,6 +4,7 @@ use Rattle.worm_mesh.specs.Address.{node_count}
 use Rattle.worm_core.specs.RegionTurns.{NodeTurn, Turn}
 use Rattle.worm_core.specs.Turns.{all_nodes}
 use Rattle.worm_core.proofs.Passages.{loop_more, loop_cut, does_for}
+use Rattle.worm_core.proofs.Reaching.{whole_after}
 use Rattle.worm_core.proofs.region.Region.all_turns.Goals as goal
 
 pub returns-in_err-node_turn : goal.returns-in_err-node_turn
@@ -20,3 +21,6 @@ loop-node-preserved c =
 pub returns : goal.returns
 unfolding Turn
 returns c = does_for all_nodes (NodeTurn c.args.entries.now) (node_count c.args.self.now.mesh) c.loop-node.node c.args.self.now c.loop-node.self None refl (omega arith) c.loop-node.invariant
+
+pub node_turn-requires-clause-whole : goal.node_turn-requires-clause-whole
+node_turn-requires-clause-whole c = whole_after c.args.self.now c.loop-node.self c.loop-node.invariant.reaches c.requires

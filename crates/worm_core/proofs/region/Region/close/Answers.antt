@@ -3,7 +3,9 @@ use Rattle.worm_theory.specs.Steps.{CloseLane, IsThere}
 use Rattle.worm_core.specs.Shape.{net_shape}
 use Rattle.worm_core.specs.State.{NetState, shape}
 use Rattle.worm_core.specs.RegionAnswers.{Answers}
+use Rattle.worm_core.specs.Answers.{accepted_of}
 use Rattle.worm_core.proofs.OfferStep.{close_answers}
+use Rattle.worm_core.proofs.Reaching.{still_workable}
 use Rattle.worm_core.proofs.region.Region.close.Goals as goal
 
 pub returns-then-not-has_node : goal.returns-then-not-has_node
@@ -17,7 +19,10 @@ returns-then-not-has_node c = (
 pub invariant_of-self : goal.invariant_of-self
 unfolding net_shape
 invariant_of-self c =
-    (close_answers c.self.inside.fabric c.args.node c.self.invariant c.args.lane (c.has_node.ensures.0 c.if-not-has_node.false) c.close.result c.close.new.self c.close.ensures.ok c.close.ensures.fault c.close.ensures.err).0
+    still_workable c.self.inside.fabric c.close.new.self (CloseLane c.args.node c.args.lane) (accepted_of c.close.result)
+    (close_answers c.self.inside.fabric c.args.node c.self.invariant c.args.lane
+    (c.has_node.ensures.0 c.if-not-has_node.false) c.close.result c.close.new.self
+    c.close.ensures.ok c.close.ensures.fault c.close.ensures.err)
 
 pub returns : goal.returns
 unfolding net_shape

@@ -1,10 +1,11 @@
 use Rattle.std.proofs.Common.{Ok, subst}
-use Rattle.worm_theory.specs.Steps.{Feed}
+use Rattle.worm_theory.specs.Steps.{Feed, IsThere}
 use Rattle.worm_core.specs.Shape.{net_shape}
-use Rattle.worm_core.specs.State.{NetState}
+use Rattle.worm_core.specs.State.{NetState, shape}
 use Rattle.worm_core.specs.RegionAnswers.{Answers}
 use Rattle.worm_core.specs.Answers.{moved_of}
 use Rattle.worm_core.proofs.FeedStep.{feed_answers, feed_fits}
+use Rattle.worm_core.proofs.Reaching.{still_workable}
 use Rattle.worm_core.proofs.region.Region.feed_there.Goals as goal
 
 pub feed-requires-clause-front : goal.feed-requires-clause-front
@@ -15,7 +16,11 @@ feed-requires-clause-front c =
 pub invariant_of-self : goal.invariant_of-self
 unfolding net_shape
 invariant_of-self c =
-    rw c.feed.ensures.after (feed_answers c.self.inside.fabric c.args.node c.args.class c.self.invariant (rw c.self.view_is (c.requires.node, c.requires.class)) c.feed.result c.feed.ensures.enabled).0
+    let there : IsThere (shape c.self.inside.fabric) (Feed c.args.node c.args.class) =
+    rw c.self.view_is (c.requires.node, c.requires.class) in
+    still_workable c.self.inside.fabric c.feed.new.self (Feed c.args.node c.args.class) (Ok (moved_of c.feed.result))
+    (rw c.feed.ensures.after (feed_answers c.self.inside.fabric c.args.node c.args.class c.self.invariant there
+    c.feed.result c.feed.ensures.enabled))
 
 pub returns : goal.returns
 unfolding net_shape

@@ -3,8 +3,10 @@ use Rattle.worm_theory.specs.Steps.{TakeCredit, IsThere}
 use Rattle.worm_core.specs.Shape.{net_shape}
 use Rattle.worm_core.specs.State.{NetState, shape}
 use Rattle.worm_core.specs.RegionAnswers.{Answers}
+use Rattle.worm_core.specs.Answers.{moved_of}
 use Rattle.worm_core.proofs.GetStep.{get_answers, credit_fits}
 use Rattle.worm_core.proofs.There.{not_found}
+use Rattle.worm_core.proofs.Reaching.{still_workable}
 use Rattle.worm_core.proofs.region.Region.get.Goals as goal
 
 pub returns-in_default : goal.returns-in_default
@@ -23,7 +25,10 @@ get-requires-clause-front c =
 pub invariant_of-self : goal.invariant_of-self
 unfolding net_shape
 invariant_of-self c =
-    rw c.get.ensures.after (get_answers c.self.inside.fabric c.args.node c.args.port c.self.invariant (c.in-Some.ensures.there.0 refl) c.get.result c.get.ensures.enabled).0
+    let there = c.in-Some.ensures.there.0 refl in
+    still_workable c.self.inside.fabric c.get.new.self (TakeCredit c.args.node c.args.port) (Ok (moved_of c.get.result))
+    (rw c.get.ensures.after (get_answers c.self.inside.fabric c.args.node c.args.port c.self.invariant there
+    c.get.result c.get.ensures.enabled))
 
 pub returns : goal.returns
 unfolding net_shape

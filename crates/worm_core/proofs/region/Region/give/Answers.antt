@@ -7,6 +7,7 @@ use Rattle.worm_core.specs.RegionAnswers.{Answers}
 use Rattle.worm_core.specs.Answers.{moved_of}
 use Rattle.worm_core.proofs.GiveStep.{gave_none}
 use Rattle.worm_core.proofs.Turning.{owing_some}
+use Rattle.worm_core.proofs.Owning.{all_within}
 use Rattle.worm_core.proofs.region.Region.give.Goals as goal
 
 pub returns-then-not-has_line : goal.returns-then-not-has_line
@@ -27,3 +28,6 @@ pub give_owed-requires-clause-owed : goal.give_owed-requires-clause-owed
 give_owed-requires-clause-owed c =
     subst (λ (s : NetState). 0 < (input_at (router_at s c.args.node) c.args.port c.args.vc).owed) c.self.view_is
     (owing_some (input_at (router_at c.self.inside.fabric c.args.node) c.args.port c.args.vc).owed (sym c.owes.ensures ∙ c.if-not-owes.false))
+
+pub give_owed-requires-clause-within : goal.give_owed-requires-clause-within
+give_owed-requires-clause-within c = all_within c.args.self.now c.args.node c.args.port c.requires

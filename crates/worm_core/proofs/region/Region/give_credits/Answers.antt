@@ -1,9 +1,10 @@
 use Rattle.std.proofs.Common.{ℕ, List, ap, arith, length}
 use Rattle.worm_core.proofs.Giving.{gave_all, gave_more, gave_past, gave_same, gave_start, owed_first}
+use Rattle.worm_core.proofs.Reaching.{whole_after}
 use Rattle.worm_core.proofs.region.Region.give_credits.Goals as goal
 
 pub loop-port-init : goal.loop-port-init
-loop-port-init c = gave_start c.args.node c.args.self.now c.owing-owing.result c.requires c.owing-owing.ensures.sound c.owing-owing.ensures.owing
+loop-port-init c = gave_start c.args.node c.args.self.now c.owing-owing.result c.requires.node c.owing-owing.ensures.sound c.owing-owing.ensures.owing
 
 pub returns : goal.returns
 returns c = gave_all c.args.node c.args.self.now c.loop-port.self c.loop-port.owing c.loop-port.from c.loop-port.invariant c.in_default.ensures.0
@@ -35,3 +36,6 @@ loop-port-preserved-then-from-port c =
 
 pub loop-port-preserved : goal.loop-port-preserved
 loop-port-preserved c = gave_same c.args.node c.args.self.now c.loop-port.self c.loop-port.owing c.pop_first.new.self c.loop-port.from c.in-Some.port c.in-Some.vc c.loop-port.invariant c.in-Some.ensures c.if-from-port.false
+
+pub give_credit-requires-clause-whole : goal.give_credit-requires-clause-whole
+give_credit-requires-clause-whole c = whole_after c.args.self.now c.loop-port.self c.loop-port.invariant.passed.reaches c.requires.whole

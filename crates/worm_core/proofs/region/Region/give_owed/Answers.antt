@@ -5,6 +5,7 @@ use Rattle.worm_core.specs.Shape.{net_shape}
 use Rattle.worm_core.specs.State.{NetState, router_at, shape}
 use Rattle.worm_core.specs.RegionAnswers.{Answers}
 use Rattle.worm_core.specs.Answers.{moved_of}
+use Rattle.worm_core.specs.Workable.{EndsWithin, owned}
 use Rattle.worm_core.proofs.GiveStep.{gave_owed, give_room}
 use Rattle.worm_core.proofs.Kept.{net_place}
 use Rattle.worm_core.proofs.There.{not_found}
@@ -27,12 +28,19 @@ give-requires-clause-place c =
 pub give-requires-clause-room : goal.give-requires-clause-room
 unfolding net_shape
 give-requires-clause-room c =
-    give_room c.self.inside.fabric c.args.node c.args.port c.args.vc c.self.invariant (λ y e. (refl, refl)) (let found = c.in-Some.ensures.there.0 refl in (found.0, found.1, rw c.self.view_is c.requires.channel)) (subst (λ (s : NetState). 0 < (input_at (router_at s c.args.node) c.args.port c.args.vc).owed) (sym c.self.view_is) c.requires.owed)
+    let found = c.in-Some.ensures.there.0 refl in
+    let owed = subst (λ (s : NetState). 0 < (input_at (router_at s c.args.node) c.args.port c.args.vc).owed) (sym c.self.view_is) c.requires.owed in
+    let within = subst (λ (s : NetState). EndsWithin (shape s) (owned s) c.args.node c.args.port) (sym c.self.view_is) c.requires.within in
+    give_room c.self.inside.fabric c.args.node c.args.port c.args.vc c.self.invariant within
+    (found.0, found.1, rw c.self.view_is c.requires.channel) owed
 
 pub invariant_of-self : goal.invariant_of-self
 unfolding net_shape
 invariant_of-self c =
-    rw c.give.ensures (gave_owed c.self.inside.fabric c.args.node c.args.port c.args.vc c.self.invariant (let found = c.in-Some.ensures.there.0 refl in (found.0, found.1, rw c.self.view_is c.requires.channel)) (subst (λ (s : NetState). 0 < (input_at (router_at s c.args.node) c.args.port c.args.vc).owed) (sym c.self.view_is) c.requires.owed)).0
+    let found = c.in-Some.ensures.there.0 refl in
+    let owed = subst (λ (s : NetState). 0 < (input_at (router_at s c.args.node) c.args.port c.args.vc).owed) (sym c.self.view_is) c.requires.owed in
+    rw c.give.ensures (gave_owed c.self.inside.fabric c.args.node c.args.port c.args.vc c.self.invariant
+    (found.0, found.1, rw c.self.view_is c.requires.channel) owed).0
 
 pub returns : goal.returns
 unfolding net_shape

@@ -1,9 +1,11 @@
-use Rattle.std.proofs.Common.{None, Some}
+use Rattle.std.proofs.Common.{◌≡◌, None, Some}
 use Rattle.std.proofs.lemmas.Result.{err_from_is_err_and}
+use Rattle.worm_core.specs.Owned.{sole}
 use Rattle.worm_core.specs.RegionTurns.{TakesCredits, TakesFlits, FeedsClasses, RoutesChannels, SendsGranted, GivesCredits}
 use Rattle.worm_core.specs.Turns.{◌and_then◌, Allocates}
 use Rattle.worm_core.proofs.Passages.{does_then, does_cut, does_nothing}
 use Rattle.worm_core.proofs.Turning.{does_allocate}
+use Rattle.worm_core.proofs.Reaching.{whole_after}
 use Rattle.worm_core.proofs.region.Region.node_passes.Goals as goal
 
 pub returns-in_err-send_granted : goal.returns-in_err-send_granted
@@ -28,3 +30,22 @@ returns c =
 
 pub returns-then-rests : goal.returns-then-rests
 returns-then-rests c = let still = does_nothing c.args.self.now in rw c.rests.ensures.same record { exact = c.rests.ensures.passes c.if-rests.true; reaches = still.reaches }
+
+pub send_granted-requires-clause-whole : goal.send_granted-requires-clause-whole
+send_granted-requires-clause-whole c =
+    let rested : c.rests.new.self.own ≡ sole = rw c.rests.ensures.same c.requires.whole in
+    let credits = whole_after c.rests.new.self c.take_credits.new.self c.take_credits.ensures.reaches rested in
+    let flits = whole_after c.take_credits.new.self c.take_flits.new.self c.take_flits.ensures.reaches credits in
+    let fed = whole_after c.take_flits.new.self c.feed_classes.new.self c.feed_classes.ensures.reaches flits in
+    let routed = whole_after c.feed_classes.new.self c.route_channels.new.self c.route_channels.ensures.reaches fed in
+    whole_after c.route_channels.new.self c.allocate.new.self c.allocate.ensures.reaches routed
+
+pub give_credits-requires-clause-whole : goal.give_credits-requires-clause-whole
+give_credits-requires-clause-whole c =
+    let rested : c.rests.new.self.own ≡ sole = rw c.rests.ensures.same c.requires.whole in
+    let credits = whole_after c.rests.new.self c.take_credits.new.self c.take_credits.ensures.reaches rested in
+    let flits = whole_after c.take_credits.new.self c.take_flits.new.self c.take_flits.ensures.reaches credits in
+    let fed = whole_after c.take_flits.new.self c.feed_classes.new.self c.feed_classes.ensures.reaches flits in
+    let routed = whole_after c.feed_classes.new.self c.route_channels.new.self c.route_channels.ensures.reaches fed in
+    let allocated = whole_after c.route_channels.new.self c.allocate.new.self c.allocate.ensures.reaches routed in
+    whole_after c.allocate.new.self c.send_granted.new.self c.in_ok-send_granted.ensures.reaches allocated

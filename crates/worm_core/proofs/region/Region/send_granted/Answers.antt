@@ -6,6 +6,8 @@ use Rattle.worm_core.specs.RegionTurns.{SendsGranted}
 use Rattle.worm_core.proofs.Passages.{does_nothing, does_still}
 use Rattle.worm_core.proofs.Sending.{sent_all, sent_more, sent_start, sent_there, sent_until}
 use Rattle.worm_core.proofs.Turning.{sends_all}
+use Rattle.worm_core.proofs.Owning.{sends_within}
+use Rattle.worm_core.proofs.Reaching.{whole_after}
 use Rattle.worm_core.proofs.region.Region.send_granted.Goals as goal
 
 pub loop-port-init : goal.loop-port-init
@@ -14,8 +16,8 @@ loop-port-init c =
     let mesh = ap (λ (m : List ℕ). length m) c.choose-granted.ensures.reaches.config.mesh in
     λ grants _. sent_start c.args.node grants c.choose-granted.result c.choose-granted.new.self (omega (arith, few, mesh)) (does_nothing c.choose-granted.new.self)
 
-pub send_there-requires : goal.send_there-requires
-send_there-requires c =
+pub send_there-requires-clause-there : goal.send_there-requires-clause-there
+send_there-requires-clause-there c =
     let granted = c.choose-granted.ensures.granted in
     (sent_there c.args.self.now c.args.node c.choose-granted.result c.loop-port.granted c.pop_first.new.self c.in-Some.port c.in-Some.vc c.choose-granted.new.self c.loop-port.self
     c.is_sound.ensures.sound c.choose-granted.ensures.reaches.config granted c.choose-granted.ensures.there (c.loop-port.invariant (switch_grants (router_at c.args.self.now c.args.node)) granted) c.in-Some.ensures).0
@@ -53,3 +55,10 @@ returns c =
 
 pub returns-then-sends_nothing : goal.returns-then-sends_nothing
 returns-then-sends_nothing c = does_still (SendsGranted c.args.node) c.args.self.now (c.sends_nothing.ensures c.if-sends_nothing.true)
+
+pub send_there-requires-clause-within : goal.send_there-requires-clause-within
+send_there-requires-clause-within c =
+    let sent = c.loop-port.invariant (switch_grants (router_at c.args.self.now c.args.node)) c.choose-granted.ensures.granted in
+    let chosen = whole_after c.args.self.now c.choose-granted.new.self c.choose-granted.ensures.reaches c.requires.whole in
+    sends_within c.loop-port.self c.args.node c.in-Some.port c.in-Some.vc
+    (whole_after c.choose-granted.new.self c.loop-port.self sent.passed.reaches chosen)

@@ -3,8 +3,10 @@ use Rattle.worm_theory.specs.Steps.{Take, IsThere}
 use Rattle.worm_core.specs.Shape.{net_shape}
 use Rattle.worm_core.specs.State.{NetState, shape}
 use Rattle.worm_core.specs.RegionAnswers.{Answers}
+use Rattle.worm_core.specs.Answers.{moved_of}
 use Rattle.worm_core.proofs.TakeStep.{take_answers, front_fits}
 use Rattle.worm_core.proofs.There.{not_found}
+use Rattle.worm_core.proofs.Reaching.{still_workable}
 use Rattle.worm_core.proofs.region.Region.take.Goals as goal
 
 pub returns-in_default : goal.returns-in_default
@@ -23,7 +25,10 @@ take-requires-clause-front c =
 pub invariant_of-self : goal.invariant_of-self
 unfolding net_shape
 invariant_of-self c =
-    rw c.take.ensures.after (take_answers c.self.inside.fabric c.args.node c.args.port c.self.invariant (c.in-Some.ensures.there.0 refl) c.take.result c.take.ensures.enabled).0
+    let there = c.in-Some.ensures.there.0 refl in
+    still_workable c.self.inside.fabric c.take.new.self (Take c.args.node c.args.port) (Ok (moved_of c.take.result))
+    (rw c.take.ensures.after (take_answers c.self.inside.fabric c.args.node c.args.port c.self.invariant there
+    c.take.result c.take.ensures.enabled))
 
 pub returns : goal.returns
 unfolding net_shape
