@@ -1,12 +1,11 @@
 -- A pass of an allocator leaves a network as a list of grants does; the arbiters are no part of what it stands for.
-use Rattle.std.proofs.Common.{◌≡◌, ℕ, zero, suc, ◌+◌, ◌*◌, ◌<◌, ◌≤◌, ◌==◌, cond, Bool, true, false, ◌&&◌, if◌then◌else◌, inl, inr, List, [], ◌∷◌, length, sum, drop, Ok, Option, Some, None, is_some, refl, arith, ap, sym, subst, ◌∙◌}
+use Rattle.std.proofs.Common.{◌≡◌, ℕ, zero, suc, ◌+◌, ◌*◌, ◌<◌, ◌≤◌, ◌==◌, cond, Bool, true, false, ◌&&◌, if◌then◌else◌, List, [], ◌∷◌, length, sum, drop, Ok, Option, Some, None, is_some, refl, arith, ap, sym, subst, ◌∙◌}
 use Rattle.std.specs.Prelude.{All, fold, IsSome, is_none, option_map}
 use Rattle.std.specs.List.{range_with_len}
 use Rattle.std.proofs.lemmas.List.{set-set}
 use Rattle.std.proofs.Math.ListN.{length-set}
 use Rattle.std.proofs.lemmas.List.Elements.{All-head}
 use Rattle.std.proofs.lemmas.Bool.{and_parts}
-use Rattle.worm_flit.specs.declared.Lane.{Lane}
 use Rattle.worm_flit.specs.declared.Flit.{Flit}
 use Rattle.worm_flit.specs.Channels.{owns}
 use Rattle.worm_mesh.specs.Address.{node_count}
@@ -17,23 +16,21 @@ use Rattle.worm_router.specs.Allocation.{written, with_port_grants, with_grants,
 use Rattle.worm_router.proofs.InVain.{cell_has}
 use Rattle.worm_shape.proofs.Channels.{owned_by}
 use Rattle.worm_swalloc.specs.SwAlloc.{SwAllocState}
-use Rattle.worm_theory.specs.Shape.{Shape, IsMesh, Enters, at_source, by_link}
+use Rattle.worm_theory.specs.Shape.{Shape}
 use Rattle.worm_theory.specs.Network.{Network}
-use Rattle.worm_theory.specs.Steps.{Grant, Send, IsPort, IsThere}
-use Rattle.worm_theory.specs.Sound.{Sound, OthersIdle, OnesClosed, InBuffer}
-use Rattle.worm_theory.specs.Cut.{LanesCut}
-use Rattle.worm_theory.specs.PacketCut.{PacketsHold}
+use Rattle.worm_theory.specs.Steps.{Grant, Send, IsThere}
 use Rattle.worm_theory.proofs.Bridge.{same_network}
 use Rattle.worm_vcalloc.specs.Table.{cell}
 use Rattle.worm_vcalloc.specs.VcAlloc.{VcAllocState}
 use Rattle.worm_core.specs.Shape.{net_shape}
 use Rattle.worm_core.specs.declared.node.Node.{Node}
-use Rattle.worm_core.specs.State.{NetState, IsNet, IsNetPlace, IsSameConfig, shape, network_of, node_at, router_at, with_node, with_router, input_of, output_of, link_of}
+use Rattle.worm_core.specs.State.{NetState, IsNetPlace, IsSameConfig, shape, network_of, node_at, router_at, with_node, with_router, input_of, output_of, link_of}
+use Rattle.worm_core.specs.Workable.{IsWorkable, owned, IsKept, Works}
 use Rattle.worm_core.specs.Answers.{moved_of}
 use Rattle.worm_core.specs.Moves.{IsReady, chosen_router}
 use Rattle.worm_core.specs.Turns.{Reaches}
 use Rattle.worm_core.proofs.Bridge.{node_at-put, node_kept}
-use Rattle.worm_core.proofs.Kept.{framed_mesh, node_framed}
+use Rattle.worm_core.proofs.Kept.{node_framed}
 use Rattle.worm_core.proofs.There.{buffer_there}
 use Rattle.worm_core.proofs.GrantStep.{grant_answers, with_router_same}
 use Rattle.worm_core.proofs.Reaching.{reached, joined, by_answer}
@@ -74,8 +71,8 @@ arbiters_apart s x a b there =
       unfed = λ y j. node_kept (λ (m : Node). drop (queue_at m.source j).fed (queue_at m.source j).injected) s x n there refl y;
     }
 
-pub arbiters_moved : (s : NetState) (x : ℕ) (a : VcAllocState) (b : SwAllocState) → IsNet s → x < length s.nodes
-    → IsNet (with_router s x (record (router_at s x) { channel_alloc = a; switch_alloc = b })) × Reaches s (with_router s x (record (router_at s x) { channel_alloc = a; switch_alloc = b }))
+pub arbiters_moved : (s : NetState) (x : ℕ) (a : VcAllocState) (b : SwAllocState) → IsWorkable s → x < length s.nodes
+    → IsWorkable (with_router s x (record (router_at s x) { channel_alloc = a; switch_alloc = b })) × Reaches s (with_router s x (record (router_at s x) { channel_alloc = a; switch_alloc = b }))
 arbiters_moved s x a b net there =
     let n : Node = record (node_at s x) { router = record (router_at s x) { channel_alloc = a; switch_alloc = b } } in
     let old = net.framed.each_node x there in
@@ -96,33 +93,22 @@ arbiters_moved s x a b net there =
           fed_within = old.fed_within;
           sink_node = old.sink_node;
         };
-        sound = subst (λ (m : Network). Sound (shape s) m) back net.sound;
-        cut = subst (λ (m : Network). LanesCut (shape s) m) back net.cut;
-        packets = subst (λ (m : Network). PacketsHold (shape s) m) back net.packets;
-        others = subst (λ (m : Network). OthersIdle (shape s) m) back net.others;
-        closed = subst (λ (m : Network). OnesClosed (shape s) m) back net.closed;
+        works = subst (λ (m : Network). Works (shape s) (owned s) m) back net.works;
       },
-      record { steps = []; led = same; config = record { mesh = refl; channels = refl; depth = refl; names = refl } },
+      record { steps = []; led = same; config = record { mesh = refl; channels = refl; depth = refl; names = refl; own = refl } },
     )
-
--- a port by which a route enters a node is there
-entered_port : (s : Shape) → IsMesh s → {lane : Lane} {x p : ℕ} → Enters s lane x p → IsPort s x p
-entered_port s mesh at_source = inl refl
-entered_port s mesh {lane} (by_link {x} {p} {y} before linked) =
-    let back = mesh.link_back x (s.next_port x lane.dst) y linked in
-    inr (subst IsSome (sym back) refl)
 
 some_if : (b : Bool) (q o : ℕ) → (if b then Some q else None) ≡ Some o → b ≡ true
 some_if true q o e = refl
 some_if false q o e = let no_grant : ◌≡◌ {A = Option ℕ} None (Some o) = e in absurd (cc)
 
-unchanged : (s : NetState) (x : ℕ) → IsNet s → x < length s.nodes → (r : RouterState) → r ≡ router_at s x → IsNet (with_router s x r) × Reaches s (with_router s x r)
+unchanged : (s : NetState) (x : ℕ) → IsWorkable s → x < length s.nodes → (r : RouterState) → r ≡ router_at s x → IsWorkable (with_router s x r) × Reaches s (with_router s x r)
 unchanged s x net there r e =
     let same : with_router s x r ≡ s = ap (λ (q : RouterState). with_router s x q) e ∙ with_router_same s x there in
-    (subst IsNet (sym same) net, subst (λ (t : NetState). Reaches s t) (sym same) (reached s))
+    (subst IsWorkable (sym same) net, subst (λ (t : NetState). Reaches s t) (sym same) (reached s))
 
 -- what is granted is there
-granted_there : (s : NetState) (x p v k o : ℕ) → IsNet s → x < node_count s.mesh → IsNetPlace s x p v → (st : InRecord) (fs : List Flit)
+granted_there : (s : NetState) (x p v k o : ℕ) → IsWorkable s → x < node_count s.mesh → IsNetPlace s x p v → (st : InRecord) (fs : List Flit)
     → (input_at (router_at s x) p v).buffer ≡ fs → granting (router_at s x) st fs k ≡ Some o → IsThere (shape s) (Grant x p v k)
 unfolding net_shape
 granted_there s x p v k o net x_in place Idle fs b e = let no_grant : ◌≡◌ {A = Option ℕ} None (Some o) = e in absurd (cc)
@@ -133,12 +119,12 @@ granted_there s x p v k o net x_in place (Waiting q) (f ∷ rest) b e =
     let test = some_if (is_none (output_at (router_at s x) q k).holder && owns (router_at s x).channels f.lane.class k) q o e in
     let owned = (and_parts (is_none (output_at (router_at s x) q k).holder) (owns (router_at s x).channels f.lane.class k) test).1 in
     let within = (owned_by (router_at s x).channels f.lane.class k owned).0 in
-    let all = subst (λ (fs : List Flit). All (InBuffer (shape s) x p v) fs) (buffer_there s x p v place ∙ b) (net.sound.buffered x p v) in
-    let entered = (All-head (InBuffer (shape s) x p v) f rest all).1.entered in
-    (x_in, entered_port (shape s) (framed_mesh s net.framed) entered, rw (← node.same_channels) place.place.channel_in, rw (← node.same_channels) within)
+    let all = subst (λ (fs : List Flit). All (IsKept (shape s) x p) fs) (buffer_there s x p v place ∙ b) (net.works.buffered x p v) in
+    let port = (All-head (IsKept (shape s) x p) f rest all).port in
+    (x_in, port, rw (← node.same_channels) place.place.channel_in, rw (← node.same_channels) within)
 
 -- what is ready to leave is there
-leaving_there : (s : NetState) (x p v : ℕ) → IsNet s → x < node_count s.mesh → IsNetPlace s x p v → (st : InRecord) (fs : List Flit)
+leaving_there : (s : NetState) (x p v : ℕ) → IsWorkable s → x < node_count s.mesh → IsNetPlace s x p v → (st : InRecord) (fs : List Flit)
     → (input_at (router_at s x) p v).buffer ≡ fs → IsSome (leaving_by (router_at s x) p (input_at (router_at s x) p v) st fs) → IsThere (shape s) (Send x p v)
 unfolding net_shape
 leaving_there s x p v net x_in place Idle fs b ready = absurd (cc)
@@ -146,11 +132,11 @@ leaving_there s x p v net x_in place (Waiting o) fs b ready = absurd (cc)
 leaving_there s x p v net x_in place (Active o c) [] b ready = absurd (cc)
 leaving_there s x p v net x_in place (Active o c) (f ∷ rest) b ready =
     let node = net.framed.each_node x place.node_in in
-    let all = subst (λ (fs : List Flit). All (InBuffer (shape s) x p v) fs) (buffer_there s x p v place ∙ b) (net.sound.buffered x p v) in
-    let entered = (All-head (InBuffer (shape s) x p v) f rest all).1.entered in
-    (x_in, entered_port (shape s) (framed_mesh s net.framed) entered, rw (← node.same_channels) place.place.channel_in)
+    let all = subst (λ (fs : List Flit). All (IsKept (shape s) x p) fs) (buffer_there s x p v place ∙ b) (net.works.buffered x p v) in
+    let port = (All-head (IsKept (shape s) x p) f rest all).port in
+    (x_in, port, rw (← node.same_channels) place.place.channel_in)
 
-pub ready_there : (s : NetState) (x p v : ℕ) → IsNet s → x < node_count s.mesh → IsReady (router_at s x) p v → IsThere (shape s) (Send x p v)
+pub ready_there : (s : NetState) (x p v : ℕ) → IsWorkable s → x < node_count s.mesh → IsReady (router_at s x) p v → IsThere (shape s) (Send x p v)
 ready_there s x p v net x_in ready =
     let all = net.framed.all_nodes in
     let c = input_at (router_at s x) p v in
@@ -172,8 +158,8 @@ there_still a b x p v config there =
     subst (λ (s : Shape). IsThere s (Send x p v)) (sym same) there
 
 -- a grant that is tried
-grant_by : (s : NetState) (x p v k : ℕ) → IsNet s → IsNetPlace s x p v → x < node_count s.mesh → (o : Option ℕ) → can_grant (router_at s x) p v k ≡ o
-    → IsNet (with_router s x (after_grant (router_at s x) p v k)) × Reaches s (with_router s x (after_grant (router_at s x) p v k))
+grant_by : (s : NetState) (x p v k : ℕ) → IsWorkable s → IsNetPlace s x p v → x < node_count s.mesh → (o : Option ℕ) → can_grant (router_at s x) p v k ≡ o
+    → IsWorkable (with_router s x (after_grant (router_at s x) p v k)) × Reaches s (with_router s x (after_grant (router_at s x) p v k))
 grant_by s x p v k net place x_in None e =
     unchanged s x net place.node_in (after_grant (router_at s x) p v k) (ap (λ (o : Option ℕ). after_granting (router_at s x) p v k o) e)
 grant_by s x p v k net place x_in (Some o) e =
@@ -185,7 +171,7 @@ grant_by s x p v k net place x_in (Some o) e =
 record Granted (s : NetState) (x : ℕ) (r : RouterState) : Type 0 where
   mesh : r.mesh ≡ s.mesh
   channels : r.channels ≡ s.channels
-  net : IsNet (with_router s x r)
+  net : IsWorkable (with_router s x r)
   reaches : Reaches s (with_router s x r)
 
 config_after : (r : RouterState) (p v k : ℕ) (o : Option ℕ) → ((after_granting r p v k o).mesh ≡ r.mesh) × ((after_granting r p v k o).channels ≡ r.channels)
@@ -206,7 +192,7 @@ grant_more s x r p v k there x_in p_in v_in had =
     record {
       mesh = config.0 ∙ had.mesh;
       channels = config.1 ∙ had.channels;
-      net = subst IsNet to done.0;
+      net = subst IsWorkable to done.0;
       reaches = subst (λ (n : NetState). Reaches s n) to (joined s t _ had.reaches done.1);
     }
 
@@ -231,7 +217,7 @@ all_granted s x grants r there x_in had =
     fold_range (λ q. Granted s x q) (with_port_grants grants) (2 * length s.mesh + 1)
     (λ q p p_in before. port_granted s x grants q p there x_in (omega arith) before) 0 (terminal r + 1) (rw had.mesh (omega arith)) r had
 
-pub allocated : (s : NetState) (x : ℕ) → IsNet s → x < length s.nodes → IsNet (with_router s x (after_allocate (router_at s x))) × Reaches s (with_router s x (after_allocate (router_at s x)))
+pub allocated : (s : NetState) (x : ℕ) → IsWorkable s → x < length s.nodes → IsWorkable (with_router s x (after_allocate (router_at s x))) × Reaches s (with_router s x (after_allocate (router_at s x)))
 allocated s x net there =
     let node = net.framed.each_node x there in
     let all = net.framed.all_nodes in
@@ -240,13 +226,13 @@ allocated s x net there =
     let end = all_granted s x (channel_pass (router_at s x)).grants (record (router_at s x) { channel_alloc = (channel_pass (router_at s x)).alloc }) there (omega arith) start in
     (end.net, end.reaches)
 
-pub chosen : (s : NetState) (x : ℕ) → IsNet s → x < length s.nodes → IsNet (with_router s x (chosen_router (router_at s x))) × Reaches s (with_router s x (chosen_router (router_at s x)))
+pub chosen : (s : NetState) (x : ℕ) → IsWorkable s → x < length s.nodes → IsWorkable (with_router s x (chosen_router (router_at s x))) × Reaches s (with_router s x (chosen_router (router_at s x)))
 unfolding chosen_router
 chosen s x net there = arbiters_moved s x (router_at s x).channel_alloc (after_choose (router_at s x)).switch_alloc net there
 
 -- the same of a node of the mesh
-pub allocated_in : (s : NetState) (x : ℕ) → IsNet s → x < node_count s.mesh → IsNet (with_router s x (after_allocate (router_at s x))) × Reaches s (with_router s x (after_allocate (router_at s x)))
+pub allocated_in : (s : NetState) (x : ℕ) → IsWorkable s → x < node_count s.mesh → IsWorkable (with_router s x (after_allocate (router_at s x))) × Reaches s (with_router s x (after_allocate (router_at s x)))
 allocated_in s x net there = let all = net.framed.all_nodes in allocated s x net (omega arith)
 
-pub chosen_in : (s : NetState) (x : ℕ) → IsNet s → x < node_count s.mesh → IsNet (with_router s x (chosen_router (router_at s x))) × Reaches s (with_router s x (chosen_router (router_at s x)))
+pub chosen_in : (s : NetState) (x : ℕ) → IsWorkable s → x < node_count s.mesh → IsWorkable (with_router s x (chosen_router (router_at s x))) × Reaches s (with_router s x (chosen_router (router_at s x)))
 chosen_in s x net there = let all = net.framed.all_nodes in chosen s x net (omega arith)

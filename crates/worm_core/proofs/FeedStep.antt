@@ -11,11 +11,12 @@ use Rattle.worm_term.specs.Queue.{waiting, one_fed}
 use Rattle.worm_term.specs.Source.{front_of}
 use Rattle.worm_theory.specs.Network.{put2, put3}
 use Rattle.worm_theory.specs.Steps.{Feed, IsThere, Enabled, after, fed}
-use Rattle.worm_theory.specs.Sound.{IsFrom}
 use Rattle.worm_core.specs.Shape.{net_shape}
 use Rattle.worm_core.specs.declared.node.Node.{Node}
-use Rattle.worm_core.specs.State.{NetState, IsNet, IsFramed, IsNodeOf, IsNetPlace, shape, network_of, node_at, router_at, source_at, with_node, output_of, queue_of}
-use Rattle.worm_core.specs.Answers.{Answers, moved_of}
+use Rattle.worm_core.specs.State.{NetState, IsFramed, IsNodeOf, IsNetPlace, shape, network_of, node_at, router_at, source_at, with_node, output_of, queue_of}
+use Rattle.worm_core.specs.Workable.{IsWorkableBy, IsBound}
+use Rattle.worm_core.specs.RegionAnswers.{Answers}
+use Rattle.worm_core.specs.Answers.{moved_of}
 use Rattle.worm_core.specs.Moves.{done_step, FrontFits, has_room, can_enter, fed_node}
 use Rattle.worm_core.proofs.Bridge.{put2_same, put3_same, node_bridge, itself3, input_of-put, input_of-there, below_cases}
 use Rattle.worm_core.proofs.There.{buffer_there}
@@ -124,7 +125,7 @@ unfolding network_of
 unfed_at s x k = refl
 
 -- the next flit may enter the injection buffer
-feed_place : (s : NetState) (x k : ℕ) (f : Flit) → IsNet s → x < length s.nodes → k < length s.channels → waiting (queue_of s x k) ≡ Some f
+feed_place : (s : NetState) (x k : ℕ) (f : Flit) → {own : ℕ → Bool} → IsWorkableBy own s → x < length s.nodes → k < length s.channels → waiting (queue_of s x k) ≡ Some f
     → IsNetPlace s x (terminal (router_at s x)) (first_channel (source_at s x).channels k) × (f.lane.dst < node_count (router_at s x).mesh)
 unfolding net_shape
 feed_place s x k f net x_in k_in next =
@@ -132,12 +133,12 @@ feed_place s x k f net x_in k_in next =
     let mesh = framed_mesh s net.framed in
     let first : first_channel s.channels k < sum s.channels = (mesh.first_owned k k_in).0 in
     let unfed = unfed_at s x k ∙ next_of (queue_of s x k).injected (queue_of s x k).fed f next in
-    let all = subst (λ (fs : List Flit). All (IsFrom (shape s) x k) fs) unfed (net.sound.unfed x k) in
-    let from = All-head (IsFrom (shape s) x k) f (drop ((queue_of s x k).fed + 1) (queue_of s x k).injected) all in
+    let all = subst (λ (fs : List Flit). All (IsBound (shape s)) fs) unfed (net.works.unfed x k) in
+    let from = All-head (IsBound (shape s)) f (drop ((queue_of s x k).fed + 1) (queue_of s x k).injected) all in
     let same_vc : first_channel (source_at s x).channels k ≡ first_channel s.channels k = ap (λ (cs : List ℕ). first_channel cs k) node.source_channels in
-    (record { node_in = x_in; place = record { port_in = omega arith; channel_in = rw (same_vc, node.same_channels) first } }, rw node.same_mesh from.lane_there.destination)
+    (record { node_in = x_in; place = record { port_in = omega arith; channel_in = rw (same_vc, node.same_channels) first } }, rw node.same_mesh from)
 
-feed_done : (s : NetState) (x k : ℕ) (f : Flit) → IsNet s → x < length s.nodes → k < length s.channels → waiting (queue_of s x k) ≡ Some f
+feed_done : (s : NetState) (x k : ℕ) (f : Flit) → {own : ℕ → Bool} → IsWorkableBy own s → x < length s.nodes → k < length s.channels → waiting (queue_of s x k) ≡ Some f
     → has_room (router_at s x) (terminal (router_at s x)) (with_channel f (first_channel (source_at s x).channels k)) ≡ true
     → Enabled (shape s) (network_of s) (Feed x k)
     × (network_of (with_node s x (fed_node (node_at s x) k (Some (with_channel f (first_channel (source_at s x).channels k))))) ≡ after (shape s) (network_of s) (Feed x k))
@@ -170,7 +171,7 @@ feed_none s x k none h =
     let some : 0 < length ((network_of s).unfed x k) = h.0 in
     absurd (omega (arith, ap (λ (fs : List Flit). length fs) empty))
 
-feed_full : (s : NetState) (x k : ℕ) (f : Flit) → IsNet s → x < length s.nodes → k < length s.channels → waiting (queue_of s x k) ≡ Some f
+feed_full : (s : NetState) (x k : ℕ) (f : Flit) → {own : ℕ → Bool} → IsWorkableBy own s → x < length s.nodes → k < length s.channels → waiting (queue_of s x k) ≡ Some f
     → has_room (router_at s x) (terminal (router_at s x)) (with_channel f (first_channel (source_at s x).channels k)) ≡ false
     → Enabled (shape s) (network_of s) (Feed x k) → ⊥
 unfolding net_shape
@@ -190,14 +191,14 @@ feed_full s x k f net x_in k_in next room h =
       | inr le ↦ let past = le.1 in let d = node.same_depth in absurd (omega arith)
     ]
 
-Outcome : NetState → ℕ → ℕ → Option Flit → Bool → Type 0
-Outcome s x k o b =
-    IsNet (if b then with_node s x (fed_node (node_at s x) k o) else s) × Answers s (Feed x k) (Ok (moved_of b)) (if b then with_node s x (fed_node (node_at s x) k o) else s)
+Outcome : (ℕ → Bool) → NetState → ℕ → ℕ → Option Flit → Bool → Type 0
+Outcome own s x k o b =
+    IsWorkableBy own (if b then with_node s x (fed_node (node_at s x) k o) else s) × Answers s (Feed x k) (Ok (moved_of b)) (if b then with_node s x (fed_node (node_at s x) k o) else s)
 
-feed_at : (s : NetState) (x k : ℕ) → IsNet s → x < length s.nodes → k < length s.channels → IsThere (shape s) (Feed x k) → (o : Option Flit) (b : Bool)
+feed_at : (s : NetState) (x k : ℕ) → {own : ℕ → Bool} → IsWorkableBy own s → x < length s.nodes → k < length s.channels → IsThere (shape s) (Feed x k) → (o : Option Flit) (b : Bool)
     → waiting (queue_of s x k) ≡ o → can_enter (router_at s x) (terminal (router_at s x)) (option_map (λ f. with_channel f (first_channel (source_at s x).channels k)) o) ≡ b
     → with_node s x (fed_node (node_at s x) k (option_map (λ f. with_channel f (first_channel (source_at s x).channels k)) o)) ≡ done_step s (Feed x k)
-    → Outcome s x k (option_map (λ f. with_channel f (first_channel (source_at s x).channels k)) o) b
+    → Outcome own s x k (option_map (λ f. with_channel f (first_channel (source_at s x).channels k)) o) b
 unfolding Outcome
 feed_at s x k net x_in k_in there None true next can same = absurd (cc)
 feed_at s x k net x_in k_in there None false next can same = (net, (there, feed_none s x k next, refl, refl))
@@ -205,12 +206,12 @@ feed_at s x k net x_in k_in there (Some f) true next can same =
     let step = feed_done s x k f net x_in k_in next can in
     let new = with_node s x (fed_node (node_at s x) k (Some (with_channel f (first_channel (source_at s x).channels k)))) in (
       kept s new.nodes new.links (Feed x k) net there step.0 step.2 step.1,
-      record { there = there; enabled = step.0; after_it = step.1; config = record { mesh = refl; channels = refl; depth = refl; names = refl }; exact = same },
+      record { there = there; enabled = step.0; after_it = step.1; config = record { mesh = refl; channels = refl; depth = refl; names = refl; own = refl }; exact = same; framed = step.2 },
     )
 feed_at s x k net x_in k_in there (Some f) false next can same = (net, (there, feed_full s x k f net x_in k_in next can, refl, refl))
 
-pub feed_answers : (s : NetState) (x k : ℕ) → IsNet s → IsThere (shape s) (Feed x k) → (done : Bool) → done ≡ can_enter (router_at s x) (terminal (router_at s x)) (front_of (source_at s x) k)
-    → IsNet (if done then with_node s x (fed_node (node_at s x) k (front_of (source_at s x) k)) else s)
+pub feed_answers : (s : NetState) (x k : ℕ) → {own : ℕ → Bool} → IsWorkableBy own s → IsThere (shape s) (Feed x k) → (done : Bool) → done ≡ can_enter (router_at s x) (terminal (router_at s x)) (front_of (source_at s x) k)
+    → IsWorkableBy own (if done then with_node s x (fed_node (node_at s x) k (front_of (source_at s x) k)) else s)
     × Answers s (Feed x k) (Ok (moved_of done)) (if done then with_node s x (fed_node (node_at s x) k (front_of (source_at s x) k)) else s)
 unfolding net_shape Outcome
 feed_answers s x k net there done e =
@@ -218,12 +219,12 @@ feed_answers s x k net there done e =
     let node_in = there.0 in
     rw e (feed_at s x k net (omega arith) there.1 there (waiting (queue_of s x k)) (can_enter (router_at s x) (terminal (router_at s x)) (front_of (source_at s x) k)) refl refl refl)
 
-fits_by : (s : NetState) (x k : ℕ) → IsNet s → x < length s.nodes → k < length s.channels → (o : Option Flit) → waiting (queue_of s x k) ≡ o
+fits_by : (s : NetState) (x k : ℕ) → {own : ℕ → Bool} → IsWorkableBy own s → x < length s.nodes → k < length s.channels → (o : Option Flit) → waiting (queue_of s x k) ≡ o
     → FrontFits (router_at s x) (terminal (router_at s x)) (option_map (λ f. with_channel f (first_channel (source_at s x).channels k)) o)
 fits_by s x k net x_in k_in None next = tt
 fits_by s x k net x_in k_in (Some f) next = let place = feed_place s x k f net x_in k_in next in (place.0.place, place.1)
 
-pub feed_fits : (s : NetState) (x k : ℕ) → IsNet s → IsThere (shape s) (Feed x k) → FrontFits (router_at s x) (terminal (router_at s x)) (front_of (source_at s x) k)
+pub feed_fits : (s : NetState) (x k : ℕ) → {own : ℕ → Bool} → IsWorkableBy own s → IsThere (shape s) (Feed x k) → FrontFits (router_at s x) (terminal (router_at s x)) (front_of (source_at s x) k)
 unfolding net_shape
 feed_fits s x k net there =
     let all = net.framed.all_nodes in

@@ -11,8 +11,10 @@ use Rattle.worm_theory.specs.Network.{Network, put2, put3}
 use Rattle.worm_theory.specs.Steps.{GiveCredit, IsThere, Enabled, after, gave, gave_to}
 use Rattle.worm_theory.proofs.Credit.{count-cons}
 use Rattle.worm_core.specs.Shape.{net_shape}
-use Rattle.worm_core.specs.State.{NetState, LinkView, IsNet, IsFramed, IsNetPlace, shape, network_of, router_at, with_router, link_at}
-use Rattle.worm_core.specs.Answers.{Answers, moved_of}
+use Rattle.worm_core.specs.State.{NetState, LinkView, IsFramed, IsNetPlace, shape, network_of, router_at, with_router, link_at}
+use Rattle.worm_core.specs.Workable.{EndsWithin, IsWorkableBy}
+use Rattle.worm_core.specs.RegionAnswers.{Answers}
+use Rattle.worm_core.specs.Answers.{moved_of}
 use Rattle.worm_core.specs.Moves.{done_step, into_from, link_into, can_give, after_giving}
 use Rattle.worm_core.proofs.Bridge.{put2_same, put3_same, input_bridge, input_of-there, below_cases}
 use Rattle.worm_core.proofs.LinkBridge.{link_bridge, link_framed, out_there, credits_there}
@@ -23,7 +25,7 @@ use Rattle.worm_core.proofs.Ends.{feeder}
 use Rattle.worm_core.proofs.Turning.{owing}
 
 -- only what an input channel owes is changed
-owed_bridge : (s : NetState) (x p v : ℕ) → IsFramed s → IsNetPlace s x p v
+pub owed_bridge : (s : NetState) (x p v : ℕ) → IsFramed s → IsNetPlace s x p v
     → network_of (with_router s x (after_gave (router_at s x) p v)) ≡ record (network_of s) { owed = put3 (network_of s).owed x p v ((network_of s).owed x p v - 1) }
 unfolding network_of
 owed_bridge s x p v framed place =
@@ -50,10 +52,10 @@ credits_counted n (c ∷ cs) all =
     split ∙ (two ∙ omega arith)
 
 -- a link has room for a credit that is owed
-credit_room : (s : NetState) (x p v y : ℕ) → IsNet s → IsNetPlace s x p v → neighbour_of s.mesh x p ≡ Some y → v < sum s.channels
+credit_room : (s : NetState) (x p v y : ℕ) → {own : ℕ → Bool} → IsWorkableBy own s → (own y ≡ true) × (own x ≡ true) → IsNetPlace s x p v → neighbour_of s.mesh x p ≡ Some y → v < sum s.channels
     → 0 < (input_at (router_at s x) p v).owed → length (link_at s (links_before s.mesh y (opposite_of p))).credits < (link_at s (links_before s.mesh y (opposite_of p))).room
 unfolding net_shape
-credit_room s x p v y net place e v_in owes =
+credit_room s x p v y net inner place e v_in owes =
     let N = network_of s in
     let n = sum s.channels in
     let o = opposite_of p in
@@ -61,18 +63,18 @@ credit_room s x p v y net place e v_in owes =
     let mesh = framed_mesh s net.framed in
     let back : neighbour_of s.mesh y o ≡ Some x = mesh.link_back x p y e in
     let twice : opposite_of o ≡ p = mesh.opposite_twice x p y e in
-    let all : All (λ c. c < n) (N.credit_list y o) = net.sound.entries y o in
-    let each : (w : ℕ) → w < n → count_by (λ k. w == k) (N.credit_list y o) ≤ s.depth = λ w w_in. let total = net.sound.credits y o x w w_in back in omega arith in
+    let all : All (λ c. c < n) (N.credit_list y o) = net.works.entries y o in
+    let each : (w : ℕ) → w < n → count_by (λ k. w == k) (N.credit_list y o) ≤ s.depth = λ w w_in. let total = net.works.credits y o x w w_in back inner.0 inner.1 in omega arith in
     let owed : 0 < N.owed x p v = rw (owed_there s x p v place) owes in
     let owed_here : 0 < N.owed x (opposite_of o) v = rw twice owed in
-    let less : count_by (λ k. v == k) (N.credit_list y o) < s.depth = let total = net.sound.credits y o x v v_in back in omega arith in
+    let less : count_by (λ k. v == k) (N.credit_list y o) < s.depth = let total = net.works.credits y o x v v_in back inner.0 inner.1 in omega arith in
     let count = credits_counted n (N.credit_list y o) all in
     let few = bounded_less (λ w. count_by (λ k. w == k) (N.credit_list y o)) n s.depth v each v_in less in
     let room = net.framed.rooms (links_before s.mesh y o) fed.bound in
     let list = ap (λ (cs : List ℕ). length cs) (credits_there s y o net.framed fed.has) in
     omega arith
 
-give_done : (s : NetState) (x p v y : ℕ) → IsNet s → IsNetPlace s x p v → neighbour_of s.mesh x p ≡ Some y → can_give s x p v ≡ true
+give_done : (s : NetState) (x p v y : ℕ) → {own : ℕ → Bool} → IsWorkableBy own s → IsNetPlace s x p v → neighbour_of s.mesh x p ≡ Some y → can_give s x p v ≡ true
     → Enabled (shape s) (network_of s) (GiveCredit x p v)
     × (network_of (after_giving s x p v (links_before s.mesh y (opposite_of p))) ≡ after (shape s) (network_of s) (GiveCredit x p v))
     × IsFramed (after_giving s x p v (links_before s.mesh y (opposite_of p)))
@@ -111,52 +113,55 @@ give_idle s x p v place can h =
       | inr none ↦ let zero_owed = none.1 in let owing : 0 < (network_of s).owed x p v = h in absurd (omega arith)
     ]
 
-Outcome : NetState → ℕ → ℕ → ℕ → ℕ → Bool → Type 0
-Outcome s x p v k b =
-    IsNet (if b then after_giving s x p v k else s) × Answers s (GiveCredit x p v) (Ok (moved_of b)) (if b then after_giving s x p v k else s)
+Outcome : (ℕ → Bool) → NetState → ℕ → ℕ → ℕ → ℕ → Bool → Type 0
+Outcome own s x p v k b =
+    IsWorkableBy own (if b then after_giving s x p v k else s) × Answers s (GiveCredit x p v) (Ok (moved_of b)) (if b then after_giving s x p v k else s)
 
-give_at : (s : NetState) (x p v y : ℕ) → IsNet s → IsNetPlace s x p v → IsThere (shape s) (GiveCredit x p v) → neighbour_of s.mesh x p ≡ Some y → (b : Bool)
-    → can_give s x p v ≡ b → after_giving s x p v (links_before s.mesh y (opposite_of p)) ≡ done_step s (GiveCredit x p v) → Outcome s x p v (links_before s.mesh y (opposite_of p)) b
+give_at : (s : NetState) (x p v y : ℕ) → {own : ℕ → Bool} → IsWorkableBy own s → IsNetPlace s x p v → IsThere (shape s) (GiveCredit x p v) → neighbour_of s.mesh x p ≡ Some y → (b : Bool)
+    → can_give s x p v ≡ b → after_giving s x p v (links_before s.mesh y (opposite_of p)) ≡ done_step s (GiveCredit x p v) → Outcome own s x p v (links_before s.mesh y (opposite_of p)) b
 unfolding Outcome
 give_at s x p v y net place there e true can same =
     let step = give_done s x p v y net place e can in
     let new = after_giving s x p v (links_before s.mesh y (opposite_of p)) in (
       kept s new.nodes new.links (GiveCredit x p v) net there step.0 step.2 step.1,
-      record { there = there; enabled = step.0; after_it = step.1; config = record { mesh = refl; channels = refl; depth = refl; names = refl }; exact = same },
+      record { there = there; enabled = step.0; after_it = step.1; config = record { mesh = refl; channels = refl; depth = refl; names = refl; own = refl }; exact = same; framed = step.2 },
     )
 give_at s x p v y net place there e false can same = (net, (there, give_idle s x p v place can, refl, refl))
 
-give_by : (s : NetState) (x p v : ℕ) → IsNet s → IsNetPlace s x p v → IsThere (shape s) (GiveCredit x p v) → (n : Option ℕ) → neighbour_of s.mesh x p ≡ n → IsSome n
-    → after_giving s x p v (into_from s.mesh p n) ≡ done_step s (GiveCredit x p v) → Outcome s x p v (into_from s.mesh p n) (can_give s x p v)
+give_by : (s : NetState) (x p v : ℕ) → {own : ℕ → Bool} → IsWorkableBy own s → IsNetPlace s x p v → IsThere (shape s) (GiveCredit x p v) → (n : Option ℕ) → neighbour_of s.mesh x p ≡ n → IsSome n
+    → after_giving s x p v (into_from s.mesh p n) ≡ done_step s (GiveCredit x p v) → Outcome own s x p v (into_from s.mesh p n) (can_give s x p v)
 give_by s x p v net place there None e some same = absurd (cc)
 give_by s x p v net place there (Some y) e some same = give_at s x p v y net place there e (can_give s x p v) refl same
 
-pub give_answers : (s : NetState) (x p v : ℕ) → IsNet s → IsThere (shape s) (GiveCredit x p v) → (done : Bool) → done ≡ can_give s x p v
-    → IsNet (if done then after_giving s x p v (link_into s x p) else s) × Answers s (GiveCredit x p v) (Ok (moved_of done)) (if done then after_giving s x p v (link_into s x p) else s)
+pub give_answers : (s : NetState) (x p v : ℕ) → {own : ℕ → Bool} → IsWorkableBy own s → IsThere (shape s) (GiveCredit x p v) → (done : Bool) → done ≡ can_give s x p v
+    → IsWorkableBy own (if done then after_giving s x p v (link_into s x p) else s) × Answers s (GiveCredit x p v) (Ok (moved_of done)) (if done then after_giving s x p v (link_into s x p) else s)
 unfolding net_shape Outcome
 give_answers s x p v net there done e =
     let place = net_place s x p v net.framed there.0 (inr there.1) there.2 in
     rw e (give_by s x p v net place there (neighbour_of s.mesh x p) refl there.1 refl)
 
-room_by : (s : NetState) (x p v : ℕ) → IsNet s → IsNetPlace s x p v → v < sum s.channels → (n : Option ℕ) → neighbour_of s.mesh x p ≡ n → IsSome n
-    → 0 < (input_at (router_at s x) p v).owed → length (link_at s (into_from s.mesh p n)).credits < (link_at s (into_from s.mesh p n)).room
-room_by s x p v net place v_in None e some = absurd (cc)
-room_by s x p v net place v_in (Some y) e some = credit_room s x p v y net place e v_in
+room_by : (s : NetState) (x p v : ℕ) → {own : ℕ → Bool} → IsWorkableBy own s → EndsWithin (shape s) own x p → IsNetPlace s x p v → v < sum s.channels
+    → (n : Option ℕ) → neighbour_of s.mesh x p ≡ n → IsSome n → 0 < (input_at (router_at s x) p v).owed → length (link_at s (into_from s.mesh p n)).credits < (link_at s (into_from s.mesh p n)).room
+unfolding net_shape
+room_by s x p v net inner place v_in None e some = absurd (cc)
+room_by s x p v net inner place v_in (Some y) e some =
+    let ends = inner y e in
+    credit_room s x p v y net (ends.1, ends.0) place e v_in
 
-pub give_room : (s : NetState) (x p v : ℕ) → IsNet s → IsThere (shape s) (GiveCredit x p v)
+pub give_room : (s : NetState) (x p v : ℕ) → {own : ℕ → Bool} → IsWorkableBy own s → EndsWithin (shape s) own x p → IsThere (shape s) (GiveCredit x p v)
     → 0 < (input_at (router_at s x) p v).owed → length (link_at s (link_into s x p)).credits < (link_at s (link_into s x p)).room
 unfolding net_shape
-give_room s x p v net there =
+give_room s x p v net inner there =
     let place = net_place s x p v net.framed there.0 (inr there.1) there.2 in
-    room_by s x p v net place there.2 (neighbour_of s.mesh x p) refl there.1
+    room_by s x p v net inner place there.2 (neighbour_of s.mesh x p) refl there.1
 
 -- a credit that is owed is given
-pub gave_owed : (s : NetState) (x p v : ℕ) → IsNet s → IsThere (shape s) (GiveCredit x p v) → 0 < (input_at (router_at s x) p v).owed
-    → IsNet (after_giving s x p v (link_into s x p)) × Answers s (GiveCredit x p v) (Ok (moved_of true)) (after_giving s x p v (link_into s x p))
+pub gave_owed : (s : NetState) (x p v : ℕ) → {own : ℕ → Bool} → IsWorkableBy own s → IsThere (shape s) (GiveCredit x p v) → 0 < (input_at (router_at s x) p v).owed
+    → IsWorkableBy own (after_giving s x p v (link_into s x p)) × Answers s (GiveCredit x p v) (Ok (moved_of true)) (after_giving s x p v (link_into s x p))
 gave_owed s x p v net there owed =
     let can : true ≡ can_give s x p v = sym (owing (input_at (router_at s x) p v).owed owed) in
     give_answers s x p v net there true can
 
 -- and where none is owed, none can be
-pub gave_none : (s : NetState) (x p v : ℕ) → IsNet s → IsThere (shape s) (GiveCredit x p v) → can_give s x p v ≡ false → Answers s (GiveCredit x p v) (Ok (moved_of false)) s
+pub gave_none : (s : NetState) (x p v : ℕ) → {own : ℕ → Bool} → IsWorkableBy own s → IsThere (shape s) (GiveCredit x p v) → can_give s x p v ≡ false → Answers s (GiveCredit x p v) (Ok (moved_of false)) s
 gave_none s x p v net there none = (give_answers s x p v net there false (sym none)).1

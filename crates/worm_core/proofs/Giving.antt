@@ -12,10 +12,12 @@ use Rattle.worm_router.specs.Busy.{IsSetOf, owes}
 use Rattle.worm_theory.specs.Steps.{GiveCredit}
 use Rattle.worm_theory.proofs.Places.{same-false}
 use Rattle.worm_core.specs.Shape.{net_shape}
-use Rattle.worm_core.specs.State.{NetState, IsNet, node_at, router_at, with_node}
-use Rattle.worm_core.specs.Answers.{Answers}
+use Rattle.worm_core.specs.State.{NetState, node_at, router_at, with_node}
+use Rattle.worm_core.specs.Workable.{IsWorkable}
+use Rattle.worm_core.specs.RegionAnswers.{Answers}
 use Rattle.worm_core.specs.Moves.{AreOwing, OwesTheSame, can_give}
-use Rattle.worm_core.specs.Turns.{Each, Does, GivesCredit, GivesCredits, lowest_owed, mesh_ports}
+use Rattle.worm_core.specs.RegionTurns.{GivesCredit, GivesCredits}
+use Rattle.worm_core.specs.Turns.{Each, Does, lowest_owed, mesh_ports}
 use Rattle.worm_core.specs.declared.node.Node.{Node}
 use Rattle.worm_core.specs.declared.step.Moved.{Moved}
 use Rattle.worm_core.specs.declared.step.Moved.TheVariants.{Done, Idle}
@@ -35,7 +37,7 @@ unchanged a b x p v same within = record {
 }
 
 -- what is written of one input channel of a router leaves the others
-pub input_elsewhere : (a : NetState) (x q c p v : ℕ) (one : ChannelState) → IsNet a → x < length a.nodes → q ≤ terminal (router_at a x) → c < width (router_at a x) → (p ≡ q → v ≡ c → ⊥) → v < width (router_at a x)
+pub input_elsewhere : (a : NetState) (x q c p v : ℕ) (one : ChannelState) → IsWorkable a → x < length a.nodes → q ≤ terminal (router_at a x) → c < width (router_at a x) → (p ≡ q → v ≡ c → ⊥) → v < width (router_at a x)
     → input_at (with_input (router_at a x) q c one) p v ≡ input_at (router_at a x) p v
 input_elsewhere a x q c p v one net there q_in c_in away v_in =
     let r = router_at a x in
@@ -44,13 +46,13 @@ input_elsewhere a x q c p v one net there q_in c_in away v_in =
     let apart = same-false p v q c away in
     sym (input_of-there (with_input r q c one) p v v_in) ∙ (put ∙ (rw apart (input_of-there r p v v_in)))
 
-gave_elsewhere : (a : NetState) (x q c p v : ℕ) → IsNet a → x < length a.nodes → q ≤ terminal (router_at a x) → c < width (router_at a x) → (p ≡ q → ⊥) → v < width (router_at a x)
+gave_elsewhere : (a : NetState) (x q c p v : ℕ) → IsWorkable a → x < length a.nodes → q ≤ terminal (router_at a x) → c < width (router_at a x) → (p ≡ q → ⊥) → v < width (router_at a x)
     → (input_at (after_gave (router_at a x) q c) p v).owed ≡ (input_at (router_at a x) p v).owed
 gave_elsewhere a x q c p v net there q_in c_in away v_in =
     let one : ChannelState = record (input_at (router_at a x) q c) { owed = (input_at (router_at a x) q c).owed - 1 } in
     ap (λ (s : ChannelState). s.owed) (input_elsewhere a x q c p v one net there q_in c_in (λ e f. away e) v_in)
 
-pub give_elsewhere : (a b : NetState) (x q c : ℕ) (answer : Result Moved StepFault) → IsNet a → Answers a (GiveCredit x q c) answer b → (p v : ℕ) → (p ≡ q → ⊥) → v < width (router_at b x) → OwesTheSame a b x p v
+pub give_elsewhere : (a b : NetState) (x q c : ℕ) (answer : Result Moved StepFault) → IsWorkable a → Answers a (GiveCredit x q c) answer b → (p v : ℕ) → (p ≡ q → ⊥) → v < width (router_at b x) → OwesTheSame a b x p v
 unfolding net_shape
 give_elsewhere a b x q c (Ok Done) net done p v away within =
     let place = net_place a x q c net.framed done.there.0 (inr done.there.1) done.there.2 in
@@ -74,7 +76,7 @@ give_elsewhere a b x q c (Err NoMemory) net none p v away within = unchanged a b
 none_owed : (n : ℕ) → nat_lt 0 n ≡ false → n ≡ 0
 none_owed n none = grind (arith, nat_tests)
 
-pub are_owing : (s : NetState) (x owing : ℕ) → IsNet s → x < node_count s.mesh → IsSetOf owes (router_at s x) owing → AreOwing s x owing
+pub are_owing : (s : NetState) (x owing : ℕ) → IsWorkable s → x < node_count s.mesh → IsSetOf owes (router_at s x) owing → AreOwing s x owing
 are_owing s x owing net x_in set =
     let all = net.framed.all_nodes in
     let node = net.framed.each_node x (omega arith) in
@@ -89,12 +91,12 @@ are_owing s x owing net x_in set =
 pub record Gave (x : ℕ) (a b : NetState) (owing from : ℕ) : Type 0 where
   pub passed : Does (Each (GivesCredit x) (range_with_len 0 from)) a None b
   pub there : x < node_count b.mesh
-  pub sound : IsNet b
+  pub sound : IsWorkable b
   pub few : from ≤ 2 * length b.mesh
   pub rest : (p v : ℕ) → from ≤ p → p < 2 * length b.mesh → v < sum b.channels → has owing p v ≡ can_give b x p v
   pub places : (p v : ℕ) → p < 7 → v < 8 → has owing p v ≡ true → v < sum b.channels
 
-pub gave_start : (x : ℕ) (a : NetState) (owing : ℕ) → x < node_count a.mesh → IsNet a → AreOwing a x owing → Gave x a a owing 0
+pub gave_start : (x : ℕ) (a : NetState) (owing : ℕ) → x < node_count a.mesh → IsWorkable a → AreOwing a x owing → Gave x a a owing 0
 gave_start x a owing there sound owes = record {
   passed = does_nothing a;
   there = there;
@@ -104,13 +106,13 @@ gave_start x a owing there sound owes = record {
   places = owes.places;
 }
 
-wide_as : (x : ℕ) (b : NetState) → IsNet b → x < node_count b.mesh → width (router_at b x) ≡ sum b.channels
+wide_as : (x : ℕ) (b : NetState) → IsWorkable b → x < node_count b.mesh → width (router_at b x) ≡ sum b.channels
 wide_as x b net there =
     let all = net.framed.all_nodes in
     let node = net.framed.each_node x (omega arith) in
     ap (λ (m : List ℕ). sum m) node.same_channels
 
-port_still : (x p : ℕ) (b : NetState) → IsNet b → x < node_count b.mesh → ((v : ℕ) → v < sum b.channels → can_give b x p v ≡ false) → GivesCredit x p b None b
+port_still : (x p : ℕ) (b : NetState) → IsWorkable b → x < node_count b.mesh → ((v : ℕ) → v < sum b.channels → can_give b x p v ≡ false) → GivesCredit x p b None b
 port_still x p b net there none =
     let wide = wide_as x b net there in
     (gives_none x p b (owed_lowest (router_at b x) p None tt tt (λ v v_in. none_owed (input_at (router_at b x) p v).owed (none v (omega arith))))).exact
@@ -152,7 +154,7 @@ gave_same x a b owing new from q c gave first below =
     }
 
 pub gave_more : (x : ℕ) (a b b_new : NetState) (owing new from q c : ℕ) → Gave x a b owing from → IsFirst owing new q c → from ≤ q → q < 2 * length b.mesh → (Some c ≡ lowest_owed (router_at b x) q → Does (GivesCredit x q) b None b_new)
-    → ((p v : ℕ) → (p ≡ q → ⊥) → v < width (router_at b_new x) → OwesTheSame b b_new x p v) → IsNet b_new → Gave x a b_new new (q + 1)
+    → ((p v : ℕ) → (p ≡ q → ⊥) → v < width (router_at b_new x) → OwesTheSame b b_new x p v) → IsWorkable b_new → Gave x a b_new new (q + 1)
 gave_more x a b b_new owing new from q c gave first to_give q_in given same net_new =
     let net = gave.sound in
     let few = net.framed.classes.total in

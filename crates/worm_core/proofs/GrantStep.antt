@@ -1,54 +1,35 @@
 -- The step Grant.
-use Rattle.std.proofs.Common.{◌≡◌, ℕ, ◌+◌, ◌*◌, ◌<◌, ◌≤◌, Bool, true, false, ◌&&◌, if◌then◌else◌, List, [], ◌∷◌, length, sum, Ok, Option, Some, None, is_some, refl, arith, ap, sym, subst, ◌∙◌}
-use Rattle.std.specs.Prelude.{is_none, IsSomeAnd}
+use Rattle.std.proofs.Common.{◌≡◌, ℕ, ◌*◌, ◌<◌, ◌≤◌, Bool, true, false, ◌&&◌, if◌then◌else◌, List, [], ◌∷◌, length, sum, Ok, Option, Some, None, is_some, refl, arith, ap, sym, subst, ◌∙◌}
+use Rattle.std.specs.Prelude.{is_none}
 use Rattle.std.proofs.Math.ListN.{length-set}
 use Rattle.std.proofs.lemmas.List.{set-get_or}
 use Rattle.worm_flit.specs.declared.Flit.{Flit}
 use Rattle.worm_flit.specs.Channels.{owns}
-use Rattle.worm_mesh.specs.Address.{address_of}
-use Rattle.worm_mesh.proofs.Digits.{length-address_of}
 use Rattle.worm_records.specs.declared.InRecord.{InRecord}
 use Rattle.worm_records.specs.declared.InRecord.TheVariants.{Idle, Waiting, Active}
 use Rattle.worm_records.specs.declared.OutRecord.{OutRecord}
-use Rattle.worm_route.specs.Route.{port_of, port_from}
 use Rattle.worm_router.specs.Router.{ChannelState, RouterState, IsPlace, width, terminal, input_at, output_at, with_input, in_state, granting, can_grant, after_granting, after_grant}
 use Rattle.worm_theory.specs.Shape.{Owns}
 use Rattle.worm_theory.specs.Network.{put3}
-use Rattle.worm_theory.specs.Worm.{Worm, Between, worm_after, lane_at}
 use Rattle.worm_theory.specs.Steps.{Grant, IsThere, Enabled, FrontIs, IsWaitingAt, after, granted}
-use Rattle.worm_theory.specs.Sound.{Agrees}
 use Rattle.worm_core.specs.Shape.{net_shape}
 use Rattle.worm_core.specs.declared.node.Node.{Node}
-use Rattle.worm_core.specs.State.{NetState, IsNet, IsFramed, IsNetPlace, shape, network_of, router_at, with_router, fresh_node}
-use Rattle.worm_core.specs.Answers.{Answers, moved_of}
+use Rattle.worm_core.specs.State.{NetState, IsFramed, IsNetPlace, shape, network_of, router_at, with_router, fresh_node}
+use Rattle.worm_core.specs.Workable.{IsWorkableBy, LeadsOn}
+use Rattle.worm_core.specs.RegionAnswers.{Answers}
+use Rattle.worm_core.specs.Answers.{moved_of}
 use Rattle.worm_core.proofs.Bridge.{put3_same, router_bridge, input_of-there, input_of-put, output_of-there, output_of-put}
 use Rattle.worm_flit.proofs.Owners.{owner-from_owns, owns-from_owner}
-use Rattle.worm_core.proofs.Kept.{kept, router_framed, net_place}
+use Rattle.worm_core.proofs.Kept.{kept, router_framed, net_place, port_below}
 use Rattle.worm_core.proofs.There.{buffer_there, record_there, holder_there}
 
-port_from-le : (port : ℕ) (s t : List ℕ) → length s ≡ length t → port_from port s t ≤ port + 2 * length s
-port_from-le port [] t e = omega arith
-port_from-le port (a ∷ s) [] e = omega arith
-port_from-le port (a ∷ s) (b ∷ t) e =
-    let rest = port_from-le (port + 2) s t (omega arith) in
-    grind arith
-
-pub port_of-le : (ks : List ℕ) (x d : ℕ) → port_of ks x d ≤ 2 * length ks
-port_of-le ks x d =
-    let le = port_from-le 0 (address_of ks x) (address_of ks d) (length-address_of ks x ∙ sym (length-address_of ks d)) in
-    omega (arith, length-address_of ks x)
-
--- what waits in a sound network waits for a port that is there
-waits_for : (s : NetState) (x p v o : ℕ) (f : Flit) (rest : List Flit) → IsNet s → (network_of s).in_record x p v ≡ Waiting o → (network_of s).buffer x p v ≡ f ∷ rest → o ≤ 2 * length s.mesh
+-- what waits, waits for a port that is there
+waits_for : (s : NetState) (x p v o : ℕ) → {own : ℕ → Bool} → IsWorkableBy own s → x < length s.nodes → (network_of s).in_record x p v ≡ Waiting o → o ≤ 2 * length s.mesh
 unfolding net_shape
-waits_for s x p v o f rest net e b =
-    let agrees : Agrees (shape s) x (Waiting o) (worm_after ((network_of s).last_out x p v)) (f ∷ rest) =
-    subst (λ (r : InRecord). Agrees (shape s) x r (worm_after ((network_of s).last_out x p v)) (f ∷ rest)) e
-    (subst (λ (fs : List Flit). Agrees (shape s) x ((network_of s).in_record x p v) (worm_after ((network_of s).last_out x p v)) fs) b (net.sound.records x p v)) in
-    let front : IsSomeAnd (lane_at Between (f ∷ rest)) (λ lane. port_of s.mesh x lane.dst ≡ o) =
-    subst (λ (w : Worm). IsSomeAnd (lane_at w (f ∷ rest)) (λ lane. port_of s.mesh x lane.dst ≡ o)) agrees.0 agrees.1 in
-    let is : port_of s.mesh x f.lane.dst ≡ o = front in
-    rw (← is) (port_of-le s.mesh x f.lane.dst)
+waits_for s x p v o net x_in e =
+    let all = net.framed.all_nodes in
+    let leads : LeadsOn (shape s) (network_of s) x p v (Waiting o) = subst (λ (r : InRecord). LeadsOn (shape s) (network_of s) x p v r) e (net.works.records x p v (omega arith)) in
+    port_below s x o net.framed leads
 
 -- the record of an input channel and the holder of an output channel are changed
 grant_bridge : (s : NetState) (x p v o k : ℕ) → IsFramed s → IsNetPlace s x p v → o ≤ terminal (router_at s x) → k < width (router_at s x)
@@ -90,7 +71,7 @@ chosen : (t : Bool) (q o : ℕ) → (if t then Some q else None) ≡ Some o → 
 chosen true q o e = (refl, cc)
 chosen false q o e = let no : ◌≡◌ {A = Option ℕ} None (Some o) = e in absurd (cc)
 
-grant_front : (s : NetState) (x p v k q : ℕ) (g : Flit) (rest : List Flit) → IsNet s → IsNetPlace s x p v → k < sum s.channels
+grant_front : (s : NetState) (x p v k q : ℕ) (g : Flit) (rest : List Flit) → {own : ℕ → Bool} → IsWorkableBy own s → IsNetPlace s x p v → k < sum s.channels
     → (input_at (router_at s x) p v).state ≡ Waiting q → (input_at (router_at s x) p v).buffer ≡ g ∷ rest
     → (is_none (output_at (router_at s x) q k).holder && owns (router_at s x).channels g.lane.class k) ≡ true
     → Enabled (shape s) (network_of s) (Grant x p v k) × (network_of (with_router s x (after_granting (router_at s x) p v k (Some q))) ≡ after (shape s) (network_of s) (Grant x p v k))
@@ -99,7 +80,7 @@ grant_front s x p v k q g rest net place k_in e f test =
     let node = net.framed.each_node x place.node_in in
     let record_is = record_there s x p v place ∙ e in
     let buffer_is = buffer_there s x p v place ∙ f in
-    let q_in : q ≤ 2 * length (router_at s x).mesh = rw node.same_mesh (waits_for s x p v q g rest net record_is buffer_is) in
+    let q_in : q ≤ 2 * length (router_at s x).mesh = rw node.same_mesh (waits_for s x p v q net place.node_in record_is) in
     let k_within : k < width (router_at s x) = rw node.same_channels k_in in
     let both = both_parts (is_none (output_at (router_at s x) q k).holder) (owns (router_at s x).channels g.lane.class k) test in
     let free : (network_of s).holder x q k ≡ None = holder_there s x q k k_within ∙ none_is (output_at (router_at s x) q k).holder both.0 in
@@ -111,7 +92,7 @@ grant_front s x p v k q g rest net place k_in e f test =
     subst (λ (r : InRecord). IsWaitingAt r (λ o. ((network_of s).holder x o k ≡ None) × FrontIs ((network_of s).buffer x p v) (λ h. Owns (shape s) h.lane.class k))) (sym record_is) (free, front) in
     (enabled, grant_bridge s x p v q k net.framed place q_in k_within ∙ ap (λ (r : InRecord). granted (network_of s) x p v k r) (sym record_is))
 
-grant_done : (s : NetState) (x p v k o : ℕ) → IsNet s → IsNetPlace s x p v → k < sum s.channels → (st : InRecord) (fs : List Flit)
+grant_done : (s : NetState) (x p v k o : ℕ) → {own : ℕ → Bool} → IsWorkableBy own s → IsNetPlace s x p v → k < sum s.channels → (st : InRecord) (fs : List Flit)
     → (input_at (router_at s x) p v).state ≡ st → (input_at (router_at s x) p v).buffer ≡ fs → granting (router_at s x) st fs k ≡ Some o
     → Enabled (shape s) (network_of s) (Grant x p v k) × (network_of (with_router s x (after_granting (router_at s x) p v k (Some o))) ≡ after (shape s) (network_of s) (Grant x p v k))
 grant_done s x p v k o net place k_in Idle fs e f can = let no : ◌≡◌ {A = Option ℕ} None (Some o) = can in absurd (cc)
@@ -155,8 +136,8 @@ with_router_same s x there =
     ap (λ (nodes : List Node). record s { nodes = nodes }) (set-get_or s.nodes x (fresh_node s.mesh s.channels s.depth x))
 
 -- what Net::grant leaves and answers
-grant_answers_by : (s : NetState) (x p v k : ℕ) → IsNet s → IsThere (shape s) (Grant x p v k) → (o : Option ℕ) → can_grant (router_at s x) p v k ≡ o
-    → IsNet (with_router s x (after_granting (router_at s x) p v k o)) × Answers s (Grant x p v k) (Ok (moved_of (is_some o))) (with_router s x (after_granting (router_at s x) p v k o))
+grant_answers_by : (s : NetState) (x p v k : ℕ) → {own : ℕ → Bool} → IsWorkableBy own s → IsThere (shape s) (Grant x p v k) → (o : Option ℕ) → can_grant (router_at s x) p v k ≡ o
+    → IsWorkableBy own (with_router s x (after_granting (router_at s x) p v k o)) × Answers s (Grant x p v k) (Ok (moved_of (is_some o))) (with_router s x (after_granting (router_at s x) p v k o))
 unfolding net_shape
 grant_answers_by s x p v k net there (Some o) e =
     let place = net_place s x p v net.framed there.0 there.1 there.2 in
@@ -165,14 +146,14 @@ grant_answers_by s x p v k net there (Some o) e =
     let r = after_granting (router_at s x) p v k (Some o) in
     let framed = router_framed s x r.inputs r.outputs net.framed place.node_in (rw length-set refl) (rw length-set refl) in (
       kept s (with_router s x r).nodes s.links (Grant x p v k) net there step.0 framed step.1,
-      record { there = there; enabled = step.0; after_it = step.1; config = record { mesh = refl; channels = refl; depth = refl; names = refl }; exact = ap (λ (g : Option ℕ). with_router s x (after_granting (router_at s x) p v k g)) (sym e) },
+      record { there = there; enabled = step.0; after_it = step.1; config = record { mesh = refl; channels = refl; depth = refl; names = refl; own = refl }; exact = ap (λ (g : Option ℕ). with_router s x (after_granting (router_at s x) p v k g)) (sym e); framed = framed },
     )
-grant_answers_by s x p v k net there None e =
+grant_answers_by s x p v k {own} net there None e =
     let place = net_place s x p v net.framed there.0 there.1 there.2 in
     let c = input_at (router_at s x) p v in
     let same = with_router_same s x place.node_in in
-    (subst IsNet (sym same) net, (there, grant_idle s x p v k net.framed place there.3 c.state c.buffer refl refl e, refl, same))
+    (subst (IsWorkableBy own) (sym same) net, (there, grant_idle s x p v k net.framed place there.3 c.state c.buffer refl refl e, refl, same))
 
-pub grant_answers : (s : NetState) (x p v k : ℕ) → IsNet s → IsThere (shape s) (Grant x p v k)
-    → IsNet (with_router s x (after_grant (router_at s x) p v k)) × Answers s (Grant x p v k) (Ok (moved_of (is_some (can_grant (router_at s x) p v k)))) (with_router s x (after_grant (router_at s x) p v k))
+pub grant_answers : (s : NetState) (x p v k : ℕ) → {own : ℕ → Bool} → IsWorkableBy own s → IsThere (shape s) (Grant x p v k)
+    → IsWorkableBy own (with_router s x (after_grant (router_at s x) p v k)) × Answers s (Grant x p v k) (Ok (moved_of (is_some (can_grant (router_at s x) p v k)))) (with_router s x (after_grant (router_at s x) p v k))
 grant_answers s x p v k net there = grant_answers_by s x p v k net there (can_grant (router_at s x) p v k) refl

@@ -1,5 +1,5 @@
 -- What a step leaves of a network: its frame, and with the theory its soundness.
-use Rattle.std.proofs.Common.{◌≡◌, ℕ, ◌*◌, ◌<◌, ◌≤◌, inl, inr, List, length, refl, arith, sym, subst, ◌∙◌}
+use Rattle.std.proofs.Common.{◌≡◌, ℕ, ◌*◌, ◌<◌, ◌≤◌, inl, inr, List, length, refl, arith, sym, subst, ◌∙◌, Bool}
 use Rattle.std.specs.Prelude.{IsSome, Option, Some, None}
 use Rattle.std.proofs.Math.ListN.{length-set}
 use Rattle.worm_mesh.specs.Address.{neighbour_of}
@@ -10,19 +10,13 @@ use Rattle.worm_router.specs.Router.{ChannelState}
 use Rattle.worm_theory.specs.Shape.{IsMesh}
 use Rattle.worm_theory.specs.Network.{Network}
 use Rattle.worm_theory.specs.Steps.{Step, IsThere, IsPort, Enabled, after}
-use Rattle.worm_theory.specs.Sound.{Sound, OthersIdle, OnesClosed}
-use Rattle.worm_theory.specs.PacketCut.{PacketsHold}
-use Rattle.worm_theory.specs.Cut.{LanesCut}
 use Rattle.worm_theory.proofs.Places.{number_cases}
-use Rattle.worm_theory.proofs.Keeps.{step_sound}
-use Rattle.worm_theory.proofs.CutKeeps.{step_cut}
-use Rattle.worm_theory.proofs.PacketKeeps.{step_packets}
-use Rattle.worm_theory.proofs.Others.{step_others}
-use Rattle.worm_theory.proofs.Closed.{step_closed}
 use Rattle.worm_core.specs.Shape.{net_shape}
 use Rattle.worm_core.specs.declared.node.Node.{Node}
-use Rattle.worm_core.specs.State.{NetState, LinkView, IsNet, IsFramed, IsNodeOf, IsNetPlace, shape, network_of, node_at, router_at, with_node, with_router}
+use Rattle.worm_core.specs.State.{NetState, LinkView, IsFramed, IsNodeOf, IsNetPlace, shape, network_of, node_at, router_at, with_node, with_router}
+use Rattle.worm_core.specs.Workable.{IsWorkableBy, Works}
 use Rattle.worm_core.proofs.Bridge.{node_at-put}
+use Rattle.worm_core.proofs.Working.{step_works}
 use Rattle.worm_shape.proofs.Shapes.{shape_is_mesh}
 use Rattle.worm_mesh.proofs.Neighbours.{Joins-from}
 
@@ -31,27 +25,21 @@ pub framed_mesh : (s : NetState) → IsFramed s → IsMesh (shape s)
 unfolding net_shape
 framed_mesh s framed = shape_is_mesh s.mesh s.channels s.depth framed.radices framed.classes
 
--- a network whose lists stand for what the theory makes of a sound one is sound
-pub kept : (s : NetState) (nodes : List Node) (links : List LinkView) (step : Step) → IsNet s → IsThere (shape s) step → Enabled (shape s) (network_of s) step
+-- a network whose lists stand for what the theory makes of one that moves can be made in is such a one
+pub kept : (s : NetState) (nodes : List Node) (links : List LinkView) (step : Step) → {own : ℕ → Bool} → IsWorkableBy own s → IsThere (shape s) step → Enabled (shape s) (network_of s) step
     → IsFramed (record s { nodes = nodes; links = links })
     → network_of (record s { nodes = nodes; links = links }) ≡ after (shape s) (network_of s) step
-    → IsNet (record s { nodes = nodes; links = links })
-kept s nodes links step net there enabled framed e =
+    → IsWorkableBy own (record s { nodes = nodes; links = links })
+kept s nodes links step {own} net there enabled framed e =
     let mesh = framed_mesh s net.framed in
-    record {
-      framed = framed;
-      sound = subst (λ (n : Network). Sound (shape s) n) (sym e) (step_sound (shape s) mesh (network_of s) step there enabled net.sound);
-      cut = subst (λ (n : Network). LanesCut (shape s) n) (sym e) (step_cut (shape s) mesh (network_of s) step there net.sound net.cut);
-      packets = subst (λ (n : Network). PacketsHold (shape s) n) (sym e) (step_packets (shape s) mesh (network_of s) net.sound net.packets step there);
-      others = subst (λ (n : Network). OthersIdle (shape s) n) (sym e) (step_others (shape s) mesh (network_of s) net.others step there);
-      closed = subst (λ (n : Network). OnesClosed (shape s) n) (sym e) (step_closed (shape s) (network_of s) step enabled net.closed);
-    }
+    record { framed = framed; works = subst (λ (n : Network). Works (shape s) own n) (sym e) (step_works (shape s) mesh (network_of s) step there enabled net.works) }
 
 -- a node's place in the frame, after a write
 pub node_framed : (s : NetState) (x : ℕ) (n : Node) → IsFramed s → x < length s.nodes → IsNodeOf s.mesh s.channels s.depth x n → IsFramed (with_node s x n)
 node_framed s x n framed there new = record {
   radices = framed.radices;
   classes = framed.classes;
+  least_depth = framed.least_depth;
   all_nodes = rw length-set framed.all_nodes;
   all_links = framed.all_links;
   each_node = λ y within. elim (number_cases y x) [
@@ -98,6 +86,16 @@ pub linked_port : (ks : List ℕ) (x p : ℕ) → AreLarge ks → (o : Option �
 linked_port ks x p l None e some = absurd (cc)
 linked_port ks x p l (Some y) e some = (Joins-from ks x p y l e).mesh_port
 
+-- a port of the theory is one of the router
+pub port_below : (s : NetState) (x p : ℕ) → IsFramed s → IsPort (shape s) x p → p ≤ 2 * length s.mesh
+unfolding net_shape
+port_below s x p framed port =
+    let l = AreLarge-from_radices s.mesh framed.radices.radices in
+    elim port [
+      | inl e ↦ let same : p ≡ 2 * length s.mesh = e in omega arith
+      | inr some ↦ let below : p < 2 * length s.mesh = linked_port s.mesh x p l (neighbour_of s.mesh x p) refl some in omega arith
+    ]
+
 -- a place of the theory is a place of the router
 pub net_place : (s : NetState) (x p v : ℕ) → IsFramed s → x < (shape s).nodes → IsPort (shape s) x p → v < (shape s).channels → IsNetPlace s x p v
 unfolding net_shape
@@ -105,9 +103,5 @@ net_place s x p v framed x_in port v_in =
     let all = framed.all_nodes in
     let there : x < length s.nodes = omega arith in
     let node = framed.each_node x there in
-    let l = AreLarge-from_radices s.mesh framed.radices.radices in
-    let port_in : p ≤ 2 * length s.mesh = elim port [
-      | inl e ↦ let same : p ≡ 2 * length s.mesh = e in omega arith
-      | inr some ↦ let below : p < 2 * length s.mesh = linked_port s.mesh x p l (neighbour_of s.mesh x p) refl some in omega arith
-    ] in
+    let port_in : p ≤ 2 * length s.mesh = port_below s x p framed port in
     record { node_in = there; place = record { port_in = rw node.same_mesh port_in; channel_in = rw node.same_channels v_in } }

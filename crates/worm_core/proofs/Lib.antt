@@ -1,6 +1,9 @@
 pub mod Bridge
 pub mod LinkBridge
+pub mod OwnCredits
+pub mod Working
 pub mod Kept
+pub mod Owning
 pub mod Ends
 pub mod There
 pub mod RouteStep
@@ -13,6 +16,8 @@ pub mod Sources
 pub mod FeedStep
 pub mod SendBridge
 pub mod SendStep
+pub mod OwnEdges
+pub mod EdgeMoves
 pub mod Sending
 pub mod OfferStep
 pub mod RunSteps
@@ -33,8 +38,10 @@ pub mod Resting
 pub mod KeptStill
 pub mod CountsUnderWay
 pub mod TotalsUnderWay
-pub mod Determined
 pub mod Allocating
+pub mod NetWays
+pub mod Lifting
+pub mod Determined
 pub mod ViewLists
 pub mod LanePlaces
 pub mod ReadPlaces

@@ -95,6 +95,7 @@ pub link_framed : (s : NetState) (k : ℕ) (l : LinkView) → IsFramed s → k <
 link_framed s k l framed there same_room = record {
   radices = framed.radices;
   classes = framed.classes;
+  least_depth = framed.least_depth;
   all_nodes = framed.all_nodes;
   all_links = rw length-set framed.all_links;
   each_node = framed.each_node;

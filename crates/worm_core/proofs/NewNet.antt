@@ -22,7 +22,9 @@ use Rattle.worm_theory.proofs.PacketKeeps.{empty_packets}
 use Rattle.worm_theory.proofs.Others.{empty_others}
 use Rattle.worm_theory.proofs.Closed.{empty_closed}
 use Rattle.worm_core.specs.Shape.{net_shape}
+use Rattle.worm_core.specs.Owned.{sole}
 use Rattle.worm_core.specs.declared.node.Node.{Node}
+use Rattle.worm_core.specs.declared.own.Own.{Own}
 use Rattle.worm_core.specs.State.{NetState, LinkView, IsNet, IsFramed, IsNodeOf, shape, network_of, node_at, router_at, link_at, link_of, fresh_node, blank_link, input_of, output_of, queue_of}
 use Rattle.worm_core.specs.NewNet.{IsFresh, AreFresh, empty_link}
 use Rattle.worm_core.proofs.Kept.{framed_mesh}
@@ -63,9 +65,10 @@ pushed {A} f (x ∷ xs) all (suc i) = pushed (λ (j : ℕ). f (suc j)) xs (λ j.
 pub fresh_push : (mesh channels : List ℕ) (depth : ℕ) (nodes : List Node) → AreFresh mesh channels depth nodes → AreFresh mesh channels depth (nodes ++ fresh_node mesh channels depth (length nodes) ∷ [])
 fresh_push mesh channels depth nodes all = pushed (fresh_node mesh channels depth) nodes all
 
-module _ (mesh channels : List ℕ) (depth : ℕ) (names : List (List ℕ)) (nodes : List Node) (links : List LinkView) (all : AreFresh mesh channels depth nodes) (no_links : links ≡ replicate (link_count mesh) (empty_link (sum channels * depth))) where
+module _ (mesh channels : List ℕ) (depth : ℕ) (names : List (List ℕ)) (nodes : List Node) (links : List LinkView) (own : Own)
+    (all : AreFresh mesh channels depth nodes) (no_links : links ≡ replicate (link_count mesh) (empty_link (sum channels * depth))) where
   abbrev s : NetState
-  s = record { mesh = mesh; channels = channels; depth = depth; names = names; nodes = nodes; links = links }
+  s = record { mesh = mesh; channels = channels; depth = depth; names = names; nodes = nodes; links = links; own = own }
 
   ins : (x p v : ℕ) → input_of (router_at s x) p v ≡ fresh_channel depth
   ins x p v = ap (λ (n : Node). input_of n.router p v) (all x) ∙ input_fresh mesh x channels depth p v
@@ -106,7 +109,7 @@ module _ (mesh channels : List ℕ) (depth : ℕ) (names : List (List ℕ)) (nod
     unfed = λ x k. ap (λ (q : QueueState). drop q.fed q.injected) (queues x k);
   }
 
-  module _ (radices : IsRadices mesh) (classes : AreChannels channels) (all_nodes : length nodes ≡ node_count mesh) where
+  module _ (radices : IsRadices mesh) (classes : AreChannels channels) (least_depth : 1 ≤ depth) (all_owned : own ≡ sole) (all_nodes : length nodes ≡ node_count mesh) where
     fresh_is : (x : ℕ) → x < node_count mesh → IsNodeOf mesh channels depth x (fresh_node mesh channels depth x)
     fresh_is x x_in = record {
       same_mesh = refl;
@@ -132,6 +135,7 @@ module _ (mesh channels : List ℕ) (depth : ℕ) (names : List (List ℕ)) (nod
     framed = record {
       radices = radices;
       classes = classes;
+      least_depth = least_depth;
       all_nodes = all_nodes;
       all_links = rw no_links (length-replicate (link_count mesh) (empty_link (sum channels * depth)));
       each_node = λ x within. subst (λ (n : Node). IsNodeOf mesh channels depth x n) (sym (all x)) (fresh_is x (omega arith));
@@ -146,6 +150,7 @@ module _ (mesh channels : List ℕ) (depth : ℕ) (names : List (List ℕ)) (nod
         let back = sym stands_for in
         record {
           framed = framed;
+          all_owned = all_owned;
           sound = subst (λ (n : Network). Sound (shape s) n) back (empty_sound (shape s));
           cut = subst (λ (n : Network). LanesCut (shape s) n) back (empty_cut (shape s) shaped);
           packets = subst (λ (n : Network). PacketsHold (shape s) n) back (empty_packets (shape s) shaped);
@@ -162,11 +167,13 @@ module _ (mesh channels : List ℕ) (depth : ℕ) (names : List (List ℕ)) (t :
   links_of = fresh.links ∙ (λ i. replicate (link_count (sym fresh.same_mesh i)) (empty_link (sum (sym fresh.same_channels i) * sym fresh.same_depth i)))
 
   pub fresh_stands : network_of t ≡ empty (shape t)
-  fresh_stands = stands_for t.mesh t.channels t.depth t.names t.nodes t.links nodes_of links_of
+  fresh_stands = stands_for t.mesh t.channels t.depth t.names t.nodes t.links t.own nodes_of links_of
 
-  pub fresh_holds : IsRadices mesh → AreChannels channels → IsNet t
-  fresh_holds radices classes =
+  pub fresh_holds : IsRadices mesh → AreChannels channels → 1 ≤ depth → IsNet t
+  fresh_holds radices classes some =
       let own_radices : IsRadices t.mesh = rw fresh.same_mesh radices in
       let own_classes : AreChannels t.channels = rw fresh.same_channels classes in
+      let own_depth : 1 ≤ t.depth = rw fresh.same_depth some in
       let count : length t.nodes ≡ node_count t.mesh = rw fresh.same_mesh fresh.all_nodes in
-      fresh_net t.mesh t.channels t.depth t.names t.nodes t.links nodes_of links_of own_radices own_classes count
+      fresh_net t.mesh t.channels t.depth t.names t.nodes t.links t.own nodes_of links_of
+      own_radices own_classes own_depth fresh.all_owned count

@@ -24,9 +24,11 @@ use Rattle.worm_core.specs.declared.step.Moved.{Moved}
 use Rattle.worm_core.specs.declared.step.Moved.TheVariants.{Done}
 use Rattle.worm_core.specs.declared.fault.StepFault.{StepFault}
 use Rattle.worm_core.specs.declared.fault.StepFault.TheVariants.{Refused}
-use Rattle.worm_core.specs.State.{NetState, IsNet, IsFramed, IsNodeOf, IsSameConfig, shape, network_of, node_at, router_at, source_at, queue_of, with_source, input_of, output_of}
+use Rattle.worm_core.specs.State.{NetState, IsFramed, IsNodeOf, IsSameConfig, shape, network_of, node_at, router_at, source_at, queue_of, with_source, input_of, output_of}
+use Rattle.worm_core.specs.Workable.{IsWorkableBy}
 use Rattle.worm_core.specs.Moves.{done_step}
-use Rattle.worm_core.specs.Answers.{Answers, accepted_of, refusal_of, Grows}
+use Rattle.worm_core.specs.RegionAnswers.{Answers}
+use Rattle.worm_core.specs.Answers.{accepted_of, refusal_of, Grows}
 use Rattle.worm_core.proofs.Bridge.{put2_same, put3_same, node_bridge, itself3, below_cases}
 use Rattle.worm_core.proofs.Kept.{kept, node_framed}
 use Rattle.worm_core.proofs.Sources.{counted_packets, queue_grown, within_grown, none_refused, refuses_none, refusal_named}
@@ -115,7 +117,7 @@ module _ (s : NetState) (x : ℕ) (lane : Lane) (fs : List Flit) (is_last : Bool
       ∙ same
 
 -- what the source's counters say
-module _ (s : NetState) (x : ℕ) (lane : Lane) (net : IsNet s) (x_in : x < length s.nodes) where
+module _ (s : NetState) (x : ℕ) (lane : Lane) {mine : ℕ → Bool} (net : IsWorkableBy mine s) (x_in : x < length s.nodes) where
   abbrev t : SourceState
   t = source_at s x
 
@@ -212,40 +214,40 @@ refused_is LaneFull other = refl
 refused_is NoRoom other = absurd (other refl)
 
 -- what a source's answer says of the step
-record Judges (s : NetState) (x : ℕ) (lane : Lane) (is_last : Bool) (step : Step) (after_it : NetState) : Type 0 where
+record Judges (own : ℕ → Bool) (s : NetState) (x : ℕ) (lane : Lane) (is_last : Bool) (step : Step) (after_it : NetState) : Type 0 where
   refuses : refusal_of s step ≡ refusal (source_at s x) lane is_last
   enables : refusal (source_at s x) lane is_last ≡ None → Enabled (shape s) (network_of s) step
   enabled : Enabled (shape s) (network_of s) step → refusal (source_at s x) lane is_last ≡ None
   grows : Grows (shape s) (network_of s) step
   exact : after_it ≡ done_step s step
-  made : refusal (source_at s x) lane is_last ≡ None → IsNet after_it × (network_of after_it ≡ after (shape s) (network_of s) step) × IsSameConfig s after_it
+  made : refusal (source_at s x) lane is_last ≡ None → IsWorkableBy own after_it × (network_of after_it ≡ after (shape s) (network_of s) step) × IsSameConfig s after_it
 
-Outcome : NetState → Step → Result Moved StepFault → NetState → Type 0
-Outcome s step answer new = IsNet new × Answers s step answer new
+Outcome : (ℕ → Bool) → NetState → Step → Result Moved StepFault → NetState → Type 0
+Outcome own s step answer new = IsWorkableBy own new × Answers s step answer new
 
-err_answers : (s : NetState) (x : ℕ) (lane : Lane) (is_last : Bool) (step : Step) (after_it : NetState) → IsNet s → IsThere (shape s) step → Judges s x lane is_last step after_it
-    → (r : Option OfferFault) → refusal (source_at s x) lane is_last ≡ r → Outcome s step (accepted_of (Err (unwrap_or r NoRoom))) s
+err_answers : (s : NetState) (x : ℕ) (lane : Lane) (is_last : Bool) (step : Step) (after_it : NetState) → {own : ℕ → Bool} → IsWorkableBy own s → IsThere (shape s) step → Judges own s x lane is_last step after_it
+    → (r : Option OfferFault) → refusal (source_at s x) lane is_last ≡ r → Outcome own s step (accepted_of (Err (unwrap_or r NoRoom))) s
 unfolding Outcome
 err_answers s x lane is_last step after_it net there judges None e = (net, (there, judges.enables e, judges.grows, refl))
-err_answers s x lane is_last step after_it net there judges (Some fault) e =
+err_answers s x lane is_last step after_it {own} net there judges (Some fault) e =
     let named : fault ≡ NoRoom → ⊥ = λ same. refusal_named (source_at s x) lane is_last (e ∙ ap (λ (g : OfferFault). Some g) same) in
     let idle : Enabled (shape s) (network_of s) step → ⊥ = λ enabled. let none = judges.enabled enabled in let some : ◌≡◌ {A = Option OfferFault} (Some fault) None = sym e ∙ none in absurd (cc) in
-    subst (λ (answer : Result Moved StepFault). IsNet s × Answers s step answer s) (sym (refused_is fault named)) (net, (there, idle, judges.refuses ∙ e, refl))
+    subst (λ (answer : Result Moved StepFault). IsWorkableBy own s × Answers s step answer s) (sym (refused_is fault named)) (net, (there, idle, judges.refuses ∙ e, refl))
 
-answers : (s : NetState) (x : ℕ) (lane : Lane) (is_last : Bool) (step : Step) (after_it : NetState) → IsNet s → IsThere (shape s) step → Judges s x lane is_last step after_it
+answers : (s : NetState) (x : ℕ) (lane : Lane) (is_last : Bool) (step : Step) (after_it : NetState) → {own : ℕ → Bool} → IsWorkableBy own s → IsThere (shape s) step → Judges own s x lane is_last step after_it
     → (answer : Result ℕ OfferFault) (new : NetState)
     → OnOk answer ((refusal (source_at s x) lane is_last ≡ None) × (new ≡ after_it)) → IfErr answer (λ e. e ≡ unwrap_or (refusal (source_at s x) lane is_last) NoRoom) → OnErr answer (new ≡ s)
-    → Outcome s step (accepted_of answer) new
+    → Outcome own s step (accepted_of answer) new
 unfolding Outcome
-answers s x lane is_last step after_it net there judges (Ok number) new ok fault err =
+answers s x lane is_last step after_it {own} net there judges (Ok number) new ok fault err =
     let made = judges.made ok.0 in
-    subst (λ (n : NetState). IsNet n × Answers s step (Ok Done) n) (sym ok.1) (made.0, record { there = there; enabled = judges.enables ok.0; after_it = made.1; config = made.2; exact = judges.exact })
-answers s x lane is_last step after_it net there judges (Err e) new ok fault err =
-    let at : IsNet s × Answers s step (accepted_of (Err (unwrap_or (refusal (source_at s x) lane is_last) NoRoom))) s = err_answers s x lane is_last step after_it net there judges (refusal (source_at s x) lane is_last) refl in
-    subst (λ (n : NetState). IsNet n × Answers s step (accepted_of (Err e)) n) (sym err)
-    (subst (λ (g : OfferFault). IsNet s × Answers s step (accepted_of (Err g)) s) (sym fault) at)
+    subst (λ (n : NetState). IsWorkableBy own n × Answers s step (Ok Done) n) (sym ok.1) (made.0, record { there = there; enabled = judges.enables ok.0; after_it = made.1; config = made.2; exact = judges.exact; framed = made.0.framed })
+answers s x lane is_last step after_it {own} net there judges (Err e) new ok fault err =
+    let at : IsWorkableBy own s × Answers s step (accepted_of (Err (unwrap_or (refusal (source_at s x) lane is_last) NoRoom))) s = err_answers s x lane is_last step after_it net there judges (refusal (source_at s x) lane is_last) refl in
+    subst (λ (n : NetState). IsWorkableBy own n × Answers s step (accepted_of (Err e)) n) (sym err)
+    (subst (λ (g : OfferFault). IsWorkableBy own s × Answers s step (accepted_of (Err g)) s) (sym fault) at)
 
-module _ (s : NetState) (x : ℕ) (net : IsNet s) where
+module _ (s : NetState) (x : ℕ) {own : ℕ → Bool} (net : IsWorkableBy own s) where
   node_in : x < (shape s).nodes → x < length s.nodes
   unfolding net_shape
   node_in there = let all = net.framed.all_nodes in omega arith
@@ -253,7 +255,7 @@ module _ (s : NetState) (x : ℕ) (net : IsNet s) where
   class_in : (lane : Lane) → x < length s.nodes → IsOpen (source_at s x) lane → lane.class < length s.channels
   class_in lane x_in is_open = let node = net.framed.each_node x x_in in rw (← node.source_channels) is_open.class_in
 
-  offer_judges : (p : PacketState) → 1 ≤ length p.words → length p.words ≤ 32 → x < (shape s).nodes → Judges s x p.lane false (Offer x p.lane p.words) (with_source s x (after_offer (source_at s x) p))
+  offer_judges : (p : PacketState) → 1 ≤ length p.words → length p.words ≤ 32 → x < (shape s).nodes → Judges own s x p.lane false (Offer x p.lane p.words) (with_source s x (after_offer (source_at s x) p))
   offer_judges p some few there =
       let x_in = node_in there in
       record {
@@ -273,10 +275,10 @@ module _ (s : NetState) (x : ℕ) (net : IsNet s) where
             let sound = offer_sound (source_at s x) p node.source_holds is_open some few in
             let new = with_source s x (after_offer (source_at s x) p) in
             let framed = node_framed s x _ net.framed x_in (new_node s x p.lane (packet_flits p.lane (next_of_lane (source_at s x) p.lane) p.words) false net.framed x_in k_in sound) in
-            (kept s new.nodes s.links (Offer x p.lane p.words) net there (accepting, some, few) framed step, step, record { mesh = refl; channels = refl; depth = refl; names = refl });
+            (kept s new.nodes s.links (Offer x p.lane p.words) net there (accepting, some, few) framed step, step, record { mesh = refl; channels = refl; depth = refl; names = refl; own = refl });
       }
 
-  close_judges : (lane : Lane) → x < (shape s).nodes → Judges s x lane true (CloseLane x lane) (with_source s x (after_close (source_at s x) lane))
+  close_judges : (lane : Lane) → x < (shape s).nodes → Judges own s x lane true (CloseLane x lane) (with_source s x (after_close (source_at s x) lane))
   close_judges lane there =
       let x_in = node_in there in
       let node = net.framed.each_node x x_in in
@@ -299,19 +301,19 @@ module _ (s : NetState) (x : ℕ) (net : IsNet s) where
             let sound = close_sound (source_at s x) lane node.source_holds is_open in
             let new = with_source s x (after_close (source_at s x) lane) in
             let framed = node_framed s x _ net.framed x_in (new_node s x lane (mark lane (next_of_lane (source_at s x) lane) ∷ []) true net.framed x_in k_in sound) in
-            (kept s new.nodes s.links (CloseLane x lane) net there (accepting, one (found.1 refl)) framed step, step, record { mesh = refl; channels = refl; depth = refl; names = refl });
+            (kept s new.nodes s.links (CloseLane x lane) net there (accepting, one (found.1 refl)) framed step, step, record { mesh = refl; channels = refl; depth = refl; names = refl; own = refl });
       }
 
   pub offer_answers : (p : PacketState) → 1 ≤ length p.words → length p.words ≤ 32 → x < (shape s).nodes → (answer : Result ℕ OfferFault) (new : NetState)
       → OnOk answer ((refusal (source_at s x) p.lane false ≡ None) × (new ≡ with_source s x (after_offer (source_at s x) p))) → IfErr answer (λ e. e ≡ unwrap_or (refusal (source_at s x) p.lane false) NoRoom) → OnErr answer (new ≡ s)
-      → IsNet new × Answers s (Offer x p.lane p.words) (accepted_of answer) new
+      → IsWorkableBy own new × Answers s (Offer x p.lane p.words) (accepted_of answer) new
   unfolding Outcome
   offer_answers p some few there answer new ok fault err =
       answers s x p.lane false (Offer x p.lane p.words) (with_source s x (after_offer (source_at s x) p)) net there (offer_judges p some few there) answer new ok fault err
 
   pub close_answers : (lane : Lane) → x < (shape s).nodes → (answer : Result ℕ OfferFault) (new : NetState)
       → OnOk answer ((refusal (source_at s x) lane true ≡ None) × (new ≡ with_source s x (after_close (source_at s x) lane))) → IfErr answer (λ e. e ≡ unwrap_or (refusal (source_at s x) lane true) NoRoom) → OnErr answer (new ≡ s)
-      → IsNet new × Answers s (CloseLane x lane) (accepted_of answer) new
+      → IsWorkableBy own new × Answers s (CloseLane x lane) (accepted_of answer) new
   unfolding Outcome
   close_answers lane there answer new ok fault err =
       answers s x lane true (CloseLane x lane) (with_source s x (after_close (source_at s x) lane)) net there (close_judges lane there) answer new ok fault err

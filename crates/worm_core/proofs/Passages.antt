@@ -6,8 +6,10 @@ use Rattle.std.proofs.lemmas.List.Elements.{filter-append}
 use Rattle.std.specs.List.{range_with_len, flat_map}
 use Rattle.worm_theory.specs.Steps.{Step}
 use Rattle.worm_core.specs.State.{NetState, shape, network_of}
-use Rattle.worm_core.specs.Answers.{Answers, Grows, refusal_of}
-use Rattle.worm_core.specs.Turns.{Turn, Turns, Passage, Stays, ◌and_then◌, Each, ForEach, Tries, fault_of, Does}
+use Rattle.worm_core.specs.RegionAnswers.{Answers}
+use Rattle.worm_core.specs.Answers.{Grows, refusal_of}
+use Rattle.worm_core.specs.RegionTurns.{Tries}
+use Rattle.worm_core.specs.Turns.{Turn, Turns, Passage, Stays, ◌and_then◌, Each, ForEach, fault_of, Does}
 use Rattle.worm_core.specs.Script.{due}
 use Rattle.worm_core.specs.declared.script.Entry.{Entry}
 use Rattle.worm_core.specs.declared.step.Moved.{Moved}

@@ -12,10 +12,12 @@ use Rattle.worm_swalloc.specs.declared.grant.SwGrant.{SwGrant}
 use Rattle.worm_term.specs.Source.{front_of}
 use Rattle.worm_theory.specs.Steps.{Step, Feed, Send, Take, TakeCredit}
 use Rattle.worm_core.specs.Shape.{net_shape}
-use Rattle.worm_core.specs.State.{NetState, IsNet, fresh_node, node_at, router_at, source_at, with_router}
+use Rattle.worm_core.specs.State.{NetState, IsFramed, fresh_node, node_at, router_at, source_at, with_router}
+use Rattle.worm_core.specs.Workable.{IsWorkable}
 use Rattle.worm_core.specs.Moves.{NothingComes, can_enter, can_get, chosen_router, front_credit, front_into}
 use Rattle.worm_core.specs.Still.{IsStill, no_node, nth_node}
-use Rattle.worm_core.specs.Turns.{Each, Tries, SendsGranted, GivesCredit, GivesCredits, NodePasses, all_ports, granted_send}
+use Rattle.worm_core.specs.RegionTurns.{Tries, SendsGranted, GivesCredit, GivesCredits, NodePasses}
+use Rattle.worm_core.specs.Turns.{Each, all_ports, granted_send}
 use Rattle.worm_core.specs.declared.step.Moved.TheVariants.{Idle}
 use Rattle.worm_core.specs.declared.fault.StepFault.TheVariants.{NoSuchPlace}
 use Rattle.worm_core.proofs.GetStep.{get_answers}
@@ -27,7 +29,7 @@ use Rattle.worm_core.proofs.Skipping.{each_still, numbers_still, node_still}
 
 -- a credit or a flit that is tried where there is none
 
-pub credit_still : (s : NetState) (x p : ℕ) (n : Option ℕ) → IsNet s → x < node_count s.mesh → neighbour_of s.mesh x p ≡ n → (IsSome (neighbour_of s.mesh x p) → front_credit s x p ≡ None) → Tries (TakeCredit x p) s None s
+pub credit_still : (s : NetState) (x p : ℕ) (n : Option ℕ) → IsWorkable s → x < node_count s.mesh → neighbour_of s.mesh x p ≡ n → (IsSome (neighbour_of s.mesh x p) → front_credit s x p ≡ None) → Tries (TakeCredit x p) s None s
 unfolding net_shape
 credit_still s x p (Some y) net x_in e none =
     let linked : IsSome (neighbour_of s.mesh x p) = subst IsSome (sym e) refl in
@@ -36,7 +38,7 @@ credit_still s x p (Some y) net x_in e none =
 credit_still s x p None net x_in e none =
     (Err NoSuchPlace, (λ there. let no : IsSome {T = ℕ} None = subst IsSome e there.1 in absurd (cc), refl), refl)
 
-pub flit_still : (s : NetState) (x p : ℕ) (n : Option ℕ) → IsNet s → x < node_count s.mesh → neighbour_of s.mesh x p ≡ n → (IsSome (neighbour_of s.mesh x p) → front_into s x p ≡ None) → Tries (Take x p) s None s
+pub flit_still : (s : NetState) (x p : ℕ) (n : Option ℕ) → IsWorkable s → x < node_count s.mesh → neighbour_of s.mesh x p ≡ n → (IsSome (neighbour_of s.mesh x p) → front_into s x p ≡ None) → Tries (Take x p) s None s
 unfolding net_shape
 flit_still s x p (Some y) net x_in e none =
     let linked : IsSome (neighbour_of s.mesh x p) = subst IsSome (sym e) refl in
@@ -45,7 +47,7 @@ flit_still s x p (Some y) net x_in e none =
 flit_still s x p None net x_in e none =
     (Err NoSuchPlace, (λ there. let no : IsSome {T = ℕ} None = subst IsSome e there.1 in absurd (cc), refl), refl)
 
-feed_still : (s : NetState) (x k : ℕ) → IsNet s → x < node_count s.mesh → k < length s.channels → can_enter (router_at s x) (terminal (router_at s x)) (front_of (source_at s x) k) ≡ false → Tries (Feed x k) s None s
+feed_still : (s : NetState) (x k : ℕ) → IsWorkable s → x < node_count s.mesh → k < length s.channels → can_enter (router_at s x) (terminal (router_at s x)) (front_of (source_at s x) k) ≡ false → Tries (Feed x k) s None s
 unfolding net_shape
 feed_still s x k net x_in k_in nothing = (Ok Idle, (feed_answers s x k net (x_in, k_in) false (sym nothing)).1, refl)
 
@@ -54,12 +56,12 @@ feed_still s x k net x_in k_in nothing = (Ok Idle, (feed_answers s x k net (x_in
 abbrev pub FeedsNone : NetState → ℕ → ℕ → Type 0
 FeedsNone s x k = can_enter (router_at s x) (terminal (router_at s x)) (front_of (source_at s x) k) ≡ false
 
-pub feeds_before : (s : NetState) (x from : ℕ) (o : Option ℕ) → IsNet s → x < node_count s.mesh → IfSome o (λ class. (from ≤ class) × (class < length s.channels) × (class < 4))
+pub feeds_before : (s : NetState) (x from : ℕ) (o : Option ℕ) → IsWorkable s → x < node_count s.mesh → IfSome o (λ class. (from ≤ class) × (class < length s.channels) × (class < 4))
     → IfSome o (λ class. (k : ℕ) → from ≤ k → k < class → FeedsNone s x k) → IfSome o (λ class. (k : ℕ) → from ≤ k → k < class → Tries (Feed x k) s None s)
 feeds_before s x from None net x_in there none = tt
 feeds_before s x from (Some class) net x_in there none = λ k above below. feed_still s x k net x_in (let within = there.1 in omega arith) (none k above below)
 
-pub feeds_past : (s : NetState) (x from : ℕ) (o : Option ℕ) → IsNet s → x < node_count s.mesh
+pub feeds_past : (s : NetState) (x from : ℕ) (o : Option ℕ) → IsWorkable s → x < node_count s.mesh
     → IfNone o ((k : ℕ) → from ≤ k → k < length s.channels → FeedsNone s x k) → IfNone o ((k : ℕ) → from ≤ k → k < length s.channels → Tries (Feed x k) s None s)
 feeds_past s x from None net x_in none = λ k above below. feed_still s x k net x_in below (none k above below)
 feeds_past s x from (Some class) net x_in none = tt
@@ -94,7 +96,7 @@ pub gives_still : (s : NetState) (x p : ℕ) → p ≤ terminal (router_at s x) 
 gives_still s x p p_in owes =
     (gives_none x p s (owed_lowest (router_at s x) p None tt tt (λ v below. owes p v p_in below))).exact
 
-pub node_rests : (s : NetState) (x : ℕ) → IsNet s → x < node_count s.mesh → IsAtRest (router_at s x) → NothingComes s x → NodePasses x s None s
+pub node_rests : (s : NetState) (x : ℕ) → IsWorkable s → x < node_count s.mesh → IsAtRest (router_at s x) → NothingComes s x → NodePasses x s None s
 node_rests s x net x_in rest nothing =
     let all = net.framed.all_nodes in
     let there : x < length s.nodes = omega arith in
@@ -126,7 +128,7 @@ node_rests s x net x_in rest nothing =
       ),
     )
 
-pub credits_rest : (s : NetState) (x : ℕ) → IsNet s → x < node_count s.mesh → OwesNothing (router_at s x) → GivesCredits x s None s
+pub credits_rest : (s : NetState) (x : ℕ) → IsWorkable s → x < node_count s.mesh → OwesNothing (router_at s x) → GivesCredits x s None s
 credits_rest s x net x_in owes =
     let all = net.framed.all_nodes in
     let node = net.framed.each_node x (omega arith) in
@@ -134,24 +136,24 @@ credits_rest s x net x_in owes =
 
 -- a node that is kept as still
 
-pub is_nth : (s : NetState) (x : ℕ) → IsNet s → x < node_count s.mesh → nth_node s.nodes x ≡ node_at s x
-is_nth s x net x_in = let all = net.framed.all_nodes in get_or_default s.nodes x no_node (fresh_node s.mesh s.channels s.depth x) (omega arith)
+pub is_nth : (s : NetState) (x : ℕ) → IsFramed s → x < node_count s.mesh → nth_node s.nodes x ≡ node_at s x
+is_nth s x framed x_in = let all = framed.all_nodes in get_or_default s.nodes x no_node (fresh_node s.mesh s.channels s.depth x) (omega arith)
 
 -- a node whose router is at rest, and whose source has nothing to feed
-pub found_still : (s : NetState) (x : ℕ) → IsNet s → x < node_count s.mesh → IsAtRest (router_at s x) → ((k : ℕ) → k < length s.channels → can_enter (router_at s x) (terminal (router_at s x)) (front_of (source_at s x) k) ≡ false)
+pub found_still : (s : NetState) (x : ℕ) → IsWorkable s → x < node_count s.mesh → IsAtRest (router_at s x) → ((k : ℕ) → k < length s.channels → can_enter (router_at s x) (terminal (router_at s x)) (front_of (source_at s x) k) ≡ false)
     → IsStill (nth_node s.nodes x)
 found_still s x net x_in rest no_feed =
     let all = net.framed.all_nodes in
     let node = net.framed.each_node x (omega arith) in
-    subst IsStill (sym (is_nth s x net x_in)) (record { rest = rest; no_feed = λ k below. no_feed k (rw node.source_channels at below) })
+    subst IsStill (sym (is_nth s x net.framed x_in)) (record { rest = rest; no_feed = λ k below. no_feed k (rw node.source_channels at below) })
 
 -- where no link brings anything, a still node rests
-pub still_rests : (s : NetState) (x : ℕ) → IsNet s → x < node_count s.mesh → IsStill (nth_node s.nodes x)
+pub still_rests : (s : NetState) (x : ℕ) → IsWorkable s → x < node_count s.mesh → IsStill (nth_node s.nodes x)
     → ((p : ℕ) → IsSome (neighbour_of s.mesh x p) → front_credit s x p ≡ None) → ((p : ℕ) → IsSome (neighbour_of s.mesh x p) → front_into s x p ≡ None) → NodePasses x s None s
 still_rests s x net x_in still no_credit no_flit =
     let all = net.framed.all_nodes in
     let node = net.framed.each_node x (omega arith) in
-    let here : IsStill (node_at s x) = subst IsStill (is_nth s x net x_in) still in
+    let here : IsStill (node_at s x) = subst IsStill (is_nth s x net.framed x_in) still in
     node_rests s x net x_in here.rest record {
       no_credit = no_credit;
       no_flit = no_flit;

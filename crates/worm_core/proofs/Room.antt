@@ -1,5 +1,5 @@
 -- A link has room for a flit whose channel has a credit.
-use Rattle.std.proofs.Common.{◌≡◌, ℕ, zero, suc, ◌+◌, ◌*◌, ◌<◌, ◌≤◌, ◌==◌, true, cond, inl, inr, List, [], ◌∷◌, length, sum, Some, refl, arith, ap, ◌∙◌}
+use Rattle.std.proofs.Common.{◌≡◌, ℕ, zero, suc, ◌+◌, ◌*◌, ◌<◌, ◌≤◌, ◌==◌, true, cond, inl, inr, List, [], ◌∷◌, length, sum, Some, refl, arith, ap, ◌∙◌, Bool}
 use Rattle.std.specs.Prelude.{All}
 use Rattle.std.proofs.lemmas.Bool.{cases_eq}
 use Rattle.std.proofs.lemmas.List.Elements.{All-head, All-tail, All-weaker}
@@ -7,10 +7,10 @@ use Rattle.worm_flit.specs.declared.Flit.{Flit}
 use Rattle.worm_mesh.specs.Address.{neighbour_of, has_neighbour}
 use Rattle.worm_mesh.specs.Links.{sum_below, links_before}
 use Rattle.worm_flit.specs.Stamps.{on_channel}
-use Rattle.worm_theory.specs.Sound.{Leaves}
 use Rattle.worm_theory.proofs.Places.{number_cases}
 use Rattle.worm_core.specs.Shape.{net_shape}
-use Rattle.worm_core.specs.State.{NetState, IsNet, shape, network_of, link_at}
+use Rattle.worm_core.specs.State.{NetState, shape, network_of, link_at}
+use Rattle.worm_core.specs.Workable.{IsWorkableBy, IsSent}
 use Rattle.worm_core.proofs.LinkBridge.{out_there}
 
 -- one of the numbers below n is c, if c is below n
@@ -79,16 +79,16 @@ bounded_less f (suc n) d c h below less =
     ]
 
 -- what a Send needs to push
-pub link_room : (s : NetState) (x o y c : ℕ) → IsNet s → neighbour_of s.mesh x o ≡ Some y → has_neighbour s.mesh x o ≡ true → links_before s.mesh x o < length s.links
+pub link_room : (s : NetState) (x o y c : ℕ) → {own : ℕ → Bool} → IsWorkableBy own s → (own x ≡ true) × (own y ≡ true) → neighbour_of s.mesh x o ≡ Some y → has_neighbour s.mesh x o ≡ true → links_before s.mesh x o < length s.links
     → c < sum s.channels → 0 < (network_of s).credits x o c → length (link_at s (links_before s.mesh x o)).flits < (link_at s (links_before s.mesh x o)).room
 unfolding net_shape
-link_room s x o y c net e has bound c_in credit =
+link_room s x o y c net inner e has bound c_in credit =
     let N = network_of s in
     let n = sum s.channels in
     let all : All (λ f. f.vc < n) (N.out x o) =
-    All-weaker (Leaves (shape s) x o) (λ (f : Flit). f.vc < n) (λ f leaves. leaves.owned.0) (N.out x o) (net.sound.leaving x o) in
-    let each : (v : ℕ) → v < n → length (on_channel v (N.out x o)) ≤ s.depth = λ v v_in. let total = net.sound.credits x o y v v_in e in omega arith in
-    let less : length (on_channel c (N.out x o)) < s.depth = let total = net.sound.credits x o y c c_in e in omega arith in
+    All-weaker (IsSent (shape s)) (λ (f : Flit). f.vc < n) (λ f is_sent. is_sent.channel) (N.out x o) (net.works.out x o) in
+    let each : (v : ℕ) → v < n → length (on_channel v (N.out x o)) ≤ s.depth = λ v v_in. let total = net.works.credits x o y v v_in e inner.0 inner.1 in omega arith in
+    let less : length (on_channel c (N.out x o)) < s.depth = let total = net.works.credits x o y c c_in e inner.0 inner.1 in omega arith in
     let count = counted n (N.out x o) all in
     let few = bounded_less (λ v. length (on_channel v (N.out x o))) n s.depth c each c_in less in
     let room = net.framed.rooms (links_before s.mesh x o) bound in

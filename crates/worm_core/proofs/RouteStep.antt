@@ -10,8 +10,10 @@ use Rattle.worm_router.specs.Router.{ChannelState, input_at, with_input, in_stat
 use Rattle.worm_theory.specs.Network.{put3}
 use Rattle.worm_theory.specs.Steps.{Route, IsThere, Enabled, FrontIs, after, routed}
 use Rattle.worm_core.specs.Shape.{net_shape}
-use Rattle.worm_core.specs.State.{NetState, IsNet, IsFramed, IsNetPlace, shape, network_of, router_at, with_router}
-use Rattle.worm_core.specs.Answers.{Answers, moved_of}
+use Rattle.worm_core.specs.State.{NetState, IsFramed, IsNetPlace, shape, network_of, router_at, with_router}
+use Rattle.worm_core.specs.Workable.{IsWorkableBy}
+use Rattle.worm_core.specs.RegionAnswers.{Answers}
+use Rattle.worm_core.specs.Answers.{moved_of}
 use Rattle.worm_core.proofs.Bridge.{put3_same, input_bridge, input_of-there}
 use Rattle.worm_core.proofs.There.{buffer_there, record_there}
 use Rattle.worm_core.proofs.Kept.{kept, router_framed, net_place}
@@ -62,8 +64,8 @@ route_idle s x p v place (Waiting o) fs e f can h = let there = record_there s x
 route_idle s x p v place (Active o c) fs e f can h = let there = record_there s x p v place in let idle = h.0 in absurd (cc)
 
 -- what Net::route leaves and answers
-pub route_answers : (s : NetState) (x p v : ℕ) → IsNet s → IsThere (shape s) (Route x p v) → (done : Bool) → done ≡ can_route (router_at s x) p v
-    → IsNet (if done then with_router s x (after_route (router_at s x) p v) else s) × Answers s (Route x p v) (Ok (moved_of done)) (if done then with_router s x (after_route (router_at s x) p v) else s)
+pub route_answers : (s : NetState) (x p v : ℕ) → {own : ℕ → Bool} → IsWorkableBy own s → IsThere (shape s) (Route x p v) → (done : Bool) → done ≡ can_route (router_at s x) p v
+    → IsWorkableBy own (if done then with_router s x (after_route (router_at s x) p v) else s) × Answers s (Route x p v) (Ok (moved_of done)) (if done then with_router s x (after_route (router_at s x) p v) else s)
 route_answers s x p v net there true e =
     let place = net_place s x p v net.framed there.0 there.1 there.2 in
     let c = input_at (router_at s x) p v in
@@ -71,7 +73,7 @@ route_answers s x p v net there true e =
     let r = after_route (router_at s x) p v in
     let framed = router_framed s x r.inputs r.outputs net.framed place.node_in (rw length-set refl) refl in (
       kept s (with_router s x r).nodes s.links (Route x p v) net there step.0 framed step.1,
-      record { there = there; enabled = step.0; after_it = step.1; config = record { mesh = refl; channels = refl; depth = refl; names = refl }; exact = refl },
+      record { there = there; enabled = step.0; after_it = step.1; config = record { mesh = refl; channels = refl; depth = refl; names = refl; own = refl }; exact = refl; framed = framed },
     )
 route_answers s x p v net there false e =
     let place = net_place s x p v net.framed there.0 there.1 there.2 in

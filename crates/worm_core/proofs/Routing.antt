@@ -11,10 +11,12 @@ use Rattle.worm_router.specs.Router.{ChannelState, RouterState, input_at, in_sta
 use Rattle.worm_theory.specs.Steps.{Route}
 use Rattle.worm_theory.proofs.Places.{number_cases}
 use Rattle.worm_core.specs.Shape.{net_shape}
-use Rattle.worm_core.specs.State.{NetState, IsNet, node_at, router_at, with_node}
-use Rattle.worm_core.specs.Answers.{Answers}
+use Rattle.worm_core.specs.State.{NetState, node_at, router_at, with_node}
+use Rattle.worm_core.specs.Workable.{IsWorkable}
+use Rattle.worm_core.specs.RegionAnswers.{Answers}
 use Rattle.worm_core.specs.Moves.{AreUnrouted, RoutesTheSame, RoutesWithin}
-use Rattle.worm_core.specs.Turns.{Each, Does, RoutesChannels, RoutesPort, Tries, all_channels, all_ports}
+use Rattle.worm_core.specs.RegionTurns.{RoutesChannels, RoutesPort, Tries}
+use Rattle.worm_core.specs.Turns.{Each, Does, all_channels, all_ports}
 use Rattle.worm_core.specs.declared.node.Node.{Node}
 use Rattle.worm_core.specs.declared.step.Moved.{Moved}
 use Rattle.worm_core.specs.declared.step.Moved.TheVariants.{Done, Idle}
@@ -35,14 +37,14 @@ unchanged a b x p v same within = record {
   routes = ap (λ (s : NetState). can_route (router_at s x) p v) same;
 }
 
-routed_elsewhere : (a : NetState) (x q c p v : ℕ) → IsNet a → x < length a.nodes → q ≤ terminal (router_at a x) → c < width (router_at a x) → (p ≡ q → v ≡ c → ⊥) → v < width (router_at a x)
+routed_elsewhere : (a : NetState) (x q c p v : ℕ) → IsWorkable a → x < length a.nodes → q ≤ terminal (router_at a x) → c < width (router_at a x) → (p ≡ q → v ≡ c → ⊥) → v < width (router_at a x)
     → can_route (after_route (router_at a x) q c) p v ≡ can_route (router_at a x) p v
 routed_elsewhere a x q c p v net there q_in c_in away v_in =
     let r = router_at a x in
     let one : ChannelState = in_state (input_at r q c) (Waiting (front_port r (input_at r q c).buffer)) in
     ap (λ (s : ChannelState). is_idle s.state && opens_front s.buffer) (input_elsewhere a x q c p v one net there q_in c_in away v_in)
 
-pub route_elsewhere : (a b : NetState) (x q c : ℕ) (answer : Result Moved StepFault) → IsNet a → Answers a (Route x q c) answer b → (p v : ℕ) → (p ≡ q → v ≡ c → ⊥) → v < width (router_at b x) → RoutesTheSame a b x p v
+pub route_elsewhere : (a b : NetState) (x q c : ℕ) (answer : Result Moved StepFault) → IsWorkable a → Answers a (Route x q c) answer b → (p v : ℕ) → (p ≡ q → v ≡ c → ⊥) → v < width (router_at b x) → RoutesTheSame a b x p v
 unfolding net_shape
 route_elsewhere a b x q c (Ok Done) net done p v away within =
     let place = net_place a x q c net.framed done.there.0 done.there.1 done.there.2 in
@@ -62,7 +64,7 @@ route_elsewhere a b x q c (Err (Refused why)) net none p v away within = unchang
 route_elsewhere a b x q c (Err NoMemory) net none p v away within = unchanged a b x p v none.3 within
 
 -- the set of a router's channels that lack a route
-pub unrouted_within : (s : NetState) (x set : ℕ) → IsNet s → x < node_count s.mesh → AreUnrouted (router_at s x) set → RoutesWithin s x set
+pub unrouted_within : (s : NetState) (x set : ℕ) → IsWorkable s → x < node_count s.mesh → AreUnrouted (router_at s x) set → RoutesWithin s x set
 unrouted_within s x set net x_in unrouted =
     let all = net.framed.all_nodes in
     let node = net.framed.each_node x (omega arith) in
@@ -85,14 +87,14 @@ pub record Passed (x : ℕ) (a b : NetState) (port vc : ℕ) : Type 0 where
 pub record Routed (x : ℕ) (a b : NetState) (set port vc : ℕ) : Type 0 where
   pub passed : Passed x a b port vc
   pub there : x < node_count b.mesh
-  pub sound : IsNet b
+  pub sound : IsWorkable b
   pub port_in : port ≤ 2 * length b.mesh
   pub vc_in : vc ≤ sum b.channels
   pub later : (p c : ℕ) → c < 8 → 8 * p + c < 8 * port + vc → has set p c ≡ false
   pub rest : (p v : ℕ) → 8 * port + vc ≤ 8 * p + v → p ≤ 2 * length b.mesh → v < sum b.channels → has set p v ≡ false → can_route (router_at b x) p v ≡ false
   pub places : (p v : ℕ) → p < 7 → v < 8 → has set p v ≡ true → (p ≤ 2 * length b.mesh) × (v < sum b.channels)
 
-pub routed_start : (x : ℕ) (a : NetState) (set : ℕ) → x < node_count a.mesh → IsNet a → RoutesWithin a x set → Routed x a a set 0 0
+pub routed_start : (x : ℕ) (a : NetState) (set : ℕ) → x < node_count a.mesh → IsWorkable a → RoutesWithin a x set → Routed x a a set 0 0
 routed_start x a set there sound within = record {
   passed = record { mid = a; ports = does_nothing a; channels = does_nothing a };
   there = there;
@@ -105,7 +107,7 @@ routed_start x a set there sound within = record {
 }
 
 -- channels of a port with nothing to route are passed
-along : (x : ℕ) (a b : NetState) (port vc c : ℕ) → Passed x a b port vc → IsNet b → x < node_count b.mesh → vc ≤ c → c ≤ sum b.channels → ((v : ℕ) → vc ≤ v → v < c → can_route (router_at b x) port v ≡ false) → Passed x a b port c
+along : (x : ℕ) (a b : NetState) (port vc c : ℕ) → Passed x a b port vc → IsWorkable b → x < node_count b.mesh → vc ≤ c → c ≤ sum b.channels → ((v : ℕ) → vc ≤ v → v < c → can_route (router_at b x) port v ≡ false) → Passed x a b port c
 along x a b port vc c passed net there less c_in none = record {
   mid = passed.mid;
   ports = passed.ports;
@@ -119,11 +121,11 @@ port_done x a b port passed =
     loop_more (RoutesPort x) port a passed.mid b None passed.ports
     (does_ranged (λ s. map (Route x port) (all_channels s)) (Route x port) (sum passed.mid.channels) (sum b.channels) passed.mid b refl same passed.channels)
 
-port_still : (x p : ℕ) (b : NetState) → IsNet b → x < node_count b.mesh → ((v : ℕ) → v < sum b.channels → can_route (router_at b x) p v ≡ false) → RoutesPort x p b None b
+port_still : (x p : ℕ) (b : NetState) → IsWorkable b → x < node_count b.mesh → ((v : ℕ) → v < sum b.channels → can_route (router_at b x) p v ≡ false) → RoutesPort x p b None b
 port_still x p b net there none = each_still Tries (Route x p) b (sum b.channels) 0 (λ v below. route_still b x p v net there (omega arith) (none v (omega arith)))
 
 -- all between two channels have nothing to route
-passed_to : (x : ℕ) (a b : NetState) (port vc q c : ℕ) → Passed x a b port vc → IsNet b → x < node_count b.mesh → vc ≤ sum b.channels → q ≤ 2 * length b.mesh → c ≤ sum b.channels
+passed_to : (x : ℕ) (a b : NetState) (port vc q c : ℕ) → Passed x a b port vc → IsWorkable b → x < node_count b.mesh → vc ≤ sum b.channels → q ≤ 2 * length b.mesh → c ≤ sum b.channels
     → (port < q) ⊎ ((port ≡ q) × (vc ≤ c)) → ((p v : ℕ) → 8 * port + vc ≤ 8 * p + v → 8 * p + v < 8 * q + c → p ≤ 2 * length b.mesh → v < sum b.channels → can_route (router_at b x) p v ≡ false) → Passed x a b q c
 passed_to x a b port vc q c passed net there vc_in q_in c_in (inl below) none =
     let few = net.framed.classes.total in
@@ -148,7 +150,7 @@ order port vc q c c_in after = elim (number_cases port q) [
 ]
 
 pub routed_more : (x : ℕ) (a b b_new : NetState) (set new port vc q c : ℕ) → Routed x a b set port vc → IsFirst set new q c → Does (Tries (Route x q c)) b None b_new
-    → ((p v : ℕ) → (p ≡ q → v ≡ c → ⊥) → v < width (router_at b_new x) → RoutesTheSame b b_new x p v) → IsNet b_new → Routed x a b_new new q (c + 1)
+    → ((p v : ℕ) → (p ≡ q → v ≡ c → ⊥) → v < width (router_at b_new x) → RoutesTheSame b b_new x p v) → IsWorkable b_new → Routed x a b_new new q (c + 1)
 routed_more x a b b_new set new port vc q c routed first does same net_new =
     let net = routed.sound in
     let on : has set q c ≡ true = true_of (has set q c) first.was_in in

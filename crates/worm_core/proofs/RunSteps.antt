@@ -29,10 +29,11 @@ config_to mid new e Idle a = record {
   channels = ap (λ (s : NetState). s.channels) a.3;
   depth = ap (λ (s : NetState). s.depth) a.3;
   names = ap (λ (s : NetState). s.names) a.3;
+  own = ap (λ (s : NetState). s.own) a.3;
 }
 
 pub run_none : (s : NetState) (steps : List Step) → IsRun s s steps 0
-run_none s steps = record { led = refl; config = record { mesh = refl; channels = refl; depth = refl; names = refl } }
+run_none s steps = record { led = refl; config = record { mesh = refl; channels = refl; depth = refl; names = refl; own = refl } }
 
 pub run_more : (old mid new : NetState) (steps : List Step) (n : ℕ) (d : Step) (moved : Moved) → n < length steps
     → IsRun old mid steps n → Answers mid (event_of (get_or steps n d)) (Ok moved) new → IsRun old new steps (n + 1)
@@ -47,5 +48,5 @@ run_more old mid new steps n d moved within run a =
     sym (ap (λ (xs : List Step). map event_of xs) (take_more steps n d within) ∙ map-append event_of (take n steps) (step ∷ [])) in
     record {
       led = subst (λ (es : List Event). StepsLead (shape old) (network_of old) es (network_of new)) one_more pushed;
-      config = record { mesh = config.mesh ∙ run.config.mesh; channels = config.channels ∙ run.config.channels; depth = config.depth ∙ run.config.depth; names = config.names ∙ run.config.names };
+      config = record { mesh = config.mesh ∙ run.config.mesh; channels = config.channels ∙ run.config.channels; depth = config.depth ∙ run.config.depth; names = config.names ∙ run.config.names; own = config.own ∙ run.config.own };
     }

@@ -1,5 +1,5 @@
 -- The step Send to a link: what it makes of the functions of places.
-use Rattle.std.proofs.Common.{◌≡◌, ℕ, ◌+◌, ◌-◌, ◌*◌, ◌<◌, ◌≤◌, ◌==◌, true, false, cond, inl, inr, List, [], ◌∷◌, ◌++◌, length, drop, Option, Some, None, is_some, refl, arith, ap, sym, ◌∙◌}
+use Rattle.std.proofs.Common.{◌≡◌, ℕ, ◌+◌, ◌-◌, ◌*◌, ◌<◌, ◌≤◌, ◌==◌, true, false, cond, inl, inr, List, [], ◌∷◌, ◌++◌, length, drop, Option, Some, None, is_some, refl, arith, ap, sym, subst, ◌∙◌, Bool}
 use Rattle.std.specs.Prelude.{IsSome}
 use Rattle.std.proofs.Math.ListN.{length-set}
 use Rattle.worm_flit.specs.declared.Flit.{Flit}
@@ -8,13 +8,15 @@ use Rattle.worm_flit.specs.Stamps.{with_channel}
 use Rattle.worm_mesh.specs.Address.{has_neighbour, neighbour_of}
 use Rattle.worm_mesh.specs.Links.{links_before}
 use Rattle.worm_mesh.proofs.Neighbours.{neighbour_of-none, no_port}
+use Rattle.worm_records.specs.declared.InRecord.{InRecord}
 use Rattle.worm_records.specs.declared.InRecord.TheVariants.{Idle, Active}
 use Rattle.worm_records.specs.declared.OutRecord.{OutRecord}
 use Rattle.worm_router.specs.Router.{ChannelState, RouterState, IsPlace, width, terminal, input_at, output_at, with_input, with_output, let_out, passed, credit_of, after_leaving}
 use Rattle.worm_theory.specs.Network.{Network, put2, put3}
 use Rattle.worm_theory.specs.Steps.{IsPort, sent_by}
 use Rattle.worm_core.specs.Shape.{net_shape}
-use Rattle.worm_core.specs.State.{NetState, LinkView, IsNet, IsNetPlace, shape, network_of, router_at, with_router, link_at, with_link}
+use Rattle.worm_core.specs.State.{NetState, LinkView, IsNetPlace, shape, network_of, router_at, with_router, link_at, with_link}
+use Rattle.worm_core.specs.Workable.{IsWorkableBy, LeadsOn}
 use Rattle.worm_core.proofs.Bridge.{put2_same, router_bridge, input_of-put, output_of-put}
 use Rattle.worm_core.proofs.Kept.{router_framed}
 use Rattle.worm_core.proofs.LinkBridge.{link_bridge, out_there, credits_there}
@@ -51,8 +53,15 @@ spends s x o a same =
       | inr away ↦ let ours : (o == 2 * length (router_at s x).mesh) ≡ false = e ∙ away in rw (ours, away) refl
     ]
 
+-- an active channel's port is there, and so is the channel, which it holds
+pub active_leads : (s : NetState) (x p v o c : ℕ) → {own : ℕ → Bool} → IsWorkableBy own s → x < length s.nodes → (network_of s).in_record x p v ≡ Active o c → LeadsOn (shape s) (network_of s) x p v (Active o c)
+unfolding net_shape
+active_leads s x p v o c net x_in e =
+    let all = net.framed.all_nodes in
+    subst (λ (r : InRecord). LeadsOn (shape s) (network_of s) x p v r) e (net.works.records x p v (omega arith))
+
 -- the router's part of a Send
-sent_bridge : (s : NetState) (x p v o c : ℕ) (f : Flit) (rest : List Flit) → IsNet s → IsNetPlace s x p v → IsPort (shape s) x p → o ≤ terminal (router_at s x) → c < width (router_at s x)
+pub sent_bridge : (s : NetState) (x p v o c : ℕ) (f : Flit) (rest : List Flit) → {own : ℕ → Bool} → IsWorkableBy own s → IsNetPlace s x p v → IsPort (shape s) x p → o ≤ terminal (router_at s x) → c < width (router_at s x)
     → (input_at (router_at s x) p v).state ≡ Active o c → (input_at (router_at s x) p v).buffer ≡ f ∷ rest
     → network_of (with_router s x (after_leaving (router_at s x) p v (Some (o, with_channel f c)))) ≡ record (network_of s) {
       buffer = put3 (network_of s).buffer x p v rest;
@@ -73,7 +82,7 @@ sent_bridge s x p v o c f rest net place port o_in c_in e b =
     let u2 : OutRecord = passed u g (credit_of r o) in
     let r1 : RouterState = with_input r p v i2 in
     let out_place : IsPlace r1 o c = record { port_in = o_in; channel_in = c_in } in
-    let held : u.holder ≡ Some (p, v) = sym (holder_there s x o c c_in) ∙ (net.sound.holders x o c p v).1 (record_there s x p v place ∙ e) in
+    let held : u.holder ≡ Some (p, v) = sym (holder_there s x o c c_in) ∙ (active_leads s x p v o c net place.node_in (record_there s x p v place ∙ e)).2 in
     let buffer : drop 1 i.buffer ≡ rest = ap (λ (fs : List Flit). drop 1 fs) b in
     let owed : i.owed + credit_of r p ≡ cond (is_some (neighbour_of s.mesh x p)) (N.owed x p v + 1) (N.owed x p v) =
     rw (owed_there s x p v place) (owes s x p i.owed node.same_mesh port) in
@@ -95,7 +104,7 @@ sent_bridge s x p v o c f rest net place port o_in c_in e b =
     ∙ same
 
 -- Send to a link
-pub sent_to_link : (s : NetState) (x p v o c : ℕ) (f : Flit) (rest : List Flit) → IsNet s → IsNetPlace s x p v → IsPort (shape s) x p → has_neighbour s.mesh x o ≡ true → o ≤ terminal (router_at s x) → c < width (router_at s x)
+pub sent_to_link : (s : NetState) (x p v o c : ℕ) (f : Flit) (rest : List Flit) → {own : ℕ → Bool} → IsWorkableBy own s → IsNetPlace s x p v → IsPort (shape s) x p → has_neighbour s.mesh x o ≡ true → o ≤ terminal (router_at s x) → c < width (router_at s x)
     → (input_at (router_at s x) p v).state ≡ Active o c → (input_at (router_at s x) p v).buffer ≡ f ∷ rest
     → network_of (with_link (with_router s x (after_leaving (router_at s x) p v (Some (o, with_channel f c)))) (links_before s.mesh x o)
     (record (link_at s (links_before s.mesh x o)) { flits = (link_at s (links_before s.mesh x o)).flits ++ with_channel f c ∷ [] }))

@@ -1,12 +1,11 @@
 -- The step Send.
-use Rattle.std.proofs.Common.{◌≡◌, ℕ, zero, suc, ◌+◌, ◌-◌, ◌*◌, ◌<◌, ◌≤◌, ◌==◌, cond, nat_lt, Bool, true, false, ◌&&◌, ◌||◌, if◌then◌else◌, ◌⊎◌, inl, inr, List, [], ◌∷◌, ◌++◌, length, drop, sum, Ok, Err, Option, Some, None, is_some, refl, arith, ap, sym, subst, ◌∙◌}
-use Rattle.std.specs.Prelude.{IsSome, Result}
+use Rattle.std.proofs.Common.{◌≡◌, ℕ, ◌+◌, ◌-◌, ◌*◌, ◌<◌, ◌≤◌, ◌==◌, cond, nat_lt, Bool, true, false, ◌&&◌, ◌||◌, if◌then◌else◌, ◌⊎◌, inl, inr, List, [], ◌∷◌, ◌++◌, length, drop, sum, Ok, Err, Option, Some, None, is_some, refl, arith, ap, sym, subst, ◌∙◌}
+use Rattle.std.specs.Prelude.{IfSome, IsSome, Result}
 use Rattle.std.proofs.Math.ListN.{length-set}
 use Rattle.worm_flit.specs.declared.Flit.{Flit}
 use Rattle.worm_flit.specs.Kinds.{closes}
 use Rattle.worm_flit.specs.Stamps.{with_channel}
 use Rattle.worm_mesh.specs.Address.{neighbour_of, node_count}
-use Rattle.worm_route.specs.Route.{port_of, hops_of}
 use Rattle.worm_records.specs.declared.InRecord.{InRecord}
 use Rattle.worm_records.specs.declared.InRecord.TheVariants.{Idle, Waiting, Active}
 use Rattle.worm_records.specs.declared.OutRecord.{OutRecord}
@@ -15,26 +14,27 @@ use Rattle.worm_term.specs.Source.{queue_at}
 use Rattle.worm_theory.specs.Network.{Network, put2, put3}
 use Rattle.worm_theory.specs.Steps.{Step, Send, IsPort, IsThere, IsActiveAt, MaySend, Enabled, after, sent, sent_by}
 use Rattle.worm_theory.proofs.Places.{bool_cases}
-use Rattle.worm_theory.proofs.Send.{leading, passing, front_follows}
 use Rattle.worm_core.specs.Shape.{net_shape}
 use Rattle.worm_core.specs.declared.node.Node.{Node}
 use Rattle.worm_core.specs.declared.step.Moved.{Moved}
 use Rattle.worm_core.specs.declared.step.Moved.TheVariants.{Done, Idle as StayedIdle}
 use Rattle.worm_core.specs.declared.fault.StepFault.{StepFault}
 use Rattle.worm_core.specs.declared.fault.StepFault.TheVariants.{NoSuchPlace, Refused, NoMemory}
-use Rattle.worm_core.specs.State.{NetState, IsNet, IsFramed, IsNetPlace, IsSameConfig, shape, network_of, node_at, router_at, sink_at, source_at, with_node, with_router, with_link, link_at}
-use Rattle.worm_core.specs.Answers.{IsDone, Answers, Grows}
-use Rattle.worm_core.specs.Moves.{done_step, link_out, after_ready, after_sending, WayOut, Sends}
+use Rattle.worm_core.specs.State.{NetState, IsFramed, IsNetPlace, IsSameConfig, shape, network_of, node_at, router_at, sink_at, source_at, with_node, with_router, with_link, link_at}
+use Rattle.worm_core.specs.Workable.{EndsWithin, IsWorkableBy}
+use Rattle.worm_core.specs.RegionAnswers.{IsDone, Answers}
+use Rattle.worm_core.specs.Answers.{Grows}
+use Rattle.worm_core.specs.Moves.{done_step, link_out, after_ready, after_sending, HasWay, LeavesByLink, Sends}
 use Rattle.worm_core.proofs.Bridge.{put2_same, node_bridge, itself2, input_of-put, output_of-put}
 use Rattle.worm_core.proofs.LinkBridge.{link_framed, below_not_same}
-use Rattle.worm_core.proofs.There.{buffer_there, record_there, holder_there, owed_there, spent_there}
 use Rattle.worm_core.proofs.Room.{link_room}
+use Rattle.worm_core.proofs.There.{buffer_there, record_there, holder_there, owed_there, spent_there}
 use Rattle.worm_core.proofs.Kept.{kept, framed_mesh, node_framed, node_of, router_framed, net_place}
 use Rattle.worm_core.proofs.Ends.{leader}
-use Rattle.worm_core.proofs.SendBridge.{owes, spends, sent_to_link}
+use Rattle.worm_core.proofs.SendBridge.{active_leads, owes, spends, sent_to_link}
 
 -- Send to the sink: what it makes of the functions of places
-delivered_bridge : (s : NetState) (x p v o c : ℕ) (f : Flit) (rest : List Flit) → IsNet s → IsNetPlace s x p v → IsPort (shape s) x p → o ≡ 2 * length s.mesh → c < width (router_at s x)
+delivered_bridge : (s : NetState) (x p v o c : ℕ) (f : Flit) (rest : List Flit) → {own : ℕ → Bool} → IsWorkableBy own s → IsNetPlace s x p v → IsPort (shape s) x p → o ≡ 2 * length s.mesh → c < width (router_at s x)
     → (input_at (router_at s x) p v).state ≡ Active o c → (input_at (router_at s x) p v).buffer ≡ f ∷ rest
     → network_of (with_node s x (record (node_at s x) { router = after_leaving (router_at s x) p v (Some (o, with_channel f c)); sink = record (sink_at s x) { delivered = (sink_at s x).delivered ++ with_channel f c ∷ [] } })) ≡ sent_by (shape s) (network_of s) x p v o c f rest
 unfolding network_of net_shape
@@ -52,7 +52,7 @@ delivered_bridge s x p v o c f rest net place port at c_in e b =
     let n : Node = record (node_at s x) { router = with_output r1 o c u2; sink = record (sink_at s x) { delivered = (sink_at s x).delivered ++ g ∷ [] } } in
     let o_in : o ≤ terminal r = rw node.same_mesh (omega arith) in
     let out_place : IsPlace r1 o c = record { port_in = o_in; channel_in = c_in } in
-    let held : u.holder ≡ Some (p, v) = sym (holder_there s x o c c_in) ∙ (net.sound.holders x o c p v).1 (record_there s x p v place ∙ e) in
+    let held : u.holder ≡ Some (p, v) = sym (holder_there s x o c c_in) ∙ (active_leads s x p v o c net place.node_in (record_there s x p v place ∙ e)).2 in
     let buffer : drop 1 i.buffer ≡ rest = ap (λ (fs : List Flit). drop 1 fs) b in
     let owed : i.owed + credit_of r p ≡ cond (is_some (neighbour_of s.mesh x p)) (N.owed x p v + 1) (N.owed x p v) =
     rw (owed_there s x p v place) (owes s x p i.owed node.same_mesh port) in
@@ -115,36 +115,30 @@ delivered_bridge s x p v o c f rest net place port at c_in e b =
     (itself2 (queue_at (source_at s x)) 0)
     ∙ (same ∙ port_is)
 
--- where the front of an active channel goes: home, or over a link
-pub data Way (s : NetState) (x o : ℕ) (f : Flit) : Type 0 where
-  home : o ≡ 2 * length s.mesh → x ≡ f.lane.dst → Way s x o f
-  over : (y : ℕ) → neighbour_of s.mesh x o ≡ Some y → Way s x o f
+-- where the front of an active channel goes: into the sink, or over a link
+pub data Way (s : NetState) (x o : ℕ) : Type 0 where
+  home : o ≡ 2 * length s.mesh → Way s x o
+  over : (y : ℕ) → neighbour_of s.mesh x o ≡ Some y → Way s x o
 
-pub record Going (s : NetState) (x o c : ℕ) (f : Flit) : Type 0 where
+pub record Going (s : NetState) (x o c : ℕ) : Type 0 where
   pub channel : c < sum s.channels
-  pub way : Way s x o f
+  pub way : Way s x o
 
-way_by : (s : NetState) (x o : ℕ) (f : Flit) (n : ℕ) → IsFramed s → x < node_count s.mesh → f.lane.dst < node_count s.mesh → port_of s.mesh x f.lane.dst ≡ o → hops_of s.mesh x f.lane.dst ≡ n → Way s x o f
-unfolding net_shape
-way_by s x o f zero framed x_in d_in e none =
-    let mesh = framed_mesh s framed in
-    let at = mesh.arrives x f.lane.dst x_in d_in none in
-    home (sym e ∙ at.1) at.0
-way_by s x o f (suc n) framed x_in d_in e more =
-    let mesh = framed_mesh s framed in
-    let on = mesh.goes_on x f.lane.dst n x_in d_in more in
-    over on.0 (subst (λ (q : ℕ). neighbour_of s.mesh x q ≡ Some on.0) e on.1)
+way_over : (s : NetState) (x o : ℕ) (n : Option ℕ) → neighbour_of s.mesh x o ≡ n → IsSome n → Way s x o
+way_over s x o None e some = absurd (cc)
+way_over s x o (Some y) e some = over y e
 
-going : (s : NetState) (x p v o c : ℕ) (f : Flit) (rest : List Flit) → IsNet s → x < node_count s.mesh → IsPort (shape s) x p
-    → (network_of s).in_record x p v ≡ Active o c → (network_of s).buffer x p v ≡ f ∷ rest → Going s x o c f
+going : (s : NetState) (x p v o c : ℕ) → {own : ℕ → Bool} → IsWorkableBy own s → x < length s.nodes → (network_of s).in_record x p v ≡ Active o c → Going s x o c
 unfolding net_shape
-going s x p v o c f rest net x_in port e b =
-    let N = network_of s in
-    let mesh = framed_mesh s net.framed in
-    let follows = front_follows (shape s) mesh N x p v o c f rest e b port net.sound.links net.sound.sources in
-    let leads = leading (shape s) N x p v o c f rest e b follows net.sound.records in
-    let passes = passing (shape s) N x p v o c f rest e b net.sound.buffered in
-    record { channel = leads.1.0; way = way_by s x o f (hops_of s.mesh x f.lane.dst) net.framed x_in passes.lane_there.destination leads.0 refl }
+going s x p v o c net x_in e =
+    let leads = active_leads s x p v o c net x_in e in
+    record {
+      channel = leads.1;
+      way = elim leads.0 [
+        | inl at ↦ home at
+        | inr linked ↦ way_over s x o (neighbour_of s.mesh x o) refl linked
+      ];
+    }
 
 -- the tests of two of four
 both_of : (a b c d : Bool) → ((a || b) && (c || d)) ≡ true → ((a ≡ true) ⊎ (b ≡ true)) × ((c ≡ true) ⊎ (d ≡ true))
@@ -170,9 +164,10 @@ pub record Stands (old : NetState) (step : Step) (new : NetState) : Type 0 where
   pub enabled : Enabled (shape old) (network_of old) step
   pub after_it : network_of new ≡ after (shape old) (network_of old) step
   pub config : IsSameConfig old new
+  pub framed : IsFramed new
 
 -- the router's test of an active channel with this front
-abbrev may_leave : NetState → ℕ → ℕ → ℕ → ℕ → ℕ → Bool
+abbrev pub may_leave : NetState → ℕ → ℕ → ℕ → ℕ → ℕ → Bool
 may_leave s x p v o c =
     (o == terminal (router_at s x) || nat_lt 0 (output_at (router_at s x) o c).credits) && (p == terminal (router_at s x) || nat_lt (input_at (router_at s x) p v).owed (router_at s x).depth)
 
@@ -188,28 +183,28 @@ same_true a b e = grind arith
 same_test : (a b : ℕ) → a ≡ b → (a == b) ≡ true
 same_test a b h = grind arith
 
-module _ (s : NetState) (x p v o c : ℕ) (f : Flit) (rest : List Flit) (net : IsNet s) (place : IsNetPlace s x p v) (x_in : x < node_count s.mesh) (port : IsPort (shape s) x p)
+module _ (s : NetState) (x p v o c : ℕ) (f : Flit) (rest : List Flit) {own : ℕ → Bool} (net : IsWorkableBy own s) (place : IsNetPlace s x p v) (x_in : x < node_count s.mesh) (port : IsPort (shape s) x p)
     (e : (input_at (router_at s x) p v).state ≡ Active o c) (b : (input_at (router_at s x) p v).buffer ≡ f ∷ rest) where
   abbrev N : Network
   N = network_of s
 
-  record_is : N.in_record x p v ≡ Active o c
+  pub record_is : N.in_record x p v ≡ Active o c
   record_is = record_there s x p v place ∙ e
 
   buffer_is : N.buffer x p v ≡ f ∷ rest
   buffer_is = buffer_there s x p v place ∙ b
 
-  goes : Going s x o c f
-  goes = going s x p v o c f rest net x_in port record_is buffer_is
+  goes : Going s x o c
+  goes = going s x p v o c net place.node_in record_is
 
-  c_within : c < width (router_at s x)
+  pub c_within : c < width (router_at s x)
   c_within = let node = net.framed.each_node x place.node_in in rw node.same_channels goes.channel
 
   terminal_is : terminal (router_at s x) ≡ 2 * length s.mesh
   terminal_is = let node = net.framed.each_node x place.node_in in ap (λ (m : List ℕ). 2 * length m) node.same_mesh
 
   -- what the test says in the theory
-  may_send : may_leave s x p v o c ≡ true → MaySend (shape s) N x p v o c
+  pub may_send : may_leave s x p v o c ≡ true → MaySend (shape s) N x p v o c
   unfolding net_shape
   may_send test =
       let node = net.framed.each_node x place.node_in in
@@ -258,12 +253,12 @@ module _ (s : NetState) (x p v o c : ℕ) (f : Flit) (rest : List Flit) (net : I
 
   -- a network that the step makes, and what it answers then
   abbrev Made : NetState → Type 0
-  Made new = IsNet new × Stands s (Send x p v) new
+  Made new = IsWorkableBy own new × Stands s (Send x p v) new
 
-  enabled_by : may_leave s x p v o c ≡ true → Enabled (shape s) N (Send x p v)
+  pub enabled_by : may_leave s x p v o c ≡ true → Enabled (shape s) N (Send x p v)
   enabled_by test = subst (λ (r : InRecord). IsActiveAt r (MaySend (shape s) N x p v)) (sym record_is) (may_send test)
 
-  to_after : sent_by (shape s) N x p v o c f rest ≡ after (shape s) N (Send x p v)
+  pub to_after : sent_by (shape s) N x p v o c f rest ≡ after (shape s) N (Send x p v)
   to_after =
       ap (λ (fs : List Flit). sent (shape s) N x p v (Active o c) fs) (sym buffer_is)
       ∙ ap (λ (r : InRecord). sent (shape s) N x p v r (N.buffer x p v)) (sym record_is)
@@ -275,7 +270,7 @@ module _ (s : NetState) (x p v o c : ℕ) (f : Flit) (rest : List Flit) (net : I
       let r = after_leaving (router_at s x) p v leaves in
       let framed = node_framed s x _ net.framed place.node_in (node_of s.mesh s.channels s.depth x (node_at s x) r.inputs r.outputs ((sink_at s x).delivered ++ with_channel f c ∷ []) (net.framed.each_node x place.node_in) (rw length-set refl) (rw length-set refl)) in (
         kept s at_home.nodes s.links (Send x p v) net there enabled framed step,
-        record { there = there; enabled = enabled; after_it = step; config = record { mesh = refl; channels = refl; depth = refl; names = refl } },
+        record { there = there; enabled = enabled; after_it = step; config = record { mesh = refl; channels = refl; depth = refl; names = refl; own = refl }; framed = framed },
       )
 
   made_over : IsThere (shape s) (Send x p v) → may_leave s x p v o c ≡ true → (y : ℕ) → neighbour_of s.mesh x o ≡ Some y → Made on_link
@@ -291,12 +286,12 @@ module _ (s : NetState) (x p v o c : ℕ) (f : Flit) (rest : List Flit) (net : I
       let mid_framed = router_framed s x r.inputs r.outputs net.framed place.node_in (rw length-set refl) (rw length-set refl) in
       let framed = link_framed mid (link_out s x o) (record (link_at s (link_out s x o)) { flits = (link_at s (link_out s x o)).flits ++ with_channel f c ∷ [] }) mid_framed lead.bound refl in (
         kept s on_link.nodes on_link.links (Send x p v) net there enabled framed step,
-        record { there = there; enabled = enabled; after_it = step; config = record { mesh = refl; channels = refl; depth = refl; names = refl } },
+        record { there = there; enabled = enabled; after_it = step; config = record { mesh = refl; channels = refl; depth = refl; names = refl; own = refl }; framed = framed },
       )
 
   -- at the terminal or not
-  made_by : Way s x o f → IsThere (shape s) (Send x p v) → may_leave s x p v o c ≡ true → Made (if o == 2 * length s.mesh then at_home else on_link)
-  made_by (home at end) there test = rw (same_test o (2 * length s.mesh) at) (made_home there test at)
+  made_by : Way s x o → IsThere (shape s) (Send x p v) → may_leave s x p v o c ≡ true → Made (if o == 2 * length s.mesh then at_home else on_link)
+  made_by (home at) there test = rw (same_test o (2 * length s.mesh) at) (made_home there test at)
   made_by (over y linked) there test =
       let lead = leader s x o y net.framed linked in
       rw (below_not_same o (2 * length s.mesh) lead.port_in) (made_over there test y linked)
@@ -307,14 +302,11 @@ module _ (s : NetState) (x p v o c : ℕ) (f : Flit) (rest : List Flit) (net : I
       else with_link (with_router s x (after_leaving (router_at s x) p v l)) (link_out s x o) (record (link_at s (link_out s x o)) { flits = (link_at s (link_out s x o)).flits ++ with_channel f c ∷ [] })))
       (sym is) (made_by goes.way there test)
 
-  -- there is a way for it
-  way_by_goal : Way s x o f → may_leave s x p v o c ≡ true → WayOut s x leaves
+  -- a link is there for it, with room
+  by_link_of : ((y : ℕ) → neighbour_of s.mesh x o ≡ Some y → (own x ≡ true) × (own y ≡ true)) → Way s x o → may_leave s x p v o c ≡ true → LeavesByLink s x leaves
   unfolding net_shape
-  way_by_goal (home at end) test =
-      let node = net.framed.each_node x place.node_in in
-      let here : (o == 2 * length s.mesh) ≡ true = same_test o (2 * length s.mesh) at in
-      (λ _. sym end ∙ sym node.sink_node, λ off. absurd (cc))
-  way_by_goal (over y linked) test =
+  by_link_of inner (home at) test = λ off. let here : (o == 2 * length s.mesh) ≡ true = same_test o (2 * length s.mesh) at in absurd (cc)
+  by_link_of inner (over y linked) test =
       let lead = leader s x o y net.framed linked in
       let off : (o == 2 * length s.mesh) ≡ false = below_not_same o (2 * length s.mesh) lead.port_in in
       let may = may_send test in
@@ -322,59 +314,64 @@ module _ (s : NetState) (x p v o c : ℕ) (f : Flit) (rest : List Flit) (net : I
         | inl at ↦ let here : (o == 2 * length s.mesh) ≡ true = same_test o (2 * length s.mesh) at in absurd (cc)
         | inr some ↦ some
       ] in
-      (λ at. absurd (cc), λ _. (subst IsSome (sym linked) refl, link_room s x o y c net linked lead.has lead.bound goes.channel credit))
+      λ _. (subst IsSome (sym linked) refl, link_room s x o y c net (inner y linked) linked lead.has lead.bound goes.channel credit)
 
-  pub way_out : may_leave s x p v o c ≡ true → WayOut s x leaves
-  way_out test = way_by_goal goes.way test
+  pub leads_off : ((y : ℕ) → neighbour_of s.mesh x o ≡ Some y → (own x ≡ true) × (own y ≡ true)) → may_leave s x p v o c ≡ true → LeavesByLink s x leaves
+  leads_off inner test = by_link_of inner goes.way test
 
 -- what Net::send leaves and answers
 
 stood : (s : NetState) (step : Step) (new : NetState) → Stands s step new → new ≡ done_step s step → IsDone s step new
-stood s step new stands same = record { there = stands.there; enabled = stands.enabled; after_it = stands.after_it; config = stands.config; exact = same }
+stood s step new stands same = record { there = stands.there; enabled = stands.enabled; after_it = stands.after_it; config = stands.config; exact = same; framed = stands.framed }
 
-Outcome : NetState → ℕ → ℕ → ℕ → Result Moved StepFault → NetState → Type 0
-Outcome s x p v answer new = IsNet new × Answers s (Send x p v) answer new
+Outcome : (ℕ → Bool) → NetState → ℕ → ℕ → ℕ → Result Moved StepFault → NetState → Type 0
+Outcome own s x p v answer new = IsWorkableBy own new × Answers s (Send x p v) answer new
 
-idle_answers : (s : NetState) (x p v : ℕ) → IsNet s → IsThere (shape s) (Send x p v) → (Enabled (shape s) (network_of s) (Send x p v) → ⊥)
-    → (answer : Result Moved StepFault) (new : NetState) → Sends s x p v None answer new → Outcome s x p v answer new
+idle_answers : (s : NetState) (x p v : ℕ) → {own : ℕ → Bool} → IsWorkableBy own s → IsThere (shape s) (Send x p v) → (Enabled (shape s) (network_of s) (Send x p v) → ⊥)
+    → (answer : Result Moved StepFault) (new : NetState) → Sends s x p v None answer new → Outcome own s x p v answer new
 unfolding Outcome
 idle_answers s x p v net there idle (Ok Done) new sends = absurd sends
-idle_answers s x p v net there idle (Ok StayedIdle) new sends = (subst IsNet (sym sends) net, (there, idle, refl, sends))
+idle_answers s x p v {own} net there idle (Ok StayedIdle) new sends = (subst (IsWorkableBy own) (sym sends) net, (there, λ h _. idle h, refl, sends))
 idle_answers s x p v net there idle (Err fault) new sends = absurd sends
 
-done_answers : (s : NetState) (x p v : ℕ) (d : ℕ × Flit) → IsNet s → IsThere (shape s) (Send x p v) → Enabled (shape s) (network_of s) (Send x p v)
+done_answers : (s : NetState) (x p v : ℕ) (d : ℕ × Flit) → {own : ℕ → Bool} → IsWorkableBy own s → IsThere (shape s) (Send x p v) → Enabled (shape s) (network_of s) (Send x p v)
     → (d.0 ≡ 2 * length s.mesh → Grows (shape s) (network_of s) (Send x p v))
-    → IsNet (after_sending s x p v d) × Stands s (Send x p v) (after_sending s x p v d) → after_sending s x p v d ≡ done_step s (Send x p v)
-    → (answer : Result Moved StepFault) (new : NetState) → Sends s x p v (Some d) answer new → Outcome s x p v answer new
+    → IsWorkableBy own (after_sending s x p v d) × Stands s (Send x p v) (after_sending s x p v d) → after_sending s x p v d ≡ done_step s (Send x p v) → leaving (router_at s x) p v ≡ Some d
+    → (answer : Result Moved StepFault) (new : NetState) → Sends s x p v (Some d) answer new → Outcome own s x p v answer new
 unfolding Outcome
-done_answers s x p v d net there enabled grows made same (Ok Done) new sends = subst (λ (n : NetState). IsNet n × Answers s (Send x p v) (Ok Done) n) (sym sends) (made.0, stood s (Send x p v) (after_sending s x p v d) made.1 same)
-done_answers s x p v d net there enabled grows made same (Ok StayedIdle) new sends = absurd sends
-done_answers s x p v d net there enabled grows made same (Err NoSuchPlace) new sends = absurd sends
-done_answers s x p v d net there enabled grows made same (Err (Refused fault)) new sends = absurd sends
-done_answers s x p v d net there enabled grows made same (Err NoMemory) new sends =
-    (subst IsNet (sym sends.1) net, (there, enabled, grows (same_true d.0 (2 * length s.mesh) sends.0), sends.1))
+done_answers s x p v d {own} net there enabled grows made same is (Ok Done) new sends = subst (λ (n : NetState). IsWorkableBy own n × Answers s (Send x p v) (Ok Done) n) (sym sends) (made.0, stood s (Send x p v) (after_sending s x p v d) made.1 same)
+done_answers s x p v d {own} net there enabled grows made same is (Ok StayedIdle) new sends =
+    (subst (IsWorkableBy own) (sym sends.1) net, (there, λ _. subst (λ (o : Option (ℕ × Flit)). HasWay s x o → ⊥) (sym is) sends.0, refl, sends.1))
+done_answers s x p v d {own} net there enabled grows made same is (Err NoSuchPlace) new sends = absurd sends
+done_answers s x p v d {own} net there enabled grows made same is (Err (Refused fault)) new sends = absurd sends
+done_answers s x p v d {own} net there enabled grows made same is (Err NoMemory) new sends =
+    (subst (IsWorkableBy own) (sym sends.1) net, (there, enabled, grows (same_true d.0 (2 * length s.mesh) sends.0), sends.1))
+
+-- what leaves stays among the nodes that are owned
+abbrev pub SendsWithin : (ℕ → Bool) → NetState → ℕ → ℕ → ℕ → Type 0
+SendsWithin own s x p v = IfSome (leaving (router_at s x) p v) (λ out. EndsWithin (shape s) own x out.0)
 
 -- of each state and list of an input channel
-abbrev Judged : NetState → ℕ → ℕ → ℕ → InRecord → List Flit → Type 0
-Judged s x p v st fs =
-    WayOut s x (leaving_by (router_at s x) p (input_at (router_at s x) p v) st fs)
-    × ((answer : Result Moved StepFault) (new : NetState) → Sends s x p v (leaving_by (router_at s x) p (input_at (router_at s x) p v) st fs) answer new → Outcome s x p v answer new)
+abbrev Judged : (ℕ → Bool) → NetState → ℕ → ℕ → ℕ → InRecord → List Flit → Type 0
+Judged own s x p v st fs =
+    LeavesByLink s x (leaving_by (router_at s x) p (input_at (router_at s x) p v) st fs)
+    × ((answer : Result Moved StepFault) (new : NetState) → Sends s x p v (leaving_by (router_at s x) p (input_at (router_at s x) p v) st fs) answer new → Outcome own s x p v answer new)
 
-judged : (s : NetState) (x p v : ℕ) → IsNet s → IsNetPlace s x p v → x < node_count s.mesh → IsPort (shape s) x p → IsThere (shape s) (Send x p v)
-    → (st : InRecord) (fs : List Flit) → (input_at (router_at s x) p v).state ≡ st → (input_at (router_at s x) p v).buffer ≡ fs → Judged s x p v st fs
+judged : (s : NetState) (x p v : ℕ) → {own : ℕ → Bool} → IsWorkableBy own s → SendsWithin own s x p v
+    → IsNetPlace s x p v → x < node_count s.mesh → IsPort (shape s) x p → IsThere (shape s) (Send x p v) → (st : InRecord) (fs : List Flit) → (input_at (router_at s x) p v).state ≡ st → (input_at (router_at s x) p v).buffer ≡ fs → Judged own s x p v st fs
 unfolding net_shape
-judged s x p v net place x_in port there Idle fs e b =
+judged s x p v net inner place x_in port there Idle fs e b =
     (tt, idle_answers s x p v net there (λ h. subst (λ (r : InRecord). IsActiveAt r (MaySend (shape s) (network_of s) x p v)) (record_there s x p v place ∙ e) h))
-judged s x p v net place x_in port there (Waiting o) fs e b =
+judged s x p v net inner place x_in port there (Waiting o) fs e b =
     (tt, idle_answers s x p v net there (λ h. subst (λ (r : InRecord). IsActiveAt r (MaySend (shape s) (network_of s) x p v)) (record_there s x p v place ∙ e) h))
-judged s x p v net place x_in port there (Active o c) [] e b = (
+judged s x p v net inner place x_in port there (Active o c) [] e b = (
   tt,
   idle_answers s x p v net there (λ h.
       let may : MaySend (shape s) (network_of s) x p v o c = subst (λ (r : InRecord). IsActiveAt r (MaySend (shape s) (network_of s) x p v)) (record_there s x p v place ∙ e) h in
       let some : 0 < length ((network_of s).buffer x p v) = may.0 in
       absurd (omega (arith, ap (λ (fs : List Flit). length fs) (buffer_there s x p v place ∙ b)))),
 )
-judged s x p v net place x_in port there (Active o c) (f ∷ rest) e b = elim (bool_cases (may_leave s x p v o c)) [
+judged s x p v {own} net inner place x_in port there (Active o c) (f ∷ rest) e b = elim (bool_cases (may_leave s x p v o c)) [
   | inl test ↦
       let leaves_is : leaving (router_at s x) p v ≡ Some (o, with_channel f c) =
       ap (λ (r : InRecord). leaving_by (router_at s x) p (input_at (router_at s x) p v) r (input_at (router_at s x) p v).buffer) e
@@ -382,8 +379,8 @@ judged s x p v net place x_in port there (Active o c) (f ∷ rest) e b = elim (b
       let grows : o ≡ 2 * length s.mesh → Grows (shape s) (network_of s) (Send x p v) = λ at. subst (λ (r : InRecord). IsActiveAt r (λ o c. o ≡ 2 * length s.mesh)) (sym (record_there s x p v place ∙ e)) at in
       let all = made s x p v o c f rest net place x_in port e b there test leaves_is in
       rw test (
-        way_out s x p v o c f rest net place x_in port e b test,
-        done_answers s x p v (o, with_channel f c) net there (enabled_by s x p v o c f rest net place x_in port e b test) grows all (ap (after_ready s x p v) (sym leaves_is)),
+        leads_off s x p v o c f rest net place x_in port e b (subst (λ (l : Option (ℕ × Flit)). IfSome l (λ out. EndsWithin (shape s) own x out.0)) leaves_is inner) test,
+        done_answers s x p v (o, with_channel f c) net there (enabled_by s x p v o c f rest net place x_in port e b test) grows all (ap (after_ready s x p v) (sym leaves_is)) leaves_is,
       )
   | inr test ↦
       rw test (
@@ -395,15 +392,16 @@ judged s x p v net place x_in port there (Active o c) (f ∷ rest) e b = elim (b
       )
 ]
 
-pub send_answers : (s : NetState) (x p v : ℕ) → IsNet s → IsThere (shape s) (Send x p v) → (answer : Result Moved StepFault) (new : NetState)
-    → Sends s x p v (leaving (router_at s x) p v) answer new → IsNet new × Answers s (Send x p v) answer new
+pub send_answers : (s : NetState) (x p v : ℕ) → {own : ℕ → Bool} → IsWorkableBy own s → SendsWithin own s x p v → IsThere (shape s) (Send x p v)
+    → (answer : Result Moved StepFault) (new : NetState) → Sends s x p v (leaving (router_at s x) p v) answer new → IsWorkableBy own new × Answers s (Send x p v) answer new
 unfolding net_shape Outcome
-send_answers s x p v net there answer new sends =
+send_answers s x p v net inner there answer new sends =
     let place = net_place s x p v net.framed there.0 there.1 there.2 in
-    (judged s x p v net place there.0 there.1 there (input_at (router_at s x) p v).state (input_at (router_at s x) p v).buffer refl refl).1 answer new sends
+    (judged s x p v net inner place there.0 there.1 there (input_at (router_at s x) p v).state (input_at (router_at s x) p v).buffer refl refl).1 answer new sends
 
-pub send_way : (s : NetState) (x p v : ℕ) → IsNet s → IsThere (shape s) (Send x p v) → WayOut s x (leaving (router_at s x) p v)
+pub send_leads : (s : NetState) (x p v : ℕ) → {own : ℕ → Bool} → IsWorkableBy own s → SendsWithin own s x p v → IsThere (shape s) (Send x p v)
+    → LeavesByLink s x (leaving (router_at s x) p v)
 unfolding net_shape
-send_way s x p v net there =
+send_leads s x p v net inner there =
     let place = net_place s x p v net.framed there.0 there.1 there.2 in
-    (judged s x p v net place there.0 there.1 there (input_at (router_at s x) p v).state (input_at (router_at s x) p v).buffer refl refl).0
+    (judged s x p v net inner place there.0 there.1 there (input_at (router_at s x) p v).state (input_at (router_at s x) p v).buffer refl refl).0

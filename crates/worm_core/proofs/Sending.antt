@@ -9,9 +9,11 @@ use Rattle.worm_swalloc.specs.SwAlloc.{AreGranted, is_of}
 use Rattle.worm_swalloc.proofs.WalkLemmas.{IsWalked, walked_start, walked_from, walked_over, walked_more, walked_all}
 use Rattle.worm_router.specs.Allocation.{switch_grants}
 use Rattle.worm_theory.specs.Steps.{Send, IsThere}
-use Rattle.worm_core.specs.State.{NetState, IsNet, IsSameConfig, router_at, shape}
-use Rattle.worm_core.specs.Answers.{Answers}
-use Rattle.worm_core.specs.Turns.{Each, Tries, Does, fault_of, granted_send}
+use Rattle.worm_core.specs.State.{NetState, IsSameConfig, router_at, shape}
+use Rattle.worm_core.specs.Workable.{IsWorkable}
+use Rattle.worm_core.specs.RegionAnswers.{Answers}
+use Rattle.worm_core.specs.RegionTurns.{Tries}
+use Rattle.worm_core.specs.Turns.{Each, Does, fault_of, granted_send}
 use Rattle.worm_core.specs.declared.step.Moved.{Moved}
 use Rattle.worm_core.specs.declared.fault.StepFault.{StepFault}
 use Rattle.worm_core.proofs.Allocating.{there_still}
@@ -131,7 +133,7 @@ sent_all x grants all left a b are sent e =
     (granted_none grants all i are (let few = sent.few in omega arith) (λ v v_in. walked_all all left sent.next 7 i v sent.walked e above (let few = sent.few in omega arith) v_in))).exact)
 
 -- a Send that is there is by a port of the node
-pub send_port : (s : NetState) (x p v : ℕ) → IsNet s → IsThere (shape s) (Send x p v) → p ≤ 2 * length s.mesh
+pub send_port : (s : NetState) (x p v : ℕ) → IsWorkable s → IsThere (shape s) (Send x p v) → p ≤ 2 * length s.mesh
 send_port s x p v net there =
     let place = net_place s x p v net.framed there.0 there.1 there.2 in
     let node = net.framed.each_node x place.node_in in
@@ -140,7 +142,7 @@ send_port s x p v net there =
     omega arith
 
 -- a channel that comes out is there to send
-pub sent_there : (s : NetState) (x all left left' port vc : ℕ) (a b : NetState) → IsNet s → IsSameConfig s a → AreGranted (switch_grants (router_at s x)) all
+pub sent_there : (s : NetState) (x all left left' port vc : ℕ) (a b : NetState) → IsWorkable s → IsSameConfig s a → AreGranted (switch_grants (router_at s x)) all
     → ((p : ℕ) (g : SwGrant) → slice_index_or (switch_grants (router_at s x)) p None ≡ Some g → IsThere (shape s) (Send x p g.vc))
     → Sent x (switch_grants (router_at s x)) all left a b → IsFirst left left' port vc → IsThere (shape b) (Send x port vc) × (port ≤ 2 * length a.mesh)
 sent_there s x all left left' port vc a b net config are there sent first =

@@ -9,10 +9,11 @@ use Rattle.worm_mesh.specs.Links.{links_before}
 use Rattle.worm_router.specs.Router.{ChannelState, input_at, put_in, after_accept}
 use Rattle.worm_theory.specs.Network.{Network, put2, put3}
 use Rattle.worm_theory.specs.Steps.{Take, IsThere, Enabled, FrontIs, IsLinked, after, taken, taken_from}
-use Rattle.worm_theory.specs.Sound.{Leaves}
 use Rattle.worm_core.specs.Shape.{net_shape}
-use Rattle.worm_core.specs.State.{NetState, LinkView, IsNet, IsFramed, IsNetPlace, shape, network_of, router_at, with_router, link_at}
-use Rattle.worm_core.specs.Answers.{Answers, moved_of}
+use Rattle.worm_core.specs.State.{NetState, LinkView, IsFramed, IsNetPlace, shape, network_of, router_at, with_router, link_at}
+use Rattle.worm_core.specs.Workable.{IsWorkableBy, IsSent}
+use Rattle.worm_core.specs.RegionAnswers.{Answers}
+use Rattle.worm_core.specs.Answers.{moved_of}
 use Rattle.worm_core.specs.Moves.{done_step, into_from, link_into, front_into, FrontFits, has_room, can_enter, after_take}
 use Rattle.worm_core.proofs.Ends.{feeder, first_of, none_of}
 use Rattle.worm_core.proofs.Bridge.{put2_same, put3_same, input_bridge, input_of-there, below_cases}
@@ -37,21 +38,21 @@ buffer_bridge s x p f framed place =
     input_bridge s x p f.vc (put_in c f) place.node_in place.place (framed.each_node x place.node_in).all_inputs ∙ same
 
 -- the front of a link may go into a buffer of its end
-pub front_place : (s : NetState) (x p y : ℕ) (f : Flit) (rest : List Flit) → IsNet s → x < length s.nodes → neighbour_of s.mesh x p ≡ Some y
+pub front_place : (s : NetState) (x p y : ℕ) (f : Flit) (rest : List Flit) → {own : ℕ → Bool} → IsWorkableBy own s → x < length s.nodes → neighbour_of s.mesh x p ≡ Some y
     → (link_at s (links_before s.mesh y (opposite_of p))).flits ≡ f ∷ rest → IsNetPlace s x p f.vc × (f.lane.dst < node_count (router_at s x).mesh)
 unfolding net_shape
 front_place s x p y f rest net x_in e flits =
     let node = net.framed.each_node x x_in in
     let fed = feeder s x p y net.framed e in
     let out = out_there s y (opposite_of p) net.framed fed.has ∙ flits in
-    let all = subst (λ (fs : List Flit). All (Leaves (shape s) y (opposite_of p)) fs) out (net.sound.leaving y (opposite_of p)) in
-    let leaves = All-head (Leaves (shape s) y (opposite_of p)) f rest all in
+    let all = subst (λ (fs : List Flit). All (IsSent (shape s)) fs) out (net.works.out y (opposite_of p)) in
+    let is_sent = All-head (IsSent (shape s)) f rest all in
     let port : p < 2 * length s.mesh = fed.port_in in
-    let channel : f.vc < sum s.channels = leaves.owned.0 in
+    let channel : f.vc < sum s.channels = is_sent.channel in
     let port_le : p ≤ 2 * length s.mesh = omega arith in
-    (record { node_in = x_in; place = record { port_in = rw node.same_mesh port_le; channel_in = rw node.same_channels channel } }, rw node.same_mesh leaves.lane_there.destination)
+    (record { node_in = x_in; place = record { port_in = rw node.same_mesh port_le; channel_in = rw node.same_channels channel } }, rw node.same_mesh is_sent.goal)
 
-take_done : (s : NetState) (x p y : ℕ) (f : Flit) → IsNet s → x < length s.nodes → neighbour_of s.mesh x p ≡ Some y
+take_done : (s : NetState) (x p y : ℕ) (f : Flit) → {own : ℕ → Bool} → IsWorkableBy own s → x < length s.nodes → neighbour_of s.mesh x p ≡ Some y
     → slice_get (link_at s (links_before s.mesh y (opposite_of p))).flits 0 ≡ Some f → has_room (router_at s x) p f ≡ true
     → Enabled (shape s) (network_of s) (Take x p) × (network_of (after_take s x p (links_before s.mesh y (opposite_of p)) (Some f)) ≡ after (shape s) (network_of s) (Take x p)) × IsFramed (after_take s x p (links_before s.mesh y (opposite_of p)) (Some f))
 unfolding net_shape
@@ -93,7 +94,7 @@ take_done s x p y f net x_in e first room =
     let to_after : taken (shape s) N x p (Some y) ≡ after (shape s) N (Take x p) = ap (λ (z : Option ℕ). taken (shape s) N x p z) (sym e) in
     (enabled, from_mid ∙ (linked ∙ (same ∙ (to_taken ∙ to_after))), link_framed mid k l mid_framed fed.bound refl)
 
-take_idle : (s : NetState) (x p y : ℕ) → IsNet s → x < length s.nodes → neighbour_of s.mesh x p ≡ Some y → (o : Option Flit)
+take_idle : (s : NetState) (x p y : ℕ) → {own : ℕ → Bool} → IsWorkableBy own s → x < length s.nodes → neighbour_of s.mesh x p ≡ Some y → (o : Option Flit)
     → slice_get (link_at s (links_before s.mesh y (opposite_of p))).flits 0 ≡ o → can_enter (router_at s x) p o ≡ false
     → Enabled (shape s) (network_of s) (Take x p) → ⊥
 unfolding net_shape
@@ -121,13 +122,13 @@ take_idle s x p y net x_in e (Some f) first can h =
     ]
 
 -- what Net::take leaves and answers, for the link k
-Outcome : NetState → ℕ → ℕ → ℕ → Option Flit → Bool → Type 0
-Outcome s x p k o b =
-    IsNet (if b then after_take s x p k o else s) × Answers s (Take x p) (Ok (moved_of b)) (if b then after_take s x p k o else s)
+Outcome : (ℕ → Bool) → NetState → ℕ → ℕ → ℕ → Option Flit → Bool → Type 0
+Outcome own s x p k o b =
+    IsWorkableBy own (if b then after_take s x p k o else s) × Answers s (Take x p) (Ok (moved_of b)) (if b then after_take s x p k o else s)
 
-take_at : (s : NetState) (x p y : ℕ) → IsNet s → x < length s.nodes → IsThere (shape s) (Take x p) → neighbour_of s.mesh x p ≡ Some y → (o : Option Flit) (b : Bool)
+take_at : (s : NetState) (x p y : ℕ) → {own : ℕ → Bool} → IsWorkableBy own s → x < length s.nodes → IsThere (shape s) (Take x p) → neighbour_of s.mesh x p ≡ Some y → (o : Option Flit) (b : Bool)
     → slice_get (link_at s (links_before s.mesh y (opposite_of p))).flits 0 ≡ o → can_enter (router_at s x) p o ≡ b
-    → after_take s x p (links_before s.mesh y (opposite_of p)) o ≡ done_step s (Take x p) → Outcome s x p (links_before s.mesh y (opposite_of p)) o b
+    → after_take s x p (links_before s.mesh y (opposite_of p)) o ≡ done_step s (Take x p) → Outcome own s x p (links_before s.mesh y (opposite_of p)) o b
 unfolding Outcome
 take_at s x p y net x_in there e None true first can same = absurd (cc)
 take_at s x p y net x_in there e None false first can same = (net, (there, take_idle s x p y net x_in e None first can, refl, refl))
@@ -135,26 +136,26 @@ take_at s x p y net x_in there e (Some f) true first can same =
     let step = take_done s x p y f net x_in e first can in
     let new = after_take s x p (links_before s.mesh y (opposite_of p)) (Some f) in (
       kept s new.nodes new.links (Take x p) net there step.0 step.2 step.1,
-      record { there = there; enabled = step.0; after_it = step.1; config = record { mesh = refl; channels = refl; depth = refl; names = refl }; exact = same },
+      record { there = there; enabled = step.0; after_it = step.1; config = record { mesh = refl; channels = refl; depth = refl; names = refl; own = refl }; exact = same; framed = step.2 },
     )
 take_at s x p y net x_in there e (Some f) false first can same = (net, (there, take_idle s x p y net x_in e (Some f) first can, refl, refl))
 
-take_by : (s : NetState) (x p : ℕ) → IsNet s → x < length s.nodes → IsThere (shape s) (Take x p) → (n : Option ℕ) → neighbour_of s.mesh x p ≡ n → IsSome n
+take_by : (s : NetState) (x p : ℕ) → {own : ℕ → Bool} → IsWorkableBy own s → x < length s.nodes → IsThere (shape s) (Take x p) → (n : Option ℕ) → neighbour_of s.mesh x p ≡ n → IsSome n
     → after_take s x p (into_from s.mesh p n) (slice_get (link_at s (into_from s.mesh p n)).flits 0) ≡ done_step s (Take x p)
-    → Outcome s x p (into_from s.mesh p n) (slice_get (link_at s (into_from s.mesh p n)).flits 0) (can_enter (router_at s x) p (slice_get (link_at s (into_from s.mesh p n)).flits 0))
+    → Outcome own s x p (into_from s.mesh p n) (slice_get (link_at s (into_from s.mesh p n)).flits 0) (can_enter (router_at s x) p (slice_get (link_at s (into_from s.mesh p n)).flits 0))
 take_by s x p net x_in there None e some same = absurd (cc)
 take_by s x p net x_in there (Some y) e some same =
     take_at s x p y net x_in there e (slice_get (link_at s (links_before s.mesh y (opposite_of p))).flits 0) (can_enter (router_at s x) p (slice_get (link_at s (links_before s.mesh y (opposite_of p))).flits 0)) refl refl same
 
-pub take_answers : (s : NetState) (x p : ℕ) → IsNet s → IsThere (shape s) (Take x p) → (done : Bool) → done ≡ can_enter (router_at s x) p (front_into s x p)
-    → IsNet (if done then after_take s x p (link_into s x p) (front_into s x p) else s) × Answers s (Take x p) (Ok (moved_of done)) (if done then after_take s x p (link_into s x p) (front_into s x p) else s)
+pub take_answers : (s : NetState) (x p : ℕ) → {own : ℕ → Bool} → IsWorkableBy own s → IsThere (shape s) (Take x p) → (done : Bool) → done ≡ can_enter (router_at s x) p (front_into s x p)
+    → IsWorkableBy own (if done then after_take s x p (link_into s x p) (front_into s x p) else s) × Answers s (Take x p) (Ok (moved_of done)) (if done then after_take s x p (link_into s x p) (front_into s x p) else s)
 unfolding net_shape Outcome
 take_answers s x p net there done e =
     let all = net.framed.all_nodes in
     let node_in = there.0 in
     rw e (take_by s x p net (omega arith) there (neighbour_of s.mesh x p) refl there.1 refl)
 
-fits_at : (s : NetState) (x p y : ℕ) → IsNet s → x < length s.nodes → neighbour_of s.mesh x p ≡ Some y → (o : Option Flit)
+fits_at : (s : NetState) (x p y : ℕ) → {own : ℕ → Bool} → IsWorkableBy own s → x < length s.nodes → neighbour_of s.mesh x p ≡ Some y → (o : Option Flit)
     → slice_get (link_at s (links_before s.mesh y (opposite_of p))).flits 0 ≡ o → FrontFits (router_at s x) p o
 fits_at s x p y net x_in e None first = tt
 fits_at s x p y net x_in e (Some f) first =
@@ -162,12 +163,12 @@ fits_at s x p y net x_in e (Some f) first =
     let place = front_place s x p y f (drop 1 (link_at s k).flits) net x_in e (first_of (link_at s k).flits f first) in
     (place.0.place, place.1)
 
-fits_by : (s : NetState) (x p : ℕ) → IsNet s → x < length s.nodes → (n : Option ℕ) → neighbour_of s.mesh x p ≡ n → IsSome n
+fits_by : (s : NetState) (x p : ℕ) → {own : ℕ → Bool} → IsWorkableBy own s → x < length s.nodes → (n : Option ℕ) → neighbour_of s.mesh x p ≡ n → IsSome n
     → FrontFits (router_at s x) p (slice_get (link_at s (into_from s.mesh p n)).flits 0)
 fits_by s x p net x_in None e some = absurd (cc)
 fits_by s x p net x_in (Some y) e some = fits_at s x p y net x_in e (slice_get (link_at s (links_before s.mesh y (opposite_of p))).flits 0) refl
 
-pub front_fits : (s : NetState) (x p : ℕ) → IsNet s → IsThere (shape s) (Take x p) → FrontFits (router_at s x) p (front_into s x p)
+pub front_fits : (s : NetState) (x p : ℕ) → {own : ℕ → Bool} → IsWorkableBy own s → IsThere (shape s) (Take x p) → FrontFits (router_at s x) p (front_into s x p)
 unfolding net_shape
 front_fits s x p net there =
     let all = net.framed.all_nodes in

@@ -29,7 +29,7 @@ accepted_at s x net x_in =
     let node = net.framed.each_node x (omega arith) in
     let n = node_at s x in
     let queues : length s.channels ≡ length n.source.queues = sym (ap (λ (cs : List ℕ). length cs) node.source_channels) ∙ sym node.source_holds.all_queues in
-    all_is (λ (q : QueueState). length q.injected) empty_queue n.source.queues (length s.channels) queues ∙ ap accepted_by (sym (is_nth s x net x_in))
+    all_is (λ (q : QueueState). length q.injected) empty_queue n.source.queues (length s.channels) queues ∙ ap accepted_by (sym (is_nth s x net.framed x_in))
 
 pub injected_is : (s : NetState) → IsNet s → injected_total s ≡ accepted_in s.nodes
 unfolding accepted_in
@@ -40,7 +40,7 @@ injected_is s net =
 pub delivered_is : (s : NetState) → IsNet s → delivered_total s ≡ taken_in s.nodes
 unfolding taken_in taken_by
 delivered_is s net =
-    sum_below_same (λ x. length (sink_at s x).delivered) (λ x. taken_by (nth_node s.nodes x)) (node_count s.mesh) (λ x x_in. ap taken_by (sym (is_nth s x net x_in)))
+    sum_below_same (λ x. length (sink_at s x).delivered) (λ x. taken_by (nth_node s.nodes x)) (node_count s.mesh) (λ x x_in. ap taken_by (sym (is_nth s x net.framed x_in)))
     ∙ all_is taken_by no_node s.nodes (node_count s.mesh) (sym net.framed.all_nodes)
 
 -- the number under way, as the sums have it

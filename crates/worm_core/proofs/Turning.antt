@@ -14,8 +14,9 @@ use Rattle.worm_theory.specs.Steps.{Step, Send, GiveCredit}
 use Rattle.worm_core.specs.Script.{begun_at, lane_of}
 use Rattle.worm_core.specs.State.{NetState, router_at, with_router}
 use Rattle.worm_core.specs.Moves.{chosen_router}
-use Rattle.worm_core.specs.Answers.{Answers}
-use Rattle.worm_core.specs.Turns.{Each, Tries, Does, Reaches, Allocates, AsksSource, GivesCredit, SendsGranted, all_ports, ask, fault_of, granted_send, lowest_owed}
+use Rattle.worm_core.specs.RegionAnswers.{Answers}
+use Rattle.worm_core.specs.RegionTurns.{Tries, AsksSource, GivesCredit, SendsGranted}
+use Rattle.worm_core.specs.Turns.{Each, Does, Reaches, Allocates, all_ports, ask, fault_of, granted_send, lowest_owed}
 use Rattle.worm_core.specs.declared.script.Entry.{Entry}
 use Rattle.worm_core.specs.declared.step.Moved.{Moved}
 use Rattle.worm_core.specs.declared.fault.StepFault.{StepFault}

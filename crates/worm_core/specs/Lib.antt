@@ -1,6 +1,8 @@
 pub mod Script
 pub mod Shape
+pub mod Owned
 pub mod State
+pub mod Workable
 pub mod Answers
 pub mod Wiring
 pub mod Ports
@@ -9,10 +11,13 @@ pub mod Arrivals
 pub mod Moves
 pub mod Still
 pub mod UnderWay
+pub mod Edges
 pub mod Runs
 pub mod Headline
 pub mod NewNet
+pub mod RegionAnswers
 pub mod Turns
+pub mod RegionTurns
 pub mod Totals
 pub mod LaneView
 pub mod LaneSet

@@ -10,7 +10,7 @@ use Rattle.worm_vcalloc.specs.ChannelSet.{has}
 use Rattle.worm_term.specs.Sink.{after_take as after_sink}
 use Rattle.worm_term.specs.Source.{front_of, after_offer, after_close, after_fed}
 use Rattle.worm_theory.specs.Steps.{Step, Offer, CloseLane, Feed, Route, Grant, Send, Take, GiveCredit, TakeCredit}
-use Rattle.worm_core.specs.State.{NetState, node_at, router_at, source_at, sink_at, link_at, with_node, with_router, with_source, with_link}
+use Rattle.worm_core.specs.State.{NetState, node_at, router_at, source_at, link_at, with_node, with_router, with_source, with_link}
 use Rattle.worm_core.specs.declared.node.Node.{Node}
 use Rattle.worm_core.specs.declared.step.Moved.{Moved}
 use Rattle.worm_core.specs.declared.step.Moved.TheVariants.{Done, Idle}
@@ -86,19 +86,22 @@ after_sending s x p v d =
     if d.0 == 2 * length s.mesh then with_node s x (delivered_node (node_at s x) p v d.1)
     else with_link (with_router s x (after_send (router_at s x) p v)) (link_out s x d.0) (record (link_at s (link_out s x d.0)) { flits = (link_at s (link_out s x d.0)).flits ++ d.1 ∷ [] })
 
--- there is a way for what leaves: it is at home, or the link out of its port has room
-abbrev pub WayOut : NetState → ℕ → Option (ℕ × Flit) → Type 0
-WayOut s x None = Unit {0}
-WayOut s x (Some d) =
-    ((d.0 == 2 * length s.mesh) ≡ true → d.1.lane.dst ≡ (sink_at s x).node)
-    × ((d.0 == 2 * length s.mesh) ≡ false → IsSome (neighbour_of s.mesh x d.0) × (length (link_at s (link_out s x d.0)).flits < (link_at s (link_out s x d.0)).room))
+-- what leaves goes into the sink, or by a port that has a link with room
+abbrev pub LeavesByLink : NetState → ℕ → Option (ℕ × Flit) → Type 0
+LeavesByLink s x None = Unit {0}
+LeavesByLink s x (Some d) = (d.0 == 2 * length s.mesh) ≡ false → IsSome (neighbour_of s.mesh x d.0) × (length (link_at s (link_out s x d.0)).flits < (link_at s (link_out s x d.0)).room)
+
+-- what leaves for the sink is at home
+abbrev pub HasWay : NetState → ℕ → Option (ℕ × Flit) → Type 0
+HasWay s x None = Unit {0}
+HasWay s x (Some d) = (d.0 == 2 * length s.mesh) ≡ true → d.1.lane.dst ≡ x
 
 abbrev pub Sends : NetState → ℕ → ℕ → ℕ → Option (ℕ × Flit) → Result Moved StepFault → NetState → Type 0
 Sends old x p v None (Ok Done) new = ⊥
 Sends old x p v None (Ok Idle) new = new ≡ old
 Sends old x p v None (Err fault) new = ⊥
 Sends old x p v (Some d) (Ok Done) new = new ≡ after_sending old x p v d
-Sends old x p v (Some d) (Ok Idle) new = ⊥
+Sends old x p v (Some d) (Ok Idle) new = (HasWay old x (Some d) → ⊥) × (new ≡ old)
 Sends old x p v (Some d) (Err NoSuchPlace) new = ⊥
 Sends old x p v (Some d) (Err (Refused fault)) new = ⊥
 Sends old x p v (Some d) (Err NoMemory) new = ((d.0 == 2 * length old.mesh) ≡ true) × (new ≡ old)

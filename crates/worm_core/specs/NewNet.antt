@@ -4,6 +4,7 @@ use Rattle.worm_flit.specs.Channels.{AreChannels}
 use Rattle.worm_mesh.specs.Address.{IsMesh as IsRadices, node_count}
 use Rattle.worm_mesh.specs.Links.{link_count}
 use Rattle.worm_core.specs.declared.node.Node.{Node}
+use Rattle.worm_core.specs.Owned.{sole}
 use Rattle.worm_core.specs.State.{NetState, LinkView, fresh_node}
 
 -- the limits of a configuration
@@ -25,6 +26,7 @@ pub record IsFresh (mesh channels : List ℕ) (depth : ℕ) (names : List (List 
   pub same_channels : s.channels ≡ channels
   pub same_depth : s.depth ≡ depth
   pub same_names : s.names ≡ names
+  pub all_owned : s.own ≡ sole
   pub all_nodes : length s.nodes ≡ node_count mesh
   pub nodes : AreFresh mesh channels depth s.nodes
   pub links : s.links ≡ replicate (link_count mesh) (empty_link (sum channels * depth))

@@ -16,7 +16,9 @@ use Rattle.worm_theory.specs.Sound.{Sound, OthersIdle, OnesClosed}
 use Rattle.worm_theory.specs.Cut.{LanesCut}
 use Rattle.worm_theory.specs.PacketCut.{PacketsHold}
 use Rattle.worm_core.specs.Shape.{net_shape}
+use Rattle.worm_core.specs.Owned.{sole}
 use Rattle.worm_core.specs.declared.node.Node.{Node}
+use Rattle.worm_core.specs.declared.own.Own.{Own}
 
 -- a link: its flits and its credits, front first, and how many of each fit without growing
 pub record LinkView : Type 0 where
@@ -28,7 +30,8 @@ pub record LinkView : Type 0 where
 abbrev pub texts_of : List ArrayString → List (List ℕ)
 texts_of names = map (λ (name : ArrayString). name.bytes) names
 
--- the configuration, the nodes by number, and the links by number
+-- The configuration, the nodes by number, the links by number, and which of the nodes are owned by whoever has it: of a whole
+-- network all are.
 pub record NetState : Type 0 where
   pub mesh : List ℕ
   pub channels : List ℕ
@@ -36,10 +39,18 @@ pub record NetState : Type 0 where
   pub names : List (List ℕ)
   pub nodes : List Node
   pub links : List LinkView
+  pub own : Own
 
-abbrev pub net_state : List ℕ → List ℕ → ℕ → List (List ℕ) → List Node → List LinkView → NetState
-net_state mesh channels depth names nodes links =
-    record { mesh = mesh; channels = channels; depth = depth; names = names; nodes = nodes; links = links }
+abbrev pub net_state : List ℕ → List ℕ → ℕ → List (List ℕ) → List Node → List LinkView → Own → NetState
+net_state mesh channels depth names nodes links own = record {
+  mesh = mesh;
+  channels = channels;
+  depth = depth;
+  names = names;
+  nodes = nodes;
+  links = links;
+  own = own;
+}
 
 -- a node as a new network has it; also what is read of a node that is not there
 abbrev pub fresh_node : List ℕ → List ℕ → ℕ → ℕ → Node
@@ -130,6 +141,7 @@ pub record IsNodeOf (mesh channels : List ℕ) (depth x : ℕ) (n : Node) : Type
 pub record IsFramed (s : NetState) : Type 0 where
   pub radices : IsRadices s.mesh
   pub classes : AreChannels s.channels
+  pub least_depth : 1 ≤ s.depth
   pub all_nodes : length s.nodes ≡ node_count s.mesh
   pub all_links : length s.links ≡ link_count s.mesh
   pub each_node : (x : ℕ) → x < length s.nodes → IsNodeOf s.mesh s.channels s.depth x (node_at s x)
@@ -138,6 +150,7 @@ pub record IsFramed (s : NetState) : Type 0 where
 -- what holds of each network
 pub record IsNet (s : NetState) : Type 0 where
   pub framed : IsFramed s
+  pub all_owned : s.own ≡ sole
   pub sound : Sound (shape s) (network_of s)
   pub cut : LanesCut (shape s) (network_of s)
   pub packets : PacketsHold (shape s) (network_of s)
@@ -149,9 +162,10 @@ pub record IsNetPlace (s : NetState) (x p v : ℕ) : Type 0 where
   pub node_in : x < length s.nodes
   pub place : IsPlace (router_at s x) p v
 
--- the configuration is the same
+-- the configuration is the same, and so are the nodes that are owned
 pub record IsSameConfig (old new : NetState) : Type 0 where
   pub mesh : new.mesh ≡ old.mesh
   pub channels : new.channels ≡ old.channels
   pub depth : new.depth ≡ old.depth
   pub names : new.names ≡ old.names
+  pub own : new.own ≡ old.own

@@ -73,7 +73,7 @@ all_classes s = range_with_len 0 (length s.channels)
 abbrev pub all_channels : NetState → List ℕ
 all_channels s = range_with_len 0 (sum s.channels)
 
--- The turn of a node
+-- The turn of a node, by the passage T that a step is
 
 -- what an entry asks of the node's source
 abbrev pub ask : ℕ → Act → Step
@@ -81,26 +81,26 @@ ask x (ToOffer packet) = Offer x packet.lane packet.words
 ask x (ToClose lane) = CloseLane x lane
 
 -- the node's source is asked what the entries ask of it
-abbrev pub AsksSource : List Entry → ℕ → Passage
-AsksSource entries x = ForEach (λ s. map (λ (e : Entry). ask x e.act) (begun_at x entries)) Tries
+abbrev pub AsksSourceBy : (Step → Passage) → List Entry → ℕ → Passage
+AsksSourceBy T entries x = ForEach (λ s. map (λ (e : Entry). ask x e.act) (begun_at x entries)) T
 
 -- a credit is taken from each link out of the node, and a flit from each link into it
-abbrev pub TakesCredits : ℕ → Passage
-TakesCredits x = ForEach (λ s. map (TakeCredit x) (mesh_ports s)) Tries
+abbrev pub TakesCreditsBy : (Step → Passage) → ℕ → Passage
+TakesCreditsBy T x = ForEach (λ s. map (TakeCredit x) (mesh_ports s)) T
 
-abbrev pub TakesFlits : ℕ → Passage
-TakesFlits x = ForEach (λ s. map (Take x) (mesh_ports s)) Tries
+abbrev pub TakesFlitsBy : (Step → Passage) → ℕ → Passage
+TakesFlitsBy T x = ForEach (λ s. map (Take x) (mesh_ports s)) T
 
 -- a flit of each class is fed
-abbrev pub FeedsClasses : ℕ → Passage
-FeedsClasses x = ForEach (λ s. map (Feed x) (all_classes s)) Tries
+abbrev pub FeedsClassesBy : (Step → Passage) → ℕ → Passage
+FeedsClassesBy T x = ForEach (λ s. map (Feed x) (all_classes s)) T
 
 -- each input channel is routed, of a port, and of each port
-abbrev pub RoutesPort : ℕ → ℕ → Passage
-RoutesPort x p = ForEach (λ s. map (Route x p) (all_channels s)) Tries
+abbrev pub RoutesPortBy : (Step → Passage) → ℕ → ℕ → Passage
+RoutesPortBy T x p = ForEach (λ s. map (Route x p) (all_channels s)) T
 
-abbrev pub RoutesChannels : ℕ → Passage
-RoutesChannels x = ForEach all_ports (RoutesPort x)
+abbrev pub RoutesChannelsBy : (Step → Passage) → ℕ → Passage
+RoutesChannelsBy T x = ForEach all_ports (RoutesPortBy T x)
 
 -- one pass of the channel allocator, its grants written into the records
 abbrev pub Allocates : ℕ → Passage
@@ -111,35 +111,70 @@ abbrev pub granted_send : List (Option SwGrant) → ℕ → ℕ → List Step
 granted_send grants x p = option_to_list (option_map (λ g. Send x p g.vc) (slice_index_or grants p None))
 
 -- one pass of the switch allocator, and then the Sends that it granted, by input port
-abbrev pub SendsGranted : ℕ → Passage
-SendsGranted x old fault new =
-    Each Tries (flat_map (granted_send (switch_grants (router_at old x)) x) (all_ports old)) (with_router old x (chosen_router (router_at old x))) fault new
+abbrev pub SendsGrantedBy : (Step → Passage) → ℕ → Passage
+SendsGrantedBy T x old fault new =
+    Each T (flat_map (granted_send (switch_grants (router_at old x)) x) (all_ports old)) (with_router old x (chosen_router (router_at old x))) fault new
 
 -- the lowest channel of a port that owes a credit
 abbrev pub lowest_owed : RouterState → ℕ → Option ℕ
 lowest_owed r p = find (λ v. nat_lt 0 (input_at r p v).owed) (range_with_len 0 (width r))
 
 -- a credit of it is given to each link into the node
-abbrev pub GivesCredit : ℕ → ℕ → Passage
-GivesCredit x p = ForEach (λ s. option_to_list (option_map (GiveCredit x p) (lowest_owed (router_at s x) p))) Tries
+abbrev pub GivesCreditBy : (Step → Passage) → ℕ → ℕ → Passage
+GivesCreditBy T x p = ForEach (λ s. option_to_list (option_map (GiveCredit x p) (lowest_owed (router_at s x) p))) T
 
-abbrev pub GivesCredits : ℕ → Passage
-GivesCredits x = ForEach mesh_ports (GivesCredit x)
+abbrev pub GivesCreditsBy : (Step → Passage) → ℕ → Passage
+GivesCreditsBy T x = ForEach mesh_ports (GivesCreditBy T x)
 
 -- what a node does in a turn once its source was asked
-abbrev pub NodePasses : ℕ → Passage
-NodePasses x =
-    TakesCredits x
-    and_then TakesFlits x
-    and_then FeedsClasses x
-    and_then RoutesChannels x
+abbrev pub NodePassesBy : (Step → Passage) → ℕ → Passage
+NodePassesBy T x =
+    TakesCreditsBy T x
+    and_then TakesFlitsBy T x
+    and_then FeedsClassesBy T x
+    and_then RoutesChannelsBy T x
     and_then Allocates x
-    and_then SendsGranted x
-    and_then GivesCredits x
+    and_then SendsGrantedBy T x
+    and_then GivesCreditsBy T x
 
 -- the turn of a node, with these entries for all nodes
+abbrev pub NodeTurnBy : (Step → Passage) → List Entry → ℕ → Passage
+NodeTurnBy T entries x = AsksSourceBy T entries x and_then NodePassesBy T x
+
+-- The same where each step is tried
+
+abbrev pub AsksSource : List Entry → ℕ → Passage
+AsksSource = AsksSourceBy Tries
+
+abbrev pub TakesCredits : ℕ → Passage
+TakesCredits = TakesCreditsBy Tries
+
+abbrev pub TakesFlits : ℕ → Passage
+TakesFlits = TakesFlitsBy Tries
+
+abbrev pub FeedsClasses : ℕ → Passage
+FeedsClasses = FeedsClassesBy Tries
+
+abbrev pub RoutesPort : ℕ → ℕ → Passage
+RoutesPort = RoutesPortBy Tries
+
+abbrev pub RoutesChannels : ℕ → Passage
+RoutesChannels = RoutesChannelsBy Tries
+
+abbrev pub SendsGranted : ℕ → Passage
+SendsGranted = SendsGrantedBy Tries
+
+abbrev pub GivesCredit : ℕ → ℕ → Passage
+GivesCredit = GivesCreditBy Tries
+
+abbrev pub GivesCredits : ℕ → Passage
+GivesCredits = GivesCreditsBy Tries
+
+abbrev pub NodePasses : ℕ → Passage
+NodePasses = NodePassesBy Tries
+
 abbrev pub NodeTurn : List Entry → ℕ → Passage
-NodeTurn entries x = AsksSource entries x and_then NodePasses x
+NodeTurn = NodeTurnBy Tries
 
 -- The turns of all nodes, by rising number; kept closed in goals
 

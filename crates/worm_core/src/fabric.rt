@@ -8,8 +8,9 @@ ghost use Rattle.worm_mesh.specs.Links.{link_count};
 ghost use Rattle.worm_router.specs.Router.{IsPlace, MayLeave, after_accept, after_credit, after_gave, after_grant, after_route, after_send, can_grant, can_route, input_at, leaving, output_at, terminal, width};
 ghost use Rattle.worm_term.specs.Source.{after_close, after_offer, classes, front_of, refusal};
 ghost use Rattle.worm_core.specs.State.{IsNetPlace, link_at, node_at, router_at, sink_at, source_at, texts_of, with_link, with_node, with_router, with_source};
-ghost use Rattle.worm_core.specs.Moves.{AreReady, CreditFits, FrontFits, Sends, WayOut, after_getting, after_giving, after_take, can_enter, can_get, can_give, chosen_router, delivered_node, fed_node, front_credit, front_into, has_room, link_into, link_out};
+ghost use Rattle.worm_core.specs.Moves.{AreReady, CreditFits, FrontFits, LeavesByLink, Sends, after_getting, after_giving, after_take, can_enter, can_get, can_give, chosen_router, delivered_node, fed_node, front_credit, front_into, has_room, link_into, link_out};
 ghost use Rattle.worm_core.specs.Wiring.{port_links};
+ghost use Rattle.worm_core.specs.Edges.{after_arriving, after_credit_back};
 ghost use Rattle.worm_core.specs.UnderWay.{IsUnderWay, accepted_in, taken_in};
 
 mod parts;
@@ -21,7 +22,7 @@ use crate::fresh::{make_links, make_nodes};
 use crate::links::Links;
 use crate::nodes::Nodes;
 use crate::wiring::PortLinks;
-use crate::{Moved, Name, Node, StepFault};
+use crate::{Moved, Name, Node, Own, StepFault};
 use arrayvec::ArrayVec;
 use std::alloc::{AllocError, Global};
 use std::marker::Model;
@@ -43,6 +44,8 @@ pub struct Fabric {
     names: ArrayVec<Name, 4>,
     /// The nodes by number.
     nodes: Nodes,
+    /// Which of the nodes are owned by whoever has the fabric. No code asks; what holds of a fabric does.
+    own: Own,
 }
 
 impl Model for Fabric {
@@ -50,7 +53,7 @@ impl Model for Fabric {
 
     ghost Value = { NetState };
 
-    ghost view = { λ n. net_state n.links.mesh n.classes n.depth (texts_of n.names.items) n.nodes n.links.states };
+    ghost view = { λ n. net_state n.links.mesh n.classes n.depth (texts_of n.names.items) n.nodes n.links.states n.own };
 }
 
 impl Fabric {
@@ -77,6 +80,7 @@ impl Fabric {
             depth,
             names,
             nodes: Nodes::new(nodes),
+            own: Own::sole(),
         })
     }
 
@@ -229,11 +233,13 @@ impl Fabric {
         self.nodes.deliver(node, port, vc, out, flit)
     }
 
-    /// Lets the ready flit out, into the sink or onto the link of its port (Dally and Towles, chapter 13). `NoMemory` where the sink cannot take it.
+    /// Lets the ready flit out, into the sink or onto the link of its port (Dally and Towles, chapter 13). `NoMemory` where the sink cannot
+    /// take it; idle where it is not at home, or where its link has no room.
     pub fn send(&mut self, node: u8, port: u8, vc: u8) -> Result<Moved, StepFault>
         requires place { IsNetPlace self.old node port vc }
         requires links { length self.old.links ≡ link_count self.old.mesh }
-        requires way { WayOut self.old node (leaving (router_at self.old node) port vc) }
+        requires way { LeavesByLink self.old node (leaving (router_at self.old node) port vc) }
+        requires sink { (sink_at self.old node).node ≡ node }
         ensures { Sends self.old node port vc (leaving (router_at self.old node) port vc) result self.new }
     {
         let terminal = self.terminal();
@@ -242,6 +248,9 @@ impl Fabric {
             return Ok(Moved::Idle);
         };
         if out == terminal {
+            if flit.lane.dst != node {
+                return Ok(Moved::Idle);
+            }
             if !self.deliver(node, port, vc, out, flit) {
                 return Err(StepFault::NoMemory);
             }
@@ -287,6 +296,44 @@ impl Fabric {
         self.nodes.close(node, lane)
     }
 
+    /// By which port the front flit may leave, and as which flit, if it may.
+    pub fn ready(&self, node: u8, port: u8, vc: u8) -> Option<(u8, Flit)>
+        requires { IsNetPlace self.now node port vc }
+        ensures { result ≡ leaving (router_at self.now node) port vc }
+    {
+        self.nodes.node(node).router.ready(port, vc)
+    }
+
+    /// The ready flit leaves the node by the output port `out`, whose link is kept elsewhere.
+    pub fn let_out(&mut self, node: u8, port: u8, vc: u8, out: u8, flit: Flit)
+        requires place { IsNetPlace self.old node port vc }
+        requires ready { leaving (router_at self.old node) port vc ≡ Some (out, flit) }
+        ensures { self.new ≡ with_router self.old node (after_send (router_at self.old node) port vc) }
+    {
+        self.nodes.router_mut(node).let_out(port, vc, out, flit);
+    }
+
+    /// The flit comes onto the link out of this port.
+    pub fn arrive(&mut self, node: u8, port: u8, flit: Flit)
+        requires links { length self.old.links ≡ link_count self.old.mesh }
+        requires linked { IsSome (neighbour_of self.old.mesh node port) }
+        requires room { length (link_at self.old (link_out self.old node port)).flits < (link_at self.old (link_out self.old node port)).room }
+        ensures { self.new ≡ after_arriving self.old node port flit }
+    {
+        self.links.push(node, port, flit);
+    }
+
+    /// The credit of the channel comes onto the link into this port, on its way back.
+    pub fn arrive_credit(&mut self, node: u8, port: u8, links: PortLinks, vc: u8)
+        requires mesh { IsRadices self.old.mesh }
+        requires ports { Some links ≡ port_links self.old.mesh node port }
+        requires links { length self.old.links ≡ link_count self.old.mesh }
+        requires room { length (link_at self.old (link_into self.old node port)).credits < (link_at self.old (link_into self.old node port)).room }
+        ensures { self.new ≡ after_credit_back self.old node port vc }
+    {
+        self.links.push_credit(node, port, links, vc);
+    }
+
     /// Whether the input channel owes a credit.
     pub fn owes(&self, node: u8, port: u8, vc: u8) -> bool
         requires { IsNetPlace self.now node port vc }
@@ -296,7 +343,7 @@ impl Fabric {
     }
 
     /// The input channel owes one credit less.
-    fn gave(&mut self, node: u8, port: u8, vc: u8)
+    pub fn gave(&mut self, node: u8, port: u8, vc: u8)
         requires place { IsNetPlace self.old node port vc }
         requires owed { 0 < (input_at (router_at self.old node) port vc).owed }
         ensures { self.new ≡ with_router self.old node (after_gave (router_at self.old node) port vc) }

@@ -1,33 +1,30 @@
 ghost use Rattle.std.specs.Prelude.{None, Some, slice_index_or, ◌≡◌, ◌≤◌, ◌<◌, ◌*◌, ◌↔◌, ℕ, Result, IsTrue, IfNone, IfOk, Ok, sum, length, slice_get, IfSome, MatchOption, Err};
 ghost use Rattle.worm_theory.specs.Steps.{IsThere, Step as Event};
-ghost use Rattle.worm_swalloc.specs.SwAlloc.{AreGranted};
-ghost use Rattle.worm_swalloc.specs.declared.grant.SwGrant.{SwGrant};
 ghost use Rattle.worm_core.specs.Runs.{IsRun, event_of};
 ghost use Rattle.worm_core.specs.Answers.{Answers, ArbitersStand, accepted_of, moved_of};
 ghost use Rattle.worm_theory.specs.Steps.{empty};
 ghost use Rattle.worm_core.specs.NewNet.{IsConfig, IsFresh};
 ghost use Rattle.worm_core.specs.Headline.{DeliversInOrder, NothingFollowsMarks};
 ghost use Rattle.worm_core.specs.State.{IsNet, shape, network_of, queue_of, router_at, sink_at, source_at, texts_of, with_router};
-ghost use Rattle.worm_core.specs.Turns.{NodePasses, Reaches, SendsGranted, Tries};
+ghost use Rattle.worm_core.specs.Turns.{Reaches, Turn};
+ghost use Rattle.worm_core.specs.Script.{due};
+ghost use Rattle.std.specs.Result.{result_err};
 ghost use Rattle.worm_mesh.specs.Address.{node_count};
-ghost use Rattle.worm_router.specs.Router.{input_at, width};
-ghost use Rattle.worm_router.specs.Allocation.{after_allocate, switch_grants};
-ghost use Rattle.worm_core.specs.Moves.{AreOwing, RoutesWithin, chosen_router};
 
 use crate::config::copy_names;
 use crate::fabric::Fabric;
-use crate::{Config, Moved, NetFault, Step, StepFault};
+use crate::region::Region;
+use crate::{Config, Entry, Moved, NetFault, Script, Step, StepFault};
 use std::alloc::Global;
 use std::marker::Model;
-use worm_flit::{Flit, Lane, Packet, are_channels};
+use worm_flit::{Flit, Lane, are_channels};
 use worm_mesh::Mesh;
-use worm_term::{OfferFault, Sink, Source};
-use worm_vcalloc::ChannelSet;
+use worm_term::{Sink, Source};
 
 /// A sound network.
 #[derive(Drop)]
 pub struct Net {
-    fabric: Fabric,
+    region: Region,
 }
 
 impl Model for Net {
@@ -35,9 +32,9 @@ impl Model for Net {
 
     ghost Value = { NetState };
 
-    ghost view = { λ n. n.fabric };
+    ghost view = { λ n. n.region };
 
-    ghost invariant = { λ n. IsNet n.fabric };
+    ghost invariant = { λ n. IsNet n.region };
 }
 
 /// How far a run of steps came.
@@ -47,22 +44,6 @@ pub struct RunSoFar {
     pub done: usize,
     /// The fault of the step that follows them, if there was one.
     pub fault: Option<StepFault>,
-}
-
-fn moved(done: bool) -> Moved
-    ensures { result ≡ moved_of done }
-{
-    if done { Moved::Done } else { Moved::Idle }
-}
-
-fn accepted(answer: Result<u16, OfferFault>) -> Result<Moved, StepFault>
-    ensures { result ≡ accepted_of answer }
-{
-    match answer {
-        Ok(_number) => Ok(Moved::Done),
-        Err(OfferFault::NoMemory) => Err(StepFault::NoMemory),
-        Err(fault) => Err(StepFault::Refused(fault)),
-    }
 }
 
 impl Net {
@@ -87,7 +68,7 @@ impl Net {
         let Ok(fabric) = Fabric::new(alloc, mesh, channels, config.depth, names) else {
             return Err(NetFault::NoMemory);
         };
-        Ok(Net { fabric }.counted())
+        Ok(Net::from_fabric(fabric).counted())
     }
 
     /// What holds of every network, for whoever has one.
@@ -95,7 +76,7 @@ impl Net {
         ensures sound { IsNet self.now }
         ensures delivers { DeliversInOrder self.now }
     {
-        let _fabric = &self.fabric;
+        let _region = &self.region;
     }
 
     /// The lists of the network, and what holds of them.
@@ -103,7 +84,7 @@ impl Net {
         ensures same { result.now ≡ self.now }
         ensures sound { IsNet self.now }
     {
-        &self.fabric
+        self.region.fabric()
     }
 
     /// The lists of the network by themselves.
@@ -111,8 +92,8 @@ impl Net {
         ensures same { result ≡ self }
         ensures sound { IsNet self }
     {
-        let Net { fabric } = self;
-        fabric
+        let Net { region } = self;
+        region.into_fabric()
     }
 
     /// The network of these lists.
@@ -120,7 +101,9 @@ impl Net {
         requires { IsNet fabric }
         ensures { result ≡ fabric }
     {
-        Net { fabric }
+        Net {
+            region: Region::new(fabric),
+        }
     }
 
     /// The number of nodes.
@@ -128,7 +111,7 @@ impl Net {
         ensures value { result ≡ node_count self.now.mesh }
         ensures bound { result ≤ 256 }
     {
-        self.fabric.nodes()
+        self.region.fabric().nodes()
     }
 
     /// The number of classes, 1 to 4.
@@ -136,7 +119,7 @@ impl Net {
         ensures value { result ≡ length self.now.channels }
         ensures bound { result ≤ 4 }
     {
-        self.fabric.classes()
+        self.region.fabric().classes()
     }
 
     /// The flits that arrived at the node, in order of arrival.
@@ -144,7 +127,7 @@ impl Net {
         requires { node < node_count self.now.mesh }
         ensures { result.now ≡ (sink_at self.now node).delivered }
     {
-        self.fabric.node(node).sink.delivered()
+        self.region.fabric().node(node).sink.delivered()
     }
 
     /// The flits of the class that the node's source accepted, in order.
@@ -153,7 +136,7 @@ impl Net {
         requires class { class < length self.now.channels }
         ensures { result.now ≡ (queue_of self.now node class).injected }
     {
-        self.fabric.node(node).source.injected(class)
+        self.region.fabric().node(node).source.injected(class)
     }
 
     /// Where the packets of the node's lanes come in.
@@ -161,7 +144,7 @@ impl Net {
         requires { node < node_count self.now.mesh }
         ensures { result.now ≡ source_at self.now node }
     {
-        &self.fabric.node(node).source
+        &self.region.fabric().node(node).source
     }
 
     /// Where the flits for the node come out.
@@ -169,7 +152,7 @@ impl Net {
         requires { node < node_count self.now.mesh }
         ensures { result.now ≡ sink_at self.now node }
     {
-        &self.fabric.node(node).sink
+        &self.region.fabric().node(node).sink
     }
 
     /// Whether the network has this lane: its two nodes and its class.
@@ -180,220 +163,11 @@ impl Net {
         u16::from(lane.src) < nodes && u16::from(lane.dst) < nodes && lane.class < self.classes()
     }
 
-    /// The terminal port of each node.
-    pub(crate) fn terminal(&self) -> u8
-        ensures value { result ≡ 2 * length self.now.mesh }
-        ensures bound { result ≤ 6 }
-    {
-        self.fabric.terminal()
-    }
-
     /// The number of channels of a port.
     pub(crate) fn channels(&self) -> u8
         ensures { result ≡ sum self.now.channels }
     {
-        self.fabric.channels()
-    }
-
-    /// One pass of the node's channel allocator, its grants written into the records.
-    pub(crate) fn allocate(&mut self, node: u8)
-        requires { node < node_count self.old.mesh }
-        ensures after { self.new ≡ with_router self.old node (after_allocate (router_at self.old node)) }
-        ensures reaches { Reaches self.old self.new }
-    {
-        self.fabric.allocate(node);
-    }
-
-    /// One pass of the node's switch allocator: the channels that it grants.
-    pub(crate) fn choose(&mut self, node: u8) -> ChannelSet
-        requires { node < node_count self.old.mesh }
-        ensures granted { AreGranted (switch_grants (router_at self.old node)) result }
-        ensures after { self.new ≡ with_router self.old node (chosen_router (router_at self.old node)) }
-        ensures there { (p : ℕ) (g : SwGrant) → slice_index_or (switch_grants (router_at self.old node)) p None ≡ Some g → IsThere (shape self.old) (Event.Send node p g.vc) }
-        ensures reaches { Reaches self.old self.new }
-    {
-        self.fabric.choose(node)
-    }
-
-    /// Whether no channel of the node may send; then nothing is granted, and nothing sent.
-    pub(crate) fn sends_nothing(&self, node: u8) -> bool
-        requires { node < node_count self.now.mesh }
-        ensures { IsTrue result → SendsGranted node self.now None self.now }
-    {
-        self.fabric.sends_nothing(node)
-    }
-
-    /// The channels of the node with a flit that lack a route; no other has anything to route.
-    pub(crate) fn unrouted(&self, node: u8) -> ChannelSet
-        requires { node < node_count self.now.mesh }
-        ensures routes { RoutesWithin self.now node result }
-        ensures sound { IsNet self.now }
-    {
-        self.fabric.unrouted(node)
-    }
-
-    /// A mesh port from this one on by which a credit may come in; before it there is none to take, and where there is none, past it.
-    pub(crate) fn next_credit(&self, node: u8, from: u8) -> Option<u8>
-        requires node { node < node_count self.now.mesh }
-        requires from { from ≤ 6 }
-        ensures mesh_port { IfSome result (λ port. (from ≤ port) × (port < 2 * length self.now.mesh) × (port < 6)) }
-        ensures before { IfSome result (λ port. (p : ℕ) → from ≤ p → p < port → Tries (Event.TakeCredit node p) self.now None self.now) }
-        ensures none { IfNone result ((p : ℕ) → from ≤ p → Tries (Event.TakeCredit node p) self.now None self.now) }
-    {
-        self.fabric.next_credit(node, from)
-    }
-
-    /// The same of flits.
-    pub(crate) fn next_flit(&self, node: u8, from: u8) -> Option<u8>
-        requires node { node < node_count self.now.mesh }
-        requires from { from ≤ 6 }
-        ensures mesh_port { IfSome result (λ port. (from ≤ port) × (port < 2 * length self.now.mesh) × (port < 6)) }
-        ensures before { IfSome result (λ port. (p : ℕ) → from ≤ p → p < port → Tries (Event.Take node p) self.now None self.now) }
-        ensures none { IfNone result ((p : ℕ) → from ≤ p → Tries (Event.Take node p) self.now None self.now) }
-    {
-        self.fabric.next_flit(node, from)
-    }
-
-    /// The first class from this one on of which the node can feed a flit; before it there is none to feed, and where there is none, past it.
-    pub(crate) fn next_class(&self, node: u8, from: u8) -> Option<u8>
-        requires { node < node_count self.now.mesh }
-        ensures class { IfSome result (λ class. (from ≤ class) × (class < length self.now.channels) × (class < 4)) }
-        ensures before { IfSome result (λ class. (k : ℕ) → from ≤ k → k < class → Tries (Event.Feed node k) self.now None self.now) }
-        ensures none { IfNone result ((k : ℕ) → from ≤ k → k < length self.now.channels → Tries (Event.Feed node k) self.now None self.now) }
-    {
-        self.fabric.next_class(node, from)
-    }
-
-    /// The channels of the node that owe a credit.
-    pub(crate) fn owing(&self, node: u8) -> ChannelSet
-        requires { node < node_count self.now.mesh }
-        ensures owing { AreOwing self.now node result }
-        ensures sound { IsNet self.now }
-    {
-        self.fabric.owing(node)
-    }
-
-    /// Whether the node is at rest, so that its turn goes past all but what its source is asked.
-    pub(crate) fn rests(&mut self, node: u8) -> bool
-        requires { node < node_count self.old.mesh }
-        ensures passes { IsTrue result → NodePasses node self.old None self.old }
-        ensures same { self.new ≡ self.old }
-    {
-        self.fabric.rests(node)
-    }
-
-    pub(crate) fn offer(&mut self, node: u8, packet: &Packet) -> Result<Moved, StepFault>
-        ensures { Answers self.old (Event.Offer node packet.now.lane packet.now.words) result self.new }
-    {
-        if !self.fabric.has_node(node) {
-            return Err(StepFault::NoSuchPlace);
-        }
-        accepted(self.fabric.offer(node, packet))
-    }
-
-    pub(crate) fn close(&mut self, node: u8, lane: Lane) -> Result<Moved, StepFault>
-        ensures { Answers self.old (Event.CloseLane node lane) result self.new }
-    {
-        if !self.fabric.has_node(node) {
-            return Err(StepFault::NoSuchPlace);
-        }
-        accepted(self.fabric.close(node, lane))
-    }
-
-    pub(crate) fn feed(&mut self, node: u8, class: u8) -> Result<Moved, StepFault>
-        ensures { Answers self.old (Event.Feed node class) result self.new }
-    {
-        if !self.fabric.has_class(node, class) {
-            return Err(StepFault::NoSuchPlace);
-        }
-        Ok(moved(self.feed_there(node, class)))
-    }
-
-    /// The same where the node and the class are there.
-    pub(crate) fn feed_there(&mut self, node: u8, class: u8) -> bool
-        requires node { node < node_count self.old.mesh }
-        requires class { class < length self.old.channels }
-        ensures { Answers self.old (Event.Feed node class) (Ok (moved_of result)) self.new }
-    {
-        self.fabric.feed(node, class)
-    }
-
-    pub(crate) fn route(&mut self, node: u8, port: u8, vc: u8) -> Result<Moved, StepFault>
-        ensures { Answers self.old (Event.Route node port vc) result self.new }
-    {
-        if !self.fabric.has_place(node, port, vc) {
-            return Err(StepFault::NoSuchPlace);
-        }
-        Ok(moved(self.fabric.route(node, port, vc)))
-    }
-
-    fn grant(&mut self, node: u8, port: u8, vc: u8, out_vc: u8) -> Result<Moved, StepFault>
-        ensures { Answers self.old (Event.Grant node port vc out_vc) result self.new }
-    {
-        if !self.fabric.has_grant(node, port, vc, out_vc) {
-            return Err(StepFault::NoSuchPlace);
-        }
-        Ok(moved(self.fabric.grant(node, port, vc, out_vc)))
-    }
-
-    pub(crate) fn send(&mut self, node: u8, port: u8, vc: u8) -> Result<Moved, StepFault>
-        ensures { Answers self.old (Event.Send node port vc) result self.new }
-    {
-        if !self.fabric.has_place(node, port, vc) {
-            return Err(StepFault::NoSuchPlace);
-        }
-        self.send_there(node, port, vc)
-    }
-
-    /// The same where the place is there.
-    pub(crate) fn send_there(&mut self, node: u8, port: u8, vc: u8) -> Result<Moved, StepFault>
-        requires { IsThere (shape self.old) (Event.Send node port vc) }
-        ensures { Answers self.old (Event.Send node port vc) result self.new }
-    {
-        self.fabric.send(node, port, vc)
-    }
-
-    pub(crate) fn take(&mut self, node: u8, port: u8) -> Result<Moved, StepFault>
-        ensures { Answers self.old (Event.Take node port) result self.new }
-    {
-        let Some(number) = self.fabric.link_into(node, port) else {
-            return Err(StepFault::NoSuchPlace);
-        };
-        Ok(moved(self.fabric.take(node, port, number)))
-    }
-
-    pub(crate) fn give(&mut self, node: u8, port: u8, vc: u8) -> Result<Moved, StepFault>
-        ensures { Answers self.old (Event.GiveCredit node port vc) result self.new }
-    {
-        if !self.fabric.has_line(node, port, vc) {
-            return Err(StepFault::NoSuchPlace);
-        }
-        if !self.fabric.owes(node, port, vc) {
-            return Ok(Moved::Idle);
-        }
-        self.give_owed(node, port, vc)
-    }
-
-    /// The same where the node and the channel are there, and the channel of the port owes a credit.
-    pub(crate) fn give_owed(&mut self, node: u8, port: u8, vc: u8) -> Result<Moved, StepFault>
-        requires channel { vc < sum self.old.channels }
-        requires owed { 0 < (input_at (router_at self.old node) port vc).owed }
-        ensures { Answers self.old (Event.GiveCredit node port vc) result self.new }
-    {
-        let Some(links) = self.fabric.links_at(node, port) else {
-            return Err(StepFault::NoSuchPlace);
-        };
-        self.fabric.give(node, port, vc, links);
-        Ok(Moved::Done)
-    }
-
-    pub(crate) fn get(&mut self, node: u8, port: u8) -> Result<Moved, StepFault>
-        ensures { Answers self.old (Event.TakeCredit node port) result self.new }
-    {
-        let Some(number) = self.fabric.link_out(node, port) else {
-            return Err(StepFault::NoSuchPlace);
-        };
-        Ok(moved(self.fabric.get(node, port, number)))
+        self.region.fabric().channels()
     }
 
     /// One step.
@@ -403,22 +177,15 @@ impl Net {
         // Arbiters are for turns alone.
         ensures pointers { ArbitersStand self.old self.new }
     {
-        match step {
-            Step::Offer { node, packet } => self.offer(*node, packet),
-            Step::Close { node, lane } => self.close(*node, *lane),
-            Step::Feed { node, class } => self.feed(*node, *class),
-            Step::Route { node, port, vc } => self.route(*node, *port, *vc),
-            Step::Grant {
-                node,
-                port,
-                vc,
-                out_vc,
-            } => self.grant(*node, *port, *vc, *out_vc),
-            Step::Send { node, port, vc } => self.send(*node, *port, *vc),
-            Step::Take { node, port } => self.take(*node, *port),
-            Step::GiveCredit { node, port, vc } => self.give(*node, *port, *vc),
-            Step::TakeCredit { node, port } => self.get(*node, *port),
-        }
+        self.region.step(step)
+    }
+
+    /// The turns of all nodes with these entries, in rising number.
+    pub(crate) fn all_turns(&mut self, entries: &[Entry]) -> Result<(), StepFault>
+        ensures exact { Turn entries.now self.old (result_err result) self.new }
+        ensures reaches { Reaches self.old self.new }
+    {
+        self.region.all_turns(entries)
     }
 
     /// The steps in turn, up to the first fault.
@@ -453,5 +220,20 @@ impl Net {
         let so_far = self.take_steps(steps);
         self.is_sound();
         so_far
+    }
+
+    /// The turns of all nodes, in rising number: the turn of this number, with the script's entries for it. After a
+    /// fault what was done before it stands. `Refused` where a source refuses an entry, `NoMemory` where there is none
+    /// for an accepted or a delivered flit.
+    pub fn turn(&mut self, turn: u64, script: &Script) -> Result<(), StepFault>
+        ensures exact { Turn (due turn script.now) self.old (result_err result) self.new }
+        ensures reaches { Reaches self.old self.new }
+        ensures delivers { DeliversInOrder self.new }
+        ensures marks { NothingFollowsMarks self.old self.new }
+    {
+        self.is_sound();
+        let result = self.all_turns(script.due(turn));
+        self.is_sound();
+        result
     }
 }

@@ -5,7 +5,7 @@ ghost use Rattle.worm_core.specs.Parts.{IsConfigOf, parts_state};
 ghost use Rattle.worm_core.specs.State.{IsNet};
 
 use crate::fabric::Fabric;
-use crate::{Config, LinkState, Net, Node};
+use crate::{Config, LinkState, Net, Node, Own};
 
 /// The parts of a network.
 ///
@@ -45,6 +45,6 @@ impl Net {
         requires { IsNet (parts_state parts) }
         ensures { result ≡ parts_state parts }
     {
-        Net::from_fabric(Fabric::from_parts(parts)).counted()
+        Net::from_fabric(Fabric::from_parts(parts, Own::sole())).counted()
     }
 }

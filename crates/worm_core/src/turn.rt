@@ -3,18 +3,20 @@
 ghost use Rattle.std.specs.Prelude.{ℕ, List, [], ◌≡◌, ◌<◌, ◌≤◌, ◌*◌, None, Some, true, false, length, sum};
 ghost use Rattle.std.specs.Result.{result_err};
 ghost use Rattle.worm_mesh.specs.Address.{node_count};
-ghost use Rattle.worm_core.specs.Answers.{Answers};
-ghost use Rattle.worm_core.specs.Headline.{DeliversInOrder, NothingFollowsMarks};
-ghost use Rattle.worm_core.specs.Script.{begun_at, due, is_marked};
-ghost use Rattle.worm_core.specs.State.{IsNet};
+ghost use Rattle.worm_core.specs.RegionAnswers.{Answers};
+ghost use Rattle.worm_core.specs.Script.{begun_at, is_marked};
+ghost use Rattle.worm_core.specs.Owned.{sole};
+ghost use Rattle.worm_core.specs.Workable.{IsWorkable};
 ghost use Rattle.worm_core.specs.declared.script.Entry.{Entry};
 ghost use Rattle.worm_router.specs.Router.{input_at, width};
 ghost use Rattle.worm_core.specs.State.{router_at};
 ghost use Rattle.worm_theory.specs.Steps.{Route};
 ghost use Rattle.worm_core.specs.Moves.{OwesTheSame, RoutesTheSame};
-ghost use Rattle.worm_core.specs.Turns.{AsksSource, Does, FeedsClasses, GivesCredit, GivesCredits, IsDetermined, NodePasses, NodeTurn, Reaches, RoutesChannels, RunIsDetermined, SendsGranted, TakesCredits, TakesFlits, Tries, Turn, ask, fault_of, lowest_owed};
+ghost use Rattle.worm_core.specs.RegionTurns.{AsksSource, FeedsClasses, GivesCredit, GivesCredits, NodePasses, NodeTurn, RoutesChannels, SendsGranted, TakesCredits, TakesFlits, Tries, Turn};
+ghost use Rattle.worm_core.specs.Turns.{Does, ask, fault_of, lowest_owed};
 
-use crate::{Act, Entry, Moved, Net, Script, StepFault};
+use crate::region::Region;
+use crate::{Act, Entry, Moved, StepFault};
 
 /// What the answer to a step is to the turn that tried it: a step that is not there, or not enabled, is passed over.
 fn tried(answer: Result<Moved, StepFault>) -> Result<(), StepFault>
@@ -51,15 +53,7 @@ fn asks(sources: &Option<[bool; 256]>, node: u8) -> bool
     }
 }
 
-/// Turns are functions of the network and the script: unless want of memory ends it, a turn leads from one network to one alone, with
-/// one fault or none; so does a run of turns with its drain, which then is stopped at one place, if at all.
-#[tactic(auto, using(crate::proofs::Determined::turn_one, crate::proofs::Determined::run_one))]
-pub fn turns_are_determined()
-    ensures turn { (entries : List Entry) → IsDetermined (Turn entries) }
-    ensures run { (script : List Entry) (turns drain : ℕ) → RunIsDetermined script turns drain }
-{}
-
-impl Net {
+impl Region {
     /// Asks the node's source what an entry asks of it.
     fn ask(&mut self, node: u8, act: &Act) -> Result<Moved, StepFault>
         ensures { Answers self.old (ask node act.now) result self.new }
@@ -122,7 +116,7 @@ impl Net {
     fn route_channel(&mut self, node: u8, port: u8, vc: u8)
         ensures routed { Does (Tries (Route node port vc)) self.old None self.new }
         ensures others { (p v : ℕ) → ((p ≡ port) → (v ≡ vc) → ⊥) → v < width (router_at self.new node) → RoutesTheSame self.old self.new node p v }
-        ensures sound { IsNet self.new }
+        ensures sound { IsWorkable self.new }
     {
         self.is_sound();
         let _moved = self.route(node, port, vc);
@@ -142,7 +136,8 @@ impl Net {
 
     /// Lets each channel that a pass of the switch allocator grants send, ports rising, up to the first fault.
     fn send_granted(&mut self, node: u8) -> Result<(), StepFault>
-        requires { node < node_count self.old.mesh }
+        requires node { node < node_count self.old.mesh }
+        requires whole { self.old.own ≡ sole }
         ensures { Does (SendsGranted node) self.old (result_err result) self.new }
     {
         if self.sends_nothing(node) {
@@ -160,9 +155,10 @@ impl Net {
     fn give_credit(&mut self, node: u8, port: u8, vc: u8)
         requires channel { vc < sum self.old.channels }
         requires owed { 0 < (input_at (router_at self.old node) port vc).owed }
+        requires whole { self.old.own ≡ sole }
         ensures given { Some vc ≡ lowest_owed (router_at self.old node) port → Does (GivesCredit node port) self.old None self.new }
         ensures others { (p : ℕ) (v : ℕ) → (p ≡ port → ⊥) → v < width (router_at self.new node) → OwesTheSame self.old self.new node p v }
-        ensures sound { IsNet self.new }
+        ensures sound { IsWorkable self.new }
     {
         self.is_sound();
         let _moved = self.give_owed(node, port, vc);
@@ -171,7 +167,8 @@ impl Net {
 
     /// Gives a credit of the lowest channel that owes one to each link into the node, ports rising.
     fn give_credits(&mut self, node: u8)
-        requires { node < node_count self.old.mesh }
+        requires node { node < node_count self.old.mesh }
+        requires whole { self.old.own ≡ sole }
         ensures { Does (GivesCredits node) self.old None self.new }
     {
         let terminal = self.terminal();
@@ -192,7 +189,8 @@ impl Net {
 
     /// What a node does in a turn once its source was asked.
     fn node_passes(&mut self, node: u8) -> Result<(), StepFault>
-        requires { node < node_count self.old.mesh }
+        requires node { node < node_count self.old.mesh }
+        requires whole { self.old.own ≡ sole }
         ensures { Does (NodePasses node) self.old (result_err result) self.new }
     {
         if self.rests(node) {
@@ -212,6 +210,7 @@ impl Net {
     fn node_turn(&mut self, node: u8, entries: &[Entry], is_asked: bool) -> Result<(), StepFault>
         requires node { node < node_count self.old.mesh }
         requires asked { is_asked ≡ false → begun_at node entries.now ≡ [] }
+        requires whole { self.old.own ≡ sole }
         ensures { Does (NodeTurn entries.now node) self.old (result_err result) self.new }
     {
         if is_asked {
@@ -221,7 +220,8 @@ impl Net {
     }
 
     /// The turns of all nodes with these entries, in rising number.
-    fn all_turns(&mut self, entries: &[Entry]) -> Result<(), StepFault>
+    pub(crate) fn all_turns(&mut self, entries: &[Entry]) -> Result<(), StepFault>
+        requires { self.old.own ≡ sole }
         ensures { Does (Turn entries.now) self.old (result_err result) self.new }
     {
         let sources = sources_of(entries);
@@ -229,20 +229,5 @@ impl Net {
             self.node_turn(node as u8, entries, asks(&sources, node as u8))?;
         }
         Ok(())
-    }
-
-    /// The turns of all nodes, in rising number: the turn of this number, with the script's entries for it. After a
-    /// fault what was done before it stands. `Refused` where a source refuses an entry, `NoMemory` where there is none
-    /// for an accepted or a delivered flit.
-    pub fn turn(&mut self, turn: u64, script: &Script) -> Result<(), StepFault>
-        ensures exact { Turn (due turn script.now) self.old (result_err result) self.new }
-        ensures reaches { Reaches self.old self.new }
-        ensures delivers { DeliversInOrder self.new }
-        ensures marks { NothingFollowsMarks self.old self.new }
-    {
-        self.is_sound();
-        let result = self.all_turns(script.due(turn));
-        self.is_sound();
-        result
     }
 }

@@ -3,13 +3,13 @@
 ghost use Rattle.std.specs.Prelude.{◌≡◌};
 ghost use Rattle.worm_flit.specs.Channels.{AreChannels};
 ghost use Rattle.worm_mesh.specs.Address.{IsMesh as IsRadices};
-ghost use Rattle.worm_core.specs.Parts.{IsConfigOf, parts_state};
+ghost use Rattle.worm_core.specs.Parts.{IsConfigOf, part_state};
 
 use super::Fabric;
 use crate::config::copy_names;
 use crate::links::Links;
 use crate::nodes::Nodes;
-use crate::{Config, NetParts};
+use crate::{Config, NetParts, Own};
 use arrayvec::ArrayVec;
 use worm_flit::ClassChannels;
 use worm_mesh::Mesh;
@@ -51,7 +51,7 @@ impl Fabric {
 
     /// The parts.
     pub fn into_parts(self) -> NetParts
-        ensures { parts_state result ≡ self }
+        ensures { part_state result self.own ≡ self }
     {
         let Fabric {
             links,
@@ -59,6 +59,7 @@ impl Fabric {
             depth,
             names,
             nodes,
+            own: _,
         } = self;
         let config = Config {
             radices: radices_of(links.wiring().mesh()),
@@ -73,11 +74,11 @@ impl Fabric {
         }
     }
 
-    /// The fabric of these parts, whose configuration is within its limits.
-    pub fn from_parts(parts: NetParts) -> Fabric
+    /// The fabric of these parts, whose configuration is within its limits, with these nodes owned.
+    pub fn from_parts(parts: NetParts, own: Own) -> Fabric
         requires radices { IsRadices parts.config.radices.items }
         requires channels { AreChannels parts.config.channels.items }
-        ensures { result ≡ parts_state parts }
+        ensures { result ≡ part_state parts own }
     {
         let NetParts {
             config,
@@ -99,6 +100,7 @@ impl Fabric {
             depth,
             names,
             nodes: Nodes::new(nodes),
+            own,
         }
     }
 }

@@ -5,9 +5,10 @@ ghost use Rattle.worm_mesh.specs.Address.{node_count, neighbour_of};
 ghost use Rattle.worm_router.specs.Router.{terminal};
 ghost use Rattle.worm_term.specs.Source.{front_of};
 ghost use Rattle.worm_core.specs.Moves.{can_enter, front_credit, front_into};
-ghost use Rattle.worm_core.specs.State.{IsNet, router_at, source_at};
+ghost use Rattle.worm_core.specs.State.{router_at, source_at};
+ghost use Rattle.worm_core.specs.Workable.{IsWorkable};
 ghost use Rattle.worm_core.specs.Still.{IsStill, nth_node};
-ghost use Rattle.worm_core.specs.Turns.{NodePasses};
+ghost use Rattle.worm_core.specs.RegionTurns.{NodePasses};
 
 use super::Fabric;
 
@@ -23,7 +24,7 @@ impl Fabric {
 
     /// The first class from this one on of which the node's source has a flit, and for that there is room.
     pub fn next_class(&self, node: u8, from: u8) -> Option<u8>
-        requires sound { IsNet self.now }
+        requires sound { IsWorkable self.now }
         requires node { node < node_count self.now.mesh }
         ensures class { IfSome result (λ class. (from ≤ class) × (class < length self.now.channels) × (class < 4)) }
         ensures before { IfSome result (λ class. (k : ℕ) → from ≤ k → k < class → can_enter (router_at self.now node) (terminal (router_at self.now node)) (front_of (source_at self.now node) k) ≡ false) }
@@ -41,7 +42,7 @@ impl Fabric {
 
     /// Whether the node's source has no flit for which there is room.
     fn feeds_nothing(&self, node: u8) -> bool
-        requires sound { IsNet self.now }
+        requires sound { IsWorkable self.now }
         requires node { node < node_count self.now.mesh }
         ensures { IsTrue result → (k : ℕ) → k < length self.now.channels → can_enter (router_at self.now node) (terminal (router_at self.now node)) (front_of (source_at self.now node) k) ≡ false }
     {
@@ -50,7 +51,7 @@ impl Fabric {
 
     /// Whether the node is found to be still; that is kept, so that it is not asked again until the node changes.
     fn settles(&mut self, node: u8) -> bool
-        requires sound { IsNet self.old }
+        requires sound { IsWorkable self.old }
         requires node { node < node_count self.old.mesh }
         ensures still { IsTrue result → IsStill (nth_node self.old.nodes node) }
         ensures same { self.new ≡ self.old }
@@ -65,7 +66,7 @@ impl Fabric {
     /// Whether the node is at rest: what it would do in a turn once its source was asked would change nothing. Where it is at rest
     /// this may not be found.
     pub fn rests(&mut self, node: u8) -> bool
-        requires sound { IsNet self.old }
+        requires sound { IsWorkable self.old }
         requires node { node < node_count self.old.mesh }
         ensures passes { IsTrue result → NodePasses node self.old None self.old }
         ensures same { self.new ≡ self.old }

@@ -1,21 +1,20 @@
-use Rattle.std.proofs.Common.{None, Some, arith, refl}
-use Rattle.std.proofs.lemmas.Result.{err_from_is_err_and}
-use Rattle.worm_mesh.specs.Address.{node_count}
-use Rattle.worm_core.specs.Turns.{NodeTurn, Turn, all_nodes}
-use Rattle.worm_core.proofs.Passages.{loop_more, loop_cut, does_for}
+use Rattle.std.proofs.Common.{subst}
+use Rattle.std.specs.Result.{result_err}
+use Rattle.worm_core.specs.State.{NetState}
+use Rattle.worm_core.specs.Turns.{Reaches, Turn}
+use Rattle.worm_core.proofs.Lifting.{lift_turn}
 use Rattle.worm_core.proofs.net.Net.all_turns.Goals as goal
 
-pub returns-in_err-node_turn : goal.returns-in_err-node_turn
-unfolding Turn
-returns-in_err-node_turn c =
-    let p = err_from_is_err_and c.from_residual.result c.from_residual.ensures.1 in
-    rw (p.1, p.2) (does_for all_nodes (NodeTurn c.args.entries.now) (node_count c.args.self.now.mesh) c.nodes-node-end.result c.args.self.now c.node_turn.new.self (Some c.in_err-node_turn.field-0.0) refl (omega arith)
-    (loop_cut (NodeTurn c.args.entries.now) c.loop-node.node c.nodes-node-end.result c.args.self.now c.loop-node.self c.node_turn.new.self c.in_err-node_turn.field-0.0 c.loop-node-test.true c.loop-node.invariant c.in_err-node_turn.ensures))
+pub invariant_of-self : goal.invariant_of-self
+invariant_of-self c = (lift_turn c.args.entries.now c.self.inside.region c.all_turns.new.self (result_err c.all_turns.result) c.self.invariant c.all_turns.ensures.exact).0
 
-pub loop-node-preserved : goal.loop-node-preserved
-loop-node-preserved c =
-    loop_more (NodeTurn c.args.entries.now) c.loop-node.node c.args.self.now c.loop-node.self c.node_turn.new.self None c.loop-node.invariant c.in_ok-node_turn.ensures
+pub returns-clause-exact : goal.returns-clause-exact
+returns-clause-exact c =
+    subst (λ (s : NetState). Turn c.args.entries.now s (result_err c.all_turns.result) c.all_turns.new.self) c.self.view_is
+    (lift_turn c.args.entries.now c.self.inside.region c.all_turns.new.self (result_err c.all_turns.result) c.self.invariant c.all_turns.ensures.exact).1
 
-pub returns : goal.returns
-unfolding Turn
-returns c = does_for all_nodes (NodeTurn c.args.entries.now) (node_count c.args.self.now.mesh) c.loop-node.node c.args.self.now c.loop-node.self None refl (omega arith) c.loop-node.invariant
+pub returns-clause-reaches : goal.returns-clause-reaches
+returns-clause-reaches c = subst (λ (s : NetState). Reaches s c.all_turns.new.self) c.self.view_is c.all_turns.ensures.reaches
+
+pub all_turns-requires : goal.all_turns-requires
+all_turns-requires c = c.self.invariant.all_owned

@@ -1,15 +1,23 @@
-use Rattle.worm_theory.specs.Steps.{Send, Take, TakeCredit}
+use Rattle.std.proofs.Common.{subst}
+use Rattle.worm_core.specs.Answers.{Answers, ArbitersStand}
+use Rattle.worm_core.specs.Runs.{event_of}
+use Rattle.worm_core.specs.State.{NetState}
+use Rattle.worm_core.proofs.Lifting.{net_answers}
 use Rattle.worm_core.proofs.Pointers.{arbiters_stand}
 use Rattle.worm_core.proofs.net.Net.step.Goals as goal
 
-pub returns-in-Send-clause-pointers : goal.returns-in-Send-clause-pointers
-returns-in-Send-clause-pointers c =
-    arbiters_stand c.args.self.now c.send.new.self (Send c.in-Send.node c.in-Send.port c.in-Send.vc) c.send.result c.send.ensures
+pub invariant_of-self : goal.invariant_of-self
+invariant_of-self c = (net_answers c.self.inside.region c.step.new.self (event_of c.args.step.now) c.step.result c.self.invariant c.step.ensures).0
 
-pub returns-in-Take-clause-pointers : goal.returns-in-Take-clause-pointers
-returns-in-Take-clause-pointers c =
-    arbiters_stand c.args.self.now c.take.new.self (Take c.in-Take.node c.in-Take.port) c.take.result c.take.ensures
+pub returns-clause-answers : goal.returns-clause-answers
+returns-clause-answers c =
+    subst (λ (s : NetState). Answers s (event_of c.args.step.now) c.step.result c.step.new.self) c.self.view_is
+    (net_answers c.self.inside.region c.step.new.self (event_of c.args.step.now) c.step.result c.self.invariant c.step.ensures).1
 
-pub returns-in-TakeCredit-clause-pointers : goal.returns-in-TakeCredit-clause-pointers
-returns-in-TakeCredit-clause-pointers c =
-    arbiters_stand c.args.self.now c.get.new.self (TakeCredit c.in-TakeCredit.node c.in-TakeCredit.port) c.get.result c.get.ensures
+pub returns-clause-pointers : goal.returns-clause-pointers
+returns-clause-pointers c =
+    subst (λ (s : NetState). ArbitersStand s c.step.new.self) c.self.view_is
+    (arbiters_stand c.self.inside.region c.step.new.self (event_of c.args.step.now) c.step.result (net_answers c.self.inside.region c.step.new.self (event_of c.args.step.now) c.step.result c.self.invariant c.step.ensures).1)
+
+pub step-requires : goal.step-requires
+step-requires c = c.self.invariant.all_owned

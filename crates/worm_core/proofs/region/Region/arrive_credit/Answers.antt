@@ -1,0 +1,23 @@
+use Rattle.std.proofs.Common.{◌≡◌, ◌<◌, false, sum, subst, sym}
+use Rattle.std.specs.Prelude.{IsSome}
+use Rattle.worm_mesh.specs.Address.{neighbour_of}
+use Rattle.worm_core.specs.Edges.{ComesBack}
+use Rattle.worm_core.specs.State.{NetState}
+use Rattle.worm_core.specs.Workable.{owned}
+use Rattle.worm_core.proofs.EdgeMoves.{credited}
+use Rattle.worm_core.proofs.region.Region.arrive_credit.Goals as goal
+
+pub invariant_of-self : goal.invariant_of-self
+invariant_of-self c =
+    rw c.arrive_credit.ensures (credited c.self.inside.fabric c.args.node c.args.port c.args.vc c.self.invariant
+    (subst (λ (s : NetState). owned s c.args.node ≡ false) (sym c.self.view_is) c.requires.elsewhere)
+    (subst (λ (s : NetState). IsSome (neighbour_of s.mesh c.args.node c.args.port)) (sym c.self.view_is) c.requires.linked)
+    (subst (λ (s : NetState). c.args.vc < sum s.channels) (sym c.self.view_is) c.requires.channel)).0
+
+pub returns : goal.returns
+returns c =
+    subst (λ (s : NetState). ComesBack s c.args.node c.args.port c.args.vc c.arrive_credit.new.self) c.self.view_is
+    (rw c.arrive_credit.ensures (credited c.self.inside.fabric c.args.node c.args.port c.args.vc c.self.invariant
+    (subst (λ (s : NetState). owned s c.args.node ≡ false) (sym c.self.view_is) c.requires.elsewhere)
+    (subst (λ (s : NetState). IsSome (neighbour_of s.mesh c.args.node c.args.port)) (sym c.self.view_is) c.requires.linked)
+    (subst (λ (s : NetState). c.args.vc < sum s.channels) (sym c.self.view_is) c.requires.channel)).1)

@@ -1,0 +1,13 @@
+use Rattle.std.proofs.Common.{◌<◌, None, arith, subst}
+use Rattle.worm_mesh.specs.Address.{node_count}
+use Rattle.worm_core.specs.State.{NetState}
+use Rattle.worm_core.specs.RegionTurns.{SendsGranted}
+use Rattle.worm_core.proofs.Resting.{sends_still}
+use Rattle.worm_core.proofs.region.Region.sends_nothing.Goals as goal
+
+pub returns : goal.returns
+returns c = λ yes.
+    let all = c.self.invariant.framed.all_nodes in
+    let there : c.args.node < node_count c.self.inside.fabric.mesh = rw (c.self.view_is) c.requires in
+    subst (λ (s : NetState). SendsGranted c.args.node s None s) c.self.view_is
+    (sends_still c.self.inside.fabric c.args.node (omega arith) (c.sends_nothing.ensures.chooses yes) (c.sends_nothing.ensures.grants yes))
