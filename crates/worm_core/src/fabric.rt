@@ -164,22 +164,6 @@ impl Fabric {
         self.links.links_at(node, port)
     }
 
-    /// Whether a flit is on the link of this number.
-    pub fn has_flits(&self, number: u16) -> bool
-        requires { number < length self.now.links }
-        ensures { result ≡ is_some (slice_get (link_at self.now number).flits 0) }
-    {
-        self.links.link(number).front().is_some()
-    }
-
-    /// Whether a credit is on its way back over it.
-    pub fn has_credits(&self, number: u16) -> bool
-        requires { number < length self.now.links }
-        ensures { result ≡ is_some (slice_get (link_at self.now number).credits 0) }
-    {
-        self.links.link(number).front_credit().is_some()
-    }
-
     /// The terminal port of each node.
     pub fn terminal(&self) -> u8
         ensures value { result ≡ 2 * length self.now.mesh }

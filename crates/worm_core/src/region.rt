@@ -19,12 +19,7 @@ ghost use Rattle.worm_core.specs.Moves.{AreOwing, RoutesWithin, chosen_router};
 
 mod edges;
 
-ghost use Rattle.worm_core.specs.State.{link_at};
-ghost use Rattle.worm_core.specs.Wiring.{port_links};
-ghost use Rattle.std.specs.Prelude.{is_some, slice_get};
-
 use crate::fabric::Fabric;
-use crate::wiring::PortLinks;
 use crate::{Moved, Step, StepFault};
 use std::marker::Model;
 use worm_flit::{Lane, Packet};
@@ -35,7 +30,7 @@ use worm_vcalloc::ChannelSet;
 /// move keeps that. Of the nodes that are not owned it has others in their places, which are not moved; of a link that comes
 /// from one of them what was taken off its queue and is in no buffer.
 #[derive(Drop)]
-pub struct Region {
+pub(crate) struct Region {
     fabric: Fabric,
 }
 
@@ -75,31 +70,8 @@ impl Region {
         Region { fabric }
     }
 
-    /// The links of this port, if the node has a neighbour there.
-    pub fn links_at(&self, node: u8, port: u8) -> Option<PortLinks>
-        ensures value { result ≡ port_links self.now.mesh node port }
-    {
-        self.fabric.links_at(node, port)
-    }
-
-    /// Whether a flit is on the link of this number.
-    pub fn has_flits(&self, number: u16) -> bool
-        requires { number < length self.now.links }
-        ensures { result ≡ is_some (slice_get (link_at self.now number).flits 0) }
-    {
-        self.fabric.has_flits(number)
-    }
-
-    /// Whether a credit is on its way back over it.
-    pub fn has_credits(&self, number: u16) -> bool
-        requires { number < length self.now.links }
-        ensures { result ≡ is_some (slice_get (link_at self.now number).credits 0) }
-    {
-        self.fabric.has_credits(number)
-    }
-
     /// What holds of every region, for whoever has one.
-    pub fn is_sound(&self)
+    pub(crate) fn is_sound(&self)
         ensures sound { IsWorkable self.now }
     {
         let _fabric = &self.fabric;
@@ -129,7 +101,7 @@ impl Region {
     }
 
     /// The terminal port of each node.
-    pub fn terminal(&self) -> u8
+    pub(crate) fn terminal(&self) -> u8
         ensures value { result ≡ 2 * length self.now.mesh }
         ensures bound { result ≤ 6 }
     {
@@ -137,7 +109,7 @@ impl Region {
     }
 
     /// One pass of the node's channel allocator, its grants written into the records.
-    pub fn allocate(&mut self, node: u8)
+    pub(crate) fn allocate(&mut self, node: u8)
         requires { node < node_count self.old.mesh }
         ensures after { self.new ≡ with_router self.old node (after_allocate (router_at self.old node)) }
         ensures reaches { Reaches self.old self.new }
@@ -146,7 +118,7 @@ impl Region {
     }
 
     /// One pass of the node's switch allocator: the channels that it grants.
-    pub fn choose(&mut self, node: u8) -> ChannelSet
+    pub(crate) fn choose(&mut self, node: u8) -> ChannelSet
         requires { node < node_count self.old.mesh }
         ensures granted { AreGranted (switch_grants (router_at self.old node)) result }
         ensures after { self.new ≡ with_router self.old node (chosen_router (router_at self.old node)) }
@@ -157,7 +129,7 @@ impl Region {
     }
 
     /// Whether no channel of the node may send; then nothing is granted, and nothing sent.
-    pub fn sends_nothing(&self, node: u8) -> bool
+    pub(crate) fn sends_nothing(&self, node: u8) -> bool
         requires { node < node_count self.now.mesh }
         ensures { IsTrue result → SendsGranted node self.now None self.now }
     {
@@ -165,7 +137,7 @@ impl Region {
     }
 
     /// The channels of the node with a flit that lack a route; no other has anything to route.
-    pub fn unrouted(&self, node: u8) -> ChannelSet
+    pub(crate) fn unrouted(&self, node: u8) -> ChannelSet
         requires { node < node_count self.now.mesh }
         ensures routes { RoutesWithin self.now node result }
         ensures sound { IsWorkable self.now }
@@ -174,7 +146,7 @@ impl Region {
     }
 
     /// A mesh port from this one on by which a credit may come in; before it there is none to take, and where there is none, past it.
-    pub fn next_credit(&self, node: u8, from: u8) -> Option<u8>
+    pub(crate) fn next_credit(&self, node: u8, from: u8) -> Option<u8>
         requires node { node < node_count self.now.mesh }
         requires from { from ≤ 6 }
         ensures mesh_port { IfSome result (λ port. (from ≤ port) × (port < 2 * length self.now.mesh) × (port < 6)) }
@@ -185,7 +157,7 @@ impl Region {
     }
 
     /// The same of flits.
-    pub fn next_flit(&self, node: u8, from: u8) -> Option<u8>
+    pub(crate) fn next_flit(&self, node: u8, from: u8) -> Option<u8>
         requires node { node < node_count self.now.mesh }
         requires from { from ≤ 6 }
         ensures mesh_port { IfSome result (λ port. (from ≤ port) × (port < 2 * length self.now.mesh) × (port < 6)) }
@@ -196,7 +168,7 @@ impl Region {
     }
 
     /// The first class from this one on of which the node can feed a flit; before it there is none to feed, and where there is none, past it.
-    pub fn next_class(&self, node: u8, from: u8) -> Option<u8>
+    pub(crate) fn next_class(&self, node: u8, from: u8) -> Option<u8>
         requires { node < node_count self.now.mesh }
         ensures class { IfSome result (λ class. (from ≤ class) × (class < length self.now.channels) × (class < 4)) }
         ensures before { IfSome result (λ class. (k : ℕ) → from ≤ k → k < class → Tries (Event.Feed node k) self.now None self.now) }
@@ -206,7 +178,7 @@ impl Region {
     }
 
     /// The channels of the node that owe a credit.
-    pub fn owing(&self, node: u8) -> ChannelSet
+    pub(crate) fn owing(&self, node: u8) -> ChannelSet
         requires { node < node_count self.now.mesh }
         ensures owing { AreOwing self.now node result }
         ensures sound { IsWorkable self.now }
@@ -215,7 +187,7 @@ impl Region {
     }
 
     /// Whether the node is at rest, so that its turn goes past all but what its source is asked.
-    pub fn rests(&mut self, node: u8) -> bool
+    pub(crate) fn rests(&mut self, node: u8) -> bool
         requires { node < node_count self.old.mesh }
         ensures passes { IsTrue result → NodePasses node self.old None self.old }
         ensures same { self.new ≡ self.old }
@@ -223,7 +195,7 @@ impl Region {
         self.fabric.rests(node)
     }
 
-    pub fn offer(&mut self, node: u8, packet: &Packet) -> Result<Moved, StepFault>
+    pub(crate) fn offer(&mut self, node: u8, packet: &Packet) -> Result<Moved, StepFault>
         ensures { Answers self.old (Event.Offer node packet.now.lane packet.now.words) result self.new }
     {
         if !self.fabric.has_node(node) {
@@ -232,7 +204,7 @@ impl Region {
         accepted(self.fabric.offer(node, packet))
     }
 
-    pub fn close(&mut self, node: u8, lane: Lane) -> Result<Moved, StepFault>
+    pub(crate) fn close(&mut self, node: u8, lane: Lane) -> Result<Moved, StepFault>
         ensures { Answers self.old (Event.CloseLane node lane) result self.new }
     {
         if !self.fabric.has_node(node) {
@@ -241,7 +213,7 @@ impl Region {
         accepted(self.fabric.close(node, lane))
     }
 
-    pub fn feed(&mut self, node: u8, class: u8) -> Result<Moved, StepFault>
+    pub(crate) fn feed(&mut self, node: u8, class: u8) -> Result<Moved, StepFault>
         ensures { Answers self.old (Event.Feed node class) result self.new }
     {
         if !self.fabric.has_class(node, class) {
@@ -251,7 +223,7 @@ impl Region {
     }
 
     /// The same where the node and the class are there.
-    pub fn feed_there(&mut self, node: u8, class: u8) -> bool
+    pub(crate) fn feed_there(&mut self, node: u8, class: u8) -> bool
         requires node { node < node_count self.old.mesh }
         requires class { class < length self.old.channels }
         ensures { Answers self.old (Event.Feed node class) (Ok (moved_of result)) self.new }
@@ -259,7 +231,7 @@ impl Region {
         self.fabric.feed(node, class)
     }
 
-    pub fn route(&mut self, node: u8, port: u8, vc: u8) -> Result<Moved, StepFault>
+    pub(crate) fn route(&mut self, node: u8, port: u8, vc: u8) -> Result<Moved, StepFault>
         ensures { Answers self.old (Event.Route node port vc) result self.new }
     {
         if !self.fabric.has_place(node, port, vc) {
@@ -288,7 +260,7 @@ impl Region {
     }
 
     /// The same where the place is there. What leaves over a link stays among the nodes that are owned.
-    pub fn send_there(&mut self, node: u8, port: u8, vc: u8) -> Result<Moved, StepFault>
+    pub(crate) fn send_there(&mut self, node: u8, port: u8, vc: u8) -> Result<Moved, StepFault>
         requires there { IsThere (shape self.old) (Event.Send node port vc) }
         requires within { IfSome (leaving (router_at self.old node) port vc) (λ out. EndsWithin (shape self.old) (owned self.old) node out.0) }
         ensures { Answers self.old (Event.Send node port vc) result self.new }
@@ -296,7 +268,7 @@ impl Region {
         self.fabric.send(node, port, vc)
     }
 
-    pub fn take(&mut self, node: u8, port: u8) -> Result<Moved, StepFault>
+    pub(crate) fn take(&mut self, node: u8, port: u8) -> Result<Moved, StepFault>
         ensures { Answers self.old (Event.Take node port) result self.new }
     {
         let Some(number) = self.fabric.link_into(node, port) else {
@@ -319,7 +291,7 @@ impl Region {
     }
 
     /// The same where the node and the channel are there, and the channel of the port owes a credit.
-    pub fn give_owed(&mut self, node: u8, port: u8, vc: u8) -> Result<Moved, StepFault>
+    pub(crate) fn give_owed(&mut self, node: u8, port: u8, vc: u8) -> Result<Moved, StepFault>
         requires channel { vc < sum self.old.channels }
         requires owed { 0 < (input_at (router_at self.old node) port vc).owed }
         requires within { EndsWithin (shape self.old) (owned self.old) node port }
@@ -332,7 +304,7 @@ impl Region {
         Ok(Moved::Done)
     }
 
-    pub fn get(&mut self, node: u8, port: u8) -> Result<Moved, StepFault>
+    pub(crate) fn get(&mut self, node: u8, port: u8) -> Result<Moved, StepFault>
         ensures { Answers self.old (Event.TakeCredit node port) result self.new }
     {
         let Some(number) = self.fabric.link_out(node, port) else {
@@ -342,7 +314,7 @@ impl Region {
     }
 
     /// One step of a whole network.
-    pub fn step(&mut self, step: &Step) -> Result<Moved, StepFault>
+    pub(crate) fn step(&mut self, step: &Step) -> Result<Moved, StepFault>
         requires { self.old.own ≡ sole }
         ensures { Answers self.old (event_of step.now) result self.new }
     {

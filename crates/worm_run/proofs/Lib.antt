@@ -1,3 +1,4 @@
+pub mod Coming
 pub mod Crossing
 pub mod EndFacts
 pub mod Keeping
