@@ -4,7 +4,7 @@ use Rattle.std.specs.Prelude.{All, fold, IsSome, is_none, option_map}
 use Rattle.std.specs.List.{range_with_len}
 use Rattle.std.proofs.lemmas.List.{set-set}
 use Rattle.std.proofs.Math.ListN.{length-set}
-use Rattle.std.proofs.lemmas.List.Elements.{All-head}
+use Rattle.std.proofs.lemmas.List.Elements.{All-head, All-nil}
 use Rattle.std.proofs.lemmas.Bool.{and_parts}
 use Rattle.worm_flit.specs.declared.Flit.{Flit}
 use Rattle.worm_flit.specs.Channels.{owns}
@@ -28,12 +28,12 @@ use Rattle.worm_core.specs.State.{NetState, IsNetPlace, IsSameConfig, shape, net
 use Rattle.worm_core.specs.Workable.{IsWorkable, owned, IsKept, Works}
 use Rattle.worm_core.specs.Answers.{moved_of}
 use Rattle.worm_core.specs.Moves.{IsReady, chosen_router}
-use Rattle.worm_core.specs.Turns.{Reaches}
+use Rattle.worm_core.specs.Turns.{ReachesAt, node_of}
 use Rattle.worm_core.proofs.Bridge.{node_at-put, node_kept}
 use Rattle.worm_core.proofs.Kept.{node_framed}
 use Rattle.worm_core.proofs.There.{buffer_there}
 use Rattle.worm_core.proofs.GrantStep.{grant_answers, with_router_same}
-use Rattle.worm_core.proofs.Reaching.{reached, joined, by_answer}
+use Rattle.worm_core.proofs.StepsAt.{none_at, joined_at, answered_at}
 use Rattle.worm_term.specs.Source.{queue_at}
 
 -- a router written over a router
@@ -72,7 +72,7 @@ arbiters_apart s x a b there =
     }
 
 pub arbiters_moved : (s : NetState) (x : ℕ) (a : VcAllocState) (b : SwAllocState) → IsWorkable s → x < length s.nodes
-    → IsWorkable (with_router s x (record (router_at s x) { channel_alloc = a; switch_alloc = b })) × Reaches s (with_router s x (record (router_at s x) { channel_alloc = a; switch_alloc = b }))
+    → IsWorkable (with_router s x (record (router_at s x) { channel_alloc = a; switch_alloc = b })) × ReachesAt x s (with_router s x (record (router_at s x) { channel_alloc = a; switch_alloc = b }))
 arbiters_moved s x a b net there =
     let n : Node = record (node_at s x) { router = record (router_at s x) { channel_alloc = a; switch_alloc = b } } in
     let old = net.framed.each_node x there in
@@ -95,17 +95,17 @@ arbiters_moved s x a b net there =
         };
         works = subst (λ (m : Network). Works (shape s) (owned s) m) back net.works;
       },
-      record { steps = []; led = same; config = record { mesh = refl; channels = refl; depth = refl; names = refl; own = refl } },
+      record { steps = []; at_node = All-nil (λ step. node_of step ≡ x); led = same; config = record { mesh = refl; channels = refl; depth = refl; names = refl; own = refl } },
     )
 
 some_if : (b : Bool) (q o : ℕ) → (if b then Some q else None) ≡ Some o → b ≡ true
 some_if true q o e = refl
 some_if false q o e = let no_grant : ◌≡◌ {A = Option ℕ} None (Some o) = e in absurd (cc)
 
-unchanged : (s : NetState) (x : ℕ) → IsWorkable s → x < length s.nodes → (r : RouterState) → r ≡ router_at s x → IsWorkable (with_router s x r) × Reaches s (with_router s x r)
+unchanged : (s : NetState) (x : ℕ) → IsWorkable s → x < length s.nodes → (r : RouterState) → r ≡ router_at s x → IsWorkable (with_router s x r) × ReachesAt x s (with_router s x r)
 unchanged s x net there r e =
     let same : with_router s x r ≡ s = ap (λ (q : RouterState). with_router s x q) e ∙ with_router_same s x there in
-    (subst IsWorkable (sym same) net, subst (λ (t : NetState). Reaches s t) (sym same) (reached s))
+    (subst IsWorkable (sym same) net, subst (λ (t : NetState). ReachesAt x s t) (sym same) (none_at x s))
 
 -- what is granted is there
 granted_there : (s : NetState) (x p v k o : ℕ) → IsWorkable s → x < node_count s.mesh → IsNetPlace s x p v → (st : InRecord) (fs : List Flit)
@@ -159,20 +159,20 @@ there_still a b x p v config there =
 
 -- a grant that is tried
 grant_by : (s : NetState) (x p v k : ℕ) → IsWorkable s → IsNetPlace s x p v → x < node_count s.mesh → (o : Option ℕ) → can_grant (router_at s x) p v k ≡ o
-    → IsWorkable (with_router s x (after_grant (router_at s x) p v k)) × Reaches s (with_router s x (after_grant (router_at s x) p v k))
+    → IsWorkable (with_router s x (after_grant (router_at s x) p v k)) × ReachesAt x s (with_router s x (after_grant (router_at s x) p v k))
 grant_by s x p v k net place x_in None e =
     unchanged s x net place.node_in (after_grant (router_at s x) p v k) (ap (λ (o : Option ℕ). after_granting (router_at s x) p v k o) e)
 grant_by s x p v k net place x_in (Some o) e =
     let there = granted_there s x p v k o net x_in place (input_at (router_at s x) p v).state (input_at (router_at s x) p v).buffer refl e in
     let answer = grant_answers s x p v k net there in
-    (answer.0, by_answer s (with_router s x (after_grant (router_at s x) p v k)) (Grant x p v k) (Ok (moved_of (is_some (can_grant (router_at s x) p v k)))) answer.1)
+    (answer.0, answered_at s (with_router s x (after_grant (router_at s x) p v k)) (Grant x p v k) (Ok (moved_of (is_some (can_grant (router_at s x) p v k)))) answer.1)
 
 -- a router that a list of tried grants makes of the node's router
 record Granted (s : NetState) (x : ℕ) (r : RouterState) : Type 0 where
   mesh : r.mesh ≡ s.mesh
   channels : r.channels ≡ s.channels
   net : IsWorkable (with_router s x r)
-  reaches : Reaches s (with_router s x r)
+  reaches : ReachesAt x s (with_router s x r)
 
 config_after : (r : RouterState) (p v k : ℕ) (o : Option ℕ) → ((after_granting r p v k o).mesh ≡ r.mesh) × ((after_granting r p v k o).channels ≡ r.channels)
 config_after r p v k None = (refl, refl)
@@ -193,7 +193,7 @@ grant_more s x r p v k there x_in p_in v_in had =
       mesh = config.0 ∙ had.mesh;
       channels = config.1 ∙ had.channels;
       net = subst IsWorkable to done.0;
-      reaches = subst (λ (n : NetState). Reaches s n) to (joined s t _ had.reaches done.1);
+      reaches = subst (λ (n : NetState). ReachesAt x s n) to (joined_at x s t _ had.reaches done.1);
     }
 
 written_more : (s : NetState) (x : ℕ) (r : RouterState) (p v : ℕ) (o : Option ℕ) → x < length s.nodes → x < node_count s.mesh → p ≤ 2 * length s.mesh → v < sum s.channels → Granted s x r → Granted s x (written r p v o)
@@ -217,7 +217,7 @@ all_granted s x grants r there x_in had =
     fold_range (λ q. Granted s x q) (with_port_grants grants) (2 * length s.mesh + 1)
     (λ q p p_in before. port_granted s x grants q p there x_in (omega arith) before) 0 (terminal r + 1) (rw had.mesh (omega arith)) r had
 
-pub allocated : (s : NetState) (x : ℕ) → IsWorkable s → x < length s.nodes → IsWorkable (with_router s x (after_allocate (router_at s x))) × Reaches s (with_router s x (after_allocate (router_at s x)))
+pub allocated : (s : NetState) (x : ℕ) → IsWorkable s → x < length s.nodes → IsWorkable (with_router s x (after_allocate (router_at s x))) × ReachesAt x s (with_router s x (after_allocate (router_at s x)))
 allocated s x net there =
     let node = net.framed.each_node x there in
     let all = net.framed.all_nodes in
@@ -226,13 +226,13 @@ allocated s x net there =
     let end = all_granted s x (channel_pass (router_at s x)).grants (record (router_at s x) { channel_alloc = (channel_pass (router_at s x)).alloc }) there (omega arith) start in
     (end.net, end.reaches)
 
-pub chosen : (s : NetState) (x : ℕ) → IsWorkable s → x < length s.nodes → IsWorkable (with_router s x (chosen_router (router_at s x))) × Reaches s (with_router s x (chosen_router (router_at s x)))
+pub chosen : (s : NetState) (x : ℕ) → IsWorkable s → x < length s.nodes → IsWorkable (with_router s x (chosen_router (router_at s x))) × ReachesAt x s (with_router s x (chosen_router (router_at s x)))
 unfolding chosen_router
 chosen s x net there = arbiters_moved s x (router_at s x).channel_alloc (after_choose (router_at s x)).switch_alloc net there
 
 -- the same of a node of the mesh
-pub allocated_in : (s : NetState) (x : ℕ) → IsWorkable s → x < node_count s.mesh → IsWorkable (with_router s x (after_allocate (router_at s x))) × Reaches s (with_router s x (after_allocate (router_at s x)))
+pub allocated_in : (s : NetState) (x : ℕ) → IsWorkable s → x < node_count s.mesh → IsWorkable (with_router s x (after_allocate (router_at s x))) × ReachesAt x s (with_router s x (after_allocate (router_at s x)))
 allocated_in s x net there = let all = net.framed.all_nodes in allocated s x net (omega arith)
 
-pub chosen_in : (s : NetState) (x : ℕ) → IsWorkable s → x < node_count s.mesh → IsWorkable (with_router s x (chosen_router (router_at s x))) × Reaches s (with_router s x (chosen_router (router_at s x)))
+pub chosen_in : (s : NetState) (x : ℕ) → IsWorkable s → x < node_count s.mesh → IsWorkable (with_router s x (chosen_router (router_at s x))) × ReachesAt x s (with_router s x (chosen_router (router_at s x)))
 chosen_in s x net there = let all = net.framed.all_nodes in chosen s x net (omega arith)

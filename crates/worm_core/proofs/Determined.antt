@@ -8,7 +8,7 @@ use Rattle.worm_core.specs.State.{NetState}
 use Rattle.worm_core.specs.Script.{due}
 use Rattle.worm_core.specs.Answers.{Answers}
 use Rattle.worm_core.specs.Totals.{injected_total, delivered_total}
-use Rattle.worm_core.specs.Turns.{Passage, Stays, ◌and_then◌, Each, ForEach, Tries, NodeTurn, AsksSource, TakesCredits, TakesFlits, FeedsClasses, RoutesChannels, RoutesPort, Allocates, SendsGranted, GivesCredit, GivesCredits, Turn, Turns, Drains, RunIsDetermined, IsDetermined, fault_of, all_nodes, all_ports, mesh_ports}
+use Rattle.worm_core.specs.Turns.{Passage, Stays, ◌and_then◌, Each, ForEach, Tries, NodeTurn, AsksSource, ComesIn, TakesCredits, TakesFlits, FeedsClasses, RoutesChannels, RoutesPort, Allocates, SendsGranted, GivesCredit, GivesCredits, Turn, Turns, Drains, RunIsDetermined, IsDetermined, fault_of, all_nodes, all_ports, mesh_ports}
 use Rattle.worm_core.specs.declared.script.Entry.{Entry}
 use Rattle.worm_core.specs.declared.step.Moved.{Moved}
 use Rattle.worm_core.specs.declared.step.Moved.TheVariants.{Done, Idle}
@@ -92,15 +92,20 @@ allocates_one x old new other fault else_fault a b ample more = (a.0 ∙ sym b.0
 sends_one_way : (x : ℕ) → IsDetermined (SendsGranted x)
 sends_one_way x old new other fault else_fault a b ample more = each_one_way Tries tries_one _ _ new other fault else_fault a b ample more
 
+comes_in_one : (x : ℕ) → IsDetermined (ComesIn x)
+comes_in_one x =
+    then_one (TakesCredits x) _ (for_each_one _ Tries tries_one)
+    (then_one (TakesFlits x) _ (for_each_one _ Tries tries_one)
+    (then_one (FeedsClasses x) (RoutesChannels x) (for_each_one _ Tries tries_one)
+    (for_each_one all_ports (RoutesPort x) (λ p. for_each_one _ Tries tries_one))))
+
 node_turn_one : (entries : List Entry) (x : ℕ) → IsDetermined (NodeTurn entries x)
 node_turn_one entries x =
     then_one (AsksSource entries x) _ (for_each_one _ Tries tries_one)
-    (then_one (TakesCredits x) _ (for_each_one _ Tries tries_one)
-    (then_one (TakesFlits x) _ (for_each_one _ Tries tries_one)
-    (then_one (FeedsClasses x) _ (for_each_one _ Tries tries_one)
-    (then_one (RoutesChannels x) _ (for_each_one all_ports (RoutesPort x) (λ p. for_each_one _ Tries tries_one))
+    (then_one (ComesIn x) _ (comes_in_one x)
     (then_one (Allocates x) _ (allocates_one x)
-    (then_one (SendsGranted x) (GivesCredits x) (sends_one_way x) (for_each_one mesh_ports (GivesCredit x) (λ p. for_each_one _ Tries tries_one))))))))
+    (then_one (SendsGranted x) (GivesCredits x) (sends_one_way x)
+    (for_each_one mesh_ports (GivesCredit x) (λ p. for_each_one _ Tries tries_one)))))
 
 pub turn_one : (entries : List Entry) → IsDetermined (Turn entries)
 unfolding Turn

@@ -15,7 +15,7 @@ use Rattle.worm_core.specs.Shape.{net_shape}
 use Rattle.worm_core.specs.declared.node.Node.{Node}
 use Rattle.worm_core.specs.State.{NetState, IsFramed, IsNodeOf, IsNetPlace, shape, network_of, node_at, router_at, source_at, with_node, output_of, queue_of}
 use Rattle.worm_core.specs.Workable.{IsWorkableBy, IsBound}
-use Rattle.worm_core.specs.RegionAnswers.{Answers}
+use Rattle.worm_core.specs.Replies.{Replies}
 use Rattle.worm_core.specs.Answers.{moved_of}
 use Rattle.worm_core.specs.Moves.{done_step, FrontFits, has_room, can_enter, fed_node}
 use Rattle.worm_core.proofs.Bridge.{put2_same, put3_same, node_bridge, itself3, input_of-put, input_of-there, below_cases}
@@ -193,7 +193,7 @@ feed_full s x k f net x_in k_in next room h =
 
 Outcome : (ℕ → Bool) → NetState → ℕ → ℕ → Option Flit → Bool → Type 0
 Outcome own s x k o b =
-    IsWorkableBy own (if b then with_node s x (fed_node (node_at s x) k o) else s) × Answers s (Feed x k) (Ok (moved_of b)) (if b then with_node s x (fed_node (node_at s x) k o) else s)
+    IsWorkableBy own (if b then with_node s x (fed_node (node_at s x) k o) else s) × Replies s (Feed x k) (Ok (moved_of b)) (if b then with_node s x (fed_node (node_at s x) k o) else s)
 
 feed_at : (s : NetState) (x k : ℕ) → {own : ℕ → Bool} → IsWorkableBy own s → x < length s.nodes → k < length s.channels → IsThere (shape s) (Feed x k) → (o : Option Flit) (b : Bool)
     → waiting (queue_of s x k) ≡ o → can_enter (router_at s x) (terminal (router_at s x)) (option_map (λ f. with_channel f (first_channel (source_at s x).channels k)) o) ≡ b
@@ -212,7 +212,7 @@ feed_at s x k net x_in k_in there (Some f) false next can same = (net, (there, f
 
 pub feed_answers : (s : NetState) (x k : ℕ) → {own : ℕ → Bool} → IsWorkableBy own s → IsThere (shape s) (Feed x k) → (done : Bool) → done ≡ can_enter (router_at s x) (terminal (router_at s x)) (front_of (source_at s x) k)
     → IsWorkableBy own (if done then with_node s x (fed_node (node_at s x) k (front_of (source_at s x) k)) else s)
-    × Answers s (Feed x k) (Ok (moved_of done)) (if done then with_node s x (fed_node (node_at s x) k (front_of (source_at s x) k)) else s)
+    × Replies s (Feed x k) (Ok (moved_of done)) (if done then with_node s x (fed_node (node_at s x) k (front_of (source_at s x) k)) else s)
 unfolding net_shape Outcome
 feed_answers s x k net there done e =
     let all = net.framed.all_nodes in

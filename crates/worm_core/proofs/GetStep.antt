@@ -11,7 +11,7 @@ use Rattle.worm_theory.proofs.Places.{bool_cases}
 use Rattle.worm_core.specs.Shape.{net_shape}
 use Rattle.worm_core.specs.State.{NetState, LinkView, IsFramed, IsNetPlace, shape, network_of, router_at, with_router, link_at}
 use Rattle.worm_core.specs.Workable.{IsWorkableBy}
-use Rattle.worm_core.specs.RegionAnswers.{Answers}
+use Rattle.worm_core.specs.Replies.{Replies}
 use Rattle.worm_core.specs.Answers.{moved_of}
 use Rattle.worm_core.specs.Moves.{done_step, link_out, front_credit, CreditFits, can_get, after_getting}
 use Rattle.worm_core.proofs.Bridge.{put2_same, put3_same, output_bridge}
@@ -104,7 +104,7 @@ get_idle s x o y net x_in e (Some c) first can h =
 
 Outcome : (ℕ → Bool) → NetState → ℕ → ℕ → Option ℕ → Bool → Type 0
 Outcome own s x o c b =
-    IsWorkableBy own (if b then after_getting s x o c else s) × Answers s (TakeCredit x o) (Ok (moved_of b)) (if b then after_getting s x o c else s)
+    IsWorkableBy own (if b then after_getting s x o c else s) × Replies s (TakeCredit x o) (Ok (moved_of b)) (if b then after_getting s x o c else s)
 
 get_at : (s : NetState) (x o y : ℕ) → {own : ℕ → Bool} → IsWorkableBy own s → x < length s.nodes → IsThere (shape s) (TakeCredit x o) → neighbour_of s.mesh x o ≡ Some y → (c : Option ℕ) (b : Bool)
     → front_credit s x o ≡ c → can_get (router_at s x) o c ≡ b → after_getting s x o c ≡ done_step s (TakeCredit x o) → Outcome own s x o c b
@@ -124,7 +124,7 @@ get_by s x o net x_in there None e some = absurd (cc)
 get_by s x o net x_in there (Some y) e some = get_at s x o y net x_in there e (front_credit s x o) (can_get (router_at s x) o (front_credit s x o)) refl refl refl
 
 pub get_answers : (s : NetState) (x o : ℕ) → {own : ℕ → Bool} → IsWorkableBy own s → IsThere (shape s) (TakeCredit x o) → (done : Bool) → done ≡ can_get (router_at s x) o (front_credit s x o)
-    → IsWorkableBy own (if done then after_getting s x o (front_credit s x o) else s) × Answers s (TakeCredit x o) (Ok (moved_of done)) (if done then after_getting s x o (front_credit s x o) else s)
+    → IsWorkableBy own (if done then after_getting s x o (front_credit s x o) else s) × Replies s (TakeCredit x o) (Ok (moved_of done)) (if done then after_getting s x o (front_credit s x o) else s)
 unfolding net_shape Outcome
 get_answers s x o net there done e =
     let all = net.framed.all_nodes in

@@ -13,7 +13,7 @@ use Rattle.worm_theory.proofs.Credit.{count-cons}
 use Rattle.worm_core.specs.Shape.{net_shape}
 use Rattle.worm_core.specs.State.{NetState, LinkView, IsFramed, IsNetPlace, shape, network_of, router_at, with_router, link_at}
 use Rattle.worm_core.specs.Workable.{EndsWithin, IsWorkableBy}
-use Rattle.worm_core.specs.RegionAnswers.{Answers}
+use Rattle.worm_core.specs.Replies.{Replies}
 use Rattle.worm_core.specs.Answers.{moved_of}
 use Rattle.worm_core.specs.Moves.{done_step, into_from, link_into, can_give, after_giving}
 use Rattle.worm_core.proofs.Bridge.{put2_same, put3_same, input_bridge, input_of-there, below_cases}
@@ -115,7 +115,7 @@ give_idle s x p v place can h =
 
 Outcome : (ℕ → Bool) → NetState → ℕ → ℕ → ℕ → ℕ → Bool → Type 0
 Outcome own s x p v k b =
-    IsWorkableBy own (if b then after_giving s x p v k else s) × Answers s (GiveCredit x p v) (Ok (moved_of b)) (if b then after_giving s x p v k else s)
+    IsWorkableBy own (if b then after_giving s x p v k else s) × Replies s (GiveCredit x p v) (Ok (moved_of b)) (if b then after_giving s x p v k else s)
 
 give_at : (s : NetState) (x p v y : ℕ) → {own : ℕ → Bool} → IsWorkableBy own s → IsNetPlace s x p v → IsThere (shape s) (GiveCredit x p v) → neighbour_of s.mesh x p ≡ Some y → (b : Bool)
     → can_give s x p v ≡ b → after_giving s x p v (links_before s.mesh y (opposite_of p)) ≡ done_step s (GiveCredit x p v) → Outcome own s x p v (links_before s.mesh y (opposite_of p)) b
@@ -134,7 +134,7 @@ give_by s x p v net place there None e some same = absurd (cc)
 give_by s x p v net place there (Some y) e some same = give_at s x p v y net place there e (can_give s x p v) refl same
 
 pub give_answers : (s : NetState) (x p v : ℕ) → {own : ℕ → Bool} → IsWorkableBy own s → IsThere (shape s) (GiveCredit x p v) → (done : Bool) → done ≡ can_give s x p v
-    → IsWorkableBy own (if done then after_giving s x p v (link_into s x p) else s) × Answers s (GiveCredit x p v) (Ok (moved_of done)) (if done then after_giving s x p v (link_into s x p) else s)
+    → IsWorkableBy own (if done then after_giving s x p v (link_into s x p) else s) × Replies s (GiveCredit x p v) (Ok (moved_of done)) (if done then after_giving s x p v (link_into s x p) else s)
 unfolding net_shape Outcome
 give_answers s x p v net there done e =
     let place = net_place s x p v net.framed there.0 (inr there.1) there.2 in
@@ -157,11 +157,11 @@ give_room s x p v net inner there =
 
 -- a credit that is owed is given
 pub gave_owed : (s : NetState) (x p v : ℕ) → {own : ℕ → Bool} → IsWorkableBy own s → IsThere (shape s) (GiveCredit x p v) → 0 < (input_at (router_at s x) p v).owed
-    → IsWorkableBy own (after_giving s x p v (link_into s x p)) × Answers s (GiveCredit x p v) (Ok (moved_of true)) (after_giving s x p v (link_into s x p))
+    → IsWorkableBy own (after_giving s x p v (link_into s x p)) × Replies s (GiveCredit x p v) (Ok (moved_of true)) (after_giving s x p v (link_into s x p))
 gave_owed s x p v net there owed =
     let can : true ≡ can_give s x p v = sym (owing (input_at (router_at s x) p v).owed owed) in
     give_answers s x p v net there true can
 
 -- and where none is owed, none can be
-pub gave_none : (s : NetState) (x p v : ℕ) → {own : ℕ → Bool} → IsWorkableBy own s → IsThere (shape s) (GiveCredit x p v) → can_give s x p v ≡ false → Answers s (GiveCredit x p v) (Ok (moved_of false)) s
+pub gave_none : (s : NetState) (x p v : ℕ) → {own : ℕ → Bool} → IsWorkableBy own s → IsThere (shape s) (GiveCredit x p v) → can_give s x p v ≡ false → Replies s (GiveCredit x p v) (Ok (moved_of false)) s
 gave_none s x p v net there none = (give_answers s x p v net there false (sym none)).1

@@ -14,10 +14,9 @@ use Rattle.worm_theory.proofs.Places.{same-false}
 use Rattle.worm_core.specs.Shape.{net_shape}
 use Rattle.worm_core.specs.State.{NetState, node_at, router_at, with_node}
 use Rattle.worm_core.specs.Workable.{IsWorkable}
-use Rattle.worm_core.specs.RegionAnswers.{Answers}
+use Rattle.worm_core.specs.Replies.{Attempts, Replies}
 use Rattle.worm_core.specs.Moves.{AreOwing, OwesTheSame, can_give}
-use Rattle.worm_core.specs.RegionTurns.{GivesCredit, GivesCredits}
-use Rattle.worm_core.specs.Turns.{Each, Does, lowest_owed, mesh_ports}
+use Rattle.worm_core.specs.Turns.{Each, Does, lowest_owed, mesh_ports, GivesCreditBy, GivesCreditsBy}
 use Rattle.worm_core.specs.declared.node.Node.{Node}
 use Rattle.worm_core.specs.declared.step.Moved.{Moved}
 use Rattle.worm_core.specs.declared.step.Moved.TheVariants.{Done, Idle}
@@ -52,7 +51,7 @@ gave_elsewhere a x q c p v net there q_in c_in away v_in =
     let one : ChannelState = record (input_at (router_at a x) q c) { owed = (input_at (router_at a x) q c).owed - 1 } in
     ap (λ (s : ChannelState). s.owed) (input_elsewhere a x q c p v one net there q_in c_in (λ e f. away e) v_in)
 
-pub give_elsewhere : (a b : NetState) (x q c : ℕ) (answer : Result Moved StepFault) → IsWorkable a → Answers a (GiveCredit x q c) answer b → (p v : ℕ) → (p ≡ q → ⊥) → v < width (router_at b x) → OwesTheSame a b x p v
+pub give_elsewhere : (a b : NetState) (x q c : ℕ) (answer : Result Moved StepFault) → IsWorkable a → Replies a (GiveCredit x q c) answer b → (p v : ℕ) → (p ≡ q → ⊥) → v < width (router_at b x) → OwesTheSame a b x p v
 unfolding net_shape
 give_elsewhere a b x q c (Ok Done) net done p v away within =
     let place = net_place a x q c net.framed done.there.0 (inr done.there.1) done.there.2 in
@@ -89,7 +88,7 @@ are_owing s x owing net x_in set =
 
 -- how far the ports have come that owe a credit: those below `from` are done, and of the others just the channels of the set owe one
 pub record Gave (x : ℕ) (a b : NetState) (owing from : ℕ) : Type 0 where
-  pub passed : Does (Each (GivesCredit x) (range_with_len 0 from)) a None b
+  pub passed : Does (Each (GivesCreditBy Attempts x) (range_with_len 0 from)) a None b
   pub there : x < node_count b.mesh
   pub sound : IsWorkable b
   pub few : from ≤ 2 * length b.mesh
@@ -112,7 +111,7 @@ wide_as x b net there =
     let node = net.framed.each_node x (omega arith) in
     ap (λ (m : List ℕ). sum m) node.same_channels
 
-port_still : (x p : ℕ) (b : NetState) → IsWorkable b → x < node_count b.mesh → ((v : ℕ) → v < sum b.channels → can_give b x p v ≡ false) → GivesCredit x p b None b
+port_still : (x p : ℕ) (b : NetState) → IsWorkable b → x < node_count b.mesh → ((v : ℕ) → v < sum b.channels → can_give b x p v ≡ false) → GivesCreditBy Attempts x p b None b
 port_still x p b net there none =
     let wide = wide_as x b net there in
     (gives_none x p b (owed_lowest (router_at b x) p None tt tt (λ v v_in. none_owed (input_at (router_at b x) p v).owed (none v (omega arith))))).exact
@@ -153,7 +152,7 @@ gave_same x a b owing new from q c gave first below =
       places = λ p v p_few v_few some. gave.places p v p_few v_few (still_in owing new q c p v first p_few v_few some);
     }
 
-pub gave_more : (x : ℕ) (a b b_new : NetState) (owing new from q c : ℕ) → Gave x a b owing from → IsFirst owing new q c → from ≤ q → q < 2 * length b.mesh → (Some c ≡ lowest_owed (router_at b x) q → Does (GivesCredit x q) b None b_new)
+pub gave_more : (x : ℕ) (a b b_new : NetState) (owing new from q c : ℕ) → Gave x a b owing from → IsFirst owing new q c → from ≤ q → q < 2 * length b.mesh → (Some c ≡ lowest_owed (router_at b x) q → Does (GivesCreditBy Attempts x q) b None b_new)
     → ((p v : ℕ) → (p ≡ q → ⊥) → v < width (router_at b_new x) → OwesTheSame b b_new x p v) → IsWorkable b_new → Gave x a b_new new (q + 1)
 gave_more x a b b_new owing new from q c gave first to_give q_in given same net_new =
     let net = gave.sound in
@@ -166,10 +165,10 @@ gave_more x a b b_new owing new from q c gave first to_give q_in given same net_
     let wide = ap (λ (cs : List ℕ). sum cs) config.channels in
     let there : x < node_count b_new.mesh = omega (arith, gave.there) in
     let wide_new = wide_as x b_new net_new there in
-    let up_to = loop_on (GivesCredit x) from q a b to_give gave.passed
+    let up_to = loop_on (GivesCreditBy Attempts x) from q a b to_give gave.passed
     (λ p above below. port_still x p b net gave.there (λ v v_in. sym (gave.rest p v above (omega arith) v_in) ∙ first.none_before p v (omega (arith, few)) (omega (arith, few)))) in
     record {
-      passed = loop_more (GivesCredit x) q a b b_new None up_to does;
+      passed = loop_more (GivesCreditBy Attempts x) q a b b_new None up_to does;
       there = there;
       sound = net_new;
       few = omega arith;
@@ -179,16 +178,16 @@ gave_more x a b b_new owing new from q c gave first to_give q_in given same net_
       places = λ p v p_few v_few some. let was = gave.places p v p_few v_few (still_in owing new q c p v first p_few v_few some) in omega arith;
     }
 
-gave_end : (x : ℕ) (a b : NetState) (owing from : ℕ) → Gave x a b owing from → ((p v : ℕ) → p < 2 * length b.mesh → v < 8 → has owing p v ≡ false) → Does (GivesCredits x) a None b
+gave_end : (x : ℕ) (a b : NetState) (owing from : ℕ) → Gave x a b owing from → ((p v : ℕ) → p < 2 * length b.mesh → v < 8 → has owing p v ≡ false) → Does (GivesCreditsBy Attempts x) a None b
 gave_end x a b owing from gave none =
     let few = gave.sound.framed.classes.total in
     let mesh = ap (λ (m : List ℕ). length m) gave.passed.reaches.config.mesh in
-    let all = loop_on (GivesCredit x) from (2 * length b.mesh) a b gave.few gave.passed
+    let all = loop_on (GivesCreditBy Attempts x) from (2 * length b.mesh) a b gave.few gave.passed
     (λ p above below. port_still x p b gave.sound gave.there (λ v v_in. sym (gave.rest p v above below v_in) ∙ none p v below (omega (arith, few)))) in
-    does_for mesh_ports (GivesCredit x) (2 * length a.mesh) (2 * length b.mesh) a b None refl (omega arith) all
+    does_for mesh_ports (GivesCreditBy Attempts x) (2 * length a.mesh) (2 * length b.mesh) a b None refl (omega arith) all
 
-pub gave_all : (x : ℕ) (a b : NetState) (owing from : ℕ) → Gave x a b owing from → owing ≡ 0 → Does (GivesCredits x) a None b
+pub gave_all : (x : ℕ) (a b : NetState) (owing from : ℕ) → Gave x a b owing from → owing ≡ 0 → Does (GivesCreditsBy Attempts x) a None b
 gave_all x a b owing from gave none = gave_end x a b owing from gave (λ p v p_in v_in. ap (λ (s : ℕ). has s p v) none ∙ has-zero p v)
 
-pub gave_past : (x : ℕ) (a b : NetState) (owing new from q c : ℕ) → Gave x a b owing from → IsFirst owing new q c → 2 * length b.mesh ≤ q → Does (GivesCredits x) a None b
+pub gave_past : (x : ℕ) (a b : NetState) (owing new from q c : ℕ) → Gave x a b owing from → IsFirst owing new q c → 2 * length b.mesh ≤ q → Does (GivesCreditsBy Attempts x) a None b
 gave_past x a b owing new from q c gave first past = gave_end x a b owing from gave (λ p v p_in v_in. first.none_before p v v_in (omega arith))

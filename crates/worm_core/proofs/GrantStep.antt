@@ -16,7 +16,7 @@ use Rattle.worm_core.specs.Shape.{net_shape}
 use Rattle.worm_core.specs.declared.node.Node.{Node}
 use Rattle.worm_core.specs.State.{NetState, IsFramed, IsNetPlace, shape, network_of, router_at, with_router, fresh_node}
 use Rattle.worm_core.specs.Workable.{IsWorkableBy, LeadsOn}
-use Rattle.worm_core.specs.RegionAnswers.{Answers}
+use Rattle.worm_core.specs.Replies.{Replies}
 use Rattle.worm_core.specs.Answers.{moved_of}
 use Rattle.worm_core.proofs.Bridge.{put3_same, router_bridge, input_of-there, input_of-put, output_of-there, output_of-put}
 use Rattle.worm_flit.proofs.Owners.{owner-from_owns, owns-from_owner}
@@ -137,7 +137,7 @@ with_router_same s x there =
 
 -- what Net::grant leaves and answers
 grant_answers_by : (s : NetState) (x p v k : ℕ) → {own : ℕ → Bool} → IsWorkableBy own s → IsThere (shape s) (Grant x p v k) → (o : Option ℕ) → can_grant (router_at s x) p v k ≡ o
-    → IsWorkableBy own (with_router s x (after_granting (router_at s x) p v k o)) × Answers s (Grant x p v k) (Ok (moved_of (is_some o))) (with_router s x (after_granting (router_at s x) p v k o))
+    → IsWorkableBy own (with_router s x (after_granting (router_at s x) p v k o)) × Replies s (Grant x p v k) (Ok (moved_of (is_some o))) (with_router s x (after_granting (router_at s x) p v k o))
 unfolding net_shape
 grant_answers_by s x p v k net there (Some o) e =
     let place = net_place s x p v net.framed there.0 there.1 there.2 in
@@ -155,5 +155,5 @@ grant_answers_by s x p v k {own} net there None e =
     (subst (IsWorkableBy own) (sym same) net, (there, grant_idle s x p v k net.framed place there.3 c.state c.buffer refl refl e, refl, same))
 
 pub grant_answers : (s : NetState) (x p v k : ℕ) → {own : ℕ → Bool} → IsWorkableBy own s → IsThere (shape s) (Grant x p v k)
-    → IsWorkableBy own (with_router s x (after_grant (router_at s x) p v k)) × Answers s (Grant x p v k) (Ok (moved_of (is_some (can_grant (router_at s x) p v k)))) (with_router s x (after_grant (router_at s x) p v k))
+    → IsWorkableBy own (with_router s x (after_grant (router_at s x) p v k)) × Replies s (Grant x p v k) (Ok (moved_of (is_some (can_grant (router_at s x) p v k)))) (with_router s x (after_grant (router_at s x) p v k))
 grant_answers s x p v k net there = grant_answers_by s x p v k net there (can_grant (router_at s x) p v k) refl

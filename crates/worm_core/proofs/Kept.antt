@@ -40,6 +40,7 @@ node_framed s x n framed there new = record {
   radices = framed.radices;
   classes = framed.classes;
   least_depth = framed.least_depth;
+  most_depth = framed.most_depth;
   all_nodes = rw length-set framed.all_nodes;
   all_links = framed.all_links;
   each_node = λ y within. elim (number_cases y x) [

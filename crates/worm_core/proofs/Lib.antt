@@ -18,6 +18,7 @@ pub mod SendBridge
 pub mod SendStep
 pub mod OwnEdges
 pub mod EdgeMoves
+pub mod EmptyLinks
 pub mod Sending
 pub mod OfferStep
 pub mod RunSteps
@@ -38,6 +39,7 @@ pub mod Resting
 pub mod KeptStill
 pub mod CountsUnderWay
 pub mod TotalsUnderWay
+pub mod StepsAt
 pub mod Allocating
 pub mod NetWays
 pub mod Lifting

@@ -18,9 +18,9 @@ use Rattle.worm_core.specs.Shape.{net_shape}
 use Rattle.worm_core.specs.State.{NetState, IsNet, IsFramed, shape, network_of, router_at, with_node, with_router}
 use Rattle.worm_core.specs.Moves.{chosen_router}
 use Rattle.worm_core.specs.Answers.{Answers}
-use Rattle.worm_core.specs.RegionAnswers.{Hindered, Answers as RegionAnswers}
-use Rattle.worm_core.specs.Turns.{Passage, Each, ForEach, ◌and_then◌, Reaches, Tries, Allocates, TakesCredits, TakesFlits, FeedsClasses, RoutesPort, RoutesChannels, SendsGranted, GivesCredit, GivesCredits, NodePasses, NodeTurn, AsksSource, Turn, all_nodes, all_ports, mesh_ports}
-use Rattle.worm_core.specs.RegionTurns.{Tries as RegionTries, RoutesPort as RegionRoutesPort, RoutesChannels as RegionRoutesChannels, SendsGranted as RegionSendsGranted, GivesCredit as RegionGivesCredit, GivesCredits as RegionGivesCredits, NodePasses as RegionNodePasses, NodeTurn as RegionNodeTurn, AsksSource as RegionAsksSource, TakesCredits as RegionTakesCredits, TakesFlits as RegionTakesFlits, FeedsClasses as RegionFeedsClasses, Turn as RegionTurn}
+use Rattle.worm_core.specs.Replies.{Attempts, Hindered, Replies}
+use Rattle.worm_core.specs.Turns.{ComesIn, Passage, Each, ForEach, ◌and_then◌, Reaches, Tries, Allocates, TakesCredits, TakesFlits, FeedsClasses, RoutesPort, RoutesChannels, SendsGranted, GivesCredit, GivesCredits, NodePasses, NodeTurn, AsksSource, Turn, all_nodes, all_ports, mesh_ports}
+use Rattle.worm_core.specs.Turns.{AsksSourceBy, ComesInBy, FeedsClassesBy, GivesCreditBy, GivesCreditsBy, NodePassesBy, NodeTurnBy, RoutesChannelsBy, RoutesPortBy, SendsGrantedBy, TakesCreditsBy, TakesFlitsBy}
 use Rattle.worm_core.specs.declared.node.Node.{Node}
 use Rattle.worm_core.specs.declared.script.Entry.{Entry}
 use Rattle.worm_core.specs.declared.step.Moved.{Moved}
@@ -31,6 +31,7 @@ use Rattle.worm_core.proofs.Allocating.{allocated, chosen}
 use Rattle.worm_core.proofs.Kept.{framed_mesh}
 use Rattle.worm_core.proofs.NetWays.{workable, send_way}
 use Rattle.worm_core.proofs.Reaching.{by_answer}
+use Rattle.worm_core.proofs.StepsAt.{anywhere}
 
 -- any list of steps keeps a network sound
 pub net_reached : (a b : NetState) → IsNet a → Reaches a b → IsFramed b → IsNet b
@@ -60,7 +61,7 @@ free s (Take x p) net there enabled hindered = hindered
 free s (GiveCredit x p v) net there enabled hindered = hindered
 free s (TakeCredit x o) net there enabled hindered = hindered
 
-pub net_answers : (a b : NetState) (step : Step) (answer : Result Moved StepFault) → IsNet a → RegionAnswers a step answer b → IsNet b × Answers a step answer b
+pub net_answers : (a b : NetState) (step : Step) (answer : Result Moved StepFault) → IsNet a → Replies a step answer b → IsNet b × Answers a step answer b
 net_answers a b step (Ok Done) net d =
     (net_reached a b net (by_answer a b step (Ok Done) d) d.framed, record { there = d.there; enabled = d.enabled; after_it = d.after_it; config = d.config; exact = d.exact })
 net_answers a b step (Ok Idle) net i = (subst IsNet (sym i.3) net, (i.0, λ enabled. free a step net i.0 enabled (i.1 enabled), i.2, i.3))
@@ -73,7 +74,7 @@ net_answers a b step (Err NoMemory) net i = (subst IsNet (sym i.3) net, i)
 abbrev Lifts : Passage → Passage → Type 0
 Lifts P Q = (a b : NetState) (fault : Option StepFault) → IsNet a → P a fault b → IsNet b × Q a fault b
 
-lift_try : (step : Step) → Lifts (RegionTries step) (Tries step)
+lift_try : (step : Step) → Lifts (Attempts step) (Tries step)
 lift_try step a b fault net tried = let made = net_answers a b step tried.0 net tried.1 in (made.0, (tried.0, made.1, tried.2))
 
 lift_each : {A : Type 0} (P Q : A → Passage) → ((x : A) → Lifts (P x) (Q x)) → (xs : List A) → Lifts (Each P xs) (Each Q xs)
@@ -101,39 +102,45 @@ written_past s x n past = ap (λ (nodes : List Node). record s { nodes = nodes }
 
 net_allocated : (s : NetState) (x : ℕ) → IsNet s → IsNet (with_router s x (after_allocate (router_at s x)))
 net_allocated s x net = elim (cases_lt x (length s.nodes)) [
-  | inl there ↦ let made = allocated s x (workable s net) there in net_reached s _ net made.1 made.0.framed
+  | inl there ↦ let made = allocated s x (workable s net) there in net_reached s _ net (anywhere x s _ made.1) made.0.framed
   | inr past ↦ subst IsNet (sym (written_past s x _ past)) net
 ]
 
 net_chosen : (s : NetState) (x : ℕ) → IsNet s → IsNet (with_router s x (chosen_router (router_at s x)))
 net_chosen s x net = elim (cases_lt x (length s.nodes)) [
-  | inl there ↦ let made = chosen s x (workable s net) there in net_reached s _ net made.1 made.0.framed
+  | inl there ↦ let made = chosen s x (workable s net) there in net_reached s _ net (anywhere x s _ made.1) made.0.framed
   | inr past ↦ subst IsNet (sym (written_past s x _ past)) net
 ]
 
 lift_allocates : (x : ℕ) → Lifts (Allocates x) (Allocates x)
 lift_allocates x a b fault net made = (subst IsNet (sym made.1) (net_allocated a x net), made)
 
-lift_sends : (x : ℕ) → Lifts (RegionSendsGranted x) (SendsGranted x)
-lift_sends x a b fault net made = lift_each RegionTries Tries lift_try _ (with_router a x (chosen_router (router_at a x))) b fault (net_chosen a x net) made
+lift_sends : (x : ℕ) → Lifts (SendsGrantedBy Attempts x) (SendsGranted x)
+lift_sends x a b fault net made = lift_each Attempts Tries lift_try _ (with_router a x (chosen_router (router_at a x))) b fault (net_chosen a x net) made
 
-lift_tries : (list : NetState → List Step) → Lifts (ForEach list RegionTries) (ForEach list Tries)
-lift_tries list a b fault net made = lift_each RegionTries Tries lift_try (list a) a b fault net made
+lift_tries : (list : NetState → List Step) → Lifts (ForEach list Attempts) (ForEach list Tries)
+lift_tries list a b fault net made = lift_each Attempts Tries lift_try (list a) a b fault net made
 
 lift_for : {A : Type 0} (list : NetState → List A) (P Q : A → Passage) → ((x : A) → Lifts (P x) (Q x)) → Lifts (ForEach list P) (ForEach list Q)
 lift_for list P Q each a b fault net made = lift_each P Q each (list a) a b fault net made
 
-lift_node : (x : ℕ) → Lifts (RegionNodePasses x) (NodePasses x)
-lift_node x =
-    lift_then (RegionTakesCredits x) _ (TakesCredits x) _ (lift_tries _)
-    (lift_then (RegionTakesFlits x) _ (TakesFlits x) _ (lift_tries _)
-    (lift_then (RegionFeedsClasses x) _ (FeedsClasses x) _ (lift_tries _)
-    (lift_then (RegionRoutesChannels x) _ (RoutesChannels x) _ (lift_for all_ports (RegionRoutesPort x) (RoutesPort x) (λ p. lift_tries _))
-    (lift_then (Allocates x) _ (Allocates x) _ (lift_allocates x)
-    (lift_then (RegionSendsGranted x) (RegionGivesCredits x) (SendsGranted x) (GivesCredits x) (lift_sends x) (lift_for mesh_ports (RegionGivesCredit x) (GivesCredit x) (λ p. lift_tries _)))))))
+lift_in : (x : ℕ) → Lifts (ComesInBy Attempts x) (ComesIn x)
+lift_in x =
+    lift_then (TakesCreditsBy Attempts x) _ (TakesCredits x) _ (lift_tries _)
+    (lift_then (TakesFlitsBy Attempts x) _ (TakesFlits x) _ (lift_tries _)
+    (lift_then (FeedsClassesBy Attempts x) (RoutesChannelsBy Attempts x) (FeedsClasses x) (RoutesChannels x) (lift_tries _)
+    (lift_for all_ports (RoutesPortBy Attempts x) (RoutesPort x) (λ p. lift_tries _))))
 
-pub lift_turn : (entries : List Entry) → Lifts (RegionTurn entries) (Turn entries)
-unfolding RegionTurn Turn
+lift_node : (x : ℕ) → Lifts (NodePassesBy Attempts x) (NodePasses x)
+lift_node x =
+    lift_then (ComesInBy Attempts x) _ (ComesIn x) _ (lift_in x)
+    (lift_then (Allocates x) _ (Allocates x) _ (lift_allocates x)
+    (lift_then (SendsGrantedBy Attempts x) (GivesCreditsBy Attempts x) (SendsGranted x) (GivesCredits x) (lift_sends x)
+    (lift_for mesh_ports (GivesCreditBy Attempts x) (GivesCredit x) (λ p. lift_tries _))))
+
+pub lift_turn : (entries : List Entry) → Lifts (ForEach all_nodes (NodeTurnBy Attempts entries)) (Turn entries)
+unfolding Turn
 lift_turn entries =
-    lift_for all_nodes (RegionNodeTurn entries) (NodeTurn entries)
-    (λ x. lift_then (RegionAsksSource entries x) (RegionNodePasses x) (AsksSource entries x) (NodePasses x) (lift_tries _) (lift_node x))
+    lift_for all_nodes (NodeTurnBy Attempts entries) (NodeTurn entries)
+    (λ x. lift_then (AsksSourceBy Attempts entries x) (NodePassesBy Attempts x) (AsksSource entries x) (NodePasses x)
+    (lift_tries _) (lift_node x))

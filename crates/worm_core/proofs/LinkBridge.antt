@@ -96,6 +96,7 @@ link_framed s k l framed there same_room = record {
   radices = framed.radices;
   classes = framed.classes;
   least_depth = framed.least_depth;
+  most_depth = framed.most_depth;
   all_nodes = framed.all_nodes;
   all_links = rw length-set framed.all_links;
   each_node = framed.each_node;

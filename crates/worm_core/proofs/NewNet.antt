@@ -109,7 +109,7 @@ module _ (mesh channels : List ℕ) (depth : ℕ) (names : List (List ℕ)) (nod
     unfed = λ x k. ap (λ (q : QueueState). drop q.fed q.injected) (queues x k);
   }
 
-  module _ (radices : IsRadices mesh) (classes : AreChannels channels) (least_depth : 1 ≤ depth) (all_owned : own ≡ sole) (all_nodes : length nodes ≡ node_count mesh) where
+  module _ (radices : IsRadices mesh) (classes : AreChannels channels) (least_depth : 1 ≤ depth) (most_depth : depth ≤ 16) (all_owned : own ≡ sole) (all_nodes : length nodes ≡ node_count mesh) where
     fresh_is : (x : ℕ) → x < node_count mesh → IsNodeOf mesh channels depth x (fresh_node mesh channels depth x)
     fresh_is x x_in = record {
       same_mesh = refl;
@@ -136,6 +136,7 @@ module _ (mesh channels : List ℕ) (depth : ℕ) (names : List (List ℕ)) (nod
       radices = radices;
       classes = classes;
       least_depth = least_depth;
+      most_depth = most_depth;
       all_nodes = all_nodes;
       all_links = rw no_links (length-replicate (link_count mesh) (empty_link (sum channels * depth)));
       each_node = λ x within. subst (λ (n : Node). IsNodeOf mesh channels depth x n) (sym (all x)) (fresh_is x (omega arith));
@@ -169,11 +170,12 @@ module _ (mesh channels : List ℕ) (depth : ℕ) (names : List (List ℕ)) (t :
   pub fresh_stands : network_of t ≡ empty (shape t)
   fresh_stands = stands_for t.mesh t.channels t.depth t.names t.nodes t.links t.own nodes_of links_of
 
-  pub fresh_holds : IsRadices mesh → AreChannels channels → 1 ≤ depth → IsNet t
-  fresh_holds radices classes some =
+  pub fresh_holds : IsRadices mesh → AreChannels channels → 1 ≤ depth → depth ≤ 16 → IsNet t
+  fresh_holds radices classes some few =
       let own_radices : IsRadices t.mesh = rw fresh.same_mesh radices in
       let own_classes : AreChannels t.channels = rw fresh.same_channels classes in
       let own_depth : 1 ≤ t.depth = rw fresh.same_depth some in
+      let own_few : t.depth ≤ 16 = rw fresh.same_depth few in
       let count : length t.nodes ≡ node_count t.mesh = rw fresh.same_mesh fresh.all_nodes in
       fresh_net t.mesh t.channels t.depth t.names t.nodes t.links t.own nodes_of links_of
-      own_radices own_classes own_depth fresh.all_owned count
+      own_radices own_classes own_depth own_few fresh.all_owned count

@@ -27,7 +27,7 @@ use Rattle.worm_core.specs.declared.fault.StepFault.TheVariants.{Refused}
 use Rattle.worm_core.specs.State.{NetState, IsFramed, IsNodeOf, IsSameConfig, shape, network_of, node_at, router_at, source_at, queue_of, with_source, input_of, output_of}
 use Rattle.worm_core.specs.Workable.{IsWorkableBy}
 use Rattle.worm_core.specs.Moves.{done_step}
-use Rattle.worm_core.specs.RegionAnswers.{Answers}
+use Rattle.worm_core.specs.Replies.{Replies}
 use Rattle.worm_core.specs.Answers.{accepted_of, refusal_of, Grows}
 use Rattle.worm_core.proofs.Bridge.{put2_same, put3_same, node_bridge, itself3, below_cases}
 use Rattle.worm_core.proofs.Kept.{kept, node_framed}
@@ -223,7 +223,7 @@ record Judges (own : ℕ → Bool) (s : NetState) (x : ℕ) (lane : Lane) (is_la
   made : refusal (source_at s x) lane is_last ≡ None → IsWorkableBy own after_it × (network_of after_it ≡ after (shape s) (network_of s) step) × IsSameConfig s after_it
 
 Outcome : (ℕ → Bool) → NetState → Step → Result Moved StepFault → NetState → Type 0
-Outcome own s step answer new = IsWorkableBy own new × Answers s step answer new
+Outcome own s step answer new = IsWorkableBy own new × Replies s step answer new
 
 err_answers : (s : NetState) (x : ℕ) (lane : Lane) (is_last : Bool) (step : Step) (after_it : NetState) → {own : ℕ → Bool} → IsWorkableBy own s → IsThere (shape s) step → Judges own s x lane is_last step after_it
     → (r : Option OfferFault) → refusal (source_at s x) lane is_last ≡ r → Outcome own s step (accepted_of (Err (unwrap_or r NoRoom))) s
@@ -232,7 +232,7 @@ err_answers s x lane is_last step after_it net there judges None e = (net, (ther
 err_answers s x lane is_last step after_it {own} net there judges (Some fault) e =
     let named : fault ≡ NoRoom → ⊥ = λ same. refusal_named (source_at s x) lane is_last (e ∙ ap (λ (g : OfferFault). Some g) same) in
     let idle : Enabled (shape s) (network_of s) step → ⊥ = λ enabled. let none = judges.enabled enabled in let some : ◌≡◌ {A = Option OfferFault} (Some fault) None = sym e ∙ none in absurd (cc) in
-    subst (λ (answer : Result Moved StepFault). IsWorkableBy own s × Answers s step answer s) (sym (refused_is fault named)) (net, (there, idle, judges.refuses ∙ e, refl))
+    subst (λ (answer : Result Moved StepFault). IsWorkableBy own s × Replies s step answer s) (sym (refused_is fault named)) (net, (there, idle, judges.refuses ∙ e, refl))
 
 answers : (s : NetState) (x : ℕ) (lane : Lane) (is_last : Bool) (step : Step) (after_it : NetState) → {own : ℕ → Bool} → IsWorkableBy own s → IsThere (shape s) step → Judges own s x lane is_last step after_it
     → (answer : Result ℕ OfferFault) (new : NetState)
@@ -241,11 +241,11 @@ answers : (s : NetState) (x : ℕ) (lane : Lane) (is_last : Bool) (step : Step) 
 unfolding Outcome
 answers s x lane is_last step after_it {own} net there judges (Ok number) new ok fault err =
     let made = judges.made ok.0 in
-    subst (λ (n : NetState). IsWorkableBy own n × Answers s step (Ok Done) n) (sym ok.1) (made.0, record { there = there; enabled = judges.enables ok.0; after_it = made.1; config = made.2; exact = judges.exact; framed = made.0.framed })
+    subst (λ (n : NetState). IsWorkableBy own n × Replies s step (Ok Done) n) (sym ok.1) (made.0, record { there = there; enabled = judges.enables ok.0; after_it = made.1; config = made.2; exact = judges.exact; framed = made.0.framed })
 answers s x lane is_last step after_it {own} net there judges (Err e) new ok fault err =
-    let at : IsWorkableBy own s × Answers s step (accepted_of (Err (unwrap_or (refusal (source_at s x) lane is_last) NoRoom))) s = err_answers s x lane is_last step after_it net there judges (refusal (source_at s x) lane is_last) refl in
-    subst (λ (n : NetState). IsWorkableBy own n × Answers s step (accepted_of (Err e)) n) (sym err)
-    (subst (λ (g : OfferFault). IsWorkableBy own s × Answers s step (accepted_of (Err g)) s) (sym fault) at)
+    let at : IsWorkableBy own s × Replies s step (accepted_of (Err (unwrap_or (refusal (source_at s x) lane is_last) NoRoom))) s = err_answers s x lane is_last step after_it net there judges (refusal (source_at s x) lane is_last) refl in
+    subst (λ (n : NetState). IsWorkableBy own n × Replies s step (accepted_of (Err e)) n) (sym err)
+    (subst (λ (g : OfferFault). IsWorkableBy own s × Replies s step (accepted_of (Err g)) s) (sym fault) at)
 
 module _ (s : NetState) (x : ℕ) {own : ℕ → Bool} (net : IsWorkableBy own s) where
   node_in : x < (shape s).nodes → x < length s.nodes
@@ -306,14 +306,14 @@ module _ (s : NetState) (x : ℕ) {own : ℕ → Bool} (net : IsWorkableBy own s
 
   pub offer_answers : (p : PacketState) → 1 ≤ length p.words → length p.words ≤ 32 → x < (shape s).nodes → (answer : Result ℕ OfferFault) (new : NetState)
       → OnOk answer ((refusal (source_at s x) p.lane false ≡ None) × (new ≡ with_source s x (after_offer (source_at s x) p))) → IfErr answer (λ e. e ≡ unwrap_or (refusal (source_at s x) p.lane false) NoRoom) → OnErr answer (new ≡ s)
-      → IsWorkableBy own new × Answers s (Offer x p.lane p.words) (accepted_of answer) new
+      → IsWorkableBy own new × Replies s (Offer x p.lane p.words) (accepted_of answer) new
   unfolding Outcome
   offer_answers p some few there answer new ok fault err =
       answers s x p.lane false (Offer x p.lane p.words) (with_source s x (after_offer (source_at s x) p)) net there (offer_judges p some few there) answer new ok fault err
 
   pub close_answers : (lane : Lane) → x < (shape s).nodes → (answer : Result ℕ OfferFault) (new : NetState)
       → OnOk answer ((refusal (source_at s x) lane true ≡ None) × (new ≡ with_source s x (after_close (source_at s x) lane))) → IfErr answer (λ e. e ≡ unwrap_or (refusal (source_at s x) lane true) NoRoom) → OnErr answer (new ≡ s)
-      → IsWorkableBy own new × Answers s (CloseLane x lane) (accepted_of answer) new
+      → IsWorkableBy own new × Replies s (CloseLane x lane) (accepted_of answer) new
   unfolding Outcome
   close_answers lane there answer new ok fault err =
       answers s x lane true (CloseLane x lane) (with_source s x (after_close (source_at s x) lane)) net there (close_judges lane there) answer new ok fault err

@@ -6,9 +6,8 @@ use Rattle.std.proofs.lemmas.List.Elements.{filter-append}
 use Rattle.std.specs.List.{range_with_len, flat_map}
 use Rattle.worm_theory.specs.Steps.{Step}
 use Rattle.worm_core.specs.State.{NetState, shape, network_of}
-use Rattle.worm_core.specs.RegionAnswers.{Answers}
+use Rattle.worm_core.specs.Replies.{Attempts, Replies}
 use Rattle.worm_core.specs.Answers.{Grows, refusal_of}
-use Rattle.worm_core.specs.RegionTurns.{Tries}
 use Rattle.worm_core.specs.Turns.{Turn, Turns, Passage, Stays, ◌and_then◌, Each, ForEach, fault_of, Does}
 use Rattle.worm_core.specs.Script.{due}
 use Rattle.worm_core.specs.declared.script.Entry.{Entry}
@@ -121,11 +120,11 @@ loop_cut P n m a b c fault below first then =
 
 -- A step that was tried
 
-pub does_try : (a b : NetState) (step : Step) (answer : Result Moved StepFault) (fault : Option StepFault) → Answers a step answer b → fault ≡ fault_of answer → Does (Tries step) a fault b
+pub does_try : (a b : NetState) (step : Step) (answer : Result Moved StepFault) (fault : Option StepFault) → Replies a step answer b → fault ≡ fault_of answer → Does (Attempts step) a fault b
 does_try a b step answer fault answered is = record { exact = (answer, answered, is); reaches = by_answer a b step answer answered }
 
 -- no step but one that asks a source or fills a sink has a fault
-pub does_quietly : (a b : NetState) (step : Step) (answer : Result Moved StepFault) → refusal_of a step ≡ None → (Grows (shape a) (network_of a) step → ⊥) → Answers a step answer b → Does (Tries step) a None b
+pub does_quietly : (a b : NetState) (step : Step) (answer : Result Moved StepFault) → refusal_of a step ≡ None → (Grows (shape a) (network_of a) step → ⊥) → Replies a step answer b → Does (Attempts step) a None b
 does_quietly a b step (Ok moved) none small answered = does_try a b step (Ok moved) None answered refl
 does_quietly a b step (Err NoSuchPlace) none small answered = does_try a b step (Err NoSuchPlace) None answered refl
 does_quietly a b step (Err (Refused why)) none small answered = let some = answered.2 in absurd (cc)
@@ -138,40 +137,40 @@ does_for list P m n a b fault is same done = record {
   reaches = done.reaches;
 }
 
-pub does_ranged : (list : NetState → List Step) (f : ℕ → Step) (m n : ℕ) (a b : NetState) → list a ≡ map f (range_with_len 0 m) → m ≡ n → Does (Each (λ i. Tries (f i)) (range_with_len 0 n)) a None b → Does (ForEach list Tries) a None b
+pub does_ranged : (list : NetState → List Step) (f : ℕ → Step) (m n : ℕ) (a b : NetState) → list a ≡ map f (range_with_len 0 m) → m ≡ n → Does (Each (λ i. Attempts (f i)) (range_with_len 0 n)) a None b → Does (ForEach list Attempts) a None b
 does_ranged list f m n a b is same done = record {
-  exact = subst (λ (steps : List Step). Each Tries steps a None b) (sym is)
-      (subst (λ (i : ℕ). Each Tries (map f (range_with_len 0 i)) a None b) (sym same) (each_map Tries f (range_with_len 0 n) a b None done.exact));
+  exact = subst (λ (steps : List Step). Each Attempts steps a None b) (sym is)
+      (subst (λ (i : ℕ). Each Attempts (map f (range_with_len 0 i)) a None b) (sym same) (each_map Attempts f (range_with_len 0 n) a b None done.exact));
   reaches = done.reaches;
 }
 
 -- over the elements of a list that pass a test, as far as the first i of the list
 pub does_passing : {A : Type 0} (f : A → Step) (p : A → Bool) (xs : List A) (i : ℕ) (x : A) (a b c : NetState) (fault : Option StepFault) → i < length xs → get_or xs i x ≡ x → p x ≡ true
-    → Does (Each Tries (map f (filter p (take i xs)))) a None b → Does (Tries (f x)) b fault c → Does (Each Tries (map f (filter p (take (i + 1) xs)))) a fault c
+    → Does (Each Attempts (map f (filter p (take i xs)))) a None b → Does (Attempts (f x)) b fault c → Does (Each Attempts (map f (filter p (take (i + 1) xs)))) a fault c
 does_passing {A} f p xs i x a b c fault below at passes first then =
     let one : filter p (x ∷ []) ≡ x ∷ [] = rw passes refl in
     let more : map f (filter p (take (i + 1) xs)) ≡ map f (filter p (take i xs)) ++ f x ∷ [] =
     ap (λ (ys : List A). map f (filter p ys)) (take_more xs i x below ∙ ap (λ (y : A). take i xs ++ y ∷ []) at)
     ∙ (ap (λ (ys : List A). map f ys) (filter-append p (take i xs) (x ∷ []) ∙ ap (λ (ys : List A). filter p (take i xs) ++ ys) one) ∙ map-append f (filter p (take i xs)) (x ∷ [])) in
-    subst (λ (steps : List Step). Does (Each Tries steps) a fault c) (sym more) (does_more Tries (map f (filter p (take i xs))) (f x) a b c fault first then)
+    subst (λ (steps : List Step). Does (Each Attempts steps) a fault c) (sym more) (does_more Attempts (map f (filter p (take i xs))) (f x) a b c fault first then)
 
 pub does_failing : {A : Type 0} (f : A → Step) (p : A → Bool) (xs : List A) (i : ℕ) (x : A) (a b : NetState) → i < length xs → get_or xs i x ≡ x → p x ≡ false
-    → Does (Each Tries (map f (filter p (take i xs)))) a None b → Does (Each Tries (map f (filter p (take (i + 1) xs)))) a None b
+    → Does (Each Attempts (map f (filter p (take i xs)))) a None b → Does (Each Attempts (map f (filter p (take (i + 1) xs)))) a None b
 does_failing {A} f p xs i x a b below at fails first =
     let none : filter p (x ∷ []) ≡ [] = rw fails refl in
     let same : map f (filter p (take (i + 1) xs)) ≡ map f (filter p (take i xs)) =
     ap (λ (ys : List A). map f (filter p ys)) (take_more xs i x below ∙ ap (λ (y : A). take i xs ++ y ∷ []) at)
     ∙ ap (λ (ys : List A). map f ys) (filter-append p (take i xs) (x ∷ []) ∙ (ap (λ (ys : List A). filter p (take i xs) ++ ys) none ∙ append-nil (filter p (take i xs)))) in
-    subst (λ (steps : List Step). Does (Each Tries steps) a None b) (sym same) first
+    subst (λ (steps : List Step). Does (Each Attempts steps) a None b) (sym same) first
 
 -- a fault in the first i ends the whole
 pub does_part : {A : Type 0} (f : A → Step) (p : A → Bool) (xs : List A) (i : ℕ) (a b : NetState) (fault : StepFault)
-    → Does (Each Tries (map f (filter p (take i xs)))) a (Some fault) b → Does (Each Tries (map f (filter p xs))) a (Some fault) b
+    → Does (Each Attempts (map f (filter p (take i xs)))) a (Some fault) b → Does (Each Attempts (map f (filter p xs))) a (Some fault) b
 does_part {A} f p xs i a b fault first =
     let parts : map f (filter p xs) ≡ map f (filter p (take i xs)) ++ map f (filter p (drop i xs)) =
     ap (λ (ys : List A). map f (filter p ys)) (sym (take-append-drop i xs)) ∙ (ap (λ (ys : List A). map f ys) (filter-append p (take i xs) (drop i xs)) ∙ map-append f (filter p (take i xs)) (filter p (drop i xs))) in
     record {
-      exact = subst (λ (steps : List Step). Each Tries steps a (Some fault) b) (sym parts) (each_cut Tries (map f (filter p (take i xs))) (map f (filter p (drop i xs))) a b (Some fault) refl first.exact);
+      exact = subst (λ (steps : List Step). Each Attempts steps a (Some fault) b) (sym parts) (each_cut Attempts (map f (filter p (take i xs))) (map f (filter p (drop i xs))) a b (Some fault) refl first.exact);
       reaches = first.reaches;
     }
 

@@ -9,9 +9,9 @@ use Rattle.worm_core.specs.declared.step.Moved.{Moved}
 use Rattle.worm_core.specs.declared.step.Moved.TheVariants.{Done, Idle}
 use Rattle.worm_core.specs.declared.fault.StepFault.{StepFault}
 use Rattle.worm_core.specs.declared.fault.StepFault.TheVariants.{NoSuchPlace, Refused, NoMemory}
-use Rattle.worm_core.specs.State.{NetState, shape, network_of}
+use Rattle.worm_core.specs.State.{NetState, IsSameConfig, shape, network_of}
 use Rattle.worm_core.specs.Owned.{owned_by, sole}
-use Rattle.worm_core.specs.RegionAnswers.{Answers}
+use Rattle.worm_core.specs.Replies.{Replies}
 use Rattle.worm_core.specs.Workable.{IsWorkable, IsWorkableBy, owned}
 use Rattle.worm_core.specs.declared.own.Own.{Own}
 use Rattle.worm_core.specs.Turns.{Reaches}
@@ -30,7 +30,7 @@ joined old mid new first then =
     }
 
 -- whatever a step was answered
-pub by_answer : (old new : NetState) (step : Step) (answer : Result Moved StepFault) → Answers old step answer new → Reaches old new
+pub by_answer : (old new : NetState) (step : Step) (answer : Result Moved StepFault) → Replies old step answer new → Reaches old new
 by_answer old new step (Ok Done) a = record {
   steps = step ∷ [];
   led = (network_of new, inl (a.there, a.enabled, a.after_it), refl);
@@ -43,10 +43,11 @@ by_answer old new step (Err NoMemory) a = subst (λ (s : NetState). Reaches old 
 
 -- what is answered leaves a region to whoever has it
 pub still_workable : (s new : NetState) (step : Step) (answer : Result Moved StepFault)
-    → IsWorkableBy (owned s) new × Answers s step answer new → IsWorkable new
+    → IsWorkableBy (owned s) new × Replies s step answer new → IsWorkable new
 still_workable s new step answer made =
     let same = (by_answer s new step answer made.1).config.own in
     subst (λ (own : Own). IsWorkableBy (owned_by own) new) (sym same) made.0
 
-pub whole_after : (old new : NetState) → Reaches old new → old.own ≡ sole → new.own ≡ sole
-whole_after old new reaches whole = reaches.config.own ∙ whole
+-- who owned all nodes owns them all
+pub whole_after : (old new : NetState) → IsSameConfig old new → old.own ≡ sole → new.own ≡ sole
+whole_after old new config whole = config.own ∙ whole

@@ -16,8 +16,8 @@ use Rattle.worm_core.specs.State.{NetState, IsFramed, fresh_node, node_at, route
 use Rattle.worm_core.specs.Workable.{IsWorkable}
 use Rattle.worm_core.specs.Moves.{NothingComes, can_enter, can_get, chosen_router, front_credit, front_into}
 use Rattle.worm_core.specs.Still.{IsStill, no_node, nth_node}
-use Rattle.worm_core.specs.RegionTurns.{Tries, SendsGranted, GivesCredit, GivesCredits, NodePasses}
-use Rattle.worm_core.specs.Turns.{Each, all_ports, granted_send}
+use Rattle.worm_core.specs.Replies.{Attempts}
+use Rattle.worm_core.specs.Turns.{Each, all_ports, granted_send, SendsGrantedBy, GivesCreditBy, GivesCreditsBy, NodePassesBy, ComesInBy}
 use Rattle.worm_core.specs.declared.step.Moved.TheVariants.{Idle}
 use Rattle.worm_core.specs.declared.fault.StepFault.TheVariants.{NoSuchPlace}
 use Rattle.worm_core.proofs.GetStep.{get_answers}
@@ -29,7 +29,7 @@ use Rattle.worm_core.proofs.Skipping.{each_still, numbers_still, node_still}
 
 -- a credit or a flit that is tried where there is none
 
-pub credit_still : (s : NetState) (x p : ℕ) (n : Option ℕ) → IsWorkable s → x < node_count s.mesh → neighbour_of s.mesh x p ≡ n → (IsSome (neighbour_of s.mesh x p) → front_credit s x p ≡ None) → Tries (TakeCredit x p) s None s
+pub credit_still : (s : NetState) (x p : ℕ) (n : Option ℕ) → IsWorkable s → x < node_count s.mesh → neighbour_of s.mesh x p ≡ n → (IsSome (neighbour_of s.mesh x p) → front_credit s x p ≡ None) → Attempts (TakeCredit x p) s None s
 unfolding net_shape
 credit_still s x p (Some y) net x_in e none =
     let linked : IsSome (neighbour_of s.mesh x p) = subst IsSome (sym e) refl in
@@ -38,7 +38,7 @@ credit_still s x p (Some y) net x_in e none =
 credit_still s x p None net x_in e none =
     (Err NoSuchPlace, (λ there. let no : IsSome {T = ℕ} None = subst IsSome e there.1 in absurd (cc), refl), refl)
 
-pub flit_still : (s : NetState) (x p : ℕ) (n : Option ℕ) → IsWorkable s → x < node_count s.mesh → neighbour_of s.mesh x p ≡ n → (IsSome (neighbour_of s.mesh x p) → front_into s x p ≡ None) → Tries (Take x p) s None s
+pub flit_still : (s : NetState) (x p : ℕ) (n : Option ℕ) → IsWorkable s → x < node_count s.mesh → neighbour_of s.mesh x p ≡ n → (IsSome (neighbour_of s.mesh x p) → front_into s x p ≡ None) → Attempts (Take x p) s None s
 unfolding net_shape
 flit_still s x p (Some y) net x_in e none =
     let linked : IsSome (neighbour_of s.mesh x p) = subst IsSome (sym e) refl in
@@ -47,7 +47,7 @@ flit_still s x p (Some y) net x_in e none =
 flit_still s x p None net x_in e none =
     (Err NoSuchPlace, (λ there. let no : IsSome {T = ℕ} None = subst IsSome e there.1 in absurd (cc), refl), refl)
 
-feed_still : (s : NetState) (x k : ℕ) → IsWorkable s → x < node_count s.mesh → k < length s.channels → can_enter (router_at s x) (terminal (router_at s x)) (front_of (source_at s x) k) ≡ false → Tries (Feed x k) s None s
+feed_still : (s : NetState) (x k : ℕ) → IsWorkable s → x < node_count s.mesh → k < length s.channels → can_enter (router_at s x) (terminal (router_at s x)) (front_of (source_at s x) k) ≡ false → Attempts (Feed x k) s None s
 unfolding net_shape
 feed_still s x k net x_in k_in nothing = (Ok Idle, (feed_answers s x k net (x_in, k_in) false (sym nothing)).1, refl)
 
@@ -57,12 +57,12 @@ abbrev pub FeedsNone : NetState → ℕ → ℕ → Type 0
 FeedsNone s x k = can_enter (router_at s x) (terminal (router_at s x)) (front_of (source_at s x) k) ≡ false
 
 pub feeds_before : (s : NetState) (x from : ℕ) (o : Option ℕ) → IsWorkable s → x < node_count s.mesh → IfSome o (λ class. (from ≤ class) × (class < length s.channels) × (class < 4))
-    → IfSome o (λ class. (k : ℕ) → from ≤ k → k < class → FeedsNone s x k) → IfSome o (λ class. (k : ℕ) → from ≤ k → k < class → Tries (Feed x k) s None s)
+    → IfSome o (λ class. (k : ℕ) → from ≤ k → k < class → FeedsNone s x k) → IfSome o (λ class. (k : ℕ) → from ≤ k → k < class → Attempts (Feed x k) s None s)
 feeds_before s x from None net x_in there none = tt
 feeds_before s x from (Some class) net x_in there none = λ k above below. feed_still s x k net x_in (let within = there.1 in omega arith) (none k above below)
 
 pub feeds_past : (s : NetState) (x from : ℕ) (o : Option ℕ) → IsWorkable s → x < node_count s.mesh
-    → IfNone o ((k : ℕ) → from ≤ k → k < length s.channels → FeedsNone s x k) → IfNone o ((k : ℕ) → from ≤ k → k < length s.channels → Tries (Feed x k) s None s)
+    → IfNone o ((k : ℕ) → from ≤ k → k < length s.channels → FeedsNone s x k) → IfNone o ((k : ℕ) → from ≤ k → k < length s.channels → Attempts (Feed x k) s None s)
 feeds_past s x from None net x_in none = λ k above below. feed_still s x k net x_in below (none k above below)
 feeds_past s x from (Some class) net x_in none = tt
 
@@ -82,57 +82,64 @@ sends_nothing grants x p is =
     ap (λ (gs : List (Option SwGrant)). granted_send gs x p) is
     ∙ ap (λ (g : Option SwGrant). option_to_list (option_map (λ g. Send x p g.vc) g)) (same_all_through None 7 p)
 
-pub sends_still : (s : NetState) (x : ℕ) → x < length s.nodes → after_choose (router_at s x) ≡ router_at s x → switch_grants (router_at s x) ≡ replicate 7 None → SendsGranted x s None s
+pub sends_still : (s : NetState) (x : ℕ) → x < length s.nodes → after_choose (router_at s x) ≡ router_at s x → switch_grants (router_at s x) ≡ replicate 7 None → SendsGrantedBy Attempts x s None s
 unfolding chosen_router
 sends_still s x there same none =
     let r = router_at s x in
     let chosen : with_router s x (after_choose r) ≡ s = ap (λ (q : RouterState). with_router s x q) same ∙ with_router_same s x there in
     let nobody : flat_map (granted_send (switch_grants r) x) (all_ports s) ≡ [] = all_empty (granted_send (switch_grants r) x) (all_ports s) (λ p. sends_nothing (switch_grants r) x p none) in
-    subst (λ (steps : List Step). Each Tries steps (with_router s x (after_choose r)) None s) (sym nobody) (refl, sym chosen)
+    subst (λ (steps : List Step). Each Attempts steps (with_router s x (after_choose r)) None s) (sym nobody) (refl, sym chosen)
 
 -- the credits
 
-pub gives_still : (s : NetState) (x p : ℕ) → p ≤ terminal (router_at s x) → OwesNothing (router_at s x) → GivesCredit x p s None s
+pub gives_still : (s : NetState) (x p : ℕ) → p ≤ terminal (router_at s x) → OwesNothing (router_at s x) → GivesCreditBy Attempts x p s None s
 gives_still s x p p_in owes =
     (gives_none x p s (owed_lowest (router_at s x) p None tt tt (λ v below. owes p v p_in below))).exact
 
-pub node_rests : (s : NetState) (x : ℕ) → IsWorkable s → x < node_count s.mesh → IsAtRest (router_at s x) → NothingComes s x → NodePasses x s None s
-node_rests s x net x_in rest nothing =
-    let all = net.framed.all_nodes in
-    let there : x < length s.nodes = omega arith in
-    let node = net.framed.each_node x (omega arith) in
-    let allocated : with_router s x (after_allocate (router_at s x)) ≡ s = ap (λ (q : RouterState). with_router s x q) rest.allocates_nothing ∙ with_router_same s x there in
+pub comes_still : (s : NetState) (x : ℕ) → IsWorkable s → x < node_count s.mesh → IsAtRest (router_at s x) → NothingComes s x
+    → ComesInBy Attempts x s None s
+comes_still s x net x_in rest nothing =
     inr (
       s,
-      each_still Tries (TakeCredit x) s (2 * length s.mesh) 0 (λ p below. credit_still s x p (neighbour_of s.mesh x p) net x_in refl (nothing.no_credit p)),
+      each_still Attempts (TakeCredit x) s (2 * length s.mesh) 0 (λ p below. credit_still s x p (neighbour_of s.mesh x p) net x_in refl (nothing.no_credit p)),
       inr (
         s,
-        each_still Tries (Take x) s (2 * length s.mesh) 0 (λ p below. flit_still s x p (neighbour_of s.mesh x p) net x_in refl (nothing.no_flit p)),
+        each_still Attempts (Take x) s (2 * length s.mesh) 0 (λ p below. flit_still s x p (neighbour_of s.mesh x p) net x_in refl (nothing.no_flit p)),
         inr (
           s,
-          each_still Tries (Feed x) s (length s.channels) 0 (λ k below. feed_still s x k net x_in (omega arith) (nothing.no_feed k (omega arith))),
-          inr (
-            s,
-            node_still s x net x_in rest.routes_nothing,
-            inr (
-              s,
-              (refl, sym allocated),
-              inr (
-                s,
-                sends_still s x there rest.chooses_nothing rest.grants_nothing,
-                numbers_still (GivesCredit x) s (2 * length s.mesh) 0 (λ p below. gives_still s x p (rw node.same_mesh (omega arith)) rest.owes_nothing),
-              ),
-            ),
-          ),
+          each_still Attempts (Feed x) s (length s.channels) 0 (λ k below. feed_still s x k net x_in (omega arith) (nothing.no_feed k (omega arith))),
+          node_still s x net x_in rest.routes_nothing,
         ),
       ),
     )
 
-pub credits_rest : (s : NetState) (x : ℕ) → IsWorkable s → x < node_count s.mesh → OwesNothing (router_at s x) → GivesCredits x s None s
+pub node_rests : (s : NetState) (x : ℕ) → IsWorkable s → x < node_count s.mesh → IsAtRest (router_at s x) → NothingComes s x
+    → NodePassesBy Attempts x s None s
+node_rests s x net x_in rest nothing =
+    let all = net.framed.all_nodes in
+    let there : x < length s.nodes = omega arith in
+    let node = net.framed.each_node x (omega arith) in
+    let allocated : with_router s x (after_allocate (router_at s x)) ≡ s =
+    ap (λ (q : RouterState). with_router s x q) rest.allocates_nothing ∙ with_router_same s x there in
+    inr (
+      s,
+      comes_still s x net x_in rest nothing,
+      inr (
+        s,
+        (refl, sym allocated),
+        inr (
+          s,
+          sends_still s x there rest.chooses_nothing rest.grants_nothing,
+          numbers_still (GivesCreditBy Attempts x) s (2 * length s.mesh) 0 (λ p below. gives_still s x p (rw node.same_mesh (omega arith)) rest.owes_nothing),
+        ),
+      ),
+    )
+
+pub credits_rest : (s : NetState) (x : ℕ) → IsWorkable s → x < node_count s.mesh → OwesNothing (router_at s x) → GivesCreditsBy Attempts x s None s
 credits_rest s x net x_in owes =
     let all = net.framed.all_nodes in
     let node = net.framed.each_node x (omega arith) in
-    numbers_still (GivesCredit x) s (2 * length s.mesh) 0 (λ p below. gives_still s x p (rw node.same_mesh (omega arith)) owes)
+    numbers_still (GivesCreditBy Attempts x) s (2 * length s.mesh) 0 (λ p below. gives_still s x p (rw node.same_mesh (omega arith)) owes)
 
 -- a node that is kept as still
 
@@ -149,13 +156,16 @@ found_still s x net x_in rest no_feed =
 
 -- where no link brings anything, a still node rests
 pub still_rests : (s : NetState) (x : ℕ) → IsWorkable s → x < node_count s.mesh → IsStill (nth_node s.nodes x)
-    → ((p : ℕ) → IsSome (neighbour_of s.mesh x p) → front_credit s x p ≡ None) → ((p : ℕ) → IsSome (neighbour_of s.mesh x p) → front_into s x p ≡ None) → NodePasses x s None s
+    → ((p : ℕ) → IsSome (neighbour_of s.mesh x p) → front_credit s x p ≡ None)
+    → ((p : ℕ) → IsSome (neighbour_of s.mesh x p) → front_into s x p ≡ None)
+    → ComesInBy Attempts x s None s × IsAtRest (router_at s x) × NodePassesBy Attempts x s None s
 still_rests s x net x_in still no_credit no_flit =
     let all = net.framed.all_nodes in
     let node = net.framed.each_node x (omega arith) in
     let here : IsStill (node_at s x) = subst IsStill (is_nth s x net.framed x_in) still in
-    node_rests s x net x_in here.rest record {
+    let nothing : NothingComes s x = record {
       no_credit = no_credit;
       no_flit = no_flit;
       no_feed = λ k below. here.no_feed k (rw node.source_channels below);
-    }
+    } in
+    (comes_still s x net x_in here.rest nothing, here.rest, node_rests s x net x_in here.rest nothing)

@@ -12,7 +12,7 @@ use Rattle.worm_theory.specs.Steps.{Route, IsThere, Enabled, FrontIs, after, rou
 use Rattle.worm_core.specs.Shape.{net_shape}
 use Rattle.worm_core.specs.State.{NetState, IsFramed, IsNetPlace, shape, network_of, router_at, with_router}
 use Rattle.worm_core.specs.Workable.{IsWorkableBy}
-use Rattle.worm_core.specs.RegionAnswers.{Answers}
+use Rattle.worm_core.specs.Replies.{Replies}
 use Rattle.worm_core.specs.Answers.{moved_of}
 use Rattle.worm_core.proofs.Bridge.{put3_same, input_bridge, input_of-there}
 use Rattle.worm_core.proofs.There.{buffer_there, record_there}
@@ -65,7 +65,7 @@ route_idle s x p v place (Active o c) fs e f can h = let there = record_there s 
 
 -- what Net::route leaves and answers
 pub route_answers : (s : NetState) (x p v : ℕ) → {own : ℕ → Bool} → IsWorkableBy own s → IsThere (shape s) (Route x p v) → (done : Bool) → done ≡ can_route (router_at s x) p v
-    → IsWorkableBy own (if done then with_router s x (after_route (router_at s x) p v) else s) × Answers s (Route x p v) (Ok (moved_of done)) (if done then with_router s x (after_route (router_at s x) p v) else s)
+    → IsWorkableBy own (if done then with_router s x (after_route (router_at s x) p v) else s) × Replies s (Route x p v) (Ok (moved_of done)) (if done then with_router s x (after_route (router_at s x) p v) else s)
 route_answers s x p v net there true e =
     let place = net_place s x p v net.framed there.0 there.1 there.2 in
     let c = input_at (router_at s x) p v in

@@ -13,10 +13,9 @@ use Rattle.worm_theory.proofs.Places.{number_cases}
 use Rattle.worm_core.specs.Shape.{net_shape}
 use Rattle.worm_core.specs.State.{NetState, node_at, router_at, with_node}
 use Rattle.worm_core.specs.Workable.{IsWorkable}
-use Rattle.worm_core.specs.RegionAnswers.{Answers}
+use Rattle.worm_core.specs.Replies.{Attempts, Replies}
 use Rattle.worm_core.specs.Moves.{AreUnrouted, RoutesTheSame, RoutesWithin}
-use Rattle.worm_core.specs.RegionTurns.{RoutesChannels, RoutesPort, Tries}
-use Rattle.worm_core.specs.Turns.{Each, Does, all_channels, all_ports}
+use Rattle.worm_core.specs.Turns.{Each, Does, all_channels, all_ports, RoutesChannelsBy, RoutesPortBy}
 use Rattle.worm_core.specs.declared.node.Node.{Node}
 use Rattle.worm_core.specs.declared.step.Moved.{Moved}
 use Rattle.worm_core.specs.declared.step.Moved.TheVariants.{Done, Idle}
@@ -44,7 +43,7 @@ routed_elsewhere a x q c p v net there q_in c_in away v_in =
     let one : ChannelState = in_state (input_at r q c) (Waiting (front_port r (input_at r q c).buffer)) in
     ap (λ (s : ChannelState). is_idle s.state && opens_front s.buffer) (input_elsewhere a x q c p v one net there q_in c_in away v_in)
 
-pub route_elsewhere : (a b : NetState) (x q c : ℕ) (answer : Result Moved StepFault) → IsWorkable a → Answers a (Route x q c) answer b → (p v : ℕ) → (p ≡ q → v ≡ c → ⊥) → v < width (router_at b x) → RoutesTheSame a b x p v
+pub route_elsewhere : (a b : NetState) (x q c : ℕ) (answer : Result Moved StepFault) → IsWorkable a → Replies a (Route x q c) answer b → (p v : ℕ) → (p ≡ q → v ≡ c → ⊥) → v < width (router_at b x) → RoutesTheSame a b x p v
 unfolding net_shape
 route_elsewhere a b x q c (Ok Done) net done p v away within =
     let place = net_place a x q c net.framed done.there.0 done.there.1 done.there.2 in
@@ -80,8 +79,8 @@ unrouted_within s x set net x_in unrouted =
 -- how far the channels have come: all of the ports below `port` are done, and of it those below `vc`
 pub record Passed (x : ℕ) (a b : NetState) (port vc : ℕ) : Type 0 where
   pub mid : NetState
-  pub ports : Does (Each (RoutesPort x) (range_with_len 0 port)) a None mid
-  pub channels : Does (Each (λ c. Tries (Route x port c)) (range_with_len 0 vc)) mid None b
+  pub ports : Does (Each (RoutesPortBy Attempts x) (range_with_len 0 port)) a None mid
+  pub channels : Does (Each (λ c. Attempts (Route x port c)) (range_with_len 0 vc)) mid None b
 
 -- and of the others none has anything to route but those of the set
 pub record Routed (x : ℕ) (a b : NetState) (set port vc : ℕ) : Type 0 where
@@ -111,18 +110,18 @@ along : (x : ℕ) (a b : NetState) (port vc c : ℕ) → Passed x a b port vc �
 along x a b port vc c passed net there less c_in none = record {
   mid = passed.mid;
   ports = passed.ports;
-  channels = loop_on (λ i. Tries (Route x port i)) vc c passed.mid b less passed.channels (λ i above below. route_still b x port i net there (omega arith) (none i above below));
+  channels = loop_on (λ i. Attempts (Route x port i)) vc c passed.mid b less passed.channels (λ i above below. route_still b x port i net there (omega arith) (none i above below));
 }
 
 -- all channels of a port are passed, and so is the port
-port_done : (x : ℕ) (a b : NetState) (port : ℕ) → Passed x a b port (sum b.channels) → Does (Each (RoutesPort x) (range_with_len 0 (port + 1))) a None b
+port_done : (x : ℕ) (a b : NetState) (port : ℕ) → Passed x a b port (sum b.channels) → Does (Each (RoutesPortBy Attempts x) (range_with_len 0 (port + 1))) a None b
 port_done x a b port passed =
     let same : sum passed.mid.channels ≡ sum b.channels = ap (λ (cs : List ℕ). sum cs) (sym passed.channels.reaches.config.channels) in
-    loop_more (RoutesPort x) port a passed.mid b None passed.ports
+    loop_more (RoutesPortBy Attempts x) port a passed.mid b None passed.ports
     (does_ranged (λ s. map (Route x port) (all_channels s)) (Route x port) (sum passed.mid.channels) (sum b.channels) passed.mid b refl same passed.channels)
 
-port_still : (x p : ℕ) (b : NetState) → IsWorkable b → x < node_count b.mesh → ((v : ℕ) → v < sum b.channels → can_route (router_at b x) p v ≡ false) → RoutesPort x p b None b
-port_still x p b net there none = each_still Tries (Route x p) b (sum b.channels) 0 (λ v below. route_still b x p v net there (omega arith) (none v (omega arith)))
+port_still : (x p : ℕ) (b : NetState) → IsWorkable b → x < node_count b.mesh → ((v : ℕ) → v < sum b.channels → can_route (router_at b x) p v ≡ false) → RoutesPortBy Attempts x p b None b
+port_still x p b net there none = each_still Attempts (Route x p) b (sum b.channels) 0 (λ v below. route_still b x p v net there (omega arith) (none v (omega arith)))
 
 -- all between two channels have nothing to route
 passed_to : (x : ℕ) (a b : NetState) (port vc q c : ℕ) → Passed x a b port vc → IsWorkable b → x < node_count b.mesh → vc ≤ sum b.channels → q ≤ 2 * length b.mesh → c ≤ sum b.channels
@@ -130,7 +129,7 @@ passed_to : (x : ℕ) (a b : NetState) (port vc q c : ℕ) → Passed x a b port
 passed_to x a b port vc q c passed net there vc_in q_in c_in (inl below) none =
     let few = net.framed.classes.total in
     let whole = along x a b port vc (sum b.channels) passed net there vc_in (omega arith) (λ v above v_in. none port v (omega arith) (omega (arith, few)) (omega arith) v_in) in
-    let up_to = loop_on (RoutesPort x) (port + 1) q a b (omega arith) (port_done x a b port whole)
+    let up_to = loop_on (RoutesPortBy Attempts x) (port + 1) q a b (omega arith) (port_done x a b port whole)
     (λ p above before. port_still x p b net there (λ v v_in. none p v (omega (arith, few)) (omega (arith, few)) (omega arith) v_in)) in
     along x a b q 0 c (record { mid = b; ports = up_to; channels = does_nothing b }) net there (omega arith) c_in (λ v above v_in. none q v (omega (arith, few)) (omega arith) q_in (omega arith))
 passed_to x a b port vc q c passed net there vc_in q_in c_in (inr here) none =
@@ -149,7 +148,7 @@ order port vc q c c_in after = elim (number_cases port q) [
   | inr away ↦ let differs = away.1 in inl (omega arith)
 ]
 
-pub routed_more : (x : ℕ) (a b b_new : NetState) (set new port vc q c : ℕ) → Routed x a b set port vc → IsFirst set new q c → Does (Tries (Route x q c)) b None b_new
+pub routed_more : (x : ℕ) (a b b_new : NetState) (set new port vc q c : ℕ) → Routed x a b set port vc → IsFirst set new q c → Does (Attempts (Route x q c)) b None b_new
     → ((p v : ℕ) → (p ≡ q → v ≡ c → ⊥) → v < width (router_at b_new x) → RoutesTheSame b b_new x p v) → IsWorkable b_new → Routed x a b_new new q (c + 1)
 routed_more x a b b_new set new port vc q c routed first does same net_new =
     let net = routed.sound in
@@ -170,7 +169,7 @@ routed_more x a b b_new set new port vc q c routed first does same net_new =
     let node = net_new.framed.each_node x (omega (arith, routed.there)) in
     let width_new : width (router_at b_new x) ≡ sum b_new.channels = ap (λ (cs : List ℕ). sum cs) node.same_channels in
     record {
-      passed = record { mid = up_to.mid; ports = up_to.ports; channels = loop_more (λ i. Tries (Route x q i)) c up_to.mid b b_new None up_to.channels does };
+      passed = record { mid = up_to.mid; ports = up_to.ports; channels = loop_more (λ i. Attempts (Route x q i)) c up_to.mid b b_new None up_to.channels does };
       there = omega (arith, routed.there);
       sound = net_new;
       port_in = omega arith;
@@ -190,7 +189,7 @@ routed_more x a b b_new set new port vc q c routed first does same net_new =
       ];
     }
 
-pub routed_all : (x : ℕ) (a b : NetState) (set port vc : ℕ) → Routed x a b set port vc → set ≡ 0 → Does (RoutesChannels x) a None b
+pub routed_all : (x : ℕ) (a b : NetState) (set port vc : ℕ) → Routed x a b set port vc → set ≡ 0 → Does (RoutesChannelsBy Attempts x) a None b
 routed_all x a b set port vc routed none =
     let net = routed.sound in
     let port_in = routed.port_in in
@@ -202,4 +201,4 @@ routed_all x a b set port vc routed none =
     (λ p v above before p_in v_in. routed.rest p v above p_in v_in (ap (λ (s : ℕ). has s p v) none ∙ has-zero p v)) in
     let done = port_done x a b (2 * length b.mesh) whole in
     let mesh = ap (λ (m : List ℕ). length m) done.reaches.config.mesh in
-    does_for all_ports (RoutesPort x) (2 * length a.mesh + 1) (2 * length b.mesh + 1) a b None refl (omega arith) done
+    does_for all_ports (RoutesPortBy Attempts x) (2 * length a.mesh + 1) (2 * length b.mesh + 1) a b None refl (omega arith) done

@@ -22,7 +22,7 @@ use Rattle.worm_core.specs.declared.fault.StepFault.{StepFault}
 use Rattle.worm_core.specs.declared.fault.StepFault.TheVariants.{NoSuchPlace, Refused, NoMemory}
 use Rattle.worm_core.specs.State.{NetState, IsFramed, IsNetPlace, IsSameConfig, shape, network_of, node_at, router_at, sink_at, source_at, with_node, with_router, with_link, link_at}
 use Rattle.worm_core.specs.Workable.{EndsWithin, IsWorkableBy}
-use Rattle.worm_core.specs.RegionAnswers.{IsDone, Answers}
+use Rattle.worm_core.specs.Replies.{IsMade, Replies}
 use Rattle.worm_core.specs.Answers.{Grows}
 use Rattle.worm_core.specs.Moves.{done_step, link_out, after_ready, after_sending, HasWay, LeavesByLink, Sends}
 use Rattle.worm_core.proofs.Bridge.{put2_same, node_bridge, itself2, input_of-put, output_of-put}
@@ -321,11 +321,11 @@ module _ (s : NetState) (x p v o c : ℕ) (f : Flit) (rest : List Flit) {own : �
 
 -- what Net::send leaves and answers
 
-stood : (s : NetState) (step : Step) (new : NetState) → Stands s step new → new ≡ done_step s step → IsDone s step new
+stood : (s : NetState) (step : Step) (new : NetState) → Stands s step new → new ≡ done_step s step → IsMade s step new
 stood s step new stands same = record { there = stands.there; enabled = stands.enabled; after_it = stands.after_it; config = stands.config; exact = same; framed = stands.framed }
 
 Outcome : (ℕ → Bool) → NetState → ℕ → ℕ → ℕ → Result Moved StepFault → NetState → Type 0
-Outcome own s x p v answer new = IsWorkableBy own new × Answers s (Send x p v) answer new
+Outcome own s x p v answer new = IsWorkableBy own new × Replies s (Send x p v) answer new
 
 idle_answers : (s : NetState) (x p v : ℕ) → {own : ℕ → Bool} → IsWorkableBy own s → IsThere (shape s) (Send x p v) → (Enabled (shape s) (network_of s) (Send x p v) → ⊥)
     → (answer : Result Moved StepFault) (new : NetState) → Sends s x p v None answer new → Outcome own s x p v answer new
@@ -339,7 +339,7 @@ done_answers : (s : NetState) (x p v : ℕ) (d : ℕ × Flit) → {own : ℕ →
     → IsWorkableBy own (after_sending s x p v d) × Stands s (Send x p v) (after_sending s x p v d) → after_sending s x p v d ≡ done_step s (Send x p v) → leaving (router_at s x) p v ≡ Some d
     → (answer : Result Moved StepFault) (new : NetState) → Sends s x p v (Some d) answer new → Outcome own s x p v answer new
 unfolding Outcome
-done_answers s x p v d {own} net there enabled grows made same is (Ok Done) new sends = subst (λ (n : NetState). IsWorkableBy own n × Answers s (Send x p v) (Ok Done) n) (sym sends) (made.0, stood s (Send x p v) (after_sending s x p v d) made.1 same)
+done_answers s x p v d {own} net there enabled grows made same is (Ok Done) new sends = subst (λ (n : NetState). IsWorkableBy own n × Replies s (Send x p v) (Ok Done) n) (sym sends) (made.0, stood s (Send x p v) (after_sending s x p v d) made.1 same)
 done_answers s x p v d {own} net there enabled grows made same is (Ok StayedIdle) new sends =
     (subst (IsWorkableBy own) (sym sends.1) net, (there, λ _. subst (λ (o : Option (ℕ × Flit)). HasWay s x o → ⊥) (sym is) sends.0, refl, sends.1))
 done_answers s x p v d {own} net there enabled grows made same is (Err NoSuchPlace) new sends = absurd sends
@@ -393,7 +393,7 @@ judged s x p v {own} net inner place x_in port there (Active o c) (f ∷ rest) e
 ]
 
 pub send_answers : (s : NetState) (x p v : ℕ) → {own : ℕ → Bool} → IsWorkableBy own s → SendsWithin own s x p v → IsThere (shape s) (Send x p v)
-    → (answer : Result Moved StepFault) (new : NetState) → Sends s x p v (leaving (router_at s x) p v) answer new → IsWorkableBy own new × Answers s (Send x p v) answer new
+    → (answer : Result Moved StepFault) (new : NetState) → Sends s x p v (leaving (router_at s x) p v) answer new → IsWorkableBy own new × Replies s (Send x p v) answer new
 unfolding net_shape Outcome
 send_answers s x p v net inner there answer new sends =
     let place = net_place s x p v net.framed there.0 there.1 there.2 in

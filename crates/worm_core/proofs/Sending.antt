@@ -11,8 +11,7 @@ use Rattle.worm_router.specs.Allocation.{switch_grants}
 use Rattle.worm_theory.specs.Steps.{Send, IsThere}
 use Rattle.worm_core.specs.State.{NetState, IsSameConfig, router_at, shape}
 use Rattle.worm_core.specs.Workable.{IsWorkable}
-use Rattle.worm_core.specs.RegionAnswers.{Answers}
-use Rattle.worm_core.specs.RegionTurns.{Tries}
+use Rattle.worm_core.specs.Replies.{Attempts, Replies}
 use Rattle.worm_core.specs.Turns.{Each, Does, fault_of, granted_send}
 use Rattle.worm_core.specs.declared.step.Moved.{Moved}
 use Rattle.worm_core.specs.declared.fault.StepFault.{StepFault}
@@ -55,7 +54,7 @@ pub record Sent (x : ℕ) (grants : List (Option SwGrant)) (all left : ℕ) (a b
   pub walked : IsWalked all left next 7
   pub few : 2 * length a.mesh + 1 ≤ 7
   pub in_net : next ≤ 2 * length a.mesh + 1
-  pub passed : Does (Each (λ p. Each Tries (granted_send grants x p)) (range_with_len 0 next)) a None b
+  pub passed : Does (Each (λ p. Each Attempts (granted_send grants x p)) (range_with_len 0 next)) a None b
 
 -- with its channel all channels of a port have come out
 first_port : (grants : List (Option SwGrant)) (all left left' n port vc : ℕ) → AreGranted grants all → IsWalked all left n 7 → IsFirst left left' port vc → IsFirstPort left left' port
@@ -80,7 +79,7 @@ first_port grants all left left' n port vc are walked first =
       fewer = first.fewer;
     }
 
-pub sent_start : (x : ℕ) (grants : List (Option SwGrant)) (all : ℕ) (a : NetState) → 2 * length a.mesh + 1 ≤ 7 → Does (Each (λ p. Each Tries (granted_send grants x p)) (range_with_len 0 0)) a None a → Sent x grants all all a a
+pub sent_start : (x : ℕ) (grants : List (Option SwGrant)) (all : ℕ) (a : NetState) → 2 * length a.mesh + 1 ≤ 7 → Does (Each (λ p. Each Attempts (granted_send grants x p)) (range_with_len 0 0)) a None a → Sent x grants all all a a
 sent_start x grants all a few done = record { next = 0; walked = walked_start all 7; few = few; in_net = omega arith; passed = done }
 
 -- a channel that comes out was granted
@@ -92,20 +91,20 @@ sent_in x grants all left left' port vc a b are sent first =
 
 -- the ports before it have no grant
 sent_to : (x : ℕ) (grants : List (Option SwGrant)) (all left left' port vc : ℕ) (a b : NetState) → AreGranted grants all → Sent x grants all left a b → IsFirst left left' port vc
-    → Does (Each (λ p. Each Tries (granted_send grants x p)) (range_with_len 0 port)) a None b
+    → Does (Each (λ p. Each Attempts (granted_send grants x p)) (range_with_len 0 port)) a None b
 sent_to x grants all left left' port vc a b are sent first =
     let whole = first_port grants all left left' sent.next port vc are sent.walked first in
-    loop_on (λ p. Each Tries (granted_send grants x p)) sent.next port a b (walked_from all left left' sent.next 7 port sent.walked whole) sent.passed
+    loop_on (λ p. Each Attempts (granted_send grants x p)) sent.next port a b (walked_from all left left' sent.next 7 port sent.walked whole) sent.passed
     (λ i above below. (sends_none grants x i b
     (granted_none grants all i are (let port_in = first.port_in in omega arith) (λ v v_in. walked_over all left left' sent.next 7 port i v sent.walked whole above below (let port_in = first.port_in in omega arith) v_in))).exact)
 
 sent_by : (x : ℕ) (grants : List (Option SwGrant)) (port vc : ℕ) (b c : NetState) (answer : Result Moved StepFault) (fault : Option StepFault) (g : SwGrant) → slice_index_or grants port None ≡ Some g → g.vc ≡ vc
-    → Answers b (Send x port vc) answer c → fault ≡ fault_of answer → Does (Each Tries (granted_send grants x port)) b fault c
-sent_by x grants port vc b c answer fault g is same answered ends = sends_one grants x port g b c answer fault is (subst (λ (v : ℕ). Answers b (Send x port v) answer c) (sym same) answered) ends
+    → Replies b (Send x port vc) answer c → fault ≡ fault_of answer → Does (Each Attempts (granted_send grants x port)) b fault c
+sent_by x grants port vc b c answer fault g is same answered ends = sends_one grants x port g b c answer fault is (subst (λ (v : ℕ). Replies b (Send x port v) answer c) (sym same) answered) ends
 
 -- one more has sent
 pub sent_more : (x : ℕ) (grants : List (Option SwGrant)) (all left left' port vc : ℕ) (a b c : NetState) (answer : Result Moved StepFault) → AreGranted grants all → Sent x grants all left a b → IsFirst left left' port vc
-    → port ≤ 2 * length a.mesh → Answers b (Send x port vc) answer c → None ≡ fault_of answer → Sent x grants all left' a c
+    → port ≤ 2 * length a.mesh → Replies b (Send x port vc) answer c → None ≡ fault_of answer → Sent x grants all left' a c
 sent_more x grants all left left' port vc a b c answer are sent first port_in answered ends =
     let grant = sent_in x grants all left left' port vc a b are sent first in
     record {
@@ -113,22 +112,22 @@ sent_more x grants all left left' port vc a b c answer are sent first port_in an
       walked = walked_more all left left' sent.next 7 port sent.walked (first_port grants all left left' sent.next port vc are sent.walked first) first.port_in (omega arith);
       few = sent.few;
       in_net = omega arith;
-      passed = loop_more (λ p. Each Tries (granted_send grants x p)) port a b c None (sent_to x grants all left left' port vc a b are sent first) (sent_by x grants port vc b c answer None grant.0 grant.1 grant.2 answered ends);
+      passed = loop_more (λ p. Each Attempts (granted_send grants x p)) port a b c None (sent_to x grants all left left' port vc a b are sent first) (sent_by x grants port vc b c answer None grant.0 grant.1 grant.2 answered ends);
     }
 
 -- or has failed
 pub sent_until : (x : ℕ) (grants : List (Option SwGrant)) (all left left' port vc : ℕ) (a b c : NetState) (answer : Result Moved StepFault) (fault : StepFault) → AreGranted grants all → Sent x grants all left a b → IsFirst left left' port vc
-    → port ≤ 2 * length a.mesh → Answers b (Send x port vc) answer c → Some fault ≡ fault_of answer → Does (Each (λ p. Each Tries (granted_send grants x p)) (range_with_len 0 (2 * length a.mesh + 1))) a (Some fault) c
+    → port ≤ 2 * length a.mesh → Replies b (Send x port vc) answer c → Some fault ≡ fault_of answer → Does (Each (λ p. Each Attempts (granted_send grants x p)) (range_with_len 0 (2 * length a.mesh + 1))) a (Some fault) c
 sent_until x grants all left left' port vc a b c answer fault are sent first port_in answered ends =
     let grant = sent_in x grants all left left' port vc a b are sent first in
-    loop_cut (λ p. Each Tries (granted_send grants x p)) port (2 * length a.mesh + 1) a b c fault (omega arith) (sent_to x grants all left left' port vc a b are sent first)
+    loop_cut (λ p. Each Attempts (granted_send grants x p)) port (2 * length a.mesh + 1) a b c fault (omega arith) (sent_to x grants all left left' port vc a b are sent first)
     (sent_by x grants port vc b c answer (Some fault) grant.0 grant.1 grant.2 answered ends)
 
 -- all have sent
 pub sent_all : (x : ℕ) (grants : List (Option SwGrant)) (all left : ℕ) (a b : NetState) → AreGranted grants all → Sent x grants all left a b → left ≡ 0
-    → Does (Each (λ p. Each Tries (granted_send grants x p)) (range_with_len 0 (2 * length a.mesh + 1))) a None b
+    → Does (Each (λ p. Each Attempts (granted_send grants x p)) (range_with_len 0 (2 * length a.mesh + 1))) a None b
 sent_all x grants all left a b are sent e =
-    loop_on (λ p. Each Tries (granted_send grants x p)) sent.next (2 * length a.mesh + 1) a b sent.in_net sent.passed
+    loop_on (λ p. Each Attempts (granted_send grants x p)) sent.next (2 * length a.mesh + 1) a b sent.in_net sent.passed
     (λ i above below. (sends_none grants x i b
     (granted_none grants all i are (let few = sent.few in omega arith) (λ v v_in. walked_all all left sent.next 7 i v sent.walked e above (let few = sent.few in omega arith) v_in))).exact)
 

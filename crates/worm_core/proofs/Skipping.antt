@@ -16,8 +16,8 @@ use Rattle.worm_core.specs.Shape.{net_shape}
 use Rattle.worm_core.specs.State.{NetState, router_at, shape}
 use Rattle.worm_core.specs.Workable.{IsWorkable}
 use Rattle.worm_core.specs.Moves.{RoutesNothing}
-use Rattle.worm_core.specs.RegionTurns.{Tries, RoutesPort, RoutesChannels}
-use Rattle.worm_core.specs.Turns.{Passage, Each}
+use Rattle.worm_core.specs.Replies.{Attempts}
+use Rattle.worm_core.specs.Turns.{Passage, Each, RoutesPortBy, RoutesChannelsBy}
 use Rattle.worm_core.specs.declared.step.Moved.TheVariants.{Idle}
 use Rattle.worm_core.specs.declared.fault.StepFault.TheVariants.{NoSuchPlace}
 use Rattle.worm_core.proofs.RouteStep.{route_answers}
@@ -65,7 +65,7 @@ port_there s x p None e = elim (number_cases p (2 * length s.mesh)) [
   ])
 ]
 
-pub route_still : (s : NetState) (x p v : ℕ) → IsWorkable s → x < node_count s.mesh → v < sum s.channels → can_route (router_at s x) p v ≡ false → Tries (Route x p v) s None s
+pub route_still : (s : NetState) (x p v : ℕ) → IsWorkable s → x < node_count s.mesh → v < sum s.channels → can_route (router_at s x) p v ≡ false → Attempts (Route x p v) s None s
 unfolding net_shape
 route_still s x p v net x_in v_in can = elim (port_there s x p (neighbour_of s.mesh x p) refl) [
   | inl port ↦
@@ -73,14 +73,14 @@ route_still s x p v net x_in v_in can = elim (port_there s x p (neighbour_of s.m
   | inr away ↦ (Err NoSuchPlace, (λ there. away there.1, refl), refl)
 ]
 
-port_still : (s : NetState) (x p : ℕ) → IsWorkable s → x < node_count s.mesh → p ≤ 2 * length s.mesh → RoutesNothing (router_at s x) → RoutesPort x p s None s
+port_still : (s : NetState) (x p : ℕ) → IsWorkable s → x < node_count s.mesh → p ≤ 2 * length s.mesh → RoutesNothing (router_at s x) → RoutesPortBy Attempts x p s None s
 port_still s x p net x_in p_in nothing =
     let all = net.framed.all_nodes in
     let node = net.framed.each_node x (omega arith) in
-    each_still Tries (Route x p) s (sum s.channels) 0 (λ v below.
+    each_still Attempts (Route x p) s (sum s.channels) 0 (λ v below.
     let p_there : p ≤ terminal (router_at s x) = rw node.same_mesh p_in in
     let v_there : v < width (router_at s x) = rw node.same_channels (omega arith) in
     route_still s x p v net x_in (omega arith) (nothing p v (omega (arith, p_in, net.framed.radices.few_dims)) (omega (arith, below, net.framed.classes.total)) p_there v_there))
 
-pub node_still : (s : NetState) (x : ℕ) → IsWorkable s → x < node_count s.mesh → RoutesNothing (router_at s x) → RoutesChannels x s None s
-node_still s x net x_in nothing = numbers_still (RoutesPort x) s (2 * length s.mesh + 1) 0 (λ p below. port_still s x p net x_in (omega arith) nothing)
+pub node_still : (s : NetState) (x : ℕ) → IsWorkable s → x < node_count s.mesh → RoutesNothing (router_at s x) → RoutesChannelsBy Attempts x s None s
+node_still s x net x_in nothing = numbers_still (RoutesPortBy Attempts x) s (2 * length s.mesh + 1) 0 (λ p below. port_still s x p net x_in (omega arith) nothing)

@@ -21,7 +21,7 @@ use Rattle.worm_core.specs.Moves.{done_step, link_into, front_into, front_credit
 use Rattle.worm_core.specs.Answers.{Answers, refusal_of}
 use Rattle.worm_core.specs.Totals.{injected_total, delivered_total}
 use Rattle.worm_core.specs.Acceptable.{EndsForMemory}
-use Rattle.worm_core.specs.Turns.{Passage, Stays, ◌and_then◌, Each, Tries, NodeTurn, AsksSource, TakesCredits, TakesFlits, FeedsClasses, RoutesChannels, RoutesPort, Allocates, SendsGranted, GivesCredit, GivesCredits, Turn, Drains, fault_of, all_nodes, all_ports, all_classes, all_channels, mesh_ports, granted_send, lowest_owed}
+use Rattle.worm_core.specs.Turns.{ComesIn, Passage, Stays, ◌and_then◌, Each, Tries, NodeTurn, AsksSource, TakesCredits, TakesFlits, FeedsClasses, RoutesChannels, RoutesPort, Allocates, SendsGranted, GivesCredit, GivesCredits, Turn, Drains, fault_of, all_nodes, all_ports, all_classes, all_channels, mesh_ports, granted_send, lowest_owed}
 use Rattle.worm_core.proofs.Pointers.{read_over}
 
 pub record Ledger : Type 0 where
@@ -200,16 +200,20 @@ quiet_gives x p old new fault a = quiet_list _ (gives_none x p (lowest_owed (rou
 
 -- what a node's turn does after its source was asked
 abbrev pub AfterAsking : ℕ → Passage
-AfterAsking x = TakesCredits x and_then TakesFlits x and_then FeedsClasses x and_then RoutesChannels x and_then Allocates x and_then SendsGranted x and_then GivesCredits x
+AfterAsking x = ComesIn x and_then Allocates x and_then SendsGranted x and_then GivesCredits x
+
+quiet_in : (x : ℕ) → IsQuiet (ComesIn x)
+quiet_in x =
+    quiet_then (TakesCredits x) _ (λ old. quiet_steps (TakeCredit x) (λ o. tt) (mesh_ports old) old)
+    (quiet_then (TakesFlits x) _ (λ old. quiet_steps (Take x) (λ p. tt) (mesh_ports old) old)
+    (quiet_then (FeedsClasses x) (RoutesChannels x) (λ old. quiet_steps (Feed x) (λ k. tt) (all_classes old) old)
+    (λ old. quiet_each (RoutesPort x) (λ p later. quiet_steps (Route x p) (λ v. tt) (all_channels later) later) (all_ports old) old)))
 
 pub quiet_after : (x : ℕ) → IsQuiet (AfterAsking x)
 quiet_after x =
-    quiet_then (TakesCredits x) _ (λ old. quiet_steps (TakeCredit x) (λ o. tt) (mesh_ports old) old)
-    (quiet_then (TakesFlits x) _ (λ old. quiet_steps (Take x) (λ p. tt) (mesh_ports old) old)
-    (quiet_then (FeedsClasses x) _ (λ old. quiet_steps (Feed x) (λ k. tt) (all_classes old) old)
-    (quiet_then (RoutesChannels x) _ (λ old. quiet_each (RoutesPort x) (λ p later. quiet_steps (Route x p) (λ v. tt) (all_channels later) later) (all_ports old) old)
+    quiet_then (ComesIn x) _ (quiet_in x)
     (quiet_then (Allocates x) _ (quiet_allocates x)
-    (quiet_then (SendsGranted x) (GivesCredits x) (quiet_sends x) (λ old. quiet_each (GivesCredit x) (quiet_gives x) (mesh_ports old) old))))))
+    (quiet_then (SendsGranted x) (GivesCredits x) (quiet_sends x) (λ old. quiet_each (GivesCredit x) (quiet_gives x) (mesh_ports old) old)))
 
 -- a turn without entries, and so a drain, asks no source
 quiet_turn : IsQuiet (Turn [])

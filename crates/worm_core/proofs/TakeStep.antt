@@ -12,7 +12,7 @@ use Rattle.worm_theory.specs.Steps.{Take, IsThere, Enabled, FrontIs, IsLinked, a
 use Rattle.worm_core.specs.Shape.{net_shape}
 use Rattle.worm_core.specs.State.{NetState, LinkView, IsFramed, IsNetPlace, shape, network_of, router_at, with_router, link_at}
 use Rattle.worm_core.specs.Workable.{IsWorkableBy, IsSent}
-use Rattle.worm_core.specs.RegionAnswers.{Answers}
+use Rattle.worm_core.specs.Replies.{Replies}
 use Rattle.worm_core.specs.Answers.{moved_of}
 use Rattle.worm_core.specs.Moves.{done_step, into_from, link_into, front_into, FrontFits, has_room, can_enter, after_take}
 use Rattle.worm_core.proofs.Ends.{feeder, first_of, none_of}
@@ -124,7 +124,7 @@ take_idle s x p y net x_in e (Some f) first can h =
 -- what Net::take leaves and answers, for the link k
 Outcome : (ℕ → Bool) → NetState → ℕ → ℕ → ℕ → Option Flit → Bool → Type 0
 Outcome own s x p k o b =
-    IsWorkableBy own (if b then after_take s x p k o else s) × Answers s (Take x p) (Ok (moved_of b)) (if b then after_take s x p k o else s)
+    IsWorkableBy own (if b then after_take s x p k o else s) × Replies s (Take x p) (Ok (moved_of b)) (if b then after_take s x p k o else s)
 
 take_at : (s : NetState) (x p y : ℕ) → {own : ℕ → Bool} → IsWorkableBy own s → x < length s.nodes → IsThere (shape s) (Take x p) → neighbour_of s.mesh x p ≡ Some y → (o : Option Flit) (b : Bool)
     → slice_get (link_at s (links_before s.mesh y (opposite_of p))).flits 0 ≡ o → can_enter (router_at s x) p o ≡ b
@@ -148,7 +148,7 @@ take_by s x p net x_in there (Some y) e some same =
     take_at s x p y net x_in there e (slice_get (link_at s (links_before s.mesh y (opposite_of p))).flits 0) (can_enter (router_at s x) p (slice_get (link_at s (links_before s.mesh y (opposite_of p))).flits 0)) refl refl same
 
 pub take_answers : (s : NetState) (x p : ℕ) → {own : ℕ → Bool} → IsWorkableBy own s → IsThere (shape s) (Take x p) → (done : Bool) → done ≡ can_enter (router_at s x) p (front_into s x p)
-    → IsWorkableBy own (if done then after_take s x p (link_into s x p) (front_into s x p) else s) × Answers s (Take x p) (Ok (moved_of done)) (if done then after_take s x p (link_into s x p) (front_into s x p) else s)
+    → IsWorkableBy own (if done then after_take s x p (link_into s x p) (front_into s x p) else s) × Replies s (Take x p) (Ok (moved_of done)) (if done then after_take s x p (link_into s x p) (front_into s x p) else s)
 unfolding net_shape Outcome
 take_answers s x p net there done e =
     let all = net.framed.all_nodes in

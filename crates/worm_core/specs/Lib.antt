@@ -15,9 +15,8 @@ pub mod Edges
 pub mod Runs
 pub mod Headline
 pub mod NewNet
-pub mod RegionAnswers
 pub mod Turns
-pub mod RegionTurns
+pub mod Replies
 pub mod Totals
 pub mod LaneView
 pub mod LaneSet

@@ -142,6 +142,7 @@ pub record IsFramed (s : NetState) : Type 0 where
   pub radices : IsRadices s.mesh
   pub classes : AreChannels s.channels
   pub least_depth : 1 ≤ s.depth
+  pub most_depth : s.depth ≤ 16
   pub all_nodes : length s.nodes ≡ node_count s.mesh
   pub all_links : length s.links ≡ link_count s.mesh
   pub each_node : (x : ℕ) → x < length s.nodes → IsNodeOf s.mesh s.channels s.depth x (node_at s x)

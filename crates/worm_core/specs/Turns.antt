@@ -1,13 +1,13 @@
 -- The turn of a node, the turns of all nodes, and the run on one thread: which step is tried in which order, and where the
 -- allocators pass between them (Dally and Towles, chapters 16, 18 and 19).
-use Rattle.std.specs.Prelude.{ℕ, zero, suc, ◌≡◌, ◌+◌, ◌*◌, ◌<◌, ◌==◌, nat_lt, ◌⊎◌, List, [], ◌∷◌, length, sum, map, slice_index_or, Option, Some, None, IsSome, option_map, Result, Ok, Err, MatchBool}
+use Rattle.std.specs.Prelude.{ℕ, zero, suc, ◌≡◌, ◌+◌, ◌*◌, ◌<◌, ◌==◌, nat_lt, ◌⊎◌, List, [], ◌∷◌, length, sum, map, All, slice_index_or, Option, Some, None, IsSome, option_map, Result, Ok, Err, MatchBool}
 use Rattle.std.specs.List.{range_with_len, flat_map, find}
 use Rattle.std.specs.Option.{option_to_list}
 use Rattle.worm_mesh.specs.Address.{node_count}
 use Rattle.worm_router.specs.Router.{RouterState, width, input_at}
 use Rattle.worm_router.specs.Allocation.{after_allocate, switch_grants}
 use Rattle.worm_swalloc.specs.declared.grant.SwGrant.{SwGrant}
-use Rattle.worm_theory.specs.Steps.{Step, Offer, CloseLane, Feed, Route, Send, Take, GiveCredit, TakeCredit, StepsLead}
+use Rattle.worm_theory.specs.Steps.{Step, Offer, CloseLane, Feed, Route, Grant, Send, Take, GiveCredit, TakeCredit, StepsLead}
 use Rattle.worm_core.specs.State.{NetState, IsSameConfig, shape, network_of, router_at, with_router}
 use Rattle.worm_core.specs.Moves.{chosen_router}
 use Rattle.worm_core.specs.Answers.{Answers}
@@ -126,16 +126,13 @@ GivesCreditBy T x p = ForEach (λ s. option_to_list (option_map (GiveCredit x p)
 abbrev pub GivesCreditsBy : (Step → Passage) → ℕ → Passage
 GivesCreditsBy T x = ForEach mesh_ports (GivesCreditBy T x)
 
+-- what comes in is taken, and what came in is routed
+abbrev pub ComesInBy : (Step → Passage) → ℕ → Passage
+ComesInBy T x = TakesCreditsBy T x and_then TakesFlitsBy T x and_then FeedsClassesBy T x and_then RoutesChannelsBy T x
+
 -- what a node does in a turn once its source was asked
 abbrev pub NodePassesBy : (Step → Passage) → ℕ → Passage
-NodePassesBy T x =
-    TakesCreditsBy T x
-    and_then TakesFlitsBy T x
-    and_then FeedsClassesBy T x
-    and_then RoutesChannelsBy T x
-    and_then Allocates x
-    and_then SendsGrantedBy T x
-    and_then GivesCreditsBy T x
+NodePassesBy T x = ComesInBy T x and_then Allocates x and_then SendsGrantedBy T x and_then GivesCreditsBy T x
 
 -- the turn of a node, with these entries for all nodes
 abbrev pub NodeTurnBy : (Step → Passage) → List Entry → ℕ → Passage
@@ -160,6 +157,9 @@ RoutesPort = RoutesPortBy Tries
 
 abbrev pub RoutesChannels : ℕ → Passage
 RoutesChannels = RoutesChannelsBy Tries
+
+abbrev pub ComesIn : ℕ → Passage
+ComesIn = ComesInBy Tries
 
 abbrev pub SendsGranted : ℕ → Passage
 SendsGranted = SendsGrantedBy Tries
@@ -214,6 +214,25 @@ RunIsDetermined script turns drain =
 -- some list of steps leads from the old network to the new
 pub record Reaches (old new : NetState) : Type 0 where
   pub steps : List Step
+  pub led : StepsLead (shape old) (network_of old) steps (network_of new)
+  pub config : IsSameConfig old new
+
+-- the node at which a step is
+abbrev pub node_of : Step → ℕ
+node_of (Offer x lane words) = x
+node_of (CloseLane x lane) = x
+node_of (Feed x k) = x
+node_of (Route x p v) = x
+node_of (Grant x p v c) = x
+node_of (Send x p v) = x
+node_of (Take x p) = x
+node_of (GiveCredit x p v) = x
+node_of (TakeCredit x o) = x
+
+-- some list of steps at this node does
+pub record ReachesAt (x : ℕ) (old new : NetState) : Type 0 where
+  pub steps : List Step
+  pub at_node : All (λ step. node_of step ≡ x) steps
   pub led : StepsLead (shape old) (network_of old) steps (network_of new)
   pub config : IsSameConfig old new
 

@@ -6,7 +6,7 @@ ghost use Rattle.worm_theory.specs.Steps.{empty};
 ghost use Rattle.worm_core.specs.NewNet.{AreFresh, IsConfig, IsFresh, empty_link};
 ghost use Rattle.worm_core.specs.State.{IsNet, fresh_node, network_of, shape};
 
-use crate::{LinkState, Node};
+use crate::{Config, LinkState, Node};
 use std::alloc::{AllocError, Global};
 use worm_mesh::Mesh;
 use worm_router::Router;
@@ -38,6 +38,21 @@ fn make_node(
         source,
         sink,
     })
+}
+
+/// The nodes of a new network of this configuration, each at its own number. A part of a network has such nodes in the places of
+/// those that it does not own.
+pub fn fresh_nodes(alloc: Global, config: &Config) -> Result<Vec<Node>, AllocError>
+    requires mesh { IsRadices config.now.radices.items }
+    requires channels { AreChannels config.now.channels.items }
+    requires depth { (1 ≤ config.now.depth) × (config.now.depth ≤ 16) }
+    ensures all { IfOk result (λ v. length v.items ≡ node_count config.now.radices.items) }
+    ensures fresh { IfOk result (λ v. AreFresh config.now.radices.items config.now.channels.items config.now.depth v.items) }
+{
+    let Ok(mesh) = Mesh::new(config.radices.as_slice()) else {
+        unreachable!()
+    };
+    make_nodes(alloc, &mesh, config.channels.as_slice(), config.depth)
 }
 
 /// The nodes of a new network.

@@ -5,19 +5,20 @@ ghost use Rattle.worm_theory.specs.Steps.{IsThere, Step as Event};
 ghost use Rattle.worm_swalloc.specs.SwAlloc.{AreGranted};
 ghost use Rattle.worm_swalloc.specs.declared.grant.SwGrant.{SwGrant};
 ghost use Rattle.worm_core.specs.Runs.{event_of};
-ghost use Rattle.worm_core.specs.RegionAnswers.{Answers};
+ghost use Rattle.worm_core.specs.Replies.{Attempts, Replies};
 ghost use Rattle.worm_core.specs.Answers.{accepted_of, moved_of};
 ghost use Rattle.worm_core.specs.State.{shape, router_at, with_router};
 ghost use Rattle.worm_core.specs.Owned.{sole};
 ghost use Rattle.worm_core.specs.Workable.{EndsWithin, IsWorkable, owned};
-ghost use Rattle.worm_core.specs.RegionTurns.{NodePasses, SendsGranted, Tries};
-ghost use Rattle.worm_core.specs.Turns.{Reaches};
+ghost use Rattle.worm_core.specs.Turns.{ComesInBy, ReachesAt, NodePassesBy, SendsGrantedBy};
 ghost use Rattle.worm_mesh.specs.Address.{node_count};
 ghost use Rattle.worm_router.specs.Router.{input_at, leaving, width};
+ghost use Rattle.worm_router.specs.Rest.{IsAtRest};
 ghost use Rattle.worm_router.specs.Allocation.{after_allocate, switch_grants};
 ghost use Rattle.worm_core.specs.Moves.{AreOwing, RoutesWithin, chosen_router};
 
 mod edges;
+mod parts;
 
 use crate::fabric::Fabric;
 use crate::{Moved, Step, StepFault};
@@ -30,7 +31,7 @@ use worm_vcalloc::ChannelSet;
 /// move keeps that. Of the nodes that are not owned it has others in their places, which are not moved; of a link that comes
 /// from one of them what was taken off its queue and is in no buffer.
 #[derive(Drop)]
-pub(crate) struct Region {
+pub struct Region {
     fabric: Fabric,
 }
 
@@ -71,8 +72,8 @@ impl Region {
     }
 
     /// What holds of every region, for whoever has one.
-    pub(crate) fn is_sound(&self)
-        ensures sound { IsWorkable self.now }
+    pub fn is_workable(&self)
+        ensures { IsWorkable self.now }
     {
         let _fabric = &self.fabric;
     }
@@ -101,7 +102,7 @@ impl Region {
     }
 
     /// The terminal port of each node.
-    pub(crate) fn terminal(&self) -> u8
+    pub fn terminal(&self) -> u8
         ensures value { result ≡ 2 * length self.now.mesh }
         ensures bound { result ≤ 6 }
     {
@@ -109,21 +110,21 @@ impl Region {
     }
 
     /// One pass of the node's channel allocator, its grants written into the records.
-    pub(crate) fn allocate(&mut self, node: u8)
+    pub fn allocate(&mut self, node: u8)
         requires { node < node_count self.old.mesh }
         ensures after { self.new ≡ with_router self.old node (after_allocate (router_at self.old node)) }
-        ensures reaches { Reaches self.old self.new }
+        ensures reaches { ReachesAt node self.old self.new }
     {
         self.fabric.allocate(node);
     }
 
     /// One pass of the node's switch allocator: the channels that it grants.
-    pub(crate) fn choose(&mut self, node: u8) -> ChannelSet
+    pub fn choose(&mut self, node: u8) -> ChannelSet
         requires { node < node_count self.old.mesh }
         ensures granted { AreGranted (switch_grants (router_at self.old node)) result }
         ensures after { self.new ≡ with_router self.old node (chosen_router (router_at self.old node)) }
         ensures there { (p : ℕ) (g : SwGrant) → slice_index_or (switch_grants (router_at self.old node)) p None ≡ Some g → IsThere (shape self.old) (Event.Send node p g.vc) }
-        ensures reaches { Reaches self.old self.new }
+        ensures reaches { ReachesAt node self.old self.new }
     {
         self.fabric.choose(node)
     }
@@ -131,7 +132,7 @@ impl Region {
     /// Whether no channel of the node may send; then nothing is granted, and nothing sent.
     pub(crate) fn sends_nothing(&self, node: u8) -> bool
         requires { node < node_count self.now.mesh }
-        ensures { IsTrue result → SendsGranted node self.now None self.now }
+        ensures { IsTrue result → SendsGrantedBy Attempts node self.now None self.now }
     {
         self.fabric.sends_nothing(node)
     }
@@ -150,8 +151,8 @@ impl Region {
         requires node { node < node_count self.now.mesh }
         requires from { from ≤ 6 }
         ensures mesh_port { IfSome result (λ port. (from ≤ port) × (port < 2 * length self.now.mesh) × (port < 6)) }
-        ensures before { IfSome result (λ port. (p : ℕ) → from ≤ p → p < port → Tries (Event.TakeCredit node p) self.now None self.now) }
-        ensures none { IfNone result ((p : ℕ) → from ≤ p → Tries (Event.TakeCredit node p) self.now None self.now) }
+        ensures before { IfSome result (λ port. (p : ℕ) → from ≤ p → p < port → Attempts (Event.TakeCredit node p) self.now None self.now) }
+        ensures none { IfNone result ((p : ℕ) → from ≤ p → Attempts (Event.TakeCredit node p) self.now None self.now) }
     {
         self.fabric.next_credit(node, from)
     }
@@ -161,8 +162,8 @@ impl Region {
         requires node { node < node_count self.now.mesh }
         requires from { from ≤ 6 }
         ensures mesh_port { IfSome result (λ port. (from ≤ port) × (port < 2 * length self.now.mesh) × (port < 6)) }
-        ensures before { IfSome result (λ port. (p : ℕ) → from ≤ p → p < port → Tries (Event.Take node p) self.now None self.now) }
-        ensures none { IfNone result ((p : ℕ) → from ≤ p → Tries (Event.Take node p) self.now None self.now) }
+        ensures before { IfSome result (λ port. (p : ℕ) → from ≤ p → p < port → Attempts (Event.Take node p) self.now None self.now) }
+        ensures none { IfNone result ((p : ℕ) → from ≤ p → Attempts (Event.Take node p) self.now None self.now) }
     {
         self.fabric.next_flit(node, from)
     }
@@ -171,14 +172,14 @@ impl Region {
     pub(crate) fn next_class(&self, node: u8, from: u8) -> Option<u8>
         requires { node < node_count self.now.mesh }
         ensures class { IfSome result (λ class. (from ≤ class) × (class < length self.now.channels) × (class < 4)) }
-        ensures before { IfSome result (λ class. (k : ℕ) → from ≤ k → k < class → Tries (Event.Feed node k) self.now None self.now) }
-        ensures none { IfNone result ((k : ℕ) → from ≤ k → k < length self.now.channels → Tries (Event.Feed node k) self.now None self.now) }
+        ensures before { IfSome result (λ class. (k : ℕ) → from ≤ k → k < class → Attempts (Event.Feed node k) self.now None self.now) }
+        ensures none { IfNone result ((k : ℕ) → from ≤ k → k < length self.now.channels → Attempts (Event.Feed node k) self.now None self.now) }
     {
         self.fabric.next_class(node, from)
     }
 
     /// The channels of the node that owe a credit.
-    pub(crate) fn owing(&self, node: u8) -> ChannelSet
+    pub fn owing(&self, node: u8) -> ChannelSet
         requires { node < node_count self.now.mesh }
         ensures owing { AreOwing self.now node result }
         ensures sound { IsWorkable self.now }
@@ -187,16 +188,18 @@ impl Region {
     }
 
     /// Whether the node is at rest, so that its turn goes past all but what its source is asked.
-    pub(crate) fn rests(&mut self, node: u8) -> bool
+    pub fn rests(&mut self, node: u8) -> bool
         requires { node < node_count self.old.mesh }
-        ensures passes { IsTrue result → NodePasses node self.old None self.old }
+        ensures comes { IsTrue result → ComesInBy Attempts node self.old None self.old }
+        ensures rest { IsTrue result → IsAtRest (router_at self.old node) }
+        ensures passes { IsTrue result → NodePassesBy Attempts node self.old None self.old }
         ensures same { self.new ≡ self.old }
     {
         self.fabric.rests(node)
     }
 
     pub(crate) fn offer(&mut self, node: u8, packet: &Packet) -> Result<Moved, StepFault>
-        ensures { Answers self.old (Event.Offer node packet.now.lane packet.now.words) result self.new }
+        ensures { Replies self.old (Event.Offer node packet.now.lane packet.now.words) result self.new }
     {
         if !self.fabric.has_node(node) {
             return Err(StepFault::NoSuchPlace);
@@ -205,7 +208,7 @@ impl Region {
     }
 
     pub(crate) fn close(&mut self, node: u8, lane: Lane) -> Result<Moved, StepFault>
-        ensures { Answers self.old (Event.CloseLane node lane) result self.new }
+        ensures { Replies self.old (Event.CloseLane node lane) result self.new }
     {
         if !self.fabric.has_node(node) {
             return Err(StepFault::NoSuchPlace);
@@ -214,7 +217,7 @@ impl Region {
     }
 
     pub(crate) fn feed(&mut self, node: u8, class: u8) -> Result<Moved, StepFault>
-        ensures { Answers self.old (Event.Feed node class) result self.new }
+        ensures { Replies self.old (Event.Feed node class) result self.new }
     {
         if !self.fabric.has_class(node, class) {
             return Err(StepFault::NoSuchPlace);
@@ -226,13 +229,13 @@ impl Region {
     pub(crate) fn feed_there(&mut self, node: u8, class: u8) -> bool
         requires node { node < node_count self.old.mesh }
         requires class { class < length self.old.channels }
-        ensures { Answers self.old (Event.Feed node class) (Ok (moved_of result)) self.new }
+        ensures { Replies self.old (Event.Feed node class) (Ok (moved_of result)) self.new }
     {
         self.fabric.feed(node, class)
     }
 
     pub(crate) fn route(&mut self, node: u8, port: u8, vc: u8) -> Result<Moved, StepFault>
-        ensures { Answers self.old (Event.Route node port vc) result self.new }
+        ensures { Replies self.old (Event.Route node port vc) result self.new }
     {
         if !self.fabric.has_place(node, port, vc) {
             return Err(StepFault::NoSuchPlace);
@@ -241,7 +244,7 @@ impl Region {
     }
 
     fn grant(&mut self, node: u8, port: u8, vc: u8, out_vc: u8) -> Result<Moved, StepFault>
-        ensures { Answers self.old (Event.Grant node port vc out_vc) result self.new }
+        ensures { Replies self.old (Event.Grant node port vc out_vc) result self.new }
     {
         if !self.fabric.has_grant(node, port, vc, out_vc) {
             return Err(StepFault::NoSuchPlace);
@@ -251,7 +254,7 @@ impl Region {
 
     fn send(&mut self, node: u8, port: u8, vc: u8) -> Result<Moved, StepFault>
         requires { self.old.own ≡ sole }
-        ensures { Answers self.old (Event.Send node port vc) result self.new }
+        ensures { Replies self.old (Event.Send node port vc) result self.new }
     {
         if !self.fabric.has_place(node, port, vc) {
             return Err(StepFault::NoSuchPlace);
@@ -260,16 +263,16 @@ impl Region {
     }
 
     /// The same where the place is there. What leaves over a link stays among the nodes that are owned.
-    pub(crate) fn send_there(&mut self, node: u8, port: u8, vc: u8) -> Result<Moved, StepFault>
+    pub fn send_there(&mut self, node: u8, port: u8, vc: u8) -> Result<Moved, StepFault>
         requires there { IsThere (shape self.old) (Event.Send node port vc) }
         requires within { IfSome (leaving (router_at self.old node) port vc) (λ out. EndsWithin (shape self.old) (owned self.old) node out.0) }
-        ensures { Answers self.old (Event.Send node port vc) result self.new }
+        ensures { Replies self.old (Event.Send node port vc) result self.new }
     {
         self.fabric.send(node, port, vc)
     }
 
     pub(crate) fn take(&mut self, node: u8, port: u8) -> Result<Moved, StepFault>
-        ensures { Answers self.old (Event.Take node port) result self.new }
+        ensures { Replies self.old (Event.Take node port) result self.new }
     {
         let Some(number) = self.fabric.link_into(node, port) else {
             return Err(StepFault::NoSuchPlace);
@@ -279,7 +282,7 @@ impl Region {
 
     fn give(&mut self, node: u8, port: u8, vc: u8) -> Result<Moved, StepFault>
         requires { self.old.own ≡ sole }
-        ensures { Answers self.old (Event.GiveCredit node port vc) result self.new }
+        ensures { Replies self.old (Event.GiveCredit node port vc) result self.new }
     {
         if !self.fabric.has_line(node, port, vc) {
             return Err(StepFault::NoSuchPlace);
@@ -291,11 +294,11 @@ impl Region {
     }
 
     /// The same where the node and the channel are there, and the channel of the port owes a credit.
-    pub(crate) fn give_owed(&mut self, node: u8, port: u8, vc: u8) -> Result<Moved, StepFault>
+    pub fn give_owed(&mut self, node: u8, port: u8, vc: u8) -> Result<Moved, StepFault>
         requires channel { vc < sum self.old.channels }
         requires owed { 0 < (input_at (router_at self.old node) port vc).owed }
         requires within { EndsWithin (shape self.old) (owned self.old) node port }
-        ensures { Answers self.old (Event.GiveCredit node port vc) result self.new }
+        ensures { Replies self.old (Event.GiveCredit node port vc) result self.new }
     {
         let Some(links) = self.fabric.links_at(node, port) else {
             return Err(StepFault::NoSuchPlace);
@@ -305,7 +308,7 @@ impl Region {
     }
 
     pub(crate) fn get(&mut self, node: u8, port: u8) -> Result<Moved, StepFault>
-        ensures { Answers self.old (Event.TakeCredit node port) result self.new }
+        ensures { Replies self.old (Event.TakeCredit node port) result self.new }
     {
         let Some(number) = self.fabric.link_out(node, port) else {
             return Err(StepFault::NoSuchPlace);
@@ -316,7 +319,7 @@ impl Region {
     /// One step of a whole network.
     pub(crate) fn step(&mut self, step: &Step) -> Result<Moved, StepFault>
         requires { self.old.own ≡ sole }
-        ensures { Answers self.old (event_of step.now) result self.new }
+        ensures { Replies self.old (event_of step.now) result self.new }
     {
         match step {
             Step::Offer { node, packet } => self.offer(*node, packet),

@@ -3,7 +3,7 @@
 ghost use Rattle.std.specs.Prelude.{ℕ, List, [], ◌≡◌, ◌<◌, ◌≤◌, ◌*◌, None, Some, true, false, length, sum};
 ghost use Rattle.std.specs.Result.{result_err};
 ghost use Rattle.worm_mesh.specs.Address.{node_count};
-ghost use Rattle.worm_core.specs.RegionAnswers.{Answers};
+ghost use Rattle.worm_core.specs.Replies.{Attempts, Replies};
 ghost use Rattle.worm_core.specs.Script.{begun_at, is_marked};
 ghost use Rattle.worm_core.specs.Owned.{sole};
 ghost use Rattle.worm_core.specs.Workable.{IsWorkable};
@@ -12,8 +12,7 @@ ghost use Rattle.worm_router.specs.Router.{input_at, width};
 ghost use Rattle.worm_core.specs.State.{router_at};
 ghost use Rattle.worm_theory.specs.Steps.{Route};
 ghost use Rattle.worm_core.specs.Moves.{OwesTheSame, RoutesTheSame};
-ghost use Rattle.worm_core.specs.RegionTurns.{AsksSource, FeedsClasses, GivesCredit, GivesCredits, NodePasses, NodeTurn, RoutesChannels, SendsGranted, TakesCredits, TakesFlits, Tries, Turn};
-ghost use Rattle.worm_core.specs.Turns.{Does, ask, fault_of, lowest_owed};
+ghost use Rattle.worm_core.specs.Turns.{Does, ForEach, ReachesAt, all_nodes, ask, fault_of, lowest_owed, AsksSourceBy, ComesInBy, FeedsClassesBy, GivesCreditBy, GivesCreditsBy, NodePassesBy, NodeTurnBy, RoutesChannelsBy, SendsGrantedBy, TakesCreditsBy, TakesFlitsBy};
 
 use crate::region::Region;
 use crate::{Act, Entry, Moved, StepFault};
@@ -56,7 +55,7 @@ fn asks(sources: &Option<[bool; 256]>, node: u8) -> bool
 impl Region {
     /// Asks the node's source what an entry asks of it.
     fn ask(&mut self, node: u8, act: &Act) -> Result<Moved, StepFault>
-        ensures { Answers self.old (ask node act.now) result self.new }
+        ensures { Replies self.old (ask node act.now) result self.new }
     {
         match act {
             Act::Offer(packet) => self.offer(node, packet),
@@ -65,8 +64,9 @@ impl Region {
     }
 
     /// Asks the node's source what these entries ask of it, up to the first refusal.
-    fn ask_source(&mut self, node: u8, entries: &[Entry]) -> Result<(), StepFault>
-        ensures { Does (AsksSource entries.now node) self.old (result_err result) self.new }
+    pub fn ask_source(&mut self, node: u8, entries: &[Entry]) -> Result<(), StepFault>
+        ensures does { Does (AsksSourceBy Attempts entries.now node) self.old (result_err result) self.new }
+        ensures at_node { ReachesAt node self.old self.new }
     {
         for entry in entries {
             if entry.act.lane().src == node {
@@ -79,7 +79,7 @@ impl Region {
     /// Takes a credit from each link out of the node, ports rising.
     fn take_credits(&mut self, node: u8)
         requires { node < node_count self.old.mesh }
-        ensures { Does (TakesCredits node) self.old None self.new }
+        ensures { Does (TakesCreditsBy Attempts node) self.old None self.new }
     {
         let mut from = 0;
         while let Some(port) = self.next_credit(node, from) {
@@ -91,7 +91,7 @@ impl Region {
     /// Takes a flit from each link into the node, ports rising.
     fn take_flits(&mut self, node: u8)
         requires { node < node_count self.old.mesh }
-        ensures { Does (TakesFlits node) self.old None self.new }
+        ensures { Does (TakesFlitsBy Attempts node) self.old None self.new }
     {
         let mut from = 0;
         while let Some(port) = self.next_flit(node, from) {
@@ -103,7 +103,7 @@ impl Region {
     /// Feeds a flit of each class, rising.
     fn feed_classes(&mut self, node: u8)
         requires { node < node_count self.old.mesh }
-        ensures { Does (FeedsClasses node) self.old None self.new }
+        ensures { Does (FeedsClassesBy Attempts node) self.old None self.new }
     {
         let mut from = 0;
         while let Some(class) = self.next_class(node, from) {
@@ -114,19 +114,19 @@ impl Region {
 
     /// Routes a channel, which changes what no other has to route.
     fn route_channel(&mut self, node: u8, port: u8, vc: u8)
-        ensures routed { Does (Tries (Route node port vc)) self.old None self.new }
+        ensures routed { Does (Attempts (Route node port vc)) self.old None self.new }
         ensures others { (p v : ℕ) → ((p ≡ port) → (v ≡ vc) → ⊥) → v < width (router_at self.new node) → RoutesTheSame self.old self.new node p v }
         ensures sound { IsWorkable self.new }
     {
-        self.is_sound();
+        self.is_workable();
         let _moved = self.route(node, port, vc);
-        self.is_sound();
+        self.is_workable();
     }
 
     /// Routes each channel that lacks a route, by rising port, then channel.
     fn route_channels(&mut self, node: u8)
         requires { node < node_count self.old.mesh }
-        ensures { Does (RoutesChannels node) self.old None self.new }
+        ensures { Does (RoutesChannelsBy Attempts node) self.old None self.new }
     {
         let mut unrouted = self.unrouted(node);
         while let Some((port, vc)) = unrouted.pop_first() {
@@ -138,12 +138,12 @@ impl Region {
     fn send_granted(&mut self, node: u8) -> Result<(), StepFault>
         requires node { node < node_count self.old.mesh }
         requires whole { self.old.own ≡ sole }
-        ensures { Does (SendsGranted node) self.old (result_err result) self.new }
+        ensures { Does (SendsGrantedBy Attempts node) self.old (result_err result) self.new }
     {
         if self.sends_nothing(node) {
             return Ok(());
         }
-        self.is_sound();
+        self.is_workable();
         let mut granted = self.choose(node);
         while let Some((port, vc)) = granted.pop_first() {
             tried(self.send_there(node, port, vc))?;
@@ -156,20 +156,20 @@ impl Region {
         requires channel { vc < sum self.old.channels }
         requires owed { 0 < (input_at (router_at self.old node) port vc).owed }
         requires whole { self.old.own ≡ sole }
-        ensures given { Some vc ≡ lowest_owed (router_at self.old node) port → Does (GivesCredit node port) self.old None self.new }
+        ensures given { Some vc ≡ lowest_owed (router_at self.old node) port → Does (GivesCreditBy Attempts node port) self.old None self.new }
         ensures others { (p : ℕ) (v : ℕ) → (p ≡ port → ⊥) → v < width (router_at self.new node) → OwesTheSame self.old self.new node p v }
         ensures sound { IsWorkable self.new }
     {
-        self.is_sound();
+        self.is_workable();
         let _moved = self.give_owed(node, port, vc);
-        self.is_sound();
+        self.is_workable();
     }
 
     /// Gives a credit of the lowest channel that owes one to each link into the node, ports rising.
     fn give_credits(&mut self, node: u8)
         requires node { node < node_count self.old.mesh }
         requires whole { self.old.own ≡ sole }
-        ensures { Does (GivesCredits node) self.old None self.new }
+        ensures { Does (GivesCreditsBy Attempts node) self.old None self.new }
     {
         let terminal = self.terminal();
         let mut owing = self.owing(node);
@@ -187,19 +187,28 @@ impl Region {
         }
     }
 
-    /// What a node does in a turn once its source was asked.
-    fn node_passes(&mut self, node: u8) -> Result<(), StepFault>
-        requires node { node < node_count self.old.mesh }
-        requires whole { self.old.own ≡ sole }
-        ensures { Does (NodePasses node) self.old (result_err result) self.new }
+    /// Takes what comes in at the node, credits and then flits, feeds a flit of each class, and routes each channel that lacks a route.
+    pub fn come_in(&mut self, node: u8)
+        requires { node < node_count self.old.mesh }
+        ensures does { Does (ComesInBy Attempts node) self.old None self.new }
+        ensures at_node { ReachesAt node self.old self.new }
     {
-        if self.rests(node) {
-            return Ok(());
-        }
         self.take_credits(node);
         self.take_flits(node);
         self.feed_classes(node);
         self.route_channels(node);
+    }
+
+    /// What a node does in a turn once its source was asked.
+    fn node_passes(&mut self, node: u8) -> Result<(), StepFault>
+        requires node { node < node_count self.old.mesh }
+        requires whole { self.old.own ≡ sole }
+        ensures { Does (NodePassesBy Attempts node) self.old (result_err result) self.new }
+    {
+        if self.rests(node) {
+            return Ok(());
+        }
+        self.come_in(node);
         self.allocate(node);
         self.send_granted(node)?;
         self.give_credits(node);
@@ -211,7 +220,7 @@ impl Region {
         requires node { node < node_count self.old.mesh }
         requires asked { is_asked ≡ false → begun_at node entries.now ≡ [] }
         requires whole { self.old.own ≡ sole }
-        ensures { Does (NodeTurn entries.now node) self.old (result_err result) self.new }
+        ensures { Does (NodeTurnBy Attempts entries.now node) self.old (result_err result) self.new }
     {
         if is_asked {
             self.ask_source(node, entries)?;
@@ -222,7 +231,7 @@ impl Region {
     /// The turns of all nodes with these entries, in rising number.
     pub(crate) fn all_turns(&mut self, entries: &[Entry]) -> Result<(), StepFault>
         requires { self.old.own ≡ sole }
-        ensures { Does (Turn entries.now) self.old (result_err result) self.new }
+        ensures { Does (ForEach all_nodes (NodeTurnBy Attempts entries.now)) self.old (result_err result) self.new }
     {
         let sources = sources_of(entries);
         for node in 0..self.nodes() {

@@ -1,17 +1,17 @@
 //! What is read of a fabric along a route: its next link, the channels of a class, and what a link holds.
 
-ghost use Rattle.std.specs.Prelude.{◌≡◌, ◌≢◌, ◌+◌, ◌<◌, ◌≤◌, IsSome, MatchOption, length, sum, slice_index};
+ghost use Rattle.std.specs.Prelude.{[], false, ◌↔◌, ◌≡◌, ◌≢◌, ◌+◌, ◌<◌, ◌≤◌, IsSome, MatchOption, length, sum, slice_index};
 ghost use Rattle.worm_flit.specs.Channels.{first_channel};
 ghost use Rattle.worm_mesh.specs.Address.{node_count, neighbour_of};
 ghost use Rattle.worm_mesh.specs.Links.{link_count};
 ghost use Rattle.worm_core.specs.LaneView.{IsNextLink};
 ghost use Rattle.worm_core.specs.State.{link_at};
-ghost use Rattle.worm_core.specs.Moves.{link_out};
+ghost use Rattle.worm_core.specs.Moves.{link_into, link_out};
 
 use super::Fabric;
-use crate::LinkState;
+use crate::{LinkState, Own};
 use std::ops::Range;
-use worm_mesh::LinkEnds;
+use worm_mesh::{LinkEnds, Mesh};
 use worm_route::next_port;
 
 impl Fabric {
@@ -66,5 +66,48 @@ impl Fabric {
         ensures { result.now ≡ link_at self.now number }
     {
         self.links.link(number)
+    }
+
+    /// The mesh.
+    pub fn mesh(&self) -> &Mesh
+        ensures { result.now ≡ self.now.mesh }
+    {
+        self.links.wiring().mesh()
+    }
+
+    /// How many flits each buffer holds.
+    pub fn depth(&self) -> u8
+        ensures { result ≡ self.now.depth }
+    {
+        self.depth
+    }
+
+    /// Which nodes are owned.
+    pub fn own(&self) -> Own
+        ensures { result ≡ self.now.own }
+    {
+        self.own
+    }
+
+    /// Whether a flit is on the link out of this port.
+    pub fn has_flits(&self, node: u8, port: u8) -> bool
+        requires links { length self.now.links ≡ link_count self.now.mesh }
+        requires linked { IsSome (neighbour_of self.now.mesh node port) }
+        ensures { (result ≡ false) ↔ ((link_at self.now (link_out self.now node port)).flits ≡ []) }
+    {
+        self.link_from(node, port).front().is_some()
+    }
+
+    /// Whether a credit is on its way back over the link into this port.
+    pub fn has_credits(&self, node: u8, port: u8) -> bool
+        requires links { length self.now.links ≡ link_count self.now.mesh }
+        requires node { node < node_count self.now.mesh }
+        requires linked { IsSome (neighbour_of self.now.mesh node port) }
+        ensures { (result ≡ false) ↔ ((link_at self.now (link_into self.now node port)).credits ≡ []) }
+    {
+        let Some(number) = self.link_into(node, port) else {
+            unreachable!()
+        };
+        self.links.link(number).front_credit().is_some()
     }
 }

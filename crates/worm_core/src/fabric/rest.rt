@@ -8,7 +8,9 @@ ghost use Rattle.worm_core.specs.Moves.{can_enter, front_credit, front_into};
 ghost use Rattle.worm_core.specs.State.{router_at, source_at};
 ghost use Rattle.worm_core.specs.Workable.{IsWorkable};
 ghost use Rattle.worm_core.specs.Still.{IsStill, nth_node};
-ghost use Rattle.worm_core.specs.RegionTurns.{NodePasses};
+ghost use Rattle.worm_core.specs.Replies.{Attempts};
+ghost use Rattle.worm_core.specs.Turns.{ComesInBy, NodePassesBy};
+ghost use Rattle.worm_router.specs.Rest.{IsAtRest};
 
 use super::Fabric;
 
@@ -68,7 +70,9 @@ impl Fabric {
     pub fn rests(&mut self, node: u8) -> bool
         requires sound { IsWorkable self.old }
         requires node { node < node_count self.old.mesh }
-        ensures passes { IsTrue result → NodePasses node self.old None self.old }
+        ensures comes { IsTrue result → ComesInBy Attempts node self.old None self.old }
+        ensures rest { IsTrue result → IsAtRest (router_at self.old node) }
+        ensures passes { IsTrue result → NodePassesBy Attempts node self.old None self.old }
         ensures same { self.new ≡ self.old }
     {
         if !self.are_links_still(node) {

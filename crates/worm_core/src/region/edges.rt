@@ -1,7 +1,7 @@
 //! What comes into a part of a network and goes out of it, over the links that it shares with other workers
 //! (Dally and Towles, chapter 13).
 
-ghost use Rattle.std.specs.Prelude.{◌≡◌, ◌<◌, false, IsSome, Some, length, sum};
+ghost use Rattle.std.specs.Prelude.{◌≡◌, ◌<◌, ◌↔◌, [], false, IsSome, Some, sum};
 ghost use Rattle.worm_theory.specs.Steps.{IsThere, Step as Event};
 ghost use Rattle.worm_core.specs.Edges.{Arrives, ComesBack, LetsGive, LetsOut};
 ghost use Rattle.worm_core.specs.Moves.{link_into, link_out};
@@ -42,11 +42,28 @@ impl Region {
         self.fabric.gave(node, port, vc);
     }
 
-    /// The flit comes onto the link out of this port of another worker's node.
+    /// Whether a flit is on the link out of this port. One that comes from another worker's node is taken off its queue where none is.
+    pub fn has_flits(&self, node: u8, port: u8) -> bool
+        requires { IsSome (neighbour_of self.now.mesh node port) }
+        ensures { (result ≡ false) ↔ ((link_at self.now (link_out self.now node port)).flits ≡ []) }
+    {
+        self.fabric.has_flits(node, port)
+    }
+
+    /// Whether a credit is on its way back over the link into this port.
+    pub fn has_credits(&self, node: u8, port: u8) -> bool
+        requires node { node < node_count self.now.mesh }
+        requires linked { IsSome (neighbour_of self.now.mesh node port) }
+        ensures { (result ≡ false) ↔ ((link_at self.now (link_into self.now node port)).credits ≡ []) }
+    {
+        self.fabric.has_credits(node, port)
+    }
+
+    /// The flit comes onto the link out of this port of another worker's node, on which there is none.
     pub fn arrive(&mut self, node: u8, port: u8, flit: Flit)
         requires elsewhere { owned self.old node ≡ false }
         requires linked { IsSome (neighbour_of self.old.mesh node port) }
-        requires room { length (link_at self.old (link_out self.old node port)).flits < (link_at self.old (link_out self.old node port)).room }
+        requires empty { (link_at self.old (link_out self.old node port)).flits ≡ [] }
         requires channel { flit.vc < sum self.old.channels }
         requires goal { flit.lane.dst < node_count self.old.mesh }
         ensures { Arrives self.old node port flit self.new }
@@ -54,12 +71,13 @@ impl Region {
         self.fabric.arrive(node, port, flit);
     }
 
-    /// The credit of the channel, which this port of another worker's node gave, comes onto its way back over the link into the port.
+    /// The credit of the channel, which this port of another worker's node gave, comes onto its way back over the link into the port,
+    /// on which there is none.
     pub fn arrive_credit(&mut self, node: u8, port: u8, vc: u8)
         requires elsewhere { owned self.old node ≡ false }
         requires node { node < node_count self.old.mesh }
         requires linked { IsSome (neighbour_of self.old.mesh node port) }
-        requires room { length (link_at self.old (link_into self.old node port)).credits < (link_at self.old (link_into self.old node port)).room }
+        requires empty { (link_at self.old (link_into self.old node port)).credits ≡ [] }
         requires channel { vc < sum self.old.channels }
         ensures { ComesBack self.old node port vc self.new }
     {

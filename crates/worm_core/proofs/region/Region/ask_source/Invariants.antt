@@ -2,10 +2,10 @@ use Rattle.std.proofs.Common.{◌==◌, None, map, take}
 use Rattle.std.specs.Prelude.{filter}
 use Rattle.worm_core.specs.declared.script.Entry.{Entry}
 use Rattle.worm_core.specs.Script.{lane_of}
-use Rattle.worm_core.specs.RegionTurns.{Tries}
+use Rattle.worm_core.specs.Replies.{Attempts}
 use Rattle.worm_core.specs.Turns.{Does, Each, ask}
 use Rattle.worm_core.proofs.region.Region.ask_source.Given as goal
 
 abbrev pub invariant-loop-entry : goal.invariant-loop-entry
 invariant-loop-entry l =
-    Does (Each Tries (map (λ (e : Entry). ask l.node e.act) (filter (λ (e : Entry). (lane_of e.act).src == l.node) (take l.entry-index l.entries)))) l.initial.self None l.self
+    Does (Each Attempts (map (λ (e : Entry). ask l.node e.act) (filter (λ (e : Entry). (lane_of e.act).src == l.node) (take l.entry-index l.entries)))) l.initial.self None l.self

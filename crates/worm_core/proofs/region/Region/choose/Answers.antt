@@ -3,7 +3,7 @@ use Rattle.worm_swalloc.specs.declared.grant.SwGrant.{SwGrant}
 use Rattle.worm_router.specs.Allocation.{switch_grants}
 use Rattle.worm_theory.specs.Steps.{IsThere, Send}
 use Rattle.worm_core.specs.State.{NetState, router_at, shape}
-use Rattle.worm_core.specs.Turns.{Reaches}
+use Rattle.worm_core.specs.Turns.{ReachesAt}
 use Rattle.worm_core.proofs.Allocating.{chosen_in, ready_there}
 use Rattle.worm_core.proofs.region.Region.choose.Goals as goal
 
@@ -12,7 +12,7 @@ invariant_of-self c = rw c.choose.ensures.after (chosen_in c.self.inside.fabric 
 
 pub returns-clause-reaches : goal.returns-clause-reaches
 returns-clause-reaches c =
-    subst (λ (s : NetState). Reaches s c.choose.new.self) c.self.view_is
+    subst (λ (s : NetState). ReachesAt c.args.node s c.choose.new.self) c.self.view_is
     (rw c.choose.ensures.after (chosen_in c.self.inside.fabric c.args.node c.self.invariant (rw (c.self.view_is) c.requires)).1)
 
 pub returns-clause-there : goal.returns-clause-there

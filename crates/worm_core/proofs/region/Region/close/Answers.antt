@@ -2,7 +2,7 @@ use Rattle.std.proofs.Common.{refl, subst}
 use Rattle.worm_theory.specs.Steps.{CloseLane, IsThere}
 use Rattle.worm_core.specs.Shape.{net_shape}
 use Rattle.worm_core.specs.State.{NetState, shape}
-use Rattle.worm_core.specs.RegionAnswers.{Answers}
+use Rattle.worm_core.specs.Replies.{Replies}
 use Rattle.worm_core.specs.Answers.{accepted_of}
 use Rattle.worm_core.proofs.OfferStep.{close_answers}
 use Rattle.worm_core.proofs.Reaching.{still_workable}
@@ -28,5 +28,5 @@ pub returns : goal.returns
 unfolding net_shape
 returns c =
     let a = (close_answers c.self.inside.fabric c.args.node c.self.invariant c.args.lane (c.has_node.ensures.0 c.if-not-has_node.false) c.close.result c.close.new.self c.close.ensures.ok c.close.ensures.fault c.close.ensures.err).1 in
-    let answer : Answers c.self.inside.fabric (CloseLane c.args.node c.args.lane) c.accepted.result c.close.new.self = rw c.accepted.ensures a in
-    subst (λ (s : NetState). Answers s (CloseLane c.args.node c.args.lane) c.accepted.result c.close.new.self) c.self.view_is answer
+    let answer : Replies c.self.inside.fabric (CloseLane c.args.node c.args.lane) c.accepted.result c.close.new.self = rw c.accepted.ensures a in
+    subst (λ (s : NetState). Replies s (CloseLane c.args.node c.args.lane) c.accepted.result c.close.new.self) c.self.view_is answer

@@ -1,13 +1,13 @@
 use Rattle.std.proofs.Common.{◌-◌, ◌≤◌, None, length}
 use Rattle.std.specs.List.{range_with_len}
 use Rattle.worm_theory.specs.Steps.{Feed}
-use Rattle.worm_core.specs.RegionTurns.{Tries}
+use Rattle.worm_core.specs.Replies.{Attempts}
 use Rattle.worm_core.specs.Turns.{Does, Each}
 use Rattle.worm_core.proofs.region.Region.feed_classes.Given as goal
 
 abbrev pub invariant-loop-class : goal.invariant-loop-class
 invariant-loop-class l = record {
-  passed : Does (Each (λ i. Tries (Feed l.node i)) (range_with_len 0 l.from)) l.initial.self None l.self;
+  passed : Does (Each (λ i. Attempts (Feed l.node i)) (range_with_len 0 l.from)) l.initial.self None l.self;
   class : l.from ≤ length l.self.channels;
   few : l.from ≤ 4;
 }

@@ -2,7 +2,7 @@ use Rattle.std.proofs.Common.{Ok, subst}
 use Rattle.worm_theory.specs.Steps.{Feed, IsThere}
 use Rattle.worm_core.specs.Shape.{net_shape}
 use Rattle.worm_core.specs.State.{NetState, shape}
-use Rattle.worm_core.specs.RegionAnswers.{Answers}
+use Rattle.worm_core.specs.Replies.{Replies}
 use Rattle.worm_core.specs.Answers.{moved_of}
 use Rattle.worm_core.proofs.FeedStep.{feed_answers, feed_fits}
 use Rattle.worm_core.proofs.Reaching.{still_workable}
@@ -26,5 +26,5 @@ pub returns : goal.returns
 unfolding net_shape
 returns c =
     let a = (feed_answers c.self.inside.fabric c.args.node c.args.class c.self.invariant (rw c.self.view_is (c.requires.node, c.requires.class)) c.feed.result c.feed.ensures.enabled).1 in
-    let moved : Answers c.self.inside.fabric (Feed c.args.node c.args.class) (Ok (moved_of c.feed.result)) c.feed.new.self = rw c.feed.ensures.after a in
-    subst (λ (s : NetState). Answers s (Feed c.args.node c.args.class) (Ok (moved_of c.feed.result)) c.feed.new.self) c.self.view_is moved
+    let moved : Replies c.self.inside.fabric (Feed c.args.node c.args.class) (Ok (moved_of c.feed.result)) c.feed.new.self = rw c.feed.ensures.after a in
+    subst (λ (s : NetState). Replies s (Feed c.args.node c.args.class) (Ok (moved_of c.feed.result)) c.feed.new.self) c.self.view_is moved

@@ -2,7 +2,7 @@ use Rattle.std.proofs.Common.{Ok, refl, subst}
 use Rattle.worm_theory.specs.Steps.{TakeCredit, IsThere}
 use Rattle.worm_core.specs.Shape.{net_shape}
 use Rattle.worm_core.specs.State.{NetState, shape}
-use Rattle.worm_core.specs.RegionAnswers.{Answers}
+use Rattle.worm_core.specs.Replies.{Replies}
 use Rattle.worm_core.specs.Answers.{moved_of}
 use Rattle.worm_core.proofs.GetStep.{get_answers, credit_fits}
 use Rattle.worm_core.proofs.There.{not_found}
@@ -34,5 +34,5 @@ pub returns : goal.returns
 unfolding net_shape
 returns c =
     let a = (get_answers c.self.inside.fabric c.args.node c.args.port c.self.invariant (c.in-Some.ensures.there.0 refl) c.get.result c.get.ensures.enabled).1 in
-    let moved : Answers c.self.inside.fabric (TakeCredit c.args.node c.args.port) (Ok c.moved.result) c.get.new.self = rw (c.moved.ensures, c.get.ensures.after) a in
-    subst (λ (s : NetState). Answers s (TakeCredit c.args.node c.args.port) (Ok c.moved.result) c.get.new.self) c.self.view_is moved
+    let moved : Replies c.self.inside.fabric (TakeCredit c.args.node c.args.port) (Ok c.moved.result) c.get.new.self = rw (c.moved.ensures, c.get.ensures.after) a in
+    subst (λ (s : NetState). Replies s (TakeCredit c.args.node c.args.port) (Ok c.moved.result) c.get.new.self) c.self.view_is moved

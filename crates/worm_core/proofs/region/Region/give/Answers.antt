@@ -3,7 +3,7 @@ use Rattle.worm_theory.specs.Steps.{GiveCredit, IsThere}
 use Rattle.worm_router.specs.Router.{input_at}
 use Rattle.worm_core.specs.Shape.{net_shape}
 use Rattle.worm_core.specs.State.{NetState, router_at, shape}
-use Rattle.worm_core.specs.RegionAnswers.{Answers}
+use Rattle.worm_core.specs.Replies.{Replies}
 use Rattle.worm_core.specs.Answers.{moved_of}
 use Rattle.worm_core.proofs.GiveStep.{gave_none}
 use Rattle.worm_core.proofs.Turning.{owing_some}
@@ -21,7 +21,7 @@ returns-then-not-has_line c = (
 pub returns-then-not-owes : goal.returns-then-not-owes
 unfolding net_shape
 returns-then-not-owes c =
-    subst (λ (s : NetState). Answers s (GiveCredit c.args.node c.args.port c.args.vc) (Ok (moved_of false)) s) c.self.view_is
+    subst (λ (s : NetState). Replies s (GiveCredit c.args.node c.args.port c.args.vc) (Ok (moved_of false)) s) c.self.view_is
     (gave_none c.self.inside.fabric c.args.node c.args.port c.args.vc c.self.invariant (c.has_line.ensures.0 c.if-not-has_line.false) (sym c.owes.ensures ∙ c.if-not-owes.true))
 
 pub give_owed-requires-clause-owed : goal.give_owed-requires-clause-owed

@@ -38,4 +38,4 @@ pub loop-port-preserved : goal.loop-port-preserved
 loop-port-preserved c = gave_same c.args.node c.args.self.now c.loop-port.self c.loop-port.owing c.pop_first.new.self c.loop-port.from c.in-Some.port c.in-Some.vc c.loop-port.invariant c.in-Some.ensures c.if-from-port.false
 
 pub give_credit-requires-clause-whole : goal.give_credit-requires-clause-whole
-give_credit-requires-clause-whole c = whole_after c.args.self.now c.loop-port.self c.loop-port.invariant.passed.reaches c.requires.whole
+give_credit-requires-clause-whole c = whole_after c.args.self.now c.loop-port.self c.loop-port.invariant.passed.reaches.config c.requires.whole

@@ -3,7 +3,7 @@ use Rattle.worm_theory.specs.Steps.{GiveCredit, IsThere}
 use Rattle.worm_router.specs.Router.{input_at}
 use Rattle.worm_core.specs.Shape.{net_shape}
 use Rattle.worm_core.specs.State.{NetState, router_at, shape}
-use Rattle.worm_core.specs.RegionAnswers.{Answers}
+use Rattle.worm_core.specs.Replies.{Replies}
 use Rattle.worm_core.specs.Answers.{moved_of}
 use Rattle.worm_core.specs.Workable.{EndsWithin, owned}
 use Rattle.worm_core.proofs.GiveStep.{gave_owed, give_room}
@@ -46,5 +46,5 @@ pub returns : goal.returns
 unfolding net_shape
 returns c =
     let a = (gave_owed c.self.inside.fabric c.args.node c.args.port c.args.vc c.self.invariant (let found = c.in-Some.ensures.there.0 refl in (found.0, found.1, rw c.self.view_is c.requires.channel)) (subst (λ (s : NetState). 0 < (input_at (router_at s c.args.node) c.args.port c.args.vc).owed) (sym c.self.view_is) c.requires.owed)).1 in
-    let given : Answers c.self.inside.fabric (GiveCredit c.args.node c.args.port c.args.vc) (Ok (moved_of true)) c.give.new.self = rw c.give.ensures a in
-    subst (λ (s : NetState). Answers s (GiveCredit c.args.node c.args.port c.args.vc) (Ok (moved_of true)) c.give.new.self) c.self.view_is given
+    let given : Replies c.self.inside.fabric (GiveCredit c.args.node c.args.port c.args.vc) (Ok (moved_of true)) c.give.new.self = rw c.give.ensures a in
+    subst (λ (s : NetState). Replies s (GiveCredit c.args.node c.args.port c.args.vc) (Ok (moved_of true)) c.give.new.self) c.self.view_is given

@@ -3,7 +3,7 @@ use Rattle.worm_router.specs.Router.{can_grant}
 use Rattle.worm_theory.specs.Steps.{Grant, IsThere}
 use Rattle.worm_core.specs.Shape.{net_shape}
 use Rattle.worm_core.specs.State.{NetState, router_at, shape}
-use Rattle.worm_core.specs.RegionAnswers.{Answers}
+use Rattle.worm_core.specs.Replies.{Replies}
 use Rattle.worm_core.specs.Answers.{moved_of}
 use Rattle.worm_core.proofs.GrantStep.{grant_answers}
 use Rattle.worm_core.proofs.Reaching.{still_workable}
@@ -30,5 +30,5 @@ pub returns : goal.returns
 unfolding net_shape
 returns c =
     let a = (grant_answers c.self.inside.fabric c.args.node c.args.port c.args.vc c.args.out_vc c.self.invariant (c.has_grant.ensures.0 c.if-not-has_grant.false)).1 in
-    let moved : Answers c.self.inside.fabric (Grant c.args.node c.args.port c.args.vc c.args.out_vc) (Ok c.moved.result) c.grant.new.self = rw (c.moved.ensures, c.grant.ensures.enabled, c.grant.ensures.after) a in
-    subst (λ (s : NetState). Answers s (Grant c.args.node c.args.port c.args.vc c.args.out_vc) (Ok c.moved.result) c.grant.new.self) c.self.view_is moved
+    let moved : Replies c.self.inside.fabric (Grant c.args.node c.args.port c.args.vc c.args.out_vc) (Ok c.moved.result) c.grant.new.self = rw (c.moved.ensures, c.grant.ensures.enabled, c.grant.ensures.after) a in
+    subst (λ (s : NetState). Replies s (Grant c.args.node c.args.port c.args.vc c.args.out_vc) (Ok c.moved.result) c.grant.new.self) c.self.view_is moved

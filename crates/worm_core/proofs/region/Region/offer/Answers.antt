@@ -2,7 +2,7 @@ use Rattle.std.proofs.Common.{refl, subst}
 use Rattle.worm_theory.specs.Steps.{Offer, IsThere}
 use Rattle.worm_core.specs.Shape.{net_shape}
 use Rattle.worm_core.specs.State.{NetState, shape}
-use Rattle.worm_core.specs.RegionAnswers.{Answers}
+use Rattle.worm_core.specs.Replies.{Replies}
 use Rattle.worm_core.specs.Answers.{accepted_of}
 use Rattle.worm_core.proofs.OfferStep.{offer_answers}
 use Rattle.worm_core.proofs.Reaching.{still_workable}
@@ -29,5 +29,5 @@ pub returns : goal.returns
 unfolding net_shape
 returns c =
     let a = (offer_answers c.self.inside.fabric c.args.node c.self.invariant c.args.packet.now c.offer.ensures.some c.offer.ensures.few (c.has_node.ensures.0 c.if-not-has_node.false) c.offer.result c.offer.new.self c.offer.ensures.ok c.offer.ensures.fault c.offer.ensures.err).1 in
-    let answer : Answers c.self.inside.fabric (Offer c.args.node c.args.packet.now.lane c.args.packet.now.words) c.accepted.result c.offer.new.self = rw c.accepted.ensures a in
-    subst (λ (s : NetState). Answers s (Offer c.args.node c.args.packet.now.lane c.args.packet.now.words) c.accepted.result c.offer.new.self) c.self.view_is answer
+    let answer : Replies c.self.inside.fabric (Offer c.args.node c.args.packet.now.lane c.args.packet.now.words) c.accepted.result c.offer.new.self = rw c.accepted.ensures a in
+    subst (λ (s : NetState). Replies s (Offer c.args.node c.args.packet.now.lane c.args.packet.now.words) c.accepted.result c.offer.new.self) c.self.view_is answer

@@ -2,7 +2,7 @@ use Rattle.std.proofs.Common.{Ok, refl, subst}
 use Rattle.worm_theory.specs.Steps.{Route, IsThere}
 use Rattle.worm_core.specs.Shape.{net_shape}
 use Rattle.worm_core.specs.State.{NetState, shape}
-use Rattle.worm_core.specs.RegionAnswers.{Answers}
+use Rattle.worm_core.specs.Replies.{Replies}
 use Rattle.worm_core.specs.Answers.{moved_of}
 use Rattle.worm_core.proofs.RouteStep.{route_answers}
 use Rattle.worm_core.proofs.Reaching.{still_workable}
@@ -28,5 +28,5 @@ pub returns : goal.returns
 unfolding net_shape
 returns c =
     let a = (route_answers c.self.inside.fabric c.args.node c.args.port c.args.vc c.self.invariant (c.has_place.ensures.0 c.if-not-has_place.false) c.route.result c.route.ensures.enabled).1 in
-    let moved : Answers c.self.inside.fabric (Route c.args.node c.args.port c.args.vc) (Ok c.moved.result) c.route.new.self = rw (c.moved.ensures, c.route.ensures.after) a in
-    subst (λ (s : NetState). Answers s (Route c.args.node c.args.port c.args.vc) (Ok c.moved.result) c.route.new.self) c.self.view_is moved
+    let moved : Replies c.self.inside.fabric (Route c.args.node c.args.port c.args.vc) (Ok c.moved.result) c.route.new.self = rw (c.moved.ensures, c.route.ensures.after) a in
+    subst (λ (s : NetState). Replies s (Route c.args.node c.args.port c.args.vc) (Ok c.moved.result) c.route.new.self) c.self.view_is moved

@@ -3,7 +3,7 @@ use Rattle.std.specs.Prelude.{IfSome}
 use Rattle.worm_router.specs.Router.{leaving}
 use Rattle.worm_theory.specs.Steps.{Send, IsThere}
 use Rattle.worm_core.specs.State.{NetState, router_at, shape}
-use Rattle.worm_core.specs.RegionAnswers.{Answers}
+use Rattle.worm_core.specs.Replies.{Replies}
 use Rattle.worm_core.specs.Workable.{EndsWithin, owned}
 use Rattle.worm_core.proofs.Kept.{net_place}
 use Rattle.worm_core.proofs.Reaching.{still_workable}
@@ -40,6 +40,6 @@ invariant_of-self c =
 pub returns : goal.returns
 returns c =
     let sends = subst (λ (s : NetState). Sending s c.args.node c.args.port c.args.vc) (sym c.self.view_is) (c.requires.there, c.requires.within) in
-    subst (λ (s : NetState). Answers s (Send c.args.node c.args.port c.args.vc) c.send.result c.send.new.self) c.self.view_is
+    subst (λ (s : NetState). Replies s (Send c.args.node c.args.port c.args.vc) c.send.result c.send.new.self) c.self.view_is
     (send_answers c.self.inside.fabric c.args.node c.args.port c.args.vc c.self.invariant sends.1 sends.0
     c.send.result c.send.new.self c.send.ensures).1

@@ -2,7 +2,7 @@ use Rattle.std.proofs.Common.{Ok, refl, subst}
 use Rattle.worm_theory.specs.Steps.{Take, IsThere}
 use Rattle.worm_core.specs.Shape.{net_shape}
 use Rattle.worm_core.specs.State.{NetState, shape}
-use Rattle.worm_core.specs.RegionAnswers.{Answers}
+use Rattle.worm_core.specs.Replies.{Replies}
 use Rattle.worm_core.specs.Answers.{moved_of}
 use Rattle.worm_core.proofs.TakeStep.{take_answers, front_fits}
 use Rattle.worm_core.proofs.There.{not_found}
@@ -34,5 +34,5 @@ pub returns : goal.returns
 unfolding net_shape
 returns c =
     let a = (take_answers c.self.inside.fabric c.args.node c.args.port c.self.invariant (c.in-Some.ensures.there.0 refl) c.take.result c.take.ensures.enabled).1 in
-    let moved : Answers c.self.inside.fabric (Take c.args.node c.args.port) (Ok c.moved.result) c.take.new.self = rw (c.moved.ensures, c.take.ensures.after) a in
-    subst (λ (s : NetState). Answers s (Take c.args.node c.args.port) (Ok c.moved.result) c.take.new.self) c.self.view_is moved
+    let moved : Replies c.self.inside.fabric (Take c.args.node c.args.port) (Ok c.moved.result) c.take.new.self = rw (c.moved.ensures, c.take.ensures.after) a in
+    subst (λ (s : NetState). Replies s (Take c.args.node c.args.port) (Ok c.moved.result) c.take.new.self) c.self.view_is moved

@@ -1,6 +1,6 @@
 use Rattle.std.proofs.Common.{◌*◌, List, ℕ, None, ap, arith, length, map, refl}
 use Rattle.worm_theory.specs.Steps.{TakeCredit}
-use Rattle.worm_core.specs.RegionTurns.{Tries}
+use Rattle.worm_core.specs.Replies.{Attempts}
 use Rattle.worm_core.specs.Turns.{mesh_ports}
 use Rattle.worm_core.proofs.Passages.{loop_more, loop_on, does_quietly, does_ranged}
 use Rattle.worm_core.proofs.region.Region.take_credits.Goals as goal
@@ -9,8 +9,8 @@ pub loop-port-preserved : goal.loop-port-preserved
 loop-port-preserved c =
     let inv = c.loop-port.invariant in
     let port = c.in-Some.ensures.mesh_port in
-    let on = loop_on (λ i. Tries (TakeCredit c.args.node i)) c.loop-port.from c.in-Some.port c.args.self.now c.loop-port.self port.0 inv.passed c.in-Some.ensures.before in
-    let more = loop_more (λ i. Tries (TakeCredit c.args.node i)) c.in-Some.port c.args.self.now c.loop-port.self c.get-moved.new.self None on
+    let on = loop_on (λ i. Attempts (TakeCredit c.args.node i)) c.loop-port.from c.in-Some.port c.args.self.now c.loop-port.self port.0 inv.passed c.in-Some.ensures.before in
+    let more = loop_more (λ i. Attempts (TakeCredit c.args.node i)) c.in-Some.port c.args.self.now c.loop-port.self c.get-moved.new.self None on
     (does_quietly c.loop-port.self c.get-moved.new.self (TakeCredit c.args.node c.in-Some.port) c.get-moved.result refl (λ grows. grows) c.get-moved.ensures) in
     let before = ap (λ (m : List ℕ). length m) inv.passed.reaches.config.mesh in
     let after = ap (λ (m : List ℕ). length m) more.reaches.config.mesh in
@@ -25,5 +25,5 @@ returns c =
     let inv = c.loop-port.invariant in
     let same = ap (λ (m : List ℕ). length m) inv.passed.reaches.config.mesh in
     let none = c.in_default.ensures.none in
-    let on = loop_on (λ i. Tries (TakeCredit c.args.node i)) c.loop-port.from (2 * length c.loop-port.self.mesh) c.args.self.now c.loop-port.self inv.mesh_port inv.passed (λ p above below. none p above) in
+    let on = loop_on (λ i. Attempts (TakeCredit c.args.node i)) c.loop-port.from (2 * length c.loop-port.self.mesh) c.args.self.now c.loop-port.self inv.mesh_port inv.passed (λ p above below. none p above) in
     does_ranged (λ s. map (TakeCredit c.args.node) (mesh_ports s)) (TakeCredit c.args.node) (2 * length c.args.self.now.mesh) (2 * length c.loop-port.self.mesh) c.args.self.now c.loop-port.self refl (omega arith) on

@@ -1,13 +1,13 @@
 use Rattle.std.proofs.Common.{◌*◌, ◌-◌, ◌≤◌, None, length}
 use Rattle.std.specs.List.{range_with_len}
 use Rattle.worm_theory.specs.Steps.{Take}
-use Rattle.worm_core.specs.RegionTurns.{Tries}
+use Rattle.worm_core.specs.Replies.{Attempts}
 use Rattle.worm_core.specs.Turns.{Does, Each}
 use Rattle.worm_core.proofs.region.Region.take_flits.Given as goal
 
 abbrev pub invariant-loop-port : goal.invariant-loop-port
 invariant-loop-port l = record {
-  passed : Does (Each (λ i. Tries (Take l.node i)) (range_with_len 0 l.from)) l.initial.self None l.self;
+  passed : Does (Each (λ i. Attempts (Take l.node i)) (range_with_len 0 l.from)) l.initial.self None l.self;
   mesh_port : l.from ≤ 2 * length l.self.mesh;
   few : l.from ≤ 6;
 }
