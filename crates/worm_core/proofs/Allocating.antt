@@ -1,6 +1,6 @@
 -- A pass of an allocator leaves a network as a list of grants does; the arbiters are no part of what it stands for.
 use Rattle.std.proofs.Common.{◌≡◌, ℕ, zero, suc, ◌+◌, ◌*◌, ◌<◌, ◌≤◌, ◌==◌, cond, Bool, true, false, ◌&&◌, if◌then◌else◌, List, [], ◌∷◌, length, sum, drop, Ok, Option, Some, None, is_some, refl, arith, ap, sym, subst, ◌∙◌}
-use Rattle.std.specs.Prelude.{All, fold, IsSome, is_none, option_map}
+use Rattle.std.specs.Prelude.{All, Result, fold, IsSome, is_none, option_map}
 use Rattle.std.specs.List.{range_with_len}
 use Rattle.std.proofs.lemmas.List.{set-set}
 use Rattle.std.proofs.Math.ListN.{length-set}
@@ -28,7 +28,10 @@ use Rattle.worm_core.specs.State.{NetState, IsNetPlace, IsSameConfig, shape, net
 use Rattle.worm_core.specs.Workable.{IsWorkable, owned, IsKept, Works}
 use Rattle.worm_core.specs.Answers.{moved_of}
 use Rattle.worm_core.specs.Moves.{IsReady, chosen_router}
+use Rattle.worm_core.specs.Replies.{Replies}
 use Rattle.worm_core.specs.Turns.{ReachesAt, node_of}
+use Rattle.worm_core.specs.declared.step.Moved.{Moved}
+use Rattle.worm_core.specs.declared.fault.StepFault.{StepFault}
 use Rattle.worm_core.proofs.Bridge.{node_at-put, node_kept}
 use Rattle.worm_core.proofs.Kept.{node_framed}
 use Rattle.worm_core.proofs.There.{buffer_there}
@@ -102,11 +105,6 @@ some_if : (b : Bool) (q o : ℕ) → (if b then Some q else None) ≡ Some o →
 some_if true q o e = refl
 some_if false q o e = let no_grant : ◌≡◌ {A = Option ℕ} None (Some o) = e in absurd (cc)
 
-unchanged : (s : NetState) (x : ℕ) → IsWorkable s → x < length s.nodes → (r : RouterState) → r ≡ router_at s x → IsWorkable (with_router s x r) × ReachesAt x s (with_router s x r)
-unchanged s x net there r e =
-    let same : with_router s x r ≡ s = ap (λ (q : RouterState). with_router s x q) e ∙ with_router_same s x there in
-    (subst IsWorkable (sym same) net, subst (λ (t : NetState). ReachesAt x s t) (sym same) (none_at x s))
-
 -- what is granted is there
 granted_there : (s : NetState) (x p v k o : ℕ) → IsWorkable s → x < node_count s.mesh → IsNetPlace s x p v → (st : InRecord) (fs : List Flit)
     → (input_at (router_at s x) p v).buffer ≡ fs → granting (router_at s x) st fs k ≡ Some o → IsThere (shape s) (Grant x p v k)
@@ -157,74 +155,111 @@ there_still a b x p v config there =
     let same : shape b ≡ shape a = λ t. net_shape (config.mesh t) (config.channels t) (config.depth t) in
     subst (λ (s : Shape). IsThere s (Send x p v)) (sym same) there
 
+-- what each grant that is tried keeps, and each change that leaves all places as they are
+pub record IsKeptByGrants (x : ℕ) (K : NetState → Type 0) : Type 0 where
+  pub by_grant : (t u : NetState) (p v k : ℕ) (answer : Result Moved StepFault) → Replies t (Grant x p v k) answer u → K t → K u
+  pub by_places : (t u : NetState) → IsSameConfig t u → network_of u ≡ network_of t → K t → K u
+
 -- a grant that is tried
-grant_by : (s : NetState) (x p v k : ℕ) → IsWorkable s → IsNetPlace s x p v → x < node_count s.mesh → (o : Option ℕ) → can_grant (router_at s x) p v k ≡ o
-    → IsWorkable (with_router s x (after_grant (router_at s x) p v k)) × ReachesAt x s (with_router s x (after_grant (router_at s x) p v k))
-grant_by s x p v k net place x_in None e =
-    unchanged s x net place.node_in (after_grant (router_at s x) p v k) (ap (λ (o : Option ℕ). after_granting (router_at s x) p v k o) e)
-grant_by s x p v k net place x_in (Some o) e =
-    let there = granted_there s x p v k o net x_in place (input_at (router_at s x) p v).state (input_at (router_at s x) p v).buffer refl e in
+grant_by : (K : NetState → Type 0) (s : NetState) (x p v k : ℕ) → IsKeptByGrants x K → IsWorkable s → IsNetPlace s x p v
+    → x < node_count s.mesh → (o : Option ℕ) → can_grant (router_at s x) p v k ≡ o → K s
+    → IsWorkable (with_router s x (after_grant (router_at s x) p v k)) × K (with_router s x (after_grant (router_at s x) p v k))
+grant_by K s x p v k keeps net place x_in None e had =
+    let none : after_grant (router_at s x) p v k ≡ router_at s x = ap (λ (o : Option ℕ). after_granting (router_at s x) p v k o) e in
+    let same : s ≡ with_router s x (after_grant (router_at s x) p v k) =
+    sym (ap (λ (q : RouterState). with_router s x q) none ∙ with_router_same s x place.node_in) in
+    (subst IsWorkable same net, subst K same had)
+grant_by K s x p v k keeps net place x_in (Some o) e had =
+    let c = input_at (router_at s x) p v in
+    let there = granted_there s x p v k o net x_in place c.state c.buffer refl e in
     let answer = grant_answers s x p v k net there in
-    (answer.0, answered_at s (with_router s x (after_grant (router_at s x) p v k)) (Grant x p v k) (Ok (moved_of (is_some (can_grant (router_at s x) p v k)))) answer.1)
+    let done = Ok (moved_of (is_some (can_grant (router_at s x) p v k))) in
+    (answer.0, keeps.by_grant s (with_router s x (after_grant (router_at s x) p v k)) p v k done answer.1 had)
 
 -- a router that a list of tried grants makes of the node's router
-record Granted (s : NetState) (x : ℕ) (r : RouterState) : Type 0 where
+record Granted (K : NetState → Type 0) (s : NetState) (x : ℕ) (r : RouterState) : Type 0 where
   mesh : r.mesh ≡ s.mesh
   channels : r.channels ≡ s.channels
   net : IsWorkable (with_router s x r)
-  reaches : ReachesAt x s (with_router s x r)
+  kept : K (with_router s x r)
 
-config_after : (r : RouterState) (p v k : ℕ) (o : Option ℕ) → ((after_granting r p v k o).mesh ≡ r.mesh) × ((after_granting r p v k o).channels ≡ r.channels)
+config_after : (r : RouterState) (p v k : ℕ) (o : Option ℕ)
+    → ((after_granting r p v k o).mesh ≡ r.mesh) × ((after_granting r p v k o).channels ≡ r.channels)
 config_after r p v k None = (refl, refl)
 config_after r p v k (Some o) = (refl, refl)
 
-grant_more : (s : NetState) (x : ℕ) (r : RouterState) (p v k : ℕ) → x < length s.nodes → x < node_count s.mesh → p ≤ 2 * length s.mesh → v < sum s.channels → Granted s x r → Granted s x (after_grant r p v k)
-grant_more s x r p v k there x_in p_in v_in had =
-    let t = with_router s x r in
-    let own : router_at t x ≡ r = router_written s x r there in
-    let there_t : x < length t.nodes = rw length-set there in
-    let port_in : p ≤ terminal (router_at t x) = rw (own, had.mesh) p_in in
-    let channel_in : v < width (router_at t x) = rw (own, had.channels) v_in in
-    let done = grant_by t x p v k had.net (record { node_in = there_t; place = record { port_in = port_in; channel_in = channel_in } }) x_in (can_grant (router_at t x) p v k) refl in
-    let to : with_router t x (after_grant (router_at t x) p v k) ≡ with_router s x (after_grant r p v k) =
-    ap (λ (q : RouterState). with_router t x (after_grant q p v k)) own ∙ with_router_twice s x r (after_grant r p v k) there in
-    let config = config_after r p v k (can_grant r p v k) in
-    record {
-      mesh = config.0 ∙ had.mesh;
-      channels = config.1 ∙ had.channels;
-      net = subst IsWorkable to done.0;
-      reaches = subst (λ (n : NetState). ReachesAt x s n) to (joined_at x s t _ had.reaches done.1);
-    }
-
-written_more : (s : NetState) (x : ℕ) (r : RouterState) (p v : ℕ) (o : Option ℕ) → x < length s.nodes → x < node_count s.mesh → p ≤ 2 * length s.mesh → v < sum s.channels → Granted s x r → Granted s x (written r p v o)
-written_more s x r p v None there x_in p_in v_in had = had
-written_more s x r p v (Some k) there x_in p_in v_in had = grant_more s x r p v k there x_in p_in v_in had
-
 -- a fold over numbers keeps what each of its steps keeps
-fold_range : {A : Type 0} (P : A → Type 0) (f : A → ℕ → A) (m : ℕ) → ((a : A) (i : ℕ) → i < m → P a → P (f a i)) → (from n : ℕ) → from + n ≤ m → (a : A) → P a → P (fold f a (range_with_len from n))
+fold_range : {A : Type 0} (P : A → Type 0) (f : A → ℕ → A) (m : ℕ) → ((a : A) (i : ℕ) → i < m → P a → P (f a i))
+    → (from n : ℕ) → from + n ≤ m → (a : A) → P a → P (fold f a (range_with_len from n))
 fold_range P f m step from zero within a had = had
 fold_range P f m step from (suc n) within a had = fold_range P f m step (from + 1) n (omega arith) (f a from) (step a from (omega arith) had)
 
-port_granted : (s : NetState) (x : ℕ) (grants : List (List (Option ℕ))) (r : RouterState) (p : ℕ) → x < length s.nodes → x < node_count s.mesh → p ≤ 2 * length s.mesh → Granted s x r → Granted s x (with_port_grants grants r p)
-unfolding with_port_grants
-port_granted s x grants r p there x_in p_in had =
-    fold_range (λ q. Granted s x q) (λ q v. written q p v (cell grants p v None)) (sum s.channels)
-    (λ q v v_in before. written_more s x q p v (cell grants p v None) there x_in p_in v_in before) 0 (width r) (rw had.channels (omega arith)) r had
+module _ (K : NetState → Type 0) (s : NetState) (x : ℕ) (keeps : IsKeptByGrants x K) (there : x < length s.nodes) (x_in : x < node_count s.mesh) where
+  grant_more : (r : RouterState) (p v k : ℕ) → p ≤ 2 * length s.mesh → v < sum s.channels → Granted K s x r → Granted K s x (after_grant r p v k)
+  grant_more r p v k p_in v_in had =
+      let t = with_router s x r in
+      let own : router_at t x ≡ r = router_written s x r there in
+      let there_t : x < length t.nodes = rw length-set there in
+      let port_in : p ≤ terminal (router_at t x) = rw (own, had.mesh) p_in in
+      let channel_in : v < width (router_at t x) = rw (own, had.channels) v_in in
+      let place : IsNetPlace t x p v = record { node_in = there_t; place = record { port_in = port_in; channel_in = channel_in } } in
+      let done = grant_by K t x p v k keeps had.net place x_in (can_grant (router_at t x) p v k) refl had.kept in
+      let to : with_router t x (after_grant (router_at t x) p v k) ≡ with_router s x (after_grant r p v k) =
+      ap (λ (q : RouterState). with_router t x (after_grant q p v k)) own ∙ with_router_twice s x r (after_grant r p v k) there in
+      let config = config_after r p v k (can_grant r p v k) in
+      record {
+        mesh = config.0 ∙ had.mesh;
+        channels = config.1 ∙ had.channels;
+        net = subst IsWorkable to done.0;
+        kept = subst K to done.1;
+      }
 
-all_granted : (s : NetState) (x : ℕ) (grants : List (List (Option ℕ))) (r : RouterState) → x < length s.nodes → x < node_count s.mesh → Granted s x r → Granted s x (with_grants grants r)
-unfolding with_grants
-all_granted s x grants r there x_in had =
-    fold_range (λ q. Granted s x q) (with_port_grants grants) (2 * length s.mesh + 1)
-    (λ q p p_in before. port_granted s x grants q p there x_in (omega arith) before) 0 (terminal r + 1) (rw had.mesh (omega arith)) r had
+  written_more : (r : RouterState) (p v : ℕ) (o : Option ℕ) → p ≤ 2 * length s.mesh → v < sum s.channels → Granted K s x r → Granted K s x (written r p v o)
+  written_more r p v None p_in v_in had = had
+  written_more r p v (Some k) p_in v_in had = grant_more r p v k p_in v_in had
 
-pub allocated : (s : NetState) (x : ℕ) → IsWorkable s → x < length s.nodes → IsWorkable (with_router s x (after_allocate (router_at s x))) × ReachesAt x s (with_router s x (after_allocate (router_at s x)))
-allocated s x net there =
+  port_granted : (grants : List (List (Option ℕ))) (r : RouterState) (p : ℕ) → p ≤ 2 * length s.mesh → Granted K s x r
+      → Granted K s x (with_port_grants grants r p)
+  unfolding with_port_grants
+  port_granted grants r p p_in had =
+      fold_range (λ q. Granted K s x q) (λ q v. written q p v (cell grants p v None)) (sum s.channels)
+      (λ q v v_in before. written_more q p v (cell grants p v None) p_in v_in before) 0 (width r) (rw had.channels (omega arith)) r had
+
+  all_granted : (grants : List (List (Option ℕ))) (r : RouterState) → Granted K s x r → Granted K s x (with_grants grants r)
+  unfolding with_grants
+  all_granted grants r had =
+      fold_range (λ q. Granted K s x q) (with_port_grants grants) (2 * length s.mesh + 1)
+      (λ q p p_in before. port_granted grants q p (omega arith) before) 0 (terminal r + 1) (rw had.mesh (omega arith)) r had
+
+-- a pass of the channel allocator keeps it
+pub allocated_keeps : (K : NetState → Type 0) (s : NetState) (x : ℕ) → IsKeptByGrants x K → IsWorkable s → x < length s.nodes → K s
+    → IsWorkable (with_router s x (after_allocate (router_at s x))) × K (with_router s x (after_allocate (router_at s x)))
+allocated_keeps K s x keeps net there had =
     let node = net.framed.each_node x there in
     let all = net.framed.all_nodes in
-    let moved = arbiters_moved s x (channel_pass (router_at s x)).alloc (router_at s x).switch_alloc net there in
-    let start : Granted s x (record (router_at s x) { channel_alloc = (channel_pass (router_at s x)).alloc }) = record { mesh = node.same_mesh; channels = node.same_channels; net = moved.0; reaches = moved.1 } in
-    let end = all_granted s x (channel_pass (router_at s x)).grants (record (router_at s x) { channel_alloc = (channel_pass (router_at s x)).alloc }) there (omega arith) start in
-    (end.net, end.reaches)
+    let x_in : x < node_count s.mesh = omega arith in
+    let pass = channel_pass (router_at s x) in
+    let r : RouterState = record (router_at s x) { channel_alloc = pass.alloc } in
+    let moved = arbiters_moved s x pass.alloc (router_at s x).switch_alloc net there in
+    let same : IsSameConfig s (with_router s x r) = record { mesh = refl; channels = refl; depth = refl; names = refl; own = refl } in
+    let start : Granted K s x r = record {
+      mesh = node.same_mesh;
+      channels = node.same_channels;
+      net = moved.0;
+      kept = keeps.by_places s (with_router s x r) same (arbiters_apart s x pass.alloc (router_at s x).switch_alloc there) had;
+    } in
+    let end = all_granted K s x keeps there x_in pass.grants r start in
+    (end.net, end.kept)
+
+reaches_kept : (x : ℕ) (s : NetState) → IsKeptByGrants x (ReachesAt x s)
+reaches_kept x s = record {
+  by_grant = λ t u p v k answer replied had. joined_at x s t u had (answered_at t u (Grant x p v k) answer replied);
+  by_places = λ t u config same had. joined_at x s t u had (record { steps = []; at_node = All-nil _; led = same; config = config });
+}
+
+pub allocated : (s : NetState) (x : ℕ) → IsWorkable s → x < length s.nodes
+    → IsWorkable (with_router s x (after_allocate (router_at s x))) × ReachesAt x s (with_router s x (after_allocate (router_at s x)))
+allocated s x net there = allocated_keeps (ReachesAt x s) s x (reaches_kept x s) net there (none_at x s)
 
 pub chosen : (s : NetState) (x : ℕ) → IsWorkable s → x < length s.nodes → IsWorkable (with_router s x (chosen_router (router_at s x))) × ReachesAt x s (with_router s x (chosen_router (router_at s x)))
 unfolding chosen_router

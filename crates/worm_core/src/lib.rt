@@ -50,4 +50,5 @@ pub use script::{Act, Entry, Script, ScriptFault};
 pub use step::{Moved, Step};
 pub use totals::Totals;
 pub use view::{Held, LaneView, Place};
+pub use wiring::PortLinks;
 pub use worm_term::{NoMemory, OfferFault};

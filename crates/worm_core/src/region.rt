@@ -9,6 +9,7 @@ ghost use Rattle.worm_core.specs.Replies.{Attempts, Replies};
 ghost use Rattle.worm_core.specs.Answers.{accepted_of, moved_of};
 ghost use Rattle.worm_core.specs.State.{shape, router_at, with_router};
 ghost use Rattle.worm_core.specs.Owned.{sole};
+ghost use Rattle.worm_core.specs.Wiring.{port_links};
 ghost use Rattle.worm_core.specs.Workable.{EndsWithin, IsWorkable, owned};
 ghost use Rattle.worm_core.specs.Turns.{ComesInBy, ReachesAt, NodePassesBy, SendsGrantedBy};
 ghost use Rattle.worm_mesh.specs.Address.{node_count};
@@ -21,6 +22,7 @@ mod edges;
 mod parts;
 
 use crate::fabric::Fabric;
+use crate::wiring::PortLinks;
 use crate::{Moved, Step, StepFault};
 use std::marker::Model;
 use worm_flit::{Lane, Packet};
@@ -99,6 +101,13 @@ impl Region {
         ensures bound { result ≤ 256 }
     {
         self.fabric.nodes()
+    }
+
+    /// The links of this port, if the node has a neighbour there: the node beyond, and the numbers of the two links.
+    pub fn links_at(&self, node: u8, port: u8) -> Option<PortLinks>
+        ensures { result ≡ port_links self.now.mesh node port }
+    {
+        self.fabric.links_at(node, port)
     }
 
     /// The terminal port of each node.

@@ -1,6 +1,7 @@
 -- What comes by a part's end: a credit of a link that leaves its nodes, a flit of one that enters them.
-use Rattle.std.proofs.Common.{◌≡◌, ℕ, ◌<◌, true, false, List, [], ◌∷◌, ◌++◌, length, sum, Option, Some, None, refl, arith, sym, ap, subst, ◌∙◌}
+use Rattle.std.proofs.Common.{◌≡◌, ℕ, ◌<◌, true, false, List, [], ◌∷◌, ◌++◌, length, sum, get_or, Option, Some, None, refl, arith, sym, ap, subst, ◌∙◌}
 use Rattle.std.specs.Prelude.{IsSome, is_some, slice_get, slice_set}
+use Rattle.std.proofs.lemmas.List.{get_or_default}
 use Rattle.worm_flit.specs.declared.Flit.{Flit}
 use Rattle.worm_flit.specs.Stamps.{on_channel}
 use Rattle.worm_flit.specs.Worms.{Continues}
@@ -22,7 +23,7 @@ use Rattle.worm_run.specs.PartTurns.{CreditComes, FlitComes, PullsCredit, PullsF
 use Rattle.worm_run.proofs.EndFacts.{IsLeavingEnd, IsEnteringEnd}
 use Rattle.worm_run.proofs.PartFacts.{is_leaving, is_entering}
 use Rattle.worm_run.proofs.PartMoves.{credit_comes, flit_comes}
-use Rattle.worm_run.proofs.Pulls.{credit_popped, flit_popped, no_front, linked, back, beyond_in, entered_is, out_is, into_is, out_bound, into_bound, out_end, into_end, out_credits, into_flits, out_from_beyond, into_from_beyond, has_room}
+use Rattle.worm_run.proofs.Pulls.{credit_popped, flit_popped, linked, back, beyond_in, entered_is, out_is, into_is, out_bound, into_bound, out_end_bound, into_end_bound, out_end, into_end, out_credits, into_flits, out_from_beyond, into_from_beyond}
 
 -- another list of one link leaves the configuration
 same_when_linked : (s new : NetState) (k : ℕ) (l : Rattle.worm_core.specs.State.LinkView) → new ≡ Rattle.worm_core.specs.State.with_link s k l → IsSameConfig s new
@@ -45,7 +46,6 @@ pub record CreditInHand (p : PartState) (x o c : ℕ) (links : PortLinks) (new :
   pub beyond_in : links.beyond < node_count p.net.mesh
   pub linked_back : IsSome (neighbour_of p.net.mesh links.beyond links.entered)
   pub none_waits : (network_of p.net).credit_list x o ≡ []
-  pub room : length (link_at p.net (link_into p.net links.beyond links.entered)).credits < (link_at p.net (link_into p.net links.beyond links.entered)).room
 
 pub record FlitInHand (p : PartState) (x o : ℕ) (f : Flit) (links : PortLinks) (new : End) : Type 0 where
   pub rx : RxView
@@ -59,7 +59,6 @@ pub record FlitInHand (p : PartState) (x o : ℕ) (f : Flit) (links : PortLinks)
   pub elsewhere : owned p.net links.beyond ≡ false
   pub linked_back : IsSome (neighbour_of p.net.mesh links.beyond links.entered)
   pub none_waits : (network_of p.net).out links.beyond (opposite_of o) ≡ []
-  pub room : length (link_at p.net (link_out p.net links.beyond links.entered)).flits < (link_at p.net (link_out p.net links.beyond links.entered)).room
 
 module _ (p : PartState) (part : IsPart p) (framed : IsFramed p.net) (x o : ℕ) (links : PortLinks) (at : ◌≡◌ {A = Option PortLinks} (Some links) (port_links p.net.mesh x o)) where
   linked_then : (shape p.opening).neighbour x o ≡ Some links.beyond
@@ -70,17 +69,17 @@ module _ (p : PartState) (part : IsPart p) (framed : IsFramed p.net) (x o : ℕ)
   unfolding net_shape
   back_then = rw (← part.config.mesh) (back p part framed x o links at)
 
-  back_is_some : IsSome (neighbour_of p.net.mesh links.beyond links.entered)
+  pub back_is_some : IsSome (neighbour_of p.net.mesh links.beyond links.entered)
   back_is_some = rw (entered_is p part framed x o links at, back p part framed x o links at) refl
 
-  pub credit_in_hand : (c : ℕ) (end new : End) → end ≡ end_at p.ends links.out → is_some (slice_get (link_at p.net links.out).credits 0) ≡ false → CreditPopped end new c → CreditInHand p x o c links new
-  credit_in_hand c end new end_now front popped =
+  pub credit_in_hand : (c : ℕ) (end new : End) → end ≡ end_at p.ends links.out → (link_at p.net (link_into p.net links.beyond links.entered)).credits ≡ [] → CreditPopped end c new → CreditInHand p x o c links new
+  credit_in_hand c end new end_now empty popped =
       let by = credit_popped end new c popped in
       let end_is : end_of p x o ≡ Leaving by.0 by.1 = sym (out_end p part framed x o links at) ∙ (sym end_now ∙ by.2) in
       let is = is_leaving p part x o links.beyond by.0 by.1 linked_then end_is in
       let channels : by.1.link.channels ≡ sum p.net.channels = ap (λ (l : Rattle.worm_links.specs.declared.LinkCfg.LinkCfg). l.channels) is.line ∙ (is.link.same_channels ∙ ap sum (sym part.config.channels)) in
-      let channel : c < sum p.net.channels = rw (← channels) by.4 in
-      let empty = no_front (link_at p.net links.out).credits front in
+      let channel : c < sum p.net.channels = subst (λ (n : ℕ). c < n) channels by.4 in
+      let list : (link_at p.net links.out).credits ≡ [] = ap (λ (k : ℕ). (link_at p.net k).credits) (sym (out_from_beyond p part framed x o links at)) ∙ empty in
       record {
         tx = by.0;
         line = by.1;
@@ -90,19 +89,18 @@ module _ (p : PartState) (part : IsPart p) (framed : IsFramed p.net) (x o : ℕ)
         elsewhere = is.far_elsewhere;
         beyond_in = beyond_in p part framed x o links at;
         linked_back = back_is_some;
-        none_waits = out_credits p part framed x o links at ∙ empty;
-        room = rw (out_from_beyond p part framed x o links at, empty) (has_room p part framed links.out c channel (out_bound p part framed x o links at));
+        none_waits = out_credits p part framed x o links at ∙ list;
       }
 
-  pub flit_in_hand : (f : Flit) (end new : End) → end ≡ end_at p.ends links.into → is_some (slice_get (link_at p.net links.into).flits 0) ≡ false → FlitPopped end f new → FlitInHand p x o f links new
-  flit_in_hand f end new end_now front popped =
+  pub flit_in_hand : (f : Flit) (end new : End) → end ≡ end_at p.ends links.into → (link_at p.net (link_out p.net links.beyond links.entered)).flits ≡ [] → FlitPopped end f new → FlitInHand p x o f links new
+  flit_in_hand f end new end_now empty popped =
       let by = flit_popped end new f popped in
       let end_is : end_of p links.beyond (opposite_of o) ≡ Entering by.0 by.1 = sym (into_end p part framed x o links at) ∙ (sym end_now ∙ by.2) in
       let is = is_entering p part links.beyond (opposite_of o) x by.0 by.1 back_then end_is in
-      let channels : by.0.link.channels ≡ sum p.net.channels = is.link.same_channels ∙ ap sum (sym part.config.channels) in
-      let channel : f.vc < sum p.net.channels = rw (← channels) by.5.channel in
+      let channels : by.0.link.channels ≡ sum p.net.channels = is.link.same_channels ∙ ap (λ (counts : List ℕ). sum counts) (sym part.config.channels) in
+      let channel : f.vc < sum p.net.channels = subst (λ (n : ℕ). f.vc < n) channels by.5.channel in
       let mesh : by.0.link.mesh ≡ p.net.mesh = is.link.same_mesh ∙ sym part.config.mesh in
-      let empty = no_front (link_at p.net links.into).flits front in
+      let list : (link_at p.net links.into).flits ≡ [] = ap (λ (k : ℕ). (link_at p.net k).flits) (sym (into_from_beyond p part framed x o links at)) ∙ empty in
       record {
         rx = by.0;
         line = by.1;
@@ -111,12 +109,24 @@ module _ (p : PartState) (part : IsPart p) (framed : IsFramed p.net) (x o : ℕ)
         continues = by.4;
         crossing = by.5;
         channel = channel;
-        goal = rw (← mesh) by.5.destination;
+        goal = subst (λ (ks : List ℕ). f.lane.dst < node_count ks) mesh by.5.destination;
         elsewhere = is.near_elsewhere;
         linked_back = back_is_some;
-        none_waits = into_flits p part framed x o links at ∙ empty;
-        room = rw (into_from_beyond p part framed x o links at, empty) (has_room p part framed links.into f.vc channel (into_bound p part framed x o links at));
+        none_waits = into_flits p part framed x o links at ∙ list;
       }
+
+  -- the same where the end is the one of this number of all
+  pub credit_taken : (c n : ℕ) (end new : End) → n ≡ links.out → end ≡ get_or p.ends n end → (link_at p.net (link_into p.net links.beyond links.entered)).credits ≡ [] → CreditPopped end c new → CreditInHand p x o c links new
+  credit_taken c n end new number now empty popped =
+      let few = out_end_bound p part framed x o links at in
+      let bound : n < length p.ends = omega (arith, few, number) in
+      credit_in_hand c end new (now ∙ get_or_default p.ends n end Inner bound ∙ (λ t. end_at p.ends (number t))) empty popped
+
+  pub flit_off : (f : Flit) (n : ℕ) (end new : End) → n ≡ links.into → end ≡ get_or p.ends n end → (link_at p.net (link_out p.net links.beyond links.entered)).flits ≡ [] → FlitPopped end f new → FlitInHand p x o f links new
+  flit_off f n end new number now empty popped =
+      let few = into_end_bound p part framed x o links at in
+      let bound : n < length p.ends = omega (arith, few, number) in
+      flit_in_hand f end new (now ∙ get_or_default p.ends n end Inner bound ∙ (λ t. end_at p.ends (number t))) empty popped
 
   -- it is put down, and the part stays a part
   pub credit_put : (c n : ℕ) (new : End) (net : NetState) → n ≡ links.out → CreditInHand p x o c links new → ComesBack p.net links.beyond links.entered c net

@@ -8,9 +8,8 @@ use Rattle.worm_theory.specs.Network.{Network}
 use Rattle.worm_theory.specs.Steps.{Step, Offer, CloseLane, Feed, Route, Grant, Send, Take, GiveCredit, TakeCredit, after}
 use Rattle.worm_core.specs.Shape.{net_shape}
 use Rattle.worm_core.specs.State.{NetState, IsSameConfig, shape, network_of}
-use Rattle.worm_core.specs.RegionAnswers.{Answers}
-use Rattle.worm_core.specs.RegionTurns.{Tries, AsksSource, TakesCredits, TakesFlits, FeedsClasses, RoutesPort, RoutesChannels}
-use Rattle.worm_core.specs.Turns.{Passage, Each, ForEach, ◌and_then◌, ask, all_ports, mesh_ports}
+use Rattle.worm_core.specs.Replies.{Attempts, Replies}
+use Rattle.worm_core.specs.Turns.{Passage, Each, ForEach, ◌and_then◌, ComesInBy, AsksSourceBy, TakesCreditsBy, TakesFlitsBy, FeedsClassesBy, RoutesPortBy, RoutesChannelsBy, ask, all_ports, mesh_ports}
 use Rattle.worm_core.specs.Script.{begun_at}
 use Rattle.worm_core.specs.declared.script.Act.{Act}
 use Rattle.worm_core.specs.declared.script.Act.TheVariants.{Offer as ToOffer, Close as ToClose}
@@ -51,7 +50,7 @@ module _ (s : Shape) (mesh : IsMesh s) (old : Network) (own : ℕ → Bool) (end
   stays : (a b : NetState) → b ≡ a → IsOf a → IsOf b × IsSameConfig a b
   stays a b e h = (subst IsOf (sym e) h, subst (λ (t : NetState). IsSameConfig a t) (sym e) (same_config a))
 
-  pub keeps_answer : (step : Step) → own (node_of step) ≡ true → (a b : NetState) (answer : Result Moved StepFault) → Sees s end (network_of a) step → IsOf a → Answers a step answer b → IsOf b × IsSameConfig a b
+  pub keeps_answer : (step : Step) → own (node_of step) ≡ true → (a b : NetState) (answer : Result Moved StepFault) → Sees s end (network_of a) step → IsOf a → Replies a step answer b → IsOf b × IsSameConfig a b
   keeps_answer step here a b (Ok Done) sees h d =
       let N = network_of a in
       let there = subst (λ (z : Shape). Rattle.worm_theory.specs.Steps.IsThere z step) h.same_shape d.there in
@@ -65,7 +64,7 @@ module _ (s : Shape) (mesh : IsMesh s) (old : Network) (own : ℕ → Bool) (end
   keeps_answer step here a b (Err (Refused why)) sees h i = stays a b i.3 h
   keeps_answer step here a b (Err NoMemory) sees h i = stays a b i.3 h
 
-  pub keeps_try : (step : Step) → IsWithin step → Keeps (Tries step)
+  pub keeps_try : (step : Step) → IsWithin step → Keeps (Attempts step)
   keeps_try step within a b fault h tried = keeps_answer step within.0 a b tried.0 (within.1 (network_of a)) h tried.1
 
   pub keeps_each : {A : Type 0} (P : A → Passage) → (xs : List A) → ((x : A) → Keeps (P x)) → Keeps (Each P xs)
@@ -88,7 +87,7 @@ module _ (s : Shape) (mesh : IsMesh s) (old : Network) (own : ℕ → Bool) (end
   ]
 
   -- the steps of a list that a function makes
-  keeps_map : {A : Type 0} (f : A → Step) (xs : List A) → ((x : A) → IsWithin (f x)) → Keeps (Each Tries (map f xs))
+  keeps_map : {A : Type 0} (f : A → Step) (xs : List A) → ((x : A) → IsWithin (f x)) → Keeps (Each Attempts (map f xs))
   keeps_map f [] within a b fault h made = stays a b made.1 h
   keeps_map f (x ∷ xs) within a b fault h made = elim made [
     | inl ended ↦ keeps_try (f x) (within x) a b fault h ended.1
@@ -105,20 +104,20 @@ module _ (s : Shape) (mesh : IsMesh s) (old : Network) (own : ℕ → Bool) (end
     asked_within (ToOffer packet) = (here, λ net. tt)
     asked_within (ToClose lane) = (here, λ net. tt)
 
-    pub keeps_asking : (entries : List Entry) → Keeps (AsksSource entries x)
+    pub keeps_asking : (entries : List Entry) → Keeps (AsksSourceBy Attempts entries x)
     keeps_asking entries a b fault h made = keeps_map (λ (e : Entry). ask x e.act) (begun_at x entries) (λ e. asked_within e.act) a b fault h made
 
-    pub keeps_credits : Keeps (TakesCredits x)
+    pub keeps_credits : Keeps (TakesCreditsBy Attempts x)
     keeps_credits a b fault h made = keeps_map (TakeCredit x) (mesh_ports a) (λ o. (here, λ net. out_sees o)) a b fault h made
 
-    pub keeps_flits : Keeps (TakesFlits x)
+    pub keeps_flits : Keeps (TakesFlitsBy Attempts x)
     keeps_flits a b fault h made = keeps_map (Take x) (mesh_ports a) (λ p. (here, λ net. in_sees p)) a b fault h made
 
-    pub keeps_feeding : Keeps (FeedsClasses x)
+    pub keeps_feeding : Keeps (FeedsClassesBy Attempts x)
     keeps_feeding a b fault h made = keeps_map (Feed x) (range_with_len 0 (length a.channels)) (λ k. (here, λ net. tt)) a b fault h made
 
-    keeps_port : (p : ℕ) → Keeps (RoutesPort x p)
+    keeps_port : (p : ℕ) → Keeps (RoutesPortBy Attempts x p)
     keeps_port p a b fault h made = keeps_map (Route x p) _ (λ v. (here, λ net. tt)) a b fault h made
 
-    pub keeps_routing : Keeps (RoutesChannels x)
-    keeps_routing a b fault h made = keeps_each (RoutesPort x) (all_ports a) keeps_port a b fault h made
+    pub keeps_routing : Keeps (RoutesChannelsBy Attempts x)
+    keeps_routing a b fault h made = keeps_each (RoutesPortBy Attempts x) (all_ports a) keeps_port a b fault h made

@@ -124,7 +124,6 @@ module _ (p : PartState) (part : IsPart p) where
       let ends : put2 (end_of p) x o e ≡ end_of (with_end p x o e net) = λ t y q. sym (new y q) t in
       record {
         opened = part.opened;
-        deep = part.deep;
         config = record {
           mesh = config.mesh ∙ part.config.mesh;
           channels = config.channels ∙ part.config.channels;

@@ -39,14 +39,6 @@ flit_popped Inner new f h = absurd h
 flit_popped (Leaving tx back) new f h = absurd h
 flit_popped (Entering rx give) new f h = (rx, give, refl, h.0, h.1, h.2)
 
-nothing_is : {A : Type 0} (o : Option A) → is_some o ≡ false → o ≡ None
-nothing_is None e = refl
-nothing_is (Some a) e = let clash : true ≡ false = e in absurd (cc)
-
--- a list without a front is empty
-pub no_front : {A : Type 0} (xs : List A) → is_some (slice_get xs 0) ≡ false → xs ≡ []
-no_front xs e = none_of xs (nothing_is (slice_get xs 0) e)
-
 -- The links of a port.
 module _ (p : PartState) (part : IsPart p) (framed : IsFramed p.net) (x o : ℕ) (links : PortLinks) (at : ◌≡◌ {A = Option PortLinks} (Some links) (port_links p.net.mesh x o)) where
   these : (neighbour_of p.net.mesh x o ≡ Some links.beyond) × (links ≡ record { beyond = links.beyond; entered = opposite_of o; out = links_before p.net.mesh x o; into = links_before p.net.mesh links.beyond (opposite_of o) })
@@ -107,11 +99,3 @@ module _ (p : PartState) (part : IsPart p) (framed : IsFramed p.net) (x o : ℕ)
 
   pub into_from_beyond : link_out p.net links.beyond links.entered ≡ links.into
   into_from_beyond = rw entered_is (sym into_is)
-
--- where a channel is there, a list that is empty has room
-pub has_room : (p : PartState) (part : IsPart p) → IsFramed p.net → (k c : ℕ) → c < sum p.net.channels → k < length p.net.links → 0 < (link_at p.net k).room
-has_room p part framed k c channel k_in =
-    let room = framed.rooms k k_in in
-    let deep : 1 ≤ p.net.depth = rw part.config.depth part.deep in
-    let some = mul-le-mul_left (sum p.net.channels) deep in
-    omega (arith, room, some)

@@ -1,6 +1,6 @@
 -- A worker's part of a network: the network of its own nodes and links, its ends of the links that it shares with other workers, and,
 -- for contracts alone, the network that was split.
-use Rattle.std.specs.Prelude.{◌≡◌, ℕ, ◌≤◌, ◌<◌, ◌==◌, ◌%◌, Bool, true, false, cond, List, Option, length, Some}
+use Rattle.std.specs.Prelude.{◌≡◌, ℕ, ◌<◌, ◌==◌, ◌%◌, Bool, true, false, cond, List, Option, length, Some}
 use Rattle.worm_flit.specs.declared.Flit.{Flit}
 use Rattle.worm_mesh.specs.Address.{has_neighbour}
 use Rattle.worm_mesh.specs.Links.{links_before, link_count}
@@ -23,6 +23,9 @@ pub record PartState : Type 0 where
   -- the network at the split, and both ends of each link as they were made then
   pub opening : NetState
   pub lines : List Line
+
+abbrev pub part_state : NetState → List End → NetState → List Line → PartState
+part_state net ends opening lines = record { net = net; ends = ends; opening = opening; lines = lines }
 
 abbrev pub owns : PartState → ℕ → Bool
 owns p = owned p.net
@@ -62,7 +65,6 @@ pub record HasConfigOf (opening net : NetState) : Type 0 where
 -- What holds of each part.
 pub record IsPart (p : PartState) : Type 0 where
   pub opened : IsNet p.opening
-  pub deep : 1 ≤ p.opening.depth
   pub config : HasConfigOf p.opening p.net
   pub worker : p.net.own.worker < p.net.own.workers
   pub made : AreLines p.opening p.net.own.workers p.lines

@@ -13,8 +13,8 @@ use Rattle.worm_theory.specs.Steps.{Step, Send, GiveCredit}
 use Rattle.worm_core.specs.State.{NetState, router_at, with_router, network_of}
 use Rattle.worm_core.specs.Edges.{after_arriving, after_credit_back}
 use Rattle.worm_core.specs.Moves.{chosen_router}
-use Rattle.worm_core.specs.RegionTurns.{Tries, AsksSource, TakesCredits, TakesFlits, FeedsClasses, RoutesChannels}
-use Rattle.worm_core.specs.Turns.{Passage, ◌and_then◌, Allocates, lowest_owed, mesh_ports, all_ports, all_nodes}
+use Rattle.worm_core.specs.Replies.{Attempts}
+use Rattle.worm_core.specs.Turns.{ComesInBy, AsksSourceBy, Passage, ◌and_then◌, Allocates, lowest_owed, mesh_ports, all_ports, all_nodes}
 use Rattle.worm_core.specs.declared.fault.StepFault.{StepFault}
 use Rattle.worm_core.specs.declared.script.Entry.{Entry}
 use Rattle.worm_run.specs.declared.ends.End.{End}
@@ -116,7 +116,7 @@ StaysWithin part x (Some d) = LeavesBy part x d.0 → ⊥
 abbrev pub Sends : ℕ → ℕ → ℕ → PartPassage
 Sends x p v old fault new =
     ((fault ≡ None) × SendsAcross x p v old new)
-    ⊎ (StaysWithin old x (leaving (router_at old.net x) p v) × Within (Tries (Send x p v)) old fault new)
+    ⊎ (StaysWithin old x (leaving (router_at old.net x) p v) × Within (Attempts (Send x p v)) old fault new)
 
 -- A credit that is owed goes back over a link to another worker: its push lands, and it is given; or the push comes back full, and nothing is
 -- done. It comes back full only where as many credits were given as the line holds.
@@ -136,7 +136,7 @@ ComesBy part x p = (y : ℕ) × (neighbour_of part.net.mesh x p ≡ Some y) × (
 -- a credit is given, over a link to another worker or within the part
 abbrev pub Gives : ℕ → ℕ → ℕ → PartPassage
 Gives x p v old fault new =
-    ((fault ≡ None) × GivesAcross x p v old new) ⊎ ((ComesBy old x p → ⊥) × Within (Tries (GiveCredit x p v)) old fault new)
+    ((fault ≡ None) × GivesAcross x p v old new) ⊎ ((ComesBy old x p → ⊥) × Within (Attempts (GiveCredit x p v)) old fault new)
 
 -- The turn of a node
 
@@ -163,17 +163,14 @@ GivesCredit x p old fault new = EachOf (Gives x p) (option_to_list (lowest_owed 
 abbrev pub GivesCredits : ℕ → PartPassage
 GivesCredits x old fault new = EachOf (GivesCredit x) (mesh_ports old.net) old fault new
 
--- what comes in at a node, and goes on within it, up to the channels that are allocated
-abbrev pub ComesIn : ℕ → Passage
-ComesIn x = TakesCredits x and_then TakesFlits x and_then FeedsClasses x and_then RoutesChannels x and_then Allocates x
-
 -- the turn of a node, with these entries for all nodes
 abbrev pub NodeTurn : List Entry → ℕ → PartPassage
 NodeTurn entries x =
-    Within (AsksSource entries x)
+    Within (AsksSourceBy Attempts entries x)
     then PullsCredits x
     then PullsFlits x
-    then Within (ComesIn x)
+    then Within (ComesInBy Attempts x)
+    then Within (Allocates x)
     then SendsGranted x
     then GivesCredits x
 

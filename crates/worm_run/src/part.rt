@@ -19,11 +19,11 @@ pub struct Part {
 }
 
 impl Model for Part {
-    ghost use Rattle.worm_run.specs.PartState.{PartState, IsPart};
+    ghost use Rattle.worm_run.specs.PartState.{PartState, IsPart, part_state};
 
     ghost Value = { PartState };
 
-    ghost view = { λ p. record { net = p.region; ends = p.ends.items; opening = p.opening.value; lines = p.lines.value.items } };
+    ghost view = { λ p. part_state p.region p.ends.items p.opening.value p.lines.value.items };
 
-    ghost invariant = { λ p. IsPart (record { net = p.region; ends = p.ends.items; opening = p.opening.value; lines = p.lines.value.items }) };
+    ghost invariant = { λ p. IsPart (part_state p.region p.ends.items p.opening.value p.lines.value.items) };
 }

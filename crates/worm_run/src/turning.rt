@@ -16,11 +16,11 @@ impl Part {
         requires own { owned self.old.net node ≡ true }
         ensures pulls { PullsCredit node port self.old None self.new }
     {
-        self.region.is_sound();
+        self.region.is_workable();
         let Some(links) = self.region.links_at(node, port) else {
             return;
         };
-        if self.region.has_credits(links.out) {
+        if self.region.has_credits(links.beyond, links.entered) {
             return;
         }
         let Some(vc) = pop_credit(rt, &mut self.ends[usize::from(links.out)]) else {
@@ -35,11 +35,11 @@ impl Part {
         requires own { owned self.old.net node ≡ true }
         ensures pulls { PullsFlit node port self.old None self.new }
     {
-        self.region.is_sound();
+        self.region.is_workable();
         let Some(links) = self.region.links_at(node, port) else {
             return;
         };
-        if self.region.has_flits(links.into) {
+        if self.region.has_flits(links.beyond, links.entered) {
             return;
         }
         let Some(flit) = pop_flit(rt, &mut self.ends[usize::from(links.into)]) else {
