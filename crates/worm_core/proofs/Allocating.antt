@@ -265,6 +265,12 @@ pub chosen : (s : NetState) (x : ℕ) → IsWorkable s → x < length s.nodes �
 unfolding chosen_router
 chosen s x net there = arbiters_moved s x (router_at s x).channel_alloc (after_choose (router_at s x)).switch_alloc net there
 
+-- which leaves all places as they are
+pub chosen_apart : (s : NetState) (x : ℕ) → x < length s.nodes
+    → network_of (with_router s x (chosen_router (router_at s x))) ≡ network_of s
+unfolding chosen_router
+chosen_apart s x there = arbiters_apart s x (router_at s x).channel_alloc (after_choose (router_at s x)).switch_alloc there
+
 -- the same of a node of the mesh
 pub allocated_in : (s : NetState) (x : ℕ) → IsWorkable s → x < node_count s.mesh → IsWorkable (with_router s x (after_allocate (router_at s x))) × ReachesAt x s (with_router s x (after_allocate (router_at s x)))
 allocated_in s x net there = let all = net.framed.all_nodes in allocated s x net (omega arith)

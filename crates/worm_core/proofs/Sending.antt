@@ -39,7 +39,7 @@ granted_once : (grants : List (Option SwGrant)) (all p v c : ℕ) → AreGranted
 granted_once grants all p v c are p_in v_in c_in is other = are.each p c p_in c_in ∙ of_no_other (slice_index_or grants p None) v c (sym (are.each p v p_in v_in) ∙ is) other
 
 -- a port without a channel in the set has no grant
-granted_none : (grants : List (Option SwGrant)) (all p : ℕ) → AreGranted grants all → p < 7 → ((v : ℕ) → v < 8 → has all p v ≡ false) → slice_index_or grants p None ≡ None
+pub granted_none : (grants : List (Option SwGrant)) (all p : ℕ) → AreGranted grants all → p < 7 → ((v : ℕ) → v < 8 → has all p v ≡ false) → slice_index_or grants p None ≡ None
 granted_none grants all p are p_in none = by_grant (slice_index_or grants p None) refl where
   by_grant : (o : Option SwGrant) → slice_index_or grants p None ≡ o → slice_index_or grants p None ≡ None
   by_grant None e = e
@@ -57,7 +57,7 @@ pub record Sent (x : ℕ) (grants : List (Option SwGrant)) (all left : ℕ) (a b
   pub passed : Does (Each (λ p. Each Attempts (granted_send grants x p)) (range_with_len 0 next)) a None b
 
 -- with its channel all channels of a port have come out
-first_port : (grants : List (Option SwGrant)) (all left left' n port vc : ℕ) → AreGranted grants all → IsWalked all left n 7 → IsFirst left left' port vc → IsFirstPort left left' port
+pub first_port : (grants : List (Option SwGrant)) (all left left' n port vc : ℕ) → AreGranted grants all → IsWalked all left n 7 → IsFirst left left' port vc → IsFirstPort left left' port
 first_port grants all left left' n port vc are walked first =
     let from : n ≤ port = elim (cases_lt port n) [
       | inl below ↦ absurd (true≢false (sym first.was_in ∙ walked.gone port vc below first.channel_in))

@@ -49,6 +49,7 @@ pub use region::Region;
 pub use script::{Act, Entry, Script, ScriptFault};
 pub use step::{Moved, Step};
 pub use totals::Totals;
+pub use turn::tried;
 pub use view::{Held, LaneView, Place};
 pub use wiring::PortLinks;
 pub use worm_term::{NoMemory, OfferFault};

@@ -11,7 +11,7 @@ ghost use Rattle.worm_core.specs.State.{shape, router_at, with_router};
 ghost use Rattle.worm_core.specs.Owned.{sole};
 ghost use Rattle.worm_core.specs.Wiring.{port_links};
 ghost use Rattle.worm_core.specs.Workable.{EndsWithin, IsWorkable, owned};
-ghost use Rattle.worm_core.specs.Turns.{ComesInBy, ReachesAt, NodePassesBy, SendsGrantedBy};
+ghost use Rattle.worm_core.specs.Turns.{ComesInBy, ReachesAt, NodePassesBy, SendsGrantedBy, lowest_owed};
 ghost use Rattle.worm_mesh.specs.Address.{node_count};
 ghost use Rattle.worm_router.specs.Router.{input_at, leaving, width};
 ghost use Rattle.worm_router.specs.Rest.{IsAtRest};
@@ -194,6 +194,15 @@ impl Region {
         ensures sound { IsWorkable self.now }
     {
         self.fabric.owing(node)
+    }
+
+    /// The lowest channel of the mesh port that owes a credit.
+    pub fn owed(&self, node: u8, port: u8) -> Option<u8>
+        requires node { node < node_count self.now.mesh }
+        requires port { port < 2 * length self.now.mesh }
+        ensures { result ≡ lowest_owed (router_at self.now node) port }
+    {
+        self.fabric.owed(node, port)
     }
 
     /// Whether the node is at rest, so that its turn goes past all but what its source is asked.

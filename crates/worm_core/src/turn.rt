@@ -18,7 +18,7 @@ use crate::region::Region;
 use crate::{Act, Entry, Moved, StepFault};
 
 /// What the answer to a step is to the turn that tried it: a step that is not there, or not enabled, is passed over.
-fn tried(answer: Result<Moved, StepFault>) -> Result<(), StepFault>
+pub fn tried(answer: Result<Moved, StepFault>) -> Result<(), StepFault>
     ensures { result_err result ≡ fault_of answer }
 {
     match answer {

@@ -18,7 +18,7 @@ use Rattle.worm_core.specs.declared.wiring.PortLinks.{PortLinks}
 use Rattle.worm_run.specs.declared.ends.End.{End}
 use Rattle.worm_run.specs.declared.ends.End.TheVariants.{Inner, Leaving, Entering}
 use Rattle.worm_run.specs.Ends.{CreditPopped, FlitPopped, end_at}
-use Rattle.worm_run.specs.PartState.{PartState, IsPart, end_of}
+use Rattle.worm_run.specs.PartState.{PartState, IsPart, IsSamePart, end_of}
 use Rattle.worm_run.specs.PartTurns.{CreditComes, FlitComes, PullsCredit, PullsFlit, with_end}
 use Rattle.worm_run.proofs.EndFacts.{IsLeavingEnd, IsEnteringEnd}
 use Rattle.worm_run.proofs.PartFacts.{is_leaving, is_entering}
@@ -61,11 +61,11 @@ pub record FlitInHand (p : PartState) (x o : ℕ) (f : Flit) (links : PortLinks)
   pub none_waits : (network_of p.net).out links.beyond (opposite_of o) ≡ []
 
 module _ (p : PartState) (part : IsPart p) (framed : IsFramed p.net) (x o : ℕ) (links : PortLinks) (at : ◌≡◌ {A = Option PortLinks} (Some links) (port_links p.net.mesh x o)) where
-  linked_then : (shape p.opening).neighbour x o ≡ Some links.beyond
+  pub linked_then : (shape p.opening).neighbour x o ≡ Some links.beyond
   unfolding net_shape
   linked_then = rw (← part.config.mesh) (linked p part framed x o links at)
 
-  back_then : (shape p.opening).neighbour links.beyond (opposite_of o) ≡ Some x
+  pub back_then : (shape p.opening).neighbour links.beyond (opposite_of o) ≡ Some x
   unfolding net_shape
   back_then = rw (← part.config.mesh) (back p part framed x o links at)
 
@@ -131,6 +131,7 @@ module _ (p : PartState) (part : IsPart p) (framed : IsFramed p.net) (x o : ℕ)
   -- it is put down, and the part stays a part
   pub credit_put : (c n : ℕ) (new : End) (net : NetState) → n ≡ links.out → CreditInHand p x o c links new → ComesBack p.net links.beyond links.entered c net
       → IsPart (record p { net = net; ends = slice_set p.ends n new }) × CreditComes x o p (record p { net = net; ends = slice_set p.ends n new })
+      × IsSamePart p (record p { net = net; ends = slice_set p.ends n new })
   credit_put c n new net number hand comes =
       let N = network_of p.net in
       let y = links.beyond in
@@ -158,10 +159,12 @@ module _ (p : PartState) (part : IsPart p) (framed : IsFramed p.net) (x o : ℕ)
           none_waits = hand.none_waits;
           exact = sym (ap (λ (m : NetState). with_end p x o (Leaving hand.tx (record hand.line { taken = hand.line.taken ++ c ∷ [] })) m) exact_net ∙ to);
         },
+        record { config = config; opening = refl; lines = refl },
       )
 
   pub flit_put : (f : Flit) (n : ℕ) (new : End) (net : NetState) → n ≡ links.into → FlitInHand p x o f links new → Arrives p.net links.beyond links.entered f net
       → IsPart (record p { net = net; ends = slice_set p.ends n new }) × FlitComes x o p (record p { net = net; ends = slice_set p.ends n new })
+      × IsSamePart p (record p { net = net; ends = slice_set p.ends n new })
   flit_put f n new net number hand comes =
       let N = network_of p.net in
       let y = links.beyond in
@@ -187,4 +190,5 @@ module _ (p : PartState) (part : IsPart p) (framed : IsFramed p.net) (x o : ℕ)
           none_waits = hand.none_waits;
           exact = sym (ap (λ (m : NetState). with_end p y q (Entering (record hand.rx { taken = hand.rx.taken ++ f ∷ [] }) hand.line) m) exact_net ∙ to);
         },
+        record { config = config; opening = refl; lines = refl },
       )

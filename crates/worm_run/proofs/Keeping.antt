@@ -47,7 +47,7 @@ module _ (s : Shape) (mesh : IsMesh s) (old : Network) (own : ℕ → Bool) (end
   shape_on : (a b : NetState) → shape a ≡ s → IsSameConfig a b → shape b ≡ s
   shape_on a b e config = (λ t. net_shape (config.mesh t) (config.channels t) (config.depth t)) ∙ e
 
-  stays : (a b : NetState) → b ≡ a → IsOf a → IsOf b × IsSameConfig a b
+  pub stays : (a b : NetState) → b ≡ a → IsOf a → IsOf b × IsSameConfig a b
   stays a b e h = (subst IsOf (sym e) h, subst (λ (t : NetState). IsSameConfig a t) (sym e) (same_config a))
 
   pub keeps_answer : (step : Step) → own (node_of step) ≡ true → (a b : NetState) (answer : Result Moved StepFault) → Sees s end (network_of a) step → IsOf a → Replies a step answer b → IsOf b × IsSameConfig a b

@@ -1,9 +1,14 @@
 pub mod Coming
 pub mod Crossing
 pub mod EndFacts
+pub mod Going
+pub mod Granting
+pub mod Inside
 pub mod Keeping
 pub mod PartFacts
+pub mod PartLoops
 pub mod PartMoves
 pub mod Pulls
 pub mod Seen
+pub mod Staying
 pub mod Within

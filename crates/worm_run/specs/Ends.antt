@@ -19,6 +19,17 @@ pub record IsLinkOf (mesh channels : List ℕ) (y o : ℕ) (link : LinkCfg) : Ty
   pub same_channels : link.channels ≡ sum channels
   pub owners : (v : ℕ) → v < sum channels → slice_get link.owners v ≡ Some (owner_of channels v)
 
+-- whether flits leave by the end; whether they enter by it
+abbrev pub leaves_by : End → Bool
+leaves_by Inner = false
+leaves_by (Leaving tx back) = true
+leaves_by (Entering rx give) = false
+
+abbrev pub enters_by : End → Bool
+enters_by Inner = false
+enters_by (Leaving tx back) = false
+enters_by (Entering rx give) = true
+
 -- what was sent by the end, or else what the worker's own list has; the same of the credits that were given
 abbrev pub sent_on : End → List Flit → List Flit
 sent_on Inner flits = flits

@@ -6,7 +6,7 @@ use Rattle.worm_mesh.specs.Address.{has_neighbour}
 use Rattle.worm_mesh.specs.Links.{links_before, link_count}
 use Rattle.worm_theory.specs.Network.{Network}
 use Rattle.worm_theory.specs.Shape.{Shape}
-use Rattle.worm_core.specs.State.{NetState, IsNet, network_of, shape}
+use Rattle.worm_core.specs.State.{NetState, IsNet, IsSameConfig, network_of, shape}
 use Rattle.worm_core.specs.Workable.{owned}
 use Rattle.worm_parts.specs.Region.{HasPart}
 use Rattle.worm_parts.specs.Openings.{past_of}
@@ -71,3 +71,9 @@ pub record IsPart (p : PartState) : Type 0 where
   pub all_ends : length p.ends ≡ link_count p.net.mesh
   pub ends : HasItsEnds p
   pub holds : HasPart (shape p.opening) (network_of p.opening) (owns p) (part_network p) (taken_by p) (returned_to p)
+
+-- the configuration, the nodes that are owned, the network at the split and its lines are the same
+pub record IsSamePart (old new : PartState) : Type 0 where
+  pub config : IsSameConfig old.net new.net
+  pub opening : new.opening ≡ old.opening
+  pub lines : new.lines ≡ old.lines

@@ -4,7 +4,7 @@ ghost use Rattle.std.specs.Prelude.{◌≡◌, ◌<◌, ◌++◌, ◌∷◌, [],
 ghost use Rattle.worm_flit.specs.Stamps.{on_channel};
 ghost use Rattle.worm_flit.specs.Worms.{Continues};
 ghost use Rattle.worm_links.specs.Links.{MayCross};
-ghost use Rattle.worm_run.specs.Ends.{CreditPopped, FlitPopped, FlitPushed, CreditPushed, MayGo, MayGive};
+ghost use Rattle.worm_run.specs.Ends.{leaves_by, enters_by, CreditPopped, FlitPopped, FlitPushed, CreditPushed, MayGo, MayGive};
 
 use std::sync::Wait;
 use worm_flit::Flit;
@@ -53,12 +53,16 @@ pub fn pop_flit<R: Wait>(rt: &R, end: &mut End) -> Option<Flit>
 }
 
 /// Whether flits leave by the end.
-pub fn is_leaving(end: &End) -> bool {
+pub fn is_leaving(end: &End) -> bool
+    ensures { result ≡ leaves_by end.now }
+{
     matches!(end, End::Leaving(_, _))
 }
 
 /// Whether flits enter by the end.
-pub fn is_entering(end: &End) -> bool {
+pub fn is_entering(end: &End) -> bool
+    ensures { result ≡ enters_by end.now }
+{
     matches!(end, End::Entering(_, _))
 }
 

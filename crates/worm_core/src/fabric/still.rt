@@ -5,6 +5,8 @@ ghost use Rattle.worm_mesh.specs.Address.{neighbour_of};
 ghost use Rattle.worm_router.specs.Allocation.{after_choose, switch_grants};
 ghost use Rattle.worm_router.specs.Busy.{IsSetOf, owes};
 ghost use Rattle.worm_core.specs.State.{router_at};
+ghost use Rattle.worm_core.specs.Turns.{lowest_owed};
+ghost use Rattle.worm_router.specs.Router.{terminal};
 ghost use Rattle.worm_core.specs.Moves.{AreUnrouted, front_credit, front_into};
 
 use super::Fabric;
@@ -37,6 +39,15 @@ impl Fabric {
         ensures { IsSetOf owes (router_at self.now node) result }
     {
         self.node(node).router.owing()
+    }
+
+    /// The lowest channel of the port that owes a credit.
+    pub fn owed(&self, node: u8, port: u8) -> Option<u8>
+        requires node { node < length self.now.nodes }
+        requires port { port ≤ terminal (router_at self.now node) }
+        ensures { result ≡ lowest_owed (router_at self.now node) port }
+    {
+        self.node(node).router.owed(port)
     }
 
     /// Whether no channel of the node may send. Where none may this may not be found.

@@ -2,7 +2,7 @@ use Rattle.std.proofs.Common.{◌≡◌, ◌<◌, Option, Some, None, refl, inr,
 use Rattle.std.specs.Prelude.{slice_set}
 use Rattle.worm_core.specs.Wiring.{port_links}
 use Rattle.worm_core.specs.declared.wiring.PortLinks.{PortLinks}
-use Rattle.worm_run.specs.PartState.{PartState, IsPart, part_state}
+use Rattle.worm_run.specs.PartState.{PartState, IsPart, IsSamePart, part_state}
 use Rattle.worm_run.specs.PartTurns.{FlitComes}
 use Rattle.worm_run.proofs.Coming.{FlitInHand, flit_off, flit_put, back_is_some}
 use Rattle.worm_run.proofs.Pulls.{into_end_bound}
@@ -51,7 +51,7 @@ put : (g : given.Over) (c : goal.After-arrive g)
     → let i = c.self.inside in
     let p = part_state i.region i.ends.items i.opening.value i.lines.value.items in
     let new = record p { net = c.arrive.new.self; ends = slice_set p.ends c.from.result c.pop_flit.new.end } in
-    IsPart new × FlitComes c.args.node c.args.port p new
+    IsPart new × FlitComes c.args.node c.args.port p new × IsSamePart p new
 put g c =
     let i = c.self.inside in
     let p : PartState = part_state i.region i.ends.items i.opening.value i.lines.value.items in
@@ -65,4 +65,4 @@ pub invariant_of-self-2 : goal.invariant_of-self-2
 invariant_of-self-2 g c = (put g c).0
 
 pub returns : goal.returns
-returns g c = rw (← c.self.view_is) (record { pulls = (refl, inr (put g c).1) })
+returns g c = rw (← c.self.view_is) (record { pulls = (refl, inr (put g c).1); same = (put g c).2 })
