@@ -8,7 +8,7 @@ ghost use Rattle.worm_swalloc.specs.SwAlloc.{AreGranted};
 ghost use Rattle.worm_mesh.specs.Address.{IsMesh as IsRadices, node_count, neighbour_of};
 ghost use Rattle.worm_mesh.specs.Links.{link_count};
 ghost use Rattle.worm_router.specs.Router.{IsPlace, MayLeave, after_accept, after_credit, after_gave, after_grant};
-ghost use Rattle.worm_router.specs.Router.{after_route, after_send, can_grant, can_route, input_at, leaving};
+ghost use Rattle.worm_router.specs.Router.{after_route, can_grant, can_route, input_at, leaving};
 ghost use Rattle.worm_router.specs.Router.{output_at, terminal, width};
 ghost use Rattle.worm_term.specs.Source.{after_close, after_offer, classes, front_of, refusal};
 ghost use Rattle.worm_core.specs.State.{IsNetPlace, link_at, node_at, router_at, sink_at, source_at, texts_of};
@@ -18,9 +18,9 @@ ghost use Rattle.worm_core.specs.Moves.{after_giving, after_take, can_enter, can
 ghost use Rattle.worm_core.specs.Moves.{delivered_node, fed_node, front_credit, front_into, has_room, link_into};
 ghost use Rattle.worm_core.specs.Moves.{link_out};
 ghost use Rattle.worm_core.specs.Wiring.{port_links};
-ghost use Rattle.worm_core.specs.Edges.{after_arriving, after_credit_back};
 ghost use Rattle.worm_core.specs.UnderWay.{IsUnderWay, accepted_in, taken_in};
 
+mod edges;
 mod parts;
 mod readers;
 mod rest;
@@ -244,6 +244,18 @@ impl Fabric {
         self.nodes.router_mut(node).grant(port, vc, out_vc)
     }
 
+    /// Whether the flit that is ready at this place is at home. The buffer is asked: were the flit itself read in part,
+    /// the compiler would take it apart on its way to a link, too.
+    fn is_home(&self, node: u8, port: u8, vc: u8) -> bool
+        requires { IsNetPlace self.now node port vc }
+        ensures { IfSome (leaving (router_at self.now node) port vc) (λ out. result ≡ (out.1.lane.dst == node)) }
+    {
+        match self.node(node).router.buffer_at(port, vc, 0) {
+            Some(flit) => flit.lane.dst == node,
+            None => false,
+        }
+    }
+
     /// Lets the ready flit out into the node's sink, by the output port `out`, if the sink can take it.
     fn deliver(&mut self, node: u8, port: u8, vc: u8, out: u8, flit: Flit) -> bool
         requires place { IsNetPlace self.old node port vc }
@@ -270,7 +282,7 @@ impl Fabric {
             return Ok(Moved::Idle);
         };
         if out == terminal {
-            if flit.lane.dst != node {
+            if !self.is_home(node, port, vc) {
                 return Ok(Moved::Idle);
             }
             if !self.deliver(node, port, vc, out, flit) {
@@ -323,46 +335,6 @@ impl Fabric {
         ensures err { OnErr result (self.new ≡ self.old) }
     {
         self.nodes.close(node, lane)
-    }
-
-    /// By which port the front flit may leave, and as which flit, if it may.
-    pub fn ready(&self, node: u8, port: u8, vc: u8) -> Option<(u8, Flit)>
-        requires { IsNetPlace self.now node port vc }
-        ensures { result ≡ leaving (router_at self.now node) port vc }
-    {
-        self.nodes.node(node).router.ready(port, vc)
-    }
-
-    /// The ready flit leaves the node by the output port `out`, whose link is kept elsewhere.
-    pub fn let_out(&mut self, node: u8, port: u8, vc: u8, out: u8, flit: Flit)
-        requires place { IsNetPlace self.old node port vc }
-        requires ready { leaving (router_at self.old node) port vc ≡ Some (out, flit) }
-        ensures { self.new ≡ with_router self.old node (after_send (router_at self.old node) port vc) }
-    {
-        self.nodes.router_mut(node).let_out(port, vc, out, flit);
-    }
-
-    /// The flit comes onto the link out of this port.
-    pub fn arrive(&mut self, node: u8, port: u8, flit: Flit)
-        requires links { length self.old.links ≡ link_count self.old.mesh }
-        requires linked { IsSome (neighbour_of self.old.mesh node port) }
-        requires room { length (link_at self.old (link_out self.old node port)).flits <
-            (link_at self.old (link_out self.old node port)).room }
-        ensures { self.new ≡ after_arriving self.old node port flit }
-    {
-        self.links.push(node, port, flit);
-    }
-
-    /// The credit of the channel comes onto the link into this port, on its way back.
-    pub fn arrive_credit(&mut self, node: u8, port: u8, links: PortLinks, vc: u8)
-        requires mesh { IsRadices self.old.mesh }
-        requires ports { Some links ≡ port_links self.old.mesh node port }
-        requires links { length self.old.links ≡ link_count self.old.mesh }
-        requires room { length (link_at self.old (link_into self.old node port)).credits <
-            (link_at self.old (link_into self.old node port)).room }
-        ensures { self.new ≡ after_credit_back self.old node port vc }
-    {
-        self.links.push_credit(node, port, links, vc);
     }
 
     /// Whether the input channel owes a credit.
