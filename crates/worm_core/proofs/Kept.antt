@@ -13,7 +13,8 @@ use Rattle.worm_theory.specs.Steps.{Step, IsThere, IsPort, Enabled, after}
 use Rattle.worm_theory.proofs.Places.{number_cases}
 use Rattle.worm_core.specs.Shape.{net_shape}
 use Rattle.worm_core.specs.declared.node.Node.{Node}
-use Rattle.worm_core.specs.State.{NetState, LinkView, IsFramed, IsNodeOf, IsNetPlace, shape, network_of, node_at, router_at, with_node, with_router}
+use Rattle.worm_core.specs.State.{NetState, LinkView, IsFramed, IsNodeOf, IsNetPlace, shape, network_of, node_at}
+use Rattle.worm_core.specs.State.{router_at, with_node, with_router}
 use Rattle.worm_core.specs.Workable.{IsWorkableBy, Works}
 use Rattle.worm_core.proofs.Bridge.{node_at-put}
 use Rattle.worm_core.proofs.Working.{step_works}
@@ -26,16 +27,23 @@ unfolding net_shape
 framed_mesh s framed = shape_is_mesh s.mesh s.channels s.depth framed.radices framed.classes
 
 -- a network whose lists stand for what the theory makes of one that moves can be made in is such a one
-pub kept : (s : NetState) (nodes : List Node) (links : List LinkView) (step : Step) → {own : ℕ → Bool} → IsWorkableBy own s → IsThere (shape s) step → Enabled (shape s) (network_of s) step
+pub kept : (s : NetState) (nodes : List Node) (links : List LinkView) (step : Step) → {own : ℕ → Bool} →
+    IsWorkableBy own s → IsThere (shape s) step → Enabled (shape s) (network_of s) step
     → IsFramed (record s { nodes = nodes; links = links })
     → network_of (record s { nodes = nodes; links = links }) ≡ after (shape s) (network_of s) step
     → IsWorkableBy own (record s { nodes = nodes; links = links })
 kept s nodes links step {own} net there enabled framed e =
     let mesh = framed_mesh s net.framed in
-    record { framed = framed; works = subst (λ (n : Network). Works (shape s) own n) (sym e) (step_works (shape s) mesh (network_of s) step there enabled net.works) }
+    record {
+      framed = framed;
+      works =
+          subst (λ (n : Network). Works (shape s) own n) (sym e)
+          (step_works (shape s) mesh (network_of s) step there enabled net.works);
+    }
 
 -- a node's place in the frame, after a write
-pub node_framed : (s : NetState) (x : ℕ) (n : Node) → IsFramed s → x < length s.nodes → IsNodeOf s.mesh s.channels s.depth x n → IsFramed (with_node s x n)
+pub node_framed : (s : NetState) (x : ℕ) (n : Node) → IsFramed s → x < length s.nodes →
+    IsNodeOf s.mesh s.channels s.depth x n → IsFramed (with_node s x n)
 node_framed s x n framed there new = record {
   radices = framed.radices;
   classes = framed.classes;
@@ -57,9 +65,13 @@ node_framed s x n framed there new = record {
 }
 
 -- a node with other channel lists of the same lengths, another list of its sink
-pub node_of : (mesh channels : List ℕ) (depth x : ℕ) (n : Node) (ins : List ChannelState) (outs : List OutRecord) (came : List Flit) → IsNodeOf mesh channels depth x n
+pub node_of : (mesh channels : List ℕ) (depth x : ℕ) (n : Node) (ins : List ChannelState) (outs : List OutRecord)
+    (came : List Flit) → IsNodeOf mesh channels depth x n
     → length ins ≡ length n.router.inputs → length outs ≡ length n.router.outputs
-    → IsNodeOf mesh channels depth x (record n { router = record n.router { inputs = ins; outputs = outs }; sink = record n.sink { delivered = came } })
+    → IsNodeOf mesh channels depth x (record n {
+      router = record n.router { inputs = ins; outputs = outs };
+      sink = record n.sink { delivered = came };
+    })
 node_of mesh channels depth x n ins outs came old same_ins same_outs = record {
   same_mesh = old.same_mesh;
   same_node = old.same_node;
@@ -76,14 +88,18 @@ node_of mesh channels depth x n ins outs came old same_ins same_outs = record {
 }
 
 -- a node with other channel lists of the same lengths
-pub router_framed : (s : NetState) (x : ℕ) (ins : List ChannelState) (outs : List OutRecord) → IsFramed s → x < length s.nodes → length ins ≡ length (router_at s x).inputs → length outs ≡ length (router_at s x).outputs
+pub router_framed : (s : NetState) (x : ℕ) (ins : List ChannelState) (outs : List OutRecord) → IsFramed s →
+    x < length s.nodes → length ins ≡ length (router_at s x).inputs → length outs ≡ length (router_at s x).outputs
     → IsFramed (with_router s x (record (router_at s x) { inputs = ins; outputs = outs }))
 router_framed s x ins outs framed there same_ins same_outs =
-    node_framed s x (record (node_at s x) { router = record (router_at s x) { inputs = ins; outputs = outs } }) framed there
-    (node_of s.mesh s.channels s.depth x (node_at s x) ins outs (node_at s x).sink.delivered (framed.each_node x there) same_ins same_outs)
+    node_framed s x (record (node_at s x) { router = record (router_at s x) { inputs = ins; outputs = outs } }) framed
+    there
+    (node_of s.mesh s.channels s.depth x (node_at s x) ins outs (node_at s x).sink.delivered
+    (framed.each_node x there) same_ins same_outs)
 
 -- a port with a neighbour is below the terminal
-pub linked_port : (ks : List ℕ) (x p : ℕ) → AreLarge ks → (o : Option ℕ) → neighbour_of ks x p ≡ o → IsSome o → p < 2 * length ks
+pub linked_port : (ks : List ℕ) (x p : ℕ) → AreLarge ks → (o : Option ℕ) → neighbour_of ks x p ≡ o → IsSome o →
+    p < 2 * length ks
 linked_port ks x p l None e some = absurd (cc)
 linked_port ks x p l (Some y) e some = (Joins-from ks x p y l e).mesh_port
 
@@ -94,15 +110,21 @@ port_below s x p framed port =
     let l = AreLarge-from_radices s.mesh framed.radices.radices in
     elim port [
       | inl e ↦ let same : p ≡ 2 * length s.mesh = e in omega arith
-      | inr some ↦ let below : p < 2 * length s.mesh = linked_port s.mesh x p l (neighbour_of s.mesh x p) refl some in omega arith
+      | inr some ↦
+          let below : p < 2 * length s.mesh = linked_port s.mesh x p l (neighbour_of s.mesh x p) refl some in
+          omega arith
     ]
 
 -- a place of the theory is a place of the router
-pub net_place : (s : NetState) (x p v : ℕ) → IsFramed s → x < (shape s).nodes → IsPort (shape s) x p → v < (shape s).channels → IsNetPlace s x p v
+pub net_place : (s : NetState) (x p v : ℕ) → IsFramed s → x < (shape s).nodes → IsPort (shape s) x p →
+    v < (shape s).channels → IsNetPlace s x p v
 unfolding net_shape
 net_place s x p v framed x_in port v_in =
     let all = framed.all_nodes in
     let there : x < length s.nodes = omega arith in
     let node = framed.each_node x there in
     let port_in : p ≤ 2 * length s.mesh = port_below s x p framed port in
-    record { node_in = there; place = record { port_in = rw node.same_mesh port_in; channel_in = rw node.same_channels v_in } }
+    record {
+      node_in = there;
+      place = record { port_in = rw node.same_mesh port_in; channel_in = rw node.same_channels v_in };
+    }

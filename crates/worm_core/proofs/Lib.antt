@@ -15,6 +15,7 @@ pub mod GiveStep
 pub mod Sources
 pub mod FeedStep
 pub mod SendBridge
+pub mod SinkBridge
 pub mod SendStep
 pub mod OwnEdges
 pub mod EdgeMoves

@@ -8,7 +8,8 @@ use Rattle.worm_theory.specs.Shape.{Shape}
 use Rattle.worm_theory.specs.Sound.{Sound, OthersIdle, OnesClosed}
 use Rattle.worm_theory.specs.Cut.{LanesCut}
 use Rattle.worm_theory.specs.PacketCut.{PacketsHold}
-use Rattle.worm_theory.specs.Steps.{Step, Offer, CloseLane, Feed, Route, Grant, Send, Take, GiveCredit, TakeCredit, IsThere, Enabled}
+use Rattle.worm_theory.specs.Steps.{Step, Offer, CloseLane, Feed, Route, Grant, Send, Take, GiveCredit, TakeCredit}
+use Rattle.worm_theory.specs.Steps.{IsThere, Enabled}
 use Rattle.worm_theory.proofs.Keeps.{steps_sound}
 use Rattle.worm_theory.proofs.CutKeeps.{steps_keep}
 use Rattle.worm_theory.proofs.PacketKeeps.{steps_packets}
@@ -19,8 +20,13 @@ use Rattle.worm_core.specs.State.{NetState, IsNet, IsFramed, shape, network_of, 
 use Rattle.worm_core.specs.Moves.{chosen_router}
 use Rattle.worm_core.specs.Answers.{Answers}
 use Rattle.worm_core.specs.Replies.{Attempts, Hindered, Replies}
-use Rattle.worm_core.specs.Turns.{ComesIn, Passage, Each, ForEach, ◌and_then◌, Reaches, Tries, Allocates, TakesCredits, TakesFlits, FeedsClasses, RoutesPort, RoutesChannels, SendsGranted, GivesCredit, GivesCredits, NodePasses, NodeTurn, AsksSource, Turn, all_nodes, all_ports, mesh_ports}
-use Rattle.worm_core.specs.Turns.{AsksSourceBy, ComesInBy, FeedsClassesBy, GivesCreditBy, GivesCreditsBy, NodePassesBy, NodeTurnBy, RoutesChannelsBy, RoutesPortBy, SendsGrantedBy, TakesCreditsBy, TakesFlitsBy}
+use Rattle.worm_core.specs.Turns.{ComesIn, Passage, Each, ForEach, ◌and_then◌, Reaches, Tries, Allocates, TakesCredits}
+use Rattle.worm_core.specs.Turns.{TakesFlits, FeedsClasses, RoutesPort, RoutesChannels, SendsGranted, GivesCredit}
+use Rattle.worm_core.specs.Turns.{GivesCredits, NodePasses, NodeTurn, AsksSource, Turn, all_nodes, all_ports}
+use Rattle.worm_core.specs.Turns.{mesh_ports}
+use Rattle.worm_core.specs.Turns.{AsksSourceBy, ComesInBy, FeedsClassesBy, GivesCreditBy, GivesCreditsBy, NodePassesBy}
+use Rattle.worm_core.specs.Turns.{NodeTurnBy, RoutesChannelsBy, RoutesPortBy, SendsGrantedBy, TakesCreditsBy}
+use Rattle.worm_core.specs.Turns.{TakesFlitsBy}
 use Rattle.worm_core.specs.declared.node.Node.{Node}
 use Rattle.worm_core.specs.declared.script.Entry.{Entry}
 use Rattle.worm_core.specs.declared.step.Moved.{Moved}
@@ -37,19 +43,31 @@ use Rattle.worm_core.proofs.StepsAt.{anywhere}
 pub net_reached : (a b : NetState) → IsNet a → Reaches a b → IsFramed b → IsNet b
 net_reached a b net reaches framed =
     let mesh = framed_mesh a net.framed in
-    let same : shape a ≡ shape b = λ t. net_shape (sym reaches.config.mesh t) (sym reaches.config.channels t) (sym reaches.config.depth t) in
+    let same : shape a ≡ shape b =
+    λ t. net_shape (sym reaches.config.mesh t) (sym reaches.config.channels t) (sym reaches.config.depth t) in
     record {
       framed = framed;
       all_owned = reaches.config.own ∙ net.all_owned;
-      sound = subst (λ (s : Shape). Sound s (network_of b)) same (steps_sound (shape a) mesh reaches.steps (network_of a) (network_of b) reaches.led net.sound);
-      cut = subst (λ (s : Shape). LanesCut s (network_of b)) same (steps_keep (shape a) mesh reaches.steps (network_of a) (network_of b) reaches.led net.sound net.cut).1;
-      packets = subst (λ (s : Shape). PacketsHold s (network_of b)) same (steps_packets (shape a) mesh reaches.steps (network_of a) (network_of b) reaches.led net.sound net.packets);
-      others = subst (λ (s : Shape). OthersIdle s (network_of b)) same (steps_others (shape a) mesh reaches.steps (network_of a) (network_of b) reaches.led net.others);
-      closed = subst (λ (s : Shape). OnesClosed s (network_of b)) same (steps_closed (shape a) reaches.steps (network_of a) (network_of b) reaches.led net.closed);
+      sound =
+          subst (λ (s : Shape). Sound s (network_of b)) same
+          (steps_sound (shape a) mesh reaches.steps (network_of a) (network_of b) reaches.led net.sound);
+      cut =
+          subst (λ (s : Shape). LanesCut s (network_of b)) same
+          (steps_keep (shape a) mesh reaches.steps (network_of a) (network_of b) reaches.led net.sound net.cut).1;
+      packets =
+          subst (λ (s : Shape). PacketsHold s (network_of b)) same
+          (steps_packets (shape a) mesh reaches.steps (network_of a) (network_of b) reaches.led net.sound net.packets);
+      others =
+          subst (λ (s : Shape). OthersIdle s (network_of b)) same
+          (steps_others (shape a) mesh reaches.steps (network_of a) (network_of b) reaches.led net.others);
+      closed =
+          subst (λ (s : Shape). OnesClosed s (network_of b)) same
+          (steps_closed (shape a) reaches.steps (network_of a) (network_of b) reaches.led net.closed);
     }
 
 -- no step is hindered
-free : (s : NetState) (step : Step) → IsNet s → IsThere (shape s) step → Enabled (shape s) (network_of s) step → Hindered s step → ⊥
+free : (s : NetState) (step : Step) → IsNet s → IsThere (shape s) step → Enabled (shape s) (network_of s) step →
+    Hindered s step → ⊥
 unfolding net_shape
 free s (Offer x lane words) net there enabled hindered = hindered
 free s (CloseLane x lane) net there enabled hindered = hindered
@@ -61,10 +79,14 @@ free s (Take x p) net there enabled hindered = hindered
 free s (GiveCredit x p v) net there enabled hindered = hindered
 free s (TakeCredit x o) net there enabled hindered = hindered
 
-pub net_answers : (a b : NetState) (step : Step) (answer : Result Moved StepFault) → IsNet a → Replies a step answer b → IsNet b × Answers a step answer b
-net_answers a b step (Ok Done) net d =
-    (net_reached a b net (by_answer a b step (Ok Done) d) d.framed, record { there = d.there; enabled = d.enabled; after_it = d.after_it; config = d.config; exact = d.exact })
-net_answers a b step (Ok Idle) net i = (subst IsNet (sym i.3) net, (i.0, λ enabled. free a step net i.0 enabled (i.1 enabled), i.2, i.3))
+pub net_answers : (a b : NetState) (step : Step) (answer : Result Moved StepFault) → IsNet a →
+    Replies a step answer b → IsNet b × Answers a step answer b
+net_answers a b step (Ok Done) net d = (
+  net_reached a b net (by_answer a b step (Ok Done) d) d.framed,
+  record { there = d.there; enabled = d.enabled; after_it = d.after_it; config = d.config; exact = d.exact },
+)
+net_answers a b step (Ok Idle) net i =
+    (subst IsNet (sym i.3) net, (i.0, λ enabled. free a step net i.0 enabled (i.1 enabled), i.2, i.3))
 net_answers a b step (Err NoSuchPlace) net i = (subst IsNet (sym i.1) net, i)
 net_answers a b step (Err (Refused why)) net i = (subst IsNet (sym i.3) net, i)
 net_answers a b step (Err NoMemory) net i = (subst IsNet (sym i.3) net, i)
@@ -75,9 +97,11 @@ abbrev Lifts : Passage → Passage → Type 0
 Lifts P Q = (a b : NetState) (fault : Option StepFault) → IsNet a → P a fault b → IsNet b × Q a fault b
 
 lift_try : (step : Step) → Lifts (Attempts step) (Tries step)
-lift_try step a b fault net tried = let made = net_answers a b step tried.0 net tried.1 in (made.0, (tried.0, made.1, tried.2))
+lift_try step a b fault net tried =
+    let made = net_answers a b step tried.0 net tried.1 in (made.0, (tried.0, made.1, tried.2))
 
-lift_each : {A : Type 0} (P Q : A → Passage) → ((x : A) → Lifts (P x) (Q x)) → (xs : List A) → Lifts (Each P xs) (Each Q xs)
+lift_each : {A : Type 0} (P Q : A → Passage) → ((x : A) → Lifts (P x) (Q x)) → (xs : List A) →
+    Lifts (Each P xs) (Each Q xs)
 lift_each P Q each [] a b fault net stays = (subst IsNet (sym stays.1) net, stays)
 lift_each P Q each (x ∷ xs) a b fault net made = elim made [
   | inl ended ↦ let first = each x a b fault net ended.1 in (first.0, inl (ended.0, first.1))
@@ -102,13 +126,15 @@ written_past s x n past = ap (λ (nodes : List Node). record s { nodes = nodes }
 
 net_allocated : (s : NetState) (x : ℕ) → IsNet s → IsNet (with_router s x (after_allocate (router_at s x)))
 net_allocated s x net = elim (cases_lt x (length s.nodes)) [
-  | inl there ↦ let made = allocated s x (workable s net) there in net_reached s _ net (anywhere x s _ made.1) made.0.framed
+  | inl there ↦
+      let made = allocated s x (workable s net) there in net_reached s _ net (anywhere x s _ made.1) made.0.framed
   | inr past ↦ subst IsNet (sym (written_past s x _ past)) net
 ]
 
 net_chosen : (s : NetState) (x : ℕ) → IsNet s → IsNet (with_router s x (chosen_router (router_at s x)))
 net_chosen s x net = elim (cases_lt x (length s.nodes)) [
-  | inl there ↦ let made = chosen s x (workable s net) there in net_reached s _ net (anywhere x s _ made.1) made.0.framed
+  | inl there ↦
+      let made = chosen s x (workable s net) there in net_reached s _ net (anywhere x s _ made.1) made.0.framed
   | inr past ↦ subst IsNet (sym (written_past s x _ past)) net
 ]
 
@@ -116,19 +142,23 @@ lift_allocates : (x : ℕ) → Lifts (Allocates x) (Allocates x)
 lift_allocates x a b fault net made = (subst IsNet (sym made.1) (net_allocated a x net), made)
 
 lift_sends : (x : ℕ) → Lifts (SendsGrantedBy Attempts x) (SendsGranted x)
-lift_sends x a b fault net made = lift_each Attempts Tries lift_try _ (with_router a x (chosen_router (router_at a x))) b fault (net_chosen a x net) made
+lift_sends x a b fault net made =
+    lift_each Attempts Tries lift_try _ (with_router a x (chosen_router (router_at a x))) b fault
+    (net_chosen a x net) made
 
 lift_tries : (list : NetState → List Step) → Lifts (ForEach list Attempts) (ForEach list Tries)
 lift_tries list a b fault net made = lift_each Attempts Tries lift_try (list a) a b fault net made
 
-lift_for : {A : Type 0} (list : NetState → List A) (P Q : A → Passage) → ((x : A) → Lifts (P x) (Q x)) → Lifts (ForEach list P) (ForEach list Q)
+lift_for : {A : Type 0} (list : NetState → List A) (P Q : A → Passage) → ((x : A) → Lifts (P x) (Q x)) →
+    Lifts (ForEach list P) (ForEach list Q)
 lift_for list P Q each a b fault net made = lift_each P Q each (list a) a b fault net made
 
 lift_in : (x : ℕ) → Lifts (ComesInBy Attempts x) (ComesIn x)
 lift_in x =
     lift_then (TakesCreditsBy Attempts x) _ (TakesCredits x) _ (lift_tries _)
     (lift_then (TakesFlitsBy Attempts x) _ (TakesFlits x) _ (lift_tries _)
-    (lift_then (FeedsClassesBy Attempts x) (RoutesChannelsBy Attempts x) (FeedsClasses x) (RoutesChannels x) (lift_tries _)
+    (lift_then (FeedsClassesBy Attempts x) (RoutesChannelsBy Attempts x) (FeedsClasses x) (RoutesChannels x)
+    (lift_tries _)
     (lift_for all_ports (RoutesPortBy Attempts x) (RoutesPort x) (λ p. lift_tries _))))
 
 lift_node : (x : ℕ) → Lifts (NodePassesBy Attempts x) (NodePasses x)

@@ -10,12 +10,14 @@ use Rattle.worm_mesh.proofs.Numbers.{one_link, below_count}
 use Rattle.worm_theory.specs.Network.{same, put2}
 use Rattle.worm_theory.proofs.Places.{bool_cases, number_cases, place_cases, same-false}
 use Rattle.worm_theory.proofs.Bridge.{same_network}
-use Rattle.worm_core.specs.State.{NetState, LinkView, IsFramed, network_of, node_at, link_at, link_of, with_link, blank_link}
+use Rattle.worm_core.specs.State.{NetState, LinkView, IsFramed, network_of, node_at, link_at, link_of, with_link}
+use Rattle.worm_core.specs.State.{blank_link}
 
 pub below_not_same : (q t : ℕ) → q < t → (q == t) ≡ false
 below_not_same q t h = grind arith
 
-pub link_there : (s : NetState) (x o : ℕ) → has_neighbour s.mesh x o ≡ true → link_of s x o ≡ link_at s (links_before s.mesh x o)
+pub link_there : (s : NetState) (x o : ℕ) → has_neighbour s.mesh x o ≡ true →
+    link_of s x o ≡ link_at s (links_before s.mesh x o)
 link_there s x o e = rw e refl
 
 pub link_of-put : (s : NetState) (x o : ℕ) (l : LinkView) → IsFramed s → has_neighbour s.mesh x o ≡ true → (y q : ℕ)
@@ -27,12 +29,19 @@ link_of-put s x o l framed there y q =
     let bound : links_before s.mesh x o < length s.links = omega (arith, below_count s.mesh large x o link) in
     elim (bool_cases (has_neighbour s.mesh y q)) [
       | inl has ↦ elim (place_cases y q x o) [
-        | inl here ↦ rw (has, here.0) (rw (here.1, here.2) (get_or-set_same s.links (links_before s.mesh x o) l blank_link bound))
-        | inr away ↦ rw (has, away.0) (get_or-set_other s.links (links_before s.mesh x o) (links_before s.mesh y q) l blank_link
-            (λ e. let both = one_link s.mesh large y q x o (IsLink-from_test s.mesh y q large has) link e in away.1 both.0 both.1))
+        | inl here ↦
+            rw (has, here.0) (rw (here.1, here.2)
+            (get_or-set_same s.links (links_before s.mesh x o) l blank_link bound))
+        | inr away ↦
+            rw (has, away.0) (get_or-set_other s.links (links_before s.mesh x o) (links_before s.mesh y q) l blank_link
+            (λ e.
+            let both = one_link s.mesh large y q x o (IsLink-from_test s.mesh y q large has) link e in
+            away.1 both.0 both.1))
       ]
       | inr none ↦
-          let away : same y q x o ≡ false = same-false y q x o (λ e1 e2. let here : has_neighbour s.mesh y q ≡ true = rw (e1, e2) there in absurd (cc)) in
+          let away : same y q x o ≡ false =
+          same-false y q x o (λ e1 e2.
+          let here : has_neighbour s.mesh y q ≡ true = rw (e1, e2) there in absurd (cc)) in
           rw (none, away) refl
     ]
 
@@ -62,7 +71,8 @@ link_bridge s x o l framed there =
             let at : link_of (with_link s (links_before s.mesh x o) l) y q ≡ l = new y q ∙ rw here.0 refl in
             rw (not_terminal, here.0) (ap (λ (k : LinkView). k.flits) at)
         | inr away ↦
-            let at : link_of (with_link s (links_before s.mesh x o) l) y q ≡ link_of s y q = new y q ∙ rw away.0 refl in
+            let at : link_of (with_link s (links_before s.mesh x o) l) y q ≡ link_of s y q =
+            new y q ∙ rw away.0 refl in
             rw away.0 (ap (λ (k : LinkView). cond (q == 2 * length s.mesh) (node_at s y).sink.delivered k.flits) at)
       ];
       credit_list = λ y q. elim (place_cases y q x o) [
@@ -70,7 +80,8 @@ link_bridge s x o l framed there =
             let at : link_of (with_link s (links_before s.mesh x o) l) y q ≡ l = new y q ∙ rw here.0 refl in
             rw here.0 (ap (λ (k : LinkView). k.credits) at)
         | inr away ↦
-            let at : link_of (with_link s (links_before s.mesh x o) l) y q ≡ link_of s y q = new y q ∙ rw away.0 refl in
+            let at : link_of (with_link s (links_before s.mesh x o) l) y q ≡ link_of s y q =
+            new y q ∙ rw away.0 refl in
             rw away.0 (ap (λ (k : LinkView). k.credits) at)
       ];
       injected = λ y k. refl;
@@ -78,7 +89,8 @@ link_bridge s x o l framed there =
     }
 
 -- what a link's port leads from in the theory
-pub out_there : (s : NetState) (x o : ℕ) → IsFramed s → has_neighbour s.mesh x o ≡ true → (network_of s).out x o ≡ (link_at s (links_before s.mesh x o)).flits
+pub out_there : (s : NetState) (x o : ℕ) → IsFramed s → has_neighbour s.mesh x o ≡ true →
+    (network_of s).out x o ≡ (link_at s (links_before s.mesh x o)).flits
 unfolding network_of
 out_there s x o framed there =
     let large = AreLarge-from_radices s.mesh framed.radices.radices in
@@ -87,11 +99,13 @@ out_there s x o framed there =
     let not_terminal : (o == 2 * length s.mesh) ≡ false = below_not_same o (2 * length s.mesh) mesh_port in
     rw (not_terminal, there) refl
 
-pub credits_there : (s : NetState) (x o : ℕ) → IsFramed s → has_neighbour s.mesh x o ≡ true → (network_of s).credit_list x o ≡ (link_at s (links_before s.mesh x o)).credits
+pub credits_there : (s : NetState) (x o : ℕ) → IsFramed s → has_neighbour s.mesh x o ≡ true →
+    (network_of s).credit_list x o ≡ (link_at s (links_before s.mesh x o)).credits
 unfolding network_of
 credits_there s x o framed there = rw there refl
 
-pub link_framed : (s : NetState) (k : ℕ) (l : LinkView) → IsFramed s → k < length s.links → l.room ≡ (link_at s k).room → IsFramed (with_link s k l)
+pub link_framed : (s : NetState) (k : ℕ) (l : LinkView) → IsFramed s → k < length s.links →
+    l.room ≡ (link_at s k).room → IsFramed (with_link s k l)
 link_framed s k l framed there same_room = record {
   radices = framed.radices;
   classes = framed.classes;

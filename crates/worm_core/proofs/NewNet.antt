@@ -1,5 +1,6 @@
 -- A fresh network's lists are framed, and stand for the empty network.
-use Rattle.std.proofs.Common.{◌≡◌, ℕ, zero, suc, ◌+◌, ◌*◌, ◌<◌, ◌≤◌, ◌==◌, cond, nat_lt, inl, inr, List, [], ◌∷◌, ◌++◌, length, drop, get_or, sum, replicate, refl, arith, ap, sym, subst, ◌∙◌}
+use Rattle.std.proofs.Common.{◌≡◌, ℕ, zero, suc, ◌+◌, ◌*◌, ◌<◌, ◌≤◌, ◌==◌, cond, nat_lt, inl, inr, List, [], ◌∷◌, ◌++◌}
+use Rattle.std.proofs.Common.{length, drop, get_or, sum, replicate, refl, arith, ap, sym, subst, ◌∙◌}
 use Rattle.std.proofs.lemmas.List.{length-replicate}
 use Rattle.worm_flit.specs.Channels.{AreChannels}
 use Rattle.worm_mesh.specs.Address.{IsMesh as IsRadices, node_count, has_neighbour}
@@ -25,7 +26,8 @@ use Rattle.worm_core.specs.Shape.{net_shape}
 use Rattle.worm_core.specs.Owned.{sole}
 use Rattle.worm_core.specs.declared.node.Node.{Node}
 use Rattle.worm_core.specs.declared.own.Own.{Own}
-use Rattle.worm_core.specs.State.{NetState, LinkView, IsNet, IsFramed, IsNodeOf, shape, network_of, node_at, router_at, link_at, link_of, fresh_node, blank_link, input_of, output_of, queue_of}
+use Rattle.worm_core.specs.State.{NetState, LinkView, IsNet, IsFramed, IsNodeOf, shape, network_of, node_at, router_at}
+use Rattle.worm_core.specs.State.{link_at, link_of, fresh_node, blank_link, input_of, output_of, queue_of}
 use Rattle.worm_core.specs.NewNet.{IsFresh, AreFresh, empty_link}
 use Rattle.worm_core.proofs.Kept.{framed_mesh}
 
@@ -35,13 +37,16 @@ all_one {A} zero i v = refl
 all_one {A} (suc n) zero v = refl
 all_one {A} (suc n) (suc i) v = all_one n i v
 
-pub input_fresh : (mesh : List ℕ) (x : ℕ) (channels : List ℕ) (depth p v : ℕ) → input_of (fresh_router mesh x channels depth) p v ≡ fresh_channel depth
+pub input_fresh : (mesh : List ℕ) (x : ℕ) (channels : List ℕ) (depth p v : ℕ) →
+    input_of (fresh_router mesh x channels depth) p v ≡ fresh_channel depth
 input_fresh mesh x channels depth p v = elim (bool_cases (nat_lt v (sum channels))) [
-  | inl within ↦ rw within (all_one ((2 * length mesh + 1) * sum channels) (p * sum channels + v) (fresh_channel depth))
+  | inl within ↦
+      rw within (all_one ((2 * length mesh + 1) * sum channels) (p * sum channels + v) (fresh_channel depth))
   | inr past ↦ rw past refl
 ]
 
-output_fresh : (mesh : List ℕ) (x : ℕ) (channels : List ℕ) (depth o c : ℕ) → output_of (fresh_router mesh x channels depth) o c ≡ free_output depth
+output_fresh : (mesh : List ℕ) (x : ℕ) (channels : List ℕ) (depth o c : ℕ) →
+    output_of (fresh_router mesh x channels depth) o c ≡ free_output depth
 output_fresh mesh x channels depth o c = elim (bool_cases (nat_lt c (sum channels))) [
   | inl within ↦ rw within (all_one ((2 * length mesh + 1) * sum channels) (o * sum channels + c) (free_output depth))
   | inr past ↦ rw past refl
@@ -50,25 +55,38 @@ output_fresh mesh x channels depth o c = elim (bool_cases (nat_lt c (sum channel
 queue_fresh : (x nodes : ℕ) (channels : List ℕ) (k : ℕ) → queue_at (fresh_source x nodes channels) k ≡ empty_queue
 queue_fresh x nodes channels k = all_one (length channels) k empty_queue
 
-link_fresh : (n k room : ℕ) → ((get_or (replicate n (empty_link room)) k blank_link).flits ≡ []) × ((get_or (replicate n (empty_link room)) k blank_link).credits ≡ [])
+link_fresh : (n k room : ℕ) → ((get_or (replicate n (empty_link room)) k blank_link).flits ≡ []) ×
+    ((get_or (replicate n (empty_link room)) k blank_link).credits ≡ [])
 link_fresh zero k room = (refl, refl)
 link_fresh (suc n) zero room = (refl, refl)
 link_fresh (suc n) (suc k) room = link_fresh n k room
 
 -- a list whose items are given by their places, and one item more
-pushed : {A : Type 0} (f : ℕ → A) (xs : List A) → ((i : ℕ) → get_or xs i (f i) ≡ f i) → (i : ℕ) → get_or (xs ++ f (length xs) ∷ []) i (f i) ≡ f i
+pushed : {A : Type 0} (f : ℕ → A) (xs : List A) → ((i : ℕ) → get_or xs i (f i) ≡ f i) → (i : ℕ) →
+    get_or (xs ++ f (length xs) ∷ []) i (f i) ≡ f i
 pushed {A} f [] all zero = refl
 pushed {A} f [] all (suc i) = refl
 pushed {A} f (x ∷ xs) all zero = all zero
 pushed {A} f (x ∷ xs) all (suc i) = pushed (λ (j : ℕ). f (suc j)) xs (λ j. all (suc j)) i
 
-pub fresh_push : (mesh channels : List ℕ) (depth : ℕ) (nodes : List Node) → AreFresh mesh channels depth nodes → AreFresh mesh channels depth (nodes ++ fresh_node mesh channels depth (length nodes) ∷ [])
+pub fresh_push : (mesh channels : List ℕ) (depth : ℕ) (nodes : List Node) → AreFresh mesh channels depth nodes →
+    AreFresh mesh channels depth (nodes ++ fresh_node mesh channels depth (length nodes) ∷ [])
 fresh_push mesh channels depth nodes all = pushed (fresh_node mesh channels depth) nodes all
 
-module _ (mesh channels : List ℕ) (depth : ℕ) (names : List (List ℕ)) (nodes : List Node) (links : List LinkView) (own : Own)
-    (all : AreFresh mesh channels depth nodes) (no_links : links ≡ replicate (link_count mesh) (empty_link (sum channels * depth))) where
+module _ (mesh channels : List ℕ) (depth : ℕ) (names : List (List ℕ)) (nodes : List Node) (links : List LinkView)
+    (own : Own)
+    (all : AreFresh mesh channels depth nodes)
+    (no_links : links ≡ replicate (link_count mesh) (empty_link (sum channels * depth))) where
   abbrev s : NetState
-  s = record { mesh = mesh; channels = channels; depth = depth; names = names; nodes = nodes; links = links; own = own }
+  s = record {
+    mesh = mesh;
+    channels = channels;
+    depth = depth;
+    names = names;
+    nodes = nodes;
+    links = links;
+    own = own;
+  }
 
   ins : (x p v : ℕ) → input_of (router_at s x) p v ≡ fresh_channel depth
   ins x p v = ap (λ (n : Node). input_of n.router p v) (all x) ∙ input_fresh mesh x channels depth p v
@@ -83,10 +101,18 @@ module _ (mesh channels : List ℕ) (depth : ℕ) (names : List (List ℕ)) (nod
   on_links k = rw no_links (link_fresh (link_count mesh) k (sum channels * depth))
 
   link_flits : (x o : ℕ) → (link_of s x o).flits ≡ []
-  link_flits x o = elim (bool_cases (has_neighbour mesh x o)) [ inl has ↦ rw has (on_links (links_before mesh x o)).0 | inr none ↦ rw none refl ]
+  link_flits x o =
+      elim (bool_cases (has_neighbour mesh x o)) [
+        | inl has ↦ rw has (on_links (links_before mesh x o)).0
+        | inr none ↦ rw none refl
+      ]
 
   link_credits : (x o : ℕ) → (link_of s x o).credits ≡ []
-  link_credits x o = elim (bool_cases (has_neighbour mesh x o)) [ inl has ↦ rw has (on_links (links_before mesh x o)).1 | inr none ↦ rw none refl ]
+  link_credits x o =
+      elim (bool_cases (has_neighbour mesh x o)) [
+        | inl has ↦ rw has (on_links (links_before mesh x o)).1
+        | inr none ↦ rw none refl
+      ]
 
   outs_none : (x o : ℕ) → cond (o == 2 * length mesh) (node_at s x).sink.delivered (link_of s x o).flits ≡ []
   outs_none x o = elim (bool_cases (o == 2 * length mesh)) [
@@ -109,7 +135,8 @@ module _ (mesh channels : List ℕ) (depth : ℕ) (names : List (List ℕ)) (nod
     unfed = λ x k. ap (λ (q : QueueState). drop q.fed q.injected) (queues x k);
   }
 
-  module _ (radices : IsRadices mesh) (classes : AreChannels channels) (least_depth : 1 ≤ depth) (most_depth : depth ≤ 16) (all_owned : own ≡ sole) (all_nodes : length nodes ≡ node_count mesh) where
+  module _ (radices : IsRadices mesh) (classes : AreChannels channels) (least_depth : 1 ≤ depth)
+      (most_depth : depth ≤ 16) (all_owned : own ≡ sole) (all_nodes : length nodes ≡ node_count mesh) where
     fresh_is : (x : ℕ) → x < node_count mesh → IsNodeOf mesh channels depth x (fresh_node mesh channels depth x)
     fresh_is x x_in = record {
       same_mesh = refl;
@@ -121,8 +148,11 @@ module _ (mesh channels : List ℕ) (depth : ℕ) (names : List (List ℕ)) (nod
       source_node = refl;
       source_nodes = refl;
       source_channels = refl;
-      source_holds = fresh_sound x (node_count mesh) channels (length channels) _ _ x_in radices.few_nodes refl refl refl;
-      fed_within = λ k. subst (λ (q : QueueState). q.fed ≤ length q.injected) (sym (queue_fresh x (node_count mesh) channels k)) (omega arith);
+      source_holds =
+          fresh_sound x (node_count mesh) channels (length channels) _ _ x_in radices.few_nodes refl refl refl;
+      fed_within =
+          λ k. subst (λ (q : QueueState). q.fed ≤ length q.injected) (sym (queue_fresh x (node_count mesh) channels k))
+          (omega arith);
       sink_node = refl;
     }
 
@@ -139,9 +169,11 @@ module _ (mesh channels : List ℕ) (depth : ℕ) (names : List (List ℕ)) (nod
       most_depth = most_depth;
       all_nodes = all_nodes;
       all_links = rw no_links (length-replicate (link_count mesh) (empty_link (sum channels * depth)));
-      each_node = λ x within. subst (λ (n : Node). IsNodeOf mesh channels depth x n) (sym (all x)) (fresh_is x (omega arith));
+      each_node =
+          λ x within. subst (λ (n : Node). IsNodeOf mesh channels depth x n) (sym (all x)) (fresh_is x (omega arith));
       rooms = λ k within.
-          let count : length links ≡ link_count mesh = rw no_links (length-replicate (link_count mesh) (empty_link (sum channels * depth))) in
+          let count : length links ≡ link_count mesh =
+          rw no_links (length-replicate (link_count mesh) (empty_link (sum channels * depth))) in
           rw (no_links, room_is (link_count mesh) k (sum channels * depth) (omega arith)) (omega arith);
     }
 
@@ -160,12 +192,15 @@ module _ (mesh channels : List ℕ) (depth : ℕ) (names : List (List ℕ)) (nod
         }
 
 -- the same of any network that is fresh
-module _ (mesh channels : List ℕ) (depth : ℕ) (names : List (List ℕ)) (t : NetState) (fresh : IsFresh mesh channels depth names t) where
+module _ (mesh channels : List ℕ) (depth : ℕ) (names : List (List ℕ)) (t : NetState)
+    (fresh : IsFresh mesh channels depth names t) where
   nodes_of : AreFresh t.mesh t.channels t.depth t.nodes
   nodes_of = rw (fresh.same_mesh, fresh.same_channels, fresh.same_depth) fresh.nodes
 
   links_of : t.links ≡ replicate (link_count t.mesh) (empty_link (sum t.channels * t.depth))
-  links_of = fresh.links ∙ (λ i. replicate (link_count (sym fresh.same_mesh i)) (empty_link (sum (sym fresh.same_channels i) * sym fresh.same_depth i)))
+  links_of =
+      fresh.links ∙ (λ i. replicate (link_count (sym fresh.same_mesh i))
+      (empty_link (sum (sym fresh.same_channels i) * sym fresh.same_depth i)))
 
   pub fresh_stands : network_of t ≡ empty (shape t)
   fresh_stands = stands_for t.mesh t.channels t.depth t.names t.nodes t.links t.own nodes_of links_of

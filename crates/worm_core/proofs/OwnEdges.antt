@@ -1,5 +1,6 @@
 -- What comes and goes over a link of which one end is elsewhere keeps what moves need.
-use Rattle.std.proofs.Common.{◌≡◌, ℕ, ◌<◌, Bool, true, false, ◌⊎◌, inl, inr, refl, List, [], ◌∷◌, ◌++◌, Some, arith, sym, ◌∙◌}
+use Rattle.std.proofs.Common.{◌≡◌, ℕ, ◌<◌, Bool, true, false, ◌⊎◌, inl, inr, refl, List, [], ◌∷◌, ◌++◌, Some, arith}
+use Rattle.std.proofs.Common.{sym, ◌∙◌}
 use Rattle.std.proofs.lemmas.List.Elements.{All-push}
 use Rattle.worm_flit.specs.declared.Flit.{Flit}
 use Rattle.worm_records.specs.declared.InRecord.TheVariants.{Active}
@@ -14,11 +15,14 @@ use Rattle.worm_core.proofs.Working.{send_by}
 
 module _ (s : Shape) (mesh : IsMesh s) {own : ℕ → Bool} (net : Network) where
   -- a flit that leaves over such a link
-  let_out_credits : (x p v o c : ℕ) (f : Flit) (rest : List Flit) → net.in_record x p v ≡ Active o c → net.buffer x p v ≡ f ∷ rest → (0 < net.credits x o c) ⊎ (o ≡ s.terminal)
-      → EndsElsewhere s own x o → OwnCreditsAdd s own net → OwnCreditsAdd s own (record (sent_by s net x p v o c f rest) { out = net.out })
+  let_out_credits : (x p v o c : ℕ) (f : Flit) (rest : List Flit) → net.in_record x p v ≡ Active o c →
+      net.buffer x p v ≡ f ∷ rest → (0 < net.credits x o c) ⊎ (o ≡ s.terminal)
+      → EndsElsewhere s own x o → OwnCreditsAdd s own net →
+      OwnCreditsAdd s own (record (sent_by s net x p v o c f rest) { out = net.out })
   let_out_credits x p v o c f rest active front may crosses sound y2 o2 x2 v2 there_v n2 own_y own_x =
       let h = sound y2 o2 x2 v2 there_v n2 own_y own_x in
-      let off : o2 ≡ s.terminal → ⊥ = λ e. let alone = mesh.terminal_alone y2 in let clash : s.neighbour y2 s.terminal ≡ Some x2 = cc in cc in
+      let off : o2 ≡ s.terminal → ⊥ = λ e.
+      let alone = mesh.terminal_alone y2 in let clash : s.neighbour y2 s.terminal ≡ Some x2 = cc in cc in
       let up = up_sum s net x p v o c f rest active front may y2 o2 v2 off in
       let back = mesh.link_back y2 o2 x2 n2 in
       let down = down_sum s net x p v o c f rest active front x2 (s.opposite o2) v2 (rw back) in
@@ -35,7 +39,8 @@ module _ (s : Shape) (mesh : IsMesh s) {own : ℕ → Bool} (net : Network) wher
       ]
 
   -- a credit that was owed goes over one
-  gave_credits : (x p v n y : ℕ) → s.neighbour x p ≡ Some y → own y ≡ false → OwnCreditsAdd s own net → OwnCreditsAdd s own (record net { owed = put3 net.owed x p v n })
+  gave_credits : (x p v n y : ℕ) → s.neighbour x p ≡ Some y → own y ≡ false → OwnCreditsAdd s own net →
+      OwnCreditsAdd s own (record net { owed = put3 net.owed x p v n })
   gave_credits x p v n y linked elsewhere sound y2 o2 x2 v2 there_v n2 own_y own_x =
       let h = sound y2 o2 x2 v2 there_v n2 own_y own_x in
       let away : same x2 (s.opposite o2) x p ≡ false = same-false x2 (s.opposite o2) x p (λ e1 e2.
@@ -46,7 +51,8 @@ module _ (s : Shape) (mesh : IsMesh s) {own : ℕ → Bool} (net : Network) wher
       rw away h
 
   -- a flit comes over one
-  arrive_credits : (x o : ℕ) (fs : List Flit) → own x ≡ false → OwnCreditsAdd s own net → OwnCreditsAdd s own (record net { out = put2 net.out x o fs })
+  arrive_credits : (x o : ℕ) (fs : List Flit) → own x ≡ false → OwnCreditsAdd s own net →
+      OwnCreditsAdd s own (record net { out = put2 net.out x o fs })
   arrive_credits x o fs elsewhere sound y2 o2 x2 v2 there_v n2 own_y own_x =
       let h = sound y2 o2 x2 v2 there_v n2 own_y own_x in
       elim (place_cases y2 o2 x o) [
@@ -58,7 +64,8 @@ module _ (s : Shape) (mesh : IsMesh s) {own : ℕ → Bool} (net : Network) wher
       ]
 
   -- a credit comes back over one
-  back_credits : (x o : ℕ) (cs : List ℕ) → EndsElsewhere s own x o → OwnCreditsAdd s own net → OwnCreditsAdd s own (record net { credit_list = put2 net.credit_list x o cs })
+  back_credits : (x o : ℕ) (cs : List ℕ) → EndsElsewhere s own x o → OwnCreditsAdd s own net →
+      OwnCreditsAdd s own (record net { credit_list = put2 net.credit_list x o cs })
   back_credits x o cs crosses sound y2 o2 x2 v2 there_v n2 own_y own_x =
       let h = sound y2 o2 x2 v2 there_v n2 own_y own_x in
       elim (place_cases y2 o2 x o) [
@@ -71,13 +78,23 @@ module _ (s : Shape) (mesh : IsMesh s) {own : ℕ → Bool} (net : Network) wher
       ]
 
 module _ (s : Shape) (mesh : IsMesh s) {own : ℕ → Bool} (net : Network) (works : Works s own net) where
-  pub let_out_works : (x p v o c : ℕ) (f : Flit) (rest : List Flit) → x < s.nodes → net.in_record x p v ≡ Active o c → net.buffer x p v ≡ f ∷ rest → (0 < net.credits x o c) ⊎ (o ≡ s.terminal)
+  pub let_out_works : (x p v o c : ℕ) (f : Flit) (rest : List Flit) → x < s.nodes → net.in_record x p v ≡ Active o c →
+      net.buffer x p v ≡ f ∷ rest → (0 < net.credits x o c) ⊎ (o ≡ s.terminal)
       → EndsElsewhere s own x o → Works s own (record (sent_by s net x p v o c f rest) { out = net.out })
   let_out_works x p v o c f rest x_in e b may crosses =
       let sent = send_by s mesh net works x p v o c f rest x_in e b may in
-      record { records = sent.records; buffered = sent.buffered; out = works.out; entries = sent.entries; few = sent.few; credits = let_out_credits s mesh net x p v o c f rest e b may crosses works.credits; unfed = sent.unfed }
+      record {
+        records = sent.records;
+        buffered = sent.buffered;
+        out = works.out;
+        entries = sent.entries;
+        few = sent.few;
+        credits = let_out_credits s mesh net x p v o c f rest e b may crosses works.credits;
+        unfed = sent.unfed;
+      }
 
-  pub arrive_works : (x o : ℕ) (f : Flit) → IsSent s f → own x ≡ false → Works s own (record net { out = put2 net.out x o (net.out x o ++ f ∷ []) })
+  pub arrive_works : (x o : ℕ) (f : Flit) → IsSent s f → own x ≡ false →
+      Works s own (record net { out = put2 net.out x o (net.out x o ++ f ∷ []) })
   arrive_works x o f is_sent elsewhere = record {
     records = works.records;
     buffered = works.buffered;
@@ -91,7 +108,8 @@ module _ (s : Shape) (mesh : IsMesh s) {own : ℕ → Bool} (net : Network) (wor
     unfed = works.unfed;
   }
 
-  pub back_works : (x o c : ℕ) → c < s.channels → EndsElsewhere s own x o → Works s own (record net { credit_list = put2 net.credit_list x o (net.credit_list x o ++ c ∷ []) })
+  pub back_works : (x o c : ℕ) → c < s.channels → EndsElsewhere s own x o →
+      Works s own (record net { credit_list = put2 net.credit_list x o (net.credit_list x o ++ c ∷ []) })
   back_works x o c c_in crosses = record {
     records = works.records;
     buffered = works.buffered;
@@ -105,7 +123,8 @@ module _ (s : Shape) (mesh : IsMesh s) {own : ℕ → Bool} (net : Network) (wor
     unfed = works.unfed;
   }
 
-  pub gave_works : (x p v n y : ℕ) → s.neighbour x p ≡ Some y → own y ≡ false → Works s own (record net { owed = put3 net.owed x p v n })
+  pub gave_works : (x p v n y : ℕ) → s.neighbour x p ≡ Some y → own y ≡ false →
+      Works s own (record net { owed = put3 net.owed x p v n })
   gave_works x p v n y linked elsewhere = record {
     records = works.records;
     buffered = works.buffered;

@@ -2,7 +2,6 @@
 use Rattle.std.proofs.Common.{◌≡◌, ℕ, ◌%◌, ◌==◌, true, Option, Some, None, ap, subst, sym}
 use Rattle.std.proofs.Math.Nat.{mod-one}
 use Rattle.std.specs.Prelude.{IfSome}
-use Rattle.worm_flit.specs.declared.Flit.{Flit}
 use Rattle.worm_router.specs.Router.{leaving}
 use Rattle.worm_core.specs.Owned.{owned_by, sole}
 use Rattle.worm_core.specs.State.{NetState, router_at, shape}
@@ -25,4 +24,5 @@ of_each P (Some a) each = each a
 pub sends_within : (s : NetState) (x p v : ℕ) → s.own ≡ sole
     → IfSome (leaving (router_at s x) p v) (λ out. EndsWithin (shape s) (owned s) x out.0)
 sends_within s x p v whole =
-    of_each (λ out. EndsWithin (shape s) (owned s) x out.0) (leaving (router_at s x) p v) (λ out. all_within s x out.0 whole)
+    of_each (λ out. EndsWithin (shape s) (owned s) x out.0) (leaving (router_at s x) p v)
+    (λ out. all_within s x out.0 whole)

@@ -17,20 +17,35 @@ use Rattle.worm_core.specs.declared.own.Own.{Own}
 use Rattle.worm_core.specs.Turns.{Reaches}
 
 pub reached : (s : NetState) → Reaches s s
-reached s = record { steps = []; led = refl; config = record { mesh = refl; channels = refl; depth = refl; names = refl; own = refl } }
+reached s =
+    record {
+      steps = [];
+      led = refl;
+      config = record { mesh = refl; channels = refl; depth = refl; names = refl; own = refl };
+    }
 
 pub joined : (old mid new : NetState) → Reaches old mid → Reaches mid new → Reaches old new
 joined old mid new first then =
-    let same_shape : shape mid ≡ shape old = λ t. net_shape (first.config.mesh t) (first.config.channels t) (first.config.depth t) in
+    let same_shape : shape mid ≡ shape old =
+    λ t. net_shape (first.config.mesh t) (first.config.channels t) (first.config.depth t) in
     record {
       steps = first.steps ++ then.steps;
-      led = steps-append (shape old) first.steps then.steps (network_of old) (network_of mid) (network_of new) first.led
+      led =
+          steps-append (shape old) first.steps then.steps (network_of old) (network_of mid) (network_of new) first.led
           (subst (λ (s : Shape). StepsLead s (network_of mid) then.steps (network_of new)) same_shape then.led);
-      config = record { mesh = then.config.mesh ∙ first.config.mesh; channels = then.config.channels ∙ first.config.channels; depth = then.config.depth ∙ first.config.depth; names = then.config.names ∙ first.config.names; own = then.config.own ∙ first.config.own };
+      config =
+          record {
+            mesh = then.config.mesh ∙ first.config.mesh;
+            channels = then.config.channels ∙ first.config.channels;
+            depth = then.config.depth ∙ first.config.depth;
+            names = then.config.names ∙ first.config.names;
+            own = then.config.own ∙ first.config.own;
+          };
     }
 
 -- whatever a step was answered
-pub by_answer : (old new : NetState) (step : Step) (answer : Result Moved StepFault) → Replies old step answer new → Reaches old new
+pub by_answer : (old new : NetState) (step : Step) (answer : Result Moved StepFault) → Replies old step answer new →
+    Reaches old new
 by_answer old new step (Ok Done) a = record {
   steps = step ∷ [];
   led = (network_of new, inl (a.there, a.enabled, a.after_it), refl);

@@ -1,5 +1,6 @@
 -- A link has room for a flit whose channel has a credit.
-use Rattle.std.proofs.Common.{◌≡◌, ℕ, zero, suc, ◌+◌, ◌*◌, ◌<◌, ◌≤◌, ◌==◌, true, cond, inl, inr, List, [], ◌∷◌, length, sum, Some, refl, arith, ap, ◌∙◌, Bool}
+use Rattle.std.proofs.Common.{◌≡◌, ℕ, zero, suc, ◌+◌, ◌*◌, ◌<◌, ◌≤◌, ◌==◌, true, cond, inl, inr, List, [], ◌∷◌, length}
+use Rattle.std.proofs.Common.{sum, Some, refl, arith, ap, ◌∙◌, Bool}
 use Rattle.std.specs.Prelude.{All}
 use Rattle.std.proofs.lemmas.Bool.{cases_eq}
 use Rattle.std.proofs.lemmas.List.Elements.{All-head, All-tail, All-weaker}
@@ -43,7 +44,8 @@ pub sum_same : (f g : ℕ → ℕ) (n : ℕ) → ((v : ℕ) → f v ≡ g v) →
 sum_same f g zero h = refl
 sum_same f g (suc n) h = let rest = sum_same f g n h in let here = h n in omega arith
 
-on_one_more : (v : ℕ) (f : Flit) (fs : List Flit) → length (on_channel v (f ∷ fs)) ≡ cond (v == f.vc) 1 0 + length (on_channel v fs)
+on_one_more : (v : ℕ) (f : Flit) (fs : List Flit) →
+    length (on_channel v (f ∷ fs)) ≡ cond (v == f.vc) 1 0 + length (on_channel v fs)
 on_one_more v f fs =
     elim (number_cases v f.vc) [
       | inl here ↦ rw here.0 (omega arith)
@@ -51,18 +53,22 @@ on_one_more v f fs =
     ]
 
 -- the flits of each channel below n are all flits
-pub counted : (n : ℕ) (fs : List Flit) → All (λ f. f.vc < n) fs → sum_below (λ v. length (on_channel v fs)) n ≡ length fs
+pub counted : (n : ℕ) (fs : List Flit) → All (λ f. f.vc < n) fs →
+    sum_below (λ v. length (on_channel v fs)) n ≡ length fs
 counted n [] all = sum_none n
 counted n (f ∷ fs) all =
     let rest = counted n fs (All-tail (λ (g : Flit). g.vc < n) f fs all) in
     let one = one_of n f.vc (All-head (λ (g : Flit). g.vc < n) f fs all) in
-    let split = sum_same (λ v. length (on_channel v (f ∷ fs))) (λ v. cond (v == f.vc) 1 0 + length (on_channel v fs)) n (λ v. on_one_more v f fs) in
+    let split =
+    sum_same (λ v. length (on_channel v (f ∷ fs))) (λ v. cond (v == f.vc) 1 0 + length (on_channel v fs)) n
+    (λ v. on_one_more v f fs) in
     let two = sum_add (λ v. cond (v == f.vc) 1 0) (λ v. length (on_channel v fs)) n in
     split ∙ (two ∙ omega arith)
 
 bounded : (f : ℕ → ℕ) (n d : ℕ) → ((v : ℕ) → v < n → f v ≤ d) → sum_below f n ≤ n * d
 bounded f zero d h = omega arith
-bounded f (suc n) d h = let rest = bounded f n d (λ v b. h v (omega arith)) in let here = h n (omega arith) in omega arith
+bounded f (suc n) d h =
+    let rest = bounded f n d (λ v b. h v (omega arith)) in let here = h n (omega arith) in omega arith
 
 pub bounded_less : (f : ℕ → ℕ) (n d c : ℕ) → ((v : ℕ) → v < n → f v ≤ d) → c < n → f c < d → sum_below f n < n * d
 bounded_less f zero d c h below less = absurd (omega arith)
@@ -79,16 +85,22 @@ bounded_less f (suc n) d c h below less =
     ]
 
 -- what a Send needs to push
-pub link_room : (s : NetState) (x o y c : ℕ) → {own : ℕ → Bool} → IsWorkableBy own s → (own x ≡ true) × (own y ≡ true) → neighbour_of s.mesh x o ≡ Some y → has_neighbour s.mesh x o ≡ true → links_before s.mesh x o < length s.links
-    → c < sum s.channels → 0 < (network_of s).credits x o c → length (link_at s (links_before s.mesh x o)).flits < (link_at s (links_before s.mesh x o)).room
+pub link_room : (s : NetState) (x o y c : ℕ) → {own : ℕ → Bool} → IsWorkableBy own s →
+    (own x ≡ true) × (own y ≡ true) → neighbour_of s.mesh x o ≡ Some y → has_neighbour s.mesh x o ≡ true →
+    links_before s.mesh x o < length s.links
+    → c < sum s.channels → 0 < (network_of s).credits x o c →
+    length (link_at s (links_before s.mesh x o)).flits < (link_at s (links_before s.mesh x o)).room
 unfolding net_shape
 link_room s x o y c net inner e has bound c_in credit =
     let N = network_of s in
     let n = sum s.channels in
     let all : All (λ f. f.vc < n) (N.out x o) =
-    All-weaker (IsSent (shape s)) (λ (f : Flit). f.vc < n) (λ f is_sent. is_sent.channel) (N.out x o) (net.works.out x o) in
-    let each : (v : ℕ) → v < n → length (on_channel v (N.out x o)) ≤ s.depth = λ v v_in. let total = net.works.credits x o y v v_in e inner.0 inner.1 in omega arith in
-    let less : length (on_channel c (N.out x o)) < s.depth = let total = net.works.credits x o y c c_in e inner.0 inner.1 in omega arith in
+    All-weaker (IsSent (shape s)) (λ (f : Flit). f.vc < n) (λ f is_sent. is_sent.channel) (N.out x o)
+    (net.works.out x o) in
+    let each : (v : ℕ) → v < n → length (on_channel v (N.out x o)) ≤ s.depth = λ v v_in.
+    let total = net.works.credits x o y v v_in e inner.0 inner.1 in omega arith in
+    let less : length (on_channel c (N.out x o)) < s.depth =
+    let total = net.works.credits x o y c c_in e inner.0 inner.1 in omega arith in
     let count = counted n (N.out x o) all in
     let few = bounded_less (λ v. length (on_channel v (N.out x o))) n s.depth c each c_in less in
     let room = net.framed.rooms (links_before s.mesh x o) bound in

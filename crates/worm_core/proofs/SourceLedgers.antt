@@ -1,5 +1,6 @@
 -- What a source keeps of its lanes: only what is asked of it changes that, and only what is asked is refused.
-use Rattle.std.proofs.Common.{◌≡◌, ℕ, zero, suc, ◌*◌, ◌==◌, Bool, true, false, inl, inr, List, [], ◌∷◌, ◌++◌, length, map, Ok, Err, Option, Some, None, refl, sym, subst, ◌∙◌}
+use Rattle.std.proofs.Common.{◌≡◌, ℕ, zero, suc, ◌*◌, ◌==◌, Bool, true, false, inl, inr, List, [], ◌∷◌, ◌++◌, length}
+use Rattle.std.proofs.Common.{map, Ok, Err, Option, Some, None, refl, sym, subst, ◌∙◌}
 use Rattle.std.specs.Prelude.{Result, MatchBool, slice_index_or, option_map}
 use Rattle.std.specs.List.{flat_map}
 use Rattle.std.specs.Option.{option_to_list}
@@ -17,11 +18,15 @@ use Rattle.worm_core.specs.declared.step.Moved.TheVariants.{Done, Idle}
 use Rattle.worm_core.specs.declared.fault.StepFault.{StepFault}
 use Rattle.worm_core.specs.declared.fault.StepFault.TheVariants.{NoSuchPlace, Refused, NoMemory}
 use Rattle.worm_core.specs.State.{NetState, node_at, router_at, source_at, with_node, with_router}
-use Rattle.worm_core.specs.Moves.{done_step, link_into, front_into, front_credit, fed_node, after_take, after_getting, after_ready, after_sending, chosen_router}
+use Rattle.worm_core.specs.Moves.{done_step, link_into, front_into, front_credit, fed_node, after_take, after_getting}
+use Rattle.worm_core.specs.Moves.{after_ready, after_sending, chosen_router}
 use Rattle.worm_core.specs.Answers.{Answers, refusal_of}
 use Rattle.worm_core.specs.Totals.{injected_total, delivered_total}
 use Rattle.worm_core.specs.Acceptable.{EndsForMemory}
-use Rattle.worm_core.specs.Turns.{ComesIn, Passage, Stays, ◌and_then◌, Each, Tries, NodeTurn, AsksSource, TakesCredits, TakesFlits, FeedsClasses, RoutesChannels, RoutesPort, Allocates, SendsGranted, GivesCredit, GivesCredits, Turn, Drains, fault_of, all_nodes, all_ports, all_classes, all_channels, mesh_ports, granted_send, lowest_owed}
+use Rattle.worm_core.specs.Turns.{ComesIn, Passage, Stays, ◌and_then◌, Each, Tries, NodeTurn, AsksSource, TakesCredits}
+use Rattle.worm_core.specs.Turns.{TakesFlits, FeedsClasses, RoutesChannels, RoutesPort, Allocates, SendsGranted}
+use Rattle.worm_core.specs.Turns.{GivesCredit, GivesCredits, Turn, Drains, fault_of, all_nodes, all_ports, all_classes}
+use Rattle.worm_core.specs.Turns.{all_channels, mesh_ports, granted_send, lowest_owed}
 use Rattle.worm_core.proofs.Pointers.{read_over}
 
 pub record Ledger : Type 0 where
@@ -63,16 +68,24 @@ stand_then a b c first then = record {
   ledgers = λ x. then.ledgers x ∙ first.ledgers x;
 }
 
-node_stands : (s : NetState) (x : ℕ) (n : Node) → ledger n.source ≡ ledger (node_at s x).source → LedgersStand s (with_node s x n)
-node_stands s x n same = record { mesh = refl; channels = refl; ledgers = λ y. read_over (λ (m : Node). ledger m.source) s.nodes x y n _ _ same }
+node_stands : (s : NetState) (x : ℕ) (n : Node) → ledger n.source ≡ ledger (node_at s x).source →
+    LedgersStand s (with_node s x n)
+node_stands s x n same =
+    record {
+      mesh = refl;
+      channels = refl;
+      ledgers = λ y. read_over (λ (m : Node). ledger m.source) s.nodes x y n _ _ same;
+    }
 
 feed_stands : (s : NetState) (x k : ℕ) (f : Option Flit) → LedgersStand s (with_node s x (fed_node (node_at s x) k f))
 feed_stands s x k None = node_stands s x (node_at s x) refl
 feed_stands s x k (Some f) = node_stands s x _ refl
 
-send_by : (s : NetState) (x p v : ℕ) (d : ℕ × Flit) (home : Bool) → (d.0 == 2 * length s.mesh) ≡ home → LedgersStand s (after_sending s x p v d)
+send_by : (s : NetState) (x p v : ℕ) (d : ℕ × Flit) (home : Bool) → (d.0 == 2 * length s.mesh) ≡ home →
+    LedgersStand s (after_sending s x p v d)
 send_by s x p v d true e = rw e (node_stands s x _ refl)
-send_by s x p v d false e = rw e (let at = node_stands s x _ refl in record { mesh = refl; channels = refl; ledgers = at.ledgers })
+send_by s x p v d false e =
+    rw e (let at = node_stands s x _ refl in record { mesh = refl; channels = refl; ledgers = at.ledgers })
 
 send_stands : (s : NetState) (x p v : ℕ) (d : Option (ℕ × Flit)) → LedgersStand s (after_ready s x p v d)
 send_stands s x p v None = stand_self s
@@ -80,11 +93,21 @@ send_stands s x p v (Some d) = send_by s x p v d (d.0 == 2 * length s.mesh) refl
 
 take_stands : (s : NetState) (x p k : ℕ) (f : Option Flit) → LedgersStand s (after_take s x p k f)
 take_stands s x p k None = stand_self s
-take_stands s x p k (Some f) = record { mesh = refl; channels = refl; ledgers = λ y. read_over (λ (m : Node). ledger m.source) s.nodes x y _ _ _ refl }
+take_stands s x p k (Some f) =
+    record {
+      mesh = refl;
+      channels = refl;
+      ledgers = λ y. read_over (λ (m : Node). ledger m.source) s.nodes x y _ _ _ refl;
+    }
 
 get_stands : (s : NetState) (x o : ℕ) (c : Option ℕ) → LedgersStand s (after_getting s x o c)
 get_stands s x o None = stand_self s
-get_stands s x o (Some c) = record { mesh = refl; channels = refl; ledgers = λ y. read_over (λ (m : Node). ledger m.source) s.nodes x y _ _ _ refl }
+get_stands s x o (Some c) =
+    record {
+      mesh = refl;
+      channels = refl;
+      ledgers = λ y. read_over (λ (m : Node). ledger m.source) s.nodes x y _ _ _ refl;
+    }
 
 step_stands : (s : NetState) (step : Step) → AsksNone step → LedgersStand s (done_step s step)
 step_stands s (Offer x lane words) none = absurd none
@@ -94,7 +117,12 @@ step_stands s (Route x p v) none = node_stands s x _ refl
 step_stands s (Grant x p v c) none = node_stands s x _ refl
 step_stands s (Send x p v) none = send_stands s x p v (leaving (router_at s x) p v)
 step_stands s (Take x p) none = take_stands s x p (link_into s x p) (front_into s x p)
-step_stands s (GiveCredit x p v) none = record { mesh = refl; channels = refl; ledgers = λ y. read_over (λ (m : Node). ledger m.source) s.nodes x y _ _ _ refl }
+step_stands s (GiveCredit x p v) none =
+    record {
+      mesh = refl;
+      channels = refl;
+      ledgers = λ y. read_over (λ (m : Node). ledger m.source) s.nodes x y _ _ _ refl;
+    }
 step_stands s (TakeCredit x o) none = get_stands s x o (front_credit s x o)
 
 nothing_refused : (s : NetState) (step : Step) → AsksNone step → refusal_of s step ≡ None
@@ -119,13 +147,17 @@ want_of_memory = inr refl
 
 -- a passage that asks no source
 abbrev pub IsQuiet : Passage → Type 0
-IsQuiet P = (old new : NetState) (fault : Option StepFault) → P old fault new → LedgersStand old new × EndsForMemory fault
+IsQuiet P =
+    (old new : NetState) (fault : Option StepFault) → P old fault new → LedgersStand old new × EndsForMemory fault
 
-quiet_answer : (step : Step) → AsksNone step → (old new : NetState) (answer : Result Moved StepFault) → Answers old step answer new → LedgersStand old new × EndsForMemory (fault_of answer)
-quiet_answer step none old new (Ok Done) a = (subst (λ (s : NetState). LedgersStand old s) (sym a.exact) (step_stands old step none), no_fault)
+quiet_answer : (step : Step) → AsksNone step → (old new : NetState) (answer : Result Moved StepFault) →
+    Answers old step answer new → LedgersStand old new × EndsForMemory (fault_of answer)
+quiet_answer step none old new (Ok Done) a =
+    (subst (λ (s : NetState). LedgersStand old s) (sym a.exact) (step_stands old step none), no_fault)
 quiet_answer step none old new (Ok Idle) a = (same_stands old new a.3, no_fault)
 quiet_answer step none old new (Err NoSuchPlace) a = (same_stands old new a.1, no_fault)
-quiet_answer step none old new (Err (Refused f)) a = let clash : ◌≡◌ {A = Option OfferFault} None (Some f) = sym (nothing_refused old step none) ∙ a.2 in absurd (cc)
+quiet_answer step none old new (Err (Refused f)) a =
+    let clash : ◌≡◌ {A = Option OfferFault} None (Some f) = sym (nothing_refused old step none) ∙ a.2 in absurd (cc)
 quiet_answer step none old new (Err NoMemory) a = (same_stands old new a.3, want_of_memory)
 
 quiet_tries : (step : Step) → AsksNone step → IsQuiet (Tries step)
@@ -150,9 +182,11 @@ quiet_each P one [] = quiet_stays
 quiet_each P one (x ∷ xs) = quiet_then (P x) (Each P xs) (one x) (quiet_each P one xs)
 
 -- of steps that a function makes
-quiet_steps : {A : Type 0} (f : A → Step) → ((x : A) → AsksNone (f x)) → (xs : List A) → IsQuiet (Each Tries (map f xs))
+quiet_steps : {A : Type 0} (f : A → Step) → ((x : A) → AsksNone (f x)) → (xs : List A) →
+    IsQuiet (Each Tries (map f xs))
 quiet_steps f none [] = quiet_stays
-quiet_steps f none (x ∷ xs) = quiet_then (Tries (f x)) (Each Tries (map f xs)) (quiet_tries (f x) (none x)) (quiet_steps f none xs)
+quiet_steps f none (x ∷ xs) =
+    quiet_then (Tries (f x)) (Each Tries (map f xs)) (quiet_tries (f x) (none x)) (quiet_steps f none xs)
 
 quiet_allocates : (x : ℕ) → IsQuiet (Allocates x)
 quiet_allocates x old new fault a =
@@ -166,7 +200,8 @@ AllAskNone (step ∷ steps) = AsksNone step × AllAskNone steps
 quiet_list : (steps : List Step) → AllAskNone steps → IsQuiet (Each Tries steps)
 unfolding AllAskNone
 quiet_list [] none = quiet_stays
-quiet_list (step ∷ steps) none = quiet_then (Tries step) (Each Tries steps) (quiet_tries step none.0) (quiet_list steps none.1)
+quiet_list (step ∷ steps) none =
+    quiet_then (Tries step) (Each Tries steps) (quiet_tries step none.0) (quiet_list steps none.1)
 
 none-append : (steps more : List Step) → AllAskNone steps → AllAskNone more → AllAskNone (steps ++ more)
 unfolding AllAskNone
@@ -178,11 +213,13 @@ unfolding AllAskNone
 sends_none x p None = tt
 sends_none x p (Some g) = (tt, tt)
 
-all_sends_none : (grants : List (Option SwGrant)) (x : ℕ) (ports : List ℕ) → AllAskNone (flat_map (granted_send grants x) ports)
+all_sends_none : (grants : List (Option SwGrant)) (x : ℕ) (ports : List ℕ) →
+    AllAskNone (flat_map (granted_send grants x) ports)
 unfolding AllAskNone
 all_sends_none grants x [] = tt
 all_sends_none grants x (p ∷ ports) =
-    none-append (granted_send grants x p) (flat_map (granted_send grants x) ports) (sends_none x p (slice_index_or grants p None)) (all_sends_none grants x ports)
+    none-append (granted_send grants x p) (flat_map (granted_send grants x) ports)
+    (sends_none x p (slice_index_or grants p None)) (all_sends_none grants x ports)
 
 gives_none : (x p : ℕ) (owed : Option ℕ) → AllAskNone (option_to_list (option_map (GiveCredit x p) owed))
 unfolding AllAskNone
@@ -207,24 +244,30 @@ quiet_in x =
     quiet_then (TakesCredits x) _ (λ old. quiet_steps (TakeCredit x) (λ o. tt) (mesh_ports old) old)
     (quiet_then (TakesFlits x) _ (λ old. quiet_steps (Take x) (λ p. tt) (mesh_ports old) old)
     (quiet_then (FeedsClasses x) (RoutesChannels x) (λ old. quiet_steps (Feed x) (λ k. tt) (all_classes old) old)
-    (λ old. quiet_each (RoutesPort x) (λ p later. quiet_steps (Route x p) (λ v. tt) (all_channels later) later) (all_ports old) old)))
+    (λ old. quiet_each (RoutesPort x) (λ p later. quiet_steps (Route x p) (λ v. tt) (all_channels later) later)
+    (all_ports old) old)))
 
 pub quiet_after : (x : ℕ) → IsQuiet (AfterAsking x)
 quiet_after x =
     quiet_then (ComesIn x) _ (quiet_in x)
     (quiet_then (Allocates x) _ (quiet_allocates x)
-    (quiet_then (SendsGranted x) (GivesCredits x) (quiet_sends x) (λ old. quiet_each (GivesCredit x) (quiet_gives x) (mesh_ports old) old)))
+    (quiet_then (SendsGranted x) (GivesCredits x) (quiet_sends x)
+    (λ old. quiet_each (GivesCredit x) (quiet_gives x) (mesh_ports old) old)))
 
 -- a turn without entries, and so a drain, asks no source
 quiet_turn : IsQuiet (Turn [])
 unfolding Turn
-quiet_turn old = quiet_each (NodeTurn []) (λ x. quiet_then (AsksSource [] x) (AfterAsking x) (λ s. quiet_stays s) (quiet_after x)) (all_nodes old) old
+quiet_turn old =
+    quiet_each (NodeTurn []) (λ x. quiet_then (AsksSource [] x) (AfterAsking x) (λ s. quiet_stays s) (quiet_after x))
+    (all_nodes old) old
 
 drain_by : (n : ℕ) → IsQuiet (Drains n) → (drained : Bool) (old new : NetState) (fault : Option StepFault)
-    → MatchBool drained (Stays old fault new) ((Turn [] and_then Drains n) old fault new) → LedgersStand old new × EndsForMemory fault
+    → MatchBool drained (Stays old fault new) ((Turn [] and_then Drains n) old fault new) →
+    LedgersStand old new × EndsForMemory fault
 drain_by n rest true old new fault a = quiet_stays old new fault a
 drain_by n rest false old new fault a = quiet_then (Turn []) (Drains n) quiet_turn rest old new fault a
 
 pub quiet_drains : (n : ℕ) → IsQuiet (Drains n)
 quiet_drains zero old new fault a = quiet_stays old new fault a
-quiet_drains (suc n) old new fault a = drain_by n (quiet_drains n) (injected_total old == delivered_total old) old new fault a
+quiet_drains (suc n) old new fault a =
+    drain_by n (quiet_drains n) (injected_total old == delivered_total old) old new fault a

@@ -1,6 +1,6 @@
 -- A passage of steps that are tried at one node leads by steps at it.
 use Rattle.std.proofs.Common.{◌≡◌, ℕ, inl, inr, List, [], ◌∷◌, ◌++◌, map, Option, Ok, Err, refl, sym, subst, ◌∙◌}
-use Rattle.std.specs.Prelude.{All, Result}
+use Rattle.std.specs.Prelude.{Result}
 use Rattle.std.proofs.lemmas.List.Elements.{All-append, All-cons, All-nil}
 use Rattle.worm_theory.specs.Shape.{Shape}
 use Rattle.worm_theory.specs.Steps.{Step, Feed, Route, Take, TakeCredit, StepsLead}
@@ -9,7 +9,9 @@ use Rattle.worm_core.specs.Shape.{net_shape}
 use Rattle.worm_core.specs.State.{NetState, shape, network_of}
 use Rattle.worm_core.specs.Replies.{Attempts, Replies}
 use Rattle.worm_core.specs.Script.{begun_at}
-use Rattle.worm_core.specs.Turns.{Passage, ◌and_then◌, Each, ForEach, Reaches, ReachesAt, node_of, ask, AsksSourceBy, ComesInBy, TakesCreditsBy, TakesFlitsBy, FeedsClassesBy, RoutesChannelsBy, RoutesPortBy, all_ports, mesh_ports, all_classes, all_channels}
+use Rattle.worm_core.specs.Turns.{Passage, ◌and_then◌, Each, Reaches, ReachesAt, node_of, ask, AsksSourceBy}
+use Rattle.worm_core.specs.Turns.{ComesInBy, TakesCreditsBy, TakesFlitsBy, FeedsClassesBy, RoutesChannelsBy}
+use Rattle.worm_core.specs.Turns.{RoutesPortBy, all_ports, mesh_ports, all_classes, all_channels}
 use Rattle.worm_core.specs.declared.script.Act.{Act}
 use Rattle.worm_core.specs.declared.script.Act.TheVariants.{Offer as ToOffer, Close as ToClose}
 use Rattle.worm_core.specs.declared.script.Entry.{Entry}
@@ -38,7 +40,9 @@ joined_at x old mid new first then =
     record {
       steps = first.steps ++ then.steps;
       at_node = All-append (AtNode x) first.steps then.steps first.at_node then.at_node;
-      led = steps-append (shape old) first.steps then.steps (network_of old) (network_of mid) (network_of new) first.led led;
+      led =
+          steps-append (shape old) first.steps then.steps (network_of old) (network_of mid)
+          (network_of new) first.led led;
       config = record {
         mesh = b.mesh ∙ a.mesh;
         channels = b.channels ∙ a.channels;
@@ -57,10 +61,14 @@ answered_at old new step (Ok Done) a = record {
   led = (network_of new, inl (a.there, a.enabled, a.after_it), refl);
   config = a.config;
 }
-answered_at old new step (Ok Idle) a = subst (λ (s : NetState). ReachesAt (node_of step) old s) (sym a.3) (none_at (node_of step) old)
-answered_at old new step (Err NoSuchPlace) a = subst (λ (s : NetState). ReachesAt (node_of step) old s) (sym a.1) (none_at (node_of step) old)
-answered_at old new step (Err (Refused fault)) a = subst (λ (s : NetState). ReachesAt (node_of step) old s) (sym a.3) (none_at (node_of step) old)
-answered_at old new step (Err NoMemory) a = subst (λ (s : NetState). ReachesAt (node_of step) old s) (sym a.3) (none_at (node_of step) old)
+answered_at old new step (Ok Idle) a =
+    subst (λ (s : NetState). ReachesAt (node_of step) old s) (sym a.3) (none_at (node_of step) old)
+answered_at old new step (Err NoSuchPlace) a =
+    subst (λ (s : NetState). ReachesAt (node_of step) old s) (sym a.1) (none_at (node_of step) old)
+answered_at old new step (Err (Refused fault)) a =
+    subst (λ (s : NetState). ReachesAt (node_of step) old s) (sym a.3) (none_at (node_of step) old)
+answered_at old new step (Err NoMemory) a =
+    subst (λ (s : NetState). ReachesAt (node_of step) old s) (sym a.3) (none_at (node_of step) old)
 
 pub anywhere : (x : ℕ) (old new : NetState) → ReachesAt x old new → Reaches old new
 anywhere x old new at = record { steps = at.steps; led = at.led; config = at.config }
@@ -80,12 +88,15 @@ then_at x P Q one two old new fault made = elim made [
   | inr on ↦ joined_at x old on.0 new (one old on.0 _ on.1) (two on.0 new fault on.2)
 ]
 
-steps_at : {A : Type 0} (x : ℕ) (f : A → Step) → ((a : A) → node_of (f a) ≡ x) → (list : List A) → StaysAt x (Each Attempts (map f list))
+steps_at : {A : Type 0} (x : ℕ) (f : A → Step) → ((a : A) → node_of (f a) ≡ x) → (list : List A) →
+    StaysAt x (Each Attempts (map f list))
 steps_at x f here [] old new fault stays = subst (λ (s : NetState). ReachesAt x old s) (sym stays.1) (none_at x old)
 steps_at x f here (a ∷ list) old new fault made =
-    then_at x (Attempts (f a)) (Each Attempts (map f list)) (try_at x (f a) (here a)) (steps_at x f here list) old new fault made
+    then_at x (Attempts (f a)) (Each Attempts (map f list)) (try_at x (f a) (here a))
+    (steps_at x f here list) old new fault made
 
-each_at : {A : Type 0} (x : ℕ) (P : A → Passage) → ((a : A) → StaysAt x (P a)) → (list : List A) → StaysAt x (Each P list)
+each_at : {A : Type 0} (x : ℕ) (P : A → Passage) → ((a : A) → StaysAt x (P a)) → (list : List A) →
+    StaysAt x (Each P list)
 each_at x P here [] old new fault stays = subst (λ (s : NetState). ReachesAt x old s) (sym stays.1) (none_at x old)
 each_at x P here (a ∷ list) old new fault made =
     then_at x (P a) (Each P list) (here a) (each_at x P here list) old new fault made
@@ -102,5 +113,7 @@ pub comes_at : (x : ℕ) → StaysAt x (ComesInBy Attempts x)
 comes_at x =
     then_at x (TakesCreditsBy Attempts x) _ (λ old. steps_at x (TakeCredit x) (λ p. refl) (mesh_ports old) old)
     (then_at x (TakesFlitsBy Attempts x) _ (λ old. steps_at x (Take x) (λ p. refl) (mesh_ports old) old)
-    (then_at x (FeedsClassesBy Attempts x) (RoutesChannelsBy Attempts x) (λ old. steps_at x (Feed x) (λ k. refl) (all_classes old) old)
-    (λ old. each_at x (RoutesPortBy Attempts x) (λ p mid. steps_at x (Route x p) (λ v. refl) (all_channels mid) mid) (all_ports old) old)))
+    (then_at x (FeedsClassesBy Attempts x) (RoutesChannelsBy Attempts x)
+    (λ old. steps_at x (Feed x) (λ k. refl) (all_classes old) old)
+    (λ old. each_at x (RoutesPortBy Attempts x) (λ p mid. steps_at x (Route x p) (λ v. refl) (all_channels mid) mid)
+    (all_ports old) old)))

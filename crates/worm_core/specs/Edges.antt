@@ -1,6 +1,6 @@
--- What comes into a part of a network and goes out of it over links that are kept elsewhere: a flit that leaves is a Send but for
--- the link, a credit that is given a GiveCredit but for the list; what comes stands at the end of its link (Dally and Towles,
--- chapter 13).
+-- What comes into a part of a network and goes out of it over links that are kept elsewhere: a flit that leaves is a
+-- Send but for the link, a credit that is given a GiveCredit but for the list; what comes stands at the end of its
+-- link (Dally and Towles, chapter 13).
 use Rattle.std.specs.Prelude.{◌≡◌, ℕ, ◌++◌, ◌∷◌, [], Some}
 use Rattle.worm_flit.specs.declared.Flit.{Flit}
 use Rattle.worm_mesh.specs.Address.{neighbour_of, opposite_of}
@@ -14,14 +14,18 @@ use Rattle.worm_core.specs.Moves.{link_into, link_out}
 pub record LetsOut (old : NetState) (x p v : ℕ) (new : NetState) : Type 0 where
   pub exact : new ≡ with_router old x (after_send (router_at old x) p v)
   pub enabled : Enabled (shape old) (network_of old) (Send x p v)
-  pub after_it : network_of new ≡ record (after (shape old) (network_of old) (Send x p v)) { out = (network_of old).out }
+  pub after_it : network_of new ≡ record (after (shape old) (network_of old) (Send x p v)) {
+    out = (network_of old).out;
+  }
 
 -- the node gave the credit
 pub record LetsGive (old : NetState) (x p v : ℕ) (new : NetState) : Type 0 where
   pub exact : new ≡ with_router old x (after_gave (router_at old x) p v)
   pub enabled : Enabled (shape old) (network_of old) (GiveCredit x p v)
   pub after_it :
-      network_of new ≡ record (after (shape old) (network_of old) (GiveCredit x p v)) { credit_list = (network_of old).credit_list }
+      network_of new ≡ record (after (shape old) (network_of old) (GiveCredit x p v)) {
+        credit_list = (network_of old).credit_list;
+      }
 
 -- the lists with a flit more at the end of the link out of a node by a port; with a credit more of the link into one
 abbrev pub after_arriving : NetState → ℕ → ℕ → Flit → NetState

@@ -19,7 +19,8 @@ abbrev pub empty_link : ℕ → LinkView
 empty_link room = record { flits = []; credits = []; room = room }
 
 abbrev pub AreFresh : List ℕ → List ℕ → ℕ → List Node → Type 0
-AreFresh mesh channels depth nodes = (x : ℕ) → slice_index_or nodes x (fresh_node mesh channels depth x) ≡ fresh_node mesh channels depth x
+AreFresh mesh channels depth nodes =
+    (x : ℕ) → slice_index_or nodes x (fresh_node mesh channels depth x) ≡ fresh_node mesh channels depth x
 
 pub record IsFresh (mesh channels : List ℕ) (depth : ℕ) (names : List (List ℕ)) (s : NetState) : Type 0 where
   pub same_mesh : s.mesh ≡ mesh

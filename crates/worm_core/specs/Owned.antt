@@ -1,4 +1,5 @@
--- Which nodes of a network a worker owns: those whose number leaves the worker's own when divided by the number of workers.
+-- Which nodes of a network a worker owns: those whose number leaves the worker's own when divided by the number of
+-- workers.
 use Rattle.std.specs.Prelude.{ℕ, ◌%◌, ◌==◌, Bool}
 use Rattle.worm_core.specs.declared.own.Own.{Own}
 

@@ -1,8 +1,9 @@
--- What an answer to a step means in a region, where the way out of a node may be shut: as that of a network, but that an enabled
--- Send is idle where it is hindered.
-use Rattle.std.specs.Prelude.{◌≡◌, Option, Some, None, Result, Ok, Err}
+-- What an answer to a step means in a region, where the way out of a node may be shut: as that of a network, but that
+-- an enabled Send is idle where it is hindered.
+use Rattle.std.specs.Prelude.{◌≡◌, Some, None, Result, Ok, Err}
 use Rattle.worm_router.specs.Router.{leaving}
-use Rattle.worm_theory.specs.Steps.{Step, Offer, CloseLane, Feed, Route, Grant, Send, Take, GiveCredit, TakeCredit, IsThere, Enabled, after}
+use Rattle.worm_theory.specs.Steps.{Step, Offer, CloseLane, Feed, Route, Grant, Send, Take, GiveCredit, TakeCredit}
+use Rattle.worm_theory.specs.Steps.{IsThere, Enabled, after}
 use Rattle.worm_core.specs.State.{NetState, IsFramed, IsSameConfig, shape, network_of, router_at}
 use Rattle.worm_core.specs.Answers.{Grows, refusal_of}
 use Rattle.worm_core.specs.Moves.{HasWay, done_step}
@@ -48,4 +49,5 @@ Replies old step (Err NoMemory) new =
 
 -- a step is tried in a region
 abbrev pub Attempts : Step → Passage
-Attempts step old fault new = (answer : Result Moved StepFault) × Replies old step answer new × (fault ≡ fault_of answer)
+Attempts step old fault new =
+    (answer : Result Moved StepFault) × Replies old step answer new × (fault ≡ fault_of answer)

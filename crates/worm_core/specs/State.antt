@@ -1,12 +1,14 @@
 -- What a contract sees of a network, and the functions of places that it stands for.
-use Rattle.std.specs.Prelude.{ℕ, ◌*◌, ◌<◌, ◌≤◌, ◌≡◌, ◌==◌, cond, nat_lt, List, [], length, map, drop, sum, slice_index_or, slice_set}
+use Rattle.std.specs.Prelude.{ℕ, ◌*◌, ◌<◌, ◌≤◌, ◌≡◌, ◌==◌, cond, nat_lt, List, [], length, map, drop, sum}
+use Rattle.std.specs.Prelude.{slice_index_or, slice_set}
 use Rattle.arrayvec.specs.ArrayString.{ArrayString}
 use Rattle.worm_flit.specs.Channels.{AreChannels}
 use Rattle.worm_mesh.specs.Address.{IsMesh as IsRadices, node_count, has_neighbour}
 use Rattle.worm_mesh.specs.Links.{links_before, link_count}
 use Rattle.worm_flit.specs.declared.Flit.{Flit}
 use Rattle.worm_records.specs.declared.OutRecord.{OutRecord}
-use Rattle.worm_router.specs.Router.{RouterState, ChannelState, IsPlace, width, places, fresh_channel, free_output, fresh_router, input_at, output_at}
+use Rattle.worm_router.specs.Router.{RouterState, ChannelState, IsPlace, width, places, fresh_channel, free_output}
+use Rattle.worm_router.specs.Router.{fresh_router, input_at, output_at}
 use Rattle.worm_term.specs.Queue.{QueueState}
 use Rattle.worm_term.specs.Sink.{SinkState}
 use Rattle.worm_term.specs.Source.{SourceState, IsSource, fresh_source, queue_at}
@@ -30,8 +32,8 @@ pub record LinkView : Type 0 where
 abbrev pub texts_of : List ArrayString → List (List ℕ)
 texts_of names = map (λ (name : ArrayString). name.bytes) names
 
--- The configuration, the nodes by number, the links by number, and which of the nodes are owned by whoever has it: of a whole
--- network all are.
+-- The configuration, the nodes by number, the links by number, and which of the nodes are owned by whoever has it: of
+-- a whole network all are.
 pub record NetState : Type 0 where
   pub mesh : List ℕ
   pub channels : List ℕ

@@ -1,13 +1,15 @@
--- The turn of a node, the turns of all nodes, and the run on one thread: which step is tried in which order, and where the
--- allocators pass between them (Dally and Towles, chapters 16, 18 and 19).
-use Rattle.std.specs.Prelude.{ℕ, zero, suc, ◌≡◌, ◌+◌, ◌*◌, ◌<◌, ◌==◌, nat_lt, ◌⊎◌, List, [], ◌∷◌, length, sum, map, All, slice_index_or, Option, Some, None, IsSome, option_map, Result, Ok, Err, MatchBool}
+-- The turn of a node, the turns of all nodes, and the run on one thread: which step is tried in which order, and where
+-- the allocators pass between them (Dally and Towles, chapters 16, 18 and 19).
+use Rattle.std.specs.Prelude.{ℕ, zero, suc, ◌≡◌, ◌+◌, ◌*◌, ◌<◌, ◌==◌, nat_lt, ◌⊎◌, List, [], ◌∷◌, length, sum, map}
+use Rattle.std.specs.Prelude.{All, slice_index_or, Option, Some, None, IsSome, option_map, Result, Ok, Err, MatchBool}
 use Rattle.std.specs.List.{range_with_len, flat_map, find}
 use Rattle.std.specs.Option.{option_to_list}
 use Rattle.worm_mesh.specs.Address.{node_count}
 use Rattle.worm_router.specs.Router.{RouterState, width, input_at}
 use Rattle.worm_router.specs.Allocation.{after_allocate, switch_grants}
 use Rattle.worm_swalloc.specs.declared.grant.SwGrant.{SwGrant}
-use Rattle.worm_theory.specs.Steps.{Step, Offer, CloseLane, Feed, Route, Grant, Send, Take, GiveCredit, TakeCredit, StepsLead}
+use Rattle.worm_theory.specs.Steps.{Step, Offer, CloseLane, Feed, Route, Grant, Send, Take, GiveCredit, TakeCredit}
+use Rattle.worm_theory.specs.Steps.{StepsLead}
 use Rattle.worm_core.specs.State.{NetState, IsSameConfig, shape, network_of, router_at, with_router}
 use Rattle.worm_core.specs.Moves.{chosen_router}
 use Rattle.worm_core.specs.Answers.{Answers}
@@ -113,7 +115,8 @@ granted_send grants x p = option_to_list (option_map (λ g. Send x p g.vc) (slic
 -- one pass of the switch allocator, and then the Sends that it granted, by input port
 abbrev pub SendsGrantedBy : (Step → Passage) → ℕ → Passage
 SendsGrantedBy T x old fault new =
-    Each T (flat_map (granted_send (switch_grants (router_at old x)) x) (all_ports old)) (with_router old x (chosen_router (router_at old x))) fault new
+    Each T (flat_map (granted_send (switch_grants (router_at old x)) x) (all_ports old))
+    (with_router old x (chosen_router (router_at old x))) fault new
 
 -- the lowest channel of a port that owes a credit
 abbrev pub lowest_owed : RouterState → ℕ → Option ℕ
@@ -188,13 +191,17 @@ Turns script n = Each (λ t. Turn (due t script)) (range_with_len 0 n)
 -- at most so many turns without entries, ending before a turn with no flit under way
 abbrev pub Drains : ℕ → Passage
 Drains zero old fault new = Stays old fault new
-Drains (suc n) old fault new = MatchBool (injected_total old == delivered_total old) (Stays old fault new) ((Turn [] and_then Drains n) old fault new)
+Drains (suc n) old fault new =
+    MatchBool (injected_total old == delivered_total old) (Stays old fault new)
+    ((Turn [] and_then Drains n) old fault new)
 
--- The run on one thread: the turns below a number with a script's entries, and then the drain; or else the turn in which a fault
--- stopped it, and that fault.
+-- The run on one thread: the turns below a number with a script's entries, and then the drain; or else the turn in
+-- which a fault stopped it, and that fault.
 abbrev pub OneThreadRun : List Entry → ℕ → ℕ → NetState → Option ℕ → Option StepFault → NetState → Type 0
-OneThreadRun script turns drain old None fault new = (mid : NetState) × Turns script turns old None mid × Drains drain mid fault new
-OneThreadRun script turns drain old (Some t) fault new = (t < turns) × IsSome fault × ((mid : NetState) × Turns script t old None mid × Turn (due t script) mid fault new)
+OneThreadRun script turns drain old None fault new =
+    (mid : NetState) × Turns script turns old None mid × Drains drain mid fault new
+OneThreadRun script turns drain old (Some t) fault new =
+    (t < turns) × IsSome fault × ((mid : NetState) × Turns script t old None mid × Turn (due t script) mid fault new)
 
 -- From one network it leads to one alone, with one fault or none, unless want of memory ended it.
 abbrev pub IsDetermined : Passage → Type 0
@@ -206,8 +213,10 @@ IsDetermined P =
 abbrev pub RunIsDetermined : List Entry → ℕ → ℕ → Type 0
 RunIsDetermined script turns drain =
     (old new other : NetState) (stop else_stop : Option ℕ) (fault else_fault : Option StepFault)
-    → OneThreadRun script turns drain old stop fault new → OneThreadRun script turns drain old else_stop else_fault other
-    → (fault ≡ Some NoMemory → ⊥) → (else_fault ≡ Some NoMemory → ⊥) → (stop ≡ else_stop) × (fault ≡ else_fault) × (new ≡ other)
+    → OneThreadRun script turns drain old stop fault new →
+    OneThreadRun script turns drain old else_stop else_fault other
+    → (fault ≡ Some NoMemory → ⊥) → (else_fault ≡ Some NoMemory → ⊥) →
+    (stop ≡ else_stop) × (fault ≡ else_fault) × (new ≡ other)
 
 -- By steps of the theory
 

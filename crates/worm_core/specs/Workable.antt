@@ -1,5 +1,5 @@
--- What the moves of a network need of it. It is local, and kept move by move, so it holds of a part of a network as well: nothing is
--- said of worms, or of what was injected.
+-- What the moves of a network need of it. It is local, and kept move by move, so it holds of a part of a network as
+-- well: nothing is said of worms, or of what was injected.
 use Rattle.std.specs.Prelude.{◌≡◌, ℕ, ◌+◌, ◌<◌, ◌≤◌, ◌==◌, Bool, true, false, length, Some}
 use Rattle.std.specs.List.{All, count_by}
 use Rattle.worm_flit.specs.declared.Flit.{Flit}
@@ -33,8 +33,9 @@ pub record IsSent (s : Shape) (f : Flit) : Type 0 where
 abbrev pub IsBound : Shape → Flit → Type 0
 IsBound s f = f.lane.dst < s.nodes
 
--- Per channel of a link of which both ends are owned: each place of the downstream buffer is a credit upstream, a flit on the link or in
--- the buffer, a credit owed or a credit on its way back. Of a link of which one end is elsewhere nothing is said.
+-- Per channel of a link of which both ends are owned: each place of the downstream buffer is a credit upstream, a flit
+-- on the link or in the buffer, a credit owed or a credit on its way back. Of a link of which one end is elsewhere
+-- nothing is said.
 abbrev pub OwnCreditsAdd : Shape → (ℕ → Bool) → Network → Type 0
 OwnCreditsAdd s own net = (y o x v : ℕ) → v < s.channels → s.neighbour y o ≡ Some x → own y ≡ true → own x ≡ true →
     net.credits y o v + length (on_channel v (net.out y o)) + length (net.buffer x (s.opposite o) v)

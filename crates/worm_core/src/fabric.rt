@@ -1,18 +1,26 @@
-ghost use Rattle.std.specs.Prelude.{true, false, ℕ, IfNone, IfOk, ◌==◌, ◌≡◌, ◌*◌, ◌<◌, ◌≤◌, ◌++◌, ◌∷◌, [], ◌↔◌, IsTrue, IsSome, ◌⊎◌, None, Some, OnOk, OnErr, IfErr, IfSome, unwrap_or, if◌then◌else◌, is_some, length, sum, drop, nat_lt, slice_get};
+ghost use Rattle.std.specs.Prelude.{true, false, ℕ, IfNone, IfOk, ◌==◌, ◌≡◌, ◌*◌, ◌<◌, ◌≤◌, ◌++◌, ◌∷◌, [], ◌↔◌};
+ghost use Rattle.std.specs.Prelude.{IsTrue, IsSome, ◌⊎◌, None, Some, OnOk, OnErr, IfErr, IfSome, unwrap_or};
+ghost use Rattle.std.specs.Prelude.{if◌then◌else◌, is_some, length, sum, drop, nat_lt, slice_get};
 ghost use Rattle.worm_flit.specs.Channels.{AreChannels};
 ghost use Rattle.worm_core.specs.NewNet.{IsFresh};
 ghost use Rattle.worm_router.specs.Allocation.{after_allocate, switch_grants};
 ghost use Rattle.worm_swalloc.specs.SwAlloc.{AreGranted};
 ghost use Rattle.worm_mesh.specs.Address.{IsMesh as IsRadices, node_count, neighbour_of};
 ghost use Rattle.worm_mesh.specs.Links.{link_count};
-ghost use Rattle.worm_router.specs.Router.{IsPlace, MayLeave, after_accept, after_credit, after_gave, after_grant, after_route, after_send, can_grant, can_route, input_at, leaving, output_at, terminal, width};
+ghost use Rattle.worm_router.specs.Router.{IsPlace, MayLeave, after_accept, after_credit, after_gave, after_grant};
+ghost use Rattle.worm_router.specs.Router.{after_route, can_grant, can_route, input_at, leaving};
+ghost use Rattle.worm_router.specs.Router.{output_at, terminal, width};
 ghost use Rattle.worm_term.specs.Source.{after_close, after_offer, classes, front_of, refusal};
-ghost use Rattle.worm_core.specs.State.{IsNetPlace, link_at, node_at, router_at, sink_at, source_at, texts_of, with_link, with_node, with_router, with_source};
-ghost use Rattle.worm_core.specs.Moves.{AreReady, CreditFits, FrontFits, LeavesByLink, Sends, after_getting, after_giving, after_take, can_enter, can_get, can_give, chosen_router, delivered_node, fed_node, front_credit, front_into, has_room, link_into, link_out};
+ghost use Rattle.worm_core.specs.State.{IsNetPlace, link_at, node_at, router_at, sink_at, source_at, texts_of};
+ghost use Rattle.worm_core.specs.State.{with_link, with_node, with_router, with_source};
+ghost use Rattle.worm_core.specs.Moves.{AreReady, CreditFits, FrontFits, LeavesByLink, Sends, after_getting};
+ghost use Rattle.worm_core.specs.Moves.{after_giving, after_take, can_enter, can_get, can_give, chosen_router};
+ghost use Rattle.worm_core.specs.Moves.{delivered_node, fed_node, front_credit, front_into, has_room, link_into};
+ghost use Rattle.worm_core.specs.Moves.{link_out};
 ghost use Rattle.worm_core.specs.Wiring.{port_links};
-ghost use Rattle.worm_core.specs.Edges.{after_arriving, after_credit_back};
 ghost use Rattle.worm_core.specs.UnderWay.{IsUnderWay, accepted_in, taken_in};
 
+mod edges;
 mod parts;
 mod readers;
 mod rest;
@@ -53,7 +61,8 @@ impl Model for Fabric {
 
     ghost Value = { NetState };
 
-    ghost view = { λ n. net_state n.links.mesh n.classes n.depth (texts_of n.names.items) n.nodes n.links.states n.own };
+    ghost view = { λ n.
+        net_state n.links.mesh n.classes n.depth (texts_of n.names.items) n.nodes n.links.states n.own };
 }
 
 impl Fabric {
@@ -100,7 +109,9 @@ impl Fabric {
 
     /// Whether the node has this port, the terminal or one with a neighbour, and the network this channel.
     pub fn has_place(&self, node: u8, port: u8, vc: u8) -> bool
-        ensures { IsTrue result ↔ ((node < node_count self.now.mesh) × ((port ≡ 2 * length self.now.mesh) ⊎ IsSome (neighbour_of self.now.mesh node port)) × (vc < sum self.now.channels)) }
+        ensures { IsTrue result ↔ ((node < node_count self.now.mesh) ×
+            ((port ≡ 2 * length self.now.mesh) ⊎ IsSome (neighbour_of self.now.mesh node port)) ×
+            (vc < sum self.now.channels)) }
     {
         u16::from(node) < self.links.wiring().nodes()
             && (port == self.terminal() || self.has_neighbour(node, port))
@@ -109,7 +120,9 @@ impl Fabric {
 
     /// The same for a channel of an output port beside.
     pub fn has_grant(&self, node: u8, port: u8, vc: u8, out_vc: u8) -> bool
-        ensures { IsTrue result ↔ ((node < node_count self.now.mesh) × ((port ≡ 2 * length self.now.mesh) ⊎ IsSome (neighbour_of self.now.mesh node port)) × (vc < sum self.now.channels) × (out_vc < sum self.now.channels)) }
+        ensures { IsTrue result ↔ ((node < node_count self.now.mesh) ×
+            ((port ≡ 2 * length self.now.mesh) ⊎ IsSome (neighbour_of self.now.mesh node port)) ×
+            (vc < sum self.now.channels) × (out_vc < sum self.now.channels)) }
     {
         self.has_place(node, port, vc) && out_vc < self.classes.total()
     }
@@ -130,14 +143,16 @@ impl Fabric {
 
     /// The same for a channel of the link into the port.
     pub fn has_line(&self, node: u8, port: u8, vc: u8) -> bool
-        ensures { IsTrue result ↔ ((node < node_count self.now.mesh) × IsSome (neighbour_of self.now.mesh node port) × (vc < sum self.now.channels)) }
+        ensures { IsTrue result ↔ ((node < node_count self.now.mesh) × IsSome (neighbour_of self.now.mesh node port) ×
+            (vc < sum self.now.channels)) }
     {
         self.has_link(node, port) && vc < self.classes.total()
     }
 
     /// The number of the link into this port, if the node has a neighbour there.
     pub fn link_into(&self, node: u8, port: u8) -> Option<u16>
-        ensures there { IsSome result ↔ ((node < node_count self.now.mesh) × IsSome (neighbour_of self.now.mesh node port)) }
+        ensures there { IsSome result ↔
+            ((node < node_count self.now.mesh) × IsSome (neighbour_of self.now.mesh node port)) }
         ensures value { IfSome result (λ number. number ≡ link_into self.now node port) }
         ensures bound { IfSome result (λ number. number < link_count self.now.mesh) }
         ensures mesh_port { IsSome result → port < 6 }
@@ -147,7 +162,8 @@ impl Fabric {
 
     /// The number of the link out of this port, if the node has a neighbour there.
     pub fn link_out(&self, node: u8, port: u8) -> Option<u16>
-        ensures there { IsSome result ↔ ((node < node_count self.now.mesh) × IsSome (neighbour_of self.now.mesh node port)) }
+        ensures there { IsSome result ↔
+            ((node < node_count self.now.mesh) × IsSome (neighbour_of self.now.mesh node port)) }
         ensures value { IfSome result (λ number. number ≡ link_out self.now node port) }
         ensures bound { IfSome result (λ number. number < link_count self.now.mesh) }
         ensures mesh_port { IsSome result → port < 6 }
@@ -157,7 +173,8 @@ impl Fabric {
 
     /// The links of this port, if the node has a neighbour there.
     pub fn links_at(&self, node: u8, port: u8) -> Option<PortLinks>
-        ensures there { IsSome result ↔ ((node < node_count self.now.mesh) × IsSome (neighbour_of self.now.mesh node port)) }
+        ensures there { IsSome result ↔
+            ((node < node_count self.now.mesh) × IsSome (neighbour_of self.now.mesh node port)) }
         ensures value { result ≡ port_links self.now.mesh node port }
         ensures mesh { IsRadices self.now.mesh }
     {
@@ -177,12 +194,14 @@ impl Fabric {
         requires place { IsNetPlace self.old node port flit.vc }
         requires dst { flit.lane.dst < node_count (router_at self.old node).mesh }
         ensures done { result ≡ has_room (router_at self.old node) port flit }
-        ensures after { self.new ≡ (if result then with_router self.old node (after_accept (router_at self.old node) port flit) else self.old) }
+        ensures after { self.new ≡ (if result then with_router self.old node
+            (after_accept (router_at self.old node) port flit) else self.old) }
     {
         self.nodes.router_mut(node).accept(port, flit).is_ok()
     }
 
-    /// Moves the front of the link into a port, which is that of this number, to the buffer of its channel (Dally and Towles, chapter 13).
+    /// Moves the front of the link into a port, which is that of this number, to the buffer of its channel (Dally and
+    /// Towles, chapter 13).
     pub fn take(&mut self, node: u8, port: u8, number: u16) -> bool
         requires node { node < length self.old.nodes }
         requires number { number ≡ link_into self.old node port }
@@ -192,7 +211,8 @@ impl Fabric {
         requires linked { IsSome (neighbour_of self.old.mesh node port) }
         requires front { FrontFits (router_at self.old node) port (front_into self.old node port) }
         ensures enabled { result ≡ can_enter (router_at self.old node) port (front_into self.old node port) }
-        ensures after { self.new ≡ (if result then after_take self.old node port (link_into self.old node port) (front_into self.old node port) else self.old) }
+        ensures after { self.new ≡ (if result then after_take self.old node port (link_into self.old node port)
+            (front_into self.old node port) else self.old) }
     {
         let Some(flit) = self.links.link(number).front() else {
             return false;
@@ -204,11 +224,12 @@ impl Fabric {
         true
     }
 
-    /// Finds an out port for the opening flit at the front of a buffer: route computation (Dally and Towles, chapters 8 and 16).
+    /// Route computation: an out port for the opening flit at a buffer's front (Dally and Towles, chapters 8 and 16).
     pub fn route(&mut self, node: u8, port: u8, vc: u8) -> bool
         requires { IsNetPlace self.old node port vc }
         ensures enabled { result ≡ can_route (router_at self.old node) port vc }
-        ensures after { self.new ≡ (if result then with_router self.old node (after_route (router_at self.old node) port vc) else self.old) }
+        ensures after { self.new ≡ (if result then with_router self.old node
+            (after_route (router_at self.old node) port vc) else self.old) }
     {
         self.nodes.router_mut(node).route(port, vc)
     }
@@ -223,18 +244,31 @@ impl Fabric {
         self.nodes.router_mut(node).grant(port, vc, out_vc)
     }
 
+    /// Whether the flit that is ready at this place is at home. The buffer is asked: were the flit itself read in part,
+    /// the compiler would take it apart on its way to a link, too.
+    fn is_home(&self, node: u8, port: u8, vc: u8) -> bool
+        requires { IsNetPlace self.now node port vc }
+        ensures { IfSome (leaving (router_at self.now node) port vc) (λ out. result ≡ (out.1.lane.dst == node)) }
+    {
+        match self.node(node).router.buffer_at(port, vc, 0) {
+            Some(flit) => flit.lane.dst == node,
+            None => false,
+        }
+    }
+
     /// Lets the ready flit out into the node's sink, by the output port `out`, if the sink can take it.
     fn deliver(&mut self, node: u8, port: u8, vc: u8, out: u8, flit: Flit) -> bool
         requires place { IsNetPlace self.old node port vc }
         requires ready { leaving (router_at self.old node) port vc ≡ Some (out, flit) }
         requires home { flit.lane.dst ≡ (sink_at self.old node).node }
-        ensures { self.new ≡ (if result then with_node self.old node (delivered_node (node_at self.old node) port vc flit) else self.old) }
+        ensures { self.new ≡ (if result then with_node self.old node
+            (delivered_node (node_at self.old node) port vc flit) else self.old) }
     {
         self.nodes.deliver(node, port, vc, out, flit)
     }
 
-    /// Lets the ready flit out, into the sink or onto the link of its port (Dally and Towles, chapter 13). `NoMemory` where the sink cannot
-    /// take it; idle where it is not at home, or where its link has no room.
+    /// Lets the ready flit out, into the sink or onto the link of its port (Dally and Towles, chapter 13). `NoMemory`
+    /// where the sink cannot take it; idle where none is ready, or where one for the terminal is not at home.
     pub fn send(&mut self, node: u8, port: u8, vc: u8) -> Result<Moved, StepFault>
         requires place { IsNetPlace self.old node port vc }
         requires links { length self.old.links ≡ link_count self.old.mesh }
@@ -248,7 +282,7 @@ impl Fabric {
             return Ok(Moved::Idle);
         };
         if out == terminal {
-            if flit.lane.dst != node {
+            if !self.is_home(node, port, vc) {
                 return Ok(Moved::Idle);
             }
             if !self.deliver(node, port, vc, out, flit) {
@@ -266,9 +300,12 @@ impl Fabric {
         requires node { node < length self.old.nodes }
         requires mesh { (router_at self.old node).mesh ≡ self.old.mesh }
         requires class { class < classes (source_at self.old node) }
-        requires front { FrontFits (router_at self.old node) (terminal (router_at self.old node)) (front_of (source_at self.old node) class) }
-        ensures enabled { result ≡ can_enter (router_at self.old node) (terminal (router_at self.old node)) (front_of (source_at self.old node) class) }
-        ensures after { self.new ≡ (if result then with_node self.old node (fed_node (node_at self.old node) class (front_of (source_at self.old node) class)) else self.old) }
+        requires front { FrontFits (router_at self.old node) (terminal (router_at self.old node))
+            (front_of (source_at self.old node) class) }
+        ensures enabled { result ≡ can_enter (router_at self.old node) (terminal (router_at self.old node))
+            (front_of (source_at self.old node) class) }
+        ensures after { self.new ≡ (if result then with_node self.old node
+            (fed_node (node_at self.old node) class (front_of (source_at self.old node) class)) else self.old) }
     {
         let terminal = self.terminal();
         self.nodes.feed(node, class, terminal)
@@ -277,8 +314,10 @@ impl Fabric {
     /// Hands the packet to the node's source.
     pub fn offer(&mut self, node: u8, packet: &Packet) -> Result<u16, OfferFault>
         requires { node < length self.old.nodes }
-        ensures ok { OnOk result ((refusal (source_at self.old node) packet.now.lane false ≡ None) × (self.new ≡ with_source self.old node (after_offer (source_at self.old node) packet.now))) }
-        ensures fault { IfErr result (λ e. e ≡ unwrap_or (refusal (source_at self.old node) packet.now.lane false) OfferFault.NoMemory) }
+        ensures ok { OnOk result ((refusal (source_at self.old node) packet.now.lane false ≡ None) ×
+            (self.new ≡ with_source self.old node (after_offer (source_at self.old node) packet.now))) }
+        ensures fault { IfErr result (λ e. e ≡ unwrap_or
+            (refusal (source_at self.old node) packet.now.lane false) OfferFault.NoMemory) }
         ensures err { OnErr result (self.new ≡ self.old) }
         ensures some { 1 ≤ length packet.now.words }
         ensures few { length packet.now.words ≤ 32 }
@@ -289,49 +328,13 @@ impl Fabric {
     /// Hands the lane's close mark to the node's source.
     pub fn close(&mut self, node: u8, lane: Lane) -> Result<u16, OfferFault>
         requires { node < length self.old.nodes }
-        ensures ok { OnOk result ((refusal (source_at self.old node) lane true ≡ None) × (self.new ≡ with_source self.old node (after_close (source_at self.old node) lane))) }
-        ensures fault { IfErr result (λ e. e ≡ unwrap_or (refusal (source_at self.old node) lane true) OfferFault.NoMemory) }
+        ensures ok { OnOk result ((refusal (source_at self.old node) lane true ≡ None) ×
+            (self.new ≡ with_source self.old node (after_close (source_at self.old node) lane))) }
+        ensures fault { IfErr result (λ e. e ≡ unwrap_or
+            (refusal (source_at self.old node) lane true) OfferFault.NoMemory) }
         ensures err { OnErr result (self.new ≡ self.old) }
     {
         self.nodes.close(node, lane)
-    }
-
-    /// By which port the front flit may leave, and as which flit, if it may.
-    pub fn ready(&self, node: u8, port: u8, vc: u8) -> Option<(u8, Flit)>
-        requires { IsNetPlace self.now node port vc }
-        ensures { result ≡ leaving (router_at self.now node) port vc }
-    {
-        self.nodes.node(node).router.ready(port, vc)
-    }
-
-    /// The ready flit leaves the node by the output port `out`, whose link is kept elsewhere.
-    pub fn let_out(&mut self, node: u8, port: u8, vc: u8, out: u8, flit: Flit)
-        requires place { IsNetPlace self.old node port vc }
-        requires ready { leaving (router_at self.old node) port vc ≡ Some (out, flit) }
-        ensures { self.new ≡ with_router self.old node (after_send (router_at self.old node) port vc) }
-    {
-        self.nodes.router_mut(node).let_out(port, vc, out, flit);
-    }
-
-    /// The flit comes onto the link out of this port.
-    pub fn arrive(&mut self, node: u8, port: u8, flit: Flit)
-        requires links { length self.old.links ≡ link_count self.old.mesh }
-        requires linked { IsSome (neighbour_of self.old.mesh node port) }
-        requires room { length (link_at self.old (link_out self.old node port)).flits < (link_at self.old (link_out self.old node port)).room }
-        ensures { self.new ≡ after_arriving self.old node port flit }
-    {
-        self.links.push(node, port, flit);
-    }
-
-    /// The credit of the channel comes onto the link into this port, on its way back.
-    pub fn arrive_credit(&mut self, node: u8, port: u8, links: PortLinks, vc: u8)
-        requires mesh { IsRadices self.old.mesh }
-        requires ports { Some links ≡ port_links self.old.mesh node port }
-        requires links { length self.old.links ≡ link_count self.old.mesh }
-        requires room { length (link_at self.old (link_into self.old node port)).credits < (link_at self.old (link_into self.old node port)).room }
-        ensures { self.new ≡ after_credit_back self.old node port vc }
-    {
-        self.links.push_credit(node, port, links, vc);
     }
 
     /// Whether the input channel owes a credit.
@@ -351,14 +354,16 @@ impl Fabric {
         self.nodes.router_mut(node).gave(port, vc);
     }
 
-    /// Gives a credit that the input channel owes to the link into its port, whose links are these (Dally and Towles, chapter 13).
+    /// Gives a credit that the input channel owes to the link into its port, whose links are these (Dally and Towles,
+    /// chapter 13).
     pub fn give(&mut self, node: u8, port: u8, vc: u8, links: PortLinks)
         requires place { IsNetPlace self.old node port vc }
         requires mesh { IsRadices self.old.mesh }
         requires ports { Some links ≡ port_links self.old.mesh node port }
         requires links { length self.old.links ≡ link_count self.old.mesh }
         requires owed { 0 < (input_at (router_at self.old node) port vc).owed }
-        requires room { length (link_at self.old (link_into self.old node port)).credits < (link_at self.old (link_into self.old node port)).room }
+        requires room { length (link_at self.old (link_into self.old node port)).credits <
+            (link_at self.old (link_into self.old node port)).room }
         ensures { self.new ≡ after_giving self.old node port vc (link_into self.old node port) }
     {
         self.gave(node, port, vc);
@@ -368,13 +373,16 @@ impl Fabric {
     /// Counts a credit more for the output channel, if one is missing.
     fn credit(&mut self, node: u8, port: u8, vc: u8) -> bool
         requires { IsNetPlace self.old node port vc }
-        ensures enabled { result ≡ (if (output_at (router_at self.old node) port vc).credits == (router_at self.old node).depth then false else true) }
-        ensures after { self.new ≡ (if result then with_router self.old node (after_credit (router_at self.old node) port vc) else self.old) }
+        ensures enabled { result ≡ (if (output_at (router_at self.old node) port vc).credits ==
+            (router_at self.old node).depth then false else true) }
+        ensures after { self.new ≡ (if result then with_router self.old node
+            (after_credit (router_at self.old node) port vc) else self.old) }
     {
         self.nodes.router_mut(node).credit(port, vc).is_ok()
     }
 
-    /// Takes the front credit of the link out of this port, which is that of this number, into its channel's count (Dally and Towles, chapter 13).
+    /// Takes the front credit of the link out of this port, which is that of this number, into its channel's count
+    /// (Dally and Towles, chapter 13).
     pub fn get(&mut self, node: u8, port: u8, number: u16) -> bool
         requires node { node < length self.old.nodes }
         requires number { number ≡ link_out self.old node port }
@@ -384,7 +392,8 @@ impl Fabric {
         requires linked { IsSome (neighbour_of self.old.mesh node port) }
         requires front { CreditFits (router_at self.old node) port (front_credit self.old node port) }
         ensures enabled { result ≡ can_get (router_at self.old node) port (front_credit self.old node port) }
-        ensures after { self.new ≡ (if result then after_getting self.old node port (front_credit self.old node port) else self.old) }
+        ensures after { self.new ≡ (if result then after_getting self.old node port
+            (front_credit self.old node port) else self.old) }
     {
         let Some(vc) = self.links.link(number).front_credit() else {
             return false;
@@ -419,7 +428,7 @@ impl Fabric {
         self.classes.total()
     }
 
-    /// One pass of the node's channel allocator, its grants written into the records (Dally and Towles, chapters 16 and 19).
+    /// One pass of the node's channel allocator into its records (Dally and Towles, chapters 16 and 19).
     pub fn allocate(&mut self, node: u8)
         requires { node < length self.old.nodes }
         ensures { self.new ≡ with_router self.old node (after_allocate (router_at self.old node)) }

@@ -40,14 +40,15 @@ fn make_node(
     })
 }
 
-/// The nodes of a new network of this configuration, each at its own number. A part of a network has such nodes in the places of
-/// those that it does not own.
+/// The nodes of a new network of this configuration, each at its own number. A part of a network has such nodes in the
+/// places of those that it does not own.
 pub fn fresh_nodes(alloc: Global, config: &Config) -> Result<Vec<Node>, AllocError>
     requires mesh { IsRadices config.now.radices.items }
     requires channels { AreChannels config.now.channels.items }
     requires depth { (1 ≤ config.now.depth) × (config.now.depth ≤ 16) }
     ensures all { IfOk result (λ v. length v.items ≡ node_count config.now.radices.items) }
-    ensures fresh { IfOk result (λ v. AreFresh config.now.radices.items config.now.channels.items config.now.depth v.items) }
+    ensures fresh { IfOk result (λ v. AreFresh config.now.radices.items config.now.channels.items config.now.depth
+        v.items) }
 {
     let Ok(mesh) = Mesh::new(config.radices.as_slice()) else {
         unreachable!()

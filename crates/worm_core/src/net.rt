@@ -1,11 +1,13 @@
-ghost use Rattle.std.specs.Prelude.{None, Some, slice_index_or, ◌≡◌, ◌≤◌, ◌<◌, ◌*◌, ◌↔◌, ℕ, Result, IsTrue, IfNone, IfOk, Ok, sum, length, slice_get, IfSome, MatchOption, Err};
+ghost use Rattle.std.specs.Prelude.{None, Some, slice_index_or, ◌≡◌, ◌≤◌, ◌<◌, ◌*◌, ◌↔◌, ℕ, Result, IsTrue, IfNone};
+ghost use Rattle.std.specs.Prelude.{IfOk, Ok, sum, length, slice_get, IfSome, MatchOption, Err};
 ghost use Rattle.worm_theory.specs.Steps.{IsThere, Step as Event};
 ghost use Rattle.worm_core.specs.Runs.{IsRun, event_of};
 ghost use Rattle.worm_core.specs.Answers.{Answers, ArbitersStand, accepted_of, moved_of};
 ghost use Rattle.worm_theory.specs.Steps.{empty};
 ghost use Rattle.worm_core.specs.NewNet.{IsConfig, IsFresh};
 ghost use Rattle.worm_core.specs.Headline.{DeliversInOrder, NothingFollowsMarks};
-ghost use Rattle.worm_core.specs.State.{IsNet, shape, network_of, queue_of, router_at, sink_at, source_at, texts_of, with_router};
+ghost use Rattle.worm_core.specs.State.{IsNet, shape, network_of, queue_of, router_at, sink_at, source_at, texts_of};
+ghost use Rattle.worm_core.specs.State.{with_router};
 ghost use Rattle.worm_core.specs.Turns.{Reaches, Turn};
 ghost use Rattle.worm_core.specs.Script.{due};
 ghost use Rattle.std.specs.Result.{result_err};
@@ -50,9 +52,12 @@ impl Net {
     /// An empty network. `BadConfig` where a number of the configuration is out of its range, else `NoMemory` where
     /// there is none for the nodes, their buffers and the links.
     pub fn new(alloc: Global, config: &Config) -> Result<Net, NetFault>
-        ensures fresh { IfOk result (λ n. IsFresh config.now.radices.items config.now.channels.items config.now.depth (texts_of config.now.classes.items) n) }
+        ensures fresh { IfOk result (λ n. IsFresh config.now.radices.items config.now.channels.items config.now.depth
+            (texts_of config.now.classes.items) n) }
         ensures empty { IfOk result (λ n. network_of n ≡ empty (shape n)) }
-        ensures bad { (result ≡ Err NetFault.BadConfig) ↔ (IsConfig config.now.radices.items config.now.channels.items config.now.depth (length config.now.classes.items) → ⊥) }
+        ensures bad { (result ≡ Err NetFault.BadConfig) ↔
+            (IsConfig config.now.radices.items config.now.channels.items config.now.depth
+            (length config.now.classes.items) → ⊥) }
     {
         let Ok(mesh) = Mesh::new(config.radices.as_slice()) else {
             return Err(NetFault::BadConfig);
@@ -157,7 +162,8 @@ impl Net {
 
     /// Whether the network has this lane: its two nodes and its class.
     pub fn has_lane(&self, lane: Lane) -> bool
-        ensures { IsTrue result ↔ ((lane.src < node_count self.now.mesh) × (lane.dst < node_count self.now.mesh) × (lane.class < length self.now.channels)) }
+        ensures { IsTrue result ↔ ((lane.src < node_count self.now.mesh) × (lane.dst < node_count self.now.mesh) ×
+            (lane.class < length self.now.channels)) }
     {
         let nodes = self.nodes();
         u16::from(lane.src) < nodes && u16::from(lane.dst) < nodes && lane.class < self.classes()
@@ -191,7 +197,9 @@ impl Net {
     /// The steps in turn, up to the first fault.
     fn take_steps(&mut self, steps: &[Step]) -> RunSoFar
         ensures led { IsRun self.old self.new steps.now result.done }
-        ensures stopped { MatchOption result.fault (result.done ≡ length steps.now) (λ fault. IfSome (slice_get steps.now result.done) (λ step. Answers self.new (event_of step) (Err fault) self.new)) }
+        ensures stopped { MatchOption result.fault (result.done ≡ length steps.now)
+            (λ fault. IfSome (slice_get steps.now result.done)
+            (λ step. Answers self.new (event_of step) (Err fault) self.new)) }
     {
         let mut done = 0;
         for step in steps {
@@ -208,11 +216,13 @@ impl Net {
         RunSoFar { done, fault: None }
     }
 
-    /// Takes the steps one after another, up to the first fault; the steps before it stand. After any such run what was
-    /// delivered of a lane, followed by what is under way, is what was injected, and nothing follows a close mark.
+    /// Takes the steps one after another, up to the first fault; the steps before it stand. After any such run what
+    /// was delivered of a lane, followed by what is under way, is what was injected, and nothing follows a close mark.
     pub fn run(&mut self, steps: &[Step]) -> RunSoFar
         ensures led { IsRun self.old self.new steps.now result.done }
-        ensures stopped { MatchOption result.fault (result.done ≡ length steps.now) (λ fault. IfSome (slice_get steps.now result.done) (λ step. Answers self.new (event_of step) (Err fault) self.new)) }
+        ensures stopped { MatchOption result.fault (result.done ≡ length steps.now)
+            (λ fault. IfSome (slice_get steps.now result.done)
+            (λ step. Answers self.new (event_of step) (Err fault) self.new)) }
         ensures delivers { DeliversInOrder self.new }
         ensures marks { NothingFollowsMarks self.old self.new }
     {

@@ -2,8 +2,9 @@ ghost use Rattle.std.specs.Prelude.{ℕ, List};
 ghost use Rattle.worm_core.specs.declared.script.Entry.{Entry};
 ghost use Rattle.worm_core.specs.Turns.{IsDetermined, RunIsDetermined, Turn};
 
-/// Turns are functions of the network and the script: unless want of memory ends it, a turn leads from one network to one alone, with
-/// one fault or none; so does a run of turns with its drain, which then is stopped at one place, if at all.
+/// Turns are functions of the network and the script: unless want of memory ends it, a turn leads from one network to
+/// one alone, with one fault or none; so does a run of turns with its drain, which then is stopped at one place, if at
+/// all.
 #[tactic(auto, using(crate::proofs::Determined::turn_one, crate::proofs::Determined::run_one))]
 pub fn turns_are_determined()
     ensures turn { (entries : List Entry) → IsDetermined (Turn entries) }

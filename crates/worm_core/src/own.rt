@@ -3,7 +3,8 @@
 ghost use Rattle.std.specs.Prelude.{◌≡◌};
 ghost use Rattle.worm_core.specs.Owned.{sole};
 
-/// A worker among several, who owns the nodes whose number leaves the worker's own when divided by the number of workers.
+/// A worker among several, who owns the nodes whose number leaves the worker's own when divided by the number of
+/// workers.
 #[derive(Clone, Copy, Debug, PartialEq, Eq)]
 pub struct Own {
     /// The worker's number, counted from 0.

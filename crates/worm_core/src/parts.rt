@@ -39,8 +39,9 @@ impl Net {
         self.into_fabric().into_parts()
     }
 
-    /// The network of these parts, which are those of one: each node at its own number, each link with the room for as many
-    /// flits and as many credits as all its channels' buffers hold, and all together sound, as `into_parts` gives them. It takes no memory.
+    /// The network of these parts, which are those of one: each node at its own number, each link with the room for as
+    /// many flits and as many credits as all its channels' buffers hold, and all together sound, as `into_parts` gives
+    /// them. It takes no memory.
     pub fn from_parts(parts: NetParts) -> Net
         requires { IsNet (parts_state parts) }
         ensures { result ≡ parts_state parts }

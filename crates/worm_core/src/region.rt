@@ -1,6 +1,7 @@
 //! The lists of a network with what its moves need of them, and the moves: small steps, each of which keeps that.
 
-ghost use Rattle.std.specs.Prelude.{None, Some, slice_index_or, ◌≡◌, ◌≤◌, ◌<◌, ◌*◌, ℕ, Result, IsTrue, IfNone, Ok, sum, length, IfSome};
+ghost use Rattle.std.specs.Prelude.{None, Some, slice_index_or, ◌≡◌, ◌≤◌, ◌<◌, ◌*◌, ℕ, Result, IsTrue, IfNone, Ok};
+ghost use Rattle.std.specs.Prelude.{sum, length, IfSome};
 ghost use Rattle.worm_theory.specs.Steps.{IsThere, Step as Event};
 ghost use Rattle.worm_swalloc.specs.SwAlloc.{AreGranted};
 ghost use Rattle.worm_swalloc.specs.declared.grant.SwGrant.{SwGrant};
@@ -29,9 +30,9 @@ use worm_flit::{Lane, Packet};
 use worm_term::OfferFault;
 use worm_vcalloc::ChannelSet;
 
-/// The nodes and links of a network, some nodes or all owned by whoever has it: what a move of a node needs holds of it, and each
-/// move keeps that. Of the nodes that are not owned it has others in their places, which are not moved; of a link that comes
-/// from one of them what was taken off its queue and is in no buffer.
+/// The nodes and links of a network, some nodes or all owned by whoever has it: what a move of a node needs holds of
+/// it, and each move keeps that. Of the nodes that are not owned it has others in their places, which are not moved;
+/// of a link that comes from one of them what was taken off its queue and is in no buffer.
 #[derive(Drop)]
 pub struct Region {
     fabric: Fabric,
@@ -132,7 +133,9 @@ impl Region {
         requires { node < node_count self.old.mesh }
         ensures granted { AreGranted (switch_grants (router_at self.old node)) result }
         ensures after { self.new ≡ with_router self.old node (chosen_router (router_at self.old node)) }
-        ensures there { (p : ℕ) (g : SwGrant) → slice_index_or (switch_grants (router_at self.old node)) p None ≡ Some g → IsThere (shape self.old) (Event.Send node p g.vc) }
+        ensures there { (p : ℕ) (g : SwGrant) →
+            slice_index_or (switch_grants (router_at self.old node)) p None ≡ Some g →
+            IsThere (shape self.old) (Event.Send node p g.vc) }
         ensures reaches { ReachesAt node self.old self.new }
     {
         self.fabric.choose(node)
@@ -155,12 +158,14 @@ impl Region {
         self.fabric.unrouted(node)
     }
 
-    /// A mesh port from this one on by which a credit may come in; before it there is none to take, and where there is none, past it.
+    /// A mesh port from this one on by which a credit may come in; before it there is none to take, and where there is
+    /// none, past it.
     pub(crate) fn next_credit(&self, node: u8, from: u8) -> Option<u8>
         requires node { node < node_count self.now.mesh }
         requires from { from ≤ 6 }
         ensures mesh_port { IfSome result (λ port. (from ≤ port) × (port < 2 * length self.now.mesh) × (port < 6)) }
-        ensures before { IfSome result (λ port. (p : ℕ) → from ≤ p → p < port → Attempts (Event.TakeCredit node p) self.now None self.now) }
+        ensures before { IfSome result (λ port. (p : ℕ) → from ≤ p → p < port →
+            Attempts (Event.TakeCredit node p) self.now None self.now) }
         ensures none { IfNone result ((p : ℕ) → from ≤ p → Attempts (Event.TakeCredit node p) self.now None self.now) }
     {
         self.fabric.next_credit(node, from)
@@ -171,18 +176,22 @@ impl Region {
         requires node { node < node_count self.now.mesh }
         requires from { from ≤ 6 }
         ensures mesh_port { IfSome result (λ port. (from ≤ port) × (port < 2 * length self.now.mesh) × (port < 6)) }
-        ensures before { IfSome result (λ port. (p : ℕ) → from ≤ p → p < port → Attempts (Event.Take node p) self.now None self.now) }
+        ensures before { IfSome result (λ port. (p : ℕ) → from ≤ p → p < port →
+            Attempts (Event.Take node p) self.now None self.now) }
         ensures none { IfNone result ((p : ℕ) → from ≤ p → Attempts (Event.Take node p) self.now None self.now) }
     {
         self.fabric.next_flit(node, from)
     }
 
-    /// The first class from this one on of which the node can feed a flit; before it there is none to feed, and where there is none, past it.
+    /// The first class from this one on of which the node can feed a flit; before it there is none to feed, and where
+    /// there is none, past it.
     pub(crate) fn next_class(&self, node: u8, from: u8) -> Option<u8>
         requires { node < node_count self.now.mesh }
         ensures class { IfSome result (λ class. (from ≤ class) × (class < length self.now.channels) × (class < 4)) }
-        ensures before { IfSome result (λ class. (k : ℕ) → from ≤ k → k < class → Attempts (Event.Feed node k) self.now None self.now) }
-        ensures none { IfNone result ((k : ℕ) → from ≤ k → k < length self.now.channels → Attempts (Event.Feed node k) self.now None self.now) }
+        ensures before { IfSome result (λ class. (k : ℕ) → from ≤ k → k < class →
+            Attempts (Event.Feed node k) self.now None self.now) }
+        ensures none { IfNone result ((k : ℕ) → from ≤ k → k < length self.now.channels →
+            Attempts (Event.Feed node k) self.now None self.now) }
     {
         self.fabric.next_class(node, from)
     }
@@ -283,7 +292,8 @@ impl Region {
     /// The same where the place is there. What leaves over a link stays among the nodes that are owned.
     pub fn send_there(&mut self, node: u8, port: u8, vc: u8) -> Result<Moved, StepFault>
         requires there { IsThere (shape self.old) (Event.Send node port vc) }
-        requires within { IfSome (leaving (router_at self.old node) port vc) (λ out. EndsWithin (shape self.old) (owned self.old) node out.0) }
+        requires within { IfSome (leaving (router_at self.old node) port vc)
+            (λ out. EndsWithin (shape self.old) (owned self.old) node out.0) }
         ensures { Replies self.old (Event.Send node port vc) result self.new }
     {
         self.fabric.send(node, port, vc)

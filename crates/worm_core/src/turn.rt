@@ -12,7 +12,9 @@ ghost use Rattle.worm_router.specs.Router.{input_at, width};
 ghost use Rattle.worm_core.specs.State.{router_at};
 ghost use Rattle.worm_theory.specs.Steps.{Route};
 ghost use Rattle.worm_core.specs.Moves.{OwesTheSame, RoutesTheSame};
-ghost use Rattle.worm_core.specs.Turns.{Does, ForEach, ReachesAt, all_nodes, ask, fault_of, lowest_owed, AsksSourceBy, ComesInBy, FeedsClassesBy, GivesCreditBy, GivesCreditsBy, NodePassesBy, NodeTurnBy, RoutesChannelsBy, SendsGrantedBy, TakesCreditsBy, TakesFlitsBy};
+ghost use Rattle.worm_core.specs.Turns.{Does, ForEach, ReachesAt, all_nodes, ask, fault_of, lowest_owed, AsksSourceBy};
+ghost use Rattle.worm_core.specs.Turns.{ComesInBy, FeedsClassesBy, GivesCreditBy, GivesCreditsBy, NodePassesBy};
+ghost use Rattle.worm_core.specs.Turns.{NodeTurnBy, RoutesChannelsBy, SendsGrantedBy, TakesCreditsBy, TakesFlitsBy};
 
 use crate::region::Region;
 use crate::{Act, Entry, Moved, StepFault};
@@ -28,7 +30,8 @@ pub fn tried(answer: Result<Moved, StepFault>) -> Result<(), StepFault>
     }
 }
 
-/// The nodes whose sources these entries ask, by number: an entry is for none of the others. None where there is no entry.
+/// The nodes whose sources these entries ask, by number: an entry is for none of the others. None where there is no
+/// entry.
 fn sources_of(entries: &[Entry]) -> Option<[bool; 256]>
     ensures { (x : ℕ) → x < 256 → is_marked result x ≡ false → begun_at x entries.now ≡ [] }
 {
@@ -115,7 +118,8 @@ impl Region {
     /// Routes a channel, which changes what no other has to route.
     fn route_channel(&mut self, node: u8, port: u8, vc: u8)
         ensures routed { Does (Attempts (Route node port vc)) self.old None self.new }
-        ensures others { (p v : ℕ) → ((p ≡ port) → (v ≡ vc) → ⊥) → v < width (router_at self.new node) → RoutesTheSame self.old self.new node p v }
+        ensures others { (p v : ℕ) → ((p ≡ port) → (v ≡ vc) → ⊥) → v < width (router_at self.new node) →
+            RoutesTheSame self.old self.new node p v }
         ensures sound { IsWorkable self.new }
     {
         self.is_workable();
@@ -156,8 +160,10 @@ impl Region {
         requires channel { vc < sum self.old.channels }
         requires owed { 0 < (input_at (router_at self.old node) port vc).owed }
         requires whole { self.old.own ≡ sole }
-        ensures given { Some vc ≡ lowest_owed (router_at self.old node) port → Does (GivesCreditBy Attempts node port) self.old None self.new }
-        ensures others { (p : ℕ) (v : ℕ) → (p ≡ port → ⊥) → v < width (router_at self.new node) → OwesTheSame self.old self.new node p v }
+        ensures given { Some vc ≡ lowest_owed (router_at self.old node) port →
+            Does (GivesCreditBy Attempts node port) self.old None self.new }
+        ensures others { (p : ℕ) (v : ℕ) → (p ≡ port → ⊥) → v < width (router_at self.new node) →
+            OwesTheSame self.old self.new node p v }
         ensures sound { IsWorkable self.new }
     {
         self.is_workable();
@@ -187,7 +193,8 @@ impl Region {
         }
     }
 
-    /// Takes what comes in at the node, credits and then flits, feeds a flit of each class, and routes each channel that lacks a route.
+    /// Takes what comes in at the node, credits and then flits, feeds a flit of each class, and routes each channel
+    /// that lacks a route.
     pub fn come_in(&mut self, node: u8)
         requires { node < node_count self.old.mesh }
         ensures does { Does (ComesInBy Attempts node) self.old None self.new }

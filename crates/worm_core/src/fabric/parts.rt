@@ -1,4 +1,5 @@
-//! A fabric taken apart, and put together again. The configuration's lists have room in themselves, so neither takes memory.
+//! A fabric taken apart, and put together again. The configuration's lists have room in themselves, so neither takes
+//! memory.
 
 ghost use Rattle.std.specs.Prelude.{◌≡◌};
 ghost use Rattle.worm_flit.specs.Channels.{AreChannels};

@@ -18,8 +18,10 @@ impl Fabric {
     /// Whether no credit is on a link out of the node, and no flit on a link into it.
     fn are_links_still(&self, node: u8) -> bool
         requires { node < node_count self.now.mesh }
-        ensures credits { IsTrue result → (p : ℕ) → IsSome (neighbour_of self.now.mesh node p) → front_credit self.now node p ≡ None }
-        ensures flits { IsTrue result → (p : ℕ) → IsSome (neighbour_of self.now.mesh node p) → front_into self.now node p ≡ None }
+        ensures credits { IsTrue result → (p : ℕ) → IsSome (neighbour_of self.now.mesh node p) →
+            front_credit self.now node p ≡ None }
+        ensures flits { IsTrue result → (p : ℕ) → IsSome (neighbour_of self.now.mesh node p) →
+            front_into self.now node p ≡ None }
     {
         self.links.is_quiet(node)
     }
@@ -29,8 +31,12 @@ impl Fabric {
         requires sound { IsWorkable self.now }
         requires node { node < node_count self.now.mesh }
         ensures class { IfSome result (λ class. (from ≤ class) × (class < length self.now.channels) × (class < 4)) }
-        ensures before { IfSome result (λ class. (k : ℕ) → from ≤ k → k < class → can_enter (router_at self.now node) (terminal (router_at self.now node)) (front_of (source_at self.now node) k) ≡ false) }
-        ensures none { IfNone result ((k : ℕ) → from ≤ k → k < length self.now.channels → can_enter (router_at self.now node) (terminal (router_at self.now node)) (front_of (source_at self.now node) k) ≡ false) }
+        ensures before { IfSome result (λ class. (k : ℕ) → from ≤ k → k < class →
+            can_enter (router_at self.now node) (terminal (router_at self.now node))
+            (front_of (source_at self.now node) k) ≡ false) }
+        ensures none { IfNone result ((k : ℕ) → from ≤ k → k < length self.now.channels →
+            can_enter (router_at self.now node) (terminal (router_at self.now node))
+            (front_of (source_at self.now node) k) ≡ false) }
     {
         let terminal = self.terminal();
         let here = self.node(node);
@@ -46,7 +52,9 @@ impl Fabric {
     fn feeds_nothing(&self, node: u8) -> bool
         requires sound { IsWorkable self.now }
         requires node { node < node_count self.now.mesh }
-        ensures { IsTrue result → (k : ℕ) → k < length self.now.channels → can_enter (router_at self.now node) (terminal (router_at self.now node)) (front_of (source_at self.now node) k) ≡ false }
+        ensures { IsTrue result → (k : ℕ) → k < length self.now.channels →
+            can_enter (router_at self.now node) (terminal (router_at self.now node))
+            (front_of (source_at self.now node) k) ≡ false }
     {
         self.next_class(node, 0).is_none()
     }
@@ -65,8 +73,8 @@ impl Fabric {
         true
     }
 
-    /// Whether the node is at rest: what it would do in a turn once its source was asked would change nothing. Where it is at rest
-    /// this may not be found.
+    /// Whether the node is at rest: what it would do in a turn once its source was asked would change nothing. Where
+    /// it is at rest this may not be found.
     pub fn rests(&mut self, node: u8) -> bool
         requires sound { IsWorkable self.old }
         requires node { node < node_count self.old.mesh }

@@ -22,7 +22,8 @@ impl Region {
         self.fabric.ready(node, port, vc)
     }
 
-    /// The ready flit leaves the node by the output port `out`, over a link to another worker's node: a Send but for the link.
+    /// The ready flit leaves the node by the output port `out`, over a link to another worker's node: a Send but for
+    /// the link.
     pub fn let_out(&mut self, node: u8, port: u8, vc: u8, out: u8, flit: Flit)
         requires there { IsThere (shape self.old) (Event.Send node port vc) }
         requires ready { leaving (router_at self.old node) port vc ≡ Some (out, flit) }
@@ -32,7 +33,8 @@ impl Region {
         self.fabric.let_out(node, port, vc, out, flit);
     }
 
-    /// The input channel owes one credit less, which goes back to another worker's node: a GiveCredit but for the credit's list.
+    /// The input channel owes one credit less, which goes back to another worker's node: a GiveCredit but for the
+    /// credit's list.
     pub fn gave(&mut self, node: u8, port: u8, vc: u8)
         requires there { IsThere (shape self.old) (Event.GiveCredit node port vc) }
         requires owed { 0 < (input_at (router_at self.old node) port vc).owed }
@@ -42,7 +44,8 @@ impl Region {
         self.fabric.gave(node, port, vc);
     }
 
-    /// Whether a flit is on the link out of this port. One that comes from another worker's node is taken off its queue where none is.
+    /// Whether a flit is on the link out of this port. One that comes from another worker's node is taken off its
+    /// queue where none is.
     pub fn has_flits(&self, node: u8, port: u8) -> bool
         requires { IsSome (neighbour_of self.now.mesh node port) }
         ensures { (result ≡ false) ↔ ((link_at self.now (link_out self.now node port)).flits ≡ []) }
@@ -71,8 +74,8 @@ impl Region {
         self.fabric.arrive(node, port, flit);
     }
 
-    /// The credit of the channel, which this port of another worker's node gave, comes onto its way back over the link into the port,
-    /// on which there is none.
+    /// The credit of the channel, which this port of another worker's node gave, comes onto its way back over the link
+    /// into the port, on which there is none.
     pub fn arrive_credit(&mut self, node: u8, port: u8, vc: u8)
         requires elsewhere { owned self.old node ≡ false }
         requires node { node < node_count self.old.mesh }

@@ -6,15 +6,20 @@ use Rattle.worm_core.proofs.Lifting.{lift_turn}
 use Rattle.worm_core.proofs.net.Net.all_turns.Goals as goal
 
 pub invariant_of-self : goal.invariant_of-self
-invariant_of-self c = (lift_turn c.args.entries.now c.self.inside.region c.all_turns.new.self (result_err c.all_turns.result) c.self.invariant c.all_turns.ensures.exact).0
+invariant_of-self c =
+    (lift_turn c.args.entries.now c.self.inside.region c.all_turns.new.self
+    (result_err c.all_turns.result) c.self.invariant c.all_turns.ensures.exact).0
 
 pub returns-clause-exact : goal.returns-clause-exact
 returns-clause-exact c =
-    subst (λ (s : NetState). Turn c.args.entries.now s (result_err c.all_turns.result) c.all_turns.new.self) c.self.view_is
-    (lift_turn c.args.entries.now c.self.inside.region c.all_turns.new.self (result_err c.all_turns.result) c.self.invariant c.all_turns.ensures.exact).1
+    subst (λ (s : NetState). Turn c.args.entries.now s (result_err c.all_turns.result) c.all_turns.new.self)
+    c.self.view_is
+    (lift_turn c.args.entries.now c.self.inside.region c.all_turns.new.self
+    (result_err c.all_turns.result) c.self.invariant c.all_turns.ensures.exact).1
 
 pub returns-clause-reaches : goal.returns-clause-reaches
-returns-clause-reaches c = subst (λ (s : NetState). Reaches s c.all_turns.new.self) c.self.view_is c.all_turns.ensures.reaches
+returns-clause-reaches c =
+    subst (λ (s : NetState). Reaches s c.all_turns.new.self) c.self.view_is c.all_turns.ensures.reaches
 
 pub all_turns-requires : goal.all_turns-requires
 all_turns-requires c = c.self.invariant.all_owned

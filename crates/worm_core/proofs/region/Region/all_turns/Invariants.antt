@@ -5,4 +5,5 @@ use Rattle.worm_core.specs.Turns.{Does, Each, NodeTurnBy}
 use Rattle.worm_core.proofs.region.Region.all_turns.Given as goal
 
 abbrev pub invariant-loop-node : goal.invariant-loop-node
-invariant-loop-node l = Does (Each (NodeTurnBy Attempts l.entries) (range_with_len 0 l.node)) l.initial.self None l.self
+invariant-loop-node l =
+    Does (Each (NodeTurnBy Attempts l.entries) (range_with_len 0 l.node)) l.initial.self None l.self

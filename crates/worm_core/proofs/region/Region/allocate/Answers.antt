@@ -12,4 +12,5 @@ invariant_of-self c =
 pub returns-clause-reaches : goal.returns-clause-reaches
 returns-clause-reaches c =
     subst (λ (s : NetState). ReachesAt c.args.node s c.allocate.new.self) c.self.view_is
-    (rw c.allocate.ensures (allocated_in c.self.inside.fabric c.args.node c.self.invariant (rw (c.self.view_is) c.requires)).1)
+    (rw c.allocate.ensures (allocated_in c.self.inside.fabric c.args.node c.self.invariant
+    (rw (c.self.view_is) c.requires)).1)

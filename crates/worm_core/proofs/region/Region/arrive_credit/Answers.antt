@@ -12,15 +12,20 @@ use Rattle.worm_core.proofs.region.Region.arrive_credit.Goals as goal
 pub arrive_credit-requires-clause-room : goal.arrive_credit-requires-clause-room
 arrive_credit-requires-clause-room c =
     let s = c.self.inside.fabric in
-    let linked = subst (λ (s : NetState). IsSome (neighbour_of s.mesh c.args.node c.args.port)) (sym c.self.view_is) c.requires.linked in
-    let empty = subst (λ (s : NetState). (link_at s (link_into s c.args.node c.args.port)).credits ≡ []) (sym c.self.view_is) c.requires.empty in
+    let linked =
+    subst (λ (s : NetState). IsSome (neighbour_of s.mesh c.args.node c.args.port))
+    (sym c.self.view_is) c.requires.linked in
+    let empty =
+    subst (λ (s : NetState). (link_at s (link_into s c.args.node c.args.port)).credits ≡ [])
+    (sym c.self.view_is) c.requires.empty in
     credit_room s c.args.node c.args.port c.self.invariant.framed linked empty
 
 pub invariant_of-self : goal.invariant_of-self
 invariant_of-self c =
     rw c.arrive_credit.ensures (credited c.self.inside.fabric c.args.node c.args.port c.args.vc c.self.invariant
     (subst (λ (s : NetState). owned s c.args.node ≡ false) (sym c.self.view_is) c.requires.elsewhere)
-    (subst (λ (s : NetState). IsSome (neighbour_of s.mesh c.args.node c.args.port)) (sym c.self.view_is) c.requires.linked)
+    (subst (λ (s : NetState). IsSome (neighbour_of s.mesh c.args.node c.args.port))
+    (sym c.self.view_is) c.requires.linked)
     (subst (λ (s : NetState). c.args.vc < sum s.channels) (sym c.self.view_is) c.requires.channel)).0
 
 pub returns : goal.returns
@@ -28,5 +33,6 @@ returns c =
     subst (λ (s : NetState). ComesBack s c.args.node c.args.port c.args.vc c.arrive_credit.new.self) c.self.view_is
     (rw c.arrive_credit.ensures (credited c.self.inside.fabric c.args.node c.args.port c.args.vc c.self.invariant
     (subst (λ (s : NetState). owned s c.args.node ≡ false) (sym c.self.view_is) c.requires.elsewhere)
-    (subst (λ (s : NetState). IsSome (neighbour_of s.mesh c.args.node c.args.port)) (sym c.self.view_is) c.requires.linked)
+    (subst (λ (s : NetState). IsSome (neighbour_of s.mesh c.args.node c.args.port))
+    (sym c.self.view_is) c.requires.linked)
     (subst (λ (s : NetState). c.args.vc < sum s.channels) (sym c.self.view_is) c.requires.channel)).1)

@@ -8,4 +8,5 @@ use Rattle.worm_core.proofs.region.Region.ask_source.Given as goal
 
 abbrev pub invariant-loop-entry : goal.invariant-loop-entry
 invariant-loop-entry l =
-    Does (Each Attempts (map (λ (e : Entry). ask l.node e.act) (filter (λ (e : Entry). (lane_of e.act).src == l.node) (take l.entry-index l.entries)))) l.initial.self None l.self
+    Does (Each Attempts (map (λ (e : Entry). ask l.node e.act)
+    (filter (λ (e : Entry). (lane_of e.act).src == l.node) (take l.entry-index l.entries)))) l.initial.self None l.self

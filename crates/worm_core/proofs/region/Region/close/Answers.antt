@@ -19,7 +19,8 @@ returns-then-not-has_node c = (
 pub invariant_of-self : goal.invariant_of-self
 unfolding net_shape
 invariant_of-self c =
-    still_workable c.self.inside.fabric c.close.new.self (CloseLane c.args.node c.args.lane) (accepted_of c.close.result)
+    still_workable c.self.inside.fabric c.close.new.self (CloseLane c.args.node c.args.lane)
+    (accepted_of c.close.result)
     (close_answers c.self.inside.fabric c.args.node c.self.invariant c.args.lane
     (c.has_node.ensures.0 c.if-not-has_node.false) c.close.result c.close.new.self
     c.close.ensures.ok c.close.ensures.fault c.close.ensures.err)
@@ -27,6 +28,11 @@ invariant_of-self c =
 pub returns : goal.returns
 unfolding net_shape
 returns c =
-    let a = (close_answers c.self.inside.fabric c.args.node c.self.invariant c.args.lane (c.has_node.ensures.0 c.if-not-has_node.false) c.close.result c.close.new.self c.close.ensures.ok c.close.ensures.fault c.close.ensures.err).1 in
-    let answer : Replies c.self.inside.fabric (CloseLane c.args.node c.args.lane) c.accepted.result c.close.new.self = rw c.accepted.ensures a in
-    subst (λ (s : NetState). Replies s (CloseLane c.args.node c.args.lane) c.accepted.result c.close.new.self) c.self.view_is answer
+    let a =
+    (close_answers c.self.inside.fabric c.args.node c.self.invariant c.args.lane
+    (c.has_node.ensures.0 c.if-not-has_node.false) c.close.result c.close.new.self c.close.ensures.ok
+    c.close.ensures.fault c.close.ensures.err).1 in
+    let answer : Replies c.self.inside.fabric (CloseLane c.args.node c.args.lane) c.accepted.result c.close.new.self =
+    rw c.accepted.ensures a in
+    subst (λ (s : NetState). Replies s (CloseLane c.args.node c.args.lane) c.accepted.result c.close.new.self)
+    c.self.view_is answer

@@ -11,7 +11,8 @@ use Rattle.worm_core.proofs.region.Region.feed_there.Goals as goal
 pub feed-requires-clause-front : goal.feed-requires-clause-front
 unfolding net_shape
 feed-requires-clause-front c =
-    feed_fits c.self.inside.fabric c.args.node c.args.class c.self.invariant (rw c.self.view_is (c.requires.node, c.requires.class))
+    feed_fits c.self.inside.fabric c.args.node c.args.class c.self.invariant
+    (rw c.self.view_is (c.requires.node, c.requires.class))
 
 pub invariant_of-self : goal.invariant_of-self
 unfolding net_shape
@@ -25,6 +26,10 @@ invariant_of-self c =
 pub returns : goal.returns
 unfolding net_shape
 returns c =
-    let a = (feed_answers c.self.inside.fabric c.args.node c.args.class c.self.invariant (rw c.self.view_is (c.requires.node, c.requires.class)) c.feed.result c.feed.ensures.enabled).1 in
-    let moved : Replies c.self.inside.fabric (Feed c.args.node c.args.class) (Ok (moved_of c.feed.result)) c.feed.new.self = rw c.feed.ensures.after a in
-    subst (λ (s : NetState). Replies s (Feed c.args.node c.args.class) (Ok (moved_of c.feed.result)) c.feed.new.self) c.self.view_is moved
+    let a =
+    (feed_answers c.self.inside.fabric c.args.node c.args.class c.self.invariant
+    (rw c.self.view_is (c.requires.node, c.requires.class)) c.feed.result c.feed.ensures.enabled).1 in
+    let moved : Replies c.self.inside.fabric (Feed c.args.node c.args.class)
+    (Ok (moved_of c.feed.result)) c.feed.new.self = rw c.feed.ensures.after a in
+    subst (λ (s : NetState). Replies s (Feed c.args.node c.args.class) (Ok (moved_of c.feed.result)) c.feed.new.self)
+    c.self.view_is moved

@@ -26,13 +26,18 @@ pub invariant_of-self : goal.invariant_of-self
 unfolding net_shape
 invariant_of-self c =
     let there = c.in-Some.ensures.there.0 refl in
-    still_workable c.self.inside.fabric c.get.new.self (TakeCredit c.args.node c.args.port) (Ok (moved_of c.get.result))
+    still_workable c.self.inside.fabric c.get.new.self (TakeCredit c.args.node c.args.port)
+    (Ok (moved_of c.get.result))
     (rw c.get.ensures.after (get_answers c.self.inside.fabric c.args.node c.args.port c.self.invariant there
     c.get.result c.get.ensures.enabled))
 
 pub returns : goal.returns
 unfolding net_shape
 returns c =
-    let a = (get_answers c.self.inside.fabric c.args.node c.args.port c.self.invariant (c.in-Some.ensures.there.0 refl) c.get.result c.get.ensures.enabled).1 in
-    let moved : Replies c.self.inside.fabric (TakeCredit c.args.node c.args.port) (Ok c.moved.result) c.get.new.self = rw (c.moved.ensures, c.get.ensures.after) a in
-    subst (λ (s : NetState). Replies s (TakeCredit c.args.node c.args.port) (Ok c.moved.result) c.get.new.self) c.self.view_is moved
+    let a =
+    (get_answers c.self.inside.fabric c.args.node c.args.port c.self.invariant
+    (c.in-Some.ensures.there.0 refl) c.get.result c.get.ensures.enabled).1 in
+    let moved : Replies c.self.inside.fabric (TakeCredit c.args.node c.args.port) (Ok c.moved.result) c.get.new.self =
+    rw (c.moved.ensures, c.get.ensures.after) a in
+    subst (λ (s : NetState). Replies s (TakeCredit c.args.node c.args.port) (Ok c.moved.result) c.get.new.self)
+    c.self.view_is moved

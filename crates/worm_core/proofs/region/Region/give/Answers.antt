@@ -21,13 +21,16 @@ returns-then-not-has_line c = (
 pub returns-then-not-owes : goal.returns-then-not-owes
 unfolding net_shape
 returns-then-not-owes c =
-    subst (λ (s : NetState). Replies s (GiveCredit c.args.node c.args.port c.args.vc) (Ok (moved_of false)) s) c.self.view_is
-    (gave_none c.self.inside.fabric c.args.node c.args.port c.args.vc c.self.invariant (c.has_line.ensures.0 c.if-not-has_line.false) (sym c.owes.ensures ∙ c.if-not-owes.true))
+    subst (λ (s : NetState). Replies s (GiveCredit c.args.node c.args.port c.args.vc) (Ok (moved_of false)) s)
+    c.self.view_is
+    (gave_none c.self.inside.fabric c.args.node c.args.port c.args.vc c.self.invariant
+    (c.has_line.ensures.0 c.if-not-has_line.false) (sym c.owes.ensures ∙ c.if-not-owes.true))
 
 pub give_owed-requires-clause-owed : goal.give_owed-requires-clause-owed
 give_owed-requires-clause-owed c =
     subst (λ (s : NetState). 0 < (input_at (router_at s c.args.node) c.args.port c.args.vc).owed) c.self.view_is
-    (owing_some (input_at (router_at c.self.inside.fabric c.args.node) c.args.port c.args.vc).owed (sym c.owes.ensures ∙ c.if-not-owes.false))
+    (owing_some (input_at (router_at c.self.inside.fabric c.args.node) c.args.port c.args.vc).owed
+    (sym c.owes.ensures ∙ c.if-not-owes.false))
 
 pub give_owed-requires-clause-within : goal.give_owed-requires-clause-within
 give_owed-requires-clause-within c = all_within c.args.self.now c.args.node c.args.port c.requires

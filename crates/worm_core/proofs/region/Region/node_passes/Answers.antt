@@ -15,11 +15,14 @@ returns-in_err-send_granted c =
     let fault = c.in_err-send_granted.field-0.0 in
     let p = err_from_is_err_and c.from_residual.result c.from_residual.ensures.1 in
     let sends = SendsGrantedBy Attempts x and_then GivesCreditsBy Attempts x in
-    let sent = does_cut (SendsGrantedBy Attempts x) (GivesCreditsBy Attempts x) c.allocate.new.self c.send_granted.new.self fault
+    let sent =
+    does_cut (SendsGrantedBy Attempts x) (GivesCreditsBy Attempts x) c.allocate.new.self c.send_granted.new.self fault
     c.in_err-send_granted.ensures in
     let grants = does_allocate x c.come_in.new.self c.allocate.new.self c.allocate.ensures.after
     (anywhere x c.come_in.new.self c.allocate.new.self c.allocate.ensures.reaches) in
-    let allocated = does_then (Allocates x) sends c.come_in.new.self c.allocate.new.self c.send_granted.new.self (Some fault) grants sent in
+    let allocated =
+    does_then (Allocates x) sends c.come_in.new.self c.allocate.new.self c.send_granted.new.self
+    (Some fault) grants sent in
     rw (p.1, p.2) (does_then (ComesInBy Attempts x) (Allocates x and_then sends) c.args.self.now c.come_in.new.self
     c.send_granted.new.self (Some fault) (rw c.rests.ensures.same at c.come_in.ensures.does) allocated)
 
@@ -27,16 +30,21 @@ pub returns : goal.returns
 returns c =
     let x = c.args.node in
     let sends = SendsGrantedBy Attempts x and_then GivesCreditsBy Attempts x in
-    let sent = does_then (SendsGrantedBy Attempts x) (GivesCreditsBy Attempts x) c.allocate.new.self c.send_granted.new.self
+    let sent =
+    does_then (SendsGrantedBy Attempts x) (GivesCreditsBy Attempts x) c.allocate.new.self c.send_granted.new.self
     c.give_credits.new.self None c.in_ok-send_granted.ensures c.give_credits.ensures in
     let grants = does_allocate x c.come_in.new.self c.allocate.new.self c.allocate.ensures.after
     (anywhere x c.come_in.new.self c.allocate.new.self c.allocate.ensures.reaches) in
-    let allocated = does_then (Allocates x) sends c.come_in.new.self c.allocate.new.self c.give_credits.new.self None grants sent in
-    does_then (ComesInBy Attempts x) (Allocates x and_then sends) c.args.self.now c.come_in.new.self c.give_credits.new.self None
+    let allocated =
+    does_then (Allocates x) sends c.come_in.new.self c.allocate.new.self c.give_credits.new.self None grants sent in
+    does_then (ComesInBy Attempts x) (Allocates x and_then sends) c.args.self.now c.come_in.new.self
+    c.give_credits.new.self None
     (rw c.rests.ensures.same at c.come_in.ensures.does) allocated
 
 pub returns-then-rests : goal.returns-then-rests
-returns-then-rests c = let still = does_nothing c.args.self.now in rw c.rests.ensures.same record { exact = c.rests.ensures.passes c.if-rests.true; reaches = still.reaches }
+returns-then-rests c =
+    let still = does_nothing c.args.self.now in
+    rw c.rests.ensures.same record { exact = c.rests.ensures.passes c.if-rests.true; reaches = still.reaches }
 
 pub send_granted-requires-clause-whole : goal.send_granted-requires-clause-whole
 send_granted-requires-clause-whole c =

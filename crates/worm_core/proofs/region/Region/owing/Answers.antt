@@ -7,4 +7,5 @@ use Rattle.worm_core.proofs.region.Region.owing.Goals as goal
 pub returns-clause-owing : goal.returns-clause-owing
 returns-clause-owing c =
     subst (λ (s : NetState). AreOwing s c.args.node c.owing.result) c.self.view_is
-    (are_owing c.self.inside.fabric c.args.node c.owing.result c.self.invariant (rw (c.self.view_is) c.requires) c.owing.ensures)
+    (are_owing c.self.inside.fabric c.args.node c.owing.result c.self.invariant
+    (rw (c.self.view_is) c.requires) c.owing.ensures)

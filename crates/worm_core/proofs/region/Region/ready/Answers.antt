@@ -6,5 +6,7 @@ use Rattle.worm_core.proofs.region.Region.ready.Goals as goal
 
 pub ready-requires : goal.ready-requires
 ready-requires c =
-    let there = subst (λ (s : NetState). IsThere (shape s) (Send c.args.node c.args.port c.args.vc)) (sym c.self.view_is) c.requires in
+    let there =
+    subst (λ (s : NetState). IsThere (shape s) (Send c.args.node c.args.port c.args.vc))
+    (sym c.self.view_is) c.requires in
     net_place c.self.inside.fabric c.args.node c.args.port c.args.vc c.self.invariant.framed there.0 there.1 there.2

@@ -20,13 +20,19 @@ pub invariant_of-self : goal.invariant_of-self
 unfolding net_shape
 invariant_of-self c =
     let there = c.has_place.ensures.0 c.if-not-has_place.false in
-    still_workable c.self.inside.fabric c.route.new.self (Route c.args.node c.args.port c.args.vc) (Ok (moved_of c.route.result))
-    (rw c.route.ensures.after (route_answers c.self.inside.fabric c.args.node c.args.port c.args.vc c.self.invariant there
+    still_workable c.self.inside.fabric c.route.new.self (Route c.args.node c.args.port c.args.vc)
+    (Ok (moved_of c.route.result))
+    (rw c.route.ensures.after (route_answers c.self.inside.fabric c.args.node c.args.port c.args.vc c.self.invariant
+    there
     c.route.result c.route.ensures.enabled))
 
 pub returns : goal.returns
 unfolding net_shape
 returns c =
-    let a = (route_answers c.self.inside.fabric c.args.node c.args.port c.args.vc c.self.invariant (c.has_place.ensures.0 c.if-not-has_place.false) c.route.result c.route.ensures.enabled).1 in
-    let moved : Replies c.self.inside.fabric (Route c.args.node c.args.port c.args.vc) (Ok c.moved.result) c.route.new.self = rw (c.moved.ensures, c.route.ensures.after) a in
-    subst (λ (s : NetState). Replies s (Route c.args.node c.args.port c.args.vc) (Ok c.moved.result) c.route.new.self) c.self.view_is moved
+    let a =
+    (route_answers c.self.inside.fabric c.args.node c.args.port c.args.vc c.self.invariant
+    (c.has_place.ensures.0 c.if-not-has_place.false) c.route.result c.route.ensures.enabled).1 in
+    let moved : Replies c.self.inside.fabric (Route c.args.node c.args.port c.args.vc)
+    (Ok c.moved.result) c.route.new.self = rw (c.moved.ensures, c.route.ensures.after) a in
+    subst (λ (s : NetState). Replies s (Route c.args.node c.args.port c.args.vc) (Ok c.moved.result) c.route.new.self)
+    c.self.view_is moved

@@ -16,7 +16,8 @@ returns-then-not-has_place c = (
 pub send_there-requires-clause-there : goal.send_there-requires-clause-there
 unfolding net_shape
 send_there-requires-clause-there c =
-    subst (λ (s : NetState). IsThere (shape s) (Send c.args.node c.args.port c.args.vc)) c.self.view_is (c.has_place.ensures.0 c.if-not-has_place.false)
+    subst (λ (s : NetState). IsThere (shape s) (Send c.args.node c.args.port c.args.vc)) c.self.view_is
+    (c.has_place.ensures.0 c.if-not-has_place.false)
 
 pub send_there-requires-clause-within : goal.send_there-requires-clause-within
 send_there-requires-clause-within c = sends_within c.args.self.now c.args.node c.args.port c.args.vc c.requires

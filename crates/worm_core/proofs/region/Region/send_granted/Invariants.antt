@@ -5,7 +5,9 @@ use Rattle.worm_core.proofs.Sending.{Sent}
 use Rattle.worm_core.proofs.region.Region.send_granted.Given as goal
 
 abbrev pub invariant-loop-port : goal.invariant-loop-port
-invariant-loop-port l = (grants : List (Option SwGrant)) → AreGranted grants l.initial.granted → Sent l.node grants l.initial.granted l.granted l.initial.self l.self
+invariant-loop-port l =
+    (grants : List (Option SwGrant)) → AreGranted grants l.initial.granted →
+    Sent l.node grants l.initial.granted l.granted l.initial.self l.self
 
 abbrev pub decreases-loop-port : goal.decreases-loop-port
 decreases-loop-port l = l.granted

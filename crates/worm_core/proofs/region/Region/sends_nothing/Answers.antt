@@ -11,4 +11,5 @@ returns c = λ yes.
     let all = c.self.invariant.framed.all_nodes in
     let there : c.args.node < node_count c.self.inside.fabric.mesh = rw (c.self.view_is) c.requires in
     subst (λ (s : NetState). SendsGrantedBy Attempts c.args.node s None s) c.self.view_is
-    (sends_still c.self.inside.fabric c.args.node (omega arith) (c.sends_nothing.ensures.chooses yes) (c.sends_nothing.ensures.grants yes))
+    (sends_still c.self.inside.fabric c.args.node (omega arith) (c.sends_nothing.ensures.chooses yes)
+    (c.sends_nothing.ensures.grants yes))

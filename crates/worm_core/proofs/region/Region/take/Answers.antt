@@ -33,6 +33,10 @@ invariant_of-self c =
 pub returns : goal.returns
 unfolding net_shape
 returns c =
-    let a = (take_answers c.self.inside.fabric c.args.node c.args.port c.self.invariant (c.in-Some.ensures.there.0 refl) c.take.result c.take.ensures.enabled).1 in
-    let moved : Replies c.self.inside.fabric (Take c.args.node c.args.port) (Ok c.moved.result) c.take.new.self = rw (c.moved.ensures, c.take.ensures.after) a in
-    subst (λ (s : NetState). Replies s (Take c.args.node c.args.port) (Ok c.moved.result) c.take.new.self) c.self.view_is moved
+    let a =
+    (take_answers c.self.inside.fabric c.args.node c.args.port c.self.invariant
+    (c.in-Some.ensures.there.0 refl) c.take.result c.take.ensures.enabled).1 in
+    let moved : Replies c.self.inside.fabric (Take c.args.node c.args.port) (Ok c.moved.result) c.take.new.self =
+    rw (c.moved.ensures, c.take.ensures.after) a in
+    subst (λ (s : NetState). Replies s (Take c.args.node c.args.port) (Ok c.moved.result) c.take.new.self)
+    c.self.view_is moved

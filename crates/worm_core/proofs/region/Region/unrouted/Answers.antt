@@ -7,4 +7,5 @@ use Rattle.worm_core.proofs.region.Region.unrouted.Goals as goal
 pub returns-clause-routes : goal.returns-clause-routes
 returns-clause-routes c =
     subst (λ (s : NetState). RoutesWithin s c.args.node c.unrouted.result) c.self.view_is
-    (unrouted_within c.self.inside.fabric c.args.node c.unrouted.result c.self.invariant (rw (c.self.view_is) c.requires) c.unrouted.ensures)
+    (unrouted_within c.self.inside.fabric c.args.node c.unrouted.result c.self.invariant
+    (rw (c.self.view_is) c.requires) c.unrouted.ensures)
