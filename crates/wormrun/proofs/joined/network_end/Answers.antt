@@ -19,3 +19,6 @@ loop-at-preserved c =
       | else-byte-eq10 w ↦
           subst Kept (sym w.start-is) (omega arith, network_len-same_line text from at (network_len [] text) c.loop-at-test.true c.loop-at.invariant.0 w.if-byte-eq10.false c.loop-at.invariant.1)
     ]
+
+pub returns-clause-first : goal.returns-clause-first
+returns-clause-first c = ?
