@@ -11,7 +11,8 @@ use Rattle.worm_report.specs.Report.{lane_rows}
 use Rattle.worm_report.specs.Writing.{Desk, WritesRows}
 use Rattle.worm_report.proofs.Written.{done, no_rows, same_rows}
 
-pub idle_lane : {a : Desk} (s : NetState) (set : LaneMarks) (lane : Lane) → IsComplete s set → lane.src < node_count s.mesh
+pub idle_lane : {a : Desk} (s : NetState) (set : LaneMarks) (lane : Lane) → IsComplete s set
+    → lane.src < node_count s.mesh
     → lane.dst < node_count s.mesh → lane.class < length s.channels
     → is_marked set lane ≡ false → WritesRows a a done (lane_rows (seen s) lane)
 idle_lane s set lane complete src dst class free =

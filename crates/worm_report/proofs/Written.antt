@@ -57,7 +57,8 @@ pub no_rows : {a : Desk} → WritesRows a a done []
 no_rows {a = a} = record { front = []; rest = []; whole = refl; given = Appends-nil a.given; all = refl }
 
 -- so much of what lay on the page and was made was given
-part : {a b : Desk} {r : Answer} (rows : List Row) (front rest : List ℕ) → IsErr r → a.page ++ rows_text rows ≡ front ++ b.page ++ rest
+part : {a b : Desk} {r : Answer} (rows : List Row) (front rest : List ℕ) → IsErr r
+    → a.page ++ rows_text rows ≡ front ++ b.page ++ rest
     → Appends a.given b.given front → WritesRows a b r rows
 part {r = r} rows front rest e whole given =
     record { front = front; rest = rest; whole = whole; given = given; all = on_err r (rest ≡ []) e }
@@ -74,10 +75,12 @@ pub failing : {a b : Desk} {r s : Answer} {rows : List Row} → IsErr s → Writ
 failing {rows = rows} e w = part rows w.front w.rest e w.whole w.given
 
 -- a fault, and rows behind it
-pub rows_stop : {a b : Desk} {r s : Answer} (xs ys : List Row) → IsErr s → WritesRows a b r xs → WritesRows a b s (xs ++ ys)
+pub rows_stop : {a b : Desk} {r s : Answer} (xs ys : List Row) → IsErr s → WritesRows a b r xs
+    → WritesRows a b s (xs ++ ys)
 rows_stop {a = a} {b = b} xs ys e w =
     part (xs ++ ys) w.front (w.rest ++ rows_text ys) e
-    (ap (λ (z : List ℕ). a.page ++ z) (flat_map-append row_text xs ys) ∙ sym (append_assoc a.page (rows_text xs) (rows_text ys))
+    (ap (λ (z : List ℕ). a.page ++ z) (flat_map-append row_text xs ys)
+    ∙ sym (append_assoc a.page (rows_text xs) (rows_text ys))
     ∙ ap (λ (z : List ℕ). z ++ rows_text ys) w.whole ∙ append_assoc (w.front ++ b.page) w.rest (rows_text ys))
     w.given
 
@@ -86,12 +89,14 @@ all_made : {a b : Desk} (rows : List Row) (w : WritesRows a b done rows) → a.p
 all_made {b = b} rows w = w.whole ∙ ap (λ (z : List ℕ). w.front ++ b.page ++ z) w.all ∙ append-nil (w.front ++ b.page)
 
 -- the second write decides
-pub rows_then : {a b c : Desk} {r : Answer} (xs ys : List Row) → WritesRows a b done xs → WritesRows b c r ys → WritesRows a c r (xs ++ ys)
+pub rows_then : {a b c : Desk} {r : Answer} (xs ys : List Row) → WritesRows a b done xs → WritesRows b c r ys
+    → WritesRows a c r (xs ++ ys)
 rows_then {a = a} {b = b} {c = c} xs ys h k = record {
   front = h.front ++ k.front;
   rest = k.rest;
   whole =
-      ap (λ (z : List ℕ). a.page ++ z) (flat_map-append row_text xs ys) ∙ sym (append_assoc a.page (rows_text xs) (rows_text ys))
+      ap (λ (z : List ℕ). a.page ++ z) (flat_map-append row_text xs ys)
+      ∙ sym (append_assoc a.page (rows_text xs) (rows_text ys))
       ∙ ap (λ (z : List ℕ). z ++ rows_text ys) (all_made xs h) ∙ append_assoc h.front b.page (rows_text ys)
       ∙ ap (λ (z : List ℕ). h.front ++ z) (k.whole ∙ append_assoc k.front c.page k.rest)
       ∙ sym (append_assoc h.front k.front (c.page ++ k.rest)) ∙ sym (append_assoc (h.front ++ k.front) c.page k.rest);
@@ -114,7 +119,8 @@ page_turned was now empty w = record {
 }
 
 -- a line was put on the page, or there was no memory for it
-pub line_added : {given : Option (List ℕ)} (r : Answer) (was now : List ℕ) (row : Row) → OnOk r (now ≡ was ++ row_text row) → OnErr r (now ≡ was)
+pub line_added : {given : Option (List ℕ)} (r : Answer) (was now : List ℕ) (row : Row)
+    → OnOk r (now ≡ was ++ row_text row) → OnErr r (now ≡ was)
     → WritesRows (desk given was) (desk given now) r (row ∷ [])
 line_added {given = given} (Ok u) was now row ok err = record {
   front = [];
@@ -131,7 +137,8 @@ line_added {given = given} (Err e) was now row ok err = record {
   all = tt;
 }
 
-both_done : (r s : Answer) (rest : List ℕ) (more : List ℕ) → OnOk r (rest ≡ []) → OnOk s (more ≡ []) → OnOk (result_and r s) (more ++ rest ≡ [])
+both_done : (r s : Answer) (rest : List ℕ) (more : List ℕ) → OnOk r (rest ≡ []) → OnOk s (more ≡ [])
+    → OnOk (result_and r s) (more ++ rest ≡ [])
 both_done (Ok u) (Ok v) rest more no_rest no_more = ap (λ (z : List ℕ). z ++ rest) no_more ∙ no_rest
 both_done (Ok u) (Err e) rest more no_rest no_more = tt
 both_done (Err e) s rest more no_rest no_more = tt
@@ -152,13 +159,15 @@ report_closed {a = a} {b = b} {c = c} {r = r} {s = s} fresh page rows empty made
 }
 
 -- the writer passed on what it was given, or did not
-pub passed_on : {a b c : Option (List ℕ)} {s : Answer} (bytes : List ℕ) → Writes a b done bytes → Keeps b c → Writes a c s bytes
+pub passed_on : {a b c : Option (List ℕ)} {s : Answer} (bytes : List ℕ) → Writes a b done bytes → Keeps b c
+    → Writes a c s bytes
 passed_on {a = a} {b = b} {c = c} {s = s} bytes w kept = record {
   front = bytes;
   rest = [];
   whole = sym (append-nil bytes);
   given = subst (Appends a c) (append-nil bytes)
-      (Appends-trans a b c bytes [] (subst (Appends a b) (all_given w.front w.rest bytes w.whole w.all) w.given) (Appends-Keeps b c kept));
+      (Appends-trans a b c bytes [] (subst (Appends a b) (all_given w.front w.rest bytes w.whole w.all) w.given)
+      (Appends-Keeps b c kept));
   all = on_any s;
 } where
   on_any : (r : Answer) → OnOk r (◌≡◌ {A = List ℕ} [] [])
@@ -196,16 +205,19 @@ pub below_none : {a : Desk} (f : ℕ → List Row) → WritesRows a a done (rows
 unfolding rows_below
 below_none f = no_rows
 
-pub below_then : {a b c : Desk} (f : ℕ → List Row) (i : ℕ) → WritesRows a b done (rows_below f i) → WritesRows b c done (f i) → WritesRows a c done (rows_below f (i + 1))
+pub below_then : {a b c : Desk} (f : ℕ → List Row) (i : ℕ) → WritesRows a b done (rows_below f i)
+    → WritesRows b c done (f i) → WritesRows a c done (rows_below f (i + 1))
 below_then f i h k = same_rows (rows_below f i ++ f i) (rows_below f (i + 1)) (sym (below_last f i)) (rows_then (rows_below f i) (f i) h k)
 
-pub below_stop : {a b c : Desk} {r s : Answer} (f : ℕ → List Row) (i n : ℕ) → i < n → IsErr s → WritesRows a b done (rows_below f i) → WritesRows b c r (f i) → WritesRows a c s (rows_below f n)
+pub below_stop : {a b c : Desk} {r s : Answer} (f : ℕ → List Row) (i n : ℕ) → i < n → IsErr s
+    → WritesRows a b done (rows_below f i) → WritesRows b c r (f i) → WritesRows a c s (rows_below f n)
 below_stop f i n lt e h k =
     let m = below_split f (i + 1) n (omega arith) in
     let here = same_rows (rows_below f i ++ f i) (rows_below f (i + 1)) (sym (below_last f i)) (rows_then (rows_below f i) (f i) h k) in
     same_rows (rows_below f (i + 1) ++ m.0) (rows_below f n) (sym m.1) (rows_stop (rows_below f (i + 1)) m.0 e here)
 
-pub below_all : {a b : Desk} {r : Answer} (f : ℕ → List Row) (i n : ℕ) → i ≡ n → WritesRows a b r (rows_below f i) → WritesRows a b r (rows_below f n)
+pub below_all : {a b : Desk} {r : Answer} (f : ℕ → List Row) (i n : ℕ) → i ≡ n → WritesRows a b r (rows_below f i)
+    → WritesRows a b r (rows_below f n)
 below_all f i n e w = same_rows (rows_below f i) (rows_below f n) (ap (rows_below f) e) w
 
 -- ---- a loop over a list
@@ -216,12 +228,14 @@ each_none row xs = no_rows
 each_last : {X : Type 0} (row : X → Row) (xs : List X) (i : ℕ) (d : X) → i < length xs → map row (take (i + 1) xs) ≡ map row (take i xs) ++ row (get_or xs i d) ∷ []
 each_last row xs i d lt = ap (map row) (take_more xs i d lt) ∙ map_push row (take i xs) (get_or xs i d)
 
-pub each_then : {X : Type 0} {a b c : Desk} (row : X → Row) (xs : List X) (i : ℕ) (d : X) → i < length xs → WritesRows a b done (map row (take i xs)) → WritesRows b c done (row (get_or xs i d) ∷ [])
+pub each_then : {X : Type 0} {a b c : Desk} (row : X → Row) (xs : List X) (i : ℕ) (d : X) → i < length xs
+    → WritesRows a b done (map row (take i xs)) → WritesRows b c done (row (get_or xs i d) ∷ [])
     → WritesRows a c done (map row (take (i + 1) xs))
 each_then row xs i d lt h k =
     same_rows (map row (take i xs) ++ row (get_or xs i d) ∷ []) (map row (take (i + 1) xs)) (sym (each_last row xs i d lt)) (rows_then (map row (take i xs)) (row (get_or xs i d) ∷ []) h k)
 
-pub each_stop : {X : Type 0} {a b c : Desk} {r s : Answer} (row : X → Row) (xs : List X) (i : ℕ) (d : X) → i < length xs → IsErr s → WritesRows a b done (map row (take i xs)) → WritesRows b c r (row (get_or xs i d) ∷ [])
+pub each_stop : {X : Type 0} {a b c : Desk} {r s : Answer} (row : X → Row) (xs : List X) (i : ℕ) (d : X)
+    → i < length xs → IsErr s → WritesRows a b done (map row (take i xs)) → WritesRows b c r (row (get_or xs i d) ∷ [])
     → WritesRows a c s (map row xs)
 each_stop row xs i d lt e h k =
     let front = map row (take i xs) ++ row (get_or xs i d) ∷ [] in
@@ -229,5 +243,6 @@ each_stop row xs i d lt e h k =
     let parts : front ++ back ≡ map row xs = ap (λ (ys : List Row). ys ++ back) (sym (each_last row xs i d lt)) ∙ sym (map-append row (take (i + 1) xs) (drop (i + 1) xs)) ∙ ap (map row) (take-append-drop (i + 1) xs) in
     same_rows (front ++ back) (map row xs) parts (rows_stop front back e (rows_then (map row (take i xs)) (row (get_or xs i d) ∷ []) h k))
 
-pub each_all : {X : Type 0} {a b : Desk} (row : X → Row) (xs : List X) (i : ℕ) → length xs ≤ i → WritesRows a b done (map row (take i xs)) → WritesRows a b done (map row xs)
+pub each_all : {X : Type 0} {a b : Desk} (row : X → Row) (xs : List X) (i : ℕ) → length xs ≤ i
+    → WritesRows a b done (map row (take i xs)) → WritesRows a b done (map row xs)
 each_all row xs i le w = same_rows (map row (take i xs)) (map row xs) (ap (map row) (take_all i xs le)) w

@@ -21,8 +21,8 @@ pub record Desk : Type 0 where
 abbrev pub desk : Option (List ℕ) → List ℕ → Desk
 desk given page = record { given = given; page = page }
 
--- The lines of these rows come behind those on the page: a first part of them all was given, what follows is on the page now, and
--- where there was no fault that is the rest.
+-- The lines of these rows come behind those on the page: a first part of them all was given, what follows is on
+-- the page now, and where there was no fault that is the rest.
 pub record WritesRows (old new : Desk) (result : Result (Unit {0}) ReportFault) (rows : List Row) : Type 0 where
   pub front : List ℕ
   pub rest : List ℕ

@@ -18,7 +18,8 @@ use worm_flit::{Flit, Lane};
 
 /// The head of the report, and the options of the run.
 fn put_options<W: Write>(out: &mut W, page: &mut Page, summary: &Summary) -> Result<(), ReportFault>
-    ensures { WritesRows (desk (W.contents out.old) page.old) (desk (W.contents out.new) page.new) result (options_rows summary.now) }
+    ensures { WritesRows (desk (W.contents out.old) page.old) (desk (W.contents out.new) page.new) result
+        (options_rows summary.now) }
 {
     put_row(out, page, Row::Header)?;
     let row = Row::Options {
@@ -36,7 +37,8 @@ fn put_stop<W: Write>(
     worker: u64,
     stop: Option<u64>,
 ) -> Result<(), ReportFault>
-    ensures { WritesRows (desk (W.contents out.old) page.old) (desk (W.contents out.new) page.new) result (stop_rows worker stop) }
+    ensures { WritesRows (desk (W.contents out.old) page.old) (desk (W.contents out.new) page.new) result
+        (stop_rows worker stop) }
 {
     match stop {
         None => Ok(()),
@@ -50,7 +52,8 @@ fn put_stops<W: Write>(
     page: &mut Page,
     stops: &[Option<u64>; 16],
 ) -> Result<(), ReportFault>
-    ensures { WritesRows (desk (W.contents out.old) page.old) (desk (W.contents out.new) page.new) result (stops_rows stops.now) }
+    ensures { WritesRows (desk (W.contents out.old) page.old) (desk (W.contents out.new) page.new) result
+        (stops_rows stops.now) }
 {
     for worker in 0..16 {
         put_stop(out, page, worker as u64, stops[worker])?;
@@ -60,7 +63,8 @@ fn put_stops<W: Write>(
 
 /// How the run went.
 fn put_opening<W: Write>(out: &mut W, page: &mut Page, summary: &Summary) -> Result<(), ReportFault>
-    ensures { WritesRows (desk (W.contents out.old) page.old) (desk (W.contents out.new) page.new) result (opening_rows summary.now) }
+    ensures { WritesRows (desk (W.contents out.old) page.old) (desk (W.contents out.new) page.new) result
+        (opening_rows summary.now) }
 {
     put_options(out, page, summary)?;
     put_stops(out, page, &summary.stops)
@@ -73,7 +77,8 @@ fn put_arrived<W: Write>(
     node: u8,
     flits: &[Flit],
 ) -> Result<(), ReportFault>
-    ensures { WritesRows (desk (W.contents out.old) page.old) (desk (W.contents out.new) page.new) result (map (λ flit. Row.Delivered node flit) flits.now) }
+    ensures { WritesRows (desk (W.contents out.old) page.old) (desk (W.contents out.new) page.new) result
+        (map (λ flit. Row.Delivered node flit) flits.now) }
 {
     for flit in flits {
         put_row(out, page, Row::Delivered { node, flit: *flit })?;
@@ -83,7 +88,8 @@ fn put_arrived<W: Write>(
 
 /// What arrived, by node.
 fn put_delivered<W: Write>(out: &mut W, page: &mut Page, net: &Net) -> Result<(), ReportFault>
-    ensures { WritesRows (desk (W.contents out.old) page.old) (desk (W.contents out.new) page.new) result (delivered_rows (seen net.now)) }
+    ensures { WritesRows (desk (W.contents out.old) page.old) (desk (W.contents out.new) page.new) result
+        (delivered_rows (seen net.now)) }
 {
     for node in 0..net.nodes() {
         let node = node as u8;
@@ -99,7 +105,8 @@ fn put_held<W: Write>(
     lane: Lane,
     underway: &[Held],
 ) -> Result<(), ReportFault>
-    ensures { WritesRows (desk (W.contents out.old) page.old) (desk (W.contents out.new) page.new) result (map (λ held. Row.Underway lane held) underway.now) }
+    ensures { WritesRows (desk (W.contents out.old) page.old) (desk (W.contents out.new) page.new) result
+        (map (λ held. Row.Underway lane held) underway.now) }
 {
     for held in underway {
         put_row(out, page, Row::Underway { lane, held: *held })?;
@@ -120,7 +127,8 @@ fn put_lane<W: Write>(
     requires dst { lane.dst < node_count net.now.mesh }
     requires class { lane.class < length net.now.channels }
     requires complete { IsComplete net.now busy.now }
-    ensures { WritesRows (desk (W.contents out.old) page.old) (desk (W.contents out.new) page.new) result (lane_rows (seen net.now) lane) }
+    ensures { WritesRows (desk (W.contents out.old) page.old) (desk (W.contents out.new) page.new) result
+        (lane_rows (seen net.now) lane) }
 {
     if !busy.contains(lane) {
         return Ok(());
@@ -144,7 +152,8 @@ fn put_pair<W: Write>(
     requires src { src < node_count net.now.mesh }
     requires dst { dst < node_count net.now.mesh }
     requires complete { IsComplete net.now busy.now }
-    ensures { WritesRows (desk (W.contents out.old) page.old) (desk (W.contents out.new) page.new) result (pair_rows (seen net.now) src dst) }
+    ensures { WritesRows (desk (W.contents out.old) page.old) (desk (W.contents out.new) page.new) result
+        (pair_rows (seen net.now) src dst) }
 {
     for class in 0..net.classes() {
         put_lane(alloc, out, page, net, busy, Lane { src, dst, class })?;
@@ -163,7 +172,8 @@ fn put_source<W: Write>(
 ) -> Result<(), ReportFault>
     requires src { src < node_count net.now.mesh }
     requires complete { IsComplete net.now busy.now }
-    ensures { WritesRows (desk (W.contents out.old) page.old) (desk (W.contents out.new) page.new) result (source_rows (seen net.now) src) }
+    ensures { WritesRows (desk (W.contents out.old) page.old) (desk (W.contents out.new) page.new) result
+        (source_rows (seen net.now) src) }
 {
     for dst in 0..net.nodes() {
         put_pair(alloc, out, page, net, busy, src, dst as u8)?;
@@ -180,7 +190,8 @@ fn put_sources<W: Write>(
     busy: &LaneSet,
 ) -> Result<(), ReportFault>
     requires complete { IsComplete net.now busy.now }
-    ensures { WritesRows (desk (W.contents out.old) page.old) (desk (W.contents out.new) page.new) result (underway_rows (seen net.now)) }
+    ensures { WritesRows (desk (W.contents out.old) page.old) (desk (W.contents out.new) page.new) result
+        (underway_rows (seen net.now)) }
 {
     for src in 0..net.nodes() {
         put_source(alloc, out, page, net, busy, src as u8)?;
@@ -195,7 +206,8 @@ fn put_underway<W: Write>(
     page: &mut Page,
     net: &Net,
 ) -> Result<(), ReportFault>
-    ensures { WritesRows (desk (W.contents out.old) page.old) (desk (W.contents out.new) page.new) result (underway_rows (seen net.now)) }
+    ensures { WritesRows (desk (W.contents out.old) page.old) (desk (W.contents out.new) page.new) result
+        (underway_rows (seen net.now)) }
 {
     match net.busy(alloc) {
         Ok(busy) => put_sources(alloc, out, page, net, &busy),
@@ -211,7 +223,8 @@ fn put_flits<W: Write>(
     page: &mut Page,
     net: &Net,
 ) -> Result<(), ReportFault>
-    ensures { WritesRows (desk (W.contents out.old) page.old) (desk (W.contents out.new) page.new) result (flits_rows (seen net.now)) }
+    ensures { WritesRows (desk (W.contents out.old) page.old) (desk (W.contents out.new) page.new) result
+        (flits_rows (seen net.now)) }
 {
     put_delivered(out, page, net)?;
     put_underway(alloc, out, page, net)
@@ -224,7 +237,8 @@ fn put_closing<W: Write>(
     net: &Net,
     summary: &Summary,
 ) -> Result<(), ReportFault>
-    ensures { WritesRows (desk (W.contents out.old) page.old) (desk (W.contents out.new) page.new) result (closing_rows (seen net.now) summary.now) }
+    ensures { WritesRows (desk (W.contents out.old) page.old) (desk (W.contents out.new) page.new) result
+        (closing_rows (seen net.now) summary.now) }
 {
     let entries = summary.not_offered;
     put_row(out, page, Row::NotOffered { entries })?;
@@ -244,16 +258,17 @@ fn put_report<W: Write>(
     net: &Net,
     summary: &Summary,
 ) -> Result<(), ReportFault>
-    ensures { WritesRows (desk (W.contents out.old) page.old) (desk (W.contents out.new) page.new) result (opening_rows summary.now ++ flits_rows (seen net.now) ++ closing_rows (seen net.now) summary.now) }
+    ensures { WritesRows (desk (W.contents out.old) page.old) (desk (W.contents out.new) page.new) result
+        (opening_rows summary.now ++ flits_rows (seen net.now) ++ closing_rows (seen net.now) summary.now) }
 {
     put_opening(out, page, summary)?;
     put_flits(alloc, out, page, net)?;
     put_closing(out, page, net, summary)
 }
 
-/// Writes the report of a network and of the run that led to it. `Write` where the writer failed or took nothing, `NoMemory` where
-/// there was no memory for a page, for a line or for the view of a lane; a first part of the report has then gone out, with all
-/// lines that were made where memory ran out.
+/// Writes the report of a network and of the run that led to it. `Write` where the writer failed or took nothing,
+/// `NoMemory` where there was no memory for a page, for a line or for the view of a lane; a first part of the report
+/// has then gone out, with all lines that were made where memory ran out.
 pub fn write_report<W: Write>(
     alloc: Global,
     net: &Net,

@@ -1,5 +1,7 @@
 -- What a pass of the channel allocator grants is held after it: an invariant of the grants written one by one.
-use Rattle.std.proofs.Common.{◌≡◌, ℕ, zero, suc, ◌+◌, ◌*◌, ◌<◌, ◌≤◌, ◌&&◌, Bool, true, false, is_none, if◌then◌else◌, inl, inr, List, [], ◌∷◌, length, slice_set, slice_index_or, replicate, fold, Option, None, Some, refl, arith, ap, sym, subst, ◌∙◌}
+use Rattle.std.proofs.Common.{◌≡◌, ℕ, zero, suc, ◌+◌, ◌*◌, ◌<◌, ◌≤◌, ◌&&◌, Bool, true, false, is_none, if◌then◌else◌}
+use Rattle.std.proofs.Common.{inl, inr, List, [], ◌∷◌, length, slice_set, slice_index_or, replicate, fold, Option}
+use Rattle.std.proofs.Common.{None, Some, refl, arith, ap, sym, subst, ◌∙◌}
 use Rattle.std.specs.List.{range_with_len}
 use Rattle.std.proofs.lemmas.Bool.{cases_eq, and_from}
 use Rattle.std.proofs.lemmas.Nat.{same_from_place}
@@ -15,8 +17,11 @@ use Rattle.worm_vcalloc.specs.Table.{cell}
 use Rattle.worm_vcalloc.specs.VcAlloc.{VcAllocState, HasWon, IsChannelMatching}
 use Rattle.worm_vcalloc.proofs.PassLemmas.{fold-range_more}
 use Rattle.worm_vcalloc.proofs.TableLemmas.{cell-replicate}
-use Rattle.worm_router.specs.Router.{RouterState, ChannelState, IsRouter, IsPlace, terminal, width, places, line, fresh_channel, free_output, in_state, input_at, output_at, granting, can_grant, after_granting}
-use Rattle.worm_router.specs.Allocation.{asking, request_at, requests, is_free, free_channels, channel_pass, written, with_port_grants, with_grants, IsAllocated, IsGranted, AreHeld}
+use Rattle.worm_router.specs.Router.{RouterState, ChannelState, IsRouter, IsPlace, terminal, width, places, line}
+use Rattle.worm_router.specs.Router.{fresh_channel, free_output, in_state, input_at, output_at, granting, can_grant}
+use Rattle.worm_router.specs.Router.{after_granting}
+use Rattle.worm_router.specs.Allocation.{asking, request_at, requests, is_free, free_channels, channel_pass, written}
+use Rattle.worm_router.specs.Allocation.{with_port_grants, with_grants, IsAllocated, IsGranted, AreHeld}
 use Rattle.worm_router.proofs.Hopeful.{choice_by}
 use Rattle.worm_router.proofs.InVain.{cell_is}
 use Rattle.worm_router.proofs.Laws.{line-places}
@@ -26,13 +31,15 @@ waited_by : (r : RouterState) (s : InRecord) (fs : List Flit) (c o : ℕ) → gr
 waited_by r Idle fs c o e = absurd (cc)
 waited_by r (Active p v) fs c o e = absurd (cc)
 waited_by r (Waiting p) [] c o e = absurd (cc)
-waited_by r (Waiting p) (f ∷ fs) c o e = by_test (is_none (output_at r p c).holder && owns r.channels f.lane.class c) e where
-  by_test : (b : Bool) → (if b then Some p else None) ≡ Some o → Waiting p ≡ Waiting o
-  by_test true same = cc
-  by_test false same = absurd (cc)
+waited_by r (Waiting p) (f ∷ fs) c o e = by_test (is_none (output_at r p c).holder && owns r.channels f.lane.class c)
+    e where
+      by_test : (b : Bool) → (if b then Some p else None) ≡ Some o → Waiting p ≡ Waiting o
+      by_test true same = cc
+      by_test false same = absurd (cc)
 
 -- what is asked for stands in the channels of the classes alone
-same_asking : (r q : RouterState) (s : InRecord) (fs : List Flit) → q.channels ≡ r.channels → asking q s fs ≡ asking r s fs
+same_asking : (r q : RouterState) (s : InRecord) (fs : List Flit) → q.channels ≡ r.channels
+    → asking q s fs ≡ asking r s fs
 same_asking r q Idle fs same = refl
 same_asking r q (Active o c) fs same = refl
 same_asking r q (Waiting o) [] same = refl
@@ -43,7 +50,8 @@ is_unheld : (h : Option (ℕ × ℕ)) → is_none h ≡ true → h ≡ None
 is_unheld None e = refl
 is_unheld (Some x) e = absurd (cc)
 
-module _ (r : RouterState) (a : VcAllocState) (grants : List (List (Option ℕ))) (few_ports : terminal r ≤ 6) (few : width r ≤ 8)
+module _ (r : RouterState) (a : VcAllocState) (grants : List (List (Option ℕ))) (few_ports : terminal r ≤ 6)
+    (few : width r ≤ 8)
     (matching : IsChannelMatching (terminal r + 1) (width r) (requests r) (free_channels r) grants) where
   -- the router with these channels
   abbrev at : List ChannelState → List OutRecord → RouterState
@@ -69,7 +77,8 @@ module _ (r : RouterState) (a : VcAllocState) (grants : List (List (Option ℕ))
     inputs : length is ≡ places r
     outputs : length os ≡ places r
     ahead : (p v : ℕ) → IsPlace r p v → n ≤ line r p v → input_at (at is os) p v ≡ input_at r p v
-    untaken : (o c : ℕ) → IsPlace r o c → ((p v : ℕ) → IsPlace r p v → line r p v < n → HasWon (requests r) grants p v o c → ⊥)
+    untaken : (o c : ℕ) → IsPlace r o c
+        → ((p v : ℕ) → IsPlace r p v → line r p v < n → HasWon (requests r) grants p v o c → ⊥)
         → output_at (at is os) o c ≡ output_at r o c
     got : (p v c : ℕ) → IsPlace r p v → line r p v < n → cell grants p v None ≡ Some c → Got (at is os) p v c
 
@@ -88,7 +97,8 @@ module _ (r : RouterState) (a : VcAllocState) (grants : List (List (Option ℕ))
           out_place = out_place;
           won = w.1;
           free = sym (cell_is r _ (is_free r) w.0 c few_ports few out_place) ∙ w.2;
-          uses = ap (λ q. may_use q w.0 c) (sym (cell_is r None (request_at r) p v few_ports few place)) ∙ w.1.requested;
+          uses = ap (λ q. may_use q w.0 c) (sym (cell_is r None (request_at r) p v few_ports few place))
+              ∙ w.1.requested;
         },
       )
 
@@ -96,24 +106,28 @@ module _ (r : RouterState) (a : VcAllocState) (grants : List (List (Option ℕ))
   one_place : (p v q w : ℕ) → IsPlace r p v → IsPlace r q w → line r q w ≡ line r p v → (q ≡ p) × (w ≡ v)
   one_place p v q w here there same = same_from_place q w p v (width r) there.channel_in here.channel_in same
 
-  one_winner : (p v q w o c : ℕ) → HasWon (requests r) grants p v o c → HasWon (requests r) grants q w o c → line r q w ≡ line r p v
+  one_winner : (p v q w o c : ℕ) → HasWon (requests r) grants p v o c → HasWon (requests r) grants q w o c
+      → line r q w ≡ line r p v
   one_winner p v q w o c won also =
       let same = matching.once q w p v o c also won in
       ap (λ k. k * width r + w) same.0 ∙ ap (λ k. p * width r + k) same.1
 
   -- an input channel without a grant is passed
-  passed_on : (is : List ChannelState) (os : List OutRecord) (p v : ℕ) → IsPlace r p v → cell grants p v None ≡ None → Far is os (line r p v)
+  passed_on : (is : List ChannelState) (os : List OutRecord) (p v : ℕ) → IsPlace r p v → cell grants p v None ≡ None
+      → Far is os (line r p v)
       → Far is os (line r p v + 1)
   passed_on is os p v place none far = record {
     inputs = far.inputs;
     outputs = far.outputs;
     ahead = λ q w there after. far.ahead q w there (omega (arith, after));
-    untaken = λ o c there nobody. far.untaken o c there (λ q w at_place before. nobody q w at_place (omega (arith, before)));
+    untaken = λ o c there nobody. far.untaken o c there
+        (λ q w at_place before. nobody q w at_place (omega (arith, before)));
     got = λ q w c there before granted. elim (cases_eq (line r q w) (line r p v)) [
       | inl same ↦
           let here = one_place p v q w place there same in
           let clash : None ≡ Some c =
-          sym none ∙ ap (λ k. cell grants k v None) (sym here.0) ∙ ap (λ k. cell grants q k None) (sym here.1) ∙ granted in
+          sym none ∙ ap (λ k. cell grants k v None) (sym here.0) ∙ ap (λ k. cell grants q k None) (sym here.1)
+          ∙ granted in
           absurd (cc)
       | inr other ↦ far.got q w c there (omega (arith, before, other)) granted
     ];
@@ -121,12 +135,15 @@ module _ (r : RouterState) (a : VcAllocState) (grants : List (List (Option ℕ))
 
   -- what is written where an input channel gets an output channel
   abbrev in_held : List ChannelState → ℕ → ℕ → ℕ → ℕ → List ChannelState
-  in_held is p v o c = slice_set is (line r p v) (in_state (slice_index_or is (line r p v) (fresh_channel r.depth)) (Active o c))
+  in_held is p v o c = slice_set is (line r p v)
+      (in_state (slice_index_or is (line r p v) (fresh_channel r.depth)) (Active o c))
 
   abbrev out_held : List OutRecord → ℕ → ℕ → ℕ → ℕ → List OutRecord
-  out_held os p v o c = slice_set os (line r o c) (record (slice_index_or os (line r o c) (free_output r.depth)) { holder = Some (p, v) })
+  out_held os p v o c = slice_set os (line r o c)
+      (record (slice_index_or os (line r o c) (free_output r.depth)) { holder = Some (p, v) })
 
-  module _ (is : List ChannelState) (os : List OutRecord) (p v o c : ℕ) (wins : Wins p v o c) (far : Far is os (line r p v)) where
+  module _ (is : List ChannelState) (os : List OutRecord) (p v o c : ℕ) (wins : Wins p v o c)
+      (far : Far is os (line r p v)) where
     in_there : line r p v < length is
     in_there = let k = line-places r p v wins.place in omega (arith, far.inputs, k)
 
@@ -140,8 +157,10 @@ module _ (r : RouterState) (a : VcAllocState) (grants : List (List (Option ℕ))
     got_here = record {
       out = o;
       wins = wins;
-      active = ap (λ (x : ChannelState). x.state) (get_or-set_at is (line r p v) (line r p v) _ (fresh_channel r.depth) refl in_there);
-      held = ap (λ (u : OutRecord). u.holder) (get_or-set_at os (line r o c) (line r o c) _ (free_output r.depth) refl out_there);
+      active = ap (λ (x : ChannelState). x.state)
+          (get_or-set_at is (line r p v) (line r p v) _ (fresh_channel r.depth) refl in_there);
+      held = ap (λ (u : OutRecord). u.holder)
+          (get_or-set_at os (line r o c) (line r o c) _ (free_output r.depth) refl out_there);
     }
 
     got_there : (q w d : ℕ) → (line r q w ≡ line r p v → ⊥) → Got (at is os) q w d → Got now q w d
@@ -149,31 +168,37 @@ module _ (r : RouterState) (a : VcAllocState) (grants : List (List (Option ℕ))
         let apart : line r had.out d ≡ line r o c → ⊥ = λ same.
         let here = one_place o c had.out d wins.out_place had.wins.out_place same in
         let also : HasWon (requests r) grants q w o c =
-        subst (HasWon (requests r) grants q w o) here.1 (subst (λ k. HasWon (requests r) grants q w k d) here.0 had.wins.won) in
+        subst (HasWon (requests r) grants q w o) here.1
+        (subst (λ k. HasWon (requests r) grants q w k d) here.0 had.wins.won) in
         other (one_winner p v q w o c wins.won also) in
         record {
           out = had.out;
           wins = had.wins;
-          active = ap (λ (x : ChannelState). x.state) (get_or-set_other is (line r p v) (line r q w) _ (fresh_channel r.depth) other) ∙ had.active;
-          held = ap (λ (u : OutRecord). u.holder) (get_or-set_other os (line r o c) (line r had.out d) _ (free_output r.depth) apart) ∙ had.held;
+          active = ap (λ (x : ChannelState). x.state)
+              (get_or-set_other is (line r p v) (line r q w) _ (fresh_channel r.depth) other) ∙ had.active;
+          held = ap (λ (u : OutRecord). u.holder)
+              (get_or-set_other os (line r o c) (line r had.out d) _ (free_output r.depth) apart) ∙ had.held;
         }
 
     same_got : (q w d : ℕ) → (q ≡ p) × (w ≡ v) → c ≡ d → Got now q w d
     same_got q w d here same =
-        subst (λ k. Got now k w d) (sym here.0) (subst (λ k. Got now p k d) (sym here.1) (subst (Got now p v) same got_here))
+        subst (λ k. Got now k w d) (sym here.0)
+        (subst (λ k. Got now p k d) (sym here.1) (subst (Got now p v) same got_here))
 
     held_now : Far (in_held is p v o c) (out_held os p v o c) (line r p v + 1)
     held_now = record {
       inputs = length-set is (line r p v) _ ∙ far.inputs;
       outputs = length-set os (line r o c) _ ∙ far.outputs;
       ahead = λ q w there after.
-          get_or-set_other is (line r p v) (line r q w) _ (fresh_channel r.depth) (λ same. absurd (omega (arith, same, after)))
+          get_or-set_other is (line r p v) (line r q w) _ (fresh_channel r.depth)
+          (λ same. absurd (omega (arith, same, after)))
           ∙ far.ahead q w there (omega (arith, after));
       untaken = λ out d there nobody. elim (cases_eq (line r out d) (line r o c)) [
         | inl same ↦
             let here = one_place o c out d wins.out_place there same in
             let also : HasWon (requests r) grants p v out d =
-            subst (HasWon (requests r) grants p v out) (sym here.1) (subst (λ k. HasWon (requests r) grants p v k c) (sym here.0) wins.won) in
+            subst (HasWon (requests r) grants p v out) (sym here.1)
+            (subst (λ k. HasWon (requests r) grants p v k c) (sym here.0) wins.won) in
             absurd (nobody p v wins.place (omega arith) also)
         | inr other ↦
             get_or-set_other os (line r o c) (line r out d) _ (free_output r.depth) other
@@ -183,7 +208,8 @@ module _ (r : RouterState) (a : VcAllocState) (grants : List (List (Option ℕ))
         | inl same ↦
             let here = one_place p v q w wins.place there same in
             let both : Some c ≡ Some d =
-            sym wins.won.granted ∙ ap (λ k. cell grants k v None) (sym here.0) ∙ ap (λ k. cell grants q k None) (sym here.1) ∙ granted in
+            sym wins.won.granted ∙ ap (λ k. cell grants k v None) (sym here.0)
+            ∙ ap (λ k. cell grants q k None) (sym here.1) ∙ granted in
             let one : c ≡ d = cc in
             same_got q w d here one
         | inr other ↦ got_there q w d other (far.got q w d there (omega (arith, before, other)) granted)
@@ -196,7 +222,8 @@ module _ (r : RouterState) (a : VcAllocState) (grants : List (List (Option ℕ))
         let s = at is os in
         let had = input_at r p v in
         let none_before : (q w : ℕ) → IsPlace r q w → line r q w < line r p v → HasWon (requests r) grants q w o c → ⊥ =
-        λ q w there before also. let same = one_winner p v q w o c wins.won also in absurd (omega (arith, same, before)) in
+        λ q w there before also. let same = one_winner p v q w o c wins.won also in absurd
+        (omega (arith, same, before)) in
         let free : is_free s o c ≡ true =
         ap (λ (u : OutRecord). is_none u.holder) (far.untaken o c wins.out_place none_before) ∙ wins.free in
         let uses : may_use (asking s had.state had.buffer) o c ≡ true =
@@ -205,15 +232,22 @@ module _ (r : RouterState) (a : VcAllocState) (grants : List (List (Option ℕ))
         ∙ choice_by s had.state had.buffer o c (and_from _ _ free uses)
 
   -- one place more
-  step : (is : List ChannelState) (os : List OutRecord) (p v : ℕ) → IsPlace r p v → Far is os (line r p v) → (g : Option ℕ) → cell grants p v None ≡ g
+  step : (is : List ChannelState) (os : List OutRecord) (p v : ℕ) → IsPlace r p v → Far is os (line r p v)
+      → (g : Option ℕ) → cell grants p v None ≡ g
       → Written (written (at is os) p v g) (line r p v + 1)
   step is os p v place far None none = (is, os, refl, passed_on is os p v place none far)
   step is os p v place far (Some c) granted =
-      let w = winner p v c granted in
-      (in_held is p v w.0 c, out_held os p v w.0 c, ap (after_granting (at is os) p v c) (can is os p v w.0 c w.1 far), held_now is os p v w.0 c w.1 far)
+      let w = winner p v c granted in (
+        in_held is p v w.0 c,
+        out_held os p v w.0 c,
+        ap (after_granting (at is os) p v c)
+            (can is os p v w.0 c w.1 far),
+        held_now is os p v w.0 c w.1 far,
+      )
 
   -- the grants of a port, channel by channel, and of all ports
-  port_far : (is : List ChannelState) (os : List OutRecord) (p : ℕ) → p ≤ terminal r → Far is os (p * width r) → (k : ℕ) → k ≤ width r
+  port_far : (is : List ChannelState) (os : List OutRecord) (p : ℕ) → p ≤ terminal r → Far is os (p * width r)
+      → (k : ℕ) → k ≤ width r
       → Written (fold (λ s v. written s p v (cell grants p v None)) (at is os) (range_with_len 0 k)) (p * width r + k)
   port_far is os p p_in far zero within = (is, os, refl, subst (Far is os) (omega arith) far)
   port_far is os p p_in far (suc k) within =
@@ -243,7 +277,8 @@ module _ (r : RouterState) (a : VcAllocState) (grants : List (List (Option ℕ))
       let more : suc k ≡ k + 1 = omega arith in (
         next.0,
         next.1,
-        ap (λ n. fold (with_port_grants grants) (at is os) (range_with_len 0 n)) more ∙ fold-range_more (with_port_grants grants) (at is os) k
+        ap (λ n. fold (with_port_grants grants) (at is os) (range_with_len 0 n)) more
+            ∙ fold-range_more (with_port_grants grants) (at is os) k
             ∙ ap (λ s. with_port_grants grants s k) had.2 ∙ next.2,
         subst (Far next.0 next.1) (omega arith) next.3,
       )
@@ -262,33 +297,39 @@ module _ (r : RouterState) (a : VcAllocState) (grants : List (List (Option ℕ))
       let x = input_at r p v in
       record {
         out = had.out;
-        waited = waited_by r x.state x.buffer c had.out (choice_by r x.state x.buffer had.out c (and_from _ _ had.wins.free had.wins.uses));
+        waited = waited_by r x.state x.buffer c had.out
+            (choice_by r x.state x.buffer had.out c (and_from _ _ had.wins.free had.wins.uses));
         free = is_unheld (output_at r had.out c).holder had.wins.free;
         active = had.active;
         held = had.held;
       }
 
-  all_held : length r.inputs ≡ places r → length r.outputs ≡ places r → AreHeld r (with_grants grants (at r.inputs r.outputs)) grants
+  all_held : length r.inputs ≡ places r → length r.outputs ≡ places r
+      → AreHeld r (with_grants grants (at r.inputs r.outputs)) grants
   unfolding with_grants
   all_held inputs outputs p v c granted =
       let w = winner p v c granted in
       let all = ports_far r.inputs r.outputs (begun inputs outputs) (terminal r + 1) (omega arith) in
       let below = line-places r p v w.1.place in
-      subst (λ (s : RouterState). IsGranted r s p v c) (sym all.2) (granted_by _ p v c (all.3.got p v c w.1.place below granted))
+      subst (λ (s : RouterState). IsGranted r s p v c) (sym all.2)
+      (granted_by _ p v c (all.3.got p v c w.1.place below granted))
 
 -- what a pass of the allocator granted is held after it
-pub pass_held : (old new : RouterState) (grants : List (List (Option ℕ))) → terminal old ≤ 6 → width old ≤ 8 → IsRouter old
+pub pass_held : (old new : RouterState) (grants : List (List (Option ℕ))) → terminal old ≤ 6 → width old ≤ 8
+    → IsRouter old
     → IsAllocated old new grants → AreHeld old new grants
 pass_held old new grants few_ports few sound pass =
     let given = (channel_pass old).grants in
     let matching : IsChannelMatching (terminal old + 1) (width old) (requests old) (free_channels old) given =
-    subst (IsChannelMatching (terminal old + 1) (width old) (requests old) (free_channels old)) pass.grants_are pass.matching in
+    subst (IsChannelMatching (terminal old + 1) (width old) (requests old) (free_channels old)) pass.grants_are
+    pass.matching in
     subst (AreHeld old new) (sym pass.grants_are)
     (subst (λ (s : RouterState). AreHeld old s given) (sym pass.after)
     (all_held old (channel_pass old).alloc given few_ports few matching sound.lists.all_inputs sound.lists.all_outputs))
 
 -- where nothing was granted nothing is to be held
-pub none_held : (old new : RouterState) (grants : List (List (Option ℕ))) → grants ≡ replicate 7 (replicate 8 None) → AreHeld old new grants
+pub none_held : (old new : RouterState) (grants : List (List (Option ℕ))) → grants ≡ replicate 7 (replicate 8 None)
+    → AreHeld old new grants
 none_held old new grants none p v c granted =
     let clash : None ≡ Some c = sym (cell-replicate 7 8 p v None) ∙ ap (λ t. cell t p v None) (sym none) ∙ granted in
     absurd (cc)

@@ -123,7 +123,8 @@ pub record IsGranted (old new : RouterState) (port vc out_vc : ℕ) : Type 0 whe
 
 -- what was granted in a pass was free, and is held after it by the input channel that waited for it
 abbrev pub AreHeld : RouterState → RouterState → List (List (Option ℕ)) → Type 0
-AreHeld old new grants = (port vc out_vc : ℕ) → cell grants port vc None ≡ Some out_vc → IsGranted old new port vc out_vc
+AreHeld old new grants = (port vc out_vc : ℕ) → cell grants port vc None ≡ Some out_vc
+    → IsGranted old new port vc out_vc
 
 -- Switch allocation
 

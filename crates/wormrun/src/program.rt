@@ -46,7 +46,9 @@ fn read_both<N: Read, F: Read>(
     traffic: &mut F,
 ) -> Result<Texts, ProgramFault>
     ensures ok { IfOk result (λ t. GaveBoth (stream (N.remaining network.old) (N.remaining network.new)) (stream (F.remaining traffic.old) (F.remaining traffic.new)) t.network.items t.traffic.items) }
-    ensures err { IfErr result (ReadsNot (stream (N.remaining network.old) (N.remaining network.new)) (stream (F.remaining traffic.old) (F.remaining traffic.new))) }
+    ensures err { IfErr result
+        (ReadsNot (stream (N.remaining network.old) (N.remaining network.new))
+        (stream (F.remaining traffic.old) (F.remaining traffic.new))) }
 {
     let network = match read_text(alloc, network) {
         Ok(text) => text,

@@ -1,4 +1,5 @@
-//! Worked runs with their whole reports, faults with their statuses and lines, the words of the command line, and the whole program.
+//! Worked runs with their whole reports, faults with their statuses and lines, the words of the command line, and the
+//! whole program.
 
 mod desk;
 mod faults;

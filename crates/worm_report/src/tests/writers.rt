@@ -109,7 +109,8 @@ fn many_wait(alloc: Global) -> Result<(Net, Vec<u8>), Fail> {
     Ok((net, text))
 }
 
-/// A report of 23 kB goes out in three calls; a writer that fails in the second has the first page alone, and is not asked again.
+/// A report of 23 kB goes out in three calls; a writer that fails in the second has the first page alone, and is not
+/// asked again.
 #[test]
 fn a_long_report_goes_out_page_by_page(rt: HostRuntime) -> Result<(), Fail> {
     let (net, text) = many_wait(rt.alloc())?;

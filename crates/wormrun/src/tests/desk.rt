@@ -1,4 +1,5 @@
-//! A runtime of the tests' own: words, files and a standard input in memory, and what the program opened, printed and said.
+//! A runtime of the tests' own: words, files and a standard input in memory, and what the program opened, printed and
+//! said.
 
 use std::alloc::{Allocator, Global};
 use std::cell::{Cell, RefCell};

@@ -29,7 +29,8 @@ fn kept(rt: &impl Abort, kept: &RefCell<Vec<u8>>, wanted: &str) {
     }
 }
 
-/// The program on these words, and on both texts as its standard input, ends with this status, and opens, prints and says this.
+/// The program on these words, and on both texts as its standard input, ends with this status, and opens, prints and
+/// says this.
 fn ends(
     rt: &impl Abort,
     alloc: Global,

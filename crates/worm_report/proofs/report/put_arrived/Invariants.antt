@@ -5,4 +5,5 @@ use Rattle.worm_report.proofs.Written.{done}
 use Rattle.worm_report.proofs.report.put_arrived.Given as goal
 
 abbrev pub invariant-loop-flit : goal.invariant-loop-flit
-invariant-loop-flit g l = WritesRows (desk (g.W.Write.contents l.fn.out) l.fn.page) (desk (g.W.Write.contents l.out) l.page) done (map (λ flit. Delivered l.node flit) (take l.flit-index l.flits))
+invariant-loop-flit g l = WritesRows (desk (g.W.Write.contents l.fn.out) l.fn.page)
+    (desk (g.W.Write.contents l.out) l.page) done (map (λ flit. Delivered l.node flit) (take l.flit-index l.flits))

@@ -9,5 +9,6 @@ returns g c = rows_then (NotOffered c.args.summary.now.not_offered ∷ []) (Tota
 
 pub returns-in_err-put_row : goal.returns-in_err-put_row
 returns-in_err-put_row g c =
-    rows_stop (NotOffered c.args.summary.now.not_offered ∷ []) (Total (seen c.args.net.now).injected (seen c.args.net.now).arrived ∷ [])
+    rows_stop (NotOffered c.args.summary.now.not_offered ∷ [])
+    (Total (seen c.args.net.now).injected (seen c.args.net.now).arrived ∷ [])
     c.from_residual.ensures.0 c.in_err-put_row.ensures

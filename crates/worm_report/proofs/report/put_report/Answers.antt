@@ -15,4 +15,5 @@ returns-in_err-put_opening g c =
     let flits = flits_rows (seen c.args.net.now) in
     let closing = closing_rows (seen c.args.net.now) c.args.summary.now in
     let e = c.from_residual.ensures.0 in
-    rows_stop (opening_rows c.args.summary.now ++ flits) closing e (rows_stop (opening_rows c.args.summary.now) flits e c.in_err-put_opening.ensures)
+    rows_stop (opening_rows c.args.summary.now ++ flits) closing e
+    (rows_stop (opening_rows c.args.summary.now) flits e c.in_err-put_opening.ensures)

@@ -9,6 +9,8 @@ pub returns : goal.returns
 returns g c =
     let net = seen c.args.net.now in
     let rows = opening_rows c.args.summary.now ++ flits_rows net ++ closing_rows net c.args.summary.now in
-    subst (λ (r : Answer). Writes (g.W.Write.contents c.args.out.now) (g.W.Write.contents c.close-closed.new.out) r (report net c.args.summary.now))
+    subst (λ (r : Answer). Writes (g.W.Write.contents c.args.out.now) (g.W.Write.contents c.close-closed.new.out) r
+    (report net c.args.summary.now))
     (sym c.and.ensures)
-    (report_closed c.in_ok-page.page c.put_report-made.new.page rows c.in_ok-page.ensures.ok c.put_report-made.ensures c.close-closed.ensures)
+    (report_closed c.in_ok-page.page c.put_report-made.new.page rows c.in_ok-page.ensures.ok c.put_report-made.ensures
+    c.close-closed.ensures)

@@ -25,7 +25,8 @@ pub returns-clause-owned : goal.returns-clause-owned
 returns-clause-owned c =
     let own = c.args.self.now in
     let there : owner_of own c.args.channel < length own = owner-class own c.args.channel c.requires in
-    let reached : owner_of own c.args.channel ≡ c.loop-count.class + owner_of (drop c.loop-count.count-index own) c.loop-count.rest =
+    let reached : owner_of own c.args.channel ≡ c.loop-count.class
+    + owner_of (drop c.loop-count.count-index own) c.loop-count.rest =
     rw (← c.self.view_is, ← c.as_slice-count-items.ensures.value) c.loop-count.invariant.1 in
     let all : length own ≡ length c.as_slice-count-items.result.now =
     rw (c.as_slice-count-items.ensures.value, c.self.view_is) refl in

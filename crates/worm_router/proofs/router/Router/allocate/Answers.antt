@@ -39,14 +39,17 @@ pub returns-then-grants_nothing-clause-held : goal.returns-then-grants_nothing-c
 returns-then-grants_nothing-clause-held c = none_held c.args.self.now c.args.self.now c.new.result c.new.ensures
 
 pub returns-in-None-clause-held : goal.returns-in-None-clause-held
-returns-in-None-clause-held c = none_held c.args.self.now c.file_in_vain.new.self c.new-in-None.result c.new-in-None.ensures
+returns-in-None-clause-held c = none_held c.args.self.now c.file_in_vain.new.self c.new-in-None.result
+    c.new-in-None.ensures
 
 pub returns-in-Some-clause-held : goal.returns-in-Some-clause-held
 returns-in-Some-clause-held c =
     let known = c.hopeful-hopeful.ensures in
-    pass_held c.args.self.now c.grant_sole.new.self c.grant_sole.result known.few_ports known.few_channels known.sound c.grant_sole.ensures
+    pass_held c.args.self.now c.grant_sole.new.self c.grant_sole.result known.few_ports known.few_channels known.sound
+    c.grant_sole.ensures
 
 pub returns-in-Some-2-clause-held : goal.returns-in-Some-2-clause-held
 returns-in-Some-2-clause-held c =
     let known = c.hopeful-hopeful.ensures in
-    pass_held c.args.self.now c.grant_among.new.self c.grant_among.result known.few_ports known.few_channels known.sound c.grant_among.ensures
+    pass_held c.args.self.now c.grant_among.new.self c.grant_among.result known.few_ports known.few_channels
+    known.sound c.grant_among.ensures
