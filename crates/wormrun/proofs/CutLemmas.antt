@@ -60,7 +60,7 @@ cut_from line (b ∷ bs) whole = elim (cases_eq b newline) [
             (at_end line bs ((bytes_eq-Decides line (codes "end")).0 same))
         | inr other ↦
             let unlike : line ≢ codes "end" = λ is. true≢false (sym ((bytes_eq-Decides line (codes "end")).1 is)
-                ∙ other) in
+            ∙ other) in
             let rest : IsCut bs (network_len [] bs) = subst (IsCut bs) (omega arith)
             (cut_from [] bs (All-nil (λ b. b ≢ newline))) in
             subst (λ n. IsCut (line ++ newline ∷ bs) (length line + (1 + n)))

@@ -1,6 +1,8 @@
 //! A runtime of the tests' own: words, files and a standard input in memory, and what the program opened, printed and
 //! said.
 
+ghost use Rattle.std.specs.Prelude.{IsErr};
+
 use std::alloc::{Allocator, Global};
 use std::cell::{Cell, RefCell};
 use std::env::FillError;
@@ -49,7 +51,9 @@ impl Desk {
     }
 }
 
-fn unsupported<T>() -> io::Result<T> {
+fn unsupported<T>() -> io::Result<T>
+    ensures { IsErr result }
+{
     Err(io::Error::from(ErrorKind::Unsupported))
 }
 
