@@ -104,6 +104,7 @@ impl ClassChannels {
         requires { channel < sum self.now }
         ensures value { result ≡ owner_of self.now channel }
         ensures class { result < length self.now }
+        ensures owned { IsTrue (owns self.now result channel) }
     {
         let mut rest = channel;
         let mut class = 0u8;

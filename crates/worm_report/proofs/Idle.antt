@@ -1,5 +1,5 @@
 -- A lane that is not busy has no rows.
-use Rattle.std.proofs.Common.{◌≡◌, ◌<◌, ℕ, false, List, [], length, map, Option, sym, ap}
+use Rattle.std.proofs.Common.{◌≡◌, ◌<◌, ℕ, false, List, [], length, map, sym, ap}
 use Rattle.worm_flit.specs.declared.Lane.{Lane}
 use Rattle.worm_mesh.specs.Address.{node_count}
 use Rattle.worm_core.specs.State.{NetState}
@@ -8,10 +8,12 @@ use Rattle.worm_core.specs.declared.view.Held.{Held}
 use Rattle.worm_report.specs.declared.row.Row.TheVariants.{Underway}
 use Rattle.worm_report.specs.Seen.{seen}
 use Rattle.worm_report.specs.Report.{lane_rows}
-use Rattle.worm_report.specs.Writing.{WritesRows}
+use Rattle.worm_report.specs.Writing.{Desk, WritesRows}
 use Rattle.worm_report.proofs.Written.{done, no_rows, same_rows}
 
-pub idle_lane : {a : Option (List ℕ)} (s : NetState) (set : LaneMarks) (lane : Lane) → IsComplete s set → lane.src < node_count s.mesh → lane.dst < node_count s.mesh → lane.class < length s.channels
+pub idle_lane : {a : Desk} (s : NetState) (set : LaneMarks) (lane : Lane) → IsComplete s set
+    → lane.src < node_count s.mesh
+    → lane.dst < node_count s.mesh → lane.class < length s.channels
     → is_marked set lane ≡ false → WritesRows a a done (lane_rows (seen s) lane)
 idle_lane s set lane complete src dst class free =
     same_rows [] (lane_rows (seen s) lane) (ap (map (λ (held : Held). Underway lane held)) (sym (complete lane src dst class free))) no_rows

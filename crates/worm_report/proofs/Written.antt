@@ -1,7 +1,7 @@
 -- One write after another.
 use Rattle.std.proofs.Common.{◌≡◌, ℕ, zero, suc, inl, inr, ◌+◌, ◌-◌, ◌≤◌, ◌<◌, List, [], ◌∷◌, ◌++◌, length, take, drop, map, get_or, Option, Some, None, Result, Ok, Err, refl, sym, ap, subst, ◌∙◌, append_assoc, arith}
-use Rattle.std.specs.Prelude.{OnOk}
-use Rattle.std.specs.Result.{IsErr}
+use Rattle.std.specs.Prelude.{OnOk, OnErr}
+use Rattle.std.specs.Result.{IsErr, result_and}
 use Rattle.std.specs.List.{flat_map, range_with_len}
 use Rattle.std.specs.Io.KnownBytes.{Appends, Keeps}
 use Rattle.std.proofs.KnownBytes.{Appends-nil, Appends-trans}
@@ -10,9 +10,10 @@ use Rattle.std.proofs.lemmas.List.{append-nil, take-append-drop, take_all, lengt
 use Rattle.std.proofs.lemmas.List.Concat.{flat_map-append}
 use Rattle.worm_report.specs.declared.row.Row.{Row}
 use Rattle.worm_report.specs.declared.summary.ReportFault.{ReportFault}
+use Rattle.worm_report.specs.declared.summary.ReportFault.TheVariants.{NoMemory}
 use Rattle.worm_report.specs.Rows.{row_text, rows_text}
 use Rattle.worm_report.specs.Report.{rows_below}
-use Rattle.worm_report.specs.Writing.{Writes, WritesRows}
+use Rattle.worm_report.specs.Writing.{Desk, desk, Writes, WritesRows}
 
 abbrev pub Answer : Type 0
 Answer = Result (Unit {0}) ReportFault
@@ -46,53 +47,134 @@ given_more a b c bytes front rest n whole h k =
     let tail : take (length rest - n) (drop n rest) ≡ drop n rest = take_all (length rest - n) (drop n rest) (omega (arith, length-drop n rest)) in
     (front ++ take n rest, whole ∙ ap (λ (z : List ℕ). front ++ z) (sym (take-append-drop n rest)) ∙ sym (append_assoc front (take n rest) (drop n rest)) ∙ ap (λ (z : List ℕ). (front ++ take n rest) ++ z) (sym tail), Appends-trans a b c front (take n rest) h k)
 
--- ---- rows
-
--- nothing was given
-pub no_rows : {a : Option (List ℕ)} → WritesRows a a done []
-no_rows {a = a} = record { text = record { front = []; rest = []; whole = refl; given = Appends-nil a; all = refl } }
-
-pub none_given : {a : Option (List ℕ)} {r : Answer} (rows : List Row) → IsErr r → WritesRows a a r rows
-none_given {a = a} rows e = record { text = given_part (rows_text rows) [] (rows_text rows) e refl (Appends-nil a) }
-
-pub kept : {a b : Option (List ℕ)} → Keeps a b → WritesRows a b done []
-kept {a = a} {b = b} h = record { text = record { front = []; rest = []; whole = refl; given = Appends-Keeps a b h; all = refl } }
-
-pub kept_failing : {a b : Option (List ℕ)} {r : Answer} → IsErr r → Keeps a b → WritesRows a b r []
-kept_failing {a = a} {b = b} e h = record { text = given_part [] [] [] e refl (Appends-Keeps a b h) }
-
--- which fault it is does not matter
-pub failing : {a b : Option (List ℕ)} {r s : Answer} {rows : List Row} → IsErr s → WritesRows a b r rows → WritesRows a b s rows
-failing {rows = rows} e w = record { text = given_part (rows_text rows) w.text.front w.text.rest e w.text.whole w.text.given }
-
--- a fault, and rows behind it
-pub rows_stop : {a b : Option (List ℕ)} {r s : Answer} (xs ys : List Row) → IsErr s → WritesRows a b r xs → WritesRows a b s (xs ++ ys)
-rows_stop xs ys e w = record {
-  text = given_part (rows_text (xs ++ ys)) w.text.front (w.text.rest ++ rows_text ys) e (flat_map-append row_text xs ys ∙ ap (λ (z : List ℕ). z ++ rows_text ys) w.text.whole ∙ append_assoc w.text.front w.text.rest (rows_text ys)) w.text.given;
-}
-
 all_given : (front rest bytes : List ℕ) → bytes ≡ front ++ rest → rest ≡ [] → front ≡ bytes
 all_given front rest bytes whole none = sym (whole ∙ ap (λ (z : List ℕ). front ++ z) none ∙ append-nil front)
 
+-- ---- rows
+
+-- nothing was made
+pub no_rows : {a : Desk} → WritesRows a a done []
+no_rows {a = a} = record { front = []; rest = []; whole = refl; given = Appends-nil a.given; all = refl }
+
+-- so much of what lay on the page and was made was given
+part : {a b : Desk} {r : Answer} (rows : List Row) (front rest : List ℕ) → IsErr r
+    → a.page ++ rows_text rows ≡ front ++ b.page ++ rest
+    → Appends a.given b.given front → WritesRows a b r rows
+part {r = r} rows front rest e whole given =
+    record { front = front; rest = rest; whole = whole; given = given; all = on_err r (rest ≡ []) e }
+
+pub none_given : {a : Desk} {r : Answer} (rows : List Row) → IsErr r → WritesRows a a r rows
+none_given {a = a} rows e = part rows [] (rows_text rows) e refl (Appends-nil a.given)
+
+-- there was no memory for the first of them
+pub no_memory : {a : Desk} (rows : List Row) → WritesRows a a (Err NoMemory) rows
+no_memory rows = none_given {r = Err NoMemory} rows refl
+
+-- which fault it is does not matter
+pub failing : {a b : Desk} {r s : Answer} {rows : List Row} → IsErr s → WritesRows a b r rows → WritesRows a b s rows
+failing {rows = rows} e w = part rows w.front w.rest e w.whole w.given
+
+-- a fault, and rows behind it
+pub rows_stop : {a b : Desk} {r s : Answer} (xs ys : List Row) → IsErr s → WritesRows a b r xs
+    → WritesRows a b s (xs ++ ys)
+rows_stop {a = a} {b = b} xs ys e w =
+    part (xs ++ ys) w.front (w.rest ++ rows_text ys) e
+    (ap (λ (z : List ℕ). a.page ++ z) (flat_map-append row_text xs ys)
+    ∙ sym (append_assoc a.page (rows_text xs) (rows_text ys))
+    ∙ ap (λ (z : List ℕ). z ++ rows_text ys) w.whole ∙ append_assoc (w.front ++ b.page) w.rest (rows_text ys))
+    w.given
+
+-- what was made without a fault was given, or lies on the page
+all_made : {a b : Desk} (rows : List Row) (w : WritesRows a b done rows) → a.page ++ rows_text rows ≡ w.front ++ b.page
+all_made {b = b} rows w = w.whole ∙ ap (λ (z : List ℕ). w.front ++ b.page ++ z) w.all ∙ append-nil (w.front ++ b.page)
+
 -- the second write decides
-pub rows_then : {a b c : Option (List ℕ)} {r : Answer} (xs ys : List Row) → WritesRows a b done xs → WritesRows b c r ys → WritesRows a c r (xs ++ ys)
-rows_then {a = a} {b = b} {c = c} xs ys h k =
-    let first : Appends a b (rows_text xs) = subst (Appends a b) (all_given h.text.front h.text.rest (rows_text xs) h.text.whole h.text.all) h.text.given in
-    record {
-      text = record {
-        front = rows_text xs ++ k.text.front;
-        rest = k.text.rest;
-        whole = flat_map-append row_text xs ys ∙ ap (λ (z : List ℕ). rows_text xs ++ z) k.text.whole ∙ sym (append_assoc (rows_text xs) k.text.front k.text.rest);
-        given = Appends-trans a b c (rows_text xs) k.text.front first k.text.given;
-        all = k.text.all;
-      };
-    }
+pub rows_then : {a b c : Desk} {r : Answer} (xs ys : List Row) → WritesRows a b done xs → WritesRows b c r ys
+    → WritesRows a c r (xs ++ ys)
+rows_then {a = a} {b = b} {c = c} xs ys h k = record {
+  front = h.front ++ k.front;
+  rest = k.rest;
+  whole =
+      ap (λ (z : List ℕ). a.page ++ z) (flat_map-append row_text xs ys)
+      ∙ sym (append_assoc a.page (rows_text xs) (rows_text ys))
+      ∙ ap (λ (z : List ℕ). z ++ rows_text ys) (all_made xs h) ∙ append_assoc h.front b.page (rows_text ys)
+      ∙ ap (λ (z : List ℕ). h.front ++ z) (k.whole ∙ append_assoc k.front c.page k.rest)
+      ∙ sym (append_assoc h.front k.front (c.page ++ k.rest)) ∙ sym (append_assoc (h.front ++ k.front) c.page k.rest);
+  given = Appends-trans a.given b.given c.given h.front k.front h.given k.given;
+  all = k.all;
+}
 
--- the rows of one line, or of no more than these
-pub one_row : {a b : Option (List ℕ)} {r : Answer} (row : Row) (text : List ℕ) → text ≡ row_text row → Writes a b r text → WritesRows a b r (row ∷ [])
-one_row {a = a} {b = b} {r = r} row text e w = record { text = subst (Writes a b r) (e ∙ sym (append-nil (row_text row))) w }
+-- ---- pages
 
-pub same_rows : {a b : Option (List ℕ)} {r : Answer} (xs ys : List Row) → xs ≡ ys → WritesRows a b r xs → WritesRows a b r ys
+-- the page was written, or a first part of it, and is empty
+pub page_turned : {old new : Option (List ℕ)} {r : Answer} (was now : List ℕ) → now ≡ [] → Writes old new r was
+    → WritesRows (desk old was) (desk new now) r []
+page_turned was now empty w = record {
+  front = w.front;
+  rest = w.rest;
+  whole = append-nil was ∙ w.whole ∙ ap (λ (z : List ℕ). z ++ w.rest) (sym (append-nil w.front))
+      ∙ ap (λ (z : List ℕ). w.front ++ z ++ w.rest) (sym empty);
+  given = w.given;
+  all = w.all;
+}
+
+-- a line was put on the page, or there was no memory for it
+pub line_added : {given : Option (List ℕ)} (r : Answer) (was now : List ℕ) (row : Row)
+    → OnOk r (now ≡ was ++ row_text row) → OnErr r (now ≡ was)
+    → WritesRows (desk given was) (desk given now) r (row ∷ [])
+line_added {given = given} (Ok u) was now row ok err = record {
+  front = [];
+  rest = [];
+  whole = ap (λ (z : List ℕ). was ++ z) (append-nil (row_text row)) ∙ sym ok ∙ sym (append-nil now);
+  given = Appends-nil given;
+  all = refl;
+}
+line_added {given = given} (Err e) was now row ok err = record {
+  front = [];
+  rest = rows_text (row ∷ []);
+  whole = ap (λ (z : List ℕ). z ++ rows_text (row ∷ [])) (sym err);
+  given = Appends-nil given;
+  all = tt;
+}
+
+both_done : (r s : Answer) (rest : List ℕ) (more : List ℕ) → OnOk r (rest ≡ []) → OnOk s (more ≡ [])
+    → OnOk (result_and r s) (more ++ rest ≡ [])
+both_done (Ok u) (Ok v) rest more no_rest no_more = ap (λ (z : List ℕ). z ++ rest) no_more ∙ no_rest
+both_done (Ok u) (Err e) rest more no_rest no_more = tt
+both_done (Err e) s rest more no_rest no_more = tt
+
+-- All rows were made, or up to a fault, and then the page was closed.
+pub report_closed : {a b c : Option (List ℕ)} {r s : Answer} (fresh page : List ℕ) (rows : List Row) → fresh ≡ []
+    → WritesRows (desk a fresh) (desk b page) r rows → Writes b c s page → Writes a c (result_and r s) (rows_text rows)
+report_closed {a = a} {b = b} {c = c} {r = r} {s = s} fresh page rows empty made closed = record {
+  front = made.front ++ closed.front;
+  rest = closed.rest ++ made.rest;
+  whole =
+      ap (λ (z : List ℕ). z ++ rows_text rows) (sym empty) ∙ made.whole
+      ∙ ap (λ (z : List ℕ). made.front ++ z ++ made.rest) closed.whole
+      ∙ ap (λ (z : List ℕ). z ++ made.rest) (sym (append_assoc made.front closed.front closed.rest))
+      ∙ append_assoc (made.front ++ closed.front) closed.rest made.rest;
+  given = Appends-trans a b c made.front closed.front made.given closed.given;
+  all = both_done r s made.rest closed.rest made.all closed.all;
+}
+
+-- the writer passed on what it was given, or did not
+pub passed_on : {a b c : Option (List ℕ)} {s : Answer} (bytes : List ℕ) → Writes a b done bytes → Keeps b c
+    → Writes a c s bytes
+passed_on {a = a} {b = b} {c = c} {s = s} bytes w kept = record {
+  front = bytes;
+  rest = [];
+  whole = sym (append-nil bytes);
+  given = subst (Appends a c) (append-nil bytes)
+      (Appends-trans a b c bytes [] (subst (Appends a b) (all_given w.front w.rest bytes w.whole w.all) w.given)
+      (Appends-Keeps b c kept));
+  all = on_any s;
+} where
+  on_any : (r : Answer) → OnOk r (◌≡◌ {A = List ℕ} [] [])
+  on_any (Ok u) = refl
+  on_any (Err e) = tt
+
+pub same_rows : {a b : Desk} {r : Answer} (xs ys : List Row) → xs ≡ ys → WritesRows a b r xs → WritesRows a b r ys
 same_rows {a = a} {b = b} {r = r} xs ys e w = subst (λ (rows : List Row). WritesRows a b r rows) e w
 
 -- ---- a loop over numbers
@@ -119,36 +201,41 @@ below_split f i (suc n) le = elim (cases_lt n i) [
   | inr le ↦ let m = below_split f i n le in (m.0 ++ f n, below_suc f n ∙ ap (λ (rows : List Row). rows ++ f n) m.1 ∙ append_assoc (rows_below f i) m.0 (f n))
 ]
 
-pub below_none : {a : Option (List ℕ)} (f : ℕ → List Row) → WritesRows a a done (rows_below f 0)
+pub below_none : {a : Desk} (f : ℕ → List Row) → WritesRows a a done (rows_below f 0)
 unfolding rows_below
 below_none f = no_rows
 
-pub below_then : {a b c : Option (List ℕ)} (f : ℕ → List Row) (i : ℕ) → WritesRows a b done (rows_below f i) → WritesRows b c done (f i) → WritesRows a c done (rows_below f (i + 1))
+pub below_then : {a b c : Desk} (f : ℕ → List Row) (i : ℕ) → WritesRows a b done (rows_below f i)
+    → WritesRows b c done (f i) → WritesRows a c done (rows_below f (i + 1))
 below_then f i h k = same_rows (rows_below f i ++ f i) (rows_below f (i + 1)) (sym (below_last f i)) (rows_then (rows_below f i) (f i) h k)
 
-pub below_stop : {a b c : Option (List ℕ)} {r s : Answer} (f : ℕ → List Row) (i n : ℕ) → i < n → IsErr s → WritesRows a b done (rows_below f i) → WritesRows b c r (f i) → WritesRows a c s (rows_below f n)
+pub below_stop : {a b c : Desk} {r s : Answer} (f : ℕ → List Row) (i n : ℕ) → i < n → IsErr s
+    → WritesRows a b done (rows_below f i) → WritesRows b c r (f i) → WritesRows a c s (rows_below f n)
 below_stop f i n lt e h k =
     let m = below_split f (i + 1) n (omega arith) in
     let here = same_rows (rows_below f i ++ f i) (rows_below f (i + 1)) (sym (below_last f i)) (rows_then (rows_below f i) (f i) h k) in
     same_rows (rows_below f (i + 1) ++ m.0) (rows_below f n) (sym m.1) (rows_stop (rows_below f (i + 1)) m.0 e here)
 
-pub below_all : {a b : Option (List ℕ)} {r : Answer} (f : ℕ → List Row) (i n : ℕ) → i ≡ n → WritesRows a b r (rows_below f i) → WritesRows a b r (rows_below f n)
+pub below_all : {a b : Desk} {r : Answer} (f : ℕ → List Row) (i n : ℕ) → i ≡ n → WritesRows a b r (rows_below f i)
+    → WritesRows a b r (rows_below f n)
 below_all f i n e w = same_rows (rows_below f i) (rows_below f n) (ap (rows_below f) e) w
 
 -- ---- a loop over a list
 
-pub each_none : {X : Type 0} {a : Option (List ℕ)} (row : X → Row) (xs : List X) → WritesRows a a done (map row (take 0 xs))
+pub each_none : {X : Type 0} {a : Desk} (row : X → Row) (xs : List X) → WritesRows a a done (map row (take 0 xs))
 each_none row xs = no_rows
 
 each_last : {X : Type 0} (row : X → Row) (xs : List X) (i : ℕ) (d : X) → i < length xs → map row (take (i + 1) xs) ≡ map row (take i xs) ++ row (get_or xs i d) ∷ []
 each_last row xs i d lt = ap (map row) (take_more xs i d lt) ∙ map_push row (take i xs) (get_or xs i d)
 
-pub each_then : {X : Type 0} {a b c : Option (List ℕ)} (row : X → Row) (xs : List X) (i : ℕ) (d : X) → i < length xs → WritesRows a b done (map row (take i xs)) → WritesRows b c done (row (get_or xs i d) ∷ [])
+pub each_then : {X : Type 0} {a b c : Desk} (row : X → Row) (xs : List X) (i : ℕ) (d : X) → i < length xs
+    → WritesRows a b done (map row (take i xs)) → WritesRows b c done (row (get_or xs i d) ∷ [])
     → WritesRows a c done (map row (take (i + 1) xs))
 each_then row xs i d lt h k =
     same_rows (map row (take i xs) ++ row (get_or xs i d) ∷ []) (map row (take (i + 1) xs)) (sym (each_last row xs i d lt)) (rows_then (map row (take i xs)) (row (get_or xs i d) ∷ []) h k)
 
-pub each_stop : {X : Type 0} {a b c : Option (List ℕ)} {r s : Answer} (row : X → Row) (xs : List X) (i : ℕ) (d : X) → i < length xs → IsErr s → WritesRows a b done (map row (take i xs)) → WritesRows b c r (row (get_or xs i d) ∷ [])
+pub each_stop : {X : Type 0} {a b c : Desk} {r s : Answer} (row : X → Row) (xs : List X) (i : ℕ) (d : X)
+    → i < length xs → IsErr s → WritesRows a b done (map row (take i xs)) → WritesRows b c r (row (get_or xs i d) ∷ [])
     → WritesRows a c s (map row xs)
 each_stop row xs i d lt e h k =
     let front = map row (take i xs) ++ row (get_or xs i d) ∷ [] in
@@ -156,5 +243,6 @@ each_stop row xs i d lt e h k =
     let parts : front ++ back ≡ map row xs = ap (λ (ys : List Row). ys ++ back) (sym (each_last row xs i d lt)) ∙ sym (map-append row (take (i + 1) xs) (drop (i + 1) xs)) ∙ ap (map row) (take-append-drop (i + 1) xs) in
     same_rows (front ++ back) (map row xs) parts (rows_stop front back e (rows_then (map row (take i xs)) (row (get_or xs i d) ∷ []) h k))
 
-pub each_all : {X : Type 0} {a b : Option (List ℕ)} (row : X → Row) (xs : List X) (i : ℕ) → length xs ≤ i → WritesRows a b done (map row (take i xs)) → WritesRows a b done (map row xs)
+pub each_all : {X : Type 0} {a b : Desk} (row : X → Row) (xs : List X) (i : ℕ) → length xs ≤ i
+    → WritesRows a b done (map row (take i xs)) → WritesRows a b done (map row xs)
 each_all row xs i le w = same_rows (map row (take i xs)) (map row xs) (ap (map row) (take_all i xs le)) w

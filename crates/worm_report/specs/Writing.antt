@@ -13,6 +13,19 @@ pub record Writes (old new : Option (List ℕ)) (result : Result (Unit {0}) Repo
   pub given : Appends old new front
   pub all : OnOk result (rest ≡ [])
 
--- the same of the lines of these rows
-pub record WritesRows (old new : Option (List ℕ)) (result : Result (Unit {0}) ReportFault) (rows : List Row) : Type 0 where
-  pub text : Writes old new result (rows_text rows)
+-- what a writer was given, and the lines on the page that it has yet to be given
+pub record Desk : Type 0 where
+  pub given : Option (List ℕ)
+  pub page : List ℕ
+
+abbrev pub desk : Option (List ℕ) → List ℕ → Desk
+desk given page = record { given = given; page = page }
+
+-- The lines of these rows come behind those on the page: a first part of them all was given, what follows is on
+-- the page now, and where there was no fault that is the rest.
+pub record WritesRows (old new : Desk) (result : Result (Unit {0}) ReportFault) (rows : List Row) : Type 0 where
+  pub front : List ℕ
+  pub rest : List ℕ
+  pub whole : old.page ++ rows_text rows ≡ front ++ new.page ++ rest
+  pub given : Appends old.given new.given front
+  pub all : OnOk result (rest ≡ [])

@@ -12,6 +12,7 @@
 #![tactic(auto)]
 
 mod line;
+mod page;
 mod report;
 mod row;
 mod summary;

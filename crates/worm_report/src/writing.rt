@@ -1,9 +1,9 @@
 //! Bytes and lines into a writer, whole or a first part of them.
 
-ghost use Rattle.std.specs.Prelude.{[], ◌∷◌};
-ghost use Rattle.worm_report.specs.Writing.{Writes, WritesRows};
+ghost use Rattle.std.specs.Prelude.{◌≡◌, [], ◌∷◌};
+ghost use Rattle.worm_report.specs.Writing.{desk, Writes, WritesRows};
 
-use crate::line::Line;
+use crate::page::Page;
 use crate::row::Row;
 use crate::summary::ReportFault;
 use std::io::Write;
@@ -22,20 +22,40 @@ pub fn put<W: Write>(out: &mut W, bytes: &[u8]) -> Result<(), ReportFault>
     Ok(())
 }
 
-/// Gives the writer the line of a row, made in the room of `line`.
-pub fn put_row<W: Write>(out: &mut W, line: &mut Line, row: Row) -> Result<(), ReportFault>
-    ensures { WritesRows (W.contents out.old) (W.contents out.new) result (row ∷ []) }
+/// Gives the writer the lines of the page, which is then empty, also where the writer failed.
+fn turn_page<W: Write>(out: &mut W, page: &mut Page) -> Result<(), ReportFault>
+    ensures given { Writes (W.contents out.old) (W.contents out.new) result page.old }
+    ensures empty { page.new ≡ [] }
 {
-    match line.set(row) {
-        Ok(()) => put(out, line.as_bytes()),
-        Err(_) => Err(ReportFault::NoMemory),
+    let given = put(out, page.as_bytes());
+    page.clear();
+    given
+}
+
+/// Sees to it that the page has room for a line.
+fn make_room<W: Write>(out: &mut W, page: &mut Page) -> Result<(), ReportFault>
+    ensures { WritesRows (desk (W.contents out.old) page.old) (desk (W.contents out.new) page.new) result [] }
+{
+    if page.is_full() {
+        turn_page(out, page)
+    } else {
+        Ok(())
     }
 }
 
-/// Has the writer pass on what it was given.
-pub fn flush<W: Write>(out: &mut W) -> Result<(), ReportFault>
-    ensures { WritesRows (W.contents out.old) (W.contents out.new) result [] }
+/// Puts the line of a row on the page, whose other lines the writer is given where it is full.
+pub fn put_row<W: Write>(out: &mut W, page: &mut Page, row: Row) -> Result<(), ReportFault>
+    ensures { WritesRows (desk (W.contents out.old) page.old) (desk (W.contents out.new) page.new) result (row ∷ []) }
 {
+    make_room(out, page)?;
+    page.add(row)
+}
+
+/// Gives the writer the lines of the page, and has it pass on what it was given.
+pub fn close<W: Write>(out: &mut W, page: &mut Page) -> Result<(), ReportFault>
+    ensures { Writes (W.contents out.old) (W.contents out.new) result page.old }
+{
+    turn_page(out, page)?;
     match out.flush() {
         Ok(()) => Ok(()),
         Err(_) => Err(ReportFault::Write),

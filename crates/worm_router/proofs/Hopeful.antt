@@ -97,7 +97,8 @@ chosen r p v set c x sound here are is first = record {
     channel_in = allowed_below r (input_at r p v).state (input_at r p v).buffer x c is first.among;
   }
 
-choice_by : (r : RouterState) (s : InRecord) (fs : List Flit) (o c : ℕ) → (is_free r o c && may_use (asking r s fs) o c) ≡ true → granting r s fs c ≡ Some o
+pub choice_by : (r : RouterState) (s : InRecord) (fs : List Flit) (o c : ℕ)
+    → (is_free r o c && may_use (asking r s fs) o c) ≡ true → granting r s fs c ≡ Some o
 choice_by r Idle fs o c gets = absurd (true≢false (sym gets ∙ neither (is_free r o c) false refl))
 choice_by r (Active p v) fs o c gets = absurd (true≢false (sym gets ∙ neither (is_free r o c) false refl))
 choice_by r (Waiting p) [] o c gets = absurd (true≢false (sym gets ∙ neither (is_free r o c) false refl))

@@ -113,6 +113,19 @@ pub record IsAllocated (old new : RouterState) (grants : List (List (Option ℕ)
   pub same : IsSameSize old new
   pub matching : IsChannelMatching (terminal old + 1) (width old) (requests old) (free_channels old) grants
 
+-- a granted input channel waited for this output port, and now holds the channel of it that it was granted
+pub record IsGranted (old new : RouterState) (port vc out_vc : ℕ) : Type 0 where
+  pub out : ℕ
+  pub waited : (input_at old port vc).state ≡ Waiting out
+  pub free : (output_at old out out_vc).holder ≡ None
+  pub active : (input_at new port vc).state ≡ Active out out_vc
+  pub held : (output_at new out out_vc).holder ≡ Some (port, vc)
+
+-- what was granted in a pass was free, and is held after it by the input channel that waited for it
+abbrev pub AreHeld : RouterState → RouterState → List (List (Option ℕ)) → Type 0
+AreHeld old new grants = (port vc out_vc : ℕ) → cell grants port vc None ≡ Some out_vc
+    → IsGranted old new port vc out_vc
+
 -- Switch allocation
 
 -- the output port of a channel that may send

@@ -17,7 +17,7 @@ ghost use Rattle.worm_flit.specs.Worms.{IsWorm, latest_on};
 ghost use Rattle.worm_theory.specs.Shape.{Shape, IsMesh};
 ghost use Rattle.worm_theory.specs.Network.{Network};
 ghost use Rattle.worm_theory.specs.Steps.{Step, IsPort, StepsLead, EachStepKeeps, AnyStepsKeep, empty};
-ghost use Rattle.worm_theory.specs.Sound.{Sound, OthersIdle, OnesClosed, LinksFit, unfed_on};
+ghost use Rattle.worm_theory.specs.Sound.{Sound, BuffersFit, OthersIdle, OnesClosed, LinksFit, unfed_on};
 ghost use Rattle.worm_theory.specs.Growth.{SinksGrow, SourcesGrow};
 ghost use Rattle.worm_theory.specs.WormFormed.{Joint, ComesNext, RecordFits, EndsAt, held_last, awaited};
 ghost use Rattle.worm_theory.specs.Cut.{LanesCut, StampsDiffer, EachOnce};
@@ -49,7 +49,8 @@ pub fn stays_sound()
 
 /// No buffer of a sound network holds more than its depth, and with its channel's flits on the link no more.
 pub fn buffers_fit()
-    ensures { (s : Shape) (net : Network) → Sound s net → LinksFit s net }
+    ensures buffers { (s : Shape) (net : Network) → Sound s net → BuffersFit s net }
+    ensures links { (s : Shape) (net : Network) → Sound s net → LinksFit s net }
 {}
 
 /// The lane cut: of a lane whose class owns one channel, the flits delivered, followed by those under way from the

@@ -17,7 +17,8 @@ network_len-lf line bs b lf other =
     ∙ ap (λ t. 1 + cond t 0 (network_len [] bs)) other
 
 -- a byte within a line
-network_len-other : (line bs : List ℕ) (b : ℕ) → (b ≡ 10 → ⊥) → network_len line (b ∷ bs) ≡ 1 + network_len (line ++ b ∷ []) bs
+pub network_len-other : (line bs : List ℕ) (b : ℕ) → (b ≡ 10 → ⊥) → network_len line (b ∷ bs) ≡ 1
+    + network_len (line ++ b ∷ []) bs
 network_len-other line bs b other =
     ap (λ t. 1 + cond t (cond (bytes_eq line (codes "end")) 0 (network_len [] bs)) (network_len (line ++ b ∷ []) bs)) (is_no_lf b other)
 

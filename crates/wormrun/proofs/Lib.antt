@@ -3,3 +3,4 @@ pub mod Configs
 pub mod Draining
 pub mod Reporting
 pub mod Scripts
+pub mod CutLemmas

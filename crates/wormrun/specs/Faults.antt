@@ -1,8 +1,10 @@
 -- The line that the program says of a fault on the standard error, and the status that it ends with.
-use Rattle.std.specs.Prelude.{ℕ, List, ◌++◌, codes, decimal}
+use Rattle.std.specs.Prelude.{ℕ, List, ◌++◌, codes, decimal, Result, Ok, Err}
 use Rattle.worm_text.specs.Faults.{words_of}
 use Rattle.wormrun.specs.declared.fault.ProgramFault.{ProgramFault}
 use Rattle.wormrun.specs.declared.fault.ProgramFault.TheVariants as f
+use Rattle.wormrun.specs.declared.words.WordsFault.{WordsFault}
+use Rattle.wormrun.specs.declared.words.WordsFault.TheVariants as w
 
 abbrev pub line_of : ProgramFault → List ℕ
 line_of (f.Network t) = codes "wormrun: network line " ++ (decimal t.line ++ (codes ": " ++ words_of t.why))
@@ -19,3 +21,14 @@ status_of f.ReadNetwork = 5
 status_of f.ReadTraffic = 5
 status_of f.NoMemory = 6
 status_of f.Write = 8
+
+-- 0 where the whole report is out
+abbrev pub ended_status : Result (Unit {0}) ProgramFault → ℕ
+ended_status (Ok _) = 0
+ended_status (Err fault) = status_of fault
+
+-- words that are not those that the program knows, or no text, are the user's fault
+abbrev pub words_status : WordsFault → ℕ
+words_status (w.Words error) = 2
+words_status w.NotText = 2
+words_status w.NoMemory = 6

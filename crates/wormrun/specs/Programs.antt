@@ -159,19 +159,19 @@ pub record FailsBoth (turns drain : ℕ) (first second out : Stream) (fault : Pr
 abbrev pub FailsAlone : ℕ → ℕ → Stream → Stream → Stream → ProgramFault → Type 0
 FailsAlone turns drain first second out (f.Network t) = FailsBoth turns drain first second out (f.Network t)
 FailsAlone turns drain first second out (f.Traffic t) = FailsBoth turns drain first second out (f.Traffic t)
-FailsAlone turns drain first second out f.ReadNetwork = Keeps out.old out.new
+FailsAlone turns drain first second out f.ReadNetwork = Keeps second.old second.new × Keeps out.old out.new
 FailsAlone turns drain first second out f.ReadTraffic = ((network : List ℕ) × GaveText first.old first.new network) × Keeps out.old out.new
 FailsAlone turns drain first second out f.NoMemory = Keeps out.old out.new ⊎ FailsBoth turns drain first second out f.NoMemory
 FailsAlone turns drain first second out f.Write = FailsBoth turns drain first second out f.Write
 
--- what a fault of reading tells
-abbrev pub ReadsNot : Stream → ProgramFault → Type 0
-ReadsNot first f.ReadNetwork = Unit {0}
-ReadsNot first f.ReadTraffic = (network : List ℕ) × GaveText first.old first.new network
-ReadsNot first f.NoMemory = Unit {0}
-ReadsNot first (f.Network t) = ⊥
-ReadsNot first (f.Traffic t) = ⊥
-ReadsNot first f.Write = ⊥
+-- what a fault of reading tells; the traffic is not read before the network is
+abbrev pub ReadsNot : Stream → Stream → ProgramFault → Type 0
+ReadsNot first second f.ReadNetwork = Keeps second.old second.new
+ReadsNot first second f.ReadTraffic = (network : List ℕ) × GaveText first.old first.new network
+ReadsNot first second f.NoMemory = Unit {0}
+ReadsNot first second (f.Network t) = ⊥
+ReadsNot first second (f.Traffic t) = ⊥
+ReadsNot first second f.Write = ⊥
 
 -- the two texts of a joined input
 abbrev pub first_text : List ℕ → List ℕ

@@ -4,6 +4,9 @@
 //! named, and `--turns T` says how many turns to take. A fault is one line on the standard error and a status.
 #![tactic(auto)]
 
+ghost use Rattle.std.specs.Prelude.{◌≡◌};
+ghost use Rattle.std.specs.Process.{exit_status};
+ghost use Rattle.wormrun.specs.Faults.{ended_status, words_status};
 ghost use Rattle.wormrun.specs.Ranges.{InRange};
 
 mod fault;
@@ -17,12 +20,12 @@ use fault::ProgramFault;
 use program::{run_joined, run_texts};
 use std::alloc::Global;
 use std::process::ExitCode;
-use std::rt::Runtime;
+use std::rt::{Env, Files};
 use std::{fs, io};
-use words::{Words, WordsFault, read_words};
+use words::{Words, WordsFault, all_words, read_words};
 
 /// Opens both files, the network first, and runs on them.
-fn run_files<R: Runtime + AllocGlobal>(rt: &R, words: &Words<'_>) -> Result<(), ProgramFault>
+fn run_files<R: Files + Print + AllocGlobal>(rt: &R, words: &Words<'_>) -> Result<(), ProgramFault>
     requires { InRange words.now.options }
 {
     let Ok(mut network) = fs::open(rt, words.network) else {
@@ -42,7 +45,9 @@ fn run_files<R: Runtime + AllocGlobal>(rt: &R, words: &Words<'_>) -> Result<(), 
 }
 
 /// Says the fault on the standard error, and gives its status.
-fn status_of<R: Runtime>(rt: &R, ended: Result<(), ProgramFault>) -> ExitCode {
+fn end<R: Eprint>(rt: &R, ended: Result<(), ProgramFault>) -> ExitCode
+    ensures { exit_status result ≡ ended_status ended }
+{
     match ended {
         Ok(()) => ExitCode::SUCCESS,
         Err(fault) => {
@@ -52,39 +57,55 @@ fn status_of<R: Runtime>(rt: &R, ended: Result<(), ProgramFault>) -> ExitCode {
     }
 }
 
-/// Reads the words, and runs the program that they ask for.
-fn run_words<R: Runtime + AllocGlobal>(rt: &R, words: &[&str]) -> ExitCode {
-    if words.len() < 2 {
-        let mut input = rt.reader();
-        let mut out = io::writer(rt);
-        return status_of(rt, run_joined(rt.alloc(), &mut input, &mut out));
-    }
-    match read_words(rt.alloc(), words) {
-        Ok(words) => status_of(rt, run_files(rt, &words)),
-        Err(WordsFault::NoMemory) => status_of(rt, Err(ProgramFault::NoMemory)),
-        Err(WordsFault::Words(error)) => {
+/// Says what is wrong with the words on the standard error, and gives the status of that.
+fn refuse<R: Print + Eprint>(rt: &R, fault: WordsFault) -> ExitCode
+    ensures { exit_status result ≡ words_status fault }
+{
+    match fault {
+        WordsFault::NoMemory => end(rt, Err(ProgramFault::NoMemory)),
+        WordsFault::NotText => {
+            let _ = rt.eprintln("wormrun: a word is not UTF-8");
+            ExitCode::from(2)
+        }
+        WordsFault::Words(error) => {
             let _ = error.print(rt);
             ExitCode::from(2)
         }
     }
 }
 
-fn main(rt: HostRuntime) -> ExitCode {
-    let Ok(all) = std::env::args(&rt) else {
-        return status_of(&rt, Err(ProgramFault::NoMemory));
+/// Reads the words, the program's name first, and runs the program that they ask for.
+fn run_words<R: Files + Input + Print + Eprint + AllocGlobal>(rt: &R, words: &[&str]) -> ExitCode {
+    if words.len() < 2 {
+        let mut input = rt.reader();
+        let mut out = io::writer(rt);
+        return end(rt, run_joined(rt.alloc(), &mut input, &mut out));
+    }
+    match read_words(rt.alloc(), words) {
+        Ok(words) => end(rt, run_files(rt, &words)),
+        Err(fault) => refuse(rt, fault),
+    }
+}
+
+/// Runs the program on the words of the command line.
+fn run<R: Env + Files + Input + Print + Eprint + AllocGlobal>(rt: &R) -> ExitCode {
+    let all = match all_words(rt) {
+        Ok(all) => all,
+        Err(fault) => return refuse(rt, fault),
     };
     let alloc: Global = rt.alloc();
-    let Ok(all) = all.collect::<Vec<String>>(alloc) else {
-        return status_of(&rt, Err(ProgramFault::NoMemory));
-    };
     let Ok(words) = all
         .iter()
         .map(|word| word.as_str())
         .collect::<Vec<&str>>(alloc)
     else {
-        return status_of(&rt, Err(ProgramFault::NoMemory));
+        return refuse(rt, WordsFault::NoMemory);
     };
-    run_words(&rt, words.as_slice())
+    run_words(rt, words.as_slice())
+}
+
+fn main(rt: HostRuntime) -> ExitCode {
+    run(&rt)
 }
 
 #[cfg(test)]

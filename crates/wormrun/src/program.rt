@@ -46,7 +46,9 @@ fn read_both<N: Read, F: Read>(
     traffic: &mut F,
 ) -> Result<Texts, ProgramFault>
     ensures ok { IfOk result (λ t. GaveBoth (stream (N.remaining network.old) (N.remaining network.new)) (stream (F.remaining traffic.old) (F.remaining traffic.new)) t.network.items t.traffic.items) }
-    ensures err { IfErr result (ReadsNot (stream (N.remaining network.old) (N.remaining network.new))) }
+    ensures err { IfErr result
+        (ReadsNot (stream (N.remaining network.old) (N.remaining network.new))
+        (stream (F.remaining traffic.old) (F.remaining traffic.new))) }
 {
     let network = match read_text(alloc, network) {
         Ok(text) => text,
@@ -118,7 +120,7 @@ fn summary_of(net: &Net, script: &Script, turns: u64, drain: u64, ending: &Endin
 }
 
 /// Writes the report of a run that ended with this fault, if with any. Want of memory in the run is told after the report.
-fn report_run<W: Write>(
+pub fn report_run<W: Write>(
     alloc: Global,
     net: &Net,
     summary: &Summary,

@@ -6,6 +6,8 @@ ghost use Rattle.wormrun.specs.Ranges.{InRange};
 use clap::error::ErrorKind;
 use clap::{Arg, ArgAction, ArgMatches, Command, Error, value_parser};
 use std::alloc::{AllocError, Global};
+use std::io;
+use std::rt::Env;
 
 /// How to run.
 #[derive(Clone, Copy, PartialEq, Eq, Debug)]
@@ -34,6 +36,8 @@ pub struct Words<'a> {
 pub enum WordsFault {
     /// They are not those that the program knows, or a number is out of its range.
     Words(Error),
+    /// One of them is not UTF-8.
+    NotText,
     /// There was no memory.
     NoMemory,
 }
@@ -52,6 +56,22 @@ impl From<Error> for WordsFault {
             WordsFault::Words(error)
         }
     }
+}
+
+impl From<io::Error> for WordsFault {
+    fn from(error: io::Error) -> WordsFault {
+        if error.kind() == io::ErrorKind::OutOfMemory {
+            WordsFault::NoMemory
+        } else {
+            WordsFault::NotText
+        }
+    }
+}
+
+/// All words of the command line, the program's name first.
+pub fn all_words<R: Env + AllocGlobal>(rt: &R) -> Result<Vec<String>, WordsFault> {
+    let words = std::env::args(rt)?.collect::<Vec<String>>(rt.alloc())?;
+    Ok(words)
 }
 
 fn command<'a>(alloc: Global) -> Result<Command<'a>, AllocError> {

@@ -1,6 +1,6 @@
 //! Writers that are full, slow or broken, and memory that runs out.
 
-use super::networks::{lane, network, packet, run, script, summary};
+use super::networks::{lane, network, offer, packet, run, script, summary};
 use crate::{ReportFault, write_report};
 use std::alloc::Global;
 use std::io;
@@ -67,6 +67,70 @@ impl Write for Broken {
     fn flush(&mut self) -> io::Result<()> {
         Ok(())
     }
+}
+
+/// Takes all it is given, and fails from a call on.
+#[derive(Drop)]
+struct Pages {
+    taken: Vec<u8>,
+    calls: usize,
+    fails_at: usize,
+}
+
+impl Write for Pages {
+    fn write(&mut self, buf: &[u8]) -> io::Result<usize> {
+        self.calls = self.calls.saturating_add(1);
+        if self.calls > self.fails_at {
+            return Err(io::Error::from(ErrorKind::Interrupted));
+        }
+        match self.taken.extend_from_slice(buf) {
+            Ok(()) => Ok(buf.len()),
+            Err(_) => Err(io::Error::from(ErrorKind::OutOfMemory)),
+        }
+    }
+
+    fn flush(&mut self) -> io::Result<()> {
+        Ok(())
+    }
+}
+
+/// A network in which 500 packets of one flit wait at their source, and its report.
+fn many_wait(alloc: Global) -> Result<(Net, Vec<u8>), Fail> {
+    let mut net = network(alloc, &[2], 2, &[1])?;
+    let mut text = Vec::new(alloc);
+    text.extend_from_slice(b"wormreport 1\nturns 0 workers 1 drain 0\n")?;
+    for packet in 0..500 {
+        net.step(&offer(lane(0, 1, 0), &[packet])?)?;
+        let line = format!(in alloc; "underway 0 1 class 0 packet {packet} flit 0 source\n")?;
+        text.extend_from_slice(line.as_bytes())?;
+    }
+    let sums = b"not offered 0\ntotal injected 500 delivered 0 underway 500\n";
+    text.extend_from_slice(sums)?;
+    Ok((net, text))
+}
+
+/// A report of 23 kB goes out in three calls; a writer that fails in the second has the first page alone, and is not
+/// asked again.
+#[test]
+fn a_long_report_goes_out_page_by_page(rt: HostRuntime) -> Result<(), Fail> {
+    let (net, text) = many_wait(rt.alloc())?;
+    for (fails_at, wanted) in [(9, Ok(())), (1, Err(ReportFault::Write))] {
+        let mut out = Pages {
+            taken: Vec::new(rt.alloc()),
+            calls: 0,
+            fails_at,
+        };
+        let answer = write_report(rt.alloc(), &net, &summary(0, 0), &mut out);
+        assert_eq!(rt; answer, wanted);
+        let gone = out.taken.len();
+        assert!(rt; gone <= text.len());
+        assert_eq!(rt; out.taken.as_slice(), &text.as_slice()[..gone]);
+        match answer {
+            Ok(()) => assert!(rt; gone == text.len() && out.calls == 3),
+            Err(_) => assert!(rt; 8192 <= gone && gone <= 8448 && out.calls == 2),
+        }
+    }
+    Ok(())
 }
 
 /// A writer that takes so many bytes and then none is given exactly these.

@@ -8,7 +8,7 @@ ghost use Rattle.worm_swalloc.specs.SwAlloc.{IsSwitchMatching};
 ghost use Rattle.worm_router.specs.Router.{IsPlace, IsRouter, terminal, width, input_at, output_at, after_grant};
 ghost use Rattle.worm_router.specs.Tables.{PutsRow};
 ghost use Rattle.worm_router.specs.Allocation.{request_at, requests, is_free, free_channels, HasNoChoice, IsFirstChoice, IsHopeful, IsSoleHope, requests_among, IsAllocated, ready_at, ready_outs, GrantsNothing, GrantsWithin, written, channel_pass, after_allocate, with_port_grants, with_grants, switch_grants, after_choose};
-ghost use Rattle.worm_router.specs.Allocation.{IsSameSize};
+ghost use Rattle.worm_router.specs.Allocation.{AreHeld, IsSameSize};
 
 use crate::router::Router;
 use worm_records::InRecord;
@@ -196,6 +196,7 @@ impl Router {
         ensures after { self.new ≡ after_allocate self.old }
         ensures same { IsSameSize self.old self.new }
         ensures matching { IsChannelMatching (terminal self.old + 1) (width self.old) (requests self.old) (free_channels self.old) result }
+        ensures held { AreHeld self.old self.new result }
     {
         if self.grants_nothing() {
             return VcGrants::new();

@@ -2,7 +2,7 @@
 
 ghost use Rattle.std.specs.Prelude.{◌≡◌, IsTrue, None, replicate};
 ghost use Rattle.worm_router.specs.Allocation.{after_allocate, switch_grants, after_choose};
-ghost use Rattle.worm_router.specs.Rest.{RoutesNothing, OwesNothing, IsAtRest};
+ghost use Rattle.worm_router.specs.Rest.{RoutesNothing, SendsNothing, OwesNothing, IsAtRest};
 
 use crate::router::Router;
 
@@ -38,6 +38,7 @@ impl Router {
 
     /// Whether no channel may send.
     pub fn sends_nothing(&self) -> bool
+        ensures nothing { IsTrue result → SendsNothing self.now }
         ensures chooses { IsTrue result → after_choose self.now ≡ self.now }
         ensures grants { IsTrue result → switch_grants self.now ≡ replicate 7 None }
     {

@@ -8,7 +8,7 @@ fn refuses<'a>(rt: &impl Abort, alloc: Global, words: &'a [&'a str]) {
     }
     match read_words(alloc, words) {
         Err(WordsFault::Words(error)) => assert_eq!(rt; error.exit_code(), 2),
-        Err(WordsFault::NoMemory) => panic!(rt; "no memory"),
+        Err(fault) => panic!(rt; "{fault:?}"),
         Ok(_) => panic!(rt; "accepted {words:?}"),
     }
 }

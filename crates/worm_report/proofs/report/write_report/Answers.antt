@@ -1,11 +1,16 @@
-use Rattle.std.proofs.Common.{[], ◌++◌}
-use Rattle.std.proofs.lemmas.List.{append-nil}
+use Rattle.std.proofs.Common.{sym, subst, ◌++◌}
 use Rattle.worm_report.specs.Seen.{seen}
-use Rattle.worm_report.specs.Report.{opening_rows, flits_rows, closing_rows}
-use Rattle.worm_report.proofs.Written.{rows_then, same_rows}
+use Rattle.worm_report.specs.Report.{opening_rows, flits_rows, closing_rows, report}
+use Rattle.worm_report.specs.Writing.{Writes}
+use Rattle.worm_report.proofs.Written.{Answer, report_closed}
 use Rattle.worm_report.proofs.report.write_report.Goals as goal
 
 pub returns : goal.returns
 returns g c =
-    let rows = opening_rows c.args.summary.now ++ flits_rows (seen c.args.net.now) ++ closing_rows (seen c.args.net.now) c.args.summary.now in
-    (same_rows (rows ++ []) rows (append-nil rows) (rows_then rows [] c.in_ok-put_report.ensures c.flush.ensures)).text
+    let net = seen c.args.net.now in
+    let rows = opening_rows c.args.summary.now ++ flits_rows net ++ closing_rows net c.args.summary.now in
+    subst (λ (r : Answer). Writes (g.W.Write.contents c.args.out.now) (g.W.Write.contents c.close-closed.new.out) r
+    (report net c.args.summary.now))
+    (sym c.and.ensures)
+    (report_closed c.in_ok-page.page c.put_report-made.new.page rows c.in_ok-page.ensures.ok c.put_report-made.ensures
+    c.close-closed.ensures)

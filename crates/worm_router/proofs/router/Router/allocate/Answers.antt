@@ -1,5 +1,6 @@
 use Rattle.std.proofs.Common.{refl, sym, ◌∙◌}
 use Rattle.worm_router.proofs.Hopeful.{none_hopeful, sole_hope, vain_allocated}
+use Rattle.worm_router.proofs.Granting.{none_held, pass_held}
 use Rattle.worm_router.proofs.router.Router.allocate.Goals as goal
 
 pub returns-then-grants_nothing-clause-grants : goal.returns-then-grants_nothing-clause-grants
@@ -33,3 +34,22 @@ pub returns-in-None-clause-matching : goal.returns-in-None-clause-matching
 returns-in-None-clause-matching c =
     let none = none_hopeful c.args.self.now c.hopeful-hopeful.result c.hopeful-hopeful.ensures.sound c.hopeful-hopeful.ensures.hopeful c.in-None.ensures.0 in
     (vain_allocated c.args.self.now c.file_in_vain.new.self c.new-in-None.result none c.file_in_vain.ensures c.new-in-None.ensures).matching
+
+pub returns-then-grants_nothing-clause-held : goal.returns-then-grants_nothing-clause-held
+returns-then-grants_nothing-clause-held c = none_held c.args.self.now c.args.self.now c.new.result c.new.ensures
+
+pub returns-in-None-clause-held : goal.returns-in-None-clause-held
+returns-in-None-clause-held c = none_held c.args.self.now c.file_in_vain.new.self c.new-in-None.result
+    c.new-in-None.ensures
+
+pub returns-in-Some-clause-held : goal.returns-in-Some-clause-held
+returns-in-Some-clause-held c =
+    let known = c.hopeful-hopeful.ensures in
+    pass_held c.args.self.now c.grant_sole.new.self c.grant_sole.result known.few_ports known.few_channels known.sound
+    c.grant_sole.ensures
+
+pub returns-in-Some-2-clause-held : goal.returns-in-Some-2-clause-held
+returns-in-Some-2-clause-held c =
+    let known = c.hopeful-hopeful.ensures in
+    pass_held c.args.self.now c.grant_among.new.self c.grant_among.result known.few_ports known.few_channels
+    known.sound c.grant_among.ensures

@@ -1,6 +1,6 @@
 use Rattle.std.proofs.Common.{◌≡◌, ◌≤◌, ◌+◌, ◌-◌, [], take, drop}
 use Rattle.wormrun.specs.Joined.{network_len}
-use Rattle.wormrun.proofs.joined.network_end.Given as goal
+use Rattle.wormrun.proofs.joined.walk_lines.Given as goal
 
 abbrev pub invariant-loop-at : goal.invariant-loop-at
 invariant-loop-at l =

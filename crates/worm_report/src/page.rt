@@ -1,0 +1,80 @@
+//! The lines that wait to be written together: a writer is called once a page, and not once a line.
+
+ghost use Rattle.std.specs.Prelude.{◌≡◌, ◌++◌, [], List, ℕ, IfOk, IfErr, OnOk, OnErr};
+ghost use Rattle.worm_report.specs.Rows.{row_text};
+
+use crate::line::Line;
+use crate::row::Row;
+use crate::summary::ReportFault;
+use std::alloc::Global;
+use std::marker::Model;
+
+/// A page with so many bytes is full.
+const FULL: usize = 8192;
+
+/// The room beyond them, for the line that fills it.
+const LAST_LINE: usize = 256;
+
+/// Lines that the writer has yet to be given.
+#[derive(Drop)]
+pub struct Page {
+    bytes: Vec<u8>,
+    /// The room in which the next line is made.
+    line: Line,
+}
+
+impl Model for Page {
+    ghost Value = { List ℕ };
+
+    ghost view = { λ s. s.bytes.items };
+}
+
+impl Page {
+    /// An empty page, with its room: lines that are put on it ask for no memory.
+    pub fn new(alloc: Global) -> Result<Page, ReportFault>
+        ensures ok { IfOk result (λ page. page ≡ []) }
+        ensures err { IfErr result (λ fault. fault ≡ ReportFault.NoMemory) }
+    {
+        match Vec::with_capacity(alloc, FULL + LAST_LINE) {
+            Ok(bytes) => Ok(Page {
+                bytes,
+                line: Line::new(alloc),
+            }),
+            Err(_) => Err(ReportFault::NoMemory),
+        }
+    }
+
+    /// Its bytes.
+    pub fn as_bytes(&self) -> &[u8]
+        ensures { result.now ≡ self.now }
+    {
+        self.bytes.as_slice()
+    }
+
+    /// Whether it is to be written before the next line.
+    pub fn is_full(&self) -> bool {
+        self.bytes.len() >= FULL
+    }
+
+    /// An empty page again, in the same room.
+    pub fn clear(&mut self)
+        ensures { self.new ≡ [] }
+    {
+        self.bytes.clear();
+    }
+
+    /// Puts the line of a row behind the others.
+    pub fn add(&mut self, row: Row) -> Result<(), ReportFault>
+        ensures ok { OnOk result (self.new ≡ self.old ++ row_text row) }
+        ensures err { OnErr result (self.new ≡ self.old) }
+        ensures fault { IfErr result (λ fault. fault ≡ ReportFault.NoMemory) }
+    {
+        match self.line.set(row) {
+            Ok(()) => match self.bytes.extend_from_slice(self.line.as_bytes()) {
+                Ok(()) => Ok(()),
+                Err(_) => Err(ReportFault::NoMemory),
+            },
+            Err(_) => Err(ReportFault::NoMemory),
+        }
+    }
+}

@@ -1,0 +1,167 @@
+//! The whole program on a runtime of the tests' own: what it opens, prints and says, and its status.
+
+use crate::run;
+use crate::tests::desk::Desk;
+use crate::tests::runs::{TWO_NODES, TWO_WORDS};
+use std::alloc::Global;
+use std::cell::RefCell;
+use std::process::{Abort, ExitCode};
+use std::test::Fail;
+
+/// The network and the traffic, and a text that is neither.
+const FILES: &[(&str, &[u8])] = &[("n", TWO_NODES), ("t", TWO_WORDS), ("x", b"x\n")];
+
+/// Both texts in one input.
+const JOINED: &[u8] =
+    b"wormnet 1\nradix 2\ndims 1\ndepth 2\nclass data\nend\nwormtraffic 1\nsend 0 0 1 data 17 18\nend\n";
+
+const ONE_TURN: &str =
+    "wormreport 1\nturns 1 workers 1 drain 0\ndelivered 1 from 0 class 0 packet 0 flit 0 word 17\nunderway 0 1 class 0 packet 0 flit 1 source\nnot offered 0\ntotal injected 2 delivered 1 underway 1\n";
+
+const A_HUNDRED_TURNS: &str =
+    "wormreport 1\nturns 100 workers 1 drain 0\ndelivered 1 from 0 class 0 packet 0 flit 0 word 17\ndelivered 1 from 0 class 0 packet 0 flit 1 word 18\nnot offered 0\ntotal injected 2 delivered 2 underway 0\n";
+
+/// What was kept is this text.
+fn kept(rt: &impl Abort, kept: &RefCell<Vec<u8>>, wanted: &str) {
+    match kept.try_borrow() {
+        Ok(kept) => assert_eq!(rt; kept.as_slice(), wanted.as_bytes(), "{wanted}"),
+        Err(_) => panic!(rt; "in use"),
+    }
+}
+
+/// The program on these words, and on both texts as its standard input, ends with this status, and opens, prints and
+/// says this.
+fn ends(
+    rt: &impl Abort,
+    alloc: Global,
+    words: &'static [&'static [u8]],
+    status: u8,
+    opened: &str,
+    printed: &str,
+    said: &str,
+) {
+    let desk = Desk::new(alloc, words, FILES, JOINED);
+    assert_eq!(rt; run(&desk), ExitCode::from(status));
+    kept(rt, &desk.opened, opened);
+    kept(rt, &desk.printed, printed);
+    kept(rt, &desk.said, said);
+}
+
+#[test]
+fn two_files_are_run(rt: HostRuntime) {
+    let words: &[&[u8]] = &[b"wormrun", b"n", b"t", b"--turns", b"1"];
+    ends(&rt, rt.alloc(), words, 0, "n\nt\n", ONE_TURN, "");
+    let words: &[&[u8]] = &[b"wormrun", b"--turns", b"100", b"n", b"t"];
+    ends(&rt, rt.alloc(), words, 0, "n\nt\n", A_HUNDRED_TURNS, "");
+}
+
+#[test]
+fn no_words_run_the_joined_input(rt: HostRuntime) {
+    ends(&rt, rt.alloc(), &[b"wormrun"], 0, "", A_HUNDRED_TURNS, "");
+    ends(&rt, rt.alloc(), &[], 0, "", A_HUNDRED_TURNS, "");
+}
+
+#[test]
+fn files_that_are_not_there(rt: HostRuntime) {
+    let words: &[&[u8]] = &[b"wormrun", b"m", b"t", b"--turns", b"1"];
+    ends(
+        &rt,
+        rt.alloc(),
+        words,
+        5,
+        "m\n",
+        "",
+        "wormrun: cannot read network\n",
+    );
+    let words: &[&[u8]] = &[b"wormrun", b"n", b"m", b"--turns", b"1"];
+    ends(
+        &rt,
+        rt.alloc(),
+        words,
+        5,
+        "n\nm\n",
+        "",
+        "wormrun: cannot read traffic\n",
+    );
+}
+
+#[test]
+fn texts_that_are_refused(rt: HostRuntime) {
+    let words: &[&[u8]] = &[b"wormrun", b"x", b"t", b"--turns", b"1"];
+    ends(
+        &rt,
+        rt.alloc(),
+        words,
+        3,
+        "x\nt\n",
+        "",
+        "wormrun: network line 1: header\n",
+    );
+    let words: &[&[u8]] = &[b"wormrun", b"n", b"x", b"--turns", b"1"];
+    ends(
+        &rt,
+        rt.alloc(),
+        words,
+        4,
+        "n\nx\n",
+        "",
+        "wormrun: traffic line 1: header\n",
+    );
+    let words: &[&[u8]] = &[b"wormrun", b"t", b"n", b"--turns", b"1"];
+    ends(
+        &rt,
+        rt.alloc(),
+        words,
+        3,
+        "t\nn\n",
+        "",
+        "wormrun: network line 1: header\n",
+    );
+}
+
+#[test]
+fn a_word_that_is_no_text(rt: HostRuntime) {
+    let said = "wormrun: a word is not UTF-8\n";
+    let words: &[&[u8]] = &[b"wormrun", b"n", b"\xff", b"--turns", b"1"];
+    ends(&rt, rt.alloc(), words, 2, "", "", said);
+    ends(&rt, rt.alloc(), &[b"wormrun", b"\xc3"], 2, "", "", said);
+}
+
+/// Words that are not the program's: status 2, something is said, nothing is opened or printed.
+#[test]
+fn words_that_are_not_known(rt: HostRuntime) {
+    let all: [&'static [&'static [u8]]; 3] = [
+        &[b"wormrun", b"n"],
+        &[b"wormrun", b"n", b"t", b"--turns", b"1", b"--speed", b"1"],
+        &[b"wormrun", b"n", b"t", b"--turns", b"x"],
+    ];
+    for words in all {
+        let desk = Desk::new(rt.alloc(), words, FILES, JOINED);
+        assert_eq!(rt; run(&desk), ExitCode::from(2));
+        kept(&rt, &desk.opened, "");
+        kept(&rt, &desk.printed, "");
+        match desk.said.try_borrow() {
+            Ok(said) => assert!(rt; !said.is_empty()),
+            Err(_) => panic!(rt; "in use"),
+        }
+    }
+}
+
+#[test]
+fn an_output_that_is_full(rt: HostRuntime) -> Result<(), Fail> {
+    let words: [&'static [&'static [u8]]; 2] = [
+        &[b"wormrun", b"n", b"t", b"--turns", b"1"],
+        &[b"wormrun"],
+    ];
+    for words in words {
+        let desk = Desk::new(rt.alloc(), words, FILES, JOINED);
+        desk.room.set(20);
+        assert_eq!(rt; run(&desk), ExitCode::from(8));
+        kept(&rt, &desk.said, "wormrun: report not written\n");
+        match desk.printed.try_borrow() {
+            Ok(printed) => assert_eq!(rt; printed.len(), 20),
+            Err(_) => panic!(rt; "in use"),
+        }
+    }
+    Ok(())
+}
