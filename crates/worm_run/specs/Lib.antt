@@ -1,3 +1,6 @@
 pub mod Ends
 pub mod PartState
 pub mod PartTurns
+pub mod Exchange
+pub mod Splits
+pub mod Joins
