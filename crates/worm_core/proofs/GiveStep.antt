@@ -42,7 +42,7 @@ owed_bridge s x p v framed place =
     input_bridge s x p v (record c { owed = c.owed - 1 }) place.node_in place.place (framed.each_node x place.node_in).all_inputs ∙ same
 
 -- the credits of each channel below n are all credits
-credits_counted : (n : ℕ) (cs : List ℕ) → All (λ c. c < n) cs → sum_below (λ v. count_by (λ k. v == k) cs) n ≡ length cs
+pub credits_counted : (n : ℕ) (cs : List ℕ) → All (λ c. c < n) cs → sum_below (λ v. count_by (λ k. v == k) cs) n ≡ length cs
 credits_counted n [] all = sum_none n
 credits_counted n (c ∷ cs) all =
     let rest = credits_counted n cs (All-tail (λ (d : ℕ). d < n) c cs all) in

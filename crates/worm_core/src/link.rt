@@ -68,6 +68,16 @@ fn put_first<T: Copy>(list: &mut Vec<T>, first: Option<T>)
     }
 }
 
+/// Makes both the smaller of the two.
+fn keep_least(a: &mut u16, b: &mut u16)
+    ensures this { a.new ≡ min a.old b.old }
+    ensures that { b.new ≡ min a.old b.old }
+{
+    let least = (*a).min(*b);
+    *a = least;
+    *b = least;
+}
+
 impl LinkState {
     /// A link with nothing on it, and room for so many flits and so many credits.
     pub fn new(alloc: Global, room: u16) -> Result<LinkState, AllocError>
@@ -229,9 +239,7 @@ impl LinkState {
         ensures this { self.new ≡ record self.old { flits = other.old.flits; room = min self.old.room other.old.room } }
         ensures that { other.new ≡ record other.old { flits = self.old.flits; room = min self.old.room other.old.room } }
     {
-        let room = self.room.min(other.room);
-        self.room = room;
-        other.room = room;
+        keep_least(&mut self.room, &mut other.room);
         swap(&mut self.front, &mut other.front);
         swap(&mut self.has_more, &mut other.has_more);
         swap(&mut self.flits, &mut other.flits);
@@ -242,9 +250,7 @@ impl LinkState {
         ensures this { self.new ≡ record self.old { credits = other.old.credits; room = min self.old.room other.old.room } }
         ensures that { other.new ≡ record other.old { credits = self.old.credits; room = min self.old.room other.old.room } }
     {
-        let room = self.room.min(other.room);
-        self.room = room;
-        other.room = room;
+        keep_least(&mut self.room, &mut other.room);
         swap(&mut self.front_credit, &mut other.front_credit);
         swap(&mut self.has_more_credits, &mut other.has_more_credits);
         swap(&mut self.credits, &mut other.credits);

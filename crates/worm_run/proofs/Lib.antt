@@ -7,3 +7,12 @@ pub mod PartMoves
 pub mod Pulls
 pub mod Seen
 pub mod Within
+pub mod Swapping
+pub mod Meeting
+pub mod Gathered
+pub mod Emptying
+pub mod JoinLinks
+pub mod Items
+pub mod JoinNet
+pub mod Lines
+pub mod JoinState

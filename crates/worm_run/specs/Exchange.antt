@@ -35,7 +35,7 @@ pub record SwapsLink (near far : Bool) (a b new_a new_b : LinkView) : Type 0 whe
 
 -- a worker's end changes places with the one of the line that is the worker's, where just one node of the link is
 pub record SwapsEnd (near far : Bool) (line : Line) (end : End) (new_line : Line) (new_end : End) : Type 0 where
-  pub end : new_end ≡ cond near (cond far end line.out) (cond far line.into end)
+  pub own_end : new_end ≡ cond near (cond far end line.out) (cond far line.into end)
   pub out : new_line.out ≡ cond near (cond far line.out end) line.out
   pub into : new_line.into ≡ cond near line.into (cond far end line.into)
 

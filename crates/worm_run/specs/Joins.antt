@@ -2,12 +2,13 @@
 -- queue still held.
 use Rattle.std.specs.Prelude.{◌≡◌, ℕ, ◌+◌, ◌<◌, ◌≤◌, ◌%◌, List, [], ◌++◌, length, slice_index_or, Some}
 use Rattle.worm_mesh.specs.Address.{node_count}
+use Rattle.worm_mesh.specs.declared.mesh.LinkEnds.{LinkEnds}
 use Rattle.worm_flit.specs.declared.Flit.{Flit}
 use Rattle.worm_links.specs.Links.{TxView, RxView, CreditTxView, CreditRxView}
 use Rattle.worm_theory.specs.Growth.{SinksGrow, SourcesGrow}
 use Rattle.worm_core.specs.Headline.{NothingFollowsMarks}
 use Rattle.worm_core.specs.Owned.{sole}
-use Rattle.worm_core.specs.State.{NetState, LinkView, blank_link, link_at, network_of, node_at, shape}
+use Rattle.worm_core.specs.State.{NetState, IsFramed, LinkView, blank_link, link_at, network_of, node_at, shape}
 use Rattle.worm_core.specs.declared.node.Node.{Node}
 use Rattle.worm_core.specs.declared.own.Own.{Own}
 use Rattle.worm_run.specs.declared.ends.End.{End}
@@ -17,7 +18,8 @@ use Rattle.worm_run.specs.Ends.{end_at, line_at}
 use Rattle.worm_run.specs.PartState.{PartState, IsPart, HasConfigOf, part_network, returned_to, taken_by}
 use Rattle.worm_run.specs.declared.exchange.Kept.{Kept}
 use Rattle.worm_run.specs.Exchange.{way_at}
-use Rattle.worm_run.specs.Splits.{IsApart, part_at}
+use Rattle.worm_run.specs.Apart.{IsApart}
+use Rattle.worm_run.specs.Splits.{part_at}
 
 -- the parts of one split, one for each worker in rising number
 pub record AreParts (parts : List PartState) : Type 0 where
@@ -26,6 +28,10 @@ pub record AreParts (parts : List PartState) : Type 0 where
   pub one_opening : (w : ℕ) → w < length parts → (part_at parts w).opening ≡ (part_at parts 0).opening
   pub one_split : (w : ℕ) → w < length parts → (part_at parts w).lines ≡ (part_at parts 0).lines
 
+-- the link's nodes are of two workers
+abbrev pub IsBetween : ℕ → List LinkEnds → ℕ → Type 0
+IsBetween workers ways k = (way_at ways k).from % workers ≡ (way_at ways k).to % workers → ⊥
+
 -- the part of the worker who owns the node
 abbrev pub owner_of : List PartState → ℕ → PartState
 owner_of parts x = part_at parts (x % length parts)
@@ -33,18 +39,18 @@ owner_of parts x = part_at parts (x % length parts)
 -- A network taken apart to which the workers from this one on have put back what is theirs.
 pub record IsGathered (parts : List PartState) (from : ℕ) (kept : Kept) : Type 0 where
   pub apart : IsApart (part_at parts 0).opening kept
-  pub parts_hold : (w : ℕ) → from ≤ w → w < length parts → IsPart (part_at parts w)
-  pub nodes : (x : ℕ) → x < length kept.nodes.items → from ≤ x % length parts → (n : Node) →
+  pub parts_hold : (w : ℕ) → from ≤ w → w < length parts → IsPart (part_at parts w) × IsFramed (part_at parts w).net
+  pub nodes : (x : ℕ) → from ≤ x % length parts → (n : Node) →
       slice_index_or kept.nodes.items x n ≡ slice_index_or (owner_of parts x).net.nodes x n
-  pub flits : (k : ℕ) → k < length kept.links.items → let x = (way_at kept.ways.items k).to in from ≤ x % length parts →
+  pub flits : (k : ℕ) → let x = (way_at kept.ways.items k).to in from ≤ x % length parts →
       (slice_index_or kept.links.items k blank_link).flits ≡ (link_at (owner_of parts x).net k).flits
-  pub credits : (k : ℕ) → k < length kept.links.items → let y = (way_at kept.ways.items k).from in from ≤ y % length parts →
+  pub credits : (k : ℕ) → let y = (way_at kept.ways.items k).from in from ≤ y % length parts →
       (slice_index_or kept.links.items k blank_link).credits ≡ (link_at (owner_of parts y).net k).credits
-  pub outs : (k : ℕ) → k < length kept.lines.items → let way = way_at kept.ways.items k in
-      (way.from % length parts ≡ way.to % length parts → ⊥) → from ≤ way.from % length parts →
+  pub outs : (k : ℕ) → let way = way_at kept.ways.items k in
+      IsBetween (length parts) kept.ways.items k → from ≤ way.from % length parts →
       (line_at kept.lines.items k).out ≡ end_at (owner_of parts way.from).ends k
-  pub intos : (k : ℕ) → k < length kept.lines.items → let way = way_at kept.ways.items k in
-      (way.from % length parts ≡ way.to % length parts → ⊥) → from ≤ way.to % length parts →
+  pub intos : (k : ℕ) → let way = way_at kept.ways.items k in
+      IsBetween (length parts) kept.ways.items k → from ≤ way.to % length parts →
       (line_at kept.lines.items k).into ≡ end_at (owner_of parts way.to).ends k
 
 -- what a queue still held stands behind the link's flits, or its credits, if there is room
@@ -87,12 +93,13 @@ AreOfOne (Leaving tx back) (Leaving tx2 back2) = Unit {0}
 AreOfOne (Leaving tx back) (Entering rx give) = (tx.queue ≡ rx.queue) × (give.queue ≡ back.queue)
 AreOfOne (Entering rx give) into = Unit {0}
 
--- the links up to this one are emptied
-pub record AreEmptied (count : ℕ) (lines : List Line) (old new : List LinkView) : Type 0 where
+-- the links up to this one between two workers are emptied
+pub record AreEmptied (workers count : ℕ) (ways : List LinkEnds) (lines : List Line) (old new : List LinkView) : Type 0 where
   pub same_length : length new ≡ length old
-  pub done : (k : ℕ) → k < count →
+  pub done : (k : ℕ) → k < count → IsBetween workers ways k →
       IsEmptied (line_at lines k).out (line_at lines k).into (slice_index_or old k blank_link) (slice_index_or new k blank_link)
-  pub rest : (k : ℕ) → count ≤ k → slice_index_or new k blank_link ≡ slice_index_or old k blank_link
+  pub within : (k : ℕ) → (way_at ways k).from % workers ≡ (way_at ways k).to % workers →
+      slice_index_or new k blank_link ≡ slice_index_or old k blank_link
 
 -- The link by port o of node y: what the owner of its far end has of it, and then what its queue still held; its credit line likewise. There
 -- is no queue within one worker's part.

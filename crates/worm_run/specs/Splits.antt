@@ -1,15 +1,12 @@
 -- A network split among workers: what each has at first, and what the last of them keeps.
-use Rattle.std.specs.Prelude.{◌≡◌, ℕ, ◌+◌, ◌*◌, ◌<◌, ◌≤◌, ◌%◌, List, [], length, sum, replicate, slice_index_or, Option, Some, None, All, true, vec_capacity}
+use Rattle.std.specs.Prelude.{◌≡◌, ℕ, ◌*◌, ◌<◌, ◌≤◌, ◌%◌, List, [], length, sum, replicate, slice_index_or, All, true, vec_capacity}
 use Rattle.worm_mesh.specs.Address.{node_count}
-use Rattle.worm_mesh.specs.Ends.{AreEndsOf}
 use Rattle.worm_mesh.specs.Links.{link_count}
 use Rattle.worm_mesh.specs.declared.mesh.LinkEnds.{LinkEnds}
 use Rattle.worm_core.specs.NewNet.{AreFresh, empty_link}
 use Rattle.worm_core.specs.Owned.{sole}
 use Rattle.worm_core.specs.Parts.{IsConfigOf}
-use Rattle.worm_core.specs.State.{NetState, LinkView, blank_link, net_state, network_of, node_at, shape, texts_of}
-use Rattle.worm_core.specs.declared.config.Config.{Config}
-use Rattle.worm_core.specs.declared.node.Node.{Node}
+use Rattle.worm_core.specs.State.{NetState, net_state, network_of, node_at, shape, texts_of}
 use Rattle.worm_core.specs.declared.own.Own.{Own}
 use Rattle.worm_parts.specs.Openings.{past_of}
 use Rattle.worm_parts.specs.Region.{Begins}
@@ -20,31 +17,9 @@ use Rattle.worm_run.specs.declared.exchange.Kept.{Kept}
 use Rattle.worm_run.specs.declared.making.Rooms.{Rooms}
 use Rattle.worm_run.specs.declared.making.Seat.{Seat}
 use Rattle.worm_run.specs.Ends.{AreEndsMade, line_at}
+use Rattle.worm_run.specs.Apart.{AreWays, IsApart}
 use Rattle.worm_run.specs.Exchange.{way_at}
 use Rattle.worm_run.specs.PartState.{PartState, HasConfigOf, owns, part_network}
-
--- the two nodes of each link, by the link's number
-pub record AreWays (mesh : List ℕ) (ways : List LinkEnds) : Type 0 where
-  pub all : length ways ≡ link_count mesh
-  pub each : (k : ℕ) → k < length ways → AreEndsOf mesh k (way_at ways k)
-
--- links all of which have room for what their channels may hold
-abbrev pub HaveRoom : NetState → List LinkView → Type 0
-HaveRoom s links = (k : ℕ) → k < length links → sum s.channels * s.depth ≤ (slice_index_or links k blank_link).room
-
--- the lists of a network of this configuration, taken apart
-pub record IsApart (s : NetState) (kept : Kept) : Type 0 where
-  pub config : IsConfigOf s kept.config
-  pub ways : AreWays s.mesh kept.ways.items
-  pub all_nodes : length kept.nodes.items ≡ node_count s.mesh
-  pub all_links : length kept.links.items ≡ link_count s.mesh
-  pub rooms : HaveRoom s kept.links.items
-  pub all_lines : length kept.lines.items ≡ link_count s.mesh
-
--- the last worker has them, and what anyone has is such
-abbrev pub IsKept : NetState → Own → Option Kept → Type 0
-IsKept s own None = own.worker + 1 ≡ own.workers → ⊥
-IsKept s own (Some kept) = IsApart s kept
 
 -- both ends of a link as they are made, where its nodes are of two workers
 abbrev pub IsLineMade : NetState → ℕ → LinkEnds → Line → Type 0
@@ -63,7 +38,7 @@ pub record IsSeat (s : NetState) (lines : List Line) (seat : Seat) : Type 0 wher
   pub links : seat.links.items ≡ replicate (link_count s.mesh) (empty_link (sum s.channels * s.depth))
   pub ends : seat.ends.items ≡ replicate (link_count s.mesh) Inner
   pub opening : seat.opening.value ≡ s
-  pub lines : seat.lines.value.items ≡ lines
+  pub made : seat.lines.value.items ≡ lines
 
 -- all that the parts need
 pub record AreRooms (s : NetState) (workers : ℕ) (rooms : Rooms) : Type 0 where
@@ -80,7 +55,7 @@ pub record IsOpened (s : NetState) (workers : ℕ) (lines : List Line) (kept : K
   pub nodes : kept.nodes.items ≡ s.nodes
   pub links : kept.links.items ≡ s.links
   pub lines_made : AreLinesMade s workers kept.ways.items lines
-  pub lines : kept.lines.items ≡ lines
+  pub all_made : kept.lines.items ≡ lines
 
 -- the lists of all workers, and room for their parts
 pub record AreSeats (s : NetState) (lines : List Line) (workers : ℕ) (seats : List Seat) (parts : List PartState)
@@ -88,7 +63,7 @@ pub record AreSeats (s : NetState) (lines : List Line) (workers : ℕ) (seats : 
   pub all : All (IsSeat s lines) seats
   pub count : length seats ≡ workers
   pub no_part : parts ≡ []
-  pub room : workers ≤ room
+  pub for_all : workers ≤ room
 
 -- what a part is that has these lists
 abbrev pub seat_state : Seat → Own → PartState
@@ -111,7 +86,7 @@ part_at parts w = slice_index_or parts w no_part
 pub record IsFirstPart (opening : NetState) (workers worker : ℕ) (lines : List Line) (p : PartState) : Type 0 where
   pub own : p.net.own ≡ record { worker = worker; workers = workers }
   pub opened : p.opening ≡ opening
-  pub lines : p.lines ≡ lines
+  pub made : p.lines ≡ lines
   pub config : HasConfigOf opening p.net
   pub nodes : (x : ℕ) → owns p x ≡ true → node_at p.net x ≡ node_at opening x
   pub begins : Begins (shape opening) (network_of opening) (owns p) (part_network p)

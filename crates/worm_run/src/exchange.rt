@@ -3,7 +3,7 @@
 
 ghost use Rattle.std.specs.Prelude.{◌≡◌, ◌<◌, length};
 ghost use Rattle.worm_core.specs.Owned.{owned_by};
-ghost use Rattle.worm_run.specs.Exchange.{EndsSwapped, LinksSwapped, NodesSwapped, SwapsEnd, SwapsLink};
+ghost use Rattle.worm_run.specs.Exchange.{EndsSwapped, LinksSwapped, NodesSwapped, SwapsEnd, SwapsLink, SwapsNode};
 
 use crate::ends::{End, Line};
 use std::mem::swap;
@@ -34,6 +34,15 @@ pub(crate) fn owns(own: Own, node: u8) -> bool
     u16::from(node) % own.workers == own.worker
 }
 
+/// Exchanges the two nodes where they are the worker's.
+fn swap_node(kept: &mut Node, node: &mut Node, own: bool)
+    ensures { SwapsNode own kept.old node.old kept.new node.new }
+{
+    if own {
+        swap(kept, node);
+    }
+}
+
 /// Exchanges the nodes that the worker owns.
 fn swap_nodes(kept: &mut Vec<Node>, nodes: &mut Vec<Node>, own: Own)
     requires workers { 0 < own.workers }
@@ -42,9 +51,7 @@ fn swap_nodes(kept: &mut Vec<Node>, nodes: &mut Vec<Node>, own: Own)
     ensures { NodesSwapped own (length kept.old.items) kept.old.items nodes.old.items kept.new.items nodes.new.items }
 {
     for x in 0..kept.len() {
-        if owns(own, x as u8) {
-            swap(&mut kept[x], &mut nodes[x]);
-        }
+        swap_node(&mut kept[x], &mut nodes[x], owns(own, x as u8));
     }
 }
 

@@ -1,10 +1,10 @@
 //! The parts of a network joined again.
 
-ghost use Rattle.std.specs.Prelude.{◌≡◌, ◌<◌, ℕ, length};
+ghost use Rattle.std.specs.Prelude.{◌≡◌, ◌<◌, ◌≤◌, ◌++◌, ◌∷◌, [], ℕ, length};
 ghost use Rattle.worm_core.specs.Headline.{DeliversInOrder};
 ghost use Rattle.worm_run.specs.Ends.{line_at};
 ghost use Rattle.worm_run.specs.Exchange.{EndsPutBack, LinksPutBack, NodesPutBack};
-ghost use Rattle.worm_run.specs.Joins.{AreEmptied, AreOfOne, AreParts, CreditsEmptied, FlitsEmptied, IsEmptied, IsGathered, IsJoinOf, IsLaterThan};
+ghost use Rattle.worm_run.specs.Joins.{AreEmptied, AreOfOne, AreParts, CreditsEmptied, FlitsEmptied, IsBetween, IsEmptied, IsGathered, IsJoinOf, IsLaterThan};
 ghost use Rattle.worm_run.specs.Splits.{part_at};
 
 use crate::ends::{End, Line};
@@ -13,18 +13,38 @@ use crate::part::Part;
 use std::mem::replace;
 use std::sync::Wait;
 use worm_core::{LinkState, Net, NetParts, Region};
+use worm_flit::Flit;
 use worm_links::{CreditRx, CreditTx, FlitRx, FlitTx, reunite, reunite_credits};
 
-/// Puts what the queue still holds behind the link's flits. There is room, but that is known only once all links are read, so it is asked.
+/// Puts the flit behind the link's, if there is room.
+fn put_behind(link: &mut LinkState, flit: Flit)
+    ensures fits { length link.old.flits < link.old.room → link.new ≡ record link.old { flits = link.old.flits ++ flit ∷ [] } }
+    ensures full { link.old.room ≤ length link.old.flits → link.new ≡ link.old }
+{
+    if link.count() < usize::from(link.room()) {
+        link.push(flit);
+    }
+}
+
+/// The same of a credit.
+fn put_credit_behind(link: &mut LinkState, vc: u8)
+    ensures fits { length link.old.credits < link.old.room → link.new ≡ record link.old { credits = link.old.credits ++ vc ∷ [] } }
+    ensures full { link.old.room ≤ length link.old.credits → link.new ≡ link.old }
+{
+    if link.credit_count() < usize::from(link.room()) {
+        link.push_credit(vc);
+    }
+}
+
+/// Puts what the queue still holds behind the link's flits. There is room for it, but that is known only of all links together, once
+/// all queues are empty; so it is asked.
 fn empty_flits<R: Wait>(rt: &R, tx: FlitTx, rx: FlitRx, link: &mut LinkState)
     requires { tx.queue ≡ rx.queue }
     ensures { FlitsEmptied tx.sent rx.taken link.old link.new }
 {
     let mut ends = reunite(tx, rx);
     while let Some(flit) = ends.pop_rest(rt) {
-        if link.count() < usize::from(link.room()) {
-            link.push(flit);
-        }
+        put_behind(link, flit);
     }
 }
 
@@ -35,9 +55,7 @@ fn empty_credits<R: Wait>(rt: &R, tx: CreditTx, rx: CreditRx, link: &mut LinkSta
 {
     let mut ends = reunite_credits(tx, rx);
     while let Some(vc) = ends.pop_rest(rt) {
-        if link.credit_count() < usize::from(link.room()) {
-            link.push_credit(vc);
-        }
+        put_credit_behind(link, vc);
     }
 }
 
@@ -83,14 +101,20 @@ impl Kept {
     }
 
     /// Puts what all queues still hold onto their links.
-    fn empty_lines<R: Wait>(&mut self, rt: &R)
-        requires length { length self.old.links.items ≡ length self.old.lines.items }
-        requires queues { (k : ℕ) → k < length self.old.lines.items → AreOfOne (line_at self.old.lines.items k).out (line_at self.old.lines.items k).into }
-        ensures links { AreEmptied (length self.old.lines.items) self.old.lines.items self.old.links.items self.new.links.items }
+    fn empty_lines<R: Wait>(&mut self, rt: &R, workers: usize)
+        requires workers { 0 < workers }
+        requires link_ways { length self.old.ways.items ≡ length self.old.links.items }
+        requires line_ways { length self.old.ways.items ≡ length self.old.lines.items }
+        requires queues { (k : ℕ) → IsBetween workers self.old.ways.items k → AreOfOne (line_at self.old.lines.items k).out (line_at self.old.lines.items k).into }
+        ensures links { AreEmptied workers (length self.old.ways.items) self.old.ways.items self.old.lines.items self.old.links.items self.new.links.items }
         ensures nodes { self.new.nodes ≡ self.old.nodes }
         ensures config { self.new.config ≡ self.old.config }
     {
-        for k in 0..self.lines.len() {
+        for k in 0..self.ways.len() {
+            let way = self.ways[k];
+            if usize::from(way.from) % workers == usize::from(way.to) % workers {
+                continue;
+            }
             let none = Line {
                 out: End::Inner,
                 into: End::Inner,
@@ -146,8 +170,9 @@ pub fn join<R: Wait>(rt: &R, parts: Vec<Part>) -> Net
     ensures later { IsLaterThan (part_at parts.items 0).opening result }
     ensures delivers { DeliversInOrder result }
 {
+    let workers = parts.len();
     let mut whole = gather(parts);
-    whole.empty_lines(rt);
+    whole.empty_lines(rt, workers);
     let Kept {
         config,
         ways: _,

@@ -10,7 +10,8 @@ ghost use Rattle.worm_core.specs.State.{network_of, shape};
 ghost use Rattle.worm_core.specs.Parts.{IsConfigOf};
 ghost use Rattle.worm_run.specs.Ends.{AreEndsMade, IsLinkOf};
 ghost use Rattle.worm_run.specs.declared.ends.End.TheVariants.{Inner};
-ghost use Rattle.worm_run.specs.Splits.{AreLinesMade, AreRooms, AreWays, IsLineMade, IsSeat};
+ghost use Rattle.worm_run.specs.Apart.{AreWays};
+ghost use Rattle.worm_run.specs.Splits.{AreLinesMade, AreRooms, IsLineMade, IsSeat};
 
 use crate::ends::{End, Line};
 use crate::part::Part;
@@ -19,7 +20,7 @@ use std::marker::Brand;
 use std::snapshot::Snapshot;
 use worm_core::{Config, LinkState, Net, Node, fresh_nodes};
 use worm_flit::ClassChannels;
-use worm_links::{LinkCfg, credit_line, link_after};
+use worm_links::{LinkCfg, Opening, credit_line, link_after};
 use worm_mesh::{LinkEnds, Mesh};
 
 /// A worker's lists before it has anything.
@@ -78,22 +79,23 @@ fn owners_of(classes: &ClassChannels) -> [u8; 8]
 }
 
 /// The two ends of a link, over which what is on it now is held to have gone before.
-fn make_line(
+fn make_line<B: Opening>(
     alloc: Global,
     net: &Net,
     way: LinkEnds,
-    cfg: LinkCfg,
+    cfg: &LinkCfg,
 ) -> Result<Line, AllocError>
-    requires link { IsLinkOf net.now.mesh net.now.channels way.from way.out_port cfg }
-    requires depth { cfg.depth ≡ net.now.depth }
+    requires link { IsLinkOf net.now.mesh net.now.channels way.from way.out_port cfg.now }
+    requires depth { cfg.now.depth ≡ net.now.depth }
     requires joined { Joins net.now.mesh way.from way.out_port way.to }
+    requires past { B.past ≡ past_of (shape net.now) (network_of net.now) way.from way.out_port way.to }
     ensures { IfOk result (λ line. AreEndsMade net.now.mesh net.now.channels way.from way.out_port (past_of (shape net.now) (network_of net.now) way.from way.out_port way.to) line.out line.into) }
 {
     net.is_sound();
-    let Ok((tx, rx)) = link_after::<Brand>(alloc, cfg) else {
+    let Ok((tx, rx)) = link_after::<B>(alloc, *cfg) else {
         return Err(AllocError);
     };
-    let Ok((give, back)) = credit_line(alloc, cfg) else {
+    let Ok((give, back)) = credit_line(alloc, *cfg) else {
         return Err(AllocError);
     };
     Ok(Line {
@@ -107,12 +109,12 @@ fn make_line_of(
     alloc: Global,
     net: &Net,
     way: LinkEnds,
-    cfg: LinkCfg,
+    cfg: &LinkCfg,
     workers: u16,
 ) -> Result<Line, AllocError>
     requires workers { 0 < workers }
-    requires link { IsLinkOf net.now.mesh net.now.channels way.from way.out_port cfg }
-    requires depth { cfg.depth ≡ net.now.depth }
+    requires link { IsLinkOf net.now.mesh net.now.channels way.from way.out_port cfg.now }
+    requires depth { cfg.now.depth ≡ net.now.depth }
     requires joined { Joins net.now.mesh way.from way.out_port way.to }
     ensures { IfOk result (λ line. IsLineMade net.now workers way line) }
 {
@@ -122,7 +124,7 @@ fn make_line_of(
             into: End::Inner,
         });
     }
-    make_line(alloc, net, way, cfg)
+    make_line::<Brand>(alloc, net, way, cfg)
 }
 
 /// The lines of all links.
@@ -154,7 +156,7 @@ fn make_lines(
             depth: config.depth,
             owners,
         };
-        lines.push(make_line_of(alloc, net, way, cfg, workers)?)?;
+        lines.push(make_line_of(alloc, net, way, &cfg, workers)?)?;
     }
     Ok(lines)
 }

@@ -23,7 +23,7 @@ pub struct Part {
 
 impl Model for Part {
     ghost use Rattle.worm_run.specs.PartState.{PartState, IsPart, part_state};
-    ghost use Rattle.worm_run.specs.Splits.{IsKept};
+    ghost use Rattle.worm_run.specs.Apart.{IsKept};
 
     ghost Value = { PartState };
 

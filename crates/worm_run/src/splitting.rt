@@ -5,7 +5,8 @@ ghost use Rattle.worm_mesh.specs.Address.{node_count};
 ghost use Rattle.worm_core.specs.State.{IsNet};
 ghost use Rattle.worm_core.specs.Workable.{IsWorkable};
 ghost use Rattle.worm_run.specs.PartState.{IsPart};
-ghost use Rattle.worm_run.specs.Splits.{AreSeats, IsKept, IsOpened, IsSplitOf, seat_state};
+ghost use Rattle.worm_run.specs.Apart.{IsKept};
+ghost use Rattle.worm_run.specs.Splits.{AreSeats, IsOpened, IsSplitOf, seat_state};
 
 use crate::ends::Line;
 use crate::exchange::Kept;
