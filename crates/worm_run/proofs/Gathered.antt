@@ -63,7 +63,7 @@ no_end : (b : Bool) → cond b Inner Inner ≡ Inner
 no_end true = refl
 no_end false = refl
 
-not_same : (a b : ℕ) → (a ≡ b → ⊥) → (a == b) ≡ false
+pub not_same : (a b : ℕ) → (a ≡ b → ⊥) → (a == b) ≡ false
 not_same a b apart = elim (number_cases a b) [ inl here ↦ absurd (apart here.1) | inr away ↦ away.0 ]
 
 module _ (parts : List PartState) (are : AreParts parts) (hold : (w : ℕ) → w < length parts → IsPart (part_at parts w)) where
@@ -102,6 +102,14 @@ module _ (parts : List PartState) (are : AreParts parts) (hold : (w : ℕ) → w
       let less : x % workers < workers = omega arith in
       omega arith
 
+  has_nothing : (own : ℕ → Bool) → HasPart (shape opening) (network_of opening) own (part_network no_part) (λ y o. []) (λ y o. [])
+      → HasPart (shape opening) (network_of opening) own (part_network no_part) (taken_by no_part) (returned_to no_part)
+  has_nothing own h =
+      let takes : (λ (y o : ℕ). []) ≡ taken_by no_part = λ t y o. taken_on (sym (no_end (has_neighbour [] y o)) t) in
+      let returns : (λ (y o : ℕ). []) ≡ returned_to no_part = λ t y o. returned_on (sym (no_end (has_neighbour [] y o)) t) in
+      subst (λ (f : ℕ → ℕ → List ℕ). HasPart (shape opening) (network_of opening) own (part_network no_part) (taken_by no_part) f) returns
+      (subst (λ (f : ℕ → ℕ → List Flit). HasPart (shape opening) (network_of opening) own (part_network no_part) f (λ y o. [])) takes h)
+
   pub has_part : (k : ℕ) → HasPart (shape opening) (network_of opening) (λ x. x % workers == k) (part_network (part_at parts k))
       (taken_by (part_at parts k)) (returned_to (part_at parts k))
   has_part k = elim (cases_lt k workers) [
@@ -133,14 +141,6 @@ module _ (parts : List PartState) (are : AreParts parts) (hold : (w : ℕ) → w
         (sym (get_or_past parts k no_part past))
         (has_nothing own begun)
   ]
-  where
-    has_nothing : (own : ℕ → Bool) → HasPart (shape opening) (network_of opening) own (part_network no_part) (λ y o. []) (λ y o. [])
-        → HasPart (shape opening) (network_of opening) own (part_network no_part) (taken_by no_part) (returned_to no_part)
-    has_nothing own h =
-        let takes : (λ (y o : ℕ). []) ≡ taken_by no_part = λ t y o. taken_on (sym (no_end (has_neighbour [] y o)) t) in
-        let returns : (λ (y o : ℕ). []) ≡ returned_to no_part = λ t y o. returned_on (sym (no_end (has_neighbour [] y o)) t) in
-        subst (λ (f : ℕ → ℕ → List ℕ). HasPart (shape opening) (network_of opening) own (part_network no_part) (taken_by no_part) f) returns
-        (subst (λ (f : ℕ → ℕ → List Flit). HasPart (shape opening) (network_of opening) own (part_network no_part) f (λ y o. [])) takes h)
 
   -- both ends of a link between two workers, as they were made
   pub made : (y o x : ℕ) → (shape opening).neighbour y o ≡ Some x → (y % workers ≡ x % workers → ⊥)

@@ -1,6 +1,6 @@
 //! The parts of a network joined again.
 
-ghost use Rattle.std.specs.Prelude.{◌≡◌, ◌<◌, ◌≤◌, ◌++◌, ◌∷◌, [], ℕ, length};
+ghost use Rattle.std.specs.Prelude.{◌≡◌, ◌<◌, ◌≤◌, ◌++◌, ◌∷◌, ◌%◌, ◌==◌, [], ℕ, false, length, true};
 ghost use Rattle.worm_core.specs.Headline.{DeliversInOrder};
 ghost use Rattle.worm_run.specs.Ends.{line_at};
 ghost use Rattle.worm_run.specs.Exchange.{EndsPutBack, LinksPutBack, NodesPutBack};
@@ -15,6 +15,7 @@ use std::sync::Wait;
 use worm_core::{LinkState, Net, NetParts, Region};
 use worm_flit::Flit;
 use worm_links::{CreditRx, CreditTx, FlitRx, FlitTx, reunite, reunite_credits};
+use worm_mesh::LinkEnds;
 
 /// Puts the flit behind the link's, if there is room.
 fn put_behind(link: &mut LinkState, flit: Flit)
@@ -75,6 +76,30 @@ fn empty_line<R: Wait>(rt: &R, line: Line, link: &mut LinkState)
     empty_credits(rt, give, back, link);
 }
 
+/// The same, unless both of the link's nodes are of one worker.
+fn empty_between<R: Wait>(rt: &R, line: &mut Line, link: &mut LinkState, within: bool)
+    requires { within ≡ false → AreOfOne line.old.out line.old.into }
+    ensures between { within ≡ false → IsEmptied line.old.out line.old.into link.old link.new }
+    ensures within { within ≡ true → link.new ≡ link.old }
+{
+    if within {
+        return;
+    }
+    let none = Line {
+        out: End::Inner,
+        into: End::Inner,
+    };
+    empty_line(rt, replace(line, none), link);
+}
+
+/// Whether both of the link's nodes are of one worker.
+fn is_within(way: LinkEnds, workers: usize) -> bool
+    requires { 0 < workers }
+    ensures { result ≡ (way.from % workers == way.to % workers) }
+{
+    usize::from(way.from) % workers == usize::from(way.to) % workers
+}
+
 impl Kept {
     /// Puts a part back: its nodes, what is on its links, and its ends.
     fn put_back(&mut self, region: Region, mut ends: Vec<End>)
@@ -111,16 +136,8 @@ impl Kept {
         ensures config { self.new.config ≡ self.old.config }
     {
         for k in 0..self.ways.len() {
-            let way = self.ways[k];
-            if usize::from(way.from) % workers == usize::from(way.to) % workers {
-                continue;
-            }
-            let none = Line {
-                out: End::Inner,
-                into: End::Inner,
-            };
-            let line = replace(&mut self.lines[k], none);
-            empty_line(rt, line, &mut self.links[k]);
+            let within = is_within(self.ways[k], workers);
+            empty_between(rt, &mut self.lines[k], &mut self.links[k], within);
         }
     }
 }
