@@ -39,7 +39,7 @@ some_is : (a b : ℕ) → ◌≡◌ {A = Option ℕ} (Some a) (Some b) → a ≡
 some_is a b e = cc
 
 -- a link that is emptied keeps its room
-emptied_room : (out into : End) (a b : LinkView) → IsEmptied out into a b → b.room ≡ a.room
+pub emptied_room : (out into : End) (a b : LinkView) → IsEmptied out into a b → b.room ≡ a.room
 emptied_room Inner into a b h = ap (λ (l : LinkView). l.room) h
 emptied_room (Leaving tx back) Inner a b h = ap (λ (l : LinkView). l.room) h
 emptied_room (Leaving tx back) (Leaving tx2 back2) a b h = ap (λ (l : LinkView). l.room) h
@@ -47,7 +47,7 @@ emptied_room (Leaving tx back) (Entering rx give) a b h = h.room
 emptied_room (Entering rx give) into a b h = ap (λ (l : LinkView). l.room) h
 
 -- no neighbour, no link
-no_link_there : (m : List ℕ) (y o : ℕ) → neighbour_of m y o ≡ None → has_neighbour m y o ≡ false
+pub no_link_there : (m : List ℕ) (y o : ℕ) → neighbour_of m y o ≡ None → has_neighbour m y o ≡ false
 no_link_there m y o e = elim (bool_cases (has_neighbour m y o)) [
   | inl has ↦ let there = rw has at e in absurd (cc)
   | inr none ↦ none
@@ -61,21 +61,21 @@ module _ (parts : List PartState) (are : AreParts parts) (kept : Kept) (gathered
   abbrev s : Shape
   s = shape (part_at parts 0).opening
 
-  abbrev owner : ℕ → ℕ
+  abbrev pub owner : ℕ → ℕ
   owner = λ x. x % length parts
 
-  holds_each : (w : ℕ) → w < length parts → Rattle.worm_run.specs.PartState.IsPart (part_at parts w)
+  pub holds_each : (w : ℕ) → w < length parts → Rattle.worm_run.specs.PartState.IsPart (part_at parts w)
   holds_each = hold parts are kept gathered
 
   -- what the queues still held, place by place
-  pick : (y o : ℕ) (n : Option ℕ) → s.neighbour y o ≡ n → List Flit × List ℕ
+  abbrev pub pick : (y o : ℕ) (n : Option ℕ) → s.neighbour y o ≡ n → List Flit × List ℕ
   pick y o None e = ([], [])
   pick y o (Some x) e = let r = rest parts are kept gathered y o x e links emptied in (r.0, r.1)
 
-  abbrev flits_left : ℕ → ℕ → List Flit
+  abbrev pub flits_left : ℕ → ℕ → List Flit
   flits_left = λ y o. (pick y o (s.neighbour y o) refl).0
 
-  abbrev credits_left : ℕ → ℕ → List ℕ
+  abbrev pub credits_left : ℕ → ℕ → List ℕ
   credits_left = λ y o. (pick y o (s.neighbour y o) refl).1
 
   picked : (y o x : ℕ) (n : Option ℕ) (e : s.neighbour y o ≡ n) → n ≡ Some x
@@ -88,16 +88,16 @@ module _ (parts : List PartState) (are : AreParts parts) (kept : Kept) (gathered
   pub left : (y o x : ℕ) → s.neighbour y o ≡ Some x → IsRest parts are kept gathered y o x links (flits_left y o) (credits_left y o)
   left y o x linked = picked y o x (s.neighbour y o) refl linked
 
-  abbrev nets : ℕ → Network
+  abbrev pub nets : ℕ → Network
   nets = λ k. part_network (part_at parts k)
 
-  abbrev takens : ℕ → ℕ → ℕ → List Flit
+  abbrev pub takens : ℕ → ℕ → ℕ → List Flit
   takens = λ k. taken_by (part_at parts k)
 
-  abbrev returneds : ℕ → ℕ → ℕ → List ℕ
+  abbrev pub returneds : ℕ → ℕ → ℕ → List ℕ
   returneds = λ k. returned_to (part_at parts k)
 
-  queues : AreQueues s owner nets takens returneds flits_left credits_left
+  pub queues : AreQueues s owner nets takens returneds flits_left credits_left
   queues = record {
     within = λ y o x linked same. (left y o x linked).within same;
     between = λ y o x linked apart. (left y o x linked).apart apart;

@@ -16,3 +16,5 @@ pub mod Items
 pub mod JoinNet
 pub mod Lines
 pub mod JoinState
+pub mod Swapped
+pub mod Gathering
