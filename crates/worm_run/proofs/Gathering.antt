@@ -19,7 +19,7 @@ use Rattle.worm_run.specs.Splits.{part_at}
 use Rattle.worm_run.proofs.Gathered.{not_same}
 use Rattle.worm_run.proofs.Swapped.{ends_now, link_in, links_now, nodes_now, rooms_now}
 
-either_way : (b : Bool) (a : End) → cond b a a ≡ a
+pub either_way : (b : Bool) (a : End) → cond b a a ≡ a
 either_way true a = refl
 either_way false a = refl
 

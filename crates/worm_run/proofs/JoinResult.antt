@@ -1,6 +1,9 @@
 -- What a join gives: a network, its places as their owners had them, later than the one that was split.
-use Rattle.std.proofs.Common.{◌≡◌, ℕ, ◌<◌, ◌%◌, List, [], ◌++◌, length, Some, refl, arith, sym, ap, subst, ◌∙◌}
+use Rattle.std.proofs.Common.{◌≡◌, ℕ, ◌<◌, ◌%◌, inl, inr, List, [], ◌++◌, length, Some, refl, arith, sym, ap, subst, ◌∙◌}
+use Rattle.std.proofs.lemmas.Bool.{cases_lt}
+use Rattle.std.proofs.lemmas.List.{get_or_past}
 use Rattle.worm_flit.specs.declared.Flit.{Flit}
+use Rattle.worm_mesh.specs.declared.mesh.LinkEnds.{LinkEnds}
 use Rattle.worm_theory.specs.Growth.{SinksGrow, SourcesGrow}
 use Rattle.worm_theory.specs.Shape.{Shape}
 use Rattle.worm_theory.specs.Network.{Network}
@@ -13,16 +16,37 @@ use Rattle.worm_core.specs.State.{NetState, LinkView, IsNet, network_of, node_at
 use Rattle.worm_core.specs.declared.own.Own.{Own}
 use Rattle.worm_parts.proofs.Regions.{parts_sinks, parts_sources}
 use Rattle.worm_run.specs.declared.exchange.Kept.{Kept}
-use Rattle.worm_run.specs.Joins.{AreEmptied, AreParts, IsGathered, IsJoinOf, IsLaterThan, IsLinkJoined, owner_of}
+use Rattle.worm_run.specs.Ends.{line_at}
+use Rattle.worm_run.specs.Exchange.{way_at}
+use Rattle.worm_run.specs.Joins.{AreEmptied, AreOfOne, AreParts, IsBetween, IsGathered, IsJoinOf, IsLaterThan, IsLinkJoined, owner_of}
 use Rattle.worm_run.specs.PartState.{PartState, part_network}
 use Rattle.worm_run.specs.Splits.{part_at}
-use Rattle.worm_run.proofs.Gathered.{has_part, mesh, owner_below, was}
+use Rattle.worm_run.proofs.Items.{linked_of}
+use Rattle.worm_run.proofs.JoinLinks.{hold, of_one}
+use Rattle.worm_run.proofs.Gathered.{first, has_part, mesh, owner_below, was}
 use Rattle.worm_run.proofs.JoinNet.{credits_left, flits_left, holds, holds_each, joined, joined_line, joined_out, left, nets, owner, queues, returneds, takens}
 use Rattle.worm_run.proofs.JoinState.{network_same, new, new_framed, node_same, shape_same}
 
+-- the ends that were put back of each link between two workers are of one queue
+pub queues_meet : (parts : List PartState) (are : AreParts parts) (kept : Kept) (gathered : IsGathered parts 0 kept) (k : ℕ) → IsBetween (length parts) kept.ways.items k
+    → AreOfOne (line_at kept.lines.items k).out (line_at kept.lines.items k).into
+queues_meet parts are kept gathered k between = elim (cases_lt k (length kept.ways.items)) [
+  | inl below ↦
+      let O = (part_at parts 0).opening in
+      let way = way_at kept.ways.items k in
+      let ends = gathered.apart.ways.each k below in
+      let frame = (first parts are (hold parts are kept gathered)).opened.framed in
+      let linked = linked_of O way.from way.out_port way.to frame ends.joined in
+      subst (λ (i : ℕ). AreOfOne (line_at kept.lines.items i).out (line_at kept.lines.items i).into) ends.numbered
+      (of_one parts are kept gathered way.from way.out_port way.to linked between)
+  | inr past ↦
+      let none : way_at kept.ways.items k ≡ record { from = 0; out_port = 0; to = 0; in_port = 0 } = get_or_past kept.ways.items k _ past in
+      absurd (between (ap (λ (z : LinkEnds). z.from % length parts) none ∙ sym (ap (λ (z : LinkEnds). z.to % length parts) none)))
+]
+
 module _ (parts : List PartState) (are : AreParts parts) (kept : Kept) (gathered : IsGathered parts 0 kept) (links : List LinkView)
     (emptied : AreEmptied (length parts) (length kept.ways.items) kept.ways.items kept.lines.items kept.links.items links) where
-  abbrev result : NetState
+  abbrev pub result : NetState
   result = new parts are kept gathered links emptied
 
   abbrev O : NetState

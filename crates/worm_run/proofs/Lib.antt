@@ -18,3 +18,9 @@ pub mod Lines
 pub mod JoinState
 pub mod Swapped
 pub mod Gathering
+pub mod JoinResult
+pub mod Popping
+pub mod FirstEnds
+pub mod SameNodes
+pub mod Dealing
+pub mod FirstPart

@@ -160,6 +160,7 @@ fn gather(mut parts: Vec<Part>) -> Kept
     let Some(mut whole) = kept else {
         unreachable!()
     };
+    region.is_workable();
     whole.put_back(region, ends);
     while let Some(part) = parts.pop() {
         let Part {
@@ -169,6 +170,7 @@ fn gather(mut parts: Vec<Part>) -> Kept
             lines: _,
             kept: _,
         } = part;
+        region.is_workable();
         whole.put_back(region, ends);
     }
     whole
