@@ -1,7 +1,9 @@
 -- One worker more is dealt its part.
 use Rattle.std.proofs.Common.{◌≡◌, ℕ, ◌+◌, ◌*◌, ◌<◌, ◌≤◌, Bool, true, false, cond, List, [], ◌∷◌, ◌++◌, length, length-append, sum, Ok, Err, Option, Some, None, refl, arith, sym, ap, subst, ◌∙◌}
 use Rattle.std.specs.Prelude.{All, OnErr, Result, is_ok, slice_index_or}
-use Rattle.std.proofs.lemmas.List.{get_or_append_left, get_or_at, get_or_default}
+use Rattle.std.proofs.lemmas.List.{get_or_append_left, get_or_at}
+use Rattle.std.proofs.Math.ListN.{length-replicate}
+use Rattle.worm_mesh.specs.Links.{link_count}
 use Rattle.worm_core.specs.NewNet.{empty_link}
 use Rattle.worm_core.specs.Owned.{owned_by}
 use Rattle.worm_core.specs.State.{NetState, IsNet, LinkView, network_of, shape}
@@ -9,14 +11,15 @@ use Rattle.worm_core.specs.Workable.{IsWorkable}
 use Rattle.worm_core.specs.declared.node.Node.{Node}
 use Rattle.worm_core.specs.declared.own.Own.{Own}
 use Rattle.worm_run.specs.declared.ends.End.{End}
+use Rattle.worm_run.specs.declared.ends.End.TheVariants.{Inner}
 use Rattle.worm_run.specs.declared.ends.Line.{Line}
 use Rattle.worm_run.specs.declared.exchange.Kept.{Kept}
 use Rattle.worm_run.specs.declared.making.Seat.{Seat}
 use Rattle.worm_run.specs.Apart.{IsApart}
 use Rattle.worm_run.specs.Exchange.{EndsSwapped, LinksSwapped, NodesSwapped}
 use Rattle.worm_run.specs.PartState.{PartState, HasConfigOf, IsPart}
-use Rattle.worm_run.specs.Splits.{IsFirstPart, IsSeat, IsSplitOf, no_part, part_at, seat_state}
-use Rattle.worm_run.proofs.Dealing.{AreEmpty, IsDealt, credits_own, dealt_on, ends_own, flits_own, lengths_own, node_other, node_own, rooms_own}
+use Rattle.worm_run.specs.Splits.{AreSeats, IsFirstPart, IsOpened, IsSeat, IsSplitOf, no_part, part_at, seat_state}
+use Rattle.worm_run.proofs.Dealing.{AreEmpty, IsDealt, credits_own, dealt_on, ends_own, flits_own, lengths_own, node_other, node_own, opened_deals, rooms_own}
 use Rattle.worm_run.proofs.FirstPart.{IsDealtPart, first_begins, first_is_part, first_works, node_mine}
 use Rattle.worm_run.proofs.Items.{each_push}
 
@@ -129,3 +132,36 @@ module _ (O : NetState) (net : IsNet O) (W w : ℕ) (below : w < W) (lines : Lis
         each = each_push (λ (j : ℕ) (q : PartState). IsFirstPart O W j lines q) no_part parts more dealt_state w long pushed so_far.each deal_first;
         enough = omega arith;
       }
+
+-- a worker's lists are as long as those of the network that is taken apart
+pub seat_lengths : (O : NetState) (lines : List Line) (kept : Kept) (seat : Seat) → IsNet O → IsApart O kept → IsSeat O lines seat
+    → (length seat.nodes.items ≡ length kept.nodes.items) × (length kept.nodes.items < 257) × (length seat.links.items ≡ length kept.links.items)
+    × (length seat.ends.items ≡ length kept.lines.items) × (length kept.ways.items ≡ length kept.links.items) × (length kept.ways.items ≡ length kept.lines.items)
+seat_lengths O lines kept seat net apart is =
+    let few = net.framed.radices.few_nodes in
+    let all = apart.all_nodes in
+    (
+      is.all_nodes ∙ sym apart.all_nodes,
+      omega arith,
+      (ap (λ (l : List LinkView). length l) is.links ∙ length-replicate (link_count O.mesh) (empty_link (sum O.channels * O.depth))) ∙ sym apart.all_links,
+      (ap (λ (l : List End). length l) is.ends ∙ length-replicate (link_count O.mesh) Inner) ∙ sym apart.all_lines,
+      apart.ways.all ∙ sym apart.all_links,
+      apart.ways.all ∙ sym apart.all_lines,
+    )
+
+pub deal_begun : (O : NetState) (W : ℕ) (lines : List Line) (kept : Kept) (seats : List Seat) (parts : List PartState) (room : ℕ)
+    → IsOpened O W lines kept → AreSeats O lines W seats parts room → DealSoFar O W lines 0 kept seats parts room
+deal_begun O W lines kept seats parts room opened are =
+    let count = are.count in
+    record {
+      dealt = opened_deals O W lines kept opened;
+      all = are.all;
+      count = omega arith;
+      long = ap (λ (l : List PartState). length l) are.no_part;
+      each = λ j below. absurd (omega arith);
+      enough = are.for_all;
+    }
+
+pub all_dealt : (O : NetState) (W : ℕ) (lines : List Line) (kept : Kept) (seats : List Seat) (parts : List PartState) (room : ℕ)
+    → DealSoFar O W lines W kept seats parts room → IsSplitOf O W parts
+all_dealt O W lines kept seats parts room so_far = record { lines = lines; count = so_far.long; each = so_far.each }

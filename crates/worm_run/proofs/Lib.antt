@@ -24,3 +24,4 @@ pub mod FirstEnds
 pub mod SameNodes
 pub mod Dealing
 pub mod FirstPart
+pub mod DealStep
