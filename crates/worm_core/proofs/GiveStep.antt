@@ -40,14 +40,16 @@ owed_bridge s x p v framed place =
     let last_out = put3_same N.last_out x p v c.last_out (ap (λ (a : ChannelState). a.last_out) (sym there)) in
     let less : c.owed - 1 ≡ N.owed x p v - 1 = ap (λ (a : ChannelState). a.owed - 1) (sym there) in
     let same : record N {
-      buffer = put3 N.buffer x p v c.buffer;
+      buffer =
+          put3 N.buffer x p v c.buffer;
       in_record = put3 N.in_record x p v c.state;
       last_out = put3 N.last_out x p v c.last_out;
       owed = put3 N.owed x p v (c.owed - 1);
     }
     ≡ record N { owed = put3 N.owed x p v (N.owed x p v - 1) }
     = λ t. record N {
-      buffer = buffer t;
+      buffer =
+          buffer t;
       in_record = state t;
       last_out = last_out t;
       owed = put3 N.owed x p v (less t);
@@ -56,7 +58,7 @@ owed_bridge s x p v framed place =
     (framed.each_node x place.node_in).all_inputs ∙ same
 
 -- the credits of each channel below n are all credits
-credits_counted : (n : ℕ) (cs : List ℕ) → All (λ c. c < n) cs →
+pub credits_counted : (n : ℕ) (cs : List ℕ) → All (λ c. c < n) cs →
     sum_below (λ v. count_by (λ k. v == k) cs) n ≡ length cs
 credits_counted n [] all = sum_none n
 credits_counted n (c ∷ cs) all =
@@ -122,19 +124,22 @@ give_done s x p v y net place e can =
     let mid_is = owed_bridge s x p v net.framed place in
     let linked =
     ap (λ (n : Network). record n {
-      out = put2 n.out y o (link_at s k).flits;
+      out =
+          put2 n.out y o (link_at s k).flits;
       credit_list = put2 n.credit_list y o ((link_at s k).credits ++ v ∷ []);
     }) mid_is in
     let flits = put2_same N.out y o (link_at s k).flits (sym (out_there s y o net.framed fed.has)) in
     let list : (link_at s k).credits ≡ N.credit_list y o = sym (credits_there s y o net.framed fed.has) in
     let same : record N {
-      owed = put3 N.owed x p v (N.owed x p v - 1);
+      owed =
+          put3 N.owed x p v (N.owed x p v - 1);
       out = put2 N.out y o (link_at s k).flits;
       credit_list = put2 N.credit_list y o ((link_at s k).credits ++ v ∷ []);
     }
     ≡ gave_to N x p v y o
     = λ t. record N {
-      owed = put3 N.owed x p v (N.owed x p v - 1);
+      owed =
+          put3 N.owed x p v (N.owed x p v - 1);
       out = flits t;
       credit_list = put2 N.credit_list y o (list t ++ v ∷ []);
     } in
@@ -166,7 +171,8 @@ give_at s x p v y net place there e true can same =
     let new = after_giving s x p v (links_before s.mesh y (opposite_of p)) in (
       kept s new.nodes new.links (GiveCredit x p v) net there step.0 step.2 step.1,
       record {
-        there = there;
+        there =
+            there;
         enabled = step.0;
         after_it = step.1;
         config = record { mesh = refl; channels = refl; depth = refl; names = refl; own = refl };

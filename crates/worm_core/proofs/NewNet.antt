@@ -73,13 +73,34 @@ pub fresh_push : (mesh channels : List ℕ) (depth : ℕ) (nodes : List Node) �
     AreFresh mesh channels depth (nodes ++ fresh_node mesh channels depth (length nodes) ∷ [])
 fresh_push mesh channels depth nodes all = pushed (fresh_node mesh channels depth) nodes all
 
+-- a fresh node is that of its number
+pub fresh_is : (mesh channels : List ℕ) (depth : ℕ) → IsRadices mesh → (x : ℕ) → x < node_count mesh
+    → IsNodeOf mesh channels depth x (fresh_node mesh channels depth x)
+fresh_is mesh channels depth radices x x_in = record {
+  same_mesh = refl;
+  same_node = refl;
+  same_channels = refl;
+  same_depth = refl;
+  all_inputs = length-replicate ((2 * length mesh + 1) * sum channels) (fresh_channel depth);
+  all_outputs = length-replicate ((2 * length mesh + 1) * sum channels) (free_output depth);
+  source_node = refl;
+  source_nodes = refl;
+  source_channels = refl;
+  source_holds = fresh_sound x (node_count mesh) channels (length channels) _ _ x_in radices.few_nodes refl refl refl;
+  fed_within =
+      λ k. subst (λ (q : QueueState). q.fed ≤ length q.injected) (sym (queue_fresh x (node_count mesh) channels k))
+      (omega arith);
+  sink_node = refl;
+}
+
 module _ (mesh channels : List ℕ) (depth : ℕ) (names : List (List ℕ)) (nodes : List Node) (links : List LinkView)
     (own : Own)
     (all : AreFresh mesh channels depth nodes)
     (no_links : links ≡ replicate (link_count mesh) (empty_link (sum channels * depth))) where
   abbrev s : NetState
   s = record {
-    mesh = mesh;
+    mesh =
+        mesh;
     channels = channels;
     depth = depth;
     names = names;
@@ -137,25 +158,6 @@ module _ (mesh channels : List ℕ) (depth : ℕ) (names : List (List ℕ)) (nod
 
   module _ (radices : IsRadices mesh) (classes : AreChannels channels) (least_depth : 1 ≤ depth)
       (most_depth : depth ≤ 16) (all_owned : own ≡ sole) (all_nodes : length nodes ≡ node_count mesh) where
-    fresh_is : (x : ℕ) → x < node_count mesh → IsNodeOf mesh channels depth x (fresh_node mesh channels depth x)
-    fresh_is x x_in = record {
-      same_mesh = refl;
-      same_node = refl;
-      same_channels = refl;
-      same_depth = refl;
-      all_inputs = length-replicate ((2 * length mesh + 1) * sum channels) (fresh_channel depth);
-      all_outputs = length-replicate ((2 * length mesh + 1) * sum channels) (free_output depth);
-      source_node = refl;
-      source_nodes = refl;
-      source_channels = refl;
-      source_holds =
-          fresh_sound x (node_count mesh) channels (length channels) _ _ x_in radices.few_nodes refl refl refl;
-      fed_within =
-          λ k. subst (λ (q : QueueState). q.fed ≤ length q.injected) (sym (queue_fresh x (node_count mesh) channels k))
-          (omega arith);
-      sink_node = refl;
-    }
-
     room_is : (n k room : ℕ) → k < n → (get_or (replicate n (empty_link room)) k blank_link).room ≡ room
     room_is zero k room within = absurd (omega arith)
     room_is (suc n) zero room within = refl
@@ -170,7 +172,8 @@ module _ (mesh channels : List ℕ) (depth : ℕ) (names : List (List ℕ)) (nod
       all_nodes = all_nodes;
       all_links = rw no_links (length-replicate (link_count mesh) (empty_link (sum channels * depth)));
       each_node =
-          λ x within. subst (λ (n : Node). IsNodeOf mesh channels depth x n) (sym (all x)) (fresh_is x (omega arith));
+          λ x within. subst (λ (n : Node). IsNodeOf mesh channels depth x n) (sym (all x))
+          (fresh_is mesh channels depth radices x (omega arith));
       rooms = λ k within.
           let count : length links ≡ link_count mesh =
           rw no_links (length-replicate (link_count mesh) (empty_link (sum channels * depth))) in

@@ -65,7 +65,7 @@ counted n (f ∷ fs) all =
     let two = sum_add (λ v. cond (v == f.vc) 1 0) (λ v. length (on_channel v fs)) n in
     split ∙ (two ∙ omega arith)
 
-bounded : (f : ℕ → ℕ) (n d : ℕ) → ((v : ℕ) → v < n → f v ≤ d) → sum_below f n ≤ n * d
+pub bounded : (f : ℕ → ℕ) (n d : ℕ) → ((v : ℕ) → v < n → f v ≤ d) → sum_below f n ≤ n * d
 bounded f zero d h = omega arith
 bounded f (suc n) d h =
     let rest = bounded f n d (λ v b. h v (omega arith)) in let here = h n (omega arith) in omega arith

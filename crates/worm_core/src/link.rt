@@ -1,8 +1,9 @@
 ghost use Rattle.worm_core.specs.NewNet.{empty_link};
-ghost use Rattle.std.specs.Prelude.{◌≡◌, [], ◌∷◌, ◌++◌, ◌<◌, length, drop, slice_get, Some, IfOk, ◌≤◌, IfNone, IsSome, option_to_list, vec_len, vec_capacity};
+ghost use Rattle.std.specs.Prelude.{◌≡◌, [], ◌∷◌, ◌++◌, ◌<◌, length, drop, min, slice_get, Some, IfOk, ◌≤◌, IfNone, IsSome, option_to_list, vec_len, vec_capacity};
 
 use std::alloc::{AllocError, Global};
 use std::marker::Model;
+use std::mem::swap;
 use worm_flit::Flit;
 
 /// What is on a link from one node to the next: its flits, and the credits on their way back over it, front first
@@ -65,6 +66,16 @@ fn put_first<T: Copy>(list: &mut Vec<T>, first: Option<T>)
     if let Some(first) = first {
         let _done = list.insert(0, first);
     }
+}
+
+/// Makes both the smaller of the two.
+fn keep_least(a: &mut u16, b: &mut u16)
+    ensures this { a.new ≡ min a.old b.old }
+    ensures that { b.new ≡ min a.old b.old }
+{
+    let least = (*a).min(*b);
+    *a = least;
+    *b = least;
 }
 
 impl LinkState {
@@ -188,6 +199,16 @@ impl LinkState {
         self.front_credit
     }
 
+    /// How many credits are on their way back over it.
+    pub fn credit_count(&self) -> usize
+        ensures { result ≡ length self.now.credits }
+    {
+        match self.front_credit {
+            None => 0,
+            Some(_) => 1 + self.credits.len(),
+        }
+    }
+
     /// Drops the front credit, if there is one.
     pub fn pop_credit(&mut self)
         ensures { self.new ≡ record self.old { credits = drop 1 self.old.credits } }
@@ -211,5 +232,27 @@ impl LinkState {
             let _done = self.credits.push(vc);
             self.has_more_credits = true;
         }
+    }
+
+    /// Exchanges the flits on the two links, and neither keeps more room than both had.
+    pub fn swap_flits(&mut self, other: &mut LinkState)
+        ensures this { self.new ≡ record self.old { flits = other.old.flits; room = min self.old.room other.old.room } }
+        ensures that { other.new ≡ record other.old { flits = self.old.flits; room = min self.old.room other.old.room } }
+    {
+        keep_least(&mut self.room, &mut other.room);
+        swap(&mut self.front, &mut other.front);
+        swap(&mut self.has_more, &mut other.has_more);
+        swap(&mut self.flits, &mut other.flits);
+    }
+
+    /// Exchanges the credits on their way back over the two links, and neither keeps more room than both had.
+    pub fn swap_credits(&mut self, other: &mut LinkState)
+        ensures this { self.new ≡ record self.old { credits = other.old.credits; room = min self.old.room other.old.room } }
+        ensures that { other.new ≡ record other.old { credits = self.old.credits; room = min self.old.room other.old.room } }
+    {
+        keep_least(&mut self.room, &mut other.room);
+        swap(&mut self.front_credit, &mut other.front_credit);
+        swap(&mut self.has_more_credits, &mut other.has_more_credits);
+        swap(&mut self.credits, &mut other.credits);
     }
 }

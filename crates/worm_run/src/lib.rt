@@ -2,8 +2,16 @@
 #![tactic(auto)]
 
 mod ends;
+mod exchange;
+mod joining;
+mod making;
 mod part;
+mod splitting;
+#[cfg(test)]
+mod tests;
 mod turning;
 
 pub use ends::{End, Line};
+pub use joining::join;
 pub use part::Part;
+pub use splitting::split;

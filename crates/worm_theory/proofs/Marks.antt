@@ -12,7 +12,7 @@ use Rattle.worm_theory.specs.Network.{Network}
 use Rattle.worm_theory.specs.Steps.{Step, StepsLead, has_mark, lane_injected}
 use Rattle.worm_theory.specs.Sound.{Sound, History, fresh, packet, closed}
 use Rattle.worm_theory.specs.Cut.{held, delivered, underway, LanesCut}
-use Rattle.worm_theory.specs.Growth.{NothingMore}
+use Rattle.worm_theory.specs.Growth.{NothingMore, SinksGrow}
 use Rattle.worm_theory.proofs.Places.{bool_cases}
 use Rattle.worm_theory.proofs.Packets.{packet-unmarked}
 use Rattle.worm_theory.proofs.Cut.{held-append}
@@ -96,14 +96,20 @@ find_mark (f ∷ fs) e =
           (f ∷ r.0, r.1, r.2, ap (λ gs. f ∷ gs) r.3, r.4)
     ]
 
--- once a lane's mark is delivered its sink gets nothing more of it, whatever steps are taken
-pub nothing_more : (s : Shape) → IsMesh s → (steps : List Step) (old new : Network) → StepsLead s old steps new → Sound s old → LanesCut s old → (lane : Lane) (c : ℕ) → HasLane s lane → Owns s lane.class c → OwnsAlone s lane.class c → has_mark (delivered s old lane) ≡ true → NothingMore s old new lane
-nothing_more s mesh steps old new lead sound cut lane c there owned alone marked =
-    let kept = steps_keep s mesh steps old new lead sound cut in
-    let grown = steps_sinks s mesh steps old new lead lane.dst in
+-- once a lane's mark is delivered its sink gets nothing more of it, if sinks only grow and the network is sound still
+pub nothing_more_grown : (s : Shape) (old new : Network) → Sound s new → LanesCut s new → SinksGrow s old new → (lane : Lane) (c : ℕ)
+    → HasLane s lane → Owns s lane.class c → OwnsAlone s lane.class c → has_mark (delivered s old lane) ≡ true → NothingMore s old new lane
+nothing_more_grown s old new sound cut grow lane c there owned alone marked =
+    let grown = grow lane.dst in
     let found = find_mark (delivered s old lane) marked in
     let all : delivered s new lane ≡ found.0 ++ found.1 ∷ (found.2 ++ held lane grown.0) =
     ap (λ fs. held lane fs) grown.1 ∙ held-append lane (old.out lane.dst s.terminal) grown.0 ∙ ap (λ fs. fs ++ held lane grown.0) found.3 ∙ append_assoc found.0 (found.1 ∷ found.2) (held lane grown.0) in
-    let last = mark_is_last s new kept.0 kept.1 lane c there owned alone found.0 found.1 (found.2 ++ held lane grown.0) all found.4 in
+    let last = mark_is_last s new sound cut lane c there owned alone found.0 found.1 (found.2 ++ held lane grown.0) all found.4 in
     let none = (nil_parts found.2 (held lane grown.0) (nil_parts (found.2 ++ held lane grown.0) (underway s new lane c) last).0).1 in
     (grown.0, grown.1, bare-none (of_lane lane grown.0) none)
+
+-- the same, whatever steps are taken
+pub nothing_more : (s : Shape) → IsMesh s → (steps : List Step) (old new : Network) → StepsLead s old steps new → Sound s old → LanesCut s old → (lane : Lane) (c : ℕ) → HasLane s lane → Owns s lane.class c → OwnsAlone s lane.class c → has_mark (delivered s old lane) ≡ true → NothingMore s old new lane
+nothing_more s mesh steps old new lead sound cut lane c there owned alone marked =
+    let kept = steps_keep s mesh steps old new lead sound cut in
+    nothing_more_grown s old new kept.0 kept.1 (λ x. steps_sinks s mesh steps old new lead x) lane c there owned alone marked
