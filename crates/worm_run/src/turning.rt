@@ -18,6 +18,7 @@ ghost use Rattle.worm_theory.specs.Steps.{IsThere, Step as Event};
 ghost use Rattle.worm_run.specs.PartTurns.{ComesBy, EachOf, GivesAcross, GivesCredit, GivesCredits, LeavesBy, NodeTurn, Sends, SendsAcross, SendsGranted, StaysWithin, Turn, PullsCredit, PullsCredits, PullsFlit, PullsFlits, Within};
 
 use crate::ends::{is_entering, is_leaving, pop_credit, pop_flit, push_credit, push_flit};
+use crate::exchange::owns;
 use crate::part::Part;
 use std::sync::Wait;
 use worm_core::{Entry, Script, StepFault, tried};
@@ -310,8 +311,7 @@ impl Part {
     fn owns(&self, node: u8) -> bool
         ensures { result ≡ owned self.now.net node }
     {
-        let own = self.region.own();
-        u16::from(node) % own.workers == own.worker
+        owns(self.region.own(), node)
     }
 
     /// The turn of the node if it is the worker's own, and nothing if it is not.
