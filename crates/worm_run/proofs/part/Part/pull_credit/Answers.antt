@@ -2,6 +2,8 @@ use Rattle.std.proofs.Common.{◌≡◌, ◌<◌, Option, Some, None, refl, inr,
 use Rattle.std.specs.Prelude.{slice_set}
 use Rattle.worm_core.specs.Wiring.{port_links}
 use Rattle.worm_core.specs.declared.wiring.PortLinks.{PortLinks}
+use Rattle.worm_core.specs.State.{NetState}
+use Rattle.worm_run.specs.Apart.{IsKept}
 use Rattle.worm_run.specs.PartState.{PartState, IsPart, part_state}
 use Rattle.worm_run.specs.PartTurns.{CreditComes}
 use Rattle.worm_run.proofs.Coming.{CreditInHand, credit_taken, credit_put, back_is_some}
@@ -67,7 +69,9 @@ put g c =
     credit_put p c.self.invariant.0 framed c.args.node c.args.port c.in-Some.links at c.in-Some-pop_credit.vc c.from.result c.pop_credit.new.end c.arrive_credit.new.self c.from.ensures hand c.arrive_credit.ensures
 
 pub invariant_of-self-2 : goal.invariant_of-self-2
-invariant_of-self-2 g c = ((put g c).0, ?)
+invariant_of-self-2 g c =
+    let i = c.self.inside in
+    ((put g c).0, subst (λ (n : NetState). IsKept i.opening.value n.own i.kept) (sym c.arrive_credit.ensures.exact) c.self.invariant.1)
 
 pub returns : goal.returns
 returns g c = rw (← c.self.view_is) (record { pulls = (refl, inr (put g c).1) })
