@@ -1,3 +1,5 @@
+mod turns;
+
 use crate::{Part, join, split};
 use arrayvec::ArrayVec;
 use std::alloc::Global;
@@ -6,7 +8,7 @@ use worm_core::{Act, Config, Entry, LaneView, Name, Net, Script};
 use worm_flit::{Lane, Packet};
 
 /// A configuration with these radices, depth and classes of so many channels.
-fn config(radices: &[u8], depth: u8, channels: &[u8]) -> Config {
+pub fn config(radices: &[u8], depth: u8, channels: &[u8]) -> Config {
     let mut config = Config {
         radices: ArrayVec::new(),
         depth,
@@ -23,11 +25,11 @@ fn config(radices: &[u8], depth: u8, channels: &[u8]) -> Config {
     config
 }
 
-fn lane(src: u8, dst: u8, class: u8) -> Lane {
+pub fn lane(src: u8, dst: u8, class: u8) -> Lane {
     Lane { src, dst, class }
 }
 
-fn offer(turn: u32, src: u8, dst: u8, words: &[u32]) -> Result<Entry, Fail> {
+pub fn offer(turn: u32, src: u8, dst: u8, words: &[u32]) -> Result<Entry, Fail> {
     Ok(Entry {
         turn,
         act: Act::Offer(Packet::new(lane(src, dst, 0), words)?),
@@ -45,7 +47,7 @@ fn sixteen(alloc: Global) -> Result<(Net, Script), Fail> {
     Ok((net, script))
 }
 
-fn parts_of(alloc: Global, net: Net, workers: usize) -> Result<Vec<Part>, Fail> {
+pub fn parts_of(alloc: Global, net: Net, workers: usize) -> Result<Vec<Part>, Fail> {
     match split(alloc, net, workers) {
         Ok(parts) => Ok(parts),
         Err((_net, _)) => Err("no memory".into()),
