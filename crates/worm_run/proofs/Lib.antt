@@ -30,3 +30,4 @@ pub mod SameNodes
 pub mod Dealing
 pub mod FirstPart
 pub mod DealStep
+pub mod PartLists

@@ -1,5 +1,8 @@
 mod turns;
 
+ghost use Rattle.std.specs.Prelude.{◌≡◌, ◌*◌, IfOk, length};
+ghost use Rattle.worm_run.specs.Joins.{AreParts};
+
 use crate::{Part, join, split};
 use arrayvec::ArrayVec;
 use std::alloc::Global;
@@ -47,11 +50,25 @@ fn sixteen(alloc: Global) -> Result<(Net, Script), Fail> {
     Ok((net, script))
 }
 
-pub fn parts_of(alloc: Global, net: Net, workers: usize) -> Result<Vec<Part>, Fail> {
+/// The parts of the network, for so many workers.
+pub fn parts_of(alloc: Global, net: Net, workers: usize) -> Result<Vec<Part>, Fail>
+    ensures { IfOk result (λ parts. AreParts parts.items × (length parts.items ≡ workers)) }
+{
+    if workers == 0 || workers > 16 || workers > usize::from(net.nodes()) {
+        return Err("no such workers".into());
+    }
     match split(alloc, net, workers) {
         Ok(parts) => Ok(parts),
         Err((_net, _)) => Err("no memory".into()),
     }
+}
+
+/// The view of a lane that the network has.
+pub fn view_of(alloc: Global, net: &Net, lane: Lane) -> Result<LaneView, Fail> {
+    if !net.has_lane(lane) {
+        return Err("no such lane".into());
+    }
+    Ok(net.lane_view(alloc, lane)?)
 }
 
 fn same_view(a: &LaneView, b: &LaneView) -> bool {

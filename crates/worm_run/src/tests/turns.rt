@@ -4,10 +4,12 @@ ghost use Rattle.std.specs.Prelude.{◌≡◌, ◌<◌, vec_len};
 ghost use Rattle.worm_run.specs.Joins.{AreParts};
 ghost use Rattle.worm_run.specs.PartState.{IsSamePart};
 
-use super::{config, lane, offer, parts_of};
+use super::{config, lane, offer, parts_of, view_of};
 use crate::{Part, join};
 use std::alloc::Global;
+use std::snapshot::Snapshot;
 use std::sync::Wait;
+use std::thread::Promise;
 use std::test::Fail;
 use worm_core::{Held, Net, Place, Script};
 
@@ -49,7 +51,7 @@ fn a_part_alone_fills_the_link(rt: HostRuntime) -> Result<(), Fail> {
     let mut parts = parts_of(alloc, net, 2)?;
     assert!(rt; take_turns(&rt, &mut parts, 0, 3, &script));
     let net = join(&rt, parts);
-    let view = net.lane_view(alloc, lane(0, 1, 0))?;
+    let view = view_of(alloc, &net, lane(0, 1, 0))?;
     assert_eq!(rt; view.delivered, 0);
     assert_eq!(rt; view.underway.len(), 4);
     let link = Place::Link { node: 0, port: 1, vc: 0 };
@@ -69,7 +71,7 @@ fn the_other_part_takes_what_came(rt: HostRuntime) -> Result<(), Fail> {
     assert!(rt; take_turns(&rt, &mut parts, 0, 3, &script));
     assert!(rt; take_turns(&rt, &mut parts, 1, 3, &script));
     let net = join(&rt, parts);
-    let view = net.lane_view(alloc, lane(0, 1, 0))?;
+    let view = view_of(alloc, &net, lane(0, 1, 0))?;
     assert_eq!(rt; view.delivered, 1);
     assert_eq!(rt; view.underway.len(), 3);
     let buffer = Place::Buffer { node: 0, port: 2, vc: 0 };
@@ -82,4 +84,27 @@ fn the_other_part_takes_what_came(rt: HostRuntime) -> Result<(), Fail> {
     };
     assert_eq!(rt; link.front_credit(), Some(0));
     Ok(())
+}
+
+/// What a worker gives back has the same opening and the same queues as what it was given.
+struct Stays(Snapshot<Part>);
+
+impl Drop for Stays {
+    fn drop(self) {
+        let Stays(_) = self;
+    }
+}
+
+impl Promise<Part> for Stays {
+    ghost kept_by = { λ s part. IsSamePart s.0.value part };
+}
+
+/// Twenty turns of the part.
+fn twenty_turns<R: Wait>(rt: &R, mut part: Part, script: &Script) -> Part
+    ensures { IsSamePart part result }
+{
+    for turn in 0u64..20 {
+        let _done = part.turn(rt, turn, script);
+    }
+    part
 }

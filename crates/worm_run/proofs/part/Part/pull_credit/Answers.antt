@@ -2,6 +2,8 @@ use Rattle.std.proofs.Common.{◌≡◌, ◌<◌, Option, Some, None, refl, inr,
 use Rattle.std.specs.Prelude.{slice_set}
 use Rattle.worm_core.specs.Wiring.{port_links}
 use Rattle.worm_core.specs.declared.wiring.PortLinks.{PortLinks}
+use Rattle.worm_core.specs.declared.own.Own.{Own}
+use Rattle.worm_run.specs.Apart.{IsKept}
 use Rattle.worm_run.specs.PartState.{PartState, IsPart, IsSamePart, part_state}
 use Rattle.worm_run.specs.PartTurns.{CreditComes}
 use Rattle.worm_run.proofs.Coming.{CreditInHand, credit_taken, credit_put, back_is_some}

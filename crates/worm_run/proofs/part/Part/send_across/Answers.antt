@@ -3,6 +3,8 @@ use Rattle.std.specs.Prelude.{slice_set}
 use Rattle.worm_router.specs.Router.{leaving}
 use Rattle.worm_theory.specs.Steps.{Send, IsThere}
 use Rattle.worm_core.specs.State.{router_at, shape}
+use Rattle.worm_core.specs.declared.own.Own.{Own}
+use Rattle.worm_run.specs.Apart.{IsKept}
 use Rattle.worm_run.specs.PartState.{PartState, IsPart, IsSamePart, part_state}
 use Rattle.worm_run.specs.PartTurns.{LeavesBy, SendsAcross}
 use Rattle.worm_run.proofs.Going.{out_looked_up, ends_elsewhere, may_go, went, stayed}
@@ -20,8 +22,8 @@ push_flit-requires g c =
     let leaves = subst (λ (q : PartState). LeavesBy q c.args.node c.args.out) back c.requires.leaves in
     let there = subst (λ (q : PartState). IsThere (shape q.net) (Send c.args.node c.args.port c.args.vc)) back c.requires.there in
     let ready = subst (λ (q : PartState). leaving (router_at q.net c.args.node) c.args.port c.args.vc ≡ Some (c.args.out, c.args.flit)) back c.requires.ready in
-    let now = out_looked_up p c.self.invariant framed c.args.node c.args.out c.in-Some.links at c.from.result c.index_mut.result.now c.from.ensures c.index_mut.ensures.value in
-    may_go p c.self.invariant framed c.args.node c.args.out c.in-Some.links at leaves.0 leaves.1 leaves.2 c.args.port c.args.vc c.args.flit there ready c.index_mut.result.now now
+    let now = out_looked_up p c.self.invariant.0 framed c.args.node c.args.out c.in-Some.links at c.from.result c.index_mut.result.now c.from.ensures c.index_mut.ensures.value in
+    may_go p c.self.invariant.0 framed c.args.node c.args.out c.in-Some.links at leaves.0 leaves.1 leaves.2 c.args.port c.args.vc c.args.flit there ready c.index_mut.result.now now
 
 pub let_out-requires-clause-crosses : goal.let_out-requires-clause-crosses
 let_out-requires-clause-crosses g c =
@@ -29,7 +31,7 @@ let_out-requires-clause-crosses g c =
     let p : PartState = part_state i.region i.ends.items i.opening.value i.lines.value.items in
     let at = sym c.in-Some.is ∙ c.links_at.ensures in
     let leaves = subst (λ (q : PartState). LeavesBy q c.args.node c.args.out) (sym c.self.view_is) c.requires.leaves in
-    ends_elsewhere p c.self.invariant c.is_workable.ensures.framed c.args.node c.args.out c.in-Some.links at leaves.0 leaves.1 leaves.2
+    ends_elsewhere p c.self.invariant.0 c.is_workable.ensures.framed c.args.node c.args.out c.in-Some.links at leaves.0 leaves.1 leaves.2
 
 landing : (g : given.Over) (c : goal.After-let_out g)
     → let i = c.self.inside in
@@ -45,12 +47,14 @@ landing g c =
     let leaves = subst (λ (q : PartState). LeavesBy q c.args.node c.args.out) back c.requires.leaves in
     let there = subst (λ (q : PartState). IsThere (shape q.net) (Send c.args.node c.args.port c.args.vc)) back c.requires.there in
     let ready = subst (λ (q : PartState). leaving (router_at q.net c.args.node) c.args.port c.args.vc ≡ Some (c.args.out, c.args.flit)) back c.requires.ready in
-    let now = out_looked_up p c.self.invariant framed c.args.node c.args.out c.in-Some.links at c.from.result c.index_mut.result.now c.from.ensures c.index_mut.ensures.value in
-    went p c.self.invariant framed c.args.node c.args.out c.in-Some.links at leaves.0 leaves.1 leaves.2 c.args.port c.args.vc c.args.flit there ready
+    let now = out_looked_up p c.self.invariant.0 framed c.args.node c.args.out c.in-Some.links at c.from.result c.index_mut.result.now c.from.ensures c.index_mut.ensures.value in
+    went p c.self.invariant.0 framed c.args.node c.args.out c.in-Some.links at leaves.0 leaves.1 leaves.2 c.args.port c.args.vc c.args.flit there ready
     c.from.result c.index_mut.result.now c.push_flit.new.end c.let_out.new.self c.from.ensures now c.if-push_flit.ensures c.let_out.ensures
 
 pub invariant_of-self : goal.invariant_of-self
-invariant_of-self g c = (landing g c).0
+invariant_of-self g c =
+    let i = c.self.inside in
+    ((landing g c).0, subst (λ (w : Own). IsKept i.opening.value w i.kept) (sym (landing g c).2.config.own) c.self.invariant.1)
 
 pub returns-then-push_flit-clause-sends : goal.returns-then-push_flit-clause-sends
 returns-then-push_flit-clause-sends g c = rw (← c.self.view_is) (landing g c).1
@@ -65,9 +69,9 @@ invariant_of-self-else-push_flit g c =
     let leaves = subst (λ (q : PartState). LeavesBy q c.args.node c.args.out) back c.requires.leaves in
     let there = subst (λ (q : PartState). IsThere (shape q.net) (Send c.args.node c.args.port c.args.vc)) back c.requires.there in
     let ready = subst (λ (q : PartState). leaving (router_at q.net c.args.node) c.args.port c.args.vc ≡ Some (c.args.out, c.args.flit)) back c.requires.ready in
-    let stays = stayed p c.self.invariant framed c.args.node c.args.out c.in-Some.links at leaves.0 leaves.1 leaves.2 c.args.port c.args.vc c.args.flit there ready
+    let stays = stayed p c.self.invariant.0 framed c.args.node c.args.out c.in-Some.links at leaves.0 leaves.1 leaves.2 c.args.port c.args.vc c.args.flit there ready
     c.from.result c.index_mut.result.now c.push_flit.new.end c.from.ensures c.index_mut.ensures.value c.if-push_flit.ensures in
-    subst IsPart (sym stays.0) c.self.invariant
+    (subst IsPart (sym stays.0) c.self.invariant.0, c.self.invariant.1)
 
 pub returns-else-push_flit-clause-sends : goal.returns-else-push_flit-clause-sends
 returns-else-push_flit-clause-sends g c =
@@ -79,6 +83,6 @@ returns-else-push_flit-clause-sends g c =
     let leaves = subst (λ (q : PartState). LeavesBy q c.args.node c.args.out) back c.requires.leaves in
     let there = subst (λ (q : PartState). IsThere (shape q.net) (Send c.args.node c.args.port c.args.vc)) back c.requires.there in
     let ready = subst (λ (q : PartState). leaving (router_at q.net c.args.node) c.args.port c.args.vc ≡ Some (c.args.out, c.args.flit)) back c.requires.ready in
-    let stays = stayed p c.self.invariant framed c.args.node c.args.out c.in-Some.links at leaves.0 leaves.1 leaves.2 c.args.port c.args.vc c.args.flit there ready
+    let stays = stayed p c.self.invariant.0 framed c.args.node c.args.out c.in-Some.links at leaves.0 leaves.1 leaves.2 c.args.port c.args.vc c.args.flit there ready
     c.from.result c.index_mut.result.now c.push_flit.new.end c.from.ensures c.index_mut.ensures.value c.if-push_flit.ensures in
     rw (← c.self.view_is) stays.1
