@@ -35,8 +35,7 @@ pub record DealSoFar (O : NetState) (W : ℕ) (lines : List Line) (w : ℕ) (kep
 pub all_last : {A : Type 0} (P : A → Type 0) (xs ys : List A) (x : A) → ys ≡ xs ++ x ∷ [] → All P ys → P x × All P xs
 all_last {A} P xs ys x is all =
     let long = ap (λ (l : List A). length l) is ∙ length-append xs (x ∷ []) in
-    let at : slice_index_or ys (length xs) x ≡ x = ap (λ (l : List A). slice_index_or l (length xs) x) is ∙ get_or_at xs x [] x (length xs) refl in
-    (
+    let at : slice_index_or ys (length xs) x ≡ x = ap (λ (l : List A). slice_index_or l (length xs) x) is ∙ get_or_at xs x [] x (length xs) refl in (
       subst P at (all (length xs) x (omega arith)),
       λ k d below.
           let same : slice_index_or ys k d ≡ slice_index_or xs k d = ap (λ (l : List A). slice_index_or l k d) is ∙ get_or_append_left xs (x ∷ []) d k below in
@@ -139,8 +138,7 @@ pub seat_lengths : (O : NetState) (lines : List Line) (kept : Kept) (seat : Seat
     × (length seat.ends.items ≡ length kept.lines.items) × (length kept.ways.items ≡ length kept.links.items) × (length kept.ways.items ≡ length kept.lines.items)
 seat_lengths O lines kept seat net apart is =
     let few = net.framed.radices.few_nodes in
-    let all = apart.all_nodes in
-    (
+    let all = apart.all_nodes in (
       is.all_nodes ∙ sym apart.all_nodes,
       omega arith,
       (ap (λ (l : List LinkView). length l) is.links ∙ length-replicate (link_count O.mesh) (empty_link (sum O.channels * O.depth))) ∙ sym apart.all_links,

@@ -94,10 +94,10 @@ module _ (O : NetState) (W w : ℕ) (own : Own) (own_is : own ≡ record { worke
   rooms k below =
       let m = sum O.channels * O.depth in
       let theirs : (j : ℕ) → j < length links → m ≤ (link_in links j).room = λ j inside.
-          let long : length links ≡ link_count O.mesh = ap (λ (l : List LinkView). length l) empty.no_flits ∙ length-replicate (link_count O.mesh) (empty_link m) in
-          let at : (link_in links j).room ≡ m = ap (λ (l : List LinkView). (link_in l j).room) empty.no_flits
-          ∙ ap (λ (l : LinkView). l.room) (get_or-replicate (link_count O.mesh) j (empty_link m) blank_link (omega arith)) in
-          omega arith in
+      let long : length links ≡ link_count O.mesh = ap (λ (l : List LinkView). length l) empty.no_flits ∙ length-replicate (link_count O.mesh) (empty_link m) in
+      let at : (link_in links j).room ≡ m = ap (λ (l : List LinkView). (link_in l j).room) empty.no_flits
+      ∙ ap (λ (l : LinkView). l.room) (get_or-replicate (link_count O.mesh) j (empty_link m) blank_link (omega arith)) in
+      omega arith in
       rooms_now own kept.ways.items kept.links.items links new.links.items new_links links_swapped m dealt.apart.rooms theirs k below
 
   -- what is left for the workers that come

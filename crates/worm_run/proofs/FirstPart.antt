@@ -287,9 +287,10 @@ module _ (p : PartState) (net : IsNet p.opening) (ways : List LinkEnds) (are : A
     injected = λ x c e. (same_mine x e).injected c;
     unfed = λ x c e. (same_mine x e).unfed c;
     within = λ y o x linked near far.
-        let inner = (unused y o x linked).inner (near ∙ sym far) in
-        (ap (λ (e : End). sent_on e (N.out y o)) inner ∙ (out_linked y o x linked ∙ rw far refl),
-        ap (λ (e : End). given_on e (N.credit_list y o)) inner ∙ (line_linked y o x linked ∙ rw near refl));
+        let inner = (unused y o x linked).inner (near ∙ sym far) in (
+          ap (λ (e : End). sent_on e (N.out y o)) inner ∙ (out_linked y o x linked ∙ rw far refl),
+          ap (λ (e : End). given_on e (N.credit_list y o)) inner ∙ (line_linked y o x linked ∙ rw near refl),
+        );
     leaving = λ y o x linked near far.
         let leaves = (unused y o x linked).leaves near far (N.out y o) (N.credit_list y o) in
         (leaves.0, leaves.1 ∙ (line_linked y o x linked ∙ rw near refl));

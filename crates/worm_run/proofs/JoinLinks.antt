@@ -154,22 +154,25 @@ module _ (parts : List PartState) (are : AreParts parts) (kept : Kept) (gathered
           let did = emptied.done k way.within (between apart) in
           let did_near = subst (λ (e : End). IsEmptied e (line_at kept.lines.items k).into a b) (out_gathered apart ∙ meet.near_is) did in
           let is : IsEmptiedOf meet.tx meet.back meet.rx meet.give a b
-          = subst (λ (e : End). IsEmptied (Leaving meet.tx meet.back) e a b) (into_gathered apart ∙ meet.far_is) did_near in
-          (is.flits_left, is.credits_left, record {
-            within = λ same. absurd (apart same);
-            apart = λ e. (
-              ap (λ (end : End). sent_on end ((network_of near.net).out y o)) meet.near_is ∙ (is.in_queue
-                  ∙ ap (λ (end : End). taken_on end ++ is.flits_left) (sym meet.far_is)),
-              ap (λ (end : End). given_on end ((network_of far.net).credit_list y o)) meet.far_is ∙ (is.in_line
-                  ∙ ap (λ (end : End). returned_on end ++ is.credits_left) (sym meet.near_is)),
-            );
-            flits = λ room.
-                let fits : length a.flits + length is.flits_left ≤ a.room = rw flits_gathered room in
-                is.flits fits ∙ ap (λ (l : List Flit). l ++ is.flits_left) flits_gathered;
-            credits = λ room.
-                let fits : length a.credits + length is.credits_left ≤ a.room = rw credits_gathered room in
-                is.credits fits ∙ ap (λ (l : List ℕ). l ++ is.credits_left) credits_gathered;
-          })
+          = subst (λ (e : End). IsEmptied (Leaving meet.tx meet.back) e a b) (into_gathered apart ∙ meet.far_is) did_near in (
+            is.flits_left,
+            is.credits_left,
+            record {
+              within = λ same. absurd (apart same);
+              apart = λ e. (
+                ap (λ (end : End). sent_on end ((network_of near.net).out y o)) meet.near_is ∙ (is.in_queue
+                    ∙ ap (λ (end : End). taken_on end ++ is.flits_left) (sym meet.far_is)),
+                ap (λ (end : End). given_on end ((network_of far.net).credit_list y o)) meet.far_is ∙ (is.in_line
+                    ∙ ap (λ (end : End). returned_on end ++ is.credits_left) (sym meet.near_is)),
+              );
+              flits = λ room.
+                  let fits : length a.flits + length is.flits_left ≤ a.room = rw flits_gathered room in
+                  is.flits fits ∙ ap (λ (l : List Flit). l ++ is.flits_left) flits_gathered;
+              credits = λ room.
+                  let fits : length a.credits + length is.credits_left ≤ a.room = rw credits_gathered room in
+                  is.credits fits ∙ ap (λ (l : List ℕ). l ++ is.credits_left) credits_gathered;
+            },
+          )
 
       pub rest : (fs : List Flit) × (cs : List ℕ) × IsRest y o x links fs cs
       rest = elim (number_cases (y % length parts) (x % length parts)) [

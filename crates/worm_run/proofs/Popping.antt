@@ -30,8 +30,7 @@ last_of parts left rest done p all popped =
     let split : parts ≡ rest ++ p ∷ done = all ∙ (ap (λ (l : List PartState). l ++ done) popped ∙ append_assoc rest (p ∷ []) done) in
     let long = ap (λ (l : List PartState). length l) split in
     let sum = length-append rest (p ∷ done) in
-    let one = ap (λ (l : List PartState). length l) popped in
-    (
+    let one = ap (λ (l : List PartState). length l) popped in (
       record {
         there = omega arith;
         is = ap (λ (l : List PartState). part_at l (length rest)) split ∙ get_or_at rest p done no_part (length rest) refl;
@@ -81,8 +80,7 @@ module _ (parts : List PartState) (are : AreParts parts) (rest : List PartState)
       let mesh : p.net.mesh ≡ (part_at parts 0).opening.mesh = part.config.mesh ∙ ap (λ (s : NetState). s.mesh) its_opening in
       let few = part.opened.framed.radices.few_nodes in
       let count : node_count p.opening.mesh ≡ node_count (part_at parts 0).opening.mesh = ap (λ (s : NetState). node_count s.mesh) its_opening in
-      let all = apart.all_nodes in
-      (
+      let all = apart.all_nodes in (
         framed.all_nodes ∙ (ap node_count mesh ∙ sym apart.all_nodes),
         framed.all_links ∙ (ap link_count mesh ∙ sym apart.all_links),
         part.all_ends ∙ (ap link_count mesh ∙ sym apart.all_lines),

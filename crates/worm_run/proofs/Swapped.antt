@@ -49,8 +49,7 @@ module _ (own : Own) (xs ys us vs : List Node) (swapped : NodesSwapped own (leng
         let one = swapped.one_length in
         let was = swapped.rest x past n n in
         let mine = get_or_past xs x n past in
-        let other = get_or_past ys x n (omega arith) in
-        (
+        let other = get_or_past ys x n (omega arith) in (
           was.0 ∙ (mine ∙ rw (mine, other) (sym (either (owned_by own x) n))),
           was.1 ∙ (other ∙ rw (mine, other) (sym (either (owned_by own x) n))),
         )

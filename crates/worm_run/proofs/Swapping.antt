@@ -63,9 +63,9 @@ nodes_further own k xs ys us vs a b new_a new_b mine so_far there a_is b_is mine
     let a_read = get_or_read us k a (omega arith) a_is in
     let b_read = get_or_read vs k b (omega arith) b_is in
     further (λ j. SwapsNode (owned_by own j)) k xs ys us vs new_a new_b so_far there (λ d e.
-        subst (λ (m : Bool). SwapsNode m (slice_index_or us k d) (slice_index_or vs k e) new_a new_b) mine_is
-        (subst (λ (x : Node). SwapsNode mine x (slice_index_or vs k e) new_a new_b) (a_read d)
-        (subst (λ (y : Node). SwapsNode mine a y new_a new_b) (b_read e) swaps)))
+    subst (λ (m : Bool). SwapsNode m (slice_index_or us k d) (slice_index_or vs k e) new_a new_b) mine_is
+    (subst (λ (x : Node). SwapsNode mine x (slice_index_or vs k e) new_a new_b) (a_read d)
+    (subst (λ (y : Node). SwapsNode mine a y new_a new_b) (b_read e) swaps)))
 
 module _ (own : Own) (ways : List LinkEnds) (k : ℕ) (way : LinkEnds) (way_in : k < length ways) (way_is : way ≡ slice_index_or ways k way)
     (near far : Bool) (near_is : near ≡ owned_by own way.from) (far_is : far ≡ owned_by own way.to) where
@@ -87,10 +87,10 @@ module _ (own : Own) (ways : List LinkEnds) (k : ℕ) (way : LinkEnds) (way_in :
       let a_read = get_or_read us k a (omega arith) a_is in
       let b_read = get_or_read vs k b (omega arith) b_is in
       further (λ j. SwapsLink (near_of own ways j) (far_of own ways j)) k xs ys us vs new_a new_b so_far there (λ d e.
-          subst (λ (n : Bool). SwapsLink n (far_of own ways k) (slice_index_or us k d) (slice_index_or vs k e) new_a new_b) near_here
-          (subst (λ (f : Bool). SwapsLink near f (slice_index_or us k d) (slice_index_or vs k e) new_a new_b) far_here
-          (subst (λ (x : LinkView). SwapsLink near far x (slice_index_or vs k e) new_a new_b) (a_read d)
-          (subst (λ (y : LinkView). SwapsLink near far a y new_a new_b) (b_read e) swaps))))
+      subst (λ (n : Bool). SwapsLink n (far_of own ways k) (slice_index_or us k d) (slice_index_or vs k e) new_a new_b) near_here
+      (subst (λ (f : Bool). SwapsLink near f (slice_index_or us k d) (slice_index_or vs k e) new_a new_b) far_here
+      (subst (λ (x : LinkView). SwapsLink near far x (slice_index_or vs k e) new_a new_b) (a_read d)
+      (subst (λ (y : LinkView). SwapsLink near far a y new_a new_b) (b_read e) swaps))))
 
   pub ends_further : (xs : List Line) (ys : List End) (us : List Line) (vs : List End) (a : Line) (b : End) (new_a : Line) (new_b : End)
       → EndsSwapped own ways k xs ys us vs → k < length xs
@@ -102,7 +102,7 @@ module _ (own : Own) (ways : List LinkEnds) (k : ℕ) (way : LinkEnds) (way_in :
       let a_read = get_or_read us k a (omega arith) a_is in
       let b_read = get_or_read vs k b (omega arith) b_is in
       further (λ j. SwapsEnd (near_of own ways j) (far_of own ways j)) k xs ys us vs new_a new_b so_far there (λ d e.
-          subst (λ (n : Bool). SwapsEnd n (far_of own ways k) (slice_index_or us k d) (slice_index_or vs k e) new_a new_b) near_here
-          (subst (λ (f : Bool). SwapsEnd near f (slice_index_or us k d) (slice_index_or vs k e) new_a new_b) far_here
-          (subst (λ (x : Line). SwapsEnd near far x (slice_index_or vs k e) new_a new_b) (a_read d)
-          (subst (λ (y : End). SwapsEnd near far a y new_a new_b) (b_read e) swaps))))
+      subst (λ (n : Bool). SwapsEnd n (far_of own ways k) (slice_index_or us k d) (slice_index_or vs k e) new_a new_b) near_here
+      (subst (λ (f : Bool). SwapsEnd near f (slice_index_or us k d) (slice_index_or vs k e) new_a new_b) far_here
+      (subst (λ (x : Line). SwapsEnd near far x (slice_index_or vs k e) new_a new_b) (a_read d)
+      (subst (λ (y : End). SwapsEnd near far a y new_a new_b) (b_read e) swaps))))

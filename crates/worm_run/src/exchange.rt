@@ -68,12 +68,7 @@ fn swap_link(kept: &mut LinkState, link: &mut LinkState, near: bool, far: bool)
 }
 
 /// Exchanges what is on the links, flits and credits.
-fn swap_links(
-    kept: &mut Vec<LinkState>,
-    links: &mut Vec<LinkState>,
-    ways: &Vec<LinkEnds>,
-    own: Own,
-)
+fn swap_links(kept: &mut Vec<LinkState>, links: &mut Vec<LinkState>, ways: &Vec<LinkEnds>, own: Own)
     requires workers { 0 < own.workers }
     requires length { length links.old.items ≡ length kept.old.items }
     requires ways { length ways.now.items ≡ length kept.old.items }
@@ -81,7 +76,12 @@ fn swap_links(
 {
     for k in 0..ways.len() {
         let way = ways[k];
-        swap_link(&mut kept[k], &mut links[k], owns(own, way.from), owns(own, way.to));
+        swap_link(
+            &mut kept[k],
+            &mut links[k],
+            owns(own, way.from),
+            owns(own, way.to),
+        );
     }
 }
 
@@ -105,7 +105,12 @@ fn swap_ends(lines: &mut Vec<Line>, ends: &mut Vec<End>, ways: &Vec<LinkEnds>, o
 {
     for k in 0..ways.len() {
         let way = ways[k];
-        swap_end(&mut lines[k], &mut ends[k], owns(own, way.from), owns(own, way.to));
+        swap_end(
+            &mut lines[k],
+            &mut ends[k],
+            owns(own, way.from),
+            owns(own, way.to),
+        );
     }
 }
 

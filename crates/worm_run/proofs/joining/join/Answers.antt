@@ -21,7 +21,7 @@ empty_lines-requires g c =
       link_ways = apart.ways.all ∙ sym apart.all_links;
       line_ways = apart.ways.all ∙ sym apart.all_lines;
       queues = subst (λ (n : ℕ). (k : ℕ) → IsBetween n whole.ways.items k → AreOfOne (line_at whole.lines.items k).out (line_at whole.lines.items k).into) same
-      (queues_meet c.args.parts.items c.requires whole c.gather-whole.ensures);
+          (queues_meet c.args.parts.items c.requires whole c.gather-whole.ensures);
     }
 
 pub from_parts-requires : goal.from_parts-requires

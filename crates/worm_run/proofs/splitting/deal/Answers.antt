@@ -172,7 +172,7 @@ returns c =
     let taken = is_taken c.push-room-2.result (vec_capacity s.parts) (vec_len s.parts) c.push-room-2.ensures.full room in
     let pushed : c.push-room-2.new.self.items ≡ s.parts.items ++ part ∷ [] = c.push-room-2.ensures.items ∙ (rw taken (ap (λ (p : PartState). s.parts.items ++ p ∷ []) c.part_of-2.ensures)) in
     let all = deal_further O c.requires.net W (W - 1) below lines s.whole x.self so_far.dealt seat is x.nodes.items x.links.items x.ends.items did.config did.ways did.nodes did.links did.ends
-        s.seats.items rest s.parts.items c.push-room-2.new.self.items (vec_capacity s.parts) (vec_capacity c.push-room-2.new.self) so_far popped pushed c.push-room-2.ensures.capacity in
+    s.seats.items rest s.parts.items c.push-room-2.new.self.items (vec_capacity s.parts) (vec_capacity c.push-room-2.new.self) so_far popped pushed c.push-room-2.ensures.capacity in
     let one : W - 1 + 1 ≡ W = omega arith in
     all_dealt O W lines x.self rest c.push-room-2.new.self.items (vec_capacity c.push-room-2.new.self)
     (subst (λ (w : ℕ). DealSoFar O W lines w x.self rest c.push-room-2.new.self.items (vec_capacity c.push-room-2.new.self)) one all)
