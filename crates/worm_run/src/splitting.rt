@@ -56,7 +56,8 @@ fn deal(
     requires workers { (0 < workers) × (workers ≤ 16) }
     requires net { IsNet opening.now.value }
     requires whole { IsOpened opening.now.value workers lines.now.value.items whole }
-    requires seats { AreSeats opening.now.value lines.now.value.items workers seats.items parts.items (vec_capacity parts) }
+    requires seats { AreSeats opening.now.value lines.now.value.items workers seats.items parts.items (vec_capacity
+        parts) }
     ensures { IsSplitOf opening.now.value workers result.items }
 {
     for worker in 0..workers - 1 {
@@ -79,7 +80,8 @@ fn deal(
     parts
 }
 
-/// Splits the network at its links among so many workers, 1 to 16: a part for each, in rising number. The nodes go to them in
+/// Splits the network at its links among so many workers, 1 to 16: a part for each, in rising number. The nodes go to
+/// them in
 /// turn, and a worker past the last node gets none. `Err` gives the network back as it was, where memory is refused.
 ///
 /// ```text
