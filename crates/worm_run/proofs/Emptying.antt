@@ -1,5 +1,6 @@
 -- What a queue still holds goes onto its link, one item after another.
-use Rattle.std.proofs.Common.{◌≡◌, ℕ, ◌+◌, ◌-◌, ◌<◌, ◌≤◌, inl, inr, List, [], ◌∷◌, ◌++◌, length, length-append, refl, arith, sym, ap, ◌∙◌, append-nil, append_assoc}
+use Rattle.std.proofs.Common.{◌≡◌, ℕ, ◌+◌, ◌-◌, ◌<◌, ◌≤◌, inl, inr, List, [], ◌∷◌, ◌++◌, length, length-append, refl}
+use Rattle.std.proofs.Common.{arith, sym, ap, ◌∙◌, append-nil, append_assoc}
 use Rattle.std.proofs.lemmas.Bool.{cases_lt}
 use Rattle.worm_flit.specs.declared.Flit.{Flit}
 use Rattle.worm_core.specs.State.{LinkView}
@@ -32,9 +33,11 @@ flits_begun sent taken link = record {
   room = refl;
 }
 
-pub flits_further : (sent taken now_sent now_taken next_sent next_taken : List Flit) (old link new : LinkView) (x : Flit)
+pub flits_further : (sent taken now_sent now_taken next_sent next_taken : List Flit) (old link new : LinkView)
+    (x : Flit)
     → FlitsSoFar sent taken now_sent now_taken old link → next_sent ≡ now_sent → next_taken ≡ now_taken ++ x ∷ []
-    → (length link.flits < link.room → new ≡ record link { flits = link.flits ++ x ∷ [] }) → (link.room ≤ length link.flits → new ≡ link)
+    → (length link.flits < link.room → new ≡ record link { flits = link.flits ++ x ∷ [] })
+    → (link.room ≤ length link.flits → new ≡ link)
     → FlitsSoFar sent taken next_sent next_taken old new
 flits_further sent taken now_sent now_taken next_sent next_taken old link new x so_far same_sent took fits full =
     let gone = so_far.gone in
@@ -48,7 +51,8 @@ flits_further sent taken now_sent now_taken next_sent next_taken old link new x 
             behind = λ enough.
                 let long = length-append gone (x ∷ []) in
                 let had = so_far.behind (omega arith) in
-                ap (λ (l : LinkView). l.flits) e ∙ (ap (λ (l : List Flit). l ++ x ∷ []) had ∙ append_assoc old.flits gone (x ∷ []));
+                ap (λ (l : LinkView). l.flits) e ∙ (ap (λ (l : List Flit). l ++ x ∷ []) had
+                ∙ append_assoc old.flits gone (x ∷ []));
             credits = ap (λ (l : LinkView). l.credits) e ∙ so_far.credits;
             room = ap (λ (l : LinkView). l.room) e ∙ so_far.room;
           }
@@ -69,7 +73,8 @@ flits_further sent taken now_sent now_taken next_sent next_taken old link new x 
           }
     ]
 
-pub flits_ended : (sent taken now_sent now_taken : List Flit) (old new : LinkView) → FlitsSoFar sent taken now_sent now_taken old new
+pub flits_ended : (sent taken now_sent now_taken : List Flit) (old new : LinkView)
+    → FlitsSoFar sent taken now_sent now_taken old new
     → now_taken ≡ now_sent → FlitsEmptied sent taken old new
 flits_ended sent taken now_sent now_taken old new so_far all = record {
   left = so_far.gone;
@@ -99,7 +104,8 @@ credits_begun sent taken link = record {
 
 pub credits_further : (sent taken now_sent now_taken next_sent next_taken : List ℕ) (old link new : LinkView) (x : ℕ)
     → CreditsSoFar sent taken now_sent now_taken old link → next_sent ≡ now_sent → next_taken ≡ now_taken ++ x ∷ []
-    → (length link.credits < link.room → new ≡ record link { credits = link.credits ++ x ∷ [] }) → (link.room ≤ length link.credits → new ≡ link)
+    → (length link.credits < link.room → new ≡ record link { credits = link.credits ++ x ∷ [] })
+    → (link.room ≤ length link.credits → new ≡ link)
     → CreditsSoFar sent taken next_sent next_taken old new
 credits_further sent taken now_sent now_taken next_sent next_taken old link new x so_far same_sent took fits full =
     let gone = so_far.gone in
@@ -113,7 +119,8 @@ credits_further sent taken now_sent now_taken next_sent next_taken old link new 
             behind = λ enough.
                 let long = length-append gone (x ∷ []) in
                 let had = so_far.behind (omega arith) in
-                ap (λ (l : LinkView). l.credits) e ∙ (ap (λ (l : List ℕ). l ++ x ∷ []) had ∙ append_assoc old.credits gone (x ∷ []));
+                ap (λ (l : LinkView). l.credits) e ∙ (ap (λ (l : List ℕ). l ++ x ∷ []) had
+                ∙ append_assoc old.credits gone (x ∷ []));
             flits = ap (λ (l : LinkView). l.flits) e ∙ so_far.flits;
             room = ap (λ (l : LinkView). l.room) e ∙ so_far.room;
           }
@@ -134,7 +141,8 @@ credits_further sent taken now_sent now_taken next_sent next_taken old link new 
           }
     ]
 
-pub credits_ended : (sent taken now_sent now_taken : List ℕ) (old new : LinkView) → CreditsSoFar sent taken now_sent now_taken old new
+pub credits_ended : (sent taken now_sent now_taken : List ℕ) (old new : LinkView)
+    → CreditsSoFar sent taken now_sent now_taken old new
     → now_taken ≡ now_sent → CreditsEmptied sent taken old new
 credits_ended sent taken now_sent now_taken old new so_far all = record {
   left = so_far.gone;

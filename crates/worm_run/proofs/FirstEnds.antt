@@ -14,13 +14,16 @@ same_end_itself (Entering rx give) = (refl, refl, refl, refl, refl)
 abbrev pub first_end : Bool → Bool → End → End → End
 first_end near far out into = cond near (cond far Inner out) (cond far into Inner)
 
--- What the worker sees of the link over it: of a link that leaves its nodes nothing was sent, of one that enters them no credit was given.
+-- What the worker sees of the link over it: of a link that leaves its nodes nothing was sent, of one that enters them
+-- no credit was given.
 pub record IsUnused (near far : Bool) (e : End) : Type 0 where
   pub took : taken_on e ≡ []
   pub got : returned_on e ≡ []
   pub inner : near ≡ far → e ≡ Inner
-  pub leaves : near ≡ true → far ≡ false → (flits : List Flit) (credits : List ℕ) → (sent_on e flits ≡ []) × (given_on e credits ≡ credits)
-  pub enters : near ≡ false → far ≡ true → (flits : List Flit) (credits : List ℕ) → (sent_on e flits ≡ flits) × (given_on e credits ≡ [])
+  pub leaves : near ≡ true → far ≡ false → (flits : List Flit) (credits : List ℕ) → (sent_on e flits ≡ [])
+      × (given_on e credits ≡ credits)
+  pub enters : near ≡ false → far ≡ true → (flits : List Flit) (credits : List ℕ) → (sent_on e flits ≡ flits)
+      × (given_on e credits ≡ [])
 
 module _ (mesh channels : List ℕ) (y o : ℕ) (past : List Flit) where
   out_unused : (out into : End) → AreEndsMade mesh channels y o past out into → IsUnused true false out
@@ -49,7 +52,8 @@ module _ (mesh channels : List ℕ) (y o : ℕ) (past : List Flit) where
     enters = λ near far flits credits. (refl, made.3.2);
   }
 
-  pub first_unused : (near far : Bool) (out into : End) → ((near ≡ far → ⊥) → AreEndsMade mesh channels y o past out into)
+  pub first_unused : (near far : Bool) (out into : End) → ((near ≡ far → ⊥)
+      → AreEndsMade mesh channels y o past out into)
       → IsUnused near far (first_end near far out into)
   first_unused true true out into made = record {
     took = refl;

@@ -1,5 +1,6 @@
 -- A part put back: what is gathered is one worker's more.
-use Rattle.std.proofs.Common.{◌≡◌, ℕ, ◌+◌, ◌*◌, ◌<◌, ◌≤◌, ◌%◌, ◌==◌, Bool, true, false, cond, inl, inr, List, length, sum, refl, arith, sym, ap, subst, ◌∙◌, eq-eqb}
+use Rattle.std.proofs.Common.{◌≡◌, ℕ, ◌+◌, ◌*◌, ◌<◌, ◌≤◌, ◌%◌, ◌==◌, Bool, true, false, cond, inl, inr, List, length}
+use Rattle.std.proofs.Common.{sum, refl, arith, sym, ap, subst, ◌∙◌, eq-eqb}
 use Rattle.std.specs.Prelude.{slice_index_or}
 use Rattle.std.proofs.lemmas.Bool.{cases_eq}
 use Rattle.worm_mesh.specs.declared.mesh.LinkEnds.{LinkEnds}
@@ -23,12 +24,15 @@ pub either_way : (b : Bool) (a : End) → cond b a a ≡ a
 either_way true a = refl
 either_way false a = refl
 
-module _ (parts : List PartState) (are : AreParts parts) (n : ℕ) (there : n < length parts) (kept new : Kept) (gathered : IsGathered parts (n + 1) kept)
+module _ (parts : List PartState) (are : AreParts parts) (n : ℕ) (there : n < length parts) (kept new : Kept)
+    (gathered : IsGathered parts (n + 1) kept)
     (part : IsPart (part_at parts n)) (framed : IsFramed (part_at parts n).net)
     (same_config : new.config ≡ kept.config) (same_ways : new.ways ≡ kept.ways)
     (nodes : NodesPutBack (part_at parts n).net.own kept.nodes.items (part_at parts n).net.nodes new.nodes.items)
-    (links : LinksPutBack (part_at parts n).net.own kept.ways.items kept.links.items (part_at parts n).net.links new.links.items)
-    (ends : EndsPutBack (part_at parts n).net.own kept.ways.items kept.lines.items (part_at parts n).ends new.lines.items) where
+    (links : LinksPutBack (part_at parts n).net.own kept.ways.items kept.links.items
+    (part_at parts n).net.links new.links.items)
+    (ends : EndsPutBack (part_at parts n).net.own kept.ways.items kept.lines.items
+    (part_at parts n).ends new.lines.items) where
   abbrev p : PartState
   p = part_at parts n
 
@@ -47,7 +51,8 @@ module _ (parts : List PartState) (are : AreParts parts) (n : ℕ) (there : n < 
   further_on : (x : ℕ) → n ≤ x % W → (x % W ≡ n → ⊥) → n + 1 ≤ x % W
   further_on x from apart = elim (cases_eq (x % W) n) [ inl e ↦ absurd (apart e) | inr other ↦ omega arith ]
 
-  new_node : (x : ℕ) → n ≤ x % W → (d : Node) → slice_index_or new.nodes.items x d ≡ slice_index_or (owner_of parts x).net.nodes x d
+  new_node : (x : ℕ) → n ≤ x % W → (d : Node) → slice_index_or new.nodes.items x d ≡ slice_index_or
+      (owner_of parts x).net.nodes x d
   new_node x from d =
       let now = (nodes_now p.net.own kept.nodes.items p.net.nodes new.nodes.items nodes.0 nodes.1 x d).0 in
       elim (cases_eq (x % W) n) [
@@ -62,10 +67,12 @@ module _ (parts : List PartState) (are : AreParts parts) (n : ℕ) (there : n < 
   way_same : (k : ℕ) → way_at new.ways.items k ≡ way_at kept.ways.items k
   way_same k = λ t. way_at (same_ways t).items k
 
-  new_flits : (k : ℕ) → let x = (way_at kept.ways.items k).to in n ≤ x % W → (link_in new.links.items k).flits ≡ (link_at (owner_of parts x).net k).flits
+  new_flits : (k : ℕ) → let x = (way_at kept.ways.items k).to in n ≤ x % W
+      → (link_in new.links.items k).flits ≡ (link_at (owner_of parts x).net k).flits
   new_flits k from =
       let x = (way_at kept.ways.items k).to in
-      let now = (links_now p.net.own kept.ways.items kept.links.items p.net.links new.links.items links.0 links.1 k).flits in
+      let now = (links_now p.net.own kept.ways.items kept.links.items p.net.links new.links.items links.0 links.1
+      k).flits in
       elim (cases_eq (x % W) n) [
         | inl e ↦
             let mine = owned_here x e in
@@ -75,10 +82,12 @@ module _ (parts : List PartState) (are : AreParts parts) (n : ℕ) (there : n < 
             now ∙ (rw other refl ∙ gathered.flits k (further_on x from apart))
       ]
 
-  new_credits : (k : ℕ) → let y = (way_at kept.ways.items k).from in n ≤ y % W → (link_in new.links.items k).credits ≡ (link_at (owner_of parts y).net k).credits
+  new_credits : (k : ℕ) → let y = (way_at kept.ways.items k).from in n ≤ y % W
+      → (link_in new.links.items k).credits ≡ (link_at (owner_of parts y).net k).credits
   new_credits k from =
       let y = (way_at kept.ways.items k).from in
-      let now = (links_now p.net.own kept.ways.items kept.links.items p.net.links new.links.items links.0 links.1 k).credits in
+      let now = (links_now p.net.own kept.ways.items kept.links.items p.net.links new.links.items links.0 links.1
+      k).credits in
       elim (cases_eq (y % W) n) [
         | inl e ↦
             let mine = owned_here y e in
@@ -126,9 +135,12 @@ module _ (parts : List PartState) (are : AreParts parts) (n : ℕ) (there : n < 
       let opening = are.one_opening n there in
       let all = framed.rooms in
       let product : sum p.net.channels * p.net.depth ≡ sum O.channels * O.depth
-      = λ t. sum ((part.config.channels ∙ ap (λ (z : NetState). z.channels) opening) t) * (part.config.depth ∙ ap (λ (z : NetState). z.depth) opening) t in
-      let theirs : (j : ℕ) → j < length p.net.links → sum O.channels * O.depth ≤ (link_in p.net.links j).room = λ j inside. let r = all j inside in omega arith in
-      (rooms_now p.net.own kept.ways.items kept.links.items p.net.links new.links.items links.0 links.1 (sum O.channels * O.depth)
+      = λ t. sum ((part.config.channels ∙ ap (λ (z : NetState). z.channels) opening) t) * (part.config.depth
+      ∙ ap (λ (z : NetState). z.depth) opening) t in
+      let theirs : (j : ℕ) → j < length p.net.links → sum O.channels * O.depth ≤
+      (link_in p.net.links j).room = λ j inside. let r = all j inside in omega arith in
+      (rooms_now p.net.own kept.ways.items kept.links.items p.net.links new.links.items links.0 links.1
+      (sum O.channels * O.depth)
       gathered.apart.rooms theirs k (omega arith)).0
 
   holds_on : (w : ℕ) → n ≤ w → w < length parts → IsPart (part_at parts w) × IsFramed (part_at parts w).net

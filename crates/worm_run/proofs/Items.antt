@@ -1,5 +1,6 @@
 -- What is made before a split, item by item.
-use Rattle.std.proofs.Common.{◌≡◌, ℕ, ◌+◌, ◌<◌, ◌≤◌, ◌≢◌, List, [], ◌∷◌, ◌++◌, inl, inr, length, Some, arith, refl, sym, ap, subst, ◌∙◌, suc, zero}
+use Rattle.std.proofs.Common.{◌≡◌, ℕ, ◌+◌, ◌<◌, ◌≤◌, ◌≢◌, List, [], ◌∷◌, ◌++◌, inl, inr, length, Some, arith, refl}
+use Rattle.std.proofs.Common.{sym, ap, subst, ◌∙◌, suc, zero}
 use Rattle.std.specs.Prelude.{slice_get, slice_set, slice_index_or}
 use Rattle.std.proofs.lemmas.Bool.{cases_lt}
 use Rattle.std.proofs.lemmas.List.{get_or_append_left, get_or_push}
@@ -34,11 +35,13 @@ owner_put channels owners n i owner at is there before v below = elim (cases_lt 
 ]
 
 -- a fact of each item, with one item more
-pub each_push : {A : Type 0} (P : ℕ → A → Type 0) (d : A) (xs ys : List A) (x : A) (n : ℕ) → length xs ≡ n → ys ≡ xs ++ x ∷ []
+pub each_push : {A : Type 0} (P : ℕ → A → Type 0) (d : A) (xs ys : List A) (x : A) (n : ℕ) → length xs ≡ n
+    → ys ≡ xs ++ x ∷ []
     → ((k : ℕ) → k < n → P k (slice_index_or xs k d)) → P n x → (k : ℕ) → k < n + 1 → P k (slice_index_or ys k d)
 each_push {A} P d xs ys x n long is before here k below = elim (cases_lt k n) [
   | inl lt ↦
-      let at : slice_index_or ys k d ≡ slice_index_or xs k d = ap (λ (l : List A). slice_index_or l k d) is ∙ get_or_append_left xs (x ∷ []) d k (omega arith) in
+      let at : slice_index_or ys k d ≡ slice_index_or xs k d = ap (λ (l : List A). slice_index_or l k d) is
+      ∙ get_or_append_left xs (x ∷ []) d k (omega arith) in
       subst (P k) (sym at) (before k lt)
   | inr ge ↦
       let same : k ≡ n = omega arith in
@@ -49,4 +52,5 @@ each_push {A} P d xs ys x n long is before here k below = elim (cases_lt k n) [
 -- a link as the theory has it
 pub linked_of : (net : NetState) (y o x : ℕ) → IsFramed net → Joins net.mesh y o x → (shape net).neighbour y o ≡ Some x
 unfolding net_shape
-linked_of net y o x framed joins = neighbour_of-some net.mesh y o x (AreLarge-from_radices net.mesh framed.radices.radices) joins
+linked_of net y o x framed joins = neighbour_of-some net.mesh y o x
+    (AreLarge-from_radices net.mesh framed.radices.radices) joins

@@ -1,5 +1,6 @@
 -- The parts joined make a network, of which all holds that held of the one that was split.
-use Rattle.std.proofs.Common.{◌≡◌, ℕ, ◌+◌, ◌*◌, ◌<◌, ◌≤◌, ◌%◌, ◌==◌, Bool, true, false, cond, inl, inr, List, [], ◌++◌, length, length-append, sum, Option, Some, None, refl, arith, sym, ap, subst, ◌∙◌}
+use Rattle.std.proofs.Common.{◌≡◌, ℕ, ◌+◌, ◌*◌, ◌<◌, ◌≤◌, ◌%◌, ◌==◌, Bool, true, false, cond, inl, inr, List, []}
+use Rattle.std.proofs.Common.{◌++◌, length, length-append, sum, Option, Some, None, refl, arith, sym, ap, subst, ◌∙◌}
 use Rattle.std.specs.Prelude.{slice_index_or, All}
 use Rattle.std.specs.List.{count_by}
 use Rattle.std.proofs.lemmas.List.Elements.{All-weaker}
@@ -14,7 +15,9 @@ use Rattle.worm_theory.proofs.Bridge.{same_network}
 use Rattle.worm_theory.proofs.Places.{bool_cases, number_cases}
 use Rattle.worm_core.specs.Owned.{sole}
 use Rattle.worm_core.specs.Shape.{net_shape}
-use Rattle.worm_core.specs.State.{NetState, LinkView, IsFramed, IsNet, IsNodeOf, blank_link, fresh_node, input_of, link_at, link_of, net_state, network_of, node_at, output_of, queue_of, router_at, shape, sink_at, texts_of}
+use Rattle.worm_core.specs.State.{NetState, LinkView, IsFramed, IsNet, IsNodeOf, blank_link, fresh_node, input_of}
+use Rattle.worm_core.specs.State.{link_at, link_of, net_state, network_of, node_at, output_of, queue_of, router_at}
+use Rattle.worm_core.specs.State.{shape, sink_at, texts_of}
 use Rattle.worm_term.specs.Source.{queue_at}
 use Rattle.worm_core.specs.declared.node.Node.{Node}
 use Rattle.worm_core.proofs.GiveStep.{credits_counted}
@@ -53,8 +56,10 @@ no_link_there m y o e = elim (bool_cases (has_neighbour m y o)) [
   | inr none ↦ none
 ]
 
-module _ (parts : List PartState) (are : AreParts parts) (kept : Kept) (gathered : IsGathered parts 0 kept) (links : List LinkView)
-    (emptied : AreEmptied (length parts) (length kept.ways.items) kept.ways.items kept.lines.items kept.links.items links) where
+module _ (parts : List PartState) (are : AreParts parts) (kept : Kept) (gathered : IsGathered parts 0 kept)
+    (links : List LinkView)
+    (emptied : AreEmptied (length parts)
+    (length kept.ways.items) kept.ways.items kept.lines.items kept.links.items links) where
   abbrev O : NetState
   O = (part_at parts 0).opening
 
@@ -85,7 +90,8 @@ module _ (parts : List PartState) (are : AreParts parts) (kept : Kept) (gathered
       let r = rest parts are kept gathered y o z e links emptied in
       subst (λ (v : ℕ). IsRest parts are kept gathered y o v links r.0 r.1) (some_is z x at) r.2
 
-  pub left : (y o x : ℕ) → s.neighbour y o ≡ Some x → IsRest parts are kept gathered y o x links (flits_left y o) (credits_left y o)
+  pub left : (y o x : ℕ) → s.neighbour y o ≡ Some x → IsRest parts are kept gathered y o x links (flits_left y o)
+      (credits_left y o)
   left y o x linked = picked y o x (s.neighbour y o) refl linked
 
   abbrev pub nets : ℕ → Network
@@ -111,7 +117,8 @@ module _ (parts : List PartState) (are : AreParts parts) (kept : Kept) (gathered
       (has_part parts are holds_each) flits_left credits_left queues
 
   -- what is on a link, and on its credit line
-  pub joined_out : (y o x : ℕ) → s.neighbour y o ≡ Some x → joined.out y o ≡ (network_of (owner_of parts x).net).out y o ++ flits_left y o
+  pub joined_out : (y o x : ℕ) → s.neighbour y o ≡ Some x → joined.out y o ≡ (network_of
+      (owner_of parts x).net).out y o ++ flits_left y o
   joined_out y o x linked =
       ap (λ (n : Option ℕ). link_joined owner nets flits_left y o n) linked
       ∙ ap (λ (l : List Flit). l ++ flits_left y o) (far_sees parts are kept gathered y o x linked)
@@ -127,8 +134,10 @@ module _ (parts : List PartState) (are : AreParts parts) (kept : Kept) (gathered
   unfolding net_shape
   few_flits y o x linked =
       let n = sum O.channels in
-      let all : All (λ f. f.vc < n) (joined.out y o) = All-weaker (Leaves s y o) (λ (f : Flit). f.vc < n) (λ f is. is.owned.0) (joined.out y o) (holds.sound.leaving y o) in
-      let each : (v : ℕ) → v < n → length (on_channel v (joined.out y o)) ≤ O.depth = λ v v_in. let total = holds.sound.credits y o x v v_in linked in omega arith in
+      let all : All (λ f. f.vc < n) (joined.out y o) = All-weaker (Leaves s y o) (λ (f : Flit). f.vc < n)
+      (λ f is. is.owned.0) (joined.out y o) (holds.sound.leaving y o) in
+      let each : (v : ℕ) → v < n → length (on_channel v
+      (joined.out y o)) ≤ O.depth = λ v v_in. let total = holds.sound.credits y o x v v_in linked in omega arith in
       let count = counted n (joined.out y o) all in
       let few = bounded (λ v. length (on_channel v (joined.out y o))) n O.depth each in
       omega arith
@@ -137,7 +146,9 @@ module _ (parts : List PartState) (are : AreParts parts) (kept : Kept) (gathered
   unfolding net_shape
   few_credits y o x linked =
       let n = sum O.channels in
-      let each : (v : ℕ) → v < n → count_by (λ c. v == c) (joined.credit_list y o) ≤ O.depth = λ v v_in. let total = holds.sound.credits y o x v v_in linked in omega arith in
+      let each : (v : ℕ) → v < n → count_by (λ c. v == c)
+      (joined.credit_list y o) ≤ O.depth = λ v v_in. let total = holds.sound.credits y o x v v_in linked in
+      omega arith in
       let count = credits_counted n (joined.credit_list y o) (holds.sound.entries y o) in
       let few = bounded (λ v. count_by (λ c. v == c) (joined.credit_list y o)) n O.depth each in
       omega arith
@@ -145,7 +156,8 @@ module _ (parts : List PartState) (are : AreParts parts) (kept : Kept) (gathered
   abbrev number : ℕ → ℕ → ℕ
   number = λ y o. links_before (part_at parts 0).opening.mesh y o
 
-  room_there : (y o x : ℕ) → s.neighbour y o ≡ Some x → sum O.channels * O.depth ≤ (slice_index_or kept.links.items (number y o) blank_link).room
+  room_there : (y o x : ℕ) → s.neighbour y o ≡ Some x → sum O.channels * O.depth ≤ (slice_index_or kept.links.items
+      (number y o) blank_link).room
   room_there y o x linked =
       let at = way parts are kept gathered y o x linked in
       let within = at.within in
@@ -153,7 +165,8 @@ module _ (parts : List PartState) (are : AreParts parts) (kept : Kept) (gathered
       let all = gathered.apart.all_links in
       gathered.apart.rooms (number y o) (omega arith)
 
-  pub out_put : (y o x : ℕ) → s.neighbour y o ≡ Some x → (slice_index_or links (number y o) blank_link).flits ≡ joined.out y o
+  pub out_put : (y o x : ℕ) → s.neighbour y o ≡ Some x → (slice_index_or links
+      (number y o) blank_link).flits ≡ joined.out y o
   out_put y o x linked =
       let whole_out = joined_out y o x linked in
       let few = few_flits y o x linked in
@@ -162,7 +175,8 @@ module _ (parts : List PartState) (are : AreParts parts) (kept : Kept) (gathered
       let room = room_there y o x linked in
       (left y o x linked).flits (omega arith) ∙ sym whole_out
 
-  pub line_put : (y o x : ℕ) → s.neighbour y o ≡ Some x → (slice_index_or links (number y o) blank_link).credits ≡ joined.credit_list y o
+  pub line_put : (y o x : ℕ) → s.neighbour y o ≡ Some x → (slice_index_or links
+      (number y o) blank_link).credits ≡ joined.credit_list y o
   line_put y o x linked =
       let whole_line = joined_line y o x linked in
       let few = few_credits y o x linked in

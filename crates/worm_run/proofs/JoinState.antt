@@ -1,5 +1,6 @@
 -- The lists of the parts joined, as one network's.
-use Rattle.std.proofs.Common.{◌≡◌, ℕ, ◌*◌, ◌<◌, ◌≤◌, ◌%◌, ◌==◌, true, false, cond, inl, inr, List, [], length, sum, Option, Some, None, refl, arith, sym, ap, subst, ◌∙◌}
+use Rattle.std.proofs.Common.{◌≡◌, ℕ, ◌*◌, ◌<◌, ◌≤◌, ◌%◌, ◌==◌, true, false, cond, inl, inr, List, [], length, sum}
+use Rattle.std.proofs.Common.{Option, Some, None, refl, arith, sym, ap, subst, ◌∙◌}
 use Rattle.std.specs.Prelude.{slice_index_or}
 use Rattle.worm_flit.specs.declared.Flit.{Flit}
 use Rattle.worm_mesh.specs.Address.{has_neighbour, IsMesh as IsRadices, neighbour_of, node_count}
@@ -16,7 +17,9 @@ use Rattle.worm_theory.proofs.Places.{bool_cases, number_cases}
 use Rattle.worm_term.specs.Source.{queue_at}
 use Rattle.worm_core.specs.Owned.{sole}
 use Rattle.worm_core.specs.Shape.{net_shape}
-use Rattle.worm_core.specs.State.{NetState, LinkView, IsFramed, IsNet, IsNodeOf, blank_link, fresh_node, input_of, link_at, link_of, net_state, network_of, node_at, output_of, shape, sink_at, texts_of}
+use Rattle.worm_core.specs.State.{NetState, LinkView, IsFramed, IsNet, IsNodeOf, blank_link, fresh_node, input_of}
+use Rattle.worm_core.specs.State.{link_at, link_of, net_state, network_of, node_at, output_of, shape, sink_at}
+use Rattle.worm_core.specs.State.{texts_of}
 use Rattle.worm_core.specs.declared.node.Node.{Node}
 use Rattle.worm_core.proofs.LinkBridge.{credits_there, out_there}
 use Rattle.worm_run.specs.declared.ends.End.{End}
@@ -31,10 +34,13 @@ use Rattle.worm_run.proofs.Gathered.{first, owner_below, part_channels, part_dep
 use Rattle.worm_run.proofs.JoinLinks.{framed, has, hold}
 use Rattle.worm_run.proofs.JoinNet.{emptied_room, joined, line_put, no_link_there, out_put}
 
-module _ (parts : List PartState) (are : AreParts parts) (kept : Kept) (gathered : IsGathered parts 0 kept) (links : List LinkView)
-    (emptied : AreEmptied (length parts) (length kept.ways.items) kept.ways.items kept.lines.items kept.links.items links) where
+module _ (parts : List PartState) (are : AreParts parts) (kept : Kept) (gathered : IsGathered parts 0 kept)
+    (links : List LinkView)
+    (emptied : AreEmptied (length parts)
+    (length kept.ways.items) kept.ways.items kept.lines.items kept.links.items links) where
   abbrev pub new : NetState
-  new = net_state kept.config.radices.items kept.config.channels.items kept.config.depth (texts_of kept.config.classes.items) kept.nodes.items links sole
+  new = net_state kept.config.radices.items kept.config.channels.items kept.config.depth
+      (texts_of kept.config.classes.items) kept.nodes.items links sole
 
   abbrev O : NetState
   O = (part_at parts 0).opening
@@ -43,7 +49,8 @@ module _ (parts : List PartState) (are : AreParts parts) (kept : Kept) (gathered
   each = hold parts are kept gathered
 
   pub shape_same : shape new ≡ shape (part_at parts 0).opening
-  shape_same = let config = gathered.apart.config in λ t. net_shape (config.radices t) (config.channels t) (config.depth t)
+  shape_same = let config = gathered.apart.config in
+      λ t. net_shape (config.radices t) (config.channels t) (config.depth t)
 
   -- the configuration is that of each part
   module _ (x : ℕ) where
@@ -66,26 +73,30 @@ module _ (parts : List PartState) (are : AreParts parts) (kept : Kept) (gathered
     node_same =
         let fresh : fresh_node new.mesh new.channels new.depth x ≡ fresh_node q.net.mesh q.net.channels q.net.depth x
         = λ t. fresh_node (mesh_as t) (channels_as t) (depth_as t) x in
-        gathered.nodes x (omega arith) (fresh_node new.mesh new.channels new.depth x) ∙ ap (λ (n : Node). slice_index_or q.net.nodes x n) fresh
+        gathered.nodes x (omega arith) (fresh_node new.mesh new.channels new.depth x)
+        ∙ ap (λ (n : Node). slice_index_or q.net.nodes x n) fresh
 
     node_framed : x < length kept.nodes.items → IsNodeOf new.mesh new.channels new.depth x (node_at new x)
     node_framed there =
         let frame = framed parts are kept gathered (x % length parts) below in
         let all = frame.all_nodes in
         let mine = gathered.apart.all_nodes in
-        let count : node_count q.net.mesh ≡ node_count O.mesh = ap node_count (part_mesh parts are each (x % length parts) below) in
+        let count : node_count q.net.mesh ≡ node_count O.mesh = ap node_count (part_mesh parts are each
+        (x % length parts) below) in
         let node = frame.each_node x (omega arith) in
         subst (λ (n : Node). IsNodeOf new.mesh new.channels new.depth x n) (sym node_same)
         (subst (λ (d : ℕ). IsNodeOf new.mesh new.channels d x (node_at q.net x)) (sym depth_as)
         (subst (λ (c : List ℕ). IsNodeOf new.mesh c q.net.depth x (node_at q.net x)) (sym channels_as)
         (subst (λ (m : List ℕ). IsNodeOf m q.net.channels q.net.depth x (node_at q.net x)) (sym mesh_as) node)))
 
-  link_room : (k : ℕ) → k < length links → (slice_index_or links k blank_link).room ≡ (slice_index_or kept.links.items k blank_link).room
+  link_room : (k : ℕ) → k < length links → (slice_index_or links k blank_link).room ≡
+      (slice_index_or kept.links.items k blank_link).room
   link_room k below =
       let ways = gathered.apart.ways.all in
       let all = gathered.apart.all_links in
       let long = emptied.same_length in
-      elim (number_cases ((way_at kept.ways.items k).from % length parts) ((way_at kept.ways.items k).to % length parts)) [
+      elim (number_cases ((way_at kept.ways.items k).from % length parts)
+      ((way_at kept.ways.items k).to % length parts)) [
         | inl here ↦ ap (λ (l : LinkView). l.room) (emptied.within k here.1)
         | inr away ↦ emptied_room _ _ _ _ (emptied.done k (omega arith) away.1)
       ]
@@ -106,7 +117,8 @@ module _ (parts : List PartState) (are : AreParts parts) (kept : Kept) (gathered
             let long = emptied.same_length in
             let room = gathered.apart.rooms k (omega arith) in
             let same = link_room k there in
-            let product : sum new.channels * new.depth ≡ sum O.channels * O.depth = λ t. sum (config.channels t) * config.depth t in
+            let product : sum new.channels * new.depth ≡ sum O.channels * O.depth = λ t. sum
+            (config.channels t) * config.depth t in
             omega arith;
       }
 
@@ -122,7 +134,8 @@ module _ (parts : List PartState) (are : AreParts parts) (kept : Kept) (gathered
     none_part : has_neighbour (q y).net.mesh y o ≡ false
     none_part = ap (λ (m : List ℕ). has_neighbour m y o) (sym (mesh_as y)) ∙ none_now
 
-    bare_out : (m : NetState) → has_neighbour m.mesh y o ≡ false → (network_of m).out y o ≡ cond (o == 2 * length m.mesh) (sink_at m y).delivered []
+    bare_out : (m : NetState) → has_neighbour m.mesh y o ≡ false → (network_of m).out y o ≡ cond
+        (o == 2 * length m.mesh) (sink_at m y).delivered []
     unfolding network_of
     bare_out m e = rw e refl
 
@@ -133,7 +146,8 @@ module _ (parts : List PartState) (are : AreParts parts) (kept : Kept) (gathered
     out_unlinked : (network_of new).out y o ≡ (joined parts are kept gathered links emptied).out y o
     out_unlinked =
         let inner : end_of (q y) y o ≡ Inner = rw none_part refl in
-        let sinks : cond (o == 2 * length new.mesh) (sink_at new y).delivered [] ≡ cond (o == 2 * length (q y).net.mesh) (sink_at (q y).net y).delivered []
+        let sinks : cond (o == 2 * length new.mesh) (sink_at new y).delivered [] ≡ cond (o == 2 * length
+        (q y).net.mesh) (sink_at (q y).net y).delivered []
         = λ t. cond (o == 2 * length (mesh_as y t)) (node_same y t).sink.delivered [] in
         bare_out new none_now ∙ (sinks ∙ (sym (bare_out (q y).net none_part)
         ∙ (ap (λ (e : End). sent_on e ((network_of (q y).net).out y o)) (sym inner) ∙ rw none refl)))
@@ -143,7 +157,8 @@ module _ (parts : List PartState) (are : AreParts parts) (kept : Kept) (gathered
 
   module _ (y o x : ℕ) (linked : (shape (part_at parts 0).opening).neighbour y o ≡ Some x) where
     has_now : has_neighbour new.mesh y o ≡ true
-    has_now = ap (λ (m : List ℕ). has_neighbour m y o) gathered.apart.config.radices ∙ has parts are kept gathered y o x linked
+    has_now = ap (λ (m : List ℕ). has_neighbour m y o) gathered.apart.config.radices
+        ∙ has parts are kept gathered y o x linked
 
     number_now : links_before new.mesh y o ≡ links_before O.mesh y o
     number_now = ap (λ (m : List ℕ). links_before m y o) gathered.apart.config.radices
@@ -183,7 +198,8 @@ module _ (parts : List PartState) (are : AreParts parts) (kept : Kept) (gathered
     ap (λ (n : Node). (output_of n.router p v).holder) (node_same x),
     ap (λ (n : Node). (output_of n.router p v).credits) (node_same x),
     ap (λ (n : Node). (queue_at n.source p).injected) (node_same x),
-    ap (λ (n : Node). Rattle.std.specs.Prelude.drop (queue_at n.source p).fed (queue_at n.source p).injected) (node_same x),
+    ap (λ (n : Node). Rattle.std.specs.Prelude.drop (queue_at n.source p).fed (queue_at n.source p).injected)
+        (node_same x),
   )
 
   pub network_same : network_of new ≡ joined parts are kept gathered links emptied

@@ -1,5 +1,6 @@
 -- The parts are taken from the end of their list, one after another, and put back.
-use Rattle.std.proofs.Common.{◌≡◌, ℕ, ◌+◌, ◌<◌, ◌≤◌, ◌%◌, List, [], ◌∷◌, ◌++◌, length, length-append, append_assoc, append-nil, refl, arith, sym, ap, subst, ◌∙◌}
+use Rattle.std.proofs.Common.{◌≡◌, ℕ, ◌+◌, ◌<◌, ◌≤◌, ◌%◌, List, [], ◌∷◌, ◌++◌, length, length-append, append_assoc}
+use Rattle.std.proofs.Common.{append-nil, refl, arith, sym, ap, subst, ◌∙◌}
 use Rattle.std.specs.Prelude.{slice_index_or}
 use Rattle.std.proofs.lemmas.List.{get_or_at}
 use Rattle.worm_mesh.specs.Address.{node_count}
@@ -27,21 +28,23 @@ pub record IsLastOf (parts rest : List PartState) (p : PartState) : Type 0 where
 pub last_of : (parts left rest done : List PartState) (p : PartState) → parts ≡ left ++ done → left ≡ rest ++ p ∷ []
     → IsLastOf parts rest p × (parts ≡ rest ++ p ∷ done) × (length left ≡ length rest + 1)
 last_of parts left rest done p all popped =
-    let split : parts ≡ rest ++ p ∷ done = all ∙ (ap (λ (l : List PartState). l ++ done) popped ∙ append_assoc rest (p ∷ []) done) in
+    let split : parts ≡ rest ++ p ∷ done = all ∙ (ap (λ (l : List PartState). l ++ done) popped
+    ∙ append_assoc rest (p ∷ []) done) in
     let long = ap (λ (l : List PartState). length l) split in
     let sum = length-append rest (p ∷ done) in
-    let one = ap (λ (l : List PartState). length l) popped in
-    (
+    let one = ap (λ (l : List PartState). length l) popped in (
       record {
         there = omega arith;
-        is = ap (λ (l : List PartState). part_at l (length rest)) split ∙ get_or_at rest p done no_part (length rest) refl;
+        is = ap (λ (l : List PartState). part_at l (length rest)) split
+            ∙ get_or_at rest p done no_part (length rest) refl;
       },
       split,
       one ∙ length-append rest (p ∷ []),
     )
 
 -- what the last part has and keeps
-module _ (parts : List PartState) (are : AreParts parts) (rest : List PartState) (p : PartState) (last : IsLastOf parts rest p) (part : IsPart p) (framed : IsFramed p.net) where
+module _ (parts : List PartState) (are : AreParts parts) (rest : List PartState) (p : PartState)
+    (last : IsLastOf parts rest p) (part : IsPart p) (framed : IsFramed p.net) where
   pub its_own : p.net.own ≡ record { worker = length rest; workers = length parts }
   its_own = ap (λ (q : PartState). q.net.own) (sym last.is) ∙ are.owns (length rest) last.there
 
@@ -49,7 +52,8 @@ module _ (parts : List PartState) (are : AreParts parts) (rest : List PartState)
   its_opening = ap (λ (q : PartState). q.opening) (sym last.is) ∙ are.one_opening (length rest) last.there
 
   -- nothing is gathered yet where all parts are left but this one
-  pub begin : (kept : Kept) → IsApart p.opening kept → length rest + 1 ≡ length parts → IsGathered parts (length rest + 1) kept
+  pub begin : (kept : Kept) → IsApart p.opening kept → length rest + 1 ≡ length parts
+      → IsGathered parts (length rest + 1) kept
   begin kept apart all =
       let few : (x : ℕ) → x % length parts < length parts = λ x. let some = are.some in omega arith in
       record {
@@ -62,27 +66,34 @@ module _ (parts : List PartState) (are : AreParts parts) (rest : List PartState)
         intos = λ k between from. absurd (let b = few (way_at kept.ways.items k).to in omega arith);
       }
 
-  pub put_on : (kept new : Kept) → IsGathered parts (length rest + 1) kept → new.config ≡ kept.config → new.ways ≡ kept.ways
+  pub put_on : (kept new : Kept) → IsGathered parts (length rest + 1) kept → new.config ≡ kept.config
+      → new.ways ≡ kept.ways
       → NodesPutBack p.net.own kept.nodes.items p.net.nodes new.nodes.items
       → LinksPutBack p.net.own kept.ways.items kept.links.items p.net.links new.links.items
-      → EndsPutBack p.net.own kept.ways.items kept.lines.items p.ends new.lines.items → IsGathered parts (length rest) new
+      → EndsPutBack p.net.own kept.ways.items kept.lines.items p.ends new.lines.items
+      → IsGathered parts (length rest) new
   put_on kept new gathered config ways nodes links ends =
       let back = sym last.is in
       gathered_more parts are (length rest) last.there kept new gathered (subst IsPart back part)
       (subst (λ (q : PartState). IsFramed q.net) back framed) config ways
       (subst (λ (q : PartState). NodesPutBack q.net.own kept.nodes.items q.net.nodes new.nodes.items) back nodes)
-      (subst (λ (q : PartState). LinksPutBack q.net.own kept.ways.items kept.links.items q.net.links new.links.items) back links)
-      (subst (λ (q : PartState). EndsPutBack q.net.own kept.ways.items kept.lines.items q.ends new.lines.items) back ends)
+      (subst (λ (q : PartState). LinksPutBack q.net.own kept.ways.items kept.links.items q.net.links new.links.items)
+      back links)
+      (subst (λ (q : PartState). EndsPutBack q.net.own kept.ways.items kept.lines.items q.ends new.lines.items) back
+      ends)
 
   -- its lists are as long as those that were kept
-  pub its_lengths : (kept : Kept) → IsApart (part_at parts 0).opening kept → (length p.net.nodes ≡ length kept.nodes.items)
-      × (length p.net.links ≡ length kept.links.items) × (length p.ends ≡ length kept.lines.items) × (length kept.nodes.items < 257)
+  pub its_lengths : (kept : Kept) → IsApart (part_at parts 0).opening kept
+      → (length p.net.nodes ≡ length kept.nodes.items)
+      × (length p.net.links ≡ length kept.links.items) × (length p.ends ≡ length kept.lines.items)
+      × (length kept.nodes.items < 257)
   its_lengths kept apart =
-      let mesh : p.net.mesh ≡ (part_at parts 0).opening.mesh = part.config.mesh ∙ ap (λ (s : NetState). s.mesh) its_opening in
+      let mesh : p.net.mesh ≡ (part_at parts 0).opening.mesh = part.config.mesh
+      ∙ ap (λ (s : NetState). s.mesh) its_opening in
       let few = part.opened.framed.radices.few_nodes in
-      let count : node_count p.opening.mesh ≡ node_count (part_at parts 0).opening.mesh = ap (λ (s : NetState). node_count s.mesh) its_opening in
-      let all = apart.all_nodes in
-      (
+      let count : node_count p.opening.mesh ≡ node_count (part_at parts 0).opening.mesh = ap (λ
+      (s : NetState). node_count s.mesh) its_opening in
+      let all = apart.all_nodes in (
         framed.all_nodes ∙ (ap node_count mesh ∙ sym apart.all_nodes),
         framed.all_links ∙ (ap link_count mesh ∙ sym apart.all_links),
         part.all_ends ∙ (ap link_count mesh ∙ sym apart.all_lines),
@@ -90,27 +101,33 @@ module _ (parts : List PartState) (are : AreParts parts) (rest : List PartState)
       )
 
 -- One part more is taken from the list and put back.
-module _ (parts : List PartState) (are : AreParts parts) (left rest done : List PartState) (p : PartState) (all : parts ≡ left ++ done) (popped : left ≡ rest ++ p ∷ [])
+module _ (parts : List PartState) (are : AreParts parts) (left rest done : List PartState) (p : PartState)
+    (all : parts ≡ left ++ done) (popped : left ≡ rest ++ p ∷ [])
     (part : IsPart p) (framed : IsFramed p.net) where
   abbrev taken : IsLastOf parts rest p × (parts ≡ rest ++ p ∷ done) × (length left ≡ length rest + 1)
   taken = last_of parts left rest done p all popped
 
-  pub lengths_step : (kept : Kept) → IsApart (part_at parts 0).opening kept → (length p.net.nodes ≡ length kept.nodes.items)
-      × (length p.net.links ≡ length kept.links.items) × (length p.ends ≡ length kept.lines.items) × (length kept.nodes.items < 257)
+  pub lengths_step : (kept : Kept) → IsApart (part_at parts 0).opening kept
+      → (length p.net.nodes ≡ length kept.nodes.items)
+      × (length p.net.links ≡ length kept.links.items) × (length p.ends ≡ length kept.lines.items)
+      × (length kept.nodes.items < 257)
   lengths_step kept apart = its_lengths parts are rest p taken.0 part framed kept apart
 
-  pub gather_step : (kept new : Kept) → IsGathered parts (length left) kept → new.config ≡ kept.config → new.ways ≡ kept.ways
+  pub gather_step : (kept new : Kept) → IsGathered parts (length left) kept → new.config ≡ kept.config
+      → new.ways ≡ kept.ways
       → NodesPutBack p.net.own kept.nodes.items p.net.nodes new.nodes.items
       → LinksPutBack p.net.own kept.ways.items kept.links.items p.net.links new.links.items
       → EndsPutBack p.net.own kept.ways.items kept.lines.items p.ends new.lines.items → GatherSoFar parts rest new
   gather_step kept new gathered config ways nodes links ends = record {
     done = p ∷ done;
     all = taken.1;
-    gathered = put_on parts are rest p taken.0 part framed kept new (subst (λ (n : ℕ). IsGathered parts n kept) taken.2 gathered) config ways nodes links ends;
+    gathered = put_on parts are rest p taken.0 part framed kept new (subst (λ
+        (n : ℕ). IsGathered parts n kept) taken.2 gathered) config ways nodes links ends;
   }
 
 -- The last part is put back to what it kept.
-pub gather_first : (parts : List PartState) (are : AreParts parts) (rest : List PartState) (p : PartState) → parts ≡ rest ++ p ∷ [] → IsPart p → IsFramed p.net
+pub gather_first : (parts : List PartState) (are : AreParts parts) (rest : List PartState) (p : PartState)
+    → parts ≡ rest ++ p ∷ [] → IsPart p → IsFramed p.net
     → (kept new : Kept) → IsApart p.opening kept → new.config ≡ kept.config → new.ways ≡ kept.ways
     → NodesPutBack p.net.own kept.nodes.items p.net.nodes new.nodes.items
     → LinksPutBack p.net.own kept.ways.items kept.links.items p.net.links new.links.items
@@ -120,5 +137,6 @@ gather_first parts are rest p popped part framed kept new apart config ways node
     record {
       done = p ∷ [];
       all = popped;
-      gathered = put_on parts are rest p taken.0 part framed kept new (begin parts are rest p taken.0 part framed kept apart (sym taken.2)) config ways nodes links ends;
+      gathered = put_on parts are rest p taken.0 part framed kept new
+          (begin parts are rest p taken.0 part framed kept apart (sym taken.2)) config ways nodes links ends;
     }

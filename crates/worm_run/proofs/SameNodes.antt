@@ -33,11 +33,14 @@ same_at a b x e = record {
 }
 
 -- where a record leads is the node's
-leads_same : (s : Shape) (a b : Network) (x p v : ℕ) (r : InRecord) → ((o c : ℕ) → a.holder x o c ≡ b.holder x o c) → LeadsOn s b x p v r → LeadsOn s a x p v r
+leads_same : (s : Shape) (a b : Network) (x p v : ℕ) (r : InRecord) → ((o c : ℕ) → a.holder x o c ≡ b.holder x o c)
+    → LeadsOn s b x p v r → LeadsOn s a x p v r
 leads_same s a b x p v Idle same leads = tt
 leads_same s a b x p v (Waiting o) same leads = leads
 leads_same s a b x p v (Active o c) same leads = (leads.0, leads.1, same o c ∙ leads.2)
 
-pub leads_at : (s : Shape) (a b : Network) (x p v : ℕ) → SameAt a b x → LeadsOn s b x p v (b.in_record x p v) → LeadsOn s a x p v (a.in_record x p v)
+pub leads_at : (s : Shape) (a b : Network) (x p v : ℕ) → SameAt a b x → LeadsOn s b x p v (b.in_record x p v)
+    → LeadsOn s a x p v (a.in_record x p v)
 leads_at s a b x p v same leads =
-    subst (λ (r : InRecord). LeadsOn s a x p v r) (sym (same.in_record p v)) (leads_same s a b x p v (b.in_record x p v) same.holder leads)
+    subst (λ (r : InRecord). LeadsOn s a x p v r) (sym (same.in_record p v)) (leads_same s a b x p v
+    (b.in_record x p v) same.holder leads)

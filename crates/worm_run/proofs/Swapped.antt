@@ -1,5 +1,6 @@
 -- What each list has after an exchange: the other's items at the places that are the worker's, and else its own.
-use Rattle.std.proofs.Common.{◌≡◌, ℕ, ◌+◌, ◌<◌, ◌≤◌, Bool, true, false, cond, inl, inr, List, [], length, refl, arith, sym, ap, ◌∙◌}
+use Rattle.std.proofs.Common.{◌≡◌, ℕ, ◌+◌, ◌<◌, ◌≤◌, Bool, true, false, cond, inl, inr, List, [], length, refl, arith}
+use Rattle.std.proofs.Common.{sym, ap, ◌∙◌}
 use Rattle.std.specs.Prelude.{slice_index_or}
 use Rattle.std.proofs.lemmas.Bool.{cases_lt}
 use Rattle.std.proofs.lemmas.List.{get_or_past}
@@ -49,14 +50,14 @@ module _ (own : Own) (xs ys us vs : List Node) (swapped : NodesSwapped own (leng
         let one = swapped.one_length in
         let was = swapped.rest x past n n in
         let mine = get_or_past xs x n past in
-        let other = get_or_past ys x n (omega arith) in
-        (
+        let other = get_or_past ys x n (omega arith) in (
           was.0 ∙ (mine ∙ rw (mine, other) (sym (either (owned_by own x) n))),
           was.1 ∙ (other ∙ rw (mine, other) (sym (either (owned_by own x) n))),
         )
   ]
 
-module _ (own : Own) (ways : List LinkEnds) (xs ys us vs : List LinkView) (swapped : LinksSwapped own ways (length xs) xs ys us vs) where
+module _ (own : Own) (ways : List LinkEnds) (xs ys us vs : List LinkView) (swapped : LinksSwapped own ways
+    (length xs) xs ys us vs) where
   pub record LinkNow (k : ℕ) : Type 0 where
     pub flits : (link_in us k).flits ≡ cond (far_of own ways k) (link_in ys k).flits (link_in xs k).flits
     pub other_flits : (link_in vs k).flits ≡ cond (far_of own ways k) (link_in xs k).flits (link_in ys k).flits
@@ -67,21 +68,32 @@ module _ (own : Own) (ways : List LinkEnds) (xs ys us vs : List LinkView) (swapp
   links_now k = elim (cases_lt k (length xs)) [
     | inl below ↦
         let done = swapped.done k below blank_link blank_link in
-        record { flits = done.flits; other_flits = done.other_flits; credits = done.credits; other_credits = done.other_credits }
+        record {
+          flits = done.flits;
+          other_flits = done.other_flits;
+          credits = done.credits;
+          other_credits =
+              done.other_credits;
+        }
     | inr past ↦
         let one = swapped.one_length in
         let was = swapped.rest k past blank_link blank_link in
         let mine : link_in xs k ≡ blank_link = get_or_past xs k blank_link past in
         let other : link_in ys k ≡ blank_link = get_or_past ys k blank_link (omega arith) in
         record {
-          flits = ap (λ (l : LinkView). l.flits) (was.0 ∙ mine) ∙ rw (mine, other) (sym (either (far_of own ways k) []));
-          other_flits = ap (λ (l : LinkView). l.flits) (was.1 ∙ other) ∙ rw (mine, other) (sym (either (far_of own ways k) []));
-          credits = ap (λ (l : LinkView). l.credits) (was.0 ∙ mine) ∙ rw (mine, other) (sym (either (near_of own ways k) []));
-          other_credits = ap (λ (l : LinkView). l.credits) (was.1 ∙ other) ∙ rw (mine, other) (sym (either (near_of own ways k) []));
+          flits = ap (λ (l : LinkView). l.flits) (was.0 ∙ mine) ∙ rw (mine, other) (sym (either
+              (far_of own ways k) []));
+          other_flits = ap (λ (l : LinkView). l.flits) (was.1 ∙ other) ∙ rw (mine, other) (sym (either
+              (far_of own ways k) []));
+          credits = ap (λ (l : LinkView). l.credits) (was.0 ∙ mine) ∙ rw (mine, other) (sym (either
+              (near_of own ways k) []));
+          other_credits = ap (λ (l : LinkView). l.credits) (was.1 ∙ other)
+              ∙ rw (mine, other) (sym (either (near_of own ways k) []));
         }
   ]
 
-  pub rooms_now : (m : ℕ) → ((k : ℕ) → k < length xs → m ≤ (link_in xs k).room) → ((k : ℕ) → k < length ys → m ≤ (link_in ys k).room)
+  pub rooms_now : (m : ℕ) → ((k : ℕ) → k < length xs → m ≤ (link_in xs k).room) → ((k : ℕ) → k < length ys
+      → m ≤ (link_in ys k).room)
       → (k : ℕ) → k < length xs → (m ≤ (link_in us k).room) × (m ≤ (link_in vs k).room)
   rooms_now m mine other k below =
       let done = swapped.done k below blank_link blank_link in
@@ -93,8 +105,10 @@ module _ (own : Own) (ways : List LinkEnds) (xs : List Line) (ys : List End) (us
   pub record EndNow (k : ℕ) : Type 0 where
     pub own_end : end_at vs k ≡ cond (near_of own ways k) (cond (far_of own ways k) (end_at ys k) (line_at xs k).out)
         (cond (far_of own ways k) (line_at xs k).into (end_at ys k))
-    pub out : (line_at us k).out ≡ cond (near_of own ways k) (cond (far_of own ways k) (line_at xs k).out (end_at ys k)) (line_at xs k).out
-    pub into : (line_at us k).into ≡ cond (near_of own ways k) (line_at xs k).into (cond (far_of own ways k) (end_at ys k) (line_at xs k).into)
+    pub out : (line_at us k).out ≡ cond (near_of own ways k) (cond (far_of own ways k) (line_at xs k).out
+        (end_at ys k)) (line_at xs k).out
+    pub into : (line_at us k).into ≡ cond (near_of own ways k) (line_at xs k).into (cond (far_of own ways k)
+        (end_at ys k) (line_at xs k).into)
 
   pub ends_now : (k : ℕ) → EndNow k
   ends_now k = elim (cases_lt k (length xs)) [

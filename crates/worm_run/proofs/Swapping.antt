@@ -1,5 +1,6 @@
 -- Two lists of which items change by a rule, one place after another.
-use Rattle.std.proofs.Common.{◌≡◌, ℕ, ◌+◌, ◌<◌, ◌≤◌, ◌≢◌, Bool, true, false, cond, inl, inr, List, length, refl, arith, sym, ap, subst, ◌∙◌}
+use Rattle.std.proofs.Common.{◌≡◌, ℕ, ◌+◌, ◌<◌, ◌≤◌, ◌≢◌, Bool, true, false, cond, inl, inr, List, length, refl}
+use Rattle.std.proofs.Common.{arith, sym, ap, subst, ◌∙◌}
 use Rattle.std.specs.Prelude.{slice_set, slice_index_or}
 use Rattle.std.proofs.Math.ListN.{length-set}
 use Rattle.std.proofs.lemmas.Bool.{cases_lt}
@@ -11,7 +12,8 @@ use Rattle.worm_core.specs.declared.node.Node.{Node}
 use Rattle.worm_core.specs.declared.own.Own.{Own}
 use Rattle.worm_run.specs.declared.ends.End.{End}
 use Rattle.worm_run.specs.declared.ends.Line.{Line}
-use Rattle.worm_run.specs.Exchange.{AreSwapped, EndsSwapped, LinksSwapped, NodesSwapped, SwapsEnd, SwapsLink, SwapsNode, far_of, near_of, way_at}
+use Rattle.worm_run.specs.Exchange.{AreSwapped, EndsSwapped, LinksSwapped, NodesSwapped, SwapsEnd, SwapsLink}
+use Rattle.worm_run.specs.Exchange.{SwapsNode, far_of, near_of, way_at}
 
 module _ {A B : Type 0} (Swaps : ℕ → A → B → A → B → Type 0) where
   pub begun : (xs : List A) (ys : List B) → length ys ≡ length xs → AreSwapped Swaps 0 xs ys xs ys
@@ -23,7 +25,8 @@ module _ {A B : Type 0} (Swaps : ℕ → A → B → A → B → Type 0) where
     rest = λ k past a b. (refl, refl);
   }
 
-  pub further : (i : ℕ) (xs : List A) (ys : List B) (us : List A) (vs : List B) (new_a : A) (new_b : B) → AreSwapped Swaps i xs ys us vs
+  pub further : (i : ℕ) (xs : List A) (ys : List B) (us : List A) (vs : List B) (new_a : A) (new_b : B)
+      → AreSwapped Swaps i xs ys us vs
       → i < length xs → ((a : A) (b : B) → Swaps i (slice_index_or us i a) (slice_index_or vs i b) new_a new_b)
       → AreSwapped Swaps (i + 1) xs ys (slice_set us i new_a) (slice_set vs i new_b)
   further i xs ys us vs new_a new_b so_far there swaps =
@@ -54,8 +57,10 @@ module _ {A B : Type 0} (Swaps : ℕ → A → B → A → B → Type 0) where
 
 -- the same of items that were read at the place
 
-pub nodes_further : (own : Own) (k : ℕ) (xs ys us vs : List Node) (a b new_a new_b : Node) (mine : Bool) → NodesSwapped own k xs ys us vs
-    → k < length xs → a ≡ slice_index_or us k a → b ≡ slice_index_or vs k b → mine ≡ owned_by own k → SwapsNode mine a b new_a new_b
+pub nodes_further : (own : Own) (k : ℕ) (xs ys us vs : List Node) (a b new_a new_b : Node) (mine : Bool)
+    → NodesSwapped own k xs ys us vs
+    → k < length xs → a ≡ slice_index_or us k a → b ≡ slice_index_or vs k b → mine ≡ owned_by own k
+    → SwapsNode mine a b new_a new_b
     → NodesSwapped own (k + 1) xs ys (slice_set us k new_a) (slice_set vs k new_b)
 nodes_further own k xs ys us vs a b new_a new_b mine so_far there a_is b_is mine_is swaps =
     let long = so_far.same_length in
@@ -63,11 +68,12 @@ nodes_further own k xs ys us vs a b new_a new_b mine so_far there a_is b_is mine
     let a_read = get_or_read us k a (omega arith) a_is in
     let b_read = get_or_read vs k b (omega arith) b_is in
     further (λ j. SwapsNode (owned_by own j)) k xs ys us vs new_a new_b so_far there (λ d e.
-        subst (λ (m : Bool). SwapsNode m (slice_index_or us k d) (slice_index_or vs k e) new_a new_b) mine_is
-        (subst (λ (x : Node). SwapsNode mine x (slice_index_or vs k e) new_a new_b) (a_read d)
-        (subst (λ (y : Node). SwapsNode mine a y new_a new_b) (b_read e) swaps)))
+    subst (λ (m : Bool). SwapsNode m (slice_index_or us k d) (slice_index_or vs k e) new_a new_b) mine_is
+    (subst (λ (x : Node). SwapsNode mine x (slice_index_or vs k e) new_a new_b) (a_read d)
+    (subst (λ (y : Node). SwapsNode mine a y new_a new_b) (b_read e) swaps)))
 
-module _ (own : Own) (ways : List LinkEnds) (k : ℕ) (way : LinkEnds) (way_in : k < length ways) (way_is : way ≡ slice_index_or ways k way)
+module _ (own : Own) (ways : List LinkEnds) (k : ℕ) (way : LinkEnds) (way_in : k < length ways)
+    (way_is : way ≡ slice_index_or ways k way)
     (near far : Bool) (near_is : near ≡ owned_by own way.from) (far_is : far ≡ owned_by own way.to) where
   way_here : way ≡ way_at ways k
   way_here = get_or_read ways k way way_in way_is _
@@ -78,7 +84,8 @@ module _ (own : Own) (ways : List LinkEnds) (k : ℕ) (way : LinkEnds) (way_in :
   far_here : far ≡ far_of own ways k
   far_here = far_is ∙ ap (λ (w : LinkEnds). owned_by own w.to) way_here
 
-  pub links_further : (xs ys us vs : List LinkView) (a b new_a new_b : LinkView) → LinksSwapped own ways k xs ys us vs → k < length xs
+  pub links_further : (xs ys us vs : List LinkView) (a b new_a new_b : LinkView)
+      → LinksSwapped own ways k xs ys us vs → k < length xs
       → a ≡ slice_index_or us k a → b ≡ slice_index_or vs k b → SwapsLink near far a b new_a new_b
       → LinksSwapped own ways (k + 1) xs ys (slice_set us k new_a) (slice_set vs k new_b)
   links_further xs ys us vs a b new_a new_b so_far there a_is b_is swaps =
@@ -87,12 +94,14 @@ module _ (own : Own) (ways : List LinkEnds) (k : ℕ) (way : LinkEnds) (way_in :
       let a_read = get_or_read us k a (omega arith) a_is in
       let b_read = get_or_read vs k b (omega arith) b_is in
       further (λ j. SwapsLink (near_of own ways j) (far_of own ways j)) k xs ys us vs new_a new_b so_far there (λ d e.
-          subst (λ (n : Bool). SwapsLink n (far_of own ways k) (slice_index_or us k d) (slice_index_or vs k e) new_a new_b) near_here
-          (subst (λ (f : Bool). SwapsLink near f (slice_index_or us k d) (slice_index_or vs k e) new_a new_b) far_here
-          (subst (λ (x : LinkView). SwapsLink near far x (slice_index_or vs k e) new_a new_b) (a_read d)
-          (subst (λ (y : LinkView). SwapsLink near far a y new_a new_b) (b_read e) swaps))))
+      subst (λ (n : Bool). SwapsLink n (far_of own ways k) (slice_index_or us k d)
+      (slice_index_or vs k e) new_a new_b) near_here
+      (subst (λ (f : Bool). SwapsLink near f (slice_index_or us k d) (slice_index_or vs k e) new_a new_b) far_here
+      (subst (λ (x : LinkView). SwapsLink near far x (slice_index_or vs k e) new_a new_b) (a_read d)
+      (subst (λ (y : LinkView). SwapsLink near far a y new_a new_b) (b_read e) swaps))))
 
-  pub ends_further : (xs : List Line) (ys : List End) (us : List Line) (vs : List End) (a : Line) (b : End) (new_a : Line) (new_b : End)
+  pub ends_further : (xs : List Line) (ys : List End) (us : List Line) (vs : List End) (a : Line) (b : End)
+      (new_a : Line) (new_b : End)
       → EndsSwapped own ways k xs ys us vs → k < length xs
       → a ≡ slice_index_or us k a → b ≡ slice_index_or vs k b → SwapsEnd near far a b new_a new_b
       → EndsSwapped own ways (k + 1) xs ys (slice_set us k new_a) (slice_set vs k new_b)
@@ -102,7 +111,8 @@ module _ (own : Own) (ways : List LinkEnds) (k : ℕ) (way : LinkEnds) (way_in :
       let a_read = get_or_read us k a (omega arith) a_is in
       let b_read = get_or_read vs k b (omega arith) b_is in
       further (λ j. SwapsEnd (near_of own ways j) (far_of own ways j)) k xs ys us vs new_a new_b so_far there (λ d e.
-          subst (λ (n : Bool). SwapsEnd n (far_of own ways k) (slice_index_or us k d) (slice_index_or vs k e) new_a new_b) near_here
-          (subst (λ (f : Bool). SwapsEnd near f (slice_index_or us k d) (slice_index_or vs k e) new_a new_b) far_here
-          (subst (λ (x : Line). SwapsEnd near far x (slice_index_or vs k e) new_a new_b) (a_read d)
-          (subst (λ (y : End). SwapsEnd near far a y new_a new_b) (b_read e) swaps))))
+      subst (λ (n : Bool). SwapsEnd n (far_of own ways k) (slice_index_or us k d)
+      (slice_index_or vs k e) new_a new_b) near_here
+      (subst (λ (f : Bool). SwapsEnd near f (slice_index_or us k d) (slice_index_or vs k e) new_a new_b) far_here
+      (subst (λ (x : Line). SwapsEnd near far x (slice_index_or vs k e) new_a new_b) (a_read d)
+      (subst (λ (y : End). SwapsEnd near far a y new_a new_b) (b_read e) swaps))))

@@ -1,4 +1,5 @@
--- What is exchanged between a network taken apart and a worker's own lists, at the split and again at the join: the nodes that the
+-- What is exchanged between a network taken apart and a worker's own lists, at the split and again at the join: the
+-- nodes that the
 -- worker owns, the flits on the links that enter them, the credits on their way back to them, and its ends of links.
 use Rattle.std.specs.Prelude.{◌≡◌, ℕ, ◌<◌, ◌≤◌, Bool, cond, List, length, slice_index_or}
 use Rattle.worm_mesh.specs.declared.mesh.LinkEnds.{LinkEnds}
@@ -24,7 +25,8 @@ far_of own ways k = owned_by own (way_at ways k).to
 abbrev pub SwapsNode : Bool → Node → Node → Node → Node → Type 0
 SwapsNode own a b new_a new_b = (new_a ≡ cond own b a) × (new_b ≡ cond own a b)
 
--- two links' flits change places where the far end is the worker's, their credits where the near end is; both keep what room both had
+-- two links' flits change places where the far end is the worker's, their credits where the near end is; both keep
+-- what room both had
 pub record SwapsLink (near far : Bool) (a b new_a new_b : LinkView) : Type 0 where
   pub flits : new_a.flits ≡ cond far b.flits a.flits
   pub other_flits : new_b.flits ≡ cond far a.flits b.flits
@@ -53,7 +55,8 @@ pub record AreSwapped {A B : Type 0} (Swaps : ℕ → A → B → A → B → Ty
 abbrev pub NodesSwapped : Own → ℕ → List Node → List Node → List Node → List Node → Type 0
 NodesSwapped own = AreSwapped (λ k. SwapsNode (owned_by own k))
 
-abbrev pub LinksSwapped : Own → List LinkEnds → ℕ → List LinkView → List LinkView → List LinkView → List LinkView → Type 0
+abbrev pub LinksSwapped : Own → List LinkEnds → ℕ → List LinkView → List LinkView → List LinkView → List LinkView
+    → Type 0
 LinksSwapped own ways = AreSwapped (λ k. SwapsLink (near_of own ways k) (far_of own ways k))
 
 abbrev pub EndsSwapped : Own → List LinkEnds → ℕ → List Line → List End → List Line → List End → Type 0

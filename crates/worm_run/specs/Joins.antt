@@ -1,4 +1,5 @@
--- The parts of a network joined again: each node as its owner has it, each link as the owner of its far end has it, and then what the
+-- The parts of a network joined again: each node as its owner has it, each link as the owner of its far end has it,
+-- and then what the
 -- queue still held.
 use Rattle.std.specs.Prelude.{◌≡◌, ℕ, ◌+◌, ◌<◌, ◌≤◌, ◌%◌, List, [], ◌++◌, length, slice_index_or, Some}
 use Rattle.worm_mesh.specs.Address.{node_count}
@@ -69,7 +70,8 @@ pub record CreditsEmptied (sent taken : List ℕ) (old new : LinkView) : Type 0 
   pub room : new.room ≡ old.room
 
 -- both of the link's queues
-pub record IsEmptiedOf (tx : TxView) (back : CreditRxView) (rx : RxView) (give : CreditTxView) (old new : LinkView) : Type 0 where
+pub record IsEmptiedOf (tx : TxView) (back : CreditRxView) (rx : RxView) (give : CreditTxView)
+    (old new : LinkView) : Type 0 where
   pub flits_left : List Flit
   pub credits_left : List ℕ
   pub in_queue : tx.sent ≡ rx.taken ++ flits_left
@@ -94,14 +96,17 @@ AreOfOne (Leaving tx back) (Entering rx give) = (tx.queue ≡ rx.queue) × (give
 AreOfOne (Entering rx give) into = Unit {0}
 
 -- the links up to this one between two workers are emptied
-pub record AreEmptied (workers count : ℕ) (ways : List LinkEnds) (lines : List Line) (old new : List LinkView) : Type 0 where
+pub record AreEmptied (workers count : ℕ) (ways : List LinkEnds) (lines : List Line)
+    (old new : List LinkView) : Type 0 where
   pub same_length : length new ≡ length old
   pub done : (k : ℕ) → k < count → IsBetween workers ways k →
-      IsEmptied (line_at lines k).out (line_at lines k).into (slice_index_or old k blank_link) (slice_index_or new k blank_link)
+      IsEmptied (line_at lines k).out (line_at lines k).into (slice_index_or old k blank_link)
+      (slice_index_or new k blank_link)
   pub within : (k : ℕ) → (way_at ways k).from % workers ≡ (way_at ways k).to % workers →
       slice_index_or new k blank_link ≡ slice_index_or old k blank_link
 
--- The link by port o of node y: what the owner of its far end has of it, and then what its queue still held; its credit line likewise. There
+-- The link by port o of node y: what the owner of its far end has of it, and then what its queue still held; its
+-- credit line likewise. There
 -- is no queue within one worker's part.
 pub record IsLinkJoined (near far : PartState) (new : NetState) (y o : ℕ) : Type 0 where
   pub flits_left : List Flit
@@ -117,7 +122,8 @@ pub record IsJoinOf (parts : List PartState) (new : NetState) : Type 0 where
   pub config : HasConfigOf (part_at parts 0).opening new
   pub all_owned : new.own ≡ sole
   pub nodes : (x : ℕ) → x < node_count new.mesh → node_at new x ≡ node_at (owner_of parts x).net x
-  pub links : (y o x : ℕ) → (shape new).neighbour y o ≡ Some x → IsLinkJoined (owner_of parts y) (owner_of parts x) new y o
+  pub links : (y o x : ℕ) → (shape new).neighbour y o ≡ Some x → IsLinkJoined (owner_of parts y)
+      (owner_of parts x) new y o
 
 -- since the split sinks and sources only grew, and nothing followed a close mark
 pub record IsLaterThan (opening new : NetState) : Type 0 where

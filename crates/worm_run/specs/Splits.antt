@@ -1,5 +1,6 @@
 -- A network split among workers: what each has at first, and what the last of them keeps.
-use Rattle.std.specs.Prelude.{◌≡◌, ℕ, ◌*◌, ◌<◌, ◌≤◌, ◌%◌, List, [], length, sum, replicate, slice_index_or, All, true, vec_capacity}
+use Rattle.std.specs.Prelude.{◌≡◌, ℕ, ◌*◌, ◌<◌, ◌≤◌, ◌%◌, List, [], length, sum, replicate, slice_index_or, All, true}
+use Rattle.std.specs.Prelude.{vec_capacity}
 use Rattle.worm_mesh.specs.Address.{node_count}
 use Rattle.worm_mesh.specs.Links.{link_count}
 use Rattle.worm_mesh.specs.declared.mesh.LinkEnds.{LinkEnds}
@@ -24,7 +25,8 @@ use Rattle.worm_run.specs.PartState.{PartState, HasConfigOf, owns, part_network}
 -- both ends of a link as they are made, where its nodes are of two workers
 abbrev pub IsLineMade : NetState → ℕ → LinkEnds → Line → Type 0
 IsLineMade s workers way line = (way.from % workers ≡ way.to % workers → ⊥) →
-    AreEndsMade s.mesh s.channels way.from way.out_port (past_of (shape s) (network_of s) way.from way.out_port way.to) line.out line.into
+    AreEndsMade s.mesh s.channels way.from way.out_port (past_of (shape s)
+    (network_of s) way.from way.out_port way.to) line.out line.into
 
 pub record AreLinesMade (s : NetState) (workers : ℕ) (ways : List LinkEnds) (lines : List Line) : Type 0 where
   pub all : length lines ≡ length ways
@@ -68,7 +70,8 @@ pub record AreSeats (s : NetState) (lines : List Line) (workers : ℕ) (seats : 
 -- what a part is that has these lists
 abbrev pub seat_state : Seat → Own → PartState
 seat_state seat own = record {
-  net = net_state seat.config.radices.items seat.config.channels.items seat.config.depth (texts_of seat.config.classes.items)
+  net = net_state seat.config.radices.items seat.config.channels.items seat.config.depth
+      (texts_of seat.config.classes.items)
       seat.nodes.items seat.links.items own;
   ends = seat.ends.items;
   opening = seat.opening.value;
@@ -76,12 +79,19 @@ seat_state seat own = record {
 }
 
 abbrev pub no_part : PartState
-no_part = record { net = net_state [] [] 0 [] [] [] sole; ends = []; opening = net_state [] [] 0 [] [] [] sole; lines = [] }
+no_part = record {
+  net = net_state [] [] 0 [] [] [] sole;
+  ends = [];
+  opening = net_state [] [] 0 [] [] [] sole;
+  lines
+      = [];
+}
 
 abbrev pub part_at : List PartState → ℕ → PartState
 part_at parts w = slice_index_or parts w no_part
 
--- The part of a worker as it is at the split: the worker's own nodes and the links between them as they were; of a link that it shares
+-- The part of a worker as it is at the split: the worker's own nodes and the links between them as they were; of a
+-- link that it shares
 -- what comes to it.
 pub record IsFirstPart (opening : NetState) (workers worker : ℕ) (lines : List Line) (p : PartState) : Type 0 where
   pub own : p.net.own ≡ record { worker = worker; workers = workers }

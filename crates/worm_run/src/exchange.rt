@@ -1,5 +1,5 @@
-//! A network taken apart, and what is exchanged between it and a worker's own lists. Done at the split it gives the worker its part; done
-//! again at the join it puts the part back.
+//! A network taken apart, and what is exchanged between it and a worker's own lists. Done at the split it gives the
+//! worker its part; done again at the join it puts the part back.
 
 ghost use Rattle.std.specs.Prelude.{◌≡◌, ◌<◌, length};
 ghost use Rattle.worm_core.specs.Owned.{owned_by};
@@ -10,8 +10,8 @@ use std::mem::swap;
 use worm_core::{Config, LinkState, Node, Own};
 use worm_mesh::LinkEnds;
 
-/// A network taken apart, as the last worker keeps it till its parts are joined. In the place of each node that a worker has stands a fresh
-/// one, and on the links is nothing.
+/// A network taken apart, as the last worker keeps it till its parts are joined. In the place of each node that a
+/// worker has stands a fresh one, and on the links is nothing.
 #[derive(Drop)]
 pub struct Kept {
     /// What the network was made from.
@@ -68,20 +68,21 @@ fn swap_link(kept: &mut LinkState, link: &mut LinkState, near: bool, far: bool)
 }
 
 /// Exchanges what is on the links, flits and credits.
-fn swap_links(
-    kept: &mut Vec<LinkState>,
-    links: &mut Vec<LinkState>,
-    ways: &Vec<LinkEnds>,
-    own: Own,
-)
+fn swap_links(kept: &mut Vec<LinkState>, links: &mut Vec<LinkState>, ways: &Vec<LinkEnds>, own: Own)
     requires workers { 0 < own.workers }
     requires length { length links.old.items ≡ length kept.old.items }
     requires ways { length ways.now.items ≡ length kept.old.items }
-    ensures { LinksSwapped own ways.now.items (length kept.old.items) kept.old.items links.old.items kept.new.items links.new.items }
+    ensures { LinksSwapped own ways.now.items (length kept.old.items) kept.old.items links.old.items kept.new.items
+        links.new.items }
 {
     for k in 0..ways.len() {
         let way = ways[k];
-        swap_link(&mut kept[k], &mut links[k], owns(own, way.from), owns(own, way.to));
+        swap_link(
+            &mut kept[k],
+            &mut links[k],
+            owns(own, way.from),
+            owns(own, way.to),
+        );
     }
 }
 
@@ -101,11 +102,17 @@ fn swap_ends(lines: &mut Vec<Line>, ends: &mut Vec<End>, ways: &Vec<LinkEnds>, o
     requires workers { 0 < own.workers }
     requires length { length ends.old.items ≡ length lines.old.items }
     requires ways { length ways.now.items ≡ length lines.old.items }
-    ensures { EndsSwapped own ways.now.items (length lines.old.items) lines.old.items ends.old.items lines.new.items ends.new.items }
+    ensures { EndsSwapped own ways.now.items (length lines.old.items) lines.old.items ends.old.items lines.new.items
+        ends.new.items }
 {
     for k in 0..ways.len() {
         let way = ways[k];
-        swap_end(&mut lines[k], &mut ends[k], owns(own, way.from), owns(own, way.to));
+        swap_end(
+            &mut lines[k],
+            &mut ends[k],
+            owns(own, way.from),
+            owns(own, way.to),
+        );
     }
 }
 
@@ -127,9 +134,12 @@ impl Kept {
         requires line_ways { length self.old.ways.items ≡ length self.old.lines.items }
         ensures config { self.new.config ≡ self.old.config }
         ensures ways { self.new.ways ≡ self.old.ways }
-        ensures nodes { NodesSwapped own (length self.old.nodes.items) self.old.nodes.items nodes.old.items self.new.nodes.items nodes.new.items }
-        ensures links { LinksSwapped own self.old.ways.items (length self.old.links.items) self.old.links.items links.old.items self.new.links.items links.new.items }
-        ensures ends { EndsSwapped own self.old.ways.items (length self.old.lines.items) self.old.lines.items ends.old.items self.new.lines.items ends.new.items }
+        ensures nodes { NodesSwapped own (length self.old.nodes.items) self.old.nodes.items nodes.old.items
+            self.new.nodes.items nodes.new.items }
+        ensures links { LinksSwapped own self.old.ways.items (length self.old.links.items) self.old.links.items
+            links.old.items self.new.links.items links.new.items }
+        ensures ends { EndsSwapped own self.old.ways.items (length self.old.lines.items) self.old.lines.items
+            ends.old.items self.new.lines.items ends.new.items }
     {
         swap_nodes(&mut self.nodes, nodes, own);
         swap_links(&mut self.links, links, &self.ways, own);

@@ -4,7 +4,8 @@ ghost use Rattle.std.specs.Prelude.{◌≡◌, ◌<◌, ◌≤◌, ◌++◌, ◌
 ghost use Rattle.worm_core.specs.Headline.{DeliversInOrder};
 ghost use Rattle.worm_run.specs.Ends.{line_at};
 ghost use Rattle.worm_run.specs.Exchange.{EndsPutBack, LinksPutBack, NodesPutBack};
-ghost use Rattle.worm_run.specs.Joins.{AreEmptied, AreOfOne, AreParts, CreditsEmptied, FlitsEmptied, IsBetween, IsEmptied, IsGathered, IsJoinOf, IsLaterThan};
+ghost use Rattle.worm_run.specs.Joins.{AreEmptied, AreOfOne, AreParts, CreditsEmptied, FlitsEmptied, IsBetween};
+ghost use Rattle.worm_run.specs.Joins.{IsEmptied, IsGathered, IsJoinOf, IsLaterThan};
 ghost use Rattle.worm_run.specs.Splits.{part_at};
 
 use crate::ends::{End, Line};
@@ -19,7 +20,8 @@ use worm_mesh::LinkEnds;
 
 /// Puts the flit behind the link's, if there is room.
 fn put_behind(link: &mut LinkState, flit: Flit)
-    ensures fits { length link.old.flits < link.old.room → link.new ≡ record link.old { flits = link.old.flits ++ flit ∷ [] } }
+    ensures fits { length link.old.flits < link.old.room →
+        link.new ≡ record link.old { flits = link.old.flits ++ flit ∷ [] } }
     ensures full { link.old.room ≤ length link.old.flits → link.new ≡ link.old }
 {
     if link.count() < usize::from(link.room()) {
@@ -29,7 +31,8 @@ fn put_behind(link: &mut LinkState, flit: Flit)
 
 /// The same of a credit.
 fn put_credit_behind(link: &mut LinkState, vc: u8)
-    ensures fits { length link.old.credits < link.old.room → link.new ≡ record link.old { credits = link.old.credits ++ vc ∷ [] } }
+    ensures fits { length link.old.credits < link.old.room →
+        link.new ≡ record link.old { credits = link.old.credits ++ vc ∷ [] } }
     ensures full { link.old.room ≤ length link.old.credits → link.new ≡ link.old }
 {
     if link.credit_count() < usize::from(link.room()) {
@@ -37,8 +40,8 @@ fn put_credit_behind(link: &mut LinkState, vc: u8)
     }
 }
 
-/// Puts what the queue still holds behind the link's flits. There is room for it, but that is known only of all links together, once
-/// all queues are empty; so it is asked.
+/// Puts what the queue still holds behind the link's flits. There is room for it, but that is known only of all links
+/// together, once all queues are empty; so it is asked.
 fn empty_flits<R: Wait>(rt: &R, tx: FlitTx, rx: FlitRx, link: &mut LinkState)
     requires { tx.queue ≡ rx.queue }
     ensures { FlitsEmptied tx.sent rx.taken link.old link.new }
@@ -113,7 +116,8 @@ impl Kept {
         ensures config { self.new.config ≡ self.old.config }
         ensures ways { self.new.ways ≡ self.old.ways }
         ensures nodes { NodesPutBack region.own self.old.nodes.items region.nodes self.new.nodes.items }
-        ensures links { LinksPutBack region.own self.old.ways.items self.old.links.items region.links self.new.links.items }
+        ensures links { LinksPutBack region.own self.old.ways.items self.old.links.items region.links
+            self.new.links.items }
         ensures ends { EndsPutBack region.own self.old.ways.items self.old.lines.items ends.items self.new.lines.items }
     {
         let own = region.own();
@@ -130,8 +134,10 @@ impl Kept {
         requires workers { 0 < workers }
         requires link_ways { length self.old.ways.items ≡ length self.old.links.items }
         requires line_ways { length self.old.ways.items ≡ length self.old.lines.items }
-        requires queues { (k : ℕ) → IsBetween workers self.old.ways.items k → AreOfOne (line_at self.old.lines.items k).out (line_at self.old.lines.items k).into }
-        ensures links { AreEmptied workers (length self.old.ways.items) self.old.ways.items self.old.lines.items self.old.links.items self.new.links.items }
+        requires queues { (k : ℕ) → IsBetween workers self.old.ways.items k →
+            AreOfOne (line_at self.old.lines.items k).out (line_at self.old.lines.items k).into }
+        ensures links { AreEmptied workers (length self.old.ways.items) self.old.ways.items self.old.lines.items
+            self.old.links.items self.new.links.items }
         ensures nodes { self.new.nodes ≡ self.old.nodes }
         ensures config { self.new.config ≡ self.old.config }
     {
@@ -176,8 +182,8 @@ fn gather(mut parts: Vec<Part>) -> Kept
     whole
 }
 
-/// Joins all parts of one split, in rising number of their workers: each node as its owner has it, each link as the owner of its far end has
-/// it and then what its queue still held. It takes no memory.
+/// Joins all parts of one split, in rising number of their workers: each node as its owner has it, each link as the
+/// owner of its far end has it, and then what its queue still held. It takes no memory.
 ///
 /// ```text
 /// let parts = split(alloc, net, 4)?;

@@ -9,7 +9,8 @@ use worm_core::{Net, Region};
 /// What one worker has of a network that was split.
 #[derive(Drop)]
 pub struct Part {
-    /// The network of its nodes. In the place of each node of another worker stands a fresh one, which is never looked at.
+    /// The network of its nodes. In the place of each node of another worker stands a fresh one, which is never
+    /// looked at.
     pub(crate) region: Region,
     /// Its ends by link number.
     pub(crate) ends: Vec<End>,
@@ -29,5 +30,6 @@ impl Model for Part {
 
     ghost view = { λ p. part_state p.region p.ends.items p.opening.value p.lines.value.items };
 
-    ghost invariant = { λ p. IsPart (part_state p.region p.ends.items p.opening.value p.lines.value.items) × IsKept p.opening.value p.region.own p.kept };
+    ghost invariant = { λ p. IsPart (part_state p.region p.ends.items p.opening.value p.lines.value.items) ×
+        IsKept p.opening.value p.region.own p.kept };
 }

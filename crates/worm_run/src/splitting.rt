@@ -1,7 +1,6 @@
 //! A network split at its links among workers.
 
 ghost use Rattle.std.specs.Prelude.{◌≡◌, ◌<◌, ◌≤◌, IfErr, IfOk, vec_capacity};
-ghost use Rattle.worm_mesh.specs.Address.{node_count};
 ghost use Rattle.worm_core.specs.State.{IsNet};
 ghost use Rattle.worm_core.specs.Workable.{IsWorkable};
 ghost use Rattle.worm_run.specs.PartState.{IsPart};
@@ -57,7 +56,8 @@ fn deal(
     requires workers { (0 < workers) × (workers ≤ 16) }
     requires net { IsNet opening.now.value }
     requires whole { IsOpened opening.now.value workers lines.now.value.items whole }
-    requires seats { AreSeats opening.now.value lines.now.value.items workers seats.items parts.items (vec_capacity parts) }
+    requires seats { AreSeats opening.now.value lines.now.value.items workers seats.items parts.items (vec_capacity
+        parts) }
     ensures { IsSplitOf opening.now.value workers result.items }
 {
     for worker in 0..workers - 1 {
@@ -80,8 +80,9 @@ fn deal(
     parts
 }
 
-/// Splits the network at its links among so many workers, 1 to 16 and no more than there are nodes: a part for each, in rising number. The
-/// nodes go to them in turn. `Err` gives the network back as it was, where memory is refused.
+/// Splits the network at its links among so many workers, 1 to 16: a part for each, in rising number. The nodes go to
+/// them in
+/// turn, and a worker past the last node gets none. `Err` gives the network back as it was, where memory is refused.
 ///
 /// ```text
 /// let parts = split(alloc, net, 4)?;
@@ -90,7 +91,6 @@ fn deal(
 pub fn split(alloc: Global, net: Net, workers: usize) -> Result<Vec<Part>, (Net, NoMemory)>
     requires some { 1 ≤ workers }
     requires few { workers ≤ 16 }
-    requires nodes { workers ≤ node_count net.mesh }
     ensures parts { IfOk result (λ parts. IsSplitOf net workers parts.items) }
     ensures back { IfErr result (λ e. e.0 ≡ net) }
 {

@@ -15,5 +15,6 @@ link_after-requires-clause-past g c = λ v.
     let way = c.args.way in
     let sound = c.is_sound.ensures.sound in
     subst (λ (past : List Flit). IsWorm (on_channel v past)) (sym c.requires.past)
-    (past_worms (shape net) (framed_mesh net sound.framed) (network_of net) (net_holds net sound) way.from way.out_port way.to
+    (past_worms (shape net) (framed_mesh net sound.framed) (network_of net)
+    (net_holds net sound) way.from way.out_port way.to
     (linked_of net way.from way.out_port way.to sound.framed c.requires.joined) v)

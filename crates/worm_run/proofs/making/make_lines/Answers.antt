@@ -16,9 +16,13 @@ loop-k-preserved c =
     let net = c.args.net.now in
     let items = c.in_ok-push.ensures.items in
     let count = s.invariant.count in
-    let way : c.index-way.result.now ≡ way_at ways s.k = get_or_read ways s.k c.index-way.result.now (omega arith) c.index-way.ensures _ in
+    let way : c.index-way.result.now ≡ way_at ways s.k = get_or_read ways s.k c.index-way.result.now
+    (omega arith) c.index-way.ensures _ in
     record {
-      count = let longer = ap (λ (l : List Line). length l) items in omega (arith, length-append s.lines.items (line ∷ []));
-      each = each_push (λ (k : ℕ) (l : Line). IsLineMade net c.args.workers (way_at ways k) l) no_line s.lines.items c.push.new.self.items line s.k
-          count items s.invariant.each (subst (λ (w : LinkEnds). IsLineMade net c.args.workers w line) way c.in_ok-make_line_of.ensures);
+      count = let longer = ap (λ (l : List Line). length l) items in
+          omega (arith, length-append s.lines.items (line ∷ []));
+      each = each_push (λ (k : ℕ) (l : Line). IsLineMade net c.args.workers
+          (way_at ways k) l) no_line s.lines.items c.push.new.self.items line s.k
+          count items s.invariant.each (subst (λ
+          (w : LinkEnds). IsLineMade net c.args.workers w line) way c.in_ok-make_line_of.ensures);
     }

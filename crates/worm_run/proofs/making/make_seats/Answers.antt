@@ -12,6 +12,8 @@ loop-worker-preserved c =
     let items = c.in_ok-push.ensures.items in
     let P = IsSeat c.args.net.now c.args.lines.now.items in
     record {
-      all = subst (λ (l : List Seat). All P l) (sym items) (All-push P s.seats.items seat s.invariant.all c.in_ok-make_seat.ensures);
-      count = let longer = ap (λ (l : List Seat). length l) items in let count = s.invariant.count in omega (arith, length-append s.seats.items (seat ∷ []));
+      all = subst (λ (l : List Seat). All P l) (sym items)
+          (All-push P s.seats.items seat s.invariant.all c.in_ok-make_seat.ensures);
+      count = let longer = ap (λ (l : List Seat). length l) items in let count = s.invariant.count in
+          omega (arith, length-append s.seats.items (seat ∷ []));
     }

@@ -11,5 +11,6 @@ loop-channel-preserved c =
     let count = s.invariant.count in
     record {
       count = length-set s.owners c.from.result c.owner.result ∙ s.invariant.count;
-      each = owner_put c.args.classes.now s.owners s.channel c.from.result c.owner.result c.from.ensures c.owner.ensures.value (omega arith) s.invariant.each;
+      each = owner_put c.args.classes.now s.owners s.channel c.from.result c.owner.result c.from.ensures
+          c.owner.ensures.value (omega arith) s.invariant.each;
     }

@@ -1,9 +1,11 @@
-use Rattle.std.proofs.Common.{◌≡◌, ℕ, ◌+◌, ◌-◌, ◌<◌, ◌≤◌, ◌++◌, ◌∷◌, [], List, true, length, length-append, ap, arith, refl, subst, sym, ◌∙◌}
+use Rattle.std.proofs.Common.{◌≡◌, ℕ, ◌+◌, ◌-◌, ◌<◌, ◌≤◌, ◌++◌, ◌∷◌, [], List, true, length, length-append, ap, arith}
+use Rattle.std.proofs.Common.{refl, subst, sym, ◌∙◌}
 use Rattle.std.specs.Prelude.{is_ok, vec_capacity, vec_len}
 use Rattle.worm_run.specs.declared.making.Seat.{Seat}
 use Rattle.worm_run.specs.PartState.{PartState}
 use Rattle.worm_run.specs.Splits.{IsSeat, IsSplitOf}
-use Rattle.worm_run.proofs.DealStep.{DealSoFar, all_dealt, all_last, deal_apart, deal_further, deal_is_part, deal_works, dealt_state, is_taken, seat_lengths}
+use Rattle.worm_run.proofs.DealStep.{DealSoFar, all_dealt, all_last, deal_apart, deal_further, deal_is_part}
+use Rattle.worm_run.proofs.DealStep.{deal_works, dealt_state, is_taken, seat_lengths}
 use Rattle.worm_run.proofs.splitting.deal.Goals as goal
 
 pub part_of-requires-clause-works : goal.part_of-requires-clause-works
@@ -18,7 +20,9 @@ part_of-requires-clause-works c =
     let did = c.exchange.ensures in
     let popped : s.seats.items ≡ rest ++ seat ∷ [] = c.in-Some.ensures.items in
     let is = (all_last (IsSeat O lines) rest s.seats.items seat popped s.invariant.all).0 in
-    deal_works O c.requires.net W s.worker (omega arith) lines s.whole x.self s.invariant.dealt seat is x.nodes.items x.links.items x.ends.items did.config did.ways did.nodes did.links did.ends
+    deal_works O c.requires.net W s.worker
+    (omega arith) lines s.whole x.self s.invariant.dealt seat is x.nodes.items x.links.items x.ends.items
+    did.config did.ways did.nodes did.links did.ends
 
 pub part_of-requires-clause-part : goal.part_of-requires-clause-part
 part_of-requires-clause-part c =
@@ -32,7 +36,9 @@ part_of-requires-clause-part c =
     let did = c.exchange.ensures in
     let popped : s.seats.items ≡ rest ++ seat ∷ [] = c.in-Some.ensures.items in
     let is = (all_last (IsSeat O lines) rest s.seats.items seat popped s.invariant.all).0 in
-    deal_is_part O c.requires.net W s.worker (omega arith) lines s.whole x.self s.invariant.dealt seat is x.nodes.items x.links.items x.ends.items did.config did.ways did.nodes did.links did.ends
+    deal_is_part O c.requires.net W s.worker
+    (omega arith) lines s.whole x.self s.invariant.dealt seat is x.nodes.items x.links.items x.ends.items
+    did.config did.ways did.nodes did.links did.ends
 
 pub loop-worker-preserved : goal.loop-worker-preserved
 loop-worker-preserved c =
@@ -46,14 +52,20 @@ loop-worker-preserved c =
     let did = c.exchange.ensures in
     let popped : s.seats.items ≡ rest ++ seat ∷ [] = c.in-Some.ensures.items in
     let is = (all_last (IsSeat O lines) rest s.seats.items seat popped s.invariant.all).0 in
-    let part = dealt_state O c.requires.net W s.worker (omega arith) lines s.whole x.self s.invariant.dealt seat is x.nodes.items x.links.items x.ends.items did.config did.ways did.nodes did.links did.ends in
+    let part = dealt_state O c.requires.net W s.worker
+    (omega arith) lines s.whole x.self s.invariant.dealt seat is x.nodes.items x.links.items x.ends.items
+    did.config did.ways did.nodes did.links did.ends in
     let long = s.invariant.long in
     let enough = s.invariant.enough in
     let room : vec_len s.parts < vec_capacity s.parts = omega arith in
     let taken = is_taken c.push-room.result (vec_capacity s.parts) (vec_len s.parts) c.push-room.ensures.full room in
-    let pushed : c.push-room.new.self.items ≡ s.parts.items ++ part ∷ [] = c.push-room.ensures.items ∙ (rw taken (ap (λ (p : PartState). s.parts.items ++ p ∷ []) c.part_of.ensures)) in
-    deal_further O c.requires.net W s.worker (omega arith) lines s.whole x.self s.invariant.dealt seat is x.nodes.items x.links.items x.ends.items did.config did.ways did.nodes did.links did.ends
-    s.seats.items rest s.parts.items c.push-room.new.self.items (vec_capacity s.parts) (vec_capacity c.push-room.new.self) s.invariant popped pushed c.push-room.ensures.capacity
+    let pushed : c.push-room.new.self.items ≡ s.parts.items ++ part ∷ [] = c.push-room.ensures.items
+    ∙ (rw taken (ap (λ (p : PartState). s.parts.items ++ p ∷ []) c.part_of.ensures)) in
+    deal_further O c.requires.net W s.worker
+    (omega arith) lines s.whole x.self s.invariant.dealt seat is x.nodes.items x.links.items x.ends.items
+    did.config did.ways did.nodes did.links did.ends
+    s.seats.items rest s.parts.items c.push-room.new.self.items (vec_capacity s.parts)
+    (vec_capacity c.push-room.new.self) s.invariant popped pushed c.push-room.ensures.capacity
 
 pub exchange-requires-2-clause-nodes : goal.exchange-requires-2-clause-nodes
 exchange-requires-2-clause-nodes c =
@@ -106,9 +118,11 @@ part_of-requires-2-clause-works c =
     let long = ap (λ (l : List Seat). length l) popped ∙ length-append rest (seat ∷ []) in
     let count = s.invariant.count in
     let at : s.worker ≡ W - 1 = omega arith in
-    let so_far = subst (λ (w : ℕ). DealSoFar O W lines w s.whole s.seats.items s.parts.items (vec_capacity s.parts)) at s.invariant in
+    let so_far = subst (λ (w : ℕ). DealSoFar O W lines w s.whole s.seats.items s.parts.items
+    (vec_capacity s.parts)) at s.invariant in
     let below : W - 1 < W = omega arith in
-    deal_works O c.requires.net W (W - 1) below lines s.whole x.self so_far.dealt seat is x.nodes.items x.links.items x.ends.items did.config did.ways did.nodes did.links did.ends
+    deal_works O c.requires.net W (W - 1) below lines s.whole x.self so_far.dealt seat is x.nodes.items x.links.items
+    x.ends.items did.config did.ways did.nodes did.links did.ends
 
 pub part_of-requires-2-clause-part : goal.part_of-requires-2-clause-part
 part_of-requires-2-clause-part c =
@@ -125,9 +139,12 @@ part_of-requires-2-clause-part c =
     let long = ap (λ (l : List Seat). length l) popped ∙ length-append rest (seat ∷ []) in
     let count = s.invariant.count in
     let at : s.worker ≡ W - 1 = omega arith in
-    let so_far = subst (λ (w : ℕ). DealSoFar O W lines w s.whole s.seats.items s.parts.items (vec_capacity s.parts)) at s.invariant in
+    let so_far = subst (λ (w : ℕ). DealSoFar O W lines w s.whole s.seats.items s.parts.items
+    (vec_capacity s.parts)) at s.invariant in
     let below : W - 1 < W = omega arith in
-    deal_is_part O c.requires.net W (W - 1) below lines s.whole x.self so_far.dealt seat is x.nodes.items x.links.items x.ends.items did.config did.ways did.nodes did.links did.ends
+    deal_is_part O c.requires.net W
+    (W - 1) below lines s.whole x.self so_far.dealt seat is x.nodes.items x.links.items x.ends.items did.config
+    did.ways did.nodes did.links did.ends
 
 pub part_of-requires-2-clause-kept : goal.part_of-requires-2-clause-kept
 part_of-requires-2-clause-kept c =
@@ -144,9 +161,11 @@ part_of-requires-2-clause-kept c =
     let long = ap (λ (l : List Seat). length l) popped ∙ length-append rest (seat ∷ []) in
     let count = s.invariant.count in
     let at : s.worker ≡ W - 1 = omega arith in
-    let so_far = subst (λ (w : ℕ). DealSoFar O W lines w s.whole s.seats.items s.parts.items (vec_capacity s.parts)) at s.invariant in
+    let so_far = subst (λ (w : ℕ). DealSoFar O W lines w s.whole s.seats.items s.parts.items
+    (vec_capacity s.parts)) at s.invariant in
     let below : W - 1 < W = omega arith in
-    deal_apart O c.requires.net W (W - 1) below lines s.whole x.self so_far.dealt seat is x.nodes.items x.links.items x.ends.items did.config did.ways did.nodes did.links did.ends
+    deal_apart O c.requires.net W (W - 1) below lines s.whole x.self so_far.dealt seat is x.nodes.items x.links.items
+    x.ends.items did.config did.ways did.nodes did.links did.ends
 
 pub returns : goal.returns
 returns c =
@@ -163,16 +182,25 @@ returns c =
     let long = ap (λ (l : List Seat). length l) popped ∙ length-append rest (seat ∷ []) in
     let count = s.invariant.count in
     let at : s.worker ≡ W - 1 = omega arith in
-    let so_far = subst (λ (w : ℕ). DealSoFar O W lines w s.whole s.seats.items s.parts.items (vec_capacity s.parts)) at s.invariant in
+    let so_far = subst (λ (w : ℕ). DealSoFar O W lines w s.whole s.seats.items s.parts.items
+    (vec_capacity s.parts)) at s.invariant in
     let below : W - 1 < W = omega arith in
-    let part = dealt_state O c.requires.net W (W - 1) below lines s.whole x.self so_far.dealt seat is x.nodes.items x.links.items x.ends.items did.config did.ways did.nodes did.links did.ends in
+    let part = dealt_state O c.requires.net W
+    (W - 1) below lines s.whole x.self so_far.dealt seat is x.nodes.items x.links.items x.ends.items did.config
+    did.ways did.nodes did.links did.ends in
     let had = so_far.long in
     let enough = so_far.enough in
     let room : vec_len s.parts < vec_capacity s.parts = omega arith in
-    let taken = is_taken c.push-room-2.result (vec_capacity s.parts) (vec_len s.parts) c.push-room-2.ensures.full room in
-    let pushed : c.push-room-2.new.self.items ≡ s.parts.items ++ part ∷ [] = c.push-room-2.ensures.items ∙ (rw taken (ap (λ (p : PartState). s.parts.items ++ p ∷ []) c.part_of-2.ensures)) in
-    let all = deal_further O c.requires.net W (W - 1) below lines s.whole x.self so_far.dealt seat is x.nodes.items x.links.items x.ends.items did.config did.ways did.nodes did.links did.ends
-        s.seats.items rest s.parts.items c.push-room-2.new.self.items (vec_capacity s.parts) (vec_capacity c.push-room-2.new.self) so_far popped pushed c.push-room-2.ensures.capacity in
+    let taken = is_taken c.push-room-2.result (vec_capacity s.parts)
+    (vec_len s.parts) c.push-room-2.ensures.full room in
+    let pushed : c.push-room-2.new.self.items ≡ s.parts.items ++ part ∷ [] = c.push-room-2.ensures.items
+    ∙ (rw taken (ap (λ (p : PartState). s.parts.items ++ p ∷ []) c.part_of-2.ensures)) in
+    let all = deal_further O c.requires.net W
+    (W - 1) below lines s.whole x.self so_far.dealt seat is x.nodes.items x.links.items x.ends.items did.config
+    did.ways did.nodes did.links did.ends
+    s.seats.items rest s.parts.items c.push-room-2.new.self.items (vec_capacity s.parts)
+    (vec_capacity c.push-room-2.new.self) so_far popped pushed c.push-room-2.ensures.capacity in
     let one : W - 1 + 1 ≡ W = omega arith in
     all_dealt O W lines x.self rest c.push-room-2.new.self.items (vec_capacity c.push-room-2.new.self)
-    (subst (λ (w : ℕ). DealSoFar O W lines w x.self rest c.push-room-2.new.self.items (vec_capacity c.push-room-2.new.self)) one all)
+    (subst (λ (w : ℕ). DealSoFar O W lines w x.self rest c.push-room-2.new.self.items
+    (vec_capacity c.push-room-2.new.self)) one all)

@@ -3,4 +3,5 @@ use Rattle.worm_run.proofs.DealStep.{DealSoFar}
 use Rattle.worm_run.proofs.splitting.deal.Given as goal
 
 abbrev pub invariant-loop-worker : goal.invariant-loop-worker
-invariant-loop-worker l = DealSoFar l.opening.value l.workers l.lines.value.items l.worker l.whole l.seats.items l.parts.items (vec_capacity l.parts)
+invariant-loop-worker l = DealSoFar l.opening.value l.workers l.lines.value.items l.worker l.whole l.seats.items
+    l.parts.items (vec_capacity l.parts)
