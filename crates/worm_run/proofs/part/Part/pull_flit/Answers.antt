@@ -64,7 +64,9 @@ put g c =
     flit_put p c.self.invariant.0 framed c.args.node c.args.port c.in-Some.links at c.in-Some-pop_flit.flit c.from.result c.pop_flit.new.end c.arrive.new.self c.from.ensures hand c.arrive.ensures
 
 pub invariant_of-self-2 : goal.invariant_of-self-2
-invariant_of-self-2 g c = ((put g c).0, ?)
+invariant_of-self-2 g c =
+    let i = c.self.inside in
+    ((put g c).0, subst (λ (w : Own). IsKept i.opening.value w i.kept) (sym (put g c).2.config.own) c.self.invariant.1)
 
 pub returns : goal.returns
 returns g c = rw (← c.self.view_is) (record { pulls = (refl, inr (put g c).1); same = (put g c).2 })
