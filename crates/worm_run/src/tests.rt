@@ -90,8 +90,9 @@ fn views(alloc: Global, net: &Net) -> Result<Vec<LaneView>, Fail> {
     let mut views = Vec::new(alloc);
     for src in 0u8..16 {
         for dst in 0u8..16 {
-            if net.has_lane(lane(src, dst, 0)) {
-                views.push(net.lane_view(alloc, lane(src, dst, 0))?)?;
+            let here = lane(src, dst, 0);
+            if net.has_lane(here) {
+                views.push(net.lane_view(alloc, here)?)?;
             }
         }
     }
