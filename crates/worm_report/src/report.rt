@@ -216,7 +216,7 @@ fn put_underway<W: Write>(
 }
 
 /// Where the flits are.
-#[tactic(auto, using(crate::proofs::Written::rows_then))]
+#[tactic(auto, using(crate::proofs::Written::rows_then, crate::proofs::Written::rows_stop))]
 fn put_flits<W: Write>(
     alloc: Global,
     out: &mut W,
