@@ -146,8 +146,7 @@ module _ (p : PartState) (part : IsPart p) (framed : IsFramed p.net) (x o : ℕ)
       let place : n ≡ links_before p.net.mesh x o = number ∙ out_is p part framed x o links at in
       let to : with_end p x o (Leaving hand.tx (record hand.line { taken = hand.line.taken ++ c ∷ [] })) net ≡ record p { net = net; ends = slice_set p.ends n new }
       = λ t. record p { net = net; ends = slice_set p.ends (sym place t) (sym hand.new_is t) } in
-      let exact_net : after_credit_back p.net y q c ≡ net = sym (comes.exact ∙ ap (λ (k : ℕ). after_credit_back p.net y k c) entered) in
-      (
+      let exact_net : after_credit_back p.net y q c ≡ net = sym (comes.exact ∙ ap (λ (k : ℕ). after_credit_back p.net y k c) entered) in (
         subst IsPart to made,
         record {
           beyond = y;
@@ -177,8 +176,7 @@ module _ (p : PartState) (part : IsPart p) (framed : IsFramed p.net) (x o : ℕ)
       let place : n ≡ links_before p.net.mesh y q = number ∙ into_is p part framed x o links at in
       let to : with_end p y q (Entering (record hand.rx { taken = hand.rx.taken ++ f ∷ [] }) hand.line) net ≡ record p { net = net; ends = slice_set p.ends n new }
       = λ t. record p { net = net; ends = slice_set p.ends (sym place t) (sym hand.new_is t) } in
-      let exact_net : after_arriving p.net y q f ≡ net = sym (comes.exact ∙ ap (λ (k : ℕ). after_arriving p.net y k f) entered) in
-      (
+      let exact_net : after_arriving p.net y q f ≡ net = sym (comes.exact ∙ ap (λ (k : ℕ). after_arriving p.net y k f) entered) in (
         subst IsPart to made,
         record {
           beyond = y;

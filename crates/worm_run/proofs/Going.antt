@@ -172,8 +172,7 @@ module _ (p : PartState) (part : IsPart p) (framed : IsFramed p.net) (x o : ℕ)
           let to : with_end p x o (Leaving (record tx { sent = tx.sent ++ with_channel r.front r.channel ∷ [] }) back) net ≡ record p { net = net; ends = slice_set p.ends n new }
           = λ t. record p { net = net; ends = slice_set p.ends (sym number_is t) (as_flit t) } in
           let exact : record p { net = net; ends = slice_set p.ends n new } ≡ with_end p x o (Leaving (record tx { sent = tx.sent ++ flit ∷ [] }) back) (with_router p.net x (after_send (router_at p.net x) z v))
-          = λ t. record p { net = lets.exact t; ends = slice_set p.ends (number_is t) (new_is t) } in
-          (
+          = λ t. record p { net = lets.exact t; ends = slice_set p.ends (number_is t) (new_is t) } in (
             subst IsPart to made,
             record { out = o; flit = flit; tx = tx; back = back; ready = ready; end = end_is; answer = inl exact },
             record { config = config; opening = refl; lines = refl },
@@ -240,8 +239,7 @@ module _ (p : PartState) (part : IsPart p) (framed : IsFramed p.net) (x o : ℕ)
         let to : with_end p y q (Entering rx (record give { sent = give.sent ++ v ∷ [] })) net ≡ record p { net = net; ends = slice_set p.ends n new }
         = λ t. record p { net = net; ends = slice_set p.ends (sym number_is t) (sym new_is t) } in
         let exact : record p { net = net; ends = slice_set p.ends n new } ≡ with_end p y q (Entering rx (record give { sent = give.sent ++ v ∷ [] })) (with_router p.net x (after_gave (router_at p.net x) o v))
-        = λ t. record p { net = lets.exact t; ends = slice_set p.ends (number_is t) (new_is t) } in
-        (
+        = λ t. record p { net = lets.exact t; ends = slice_set p.ends (number_is t) (new_is t) } in (
           subst IsPart to made,
           record { beyond = y; rx = rx; give = give; linked = linked p part framed x o links at; end = end_is; answer = inl exact },
           record { config = config; opening = refl; lines = refl },

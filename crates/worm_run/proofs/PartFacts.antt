@@ -78,9 +78,9 @@ module _ (p : PartState) (part : IsPart p) where
           | inr away ↦
               let has_then : has_neighbour p.opening.mesh y q ≡ true = rw (← part.config.mesh) has in
               let apart : links_before p.net.mesh y q ≢ links_before p.net.mesh x o = λ same_number.
-                  let number : links_before p.opening.mesh y q ≡ links_before p.opening.mesh x o = rw (← part.config.mesh) same_number in
-                  let both = one_link p.opening.mesh large y q x o (IsLink-from_test p.opening.mesh y q large has_then) link number in
-                  away.1 both.0 both.1 in
+              let number : links_before p.opening.mesh y q ≡ links_before p.opening.mesh x o = rw (← part.config.mesh) same_number in
+              let both = one_link p.opening.mesh large y q x o (IsLink-from_test p.opening.mesh y q large has_then) link number in
+              away.1 both.0 both.1 in
               rw (has, away.0) (get_or-set_other p.ends (links_before p.net.mesh x o) (links_before p.net.mesh y q) e Inner apart)
         ]
         | inr none ↦
@@ -90,7 +90,7 @@ module _ (p : PartState) (part : IsPart p) where
 
   made_of : (y o x : ℕ) → (shape p.opening).neighbour y o ≡ Some x → (owns p y ≡ owns p x → ⊥)
       → AreEndsMade p.opening.mesh p.opening.channels y o (past_of (shape p.opening) (network_of p.opening) y o x)
-          (line_at p.lines (links_before p.opening.mesh y o)).out (line_at p.lines (links_before p.opening.mesh y o)).into
+      (line_at p.lines (links_before p.opening.mesh y o)).out (line_at p.lines (links_before p.opening.mesh y o)).into
   made_of y o x linked apart = part.made y o x linked (owned_apart p.net.own.workers p.net.own.worker y x apart)
 
   -- what is known of an end, by its kind

@@ -134,8 +134,7 @@ enters_means (Entering rx give) b is = (λ _. (rx, give, refl), λ _. is)
 -- the link into a port whose end this is
 pub comes_means : (p : PartState) (x o beyond : ℕ) (b : Bool) → neighbour_of p.net.mesh x o ≡ Some beyond → b ≡ enters_by (end_of p beyond (opposite_of o)) → (IsTrue b → ComesBy p x o) × (ComesBy p x o → IsTrue b)
 comes_means p x o beyond b linked is =
-    let means = enters_means (end_of p beyond (opposite_of o)) b is in
-    (
+    let means = enters_means (end_of p beyond (opposite_of o)) b is in (
       λ it. (beyond, linked, means.0 it),
       λ comes.
           let one : ◌≡◌ {A = Option ℕ} (Some beyond) (Some comes.0) = sym linked ∙ comes.1 in

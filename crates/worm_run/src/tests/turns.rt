@@ -1,20 +1,23 @@
-//! Parts that take turns: worked cases, two threads, and packets in a class with two channels.
+//! Parts that take turns: worked cases.
 
 ghost use Rattle.std.specs.Prelude.{◌≡◌, ◌<◌, vec_len};
 ghost use Rattle.worm_run.specs.Joins.{AreParts};
-ghost use Rattle.worm_run.specs.PartState.{IsSamePart};
 
 use super::{config, lane, offer, parts_of, view_of};
 use crate::{Part, join};
 use std::alloc::Global;
-use std::snapshot::Snapshot;
 use std::sync::Wait;
-use std::thread::Promise;
 use std::test::Fail;
 use worm_core::{Held, Net, Place, Script};
 
 /// The worker takes these turns, from turn 0 on. False where one was ended by a fault.
-fn take_turns<R: Wait>(rt: &R, parts: &mut Vec<Part>, worker: usize, turns: u64, script: &Script) -> bool
+fn take_turns<R: Wait>(
+    rt: &R,
+    parts: &mut Vec<Part>,
+    worker: usize,
+    turns: u64,
+    script: &Script,
+) -> bool
     requires there { worker < vec_len parts.old }
     requires parts { AreParts parts.old.items }
     ensures count { vec_len parts.new ≡ vec_len parts.old }
@@ -54,8 +57,16 @@ fn a_part_alone_fills_the_link(rt: HostRuntime) -> Result<(), Fail> {
     let view = view_of(alloc, &net, lane(0, 1, 0))?;
     assert_eq!(rt; view.delivered, 0);
     assert_eq!(rt; view.underway.len(), 4);
-    let link = Place::Link { node: 0, port: 1, vc: 0 };
-    let buffer = Place::Buffer { node: 0, port: 2, vc: 0 };
+    let link = Place::Link {
+        node: 0,
+        port: 1,
+        vc: 0,
+    };
+    let buffer = Place::Buffer {
+        node: 0,
+        port: 2,
+        vc: 0,
+    };
     assert!(rt; is_held(view.underway.get(0), 0, link));
     assert!(rt; is_held(view.underway.get(1), 1, buffer));
     assert!(rt; is_held(view.underway.get(2), 2, Place::Source));
@@ -74,7 +85,11 @@ fn the_other_part_takes_what_came(rt: HostRuntime) -> Result<(), Fail> {
     let view = view_of(alloc, &net, lane(0, 1, 0))?;
     assert_eq!(rt; view.delivered, 1);
     assert_eq!(rt; view.underway.len(), 3);
-    let buffer = Place::Buffer { node: 0, port: 2, vc: 0 };
+    let buffer = Place::Buffer {
+        node: 0,
+        port: 2,
+        vc: 0,
+    };
     assert!(rt; is_held(view.underway.get(0), 1, buffer));
     assert!(rt; is_held(view.underway.get(1), 2, Place::Source));
     assert!(rt; is_held(view.underway.get(2), 3, Place::Source));
@@ -84,27 +99,4 @@ fn the_other_part_takes_what_came(rt: HostRuntime) -> Result<(), Fail> {
     };
     assert_eq!(rt; link.front_credit(), Some(0));
     Ok(())
-}
-
-/// What a worker gives back has the same opening and the same queues as what it was given.
-struct Stays(Snapshot<Part>);
-
-impl Drop for Stays {
-    fn drop(self) {
-        let Stays(_) = self;
-    }
-}
-
-impl Promise<Part> for Stays {
-    ghost kept_by = { λ s part. IsSamePart s.0.value part };
-}
-
-/// Twenty turns of the part.
-fn twenty_turns<R: Wait>(rt: &R, mut part: Part, script: &Script) -> Part
-    ensures { IsSamePart part result }
-{
-    for turn in 0u64..20 {
-        let _done = part.turn(rt, turn, script);
-    }
-    part
 }
