@@ -1,6 +1,0 @@
-use Rattle.std.proofs.Common.{◌≡◌}
-use Rattle.worm_run.proofs.Lines.{LinesSoFar}
-use Rattle.worm_run.proofs.exchange.Kept.empty_lines.Given as goal
-
-abbrev pub invariant-loop-k : goal.invariant-loop-k
-invariant-loop-k g l = LinesSoFar l.workers l.k l.fn.self l.self

@@ -1,7 +1,0 @@
-pub mod Ends
-pub mod PartState
-pub mod PartTurns
-pub mod Apart
-pub mod Exchange
-pub mod Splits
-pub mod Joins

@@ -1,0 +1,217 @@
+-- The lists of the parts joined, as one network's.
+use Rattle.std.proofs.Common.{◌≡◌, ℕ, ◌*◌, ◌<◌, ◌≤◌, ◌%◌, ◌==◌, true, false, cond, inl, inr, List, [], length, sum}
+use Rattle.std.proofs.Common.{Option, Some, None, refl, arith, sym, ap, subst, ◌∙◌}
+use Rattle.std.specs.Prelude.{slice_index_or}
+use Rattle.worm_flit.specs.declared.Flit.{Flit}
+use Rattle.worm_mesh.specs.Address.{has_neighbour, IsMesh as IsRadices, neighbour_of, node_count}
+use Rattle.worm_mesh.specs.Links.{links_before, link_count}
+use Rattle.worm_flit.specs.Channels.{AreChannels}
+use Rattle.worm_theory.specs.Growth.{SinksGrow, SourcesGrow}
+use Rattle.worm_theory.specs.Shape.{Shape}
+use Rattle.worm_theory.specs.Network.{Network}
+use Rattle.worm_theory.specs.Sound.{Sound, OthersIdle, OnesClosed}
+use Rattle.worm_theory.specs.Cut.{LanesCut}
+use Rattle.worm_theory.specs.PacketCut.{PacketsHold}
+use Rattle.worm_theory.proofs.Bridge.{same_network}
+use Rattle.worm_theory.proofs.Places.{bool_cases, number_cases}
+use Rattle.worm_term.specs.Source.{queue_at}
+use Rattle.worm_core.specs.Owned.{sole}
+use Rattle.worm_core.specs.Shape.{net_shape}
+use Rattle.worm_core.specs.State.{NetState, LinkView, IsFramed, IsNet, IsNodeOf, blank_link, fresh_node, input_of}
+use Rattle.worm_core.specs.State.{link_at, link_of, net_state, network_of, node_at, output_of, shape, sink_at}
+use Rattle.worm_core.specs.State.{texts_of}
+use Rattle.worm_core.specs.declared.node.Node.{Node}
+use Rattle.worm_core.proofs.LinkBridge.{credits_there, out_there}
+use Rattle.worm_split.specs.declared.ends.End.{End}
+use Rattle.worm_split.specs.declared.ends.End.TheVariants.{Inner}
+use Rattle.worm_split.specs.declared.exchange.Kept.{Kept}
+use Rattle.worm_split.specs.Ends.{sent_on}
+use Rattle.worm_split.specs.Exchange.{way_at}
+use Rattle.worm_split.specs.Joins.{AreEmptied, AreParts, IsGathered, owner_of}
+use Rattle.worm_split.specs.PartState.{PartState, IsPart, end_of, part_network}
+use Rattle.worm_split.specs.Splits.{part_at}
+use Rattle.worm_split.proofs.Gathered.{first, owner_below, part_channels, part_depth, part_mesh}
+use Rattle.worm_split.proofs.JoinLinks.{framed, has, hold}
+use Rattle.worm_split.proofs.JoinNet.{emptied_room, joined, line_put, no_link_there, out_put}
+
+module _ (parts : List PartState) (are : AreParts parts) (kept : Kept) (gathered : IsGathered parts 0 kept)
+    (links : List LinkView)
+    (emptied : AreEmptied (length parts)
+    (length kept.ways.items) kept.ways.items kept.lines.items kept.links.items links) where
+  abbrev pub new : NetState
+  new = net_state kept.config.radices.items kept.config.channels.items kept.config.depth
+      (texts_of kept.config.classes.items) kept.nodes.items links sole
+
+  abbrev O : NetState
+  O = (part_at parts 0).opening
+
+  each : (w : ℕ) → w < length parts → IsPart (part_at parts w)
+  each = hold parts are kept gathered
+
+  pub shape_same : shape new ≡ shape (part_at parts 0).opening
+  shape_same = let config = gathered.apart.config in
+      λ t. net_shape (config.radices t) (config.channels t) (config.depth t)
+
+  -- the configuration is that of each part
+  module _ (x : ℕ) where
+    abbrev q : PartState
+    q = owner_of parts x
+
+    below : x % length parts < length parts
+    below = owner_below parts are each x
+
+    mesh_as : new.mesh ≡ q.net.mesh
+    mesh_as = gathered.apart.config.radices ∙ sym (part_mesh parts are each (x % length parts) below)
+
+    channels_as : new.channels ≡ q.net.channels
+    channels_as = gathered.apart.config.channels ∙ sym (part_channels parts are each (x % length parts) below)
+
+    depth_as : new.depth ≡ q.net.depth
+    depth_as = gathered.apart.config.depth ∙ sym (part_depth parts are each (x % length parts) below)
+
+    pub node_same : node_at new x ≡ node_at (owner_of parts x).net x
+    node_same =
+        let fresh : fresh_node new.mesh new.channels new.depth x ≡ fresh_node q.net.mesh q.net.channels q.net.depth x
+        = λ t. fresh_node (mesh_as t) (channels_as t) (depth_as t) x in
+        gathered.nodes x (omega arith) (fresh_node new.mesh new.channels new.depth x)
+        ∙ ap (λ (n : Node). slice_index_or q.net.nodes x n) fresh
+
+    node_framed : x < length kept.nodes.items → IsNodeOf new.mesh new.channels new.depth x (node_at new x)
+    node_framed there =
+        let frame = framed parts are kept gathered (x % length parts) below in
+        let all = frame.all_nodes in
+        let mine = gathered.apart.all_nodes in
+        let count : node_count q.net.mesh ≡ node_count O.mesh = ap node_count (part_mesh parts are each
+        (x % length parts) below) in
+        let node = frame.each_node x (omega arith) in
+        subst (λ (n : Node). IsNodeOf new.mesh new.channels new.depth x n) (sym node_same)
+        (subst (λ (d : ℕ). IsNodeOf new.mesh new.channels d x (node_at q.net x)) (sym depth_as)
+        (subst (λ (c : List ℕ). IsNodeOf new.mesh c q.net.depth x (node_at q.net x)) (sym channels_as)
+        (subst (λ (m : List ℕ). IsNodeOf m q.net.channels q.net.depth x (node_at q.net x)) (sym mesh_as) node)))
+
+  link_room : (k : ℕ) → k < length links → (slice_index_or links k blank_link).room ≡
+      (slice_index_or kept.links.items k blank_link).room
+  link_room k below =
+      let ways = gathered.apart.ways.all in
+      let all = gathered.apart.all_links in
+      let long = emptied.same_length in
+      elim (number_cases ((way_at kept.ways.items k).from % length parts)
+      ((way_at kept.ways.items k).to % length parts)) [
+        | inl here ↦ ap (λ (l : LinkView). l.room) (emptied.within k here.1)
+        | inr away ↦ emptied_room _ _ _ _ (emptied.done k (omega arith) away.1)
+      ]
+
+  pub new_framed : IsFramed new
+  new_framed =
+      let config = gathered.apart.config in
+      let frame = (first parts are each).opened.framed in
+      record {
+        radices = subst IsRadices (sym config.radices) frame.radices;
+        classes = subst AreChannels (sym config.channels) frame.classes;
+        least_depth = rw config.depth frame.least_depth;
+        most_depth = rw config.depth frame.most_depth;
+        all_nodes = gathered.apart.all_nodes ∙ ap node_count (sym config.radices);
+        all_links = emptied.same_length ∙ (gathered.apart.all_links ∙ ap link_count (sym config.radices));
+        each_node = λ x there. node_framed x there;
+        rooms = λ k there.
+            let long = emptied.same_length in
+            let room = gathered.apart.rooms k (omega arith) in
+            let same = link_room k there in
+            let product : sum new.channels * new.depth ≡ sum O.channels * O.depth = λ t. sum
+            (config.channels t) * config.depth t in
+            omega arith;
+      }
+
+  -- where there is no link, a port has the sink's list, or nothing
+  module _ (y o : ℕ) (none : (shape (part_at parts 0).opening).neighbour y o ≡ None) where
+    none_then : has_neighbour O.mesh y o ≡ false
+    unfolding net_shape
+    none_then = no_link_there O.mesh y o none
+
+    none_now : has_neighbour new.mesh y o ≡ false
+    none_now = ap (λ (m : List ℕ). has_neighbour m y o) gathered.apart.config.radices ∙ none_then
+
+    none_part : has_neighbour (q y).net.mesh y o ≡ false
+    none_part = ap (λ (m : List ℕ). has_neighbour m y o) (sym (mesh_as y)) ∙ none_now
+
+    bare_out : (m : NetState) → has_neighbour m.mesh y o ≡ false → (network_of m).out y o ≡ cond
+        (o == 2 * length m.mesh) (sink_at m y).delivered []
+    unfolding network_of
+    bare_out m e = rw e refl
+
+    bare_line : (m : NetState) → has_neighbour m.mesh y o ≡ false → (network_of m).credit_list y o ≡ []
+    unfolding network_of
+    bare_line m e = rw e refl
+
+    out_unlinked : (network_of new).out y o ≡ (joined parts are kept gathered links emptied).out y o
+    out_unlinked =
+        let inner : end_of (q y) y o ≡ Inner = rw none_part refl in
+        let sinks : cond (o == 2 * length new.mesh) (sink_at new y).delivered [] ≡ cond (o == 2 * length
+        (q y).net.mesh) (sink_at (q y).net y).delivered []
+        = λ t. cond (o == 2 * length (mesh_as y t)) (node_same y t).sink.delivered [] in
+        bare_out new none_now ∙ (sinks ∙ (sym (bare_out (q y).net none_part)
+        ∙ (ap (λ (e : End). sent_on e ((network_of (q y).net).out y o)) (sym inner) ∙ rw none refl)))
+
+    line_unlinked : (network_of new).credit_list y o ≡ (joined parts are kept gathered links emptied).credit_list y o
+    line_unlinked = bare_line new none_now ∙ rw none refl
+
+  module _ (y o x : ℕ) (linked : (shape (part_at parts 0).opening).neighbour y o ≡ Some x) where
+    has_now : has_neighbour new.mesh y o ≡ true
+    has_now = ap (λ (m : List ℕ). has_neighbour m y o) gathered.apart.config.radices
+        ∙ has parts are kept gathered y o x linked
+
+    number_now : links_before new.mesh y o ≡ links_before O.mesh y o
+    number_now = ap (λ (m : List ℕ). links_before m y o) gathered.apart.config.radices
+
+    out_linked : (network_of new).out y o ≡ (joined parts are kept gathered links emptied).out y o
+    out_linked = out_there new y o new_framed has_now ∙ (ap (λ (n : ℕ). (link_at new n).flits) number_now
+        ∙ out_put parts are kept gathered links emptied y o x linked)
+
+    line_linked : (network_of new).credit_list y o ≡ (joined parts are kept gathered links emptied).credit_list y o
+    line_linked = credits_there new y o new_framed has_now ∙ (ap (λ (n : ℕ). (link_at new n).credits) number_now
+        ∙ line_put parts are kept gathered links emptied y o x linked)
+
+  out_same : (y o : ℕ) (n : Option ℕ) → (shape (part_at parts 0).opening).neighbour y o ≡ n
+      → (network_of new).out y o ≡ (joined parts are kept gathered links emptied).out y o
+  out_same y o None e = out_unlinked y o e
+  out_same y o (Some x) e = out_linked y o x e
+
+  line_same : (y o : ℕ) (n : Option ℕ) → (shape (part_at parts 0).opening).neighbour y o ≡ n
+      → (network_of new).credit_list y o ≡ (joined parts are kept gathered links emptied).credit_list y o
+  line_same y o None e = line_unlinked y o e
+  line_same y o (Some x) e = line_linked y o x e
+
+  places_same : (x : ℕ) (p v : ℕ) → ((network_of new).buffer x p v ≡ (network_of (owner_of parts x).net).buffer x p v)
+      × ((network_of new).in_record x p v ≡ (network_of (owner_of parts x).net).in_record x p v)
+      × ((network_of new).last_out x p v ≡ (network_of (owner_of parts x).net).last_out x p v)
+      × ((network_of new).owed x p v ≡ (network_of (owner_of parts x).net).owed x p v)
+      × ((network_of new).holder x p v ≡ (network_of (owner_of parts x).net).holder x p v)
+      × ((network_of new).credits x p v ≡ (network_of (owner_of parts x).net).credits x p v)
+      × ((network_of new).injected x p ≡ (network_of (owner_of parts x).net).injected x p)
+      × ((network_of new).unfed x p ≡ (network_of (owner_of parts x).net).unfed x p)
+  unfolding network_of
+  places_same x p v = (
+    ap (λ (n : Node). (input_of n.router p v).buffer) (node_same x),
+    ap (λ (n : Node). (input_of n.router p v).state) (node_same x),
+    ap (λ (n : Node). (input_of n.router p v).last_out) (node_same x),
+    ap (λ (n : Node). (input_of n.router p v).owed) (node_same x),
+    ap (λ (n : Node). (output_of n.router p v).holder) (node_same x),
+    ap (λ (n : Node). (output_of n.router p v).credits) (node_same x),
+    ap (λ (n : Node). (queue_at n.source p).injected) (node_same x),
+    ap (λ (n : Node). Rattle.std.specs.Prelude.drop (queue_at n.source p).fed (queue_at n.source p).injected)
+        (node_same x),
+  )
+
+  pub network_same : network_of new ≡ joined parts are kept gathered links emptied
+  network_same = same_network (network_of new) (joined parts are kept gathered links emptied) (record {
+    buffer = λ x p v. (places_same x p v).0;
+    in_record = λ x p v. (places_same x p v).1;
+    last_out = λ x p v. (places_same x p v).2;
+    owed = λ x p v. (places_same x p v).3;
+    holder = λ x o c. (places_same x o c).4;
+    credits = λ x o c. (places_same x o c).5;
+    out = λ y o. out_same y o ((shape (part_at parts 0).opening).neighbour y o) refl;
+    credit_list = λ y o. line_same y o ((shape (part_at parts 0).opening).neighbour y o) refl;
+    injected = λ x k. (places_same x k 0).6;
+    unfed = λ x k. (places_same x k 0).7;
+  })

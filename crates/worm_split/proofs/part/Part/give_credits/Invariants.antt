@@ -1,0 +1,11 @@
+use Rattle.std.proofs.Common.{None}
+use Rattle.std.specs.List.{range_with_len}
+use Rattle.worm_split.specs.PartState.{IsSamePart}
+use Rattle.worm_split.specs.PartTurns.{EachOf, GivesCredit}
+use Rattle.worm_split.proofs.part.Part.give_credits.Given as goal
+
+abbrev pub invariant-loop-port : goal.invariant-loop-port
+invariant-loop-port g l = record {
+  given : EachOf (GivesCredit l.node) (range_with_len 0 l.port) l.fn.self None l.self;
+  same : IsSamePart l.fn.self l.self;
+}

@@ -1,0 +1,13 @@
+use Rattle.std.proofs.Common.{None}
+use Rattle.std.specs.Prelude.{filter}
+use Rattle.std.specs.List.{range_with_len}
+use Rattle.worm_core.specs.Workable.{owned}
+use Rattle.worm_split.specs.PartState.{IsSamePart}
+use Rattle.worm_split.specs.PartTurns.{EachOf, NodeTurn}
+use Rattle.worm_split.proofs.part.Part.turn.Given as goal
+
+abbrev pub invariant-loop-node : goal.invariant-loop-node
+invariant-loop-node g l = record {
+  turned : EachOf (NodeTurn l.entries) (filter (owned l.fn.self.net) (range_with_len 0 l.node)) l.fn.self None l.self;
+  same : IsSamePart l.fn.self l.self;
+}

@@ -1,0 +1,148 @@
+//! A network taken apart, and what is exchanged between it and a worker's own lists. Done at the split it gives the
+//! worker its part; done again at the join it puts the part back.
+
+ghost use Rattle.std.specs.Prelude.{◌≡◌, ◌<◌, length};
+ghost use Rattle.worm_core.specs.Owned.{owned_by};
+ghost use Rattle.worm_split.specs.Exchange.{EndsSwapped, LinksSwapped, NodesSwapped, SwapsEnd, SwapsLink, SwapsNode};
+
+use crate::ends::{End, Line};
+use std::mem::swap;
+use worm_core::{Config, LinkState, Node, Own};
+use worm_mesh::LinkEnds;
+
+/// A network taken apart, as the last worker keeps it till its parts are joined. In the place of each node that a
+/// worker has stands a fresh one, and on the links is nothing.
+#[derive(Drop)]
+pub struct Kept {
+    /// What the network was made from.
+    pub(crate) config: Config,
+    /// The two nodes of each link, by the link's number.
+    pub(crate) ways: Vec<LinkEnds>,
+    /// The nodes by number.
+    pub(crate) nodes: Vec<Node>,
+    /// The links by number.
+    pub(crate) links: Vec<LinkState>,
+    /// Both ends of each link between two workers, by the link's number.
+    pub(crate) lines: Vec<Line>,
+}
+
+/// Whether the worker owns the node.
+pub(crate) fn owns(own: Own, node: u8) -> bool
+    requires { 0 < own.workers }
+    ensures { result ≡ owned_by own node }
+{
+    u16::from(node) % own.workers == own.worker
+}
+
+/// Exchanges the two nodes where they are the worker's.
+fn swap_node(kept: &mut Node, node: &mut Node, own: bool)
+    ensures { SwapsNode own kept.old node.old kept.new node.new }
+{
+    if own {
+        swap(kept, node);
+    }
+}
+
+/// Exchanges the nodes that the worker owns.
+fn swap_nodes(kept: &mut Vec<Node>, nodes: &mut Vec<Node>, own: Own)
+    requires workers { 0 < own.workers }
+    requires length { length nodes.old.items ≡ length kept.old.items }
+    requires few { length kept.old.items < 257 }
+    ensures { NodesSwapped own (length kept.old.items) kept.old.items nodes.old.items kept.new.items nodes.new.items }
+{
+    for x in 0..kept.len() {
+        swap_node(&mut kept[x], &mut nodes[x], owns(own, x as u8));
+    }
+}
+
+/// Exchanges the two links' flits where the worker owns the far end, and their credits where it owns the near one.
+fn swap_link(kept: &mut LinkState, link: &mut LinkState, near: bool, far: bool)
+    ensures { SwapsLink near far kept.old link.old kept.new link.new }
+{
+    if far {
+        kept.swap_flits(link);
+    }
+    if near {
+        kept.swap_credits(link);
+    }
+}
+
+/// Exchanges what is on the links, flits and credits.
+fn swap_links(kept: &mut Vec<LinkState>, links: &mut Vec<LinkState>, ways: &Vec<LinkEnds>, own: Own)
+    requires workers { 0 < own.workers }
+    requires length { length links.old.items ≡ length kept.old.items }
+    requires ways { length ways.now.items ≡ length kept.old.items }
+    ensures { LinksSwapped own ways.now.items (length kept.old.items) kept.old.items links.old.items kept.new.items
+        links.new.items }
+{
+    for k in 0..ways.len() {
+        let way = ways[k];
+        swap_link(
+            &mut kept[k],
+            &mut links[k],
+            owns(own, way.from),
+            owns(own, way.to),
+        );
+    }
+}
+
+/// Exchanges the worker's end of a link, if just one of the link's nodes is the worker's.
+fn swap_end(line: &mut Line, end: &mut End, near: bool, far: bool)
+    ensures { SwapsEnd near far line.old end.old line.new end.new }
+{
+    if near && !far {
+        swap(&mut line.out, end);
+    } else if far && !near {
+        swap(&mut line.into, end);
+    }
+}
+
+/// Exchanges the worker's ends.
+fn swap_ends(lines: &mut Vec<Line>, ends: &mut Vec<End>, ways: &Vec<LinkEnds>, own: Own)
+    requires workers { 0 < own.workers }
+    requires length { length ends.old.items ≡ length lines.old.items }
+    requires ways { length ways.now.items ≡ length lines.old.items }
+    ensures { EndsSwapped own ways.now.items (length lines.old.items) lines.old.items ends.old.items lines.new.items
+        ends.new.items }
+{
+    for k in 0..ways.len() {
+        let way = ways[k];
+        swap_end(
+            &mut lines[k],
+            &mut ends[k],
+            owns(own, way.from),
+            owns(own, way.to),
+        );
+    }
+}
+
+impl Kept {
+    /// Exchanges all that is the worker's.
+    pub(crate) fn exchange(
+        &mut self,
+        nodes: &mut Vec<Node>,
+        links: &mut Vec<LinkState>,
+        ends: &mut Vec<End>,
+        own: Own,
+    )
+        requires workers { 0 < own.workers }
+        requires nodes { length nodes.old.items ≡ length self.old.nodes.items }
+        requires few { length self.old.nodes.items < 257 }
+        requires links { length links.old.items ≡ length self.old.links.items }
+        requires ends { length ends.old.items ≡ length self.old.lines.items }
+        requires link_ways { length self.old.ways.items ≡ length self.old.links.items }
+        requires line_ways { length self.old.ways.items ≡ length self.old.lines.items }
+        ensures config { self.new.config ≡ self.old.config }
+        ensures ways { self.new.ways ≡ self.old.ways }
+        ensures nodes { NodesSwapped own (length self.old.nodes.items) self.old.nodes.items nodes.old.items
+            self.new.nodes.items nodes.new.items }
+        ensures links { LinksSwapped own self.old.ways.items (length self.old.links.items) self.old.links.items
+            links.old.items self.new.links.items links.new.items }
+        ensures ends { EndsSwapped own self.old.ways.items (length self.old.lines.items) self.old.lines.items
+            ends.old.items self.new.lines.items ends.new.items }
+    {
+        swap_nodes(&mut self.nodes, nodes, own);
+        swap_links(&mut self.links, links, &self.ways, own);
+        swap_ends(&mut self.lines, ends, &self.ways, own);
+    }
+}

@@ -1,0 +1,213 @@
+//! The parts of a network joined again.
+
+ghost use Rattle.std.specs.Prelude.{◌≡◌, ◌<◌, ◌≤◌, ◌++◌, ◌∷◌, ◌%◌, ◌==◌, [], ℕ, false, length, true};
+ghost use Rattle.worm_core.specs.Headline.{DeliversInOrder};
+ghost use Rattle.worm_split.specs.Ends.{line_at};
+ghost use Rattle.worm_split.specs.Exchange.{EndsPutBack, LinksPutBack, NodesPutBack};
+ghost use Rattle.worm_split.specs.Joins.{AreEmptied, AreOfOne, AreParts, CreditsEmptied, FlitsEmptied, IsBetween};
+ghost use Rattle.worm_split.specs.Joins.{IsEmptied, IsGathered, IsJoinOf, IsLaterThan};
+ghost use Rattle.worm_split.specs.Splits.{part_at};
+
+use crate::ends::{End, Line};
+use crate::exchange::Kept;
+use crate::part::Part;
+use std::mem::replace;
+use std::sync::Wait;
+use worm_core::{LinkState, Net, NetParts, Region};
+use worm_flit::Flit;
+use worm_links::{CreditRx, CreditTx, FlitRx, FlitTx, reunite, reunite_credits};
+use worm_mesh::LinkEnds;
+
+/// Puts the flit behind the link's, if there is room.
+fn put_behind(link: &mut LinkState, flit: Flit)
+    ensures fits { length link.old.flits < link.old.room →
+        link.new ≡ record link.old { flits = link.old.flits ++ flit ∷ [] } }
+    ensures full { link.old.room ≤ length link.old.flits → link.new ≡ link.old }
+{
+    if link.count() < usize::from(link.room()) {
+        link.push(flit);
+    }
+}
+
+/// The same of a credit.
+fn put_credit_behind(link: &mut LinkState, vc: u8)
+    ensures fits { length link.old.credits < link.old.room →
+        link.new ≡ record link.old { credits = link.old.credits ++ vc ∷ [] } }
+    ensures full { link.old.room ≤ length link.old.credits → link.new ≡ link.old }
+{
+    if link.credit_count() < usize::from(link.room()) {
+        link.push_credit(vc);
+    }
+}
+
+/// Puts what the queue still holds behind the link's flits. There is room for it, but that is known only of all links
+/// together, once all queues are empty; so it is asked.
+fn empty_flits<R: Wait>(rt: &R, tx: FlitTx, rx: FlitRx, link: &mut LinkState)
+    requires { tx.queue ≡ rx.queue }
+    ensures { FlitsEmptied tx.sent rx.taken link.old link.new }
+{
+    let mut ends = reunite(tx, rx);
+    while let Some(flit) = ends.pop_rest(rt) {
+        put_behind(link, flit);
+    }
+}
+
+/// The same of credits.
+fn empty_credits<R: Wait>(rt: &R, tx: CreditTx, rx: CreditRx, link: &mut LinkState)
+    requires { tx.queue ≡ rx.queue }
+    ensures { CreditsEmptied tx.sent rx.taken link.old link.new }
+{
+    let mut ends = reunite_credits(tx, rx);
+    while let Some(vc) = ends.pop_rest(rt) {
+        put_credit_behind(link, vc);
+    }
+}
+
+/// Puts what the line's queues still hold onto the link, if it has ends.
+fn empty_line<R: Wait>(rt: &R, line: Line, link: &mut LinkState)
+    requires { AreOfOne line.out line.into }
+    ensures { IsEmptied line.out line.into link.old link.new }
+{
+    let Line { out, into } = line;
+    let End::Leaving(tx, back) = out else {
+        return;
+    };
+    let End::Entering(rx, give) = into else {
+        return;
+    };
+    empty_flits(rt, tx, rx, link);
+    empty_credits(rt, give, back, link);
+}
+
+/// The same, unless both of the link's nodes are of one worker.
+fn empty_between<R: Wait>(rt: &R, line: &mut Line, link: &mut LinkState, within: bool)
+    requires { within ≡ false → AreOfOne line.old.out line.old.into }
+    ensures between { within ≡ false → IsEmptied line.old.out line.old.into link.old link.new }
+    ensures within { within ≡ true → link.new ≡ link.old }
+{
+    if within {
+        return;
+    }
+    let none = Line {
+        out: End::Inner,
+        into: End::Inner,
+    };
+    empty_line(rt, replace(line, none), link);
+}
+
+/// Whether both of the link's nodes are of one worker.
+fn is_within(way: LinkEnds, workers: usize) -> bool
+    requires { 0 < workers }
+    ensures { result ≡ (way.from % workers == way.to % workers) }
+{
+    usize::from(way.from) % workers == usize::from(way.to) % workers
+}
+
+impl Kept {
+    /// Puts a part back: its nodes, what is on its links, and its ends.
+    fn put_back(&mut self, region: Region, mut ends: Vec<End>)
+        requires workers { 0 < region.own.workers }
+        requires nodes { length region.nodes ≡ length self.old.nodes.items }
+        requires few { length self.old.nodes.items < 257 }
+        requires links { length region.links ≡ length self.old.links.items }
+        requires ends { length ends.items ≡ length self.old.lines.items }
+        requires link_ways { length self.old.ways.items ≡ length self.old.links.items }
+        requires line_ways { length self.old.ways.items ≡ length self.old.lines.items }
+        ensures config { self.new.config ≡ self.old.config }
+        ensures ways { self.new.ways ≡ self.old.ways }
+        ensures nodes { NodesPutBack region.own self.old.nodes.items region.nodes self.new.nodes.items }
+        ensures links { LinksPutBack region.own self.old.ways.items self.old.links.items region.links
+            self.new.links.items }
+        ensures ends { EndsPutBack region.own self.old.ways.items self.old.lines.items ends.items self.new.lines.items }
+    {
+        let own = region.own();
+        let NetParts {
+            config: _,
+            mut nodes,
+            mut links,
+        } = region.into_parts();
+        self.exchange(&mut nodes, &mut links, &mut ends, own);
+    }
+
+    /// Puts what all queues still hold onto their links.
+    fn empty_lines<R: Wait>(&mut self, rt: &R, workers: usize)
+        requires workers { 0 < workers }
+        requires link_ways { length self.old.ways.items ≡ length self.old.links.items }
+        requires line_ways { length self.old.ways.items ≡ length self.old.lines.items }
+        requires queues { (k : ℕ) → IsBetween workers self.old.ways.items k →
+            AreOfOne (line_at self.old.lines.items k).out (line_at self.old.lines.items k).into }
+        ensures links { AreEmptied workers (length self.old.ways.items) self.old.ways.items self.old.lines.items
+            self.old.links.items self.new.links.items }
+        ensures nodes { self.new.nodes ≡ self.old.nodes }
+        ensures config { self.new.config ≡ self.old.config }
+    {
+        for k in 0..self.ways.len() {
+            let within = is_within(self.ways[k], workers);
+            empty_between(rt, &mut self.lines[k], &mut self.links[k], within);
+        }
+    }
+}
+
+/// The network that the parts make but for what their queues still hold, taken apart.
+fn gather(mut parts: Vec<Part>) -> Kept
+    requires { AreParts parts.items }
+    ensures { IsGathered parts.items 0 result }
+{
+    let Some(last) = parts.pop() else {
+        unreachable!()
+    };
+    let Part {
+        region,
+        ends,
+        opening: _,
+        lines: _,
+        kept,
+    } = last;
+    let Some(mut whole) = kept else {
+        unreachable!()
+    };
+    region.is_workable();
+    whole.put_back(region, ends);
+    while let Some(part) = parts.pop() {
+        let Part {
+            region,
+            ends,
+            opening: _,
+            lines: _,
+            kept: _,
+        } = part;
+        region.is_workable();
+        whole.put_back(region, ends);
+    }
+    whole
+}
+
+/// Joins all parts of one split, in rising number of their workers: each node as its owner has it, each link as the
+/// owner of its far end has it, and then what its queue still held. It takes no memory.
+///
+/// ```text
+/// let parts = split(alloc, net, 4)?;
+/// let net = join(rt, parts);
+/// ```
+pub fn join<R: Wait>(rt: &R, parts: Vec<Part>) -> Net
+    requires { AreParts parts.items }
+    ensures joined { IsJoinOf parts.items result }
+    ensures later { IsLaterThan (part_at parts.items 0).opening result }
+    ensures delivers { DeliversInOrder result }
+{
+    let workers = parts.len();
+    let mut whole = gather(parts);
+    whole.empty_lines(rt, workers);
+    let Kept {
+        config,
+        ways: _,
+        nodes,
+        links,
+        lines: _,
+    } = whole;
+    Net::from_parts(NetParts {
+        config,
+        nodes,
+        links,
+    })
+}

@@ -1,0 +1,121 @@
+//! A network split at its links among workers.
+
+ghost use Rattle.std.specs.Prelude.{◌≡◌, ◌<◌, ◌≤◌, IfErr, IfOk, vec_capacity};
+ghost use Rattle.worm_core.specs.State.{IsNet};
+ghost use Rattle.worm_core.specs.Workable.{IsWorkable};
+ghost use Rattle.worm_split.specs.PartState.{IsPart};
+ghost use Rattle.worm_split.specs.Apart.{IsKept};
+ghost use Rattle.worm_split.specs.Splits.{AreSeats, IsOpened, IsSplitOf, seat_state};
+
+use crate::ends::Line;
+use crate::exchange::Kept;
+use crate::making::{Rooms, Seat, make_rooms};
+use crate::part::Part;
+use std::alloc::Global;
+use std::snapshot::Snapshot;
+use worm_core::{Net, NetParts, NoMemory, Own, Region};
+
+/// The part that has these lists.
+fn part_of(seat: Seat, own: Own, kept: Option<Kept>) -> Part
+    requires works { IsWorkable (seat_state seat own).net }
+    requires part { IsPart (seat_state seat own) }
+    requires kept { IsKept seat.opening.value own kept }
+    ensures { result ≡ seat_state seat own }
+{
+    let Seat {
+        config,
+        nodes,
+        links,
+        ends,
+        opening,
+        lines,
+    } = seat;
+    let parts = NetParts {
+        config,
+        nodes,
+        links,
+    };
+    Part {
+        region: Region::from_parts(parts, own),
+        ends,
+        opening,
+        lines,
+        kept,
+    }
+}
+
+/// The parts of the network that is taken apart, for the workers in rising number.
+fn deal(
+    mut whole: Kept,
+    mut seats: Vec<Seat>,
+    mut parts: Vec<Part>,
+    workers: u16,
+    opening: &Snapshot<Net>,
+    lines: &Snapshot<Vec<Line>>,
+) -> Vec<Part>
+    requires workers { (0 < workers) × (workers ≤ 16) }
+    requires net { IsNet opening.now.value }
+    requires whole { IsOpened opening.now.value workers lines.now.value.items whole }
+    requires seats { AreSeats opening.now.value lines.now.value.items workers seats.items parts.items (vec_capacity
+        parts) }
+    ensures { IsSplitOf opening.now.value workers result.items }
+{
+    for worker in 0..workers - 1 {
+        let Some(mut seat) = seats.pop() else {
+            unreachable!()
+        };
+        let own = Own { worker, workers };
+        whole.exchange(&mut seat.nodes, &mut seat.links, &mut seat.ends, own);
+        let _room = parts.push(part_of(seat, own, None));
+    }
+    let Some(mut seat) = seats.pop() else {
+        unreachable!()
+    };
+    let own = Own {
+        worker: workers - 1,
+        workers,
+    };
+    whole.exchange(&mut seat.nodes, &mut seat.links, &mut seat.ends, own);
+    let _room = parts.push(part_of(seat, own, Some(whole)));
+    parts
+}
+
+/// Splits the network at its links among so many workers, 1 to 16: a part for each, in rising number. The nodes go to
+/// them in
+/// turn, and a worker past the last node gets none. `Err` gives the network back as it was, where memory is refused.
+///
+/// ```text
+/// let parts = split(alloc, net, 4)?;
+/// let net = join(rt, parts);
+/// ```
+pub fn split(alloc: Global, net: Net, workers: usize) -> Result<Vec<Part>, (Net, NoMemory)>
+    requires some { 1 ≤ workers }
+    requires few { workers ≤ 16 }
+    ensures parts { IfOk result (λ parts. IsSplitOf net workers parts.items) }
+    ensures back { IfErr result (λ e. e.0 ≡ net) }
+{
+    let Ok(rooms) = make_rooms(alloc, &net, workers as u16) else {
+        return Err((net, NoMemory));
+    };
+    let Rooms {
+        ways,
+        lines,
+        seats,
+        parts,
+    } = rooms;
+    let opening = Snapshot::of(&net);
+    let made = Snapshot::of(&lines);
+    let NetParts {
+        config,
+        nodes,
+        links,
+    } = net.into_parts();
+    let whole = Kept {
+        config,
+        ways,
+        nodes,
+        links,
+        lines,
+    };
+    Ok(deal(whole, seats, parts, workers as u16, &opening, &made))
+}

@@ -1,0 +1,342 @@
+//! What a part does in a turn of one of its nodes.
+
+ghost use Rattle.std.specs.Prelude.{◌≡◌, ◌<◌, ◌≤◌, ◌+◌, ◌*◌, ◌↔◌, ◌∷◌, [], ℕ, filter, true, None, Some, IfSome, IsTrue, length, slice_index_or, sum};
+ghost use Rattle.std.specs.Result.{result_err};
+ghost use Rattle.worm_mesh.specs.Address.{node_count};
+ghost use Rattle.worm_core.specs.Replies.{Attempts};
+ghost use Rattle.worm_core.specs.Script.{due};
+ghost use Rattle.worm_core.specs.Turns.{Allocates, AsksSourceBy, ComesInBy, lowest_owed};
+ghost use Rattle.worm_core.specs.Workable.{owned};
+ghost use Rattle.worm_split.specs.PartState.{IsSamePart};
+ghost use Rattle.worm_core.specs.Moves.{chosen_router};
+ghost use Rattle.worm_core.specs.State.{router_at, shape, with_router};
+ghost use Rattle.worm_router.specs.Allocation.{switch_grants};
+ghost use Rattle.worm_swalloc.specs.SwAlloc.{AreGranted};
+ghost use Rattle.worm_swalloc.specs.declared.grant.SwGrant.{SwGrant};
+ghost use Rattle.worm_router.specs.Router.{input_at, leaving};
+ghost use Rattle.worm_theory.specs.Steps.{IsThere, Step as Event};
+ghost use Rattle.worm_split.specs.PartTurns.{ComesBy, EachOf, GivesAcross, GivesCredit, GivesCredits, LeavesBy, NodeTurn, Sends, SendsAcross, SendsGranted, StaysWithin, Turn, PullsCredit, PullsCredits, PullsFlit, PullsFlits, Within};
+
+use crate::ends::{is_entering, is_leaving, pop_credit, pop_flit, push_credit, push_flit};
+use crate::exchange::owns;
+use crate::part::Part;
+use std::sync::Wait;
+use worm_core::{Entry, Script, StepFault, tried};
+use worm_flit::Flit;
+use worm_vcalloc::ChannelSet;
+
+impl Part {
+    /// Asks for the next credit of the link out of the port, where the link leaves the worker's nodes and no credit of it waits.
+    fn pull_credit<R: Wait>(&mut self, rt: &R, node: u8, port: u8)
+        requires node { node < node_count self.old.net.mesh }
+        requires own { owned self.old.net node ≡ true }
+        ensures pulls { PullsCredit node port self.old None self.new }
+        ensures same { IsSamePart self.old self.new }
+    {
+        self.region.is_workable();
+        let Some(links) = self.region.links_at(node, port) else {
+            return;
+        };
+        if self.region.has_credits(links.beyond, links.entered) {
+            return;
+        }
+        let Some(vc) = pop_credit(rt, &mut self.ends[usize::from(links.out)]) else {
+            return;
+        };
+        self.region.arrive_credit(links.beyond, links.entered, vc);
+    }
+
+    /// Asks for the next flit of the link into the port, where the link enters the worker's nodes and no flit of it waits.
+    fn pull_flit<R: Wait>(&mut self, rt: &R, node: u8, port: u8)
+        requires node { node < node_count self.old.net.mesh }
+        requires own { owned self.old.net node ≡ true }
+        ensures pulls { PullsFlit node port self.old None self.new }
+        ensures same { IsSamePart self.old self.new }
+    {
+        self.region.is_workable();
+        let Some(links) = self.region.links_at(node, port) else {
+            return;
+        };
+        if self.region.has_flits(links.beyond, links.entered) {
+            return;
+        }
+        let Some(flit) = pop_flit(rt, &mut self.ends[usize::from(links.into)]) else {
+            return;
+        };
+        self.region.arrive(links.beyond, links.entered, flit);
+    }
+
+    /// Asks for a credit of each link out of the node, ports rising.
+    fn pull_credits<R: Wait>(&mut self, rt: &R, node: u8)
+        requires node { node < node_count self.old.net.mesh }
+        requires own { owned self.old.net node ≡ true }
+        ensures pulls { PullsCredits node self.old None self.new }
+        ensures same { IsSamePart self.old self.new }
+    {
+        for port in 0..self.region.terminal() {
+            self.pull_credit(rt, node, port);
+        }
+    }
+
+    /// Asks for a flit of each link into the node, ports rising.
+    fn pull_flits<R: Wait>(&mut self, rt: &R, node: u8)
+        requires node { node < node_count self.old.net.mesh }
+        requires own { owned self.old.net node ≡ true }
+        ensures pulls { PullsFlits node self.old None self.new }
+        ensures same { IsSamePart self.old self.new }
+    {
+        for port in 0..self.region.terminal() {
+            self.pull_flit(rt, node, port);
+        }
+    }
+
+    /// Asks the node's source what the entries ask of it, up to the first refusal.
+    fn ask_source(&mut self, node: u8, entries: &[Entry]) -> Result<(), StepFault>
+        requires own { owned self.old.net node ≡ true }
+        ensures same { IsSamePart self.old self.new }
+        ensures asks { Within (AsksSourceBy Attempts entries.now node) self.old (result_err result) self.new }
+    {
+        self.region.ask_source(node, entries)
+    }
+
+    /// Takes what comes in at the node by its links, feeds its classes, and routes its channels.
+    fn come_in(&mut self, node: u8)
+        requires node { node < node_count self.old.net.mesh }
+        requires own { owned self.old.net node ≡ true }
+        ensures same { IsSamePart self.old self.new }
+        ensures comes { Within (ComesInBy Attempts node) self.old None self.new }
+    {
+        self.region.come_in(node);
+    }
+
+    /// One pass of the node's channel allocator.
+    fn allocate(&mut self, node: u8)
+        requires node { node < node_count self.old.net.mesh }
+        requires own { owned self.old.net node ≡ true }
+        ensures same { IsSamePart self.old self.new }
+        ensures allocates { Within (Allocates node) self.old None self.new }
+    {
+        self.region.is_workable();
+        self.region.allocate(node);
+    }
+
+    /// The ready flit leaves over the link of this number, which leads to another worker's node, if its push lands.
+    fn send_across<R: Wait>(&mut self, rt: &R, node: u8, port: u8, vc: u8, out: u8, flit: Flit)
+        requires own { owned self.old.net node ≡ true }
+        requires there { IsThere (shape self.old.net) (Event.Send node port vc) }
+        requires ready { leaving (router_at self.old.net node) port vc ≡ Some (out, flit) }
+        requires leaves { LeavesBy self.old node out }
+        ensures sends { SendsAcross node port vc self.old self.new }
+        ensures same { IsSamePart self.old self.new }
+    {
+        self.region.is_workable();
+        let Some(links) = self.region.links_at(node, out) else {
+            unreachable!()
+        };
+        if push_flit(rt, &mut self.ends[usize::from(links.out)], flit) {
+            self.region.let_out(node, port, vc, out, flit);
+        }
+    }
+
+    /// What is ready to leave stays within the part; it is sent as in a network.
+    fn send_within(&mut self, node: u8, port: u8, vc: u8) -> Result<(), StepFault>
+        requires own { owned self.old.net node ≡ true }
+        requires there { IsThere (shape self.old.net) (Event.Send node port vc) }
+        requires stays { StaysWithin self.old node (leaving (router_at self.old.net node) port vc) }
+        ensures sends { Within (Attempts (Event.Send node port vc)) self.old (result_err result) self.new }
+        ensures same { IsSamePart self.old self.new }
+    {
+        self.region.is_workable();
+        tried(self.region.send_there(node, port, vc))
+    }
+
+    /// Whether the link out of the port leads to another worker's node.
+    fn leaves(&self, node: u8, out: u8) -> bool
+        ensures { IsTrue result ↔ LeavesBy self.now node out }
+    {
+        self.region.is_workable();
+        let Some(links) = self.region.links_at(node, out) else {
+            return false;
+        };
+        is_leaving(&self.ends[usize::from(links.out)])
+    }
+
+    /// Lets a granted channel send, over a link to another worker or within the part. `NoMemory` where its flit is for the sink and there is
+    /// none for it there.
+    fn send<R: Wait>(&mut self, rt: &R, node: u8, port: u8, vc: u8) -> Result<(), StepFault>
+        requires own { owned self.old.net node ≡ true }
+        requires there { IsThere (shape self.old.net) (Event.Send node port vc) }
+        ensures sends { Sends node port vc self.old (result_err result) self.new }
+        ensures same { IsSamePart self.old self.new }
+    {
+        match self.region.ready(node, port, vc) {
+            Some((out, flit)) if self.leaves(node, out) => {
+                self.send_across(rt, node, port, vc, out, flit);
+                Ok(())
+            }
+            _ => self.send_within(node, port, vc),
+        }
+    }
+
+    /// One pass of the node's switch allocator: the channels that it grants.
+    fn choose(&mut self, node: u8) -> ChannelSet
+        requires node { node < node_count self.old.net.mesh }
+        requires own { owned self.old.net node ≡ true }
+        ensures granted { AreGranted (switch_grants (router_at self.old.net node)) result }
+        ensures after { self.new ≡ record self.old { net = with_router self.old.net node (chosen_router (router_at self.old.net node)) } }
+        ensures there { (p : ℕ) (g : SwGrant) → slice_index_or (switch_grants (router_at self.old.net node)) p None ≡ Some g → IsThere (shape self.old.net) (Event.Send node p g.vc) }
+        ensures ports { (p : ℕ) (g : SwGrant) → slice_index_or (switch_grants (router_at self.old.net node)) p None ≡ Some g → p ≤ 2 * length self.old.net.mesh }
+        ensures few { 2 * length self.old.net.mesh + 1 ≤ 7 }
+        ensures same { IsSamePart self.old self.new }
+    {
+        self.region.is_workable();
+        self.region.choose(node)
+    }
+
+    /// Lets each channel that a pass of the switch allocator grants send, ports rising, up to the first fault.
+    fn send_granted<R: Wait>(&mut self, rt: &R, node: u8) -> Result<(), StepFault>
+        requires node { node < node_count self.old.net.mesh }
+        requires own { owned self.old.net node ≡ true }
+        ensures sends { SendsGranted node self.old (result_err result) self.new }
+        ensures same { IsSamePart self.old self.new }
+    {
+        let mut granted = self.choose(node);
+        while let Some((port, vc)) = granted.pop_first() {
+            self.send(rt, node, port, vc)?;
+        }
+        Ok(())
+    }
+
+    /// Gives the credit over the link into the port, which comes from another worker's node, if its push lands.
+    fn give_across<R: Wait>(&mut self, rt: &R, node: u8, port: u8, vc: u8)
+        requires own { owned self.old.net node ≡ true }
+        requires node { node < node_count self.old.net.mesh }
+        requires channel { vc < sum self.old.net.channels }
+        requires owed { 0 < (input_at (router_at self.old.net node) port vc).owed }
+        requires comes { ComesBy self.old node port }
+        ensures gives { GivesAcross node port vc self.old self.new }
+        ensures same { IsSamePart self.old self.new }
+    {
+        self.region.is_workable();
+        let Some(links) = self.region.links_at(node, port) else {
+            unreachable!()
+        };
+        if push_credit(rt, &mut self.ends[usize::from(links.into)], vc) {
+            self.region.gave(node, port, vc);
+        }
+    }
+
+    /// Gives the credit over a link within the part.
+    fn give_within(&mut self, node: u8, port: u8, vc: u8)
+        requires own { owned self.old.net node ≡ true }
+        requires channel { vc < sum self.old.net.channels }
+        requires owed { 0 < (input_at (router_at self.old.net node) port vc).owed }
+        requires stays { ComesBy self.old node port → ⊥ }
+        ensures gives { Within (Attempts (Event.GiveCredit node port vc)) self.old None self.new }
+        ensures same { IsSamePart self.old self.new }
+    {
+        let _done = self.region.give_owed(node, port, vc);
+    }
+
+    /// Whether the link into the port comes from another worker's node.
+    fn comes(&self, node: u8, port: u8) -> bool
+        ensures { IsTrue result ↔ ComesBy self.now node port }
+    {
+        self.region.is_workable();
+        let Some(links) = self.region.links_at(node, port) else {
+            return false;
+        };
+        is_entering(&self.ends[usize::from(links.into)])
+    }
+
+    /// Gives a credit of the lowest channel of the port that owes one to the link into it.
+    fn give<R: Wait>(&mut self, rt: &R, node: u8, port: u8)
+        requires own { owned self.old.net node ≡ true }
+        requires node { node < node_count self.old.net.mesh }
+        requires port { port < 2 * length self.old.net.mesh }
+        ensures gives { GivesCredit node port self.old None self.new }
+        ensures same { IsSamePart self.old self.new }
+    {
+        let Some(vc) = self.owed(node, port) else {
+            return;
+        };
+        if self.comes(node, port) {
+            self.give_across(rt, node, port, vc);
+        } else {
+            self.give_within(node, port, vc);
+        }
+    }
+
+    /// The lowest channel of the port that owes a credit.
+    fn owed(&self, node: u8, port: u8) -> Option<u8>
+        requires node { node < node_count self.now.net.mesh }
+        requires port { port < 2 * length self.now.net.mesh }
+        ensures lowest { result ≡ lowest_owed (router_at self.now.net node) port }
+        ensures channel { IfSome result (λ vc. (vc < sum self.now.net.channels) × (0 < (input_at (router_at self.now.net node) port vc).owed)) }
+    {
+        self.region.is_workable();
+        self.region.owed(node, port)
+    }
+
+    /// Gives a credit of each port that owes one, ports rising.
+    fn give_credits<R: Wait>(&mut self, rt: &R, node: u8)
+        requires node { node < node_count self.old.net.mesh }
+        requires own { owned self.old.net node ≡ true }
+        ensures gives { GivesCredits node self.old None self.new }
+        ensures same { IsSamePart self.old self.new }
+    {
+        for port in 0..self.region.terminal() {
+            self.give(rt, node, port);
+        }
+    }
+
+    /// The turn of a node, with these entries for all nodes, up to the first fault.
+    fn node_turn<R: Wait>(&mut self, rt: &R, node: u8, entries: &[Entry]) -> Result<(), StepFault>
+        requires node { node < node_count self.old.net.mesh }
+        requires own { owned self.old.net node ≡ true }
+        ensures turn { NodeTurn entries.now node self.old (result_err result) self.new }
+        ensures same { IsSamePart self.old self.new }
+    {
+        self.ask_source(node, entries)?;
+        self.pull_credits(rt, node);
+        self.pull_flits(rt, node);
+        self.come_in(node);
+        self.allocate(node);
+        self.send_granted(rt, node)?;
+        self.give_credits(rt, node);
+        Ok(())
+    }
+
+    /// Whether the worker owns the node.
+    fn owns(&self, node: u8) -> bool
+        ensures { result ≡ owned self.now.net node }
+    {
+        owns(self.region.own(), node)
+    }
+
+    /// The turn of the node if it is the worker's own, and nothing if it is not.
+    fn own_turn<R: Wait>(&mut self, rt: &R, node: u8, entries: &[Entry]) -> Result<(), StepFault>
+        requires node { node < node_count self.old.net.mesh }
+        ensures turn { EachOf (NodeTurn entries.now) (filter (owned self.old.net) (node ∷ [])) self.old (result_err result) self.new }
+        ensures same { IsSamePart self.old self.new }
+    {
+        if !self.owns(node) {
+            return Ok(());
+        }
+        self.node_turn(rt, node, entries)
+    }
+
+    /// The turns of the worker's nodes, in rising number: the turn of this number, with the script's entries for it, up to the first fault. What
+    /// leaves by a link to another worker leaves by the link's queue, if its push lands; what comes from another worker is what its queue gives.
+    /// `Refused` where a source refuses an entry, `NoMemory` where there is none for an accepted or a delivered flit.
+    pub fn turn<R: Wait>(&mut self, rt: &R, turn: u64, script: &Script) -> Result<(), StepFault>
+        ensures exact { Turn (due turn script.now) self.old (result_err result) self.new }
+        ensures same { IsSamePart self.old self.new }
+    {
+        let entries = script.due(turn);
+        for node in 0..self.region.nodes() {
+            self.own_turn(rt, node as u8, entries)?;
+        }
+        Ok(())
+    }
+}
