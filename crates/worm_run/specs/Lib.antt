@@ -1,0 +1,2 @@
+pub mod Working
+pub mod Runs

@@ -1,0 +1,89 @@
+-- What a worker does with its part: turn after turn, till all are taken or it is stopped.
+use Rattle.std.specs.Prelude.{◌≡◌, ℕ, ◌+◌, ◌<◌, ◌≤◌, nat_lt, true, List, [], ◌∷◌, ◌++◌, length, filter, Option, None, Some}
+use Rattle.std.specs.List.{range_with_len}
+use Rattle.worm_flit.specs.declared.Flit.{Flit}
+use Rattle.worm_mesh.specs.Address.{node_count}
+use Rattle.worm_core.specs.Script.{begun_at, due}
+use Rattle.worm_core.specs.State.{source_at, sink_at}
+use Rattle.worm_core.specs.Workable.{owned}
+use Rattle.worm_core.specs.declared.script.Entry.{Entry}
+use Rattle.worm_core.specs.declared.fault.StepFault.{StepFault}
+use Rattle.worm_core.specs.declared.fault.StepFault.TheVariants.{Refused, NoMemory}
+use Rattle.worm_split.specs.PartState.{PartState, IsSamePart}
+use Rattle.worm_split.specs.PartTurns.{PartPassage, EachOf, Turn}
+use Rattle.worm_split.specs.Effects.{HasAccepted, SourcesTake, SinksTakeOne, IsRefused}
+use Rattle.worm_run.specs.declared.plan.Stop.{Stop}
+use Rattle.worm_run.specs.declared.plan.StopWhy.{StopWhy}
+use Rattle.worm_run.specs.declared.plan.StopWhy.TheVariants.{Gate, NoMemory as OutOfMemory, Refused as WasRefused}
+use Rattle.worm_run.specs.declared.working.Worked.{Worked}
+
+-- the entries of the turns below a number, in script order
+abbrev pub due_before : ℕ → List Entry → List Entry
+due_before turn script = filter (λ (e : Entry). nat_lt e.turn turn) script
+
+-- so many flits came at most
+abbrev pub GrewBy : ℕ → List Flit → List Flit → Type 0
+GrewBy n old new = (more : List Flit) × (new ≡ old ++ more) × (length more ≤ n)
+
+-- the turns below a number, one after another, each with its entries of the script
+unfoldable pub Turns : List Entry → ℕ → PartPassage
+Turns script n = EachOf (λ t. Turn (due t script)) (range_with_len 0 n)
+
+-- The part took its turns below n: each source of its nodes accepted the entries of those turns that begin there, in script order,
+-- and each sink grew by at most n flits.
+pub record HasTurned (script : List Entry) (n : ℕ) (old new : PartState) : Type 0 where
+  pub exact : Turns script n old None new
+  pub same : IsSamePart old new
+  pub sources : (x : ℕ) → x < node_count old.net.mesh → owned old.net x ≡ true →
+      HasAccepted (source_at old.net x) (begun_at x (due_before n script)) (source_at new.net x)
+  pub sinks : (x : ℕ) → x < node_count old.net.mesh → owned old.net x ≡ true →
+      GrewBy n (sink_at old.net x).delivered (sink_at new.net x).delivered
+
+-- a turn with these entries was stopped by this fault
+pub record IsStopped (entries : List Entry) (fault : StepFault) (old new : PartState) : Type 0 where
+  pub exact : Turn entries old (Some fault) new
+  pub same : IsSamePart old new
+  pub sources : SourcesTake entries old (Some fault) new
+  pub sinks : SinksTakeOne old new
+  pub refused : IsRefused entries old (Some fault) new
+
+-- the fault that stopped a turn; a gate stops before a turn
+abbrev pub fault_behind : StopWhy → Option StepFault
+fault_behind Gate = None
+fault_behind OutOfMemory = Some NoMemory
+fault_behind (WasRefused why) = Some (Refused why)
+
+-- the turns below `ended` were taken, and of the next what there was before the fault, if one stopped it
+abbrev pub EndsIn : List Entry → ℕ → Option StepFault → PartState → PartState → Type 0
+EndsIn script ended None old new = HasTurned script ended old new
+EndsIn script ended (Some fault) old new =
+    (mid : PartState) × HasTurned script ended old mid × IsStopped (due ended script) fault mid new
+
+-- all turns were taken, or fewer, with this reason; a gate may be the reason only where it may answer false
+abbrev pub StopsAs : (ℕ → ℕ → Type 0) → ℕ → ℕ → ℕ → Option StopWhy → Type 0
+StopsAs may turns worker ended None = ended ≡ turns
+StopsAs may turns worker ended (Some Gate) = (ended < turns) × may worker ended
+StopsAs may turns worker ended (Some OutOfMemory) = ended < turns
+StopsAs may turns worker ended (Some (WasRefused why)) = ended < turns
+
+abbrev pub fault_of_stop : Option StopWhy → Option StepFault
+fault_of_stop None = None
+fault_of_stop (Some why) = fault_behind why
+
+-- what one worker did with its part
+pub record WorkedAs (may : ℕ → ℕ → Type 0) (script : List Entry) (turns worker : ℕ) (before : PartState) (w : Worked) : Type 0 where
+  pub stops : StopsAs may turns worker w.ended w.stop
+  pub ends : EndsIn script w.ended (fault_of_stop w.stop) before w.part
+
+-- what the workers did, each with its part, from a first worker on
+abbrev pub AllWorked : (ℕ → ℕ → Type 0) → List Entry → ℕ → ℕ → List PartState → List Worked → Type 0
+AllWorked may script turns worker [] [] = Unit {0}
+AllWorked may script turns worker (p ∷ ps) (w ∷ ws) =
+    WorkedAs may script turns worker p w × AllWorked may script turns (worker + 1) ps ws
+AllWorked may script turns worker [] (w ∷ ws) = ⊥
+AllWorked may script turns worker (p ∷ ps) [] = ⊥
+
+-- the stop of one worker, if it has one
+abbrev pub stop_of : ℕ → ℕ → Option StopWhy → List Stop
+stop_of worker ended None = []
+stop_of worker ended (Some why) = record { worker = worker; turn = ended; why = why } ∷ []

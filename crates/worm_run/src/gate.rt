@@ -1,0 +1,26 @@
+//! What a worker asks before each of its turns.
+
+ghost use Rattle.std.specs.Prelude.{ℕ};
+ghost use Rattle.std.specs.Bool.{OnFalse};
+
+/// What a worker asks before each of its turns.
+pub trait Gate {
+    /// For which worker and turn it may answer false.
+    ghost may_stop: { Self → ℕ → ℕ → Type 0 };
+
+    /// Whether the worker, counted from 0, may take the turn, counted from 0. Where not, it takes no further turn.
+    fn pass(&self, worker: usize, turn: u64) -> bool
+        ensures { OnFalse result (may_stop self.now worker turn) };
+}
+
+/// A gate that stops nobody.
+#[derive(Clone, Copy, Debug)]
+pub struct FreeGate;
+
+impl Gate for FreeGate {
+    ghost may_stop = { λ _ _ _. ⊥ };
+
+    fn pass(&self, _worker: usize, _turn: u64) -> bool {
+        true
+    }
+}

@@ -1,0 +1,18 @@
+//! Worker threads: each takes its part of a network by move, asks its gate before each turn, takes its turns, and
+//! gives its part back with what it promised. Then the parts are joined.
+//!
+//! `worm_split` makes the parts and says what a turn of one does. Here they run beside each other: no lock, no
+//! channel, nothing shared but the queues of their links and what the caller lends. What is proved holds if a call
+//! returns: that workers get on is shown by tests.
+#![tactic(auto)]
+
+mod gate;
+mod plan;
+mod running;
+#[cfg(test)]
+mod tests;
+mod working;
+
+pub use gate::{FreeGate, Gate};
+pub use plan::{RunEnd, RunFault, RunPlan, Stop, StopWhy};
+pub use running::run;

@@ -1,0 +1,102 @@
+//! One worker: the turns that it takes with its part, and what it promises of them.
+
+ghost use Rattle.std.specs.Prelude.{Some, None, ◌≡◌};
+ghost use Rattle.worm_core.specs.declared.fault.StepFault.TheVariants.{NoSuchPlace};
+ghost use Rattle.worm_run.specs.Working.{WorkedAs, fault_behind};
+
+use crate::gate::Gate;
+use crate::plan::StopWhy;
+use std::snapshot::Snapshot;
+use std::sync::Wait;
+use std::thread::Promise;
+use worm_core::{Script, StepFault};
+use worm_split::Part;
+
+/// A worker's part after its turns.
+#[derive(Drop)]
+pub struct Worked {
+    /// The part.
+    pub part: Part,
+    /// How many turns it ended.
+    pub ended: u64,
+    /// Why it took no further turn.
+    pub stop: Option<StopWhy>,
+}
+
+/// A worker's promise: what it gives back is this part after turns by these orders.
+pub struct WorksAs<'a, G> {
+    /// What its sources are asked.
+    pub script: &'a Script,
+    /// How many turns it may take.
+    pub turns: u64,
+    /// What it asks before each turn.
+    pub gate: &'a G,
+    /// Its number.
+    pub worker: usize,
+    /// The part that it takes.
+    pub part: Snapshot<Part>,
+}
+
+impl<'a, G> Drop for WorksAs<'a, G> {
+    fn drop(self) {
+        let WorksAs {
+            script: _,
+            turns: _,
+            gate: _,
+            worker: _,
+            part: _,
+        } = self;
+    }
+}
+
+impl<'a, G: Gate> Promise<Worked> for WorksAs<'a, G> {
+    ghost kept_by = { λ p w. WorkedAs (G.may_stop p.gate.now) p.script.now p.turns p.worker p.part.value w };
+}
+
+/// The stop that a turn's fault is.
+fn stopped_by(fault: StepFault) -> StopWhy
+    requires { fault ≡ NoSuchPlace → ⊥ }
+    ensures { fault_behind result ≡ Some fault }
+{
+    match fault {
+        StepFault::Refused(why) => StopWhy::Refused(why),
+        StepFault::NoMemory => StopWhy::NoMemory,
+        StepFault::NoSuchPlace => unreachable!(),
+    }
+}
+
+/// The turns of one worker with its part, each asked of its gate before, up to the first stop.
+pub fn work<R: Wait, G: Gate>(
+    rt: &R,
+    mut part: Part,
+    worker: usize,
+    turns: u64,
+    script: &Script,
+    gate: &G,
+) -> Worked
+    ensures { WorkedAs (G.may_stop gate.now) script.now turns worker part result }
+{
+    // What is read off it is that its turns never fall.
+    let _entries = script.entries();
+    for turn in 0..turns {
+        if !gate.pass(worker, turn) {
+            return Worked {
+                part,
+                ended: turn,
+                stop: Some(StopWhy::Gate),
+            };
+        }
+        if let Err(fault) = part.turn(rt, turn, script) {
+            return Worked {
+                part,
+                ended: turn,
+                stop: Some(stopped_by(fault)),
+            };
+        }
+    }
+    Worked {
+        part,
+        ended: turns,
+        stop: None,
+    }
+}
