@@ -31,3 +31,5 @@ pub mod Dealing
 pub mod FirstPart
 pub mod DealStep
 pub mod PartLists
+pub mod Accepted
+pub mod Effects
