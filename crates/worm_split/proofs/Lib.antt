@@ -32,4 +32,8 @@ pub mod FirstPart
 pub mod DealStep
 pub mod PartLists
 pub mod Accepted
+pub mod Told
+pub mod Alone
+pub mod Grants
+pub mod Asked
 pub mod Effects
