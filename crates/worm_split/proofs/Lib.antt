@@ -36,4 +36,6 @@ pub mod Told
 pub mod Alone
 pub mod Grants
 pub mod Asked
+pub mod SinkSends
+pub mod NodeEffects
 pub mod Effects
