@@ -31,3 +31,11 @@ pub mod Dealing
 pub mod FirstPart
 pub mod DealStep
 pub mod PartLists
+pub mod Accepted
+pub mod Told
+pub mod Alone
+pub mod Grants
+pub mod Asked
+pub mod SinkSends
+pub mod NodeEffects
+pub mod Effects

@@ -7,6 +7,7 @@ ghost use Rattle.worm_core.specs.Replies.{Attempts};
 ghost use Rattle.worm_core.specs.Script.{due};
 ghost use Rattle.worm_core.specs.Turns.{Allocates, AsksSourceBy, ComesInBy, lowest_owed};
 ghost use Rattle.worm_core.specs.Workable.{owned};
+ghost use Rattle.worm_split.specs.Effects.{HasWords, HaveWords, IsRefused, SinksTakeOne, SourcesTake};
 ghost use Rattle.worm_split.specs.PartState.{IsSamePart};
 ghost use Rattle.worm_core.specs.Moves.{chosen_router};
 ghost use Rattle.worm_core.specs.State.{router_at, shape, with_router};
@@ -21,7 +22,7 @@ use crate::ends::{is_entering, is_leaving, pop_credit, pop_flit, push_credit, pu
 use crate::exchange::owns;
 use crate::part::Part;
 use std::sync::Wait;
-use worm_core::{Entry, Script, StepFault, tried};
+use worm_core::{Act, Entry, Script, StepFault, tried};
 use worm_flit::Flit;
 use worm_vcalloc::ChannelSet;
 
@@ -326,17 +327,49 @@ impl Part {
         self.node_turn(rt, node, entries)
     }
 
-    /// The turns of the worker's nodes, in rising number: the turn of this number, with the script's entries for it, up to the first fault. What
-    /// leaves by a link to another worker leaves by the link's queue, if its push lands; what comes from another worker is what its queue gives.
-    /// `Refused` where a source refuses an entry, `NoMemory` where there is none for an accepted or a delivered flit.
-    pub fn turn<R: Wait>(&mut self, rt: &R, turn: u64, script: &Script) -> Result<(), StepFault>
-        ensures exact { Turn (due turn script.now) self.old (result_err result) self.new }
+    /// The turns of the worker's nodes, in rising number, with these entries for all nodes, up to the first fault.
+    fn node_turns<R: Wait>(&mut self, rt: &R, entries: &[Entry]) -> Result<(), StepFault>
+        ensures turn { Turn entries.now self.old (result_err result) self.new }
         ensures same { IsSamePart self.old self.new }
     {
-        let entries = script.due(turn);
         for node in 0..self.region.nodes() {
             self.own_turn(rt, node as u8, entries)?;
         }
         Ok(())
+    }
+
+    /// The turns of the worker's nodes, in rising number: the turn of this number, with the script's entries for it, up to the first fault. What
+    /// leaves by a link to another worker leaves by the link's queue, if its push lands; what comes from another worker is what its queue gives.
+    /// Each of its sources accepts in order what the script has for it, each of its sinks gets one flit at most.
+    /// `Refused` where a source refuses an entry, `NoMemory` where there is none for an accepted or a delivered flit.
+    pub fn turn<R: Wait>(&mut self, rt: &R, turn: u64, script: &Script) -> Result<(), StepFault>
+        ensures exact { Turn (due turn script.now) self.old (result_err result) self.new }
+        ensures sources { SourcesTake (due turn script.now) self.old (result_err result) self.new }
+        ensures sinks { SinksTakeOne self.old self.new }
+        ensures refused { IsRefused (due turn script.now) self.old (result_err result) self.new }
+        ensures same { IsSamePart self.old self.new }
+    {
+        let entries = script.due(turn);
+        have_words(entries);
+        self.region.is_workable();
+        self.node_turns(rt, entries)
+    }
+}
+
+/// What holds of every packet, for contracts: it has words, and not too many.
+fn has_words(act: &Act)
+    ensures { HasWords act.now }
+{
+    if let Act::Offer(packet) = act {
+        let _words = packet.words();
+    }
+}
+
+/// The same of all entries.
+fn have_words(entries: &[Entry])
+    ensures { HaveWords entries.now }
+{
+    for entry in entries {
+        has_words(&entry.act);
     }
 }

@@ -1,39 +1,38 @@
-use Rattle.std.proofs.Common.{◌≡◌, ◌<◌, ℕ, List, Some, None, [], ◌∷◌, arith, sym, ap, subst, ◌∙◌}
-use Rattle.std.proofs.lemmas.Result.{err_from_is_err_and}
-use Rattle.std.specs.Prelude.{filter}
-use Rattle.worm_mesh.specs.Address.{node_count}
-use Rattle.worm_core.specs.Owned.{owned_by}
-use Rattle.worm_core.specs.Workable.{owned}
-use Rattle.worm_core.specs.declared.own.Own.{Own}
+use Rattle.std.proofs.Common.{List, subst}
+use Rattle.std.specs.Result.{result_err}
+use Rattle.worm_core.specs.Script.{due}
+use Rattle.worm_core.specs.State.{IsFramed}
 use Rattle.worm_core.specs.declared.script.Entry.{Entry}
-use Rattle.worm_split.specs.PartTurns.{EachOf, NodeTurn}
-use Rattle.worm_split.proofs.PartLoops.{of_next, of_ending, same_on}
+use Rattle.worm_split.specs.Effects.{HaveWords}
+use Rattle.worm_split.specs.PartState.{PartState}
+use Rattle.worm_split.specs.PartTurns.{Turn}
+use Rattle.worm_split.proofs.Effects.{turn-refused, turn-sinks, turn-sources}
+use Rattle.worm_split.proofs.part.Part.turn.Given as given
 use Rattle.worm_split.proofs.part.Part.turn.Goals as goal
 
-pub loop-node-preserved : goal.loop-node-preserved
-loop-node-preserved g c =
-    let a = c.args.self.now in
-    let b = c.loop-node.self in
-    let new = c.own_turn.new.self in
-    let entries = c.due-entries.result.now in
-    let same = c.loop-node.invariant.same in
-    let turned = subst (λ (w : Own). EachOf (NodeTurn entries) (filter (owned_by w) (c.loop-node.node ∷ [])) b None new) same.config.own c.in_ok-own_turn.ensures.turn in
-    record {
-      turned = of_next (owned a.net) (NodeTurn entries) c.loop-node.node a b new None c.loop-node.invariant.turned turned;
-      same = same_on a b new same c.in_ok-own_turn.ensures.same;
-    }
+module _ (g : given.Over) (c : goal.After-node_turns g) where
+  framed : IsFramed c.args.self.now.net
+  framed = subst (λ (p : PartState). IsFramed p.net) c.self.view_is c.is_workable.ensures.framed
 
-pub returns-in_err-own_turn-clause-exact : goal.returns-in_err-own_turn-clause-exact
-returns-in_err-own_turn-clause-exact g c =
-    let p = err_from_is_err_and c.from_residual.result c.from_residual.ensures.1 in
-    let a = c.args.self.now in
-    let b = c.loop-node.self in
-    let new = c.own_turn.new.self in
-    let entries = c.due-entries.result.now in
-    let same = c.loop-node.invariant.same in
-    let fault = c.in_err-own_turn.field-0.0 in
-    let turned = subst (λ (w : Own). EachOf (NodeTurn entries) (filter (owned_by w) (c.loop-node.node ∷ [])) b (Some fault) new) same.config.own c.in_err-own_turn.ensures.turn in
-    let count : c.nodes-node-end.result ≡ node_count a.net.mesh = c.nodes-node-end.ensures.value ∙ (λ t. node_count (c.self.view_is t).net.mesh) in
-    let below : c.loop-node.node < node_count a.net.mesh = omega (arith, count) in
-    let done = of_ending (owned a.net) (NodeTurn entries) c.loop-node.node a b new (node_count a.net.mesh) fault below c.loop-node.invariant.turned turned in
-    rw (p.1, p.2) (subst (λ (es : List Entry). EachOf (NodeTurn es) (filter (owned a.net) (Rattle.std.specs.List.range_with_len 0 (node_count a.net.mesh))) a (Some fault) new) c.due-entries.ensures done)
+  words : HaveWords (due c.args.turn c.args.script.now)
+  words = subst HaveWords c.due-entries.ensures c.have_words.ensures
+
+  turned : Turn (due c.args.turn c.args.script.now) c.args.self.now (result_err c.node_turns.result) c.node_turns.new.self
+  turned =
+      subst (λ (entries : List Entry). Turn entries c.args.self.now (result_err c.node_turns.result) c.node_turns.new.self)
+      c.due-entries.ensures c.node_turns.ensures.turn
+
+pub returns-clause-sources : goal.returns-clause-sources
+returns-clause-sources g c =
+    turn-sources c.args.self.now (due c.args.turn c.args.script.now) (result_err c.node_turns.result)
+    c.node_turns.new.self (framed g c) (words g c) (turned g c)
+
+pub returns-clause-sinks : goal.returns-clause-sinks
+returns-clause-sinks g c =
+    turn-sinks c.args.self.now (due c.args.turn c.args.script.now) (result_err c.node_turns.result)
+    c.node_turns.new.self (framed g c) (words g c) (turned g c)
+
+pub returns-clause-refused : goal.returns-clause-refused
+returns-clause-refused g c =
+    turn-refused c.args.self.now (due c.args.turn c.args.script.now) (result_err c.node_turns.result)
+    c.node_turns.new.self (framed g c) (words g c) (turned g c)

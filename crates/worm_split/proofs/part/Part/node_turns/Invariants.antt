@@ -4,7 +4,7 @@ use Rattle.std.specs.List.{range_with_len}
 use Rattle.worm_core.specs.Workable.{owned}
 use Rattle.worm_split.specs.PartState.{IsSamePart}
 use Rattle.worm_split.specs.PartTurns.{EachOf, NodeTurn}
-use Rattle.worm_split.proofs.part.Part.turn.Given as goal
+use Rattle.worm_split.proofs.part.Part.node_turns.Given as goal
 
 abbrev pub invariant-loop-node : goal.invariant-loop-node
 invariant-loop-node g l = record {
