@@ -1,6 +1,9 @@
-pub mod Assumed
 pub mod Entries
 pub mod Turning
+pub mod Placed
 pub mod Sent
 pub mod Stopping
 pub mod Workers
+pub mod Endings
+pub mod Owners
+pub mod Results

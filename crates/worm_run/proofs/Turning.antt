@@ -14,19 +14,19 @@ use Rattle.worm_split.specs.PartState.{PartState, IsSamePart}
 use Rattle.worm_split.specs.PartTurns.{Turn}
 use Rattle.worm_split.specs.Effects.{HasAccepted, OneMore, SourcesTake, SinksTakeOne}
 use Rattle.worm_split.proofs.PartLoops.{of_more, same_on, same_still}
-use Rattle.worm_run.proofs.Assumed.{accepted-none, accepted-then}
+use Rattle.worm_split.proofs.Accepted.{accepted-none, accepted-then}
 use Rattle.worm_run.specs.Working.{GrewBy, HasTurned, Turns, due_before}
 use Rattle.worm_run.proofs.Entries.{begun-more, due_before-zero}
 
 -- a node of the part is one of it still
-there_still : (a b : PartState) (x : ℕ) → IsSamePart a b → x < node_count a.net.mesh → x < node_count b.net.mesh
+pub there_still : (a b : PartState) (x : ℕ) → IsSamePart a b → x < node_count a.net.mesh → x < node_count b.net.mesh
 there_still a b x same below = subst (λ (m : List ℕ). x < node_count m) (sym same.config.mesh) below
 
 pub own_still : (a b : PartState) (x : ℕ) → IsSamePart a b → owned a.net x ≡ true → owned b.net x ≡ true
 own_still a b x same own = subst (λ (w : Own). owned_by w x ≡ true) (sym same.config.own) own
 
 -- at most so many flits, and then one at most
-grew_more : (n : ℕ) (a b c : List Flit) → GrewBy n a b → OneMore b c → GrewBy (n + 1) a c
+pub grew_more : (n : ℕ) (a b c : List Flit) → GrewBy n a b → OneMore b c → GrewBy (n + 1) a c
 grew_more n a b c grew (None, one) = (grew.0, one ∙ (append-nil b ∙ grew.1), omega (arith, grew.2))
 grew_more n a b c grew (Some f, one) =
     let count = length-append grew.0 (f ∷ []) in

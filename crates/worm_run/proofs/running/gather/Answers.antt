@@ -13,6 +13,7 @@ loop-worked-preserved c =
     let so_far = c.loop-worked.yielded in
     let w = c.in-Some.worked in
     let more : length (so_far ++ w ∷ []) ≡ length so_far + 1 = length-append so_far (w ∷ []) in
+    let count : length (map ending_of so_far) ≡ length so_far = length-map so_far ending_of in
     let endings : map ending_of (so_far ++ w ∷ []) ≡ map ending_of so_far ++ ending_of w ∷ [] = map_push ending_of so_far w in
     record {
       count = ap (λ n. n + 1) inv.count ∙ sym more;
@@ -23,7 +24,7 @@ loop-worked-preserved c =
           ∙ (ap (λ l. l ++ w.ended ∷ []) inv.ended ∙ sym (map_push (λ (v : Worked). v.ended) so_far w));
       stops = c.put_stop.ensures.items
           ∙ (ap (λ l. l ++ stop_of c.loop-worked.worker w.ended w.stop) inv.stops
-          ∙ (sym (stops_of-snoc 0 c.loop-worked.worker (map ending_of so_far) (ending_of w) (inv.count ∙ sym (length-map ending_of so_far)))
+          ∙ (sym (stops_of-snoc 0 c.loop-worked.worker (map ending_of so_far) (ending_of w) (omega arith))
           ∙ ap (λ (es : mathlib.Core.List.List Ending). stops_of 0 es) (sym endings)));
       few_stops = omega arith;
       parts_room = omega arith;
