@@ -39,12 +39,11 @@ module _ (script : List Entry) (n : ℕ) (old new : PartState) where
         (taken : List Entry) × ((left : List Entry) × (begun_at x (due n script) ≡ taken ++ left))
         × HasAccepted (source_at old.net x) (begun_at x (due_before n script) ++ taken) (source_at new.net x)
     cut_source fault mid turned stopped =
-        let took = stopped.sources x (there_still old mid x turned.same below) (own_still old mid x turned.same own) in
-        (
+        let took = stopped.sources x (there_still old mid x turned.same below) (own_still old mid x turned.same own) in (
           took.taken,
           (took.left, took.cut),
           accepted-then (source_at old.net x) (source_at mid.net x) (source_at new.net x) (begun_at x (due_before n script))
-          took.taken (turned.sources x below own) took.accepted,
+              took.taken (turned.sources x below own) took.accepted,
         )
 
     pub ends_source : (why : Option StopWhy) → EndsIn script n (fault_of_stop why) old new →
@@ -101,5 +100,5 @@ module _ (script : List Entry) (n : ℕ) (old new : PartState) where
             (begun_at r.node (due_before n script)) r.taken (turned.sources r.node below own) r.accepted;
         refused = r.refused;
       } where
-    own_back : IsSamePart old mid → (x : ℕ) → owned mid.net x ≡ true → owned old.net x ≡ true
-    own_back same x own = subst (λ (w : Own). owned_by w x ≡ true) same.config.own own
+        own_back : IsSamePart old mid → (x : ℕ) → owned mid.net x ≡ true → owned old.net x ≡ true
+        own_back same x own = subst (λ (w : Own). owned_by w x ≡ true) same.config.own own

@@ -29,8 +29,7 @@ own_still a b x same own = subst (λ (w : Own). owned_by w x ≡ true) (sym same
 pub grew_more : (n : ℕ) (a b c : List Flit) → GrewBy n a b → OneMore b c → GrewBy (n + 1) a c
 grew_more n a b c grew (None, one) = (grew.0, one ∙ (append-nil b ∙ grew.1), omega (arith, grew.2))
 grew_more n a b c grew (Some f, one) =
-    let count = length-append grew.0 (f ∷ []) in
-    (
+    let count = length-append grew.0 (f ∷ []) in (
       grew.0 ++ f ∷ [],
       one ∙ (ap (λ (l : List Flit). l ++ f ∷ []) grew.1 ∙ append_assoc a grew.0 (f ∷ [])),
       omega (arith, grew.2, count),

@@ -122,12 +122,7 @@ fn put_stop(stops: &mut Vec<Stop>, worker: usize, turn: u64, stop: Option<StopWh
 }
 
 /// Sorts out what the workers gave back.
-fn gather(
-    done: Vec<Worked>,
-    mut parts: Vec<Part>,
-    mut stops: Vec<Stop>,
-    mut ended: Vec<u64>,
-) -> Ran
+fn gather(done: Vec<Worked>, mut parts: Vec<Part>, mut stops: Vec<Stop>, mut ended: Vec<u64>) -> Ran
     requires parts { (parts.items ≡ []) × (vec_len done ≤ vec_capacity parts) }
     requires stops { (stops.items ≡ []) × (vec_len done ≤ vec_capacity stops) }
     requires ended { (ended.items ≡ []) × (vec_len done ≤ vec_capacity ended) }

@@ -1,0 +1,64 @@
+mod gates;
+mod runs;
+
+use arrayvec::ArrayVec;
+use std::alloc::Global;
+use std::test::Fail;
+use worm_core::{Act, Config, Entry, Name, Net, Script};
+use worm_flit::{Lane, Packet};
+
+/// A network with these radices and depth, and one class of one channel.
+pub fn net_of(alloc: Global, radices: &[u8], depth: u8) -> Result<Net, Fail> {
+    let mut config = Config {
+        radices: ArrayVec::new(),
+        depth,
+        classes: ArrayVec::new(),
+        channels: ArrayVec::new(),
+    };
+    for radix in radices {
+        let _ = config.radices.try_push(*radix);
+    }
+    let _ = config.channels.try_push(1);
+    let _ = config.classes.try_push(Name::new());
+    Ok(Net::new(alloc, &config)?)
+}
+
+pub fn offer(turn: u32, src: u8, dst: u8, words: &[u32]) -> Result<Entry, Fail> {
+    let lane = Lane { src, dst, class: 0 };
+    Ok(Entry {
+        turn,
+        act: Act::Offer(Packet::new(lane, words)?),
+    })
+}
+
+/// A network of two nodes, and the script of one packet from node 0 to node 1.
+pub fn pair(alloc: Global, depth: u8, words: &[u32]) -> Result<(Net, Script), Fail> {
+    let net = net_of(alloc, &[2], depth)?;
+    let mut script = Script::empty(alloc);
+    script.push(offer(0, 0, 1, words)?)?;
+    Ok((net, script))
+}
+
+/// The words that were delivered to the node, in order.
+pub fn words_at(alloc: Global, net: &Net, node: u8) -> Result<Vec<u32>, Fail> {
+    let mut words = Vec::new(alloc);
+    if u16::from(node) < net.nodes() {
+        for flit in net.delivered(node) {
+            words.push(flit.word)?;
+        }
+    }
+    Ok(words)
+}
+
+/// Turns without traffic on one thread, at most 10,000, till nothing is under way.
+pub fn settle(alloc: Global, net: &mut Net) -> Result<(), Fail> {
+    let none = Script::empty(alloc);
+    for turn in 0u64..10_000 {
+        let totals = net.totals();
+        if totals.injected == totals.delivered {
+            break;
+        }
+        net.turn(turn, &none)?;
+    }
+    Ok(())
+}

@@ -1,0 +1,149 @@
+//! Gates: where a worker stops, and that two workers run beside each other.
+
+use super::{net_of, offer, pair, settle, words_at};
+use crate::{FreeGate, Gate, RunPlan, Stop, StopWhy, run};
+use std::process::Abort;
+use std::sync::atomic::{AtomicBool, Ordering};
+use std::test::Fail;
+use std::thread;
+use worm_core::{OfferFault, Script};
+use worm_flit::Lane;
+
+/// How often a worker looks for the other before it gives up.
+const LOOKS: u32 = 10_000_000;
+
+/// At turn 1 each worker raises its own flag, and then looks for the other's.
+#[derive(Drop)]
+struct Meeting {
+    first: AtomicBool,
+    second: AtomicBool,
+}
+
+impl Gate for Meeting {
+    ghost use Rattle.std.specs.Prelude.{◌≡◌};
+
+    ghost may_stop = { λ _ _ turn. turn ≡ 1 };
+
+    fn pass(&self, worker: usize, turn: u64) -> bool {
+        if turn != 1 {
+            return true;
+        }
+        let (mine, other) = if worker == 0 {
+            (&self.first, &self.second)
+        } else {
+            (&self.second, &self.first)
+        };
+        mine.store(true, Ordering::SeqCst);
+        for _ in 0..LOOKS {
+            if other.load(Ordering::SeqCst) {
+                return true;
+            }
+            thread::yield_now();
+        }
+        false
+    }
+}
+
+/// Stops one worker at one turn.
+#[derive(Drop)]
+struct StopsAt {
+    worker: usize,
+    turn: u64,
+}
+
+impl Gate for StopsAt {
+    ghost use Rattle.std.specs.Prelude.{◌≡◌};
+
+    ghost may_stop = { λ g worker turn. (worker ≡ g.worker) × (turn ≡ g.turn) };
+
+    fn pass(&self, worker: usize, turn: u64) -> bool {
+        worker != self.worker || turn != self.turn
+    }
+}
+
+#[test]
+fn two_workers_meet(rt: HostRuntime) -> Result<(), Fail> {
+    let alloc = rt.alloc();
+    let (net, script) = pair(alloc, 2, &[17, 18])?;
+    let plan = RunPlan {
+        turns: 4,
+        workers: 2,
+    };
+    let gate = Meeting {
+        first: AtomicBool::new(false),
+        second: AtomicBool::new(false),
+    };
+    match run(&rt, alloc, net, &script, plan, &gate) {
+        Ok(end) => {
+            assert!(rt; end.stops.is_empty());
+            assert_eq!(rt; end.ended.as_slice(), [4, 4].as_slice());
+            let words = words_at(alloc, &end.net, 1)?;
+            assert_eq!(rt; words.get(0), Some(&17u32));
+        }
+        Err(_) => return Err("no run".into()),
+    }
+    Ok(())
+}
+
+#[test]
+fn a_gate_stops_one_worker(rt: HostRuntime) -> Result<(), Fail> {
+    let alloc = rt.alloc();
+    let (net, script) = pair(alloc, 1, &[1, 2, 3, 4])?;
+    let plan = RunPlan {
+        turns: 10,
+        workers: 2,
+    };
+    let gate = StopsAt { worker: 1, turn: 2 };
+    let mut net = match run(&rt, alloc, net, &script, plan, &gate) {
+        Ok(end) => {
+            let stop = Stop {
+                worker: 1,
+                turn: 2,
+                why: StopWhy::Gate,
+            };
+            assert_eq!(rt; end.stops.as_slice(), [stop].as_slice());
+            assert_eq!(rt; end.ended.as_slice(), [10, 2].as_slice());
+            end.net
+        }
+        Err(_) => return Err("no run".into()),
+    };
+    let lane = Lane {
+        src: 0,
+        dst: 1,
+        class: 0,
+    };
+    if net.has_lane(lane) {
+        let view = net.lane_view(alloc, lane)?;
+        assert!(rt; view.delivered <= 2);
+        assert_eq!(rt; view.delivered + view.underway.len() as u64, 4);
+    }
+    settle(alloc, &mut net)?;
+    let words = words_at(alloc, &net, 1)?;
+    assert_eq!(rt; words.as_slice(), [1, 2, 3, 4].as_slice());
+    Ok(())
+}
+
+#[test]
+fn a_refused_entry_stops_its_worker(rt: HostRuntime) -> Result<(), Fail> {
+    let alloc = rt.alloc();
+    let net = net_of(alloc, &[2], 2)?;
+    let mut script = Script::empty(alloc);
+    script.push(offer(1, 0, 5, &[1])?)?;
+    let plan = RunPlan {
+        turns: 3,
+        workers: 2,
+    };
+    match run(&rt, alloc, net, &script, plan, &FreeGate) {
+        Ok(end) => {
+            let stop = Stop {
+                worker: 0,
+                turn: 1,
+                why: StopWhy::Refused(OfferFault::NoSuchNode),
+            };
+            assert_eq!(rt; end.stops.as_slice(), [stop].as_slice());
+            assert_eq!(rt; end.ended.as_slice(), [1, 3].as_slice());
+        }
+        Err(_) => return Err("no run".into()),
+    }
+    Ok(())
+}
