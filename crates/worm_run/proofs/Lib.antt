@@ -7,3 +7,4 @@ pub mod Workers
 pub mod Endings
 pub mod Owners
 pub mod Results
+pub mod NeverRefused

@@ -1,7 +1,10 @@
 -- A configuration that a network text says is one that a network is made of.
-use Rattle.std.proofs.Common.{◌≡◌, ◌*◌, ℕ, List, [], ◌∷◌, length, fold, sym, ◌∙◌, arith}
+use Rattle.std.proofs.Common.{inl, inr, ◌≡◌, ◌*◌, ℕ, List, [], ◌∷◌, length, fold, sym, ◌∙◌, arith}
 use Rattle.std.proofs.Math.Nat.{mul_assoc, mul-one, one-mul}
-use Rattle.worm_mesh.specs.Address.{node_count}
+use Rattle.worm_mesh.specs.Address.{IsMesh, node_count}
+use Rattle.worm_mesh.specs.Faults.{IsFault}
+use Rattle.worm_mesh.specs.declared.mesh.MeshFault.{MeshFault}
+use Rattle.worm_mesh.specs.declared.mesh.MeshFault.TheVariants.{Radix, Dims, TooManyNodes}
 use Rattle.worm_core.specs.NewNet.{IsConfig}
 use Rattle.worm_text.specs.declared.format.Format.{Format}
 use Rattle.worm_text.specs.Network.{Network, Keeps, nodes_of}
@@ -22,3 +25,12 @@ kept_config format n names all kept = record {
   most_depth = kept.depth.1;
   all_named = all ∙ sym kept.classes.paired;
 }
+
+-- a mesh that is one is not refused
+pub not_fault : (radices : List ℕ) (fault : MeshFault) → IsMesh radices → IsFault radices fault → ⊥
+not_fault radices Radix mesh broken = broken mesh.radices
+not_fault radices Dims mesh broken = elim broken.1 [
+  | inl none ↦ let some = mesh.some_dims in omega arith
+  | inr many ↦ let few = mesh.few_dims in omega arith
+]
+not_fault radices TooManyNodes mesh broken = let few = mesh.few_nodes in let many = broken.3 in omega arith

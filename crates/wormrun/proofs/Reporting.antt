@@ -46,3 +46,5 @@ reported_so network traffic turns drain ending out bytes (Err (f.Network t)) rep
 reported_so network traffic turns drain ending out bytes (Err (f.Traffic t)) reported quiet writes = absurd writes
 reported_so network traffic turns drain ending out bytes (Err f.ReadNetwork) reported quiet writes = absurd writes
 reported_so network traffic turns drain ending out bytes (Err f.ReadTraffic) reported quiet writes = absurd writes
+reported_so network traffic turns drain ending out bytes (Err f.Workers) reported quiet writes = absurd writes
+reported_so network traffic turns drain ending out bytes (Err (f.NotStarted w)) reported quiet writes = absurd writes

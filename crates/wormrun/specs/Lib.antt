@@ -3,3 +3,4 @@ pub mod Joined
 pub mod Programs
 pub mod Ranges
 pub mod Reading
+pub mod Together

@@ -52,6 +52,8 @@ IsRefusedAs network traffic f.ReadNetwork = ⊥
 IsRefusedAs network traffic f.ReadTraffic = ⊥
 IsRefusedAs network traffic f.NoMemory = ⊥
 IsRefusedAs network traffic f.Write = ⊥
+IsRefusedAs network traffic f.Workers = ⊥
+IsRefusedAs network traffic (f.NotStarted w) = ⊥
 
 -- the texts are not both accepted, or memory ran out
 abbrev pub IsNotAccepted : List ℕ → List ℕ → ProgramFault → Type 0
@@ -61,6 +63,8 @@ IsNotAccepted network traffic f.ReadNetwork = ⊥
 IsNotAccepted network traffic f.ReadTraffic = ⊥
 IsNotAccepted network traffic f.NoMemory = Unit {0}
 IsNotAccepted network traffic f.Write = ⊥
+IsNotAccepted network traffic f.Workers = ⊥
+IsNotAccepted network traffic (f.NotStarted w) = ⊥
 
 -- Runs
 
@@ -107,6 +111,8 @@ WritesReport out fault (Err (f.Network t)) bytes = ⊥
 WritesReport out fault (Err (f.Traffic t)) bytes = ⊥
 WritesReport out fault (Err f.ReadNetwork) bytes = ⊥
 WritesReport out fault (Err f.ReadTraffic) bytes = ⊥
+WritesReport out fault (Err f.Workers) bytes = ⊥
+WritesReport out fault (Err (f.NotStarted w)) bytes = ⊥
 
 -- a run that no fault stopped or ended
 abbrev pub whole_run : Ending
@@ -133,6 +139,8 @@ Fails network traffic turns drain out f.ReadNetwork = ⊥
 Fails network traffic turns drain out f.ReadTraffic = ⊥
 Fails network traffic turns drain out f.NoMemory = Keeps out.old out.new ⊎ ReportsPart network traffic turns drain out
 Fails network traffic turns drain out f.Write = ReportsPart network traffic turns drain out
+Fails network traffic turns drain out f.Workers = ⊥
+Fails network traffic turns drain out (f.NotStarted w) = ⊥
 
 -- Readers
 
@@ -148,21 +156,29 @@ pub record ReportsAlone (turns drain : ℕ) (first second out : Stream) : Type 0
   pub gave : GaveBoth first second network traffic
   pub reports : Reports network traffic turns drain out
 
--- both readers gave their texts, and they failed thus
-pub record FailsBoth (turns drain : ℕ) (first second out : Stream) (fault : ProgramFault) : Type 0 where
+-- both readers gave their texts, of which this holds
+pub record FailsBoth (Holds : List ℕ → List ℕ → Type 0) (first second : Stream) : Type 0 where
   pub network : List ℕ
   pub traffic : List ℕ
   pub gave : GaveBoth first second network traffic
-  pub fails : Fails network traffic turns drain out fault
+  pub fails : Holds network traffic
 
--- what a fault tells where two readers give the texts
+-- what a fault tells where two readers give the texts, by what it tells of two texts at hand
+abbrev pub FailsReading : (List ℕ → List ℕ → ProgramFault → Type 0) → Stream → Stream → Stream → ProgramFault → Type 0
+FailsReading Holds first second out f.Workers = FailsBoth (λ network traffic. Holds network traffic f.Workers) first second
+FailsReading Holds first second out (f.Network t) = FailsBoth (λ network traffic. Holds network traffic (f.Network t)) first second
+FailsReading Holds first second out (f.Traffic t) = FailsBoth (λ network traffic. Holds network traffic (f.Traffic t)) first second
+FailsReading Holds first second out f.ReadNetwork = Keeps second.old second.new × Keeps out.old out.new
+FailsReading Holds first second out f.ReadTraffic = ((network : List ℕ) × GaveText first.old first.new network) × Keeps out.old out.new
+FailsReading Holds first second out f.NoMemory =
+    Keeps out.old out.new ⊎ FailsBoth (λ network traffic. Holds network traffic f.NoMemory) first second
+FailsReading Holds first second out (f.NotStarted w) = FailsBoth (λ network traffic. Holds network traffic (f.NotStarted w)) first second
+FailsReading Holds first second out f.Write = FailsBoth (λ network traffic. Holds network traffic f.Write) first second
+
+-- the same on one thread
 abbrev pub FailsAlone : ℕ → ℕ → Stream → Stream → Stream → ProgramFault → Type 0
-FailsAlone turns drain first second out (f.Network t) = FailsBoth turns drain first second out (f.Network t)
-FailsAlone turns drain first second out (f.Traffic t) = FailsBoth turns drain first second out (f.Traffic t)
-FailsAlone turns drain first second out f.ReadNetwork = Keeps second.old second.new × Keeps out.old out.new
-FailsAlone turns drain first second out f.ReadTraffic = ((network : List ℕ) × GaveText first.old first.new network) × Keeps out.old out.new
-FailsAlone turns drain first second out f.NoMemory = Keeps out.old out.new ⊎ FailsBoth turns drain first second out f.NoMemory
-FailsAlone turns drain first second out f.Write = FailsBoth turns drain first second out f.Write
+FailsAlone turns drain first second out =
+    FailsReading (λ network traffic. Fails network traffic turns drain out) first second out
 
 -- what a fault of reading tells; the traffic is not read before the network is
 abbrev pub ReadsNot : Stream → Stream → ProgramFault → Type 0
@@ -172,6 +188,8 @@ ReadsNot first second f.NoMemory = Unit {0}
 ReadsNot first second (f.Network t) = ⊥
 ReadsNot first second (f.Traffic t) = ⊥
 ReadsNot first second f.Write = ⊥
+ReadsNot first second f.Workers = ⊥
+ReadsNot first second (f.NotStarted w) = ⊥
 
 -- the two texts of a joined input
 abbrev pub first_text : List ℕ → List ℕ
@@ -200,3 +218,5 @@ FailsJoined input out f.ReadNetwork = Keeps out.old out.new
 FailsJoined input out f.ReadTraffic = ⊥
 FailsJoined input out f.NoMemory = Keeps out.old out.new ⊎ FailsCut input out f.NoMemory
 FailsJoined input out f.Write = FailsCut input out f.Write
+FailsJoined input out f.Workers = ⊥
+FailsJoined input out (f.NotStarted w) = ⊥

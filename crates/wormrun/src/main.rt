@@ -13,6 +13,7 @@ mod fault;
 mod joined;
 mod program;
 mod reading;
+mod together;
 mod turns;
 mod words;
 
@@ -21,11 +22,18 @@ use program::{run_joined, run_texts};
 use std::alloc::Global;
 use std::process::ExitCode;
 use std::rt::{Env, Files};
+use std::sync::Wait;
+use std::thread::Threads;
 use std::{fs, io};
 use words::{Words, WordsFault, all_words, read_words};
+use worm_run::FreeGate;
 
 /// Opens both files, the network first, and runs on them.
-fn run_files<R: Files + Print + AllocGlobal>(rt: &R, words: &Words<'_>) -> Result<(), ProgramFault>
+fn run_files<R: Files + Print + AllocGlobal, T: Threads + Wait + Sync>(
+    rt: &R,
+    threads: &T,
+    words: &Words<'_>,
+) -> Result<(), ProgramFault>
     requires { InRange words.now.options }
 {
     let Ok(mut network) = fs::open(rt, words.network) else {
@@ -36,10 +44,12 @@ fn run_files<R: Files + Print + AllocGlobal>(rt: &R, words: &Words<'_>) -> Resul
     };
     let mut out = io::writer(rt);
     run_texts(
+        threads,
         rt.alloc(),
         &mut network,
         &mut traffic,
         &words.options,
+        &FreeGate,
         &mut out,
     )
 }
@@ -75,20 +85,27 @@ fn refuse<R: Print + Eprint>(rt: &R, fault: WordsFault) -> ExitCode
 }
 
 /// Reads the words, the program's name first, and runs the program that they ask for.
-fn run_words<R: Files + Input + Print + Eprint + AllocGlobal>(rt: &R, words: &[&str]) -> ExitCode {
+fn run_words<R: Files + Input + Print + Eprint + AllocGlobal, T: Threads + Wait + Sync>(
+    rt: &R,
+    threads: &T,
+    words: &[&str],
+) -> ExitCode {
     if words.len() < 2 {
         let mut input = rt.reader();
         let mut out = io::writer(rt);
         return end(rt, run_joined(rt.alloc(), &mut input, &mut out));
     }
     match read_words(rt.alloc(), words) {
-        Ok(words) => end(rt, run_files(rt, &words)),
+        Ok(words) => end(rt, run_files(rt, threads, &words)),
         Err(fault) => refuse(rt, fault),
     }
 }
 
-/// Runs the program on the words of the command line.
-fn run<R: Env + Files + Input + Print + Eprint + AllocGlobal>(rt: &R) -> ExitCode {
+/// Runs the program on the words of the command line. Workers take their threads from `threads`.
+fn run<R: Env + Files + Input + Print + Eprint + AllocGlobal, T: Threads + Wait + Sync>(
+    rt: &R,
+    threads: &T,
+) -> ExitCode {
     let all = match all_words(rt) {
         Ok(all) => all,
         Err(fault) => return refuse(rt, fault),
@@ -101,11 +118,11 @@ fn run<R: Env + Files + Input + Print + Eprint + AllocGlobal>(rt: &R) -> ExitCod
     else {
         return refuse(rt, WordsFault::NoMemory);
     };
-    run_words(rt, words.as_slice())
+    run_words(rt, threads, words.as_slice())
 }
 
 fn main(rt: HostRuntime) -> ExitCode {
-    run(&rt)
+    run(&rt, &rt)
 }
 
 #[cfg(test)]

@@ -1,6 +1,6 @@
 //! The program over readers and a writer.
 
-ghost use Rattle.std.specs.Prelude.{◌≡◌, ◌≤◌, ◌-◌, length, IfOk, IfErr, IfSome, OnOk, MatchResult};
+ghost use Rattle.std.specs.Prelude.{◌≡◌, ◌≤◌, ◌<◌, ◌-◌, length, nat_le, IfOk, IfErr, IfSome, OnOk, MatchResult};
 ghost use Rattle.std.specs.Io.KnownBytes.{Keeps};
 ghost use Rattle.worm_core.specs.NewNet.{IsFresh};
 ghost use Rattle.worm_core.specs.Script.{AreInOrder};
@@ -11,18 +11,25 @@ ghost use Rattle.worm_report.specs.Report.{report};
 ghost use Rattle.worm_text.specs.Network.{view, Keeps as KeepsRules};
 ghost use Rattle.worm_text.specs.declared.format.Format.{Format};
 ghost use Rattle.worm_text.specs.ScriptView.{said_of};
-ghost use Rattle.wormrun.specs.Ranges.{InRange};
+ghost use Rattle.worm_mesh.specs.Address.{node_count};
+ghost use Rattle.wormrun.specs.Ranges.{InRange, plan_of};
+ghost use Rattle.wormrun.specs.Together.{FailsByWorkers, FailsTogether, ReportsByWorkers, ReportsTogether};
 ghost use Rattle.wormrun.specs.Programs.{Fails, FailsAlone, FailsJoined, GaveBoth, IsNotAccepted, ReadsNot, Reports, ReportsAlone, ReportsJoined, SaysNetwork, SaysTraffic, WritesReport, stream, summary_of};
 
 use crate::fault::ProgramFault;
 use crate::joined::network_end;
 use crate::reading::{ReadFault, read_text};
+use crate::together::run_together;
 use crate::turns::{Ending, run_script};
 use crate::words::Options;
 use std::alloc::Global;
 use std::io::{Read, Write};
+use std::sync::Wait;
+use std::thread::Threads;
 use worm_core::{Config, Net, NetFault, Script, StepFault};
+use worm_mesh::Mesh;
 use worm_report::{ReportFault, Summary, write_report};
+use worm_run::{Gate, RunPlan};
 use worm_text::{Why, read_network, read_traffic};
 
 /// The two texts, read to their end.
@@ -179,19 +186,125 @@ pub fn run_alone<N: Read, F: Read, W: Write>(
     run_and_report(alloc, network, traffic, turns, drain, out)
 }
 
-/// Runs two texts by the options. One thread takes all turns.
-pub fn run_texts<N: Read, F: Read, W: Write>(
+/// Whether there are at least as many nodes as workers.
+fn has_nodes(config: &Config, workers: usize) -> bool
+    requires { (format : Format) × KeepsRules format (view config.now) }
+    ensures { result ≡ nat_le workers (node_count config.now.radices.items) }
+{
+    match Mesh::new(config.radices.as_slice()) {
+        Ok(mesh) => workers <= usize::from(mesh.nodes()),
+        Err(_) => unreachable!(),
+    }
+}
+
+/// Runs two texts by several workers, and writes the report.
+fn run_and_report_together<R: Threads + Wait + Sync, G: Gate + Sync, W: Write>(
+    rt: &R,
+    alloc: Global,
+    network: &[u8],
+    traffic: &[u8],
+    options: &Options,
+    gate: &G,
+    out: &mut W,
+) -> Result<(), ProgramFault>
+    requires { InRange options.now }
+    ensures ok { OnOk result
+        (ReportsTogether (G.may_stop gate.now) network.now traffic.now (plan_of options.now) options.now.drain
+        (stream (W.contents out.old) (W.contents out.new))) }
+    ensures err { IfErr result
+        (FailsTogether (G.may_stop gate.now) (plan_of options.now) options.now.drain
+        (stream (W.contents out.old) (W.contents out.new)) network.now traffic.now) }
+{
+    let accepted = accept(alloc, network, traffic)?;
+    if !has_nodes(&accepted.config, options.workers) {
+        return Err(ProgramFault::Workers);
+    }
+    let Some(net) = open(alloc, &accepted.config) else {
+        return Err(ProgramFault::NoMemory);
+    };
+    let plan = RunPlan {
+        turns: options.turns,
+        workers: options.workers,
+    };
+    let ended = match run_together(rt, alloc, net, &accepted.script, plan, gate, options.drain) {
+        Ok(ended) => ended,
+        Err(worker) => return Err(ProgramFault::NotStarted { worker }),
+    };
+    let summary = Summary {
+        turns: options.turns,
+        workers: options.workers,
+        drain: options.drain,
+        stops: ended.stops,
+        not_offered: not_offered(&ended.net, &accepted.script),
+    };
+    report_run(alloc, &ended.net, &summary, ended.fault, out)
+}
+
+/// Reads two texts to their end, the network first, runs them by several workers, and writes the report.
+fn run_by_workers<R: Threads + Wait + Sync, N: Read, F: Read, G: Gate + Sync, W: Write>(
+    rt: &R,
     alloc: Global,
     network: &mut N,
     traffic: &mut F,
     options: &Options,
+    gate: &G,
     out: &mut W,
 ) -> Result<(), ProgramFault>
     requires { InRange options.now }
-    ensures ok { OnOk result (ReportsAlone options.now.turns options.now.drain (stream (N.remaining network.old) (N.remaining network.new)) (stream (F.remaining traffic.old) (F.remaining traffic.new)) (stream (W.contents out.old) (W.contents out.new))) }
-    ensures err { IfErr result (FailsAlone options.now.turns options.now.drain (stream (N.remaining network.old) (N.remaining network.new)) (stream (F.remaining traffic.old) (F.remaining traffic.new)) (stream (W.contents out.old) (W.contents out.new))) }
+    ensures ok { OnOk result
+        (ReportsByWorkers (G.may_stop gate.now) (plan_of options.now) options.now.drain
+        (stream (N.remaining network.old) (N.remaining network.new))
+        (stream (F.remaining traffic.old) (F.remaining traffic.new))
+        (stream (W.contents out.old) (W.contents out.new))) }
+    ensures err { IfErr result
+        (FailsByWorkers (G.may_stop gate.now) (plan_of options.now) options.now.drain
+        (stream (N.remaining network.old) (N.remaining network.new))
+        (stream (F.remaining traffic.old) (F.remaining traffic.new))
+        (stream (W.contents out.old) (W.contents out.new))) }
 {
-    run_alone(alloc, network, traffic, options.turns, options.drain, out)
+    let texts = read_both(alloc, network, traffic)?;
+    let network = texts.network.as_slice();
+    let traffic = texts.traffic.as_slice();
+    run_and_report_together(rt, alloc, network, traffic, options, gate, out)
+}
+
+/// Runs two texts by the options: on this thread with one worker, which asks no gate, and else each worker on a thread
+/// of its own, which asks the gate before each turn. Faults as those of `run_alone`; with several workers also
+/// `Workers` where there are more of them than nodes and `NotStarted` where a thread could not be started, and nothing
+/// was written then.
+pub fn run_texts<R: Threads + Wait + Sync, N: Read, F: Read, G: Gate + Sync, W: Write>(
+    rt: &R,
+    alloc: Global,
+    network: &mut N,
+    traffic: &mut F,
+    options: &Options,
+    gate: &G,
+    out: &mut W,
+) -> Result<(), ProgramFault>
+    requires { InRange options.now }
+    ensures alone { options.now.workers ≡ 1 → MatchResult result
+        (λ _. ReportsAlone options.now.turns options.now.drain
+        (stream (N.remaining network.old) (N.remaining network.new))
+        (stream (F.remaining traffic.old) (F.remaining traffic.new))
+        (stream (W.contents out.old) (W.contents out.new)))
+        (FailsAlone options.now.turns options.now.drain
+        (stream (N.remaining network.old) (N.remaining network.new))
+        (stream (F.remaining traffic.old) (F.remaining traffic.new))
+        (stream (W.contents out.old) (W.contents out.new))) }
+    ensures together { 1 < options.now.workers → MatchResult result
+        (λ _. ReportsByWorkers (G.may_stop gate.now) (plan_of options.now) options.now.drain
+        (stream (N.remaining network.old) (N.remaining network.new))
+        (stream (F.remaining traffic.old) (F.remaining traffic.new))
+        (stream (W.contents out.old) (W.contents out.new)))
+        (FailsByWorkers (G.may_stop gate.now) (plan_of options.now) options.now.drain
+        (stream (N.remaining network.old) (N.remaining network.new))
+        (stream (F.remaining traffic.old) (F.remaining traffic.new))
+        (stream (W.contents out.old) (W.contents out.new))) }
+{
+    if options.workers == 1 {
+        return run_alone(alloc, network, traffic, options.turns, options.drain, out);
+    }
+    run_by_workers(rt, alloc, network, traffic, options, gate, out)
 }
 
 /// Runs the two texts of one input for 100 turns with no drain: up to and with the first line `end` it is the

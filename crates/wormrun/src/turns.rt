@@ -37,7 +37,7 @@ fn take_turns(net: &mut Net, script: &Script, turns: u64) -> Option<Stop>
 }
 
 /// At most so many turns without entries, ending before a turn with nothing under way, and in one with a fault.
-fn drain(alloc: Global, net: &mut Net, most: u64) -> Option<StepFault>
+pub fn drain(alloc: Global, net: &mut Net, most: u64) -> Option<StepFault>
     ensures { Drains most net.old result net.new }
 {
     let nothing = Script::empty(alloc);

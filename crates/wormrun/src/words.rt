@@ -14,7 +14,7 @@ use std::rt::Env;
 pub struct Options {
     /// How many turns to take with the traffic, 0 to 1,000,000.
     pub turns: u64,
-    /// How many threads take turns: 1.
+    /// How many threads take turns, 1 to 16.
     pub workers: usize,
     /// How many turns more to take at most until nothing is under way, 0 to 1,000,000.
     pub drain: u64,
@@ -90,7 +90,7 @@ fn command<'a>(alloc: Global) -> Result<Command<'a>, AllocError> {
         .long("workers")
         .action(ArgAction::Set)
         .default_value("1")
-        .value_parser(value_parser!(usize).range(1..=1));
+        .value_parser(value_parser!(usize).range(1..=16));
     let drain = Arg::new(alloc, "drain")
         .long("drain")
         .action(ArgAction::Set)
@@ -110,7 +110,7 @@ fn words_in<'a>(matches: &ArgMatches<'a>) -> Option<Words<'a>>
     ensures { IfSome result (λ w. InRange w.options) }
 {
     let turns = matches.get_one::<u64>("turns").filter(|t| *t <= 1_000_000)?;
-    let workers = matches.get_one::<usize>("workers").filter(|w| *w == 1)?;
+    let workers = matches.get_one::<usize>("workers").filter(|w| 1 <= *w && *w <= 16)?;
     let drain = matches.get_one::<u64>("drain").filter(|d| *d <= 1_000_000)?;
     Some(Words {
         network: matches.get_str("NETWORK")?,
@@ -124,7 +124,7 @@ fn words_in<'a>(matches: &ArgMatches<'a>) -> Option<Words<'a>>
 }
 
 /// Reads the words, the program's name first: `NETWORK TRAFFIC --turns T [--workers W] [--drain M]`, in any order. Turns and drain are
-/// 0 to 1,000,000, workers are 1; any other word or number is a fault of the words.
+/// 0 to 1,000,000, workers are 1 to 16; any other word or number is a fault of the words.
 pub fn read_words<'a>(alloc: Global, words: &'a [&'a str]) -> Result<Words<'a>, WordsFault>
     requires { 0 < length words.now }
     ensures { IfOk result (λ w. InRange w.options) }

@@ -6,7 +6,9 @@ use crate::tests::runs::{TWO_NODES, TWO_WORDS};
 use std::alloc::Global;
 use std::cell::RefCell;
 use std::process::{Abort, ExitCode};
+use std::sync::Wait;
 use std::test::Fail;
+use std::thread::Threads;
 
 /// The network and the traffic, and a text that is neither.
 const FILES: &[(&str, &[u8])] = &[("n", TWO_NODES), ("t", TWO_WORDS), ("x", b"x\n")];
@@ -32,7 +34,7 @@ fn kept(rt: &impl Abort, kept: &RefCell<Vec<u8>>, wanted: &str) {
 /// The program on these words, and on both texts as its standard input, ends with this status, and opens, prints and
 /// says this.
 fn ends(
-    rt: &impl Abort,
+    rt: &(impl Abort + Threads + Wait + Sync),
     alloc: Global,
     words: &'static [&'static [u8]],
     status: u8,
@@ -41,7 +43,7 @@ fn ends(
     said: &str,
 ) {
     let desk = Desk::new(alloc, words, FILES, JOINED);
-    assert_eq!(rt; run(&desk), ExitCode::from(status));
+    assert_eq!(rt; run(&desk, rt), ExitCode::from(status));
     kept(rt, &desk.opened, opened);
     kept(rt, &desk.printed, printed);
     kept(rt, &desk.said, said);
@@ -137,7 +139,7 @@ fn words_that_are_not_known(rt: HostRuntime) {
     ];
     for words in all {
         let desk = Desk::new(rt.alloc(), words, FILES, JOINED);
-        assert_eq!(rt; run(&desk), ExitCode::from(2));
+        assert_eq!(rt; run(&desk, &rt), ExitCode::from(2));
         kept(&rt, &desk.opened, "");
         kept(&rt, &desk.printed, "");
         match desk.said.try_borrow() {
@@ -156,7 +158,7 @@ fn an_output_that_is_full(rt: HostRuntime) -> Result<(), Fail> {
     for words in words {
         let desk = Desk::new(rt.alloc(), words, FILES, JOINED);
         desk.room.set(20);
-        assert_eq!(rt; run(&desk), ExitCode::from(8));
+        assert_eq!(rt; run(&desk, &rt), ExitCode::from(8));
         kept(&rt, &desk.said, "wormrun: report not written\n");
         match desk.printed.try_borrow() {
             Ok(printed) => assert_eq!(rt; printed.len(), 20),
