@@ -3,5 +3,5 @@ pub mod Configs
 pub mod Draining
 pub mod Reporting
 pub mod Scripts
-pub mod Together
+pub mod ByWorkers
 pub mod CutLemmas

@@ -208,10 +208,9 @@ fn run_and_report_together<R: Threads + Wait + Sync, G: Gate + Sync, W: Write>(
     out: &mut W,
 ) -> Result<(), ProgramFault>
     requires { InRange options.now }
-    ensures ok { OnOk result
-        (ReportsTogether (G.may_stop gate.now) network.now traffic.now (plan_of options.now) options.now.drain
-        (stream (W.contents out.old) (W.contents out.new))) }
-    ensures err { IfErr result
+    ensures { MatchResult result
+        (λ _. ReportsTogether (G.may_stop gate.now) network.now traffic.now (plan_of options.now) options.now.drain
+        (stream (W.contents out.old) (W.contents out.new)))
         (FailsTogether (G.may_stop gate.now) (plan_of options.now) options.now.drain
         (stream (W.contents out.old) (W.contents out.new)) network.now traffic.now) }
 {

@@ -1,5 +1,6 @@
-use Rattle.std.proofs.Common.{sym}
+use Rattle.std.proofs.Common.{rules, ◌≡◌, ℕ, List, sym, subst}
 use Rattle.std.proofs.lemmas.List.{length-map}
+use Rattle.worm_mesh.specs.Address.{IsMesh}
 use Rattle.worm_text.specs.Network.{view}
 use Rattle.wormrun.proofs.Configs.{kept_config, not_fault}
 use Rattle.wormrun.proofs.program.has_nodes.Goals as goal
@@ -8,4 +9,5 @@ pub unreachable-requires : goal.unreachable-requires
 unreachable-requires c =
     let names = c.args.config.now.classes.items in
     let config = kept_config c.requires.0 (view c.args.config.now) _ (sym (length-map names _)) c.requires.1 in
-    not_fault c.args.config.now.radices.items c.in-Err.field-0 config.mesh c.in-Err.ensures
+    let same : c.as_slice.result.now ≡ c.args.config.now.radices.items = search rules in
+    not_fault c.as_slice.result.now c.in-Err.field-0 (subst (λ (l : List ℕ). IsMesh l) (sym same) config.mesh) c.in-Err.ensures

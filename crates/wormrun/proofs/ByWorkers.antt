@@ -1,6 +1,6 @@
 -- What the program answers where workers ran, and where they did not.
 use Rattle.std.proofs.Common.{◌≡◌, ◌≢◌, ◌⊎◌, ℕ, ◌+◌, ◌<◌, zero, suc, inl, inr, Bool, true, false, List, [], ◌∷◌, ◌++◌, length, Some, None, Option, Ok, Err, refl, arith, ap, sym, subst, ◌∙◌}
-use Rattle.std.specs.Prelude.{All, Result, MatchResult, OnOk, IfErr}
+use Rattle.std.specs.Prelude.{All, Result, MatchResult, if◌then◌else◌}
 use Rattle.std.specs.Io.KnownBytes.{Keeps}
 use Rattle.std.proofs.lemmas.List.Elements.{All-cons, All-nil}
 use Rattle.worm_mesh.specs.Address.{node_count}
@@ -23,6 +23,7 @@ use Rattle.worm_run.specs.declared.plan.Stop.{Stop}
 use Rattle.worm_run.specs.declared.plan.StopWhy.{StopWhy}
 use Rattle.worm_run.specs.declared.plan.StopWhy.TheVariants.{Gate, NoMemory, Refused}
 use Rattle.worm_run.specs.Runs.{Ending, RunsTo, ending_at, stops_of}
+use Rattle.worm_run.specs.Working.{stop_of}
 use Rattle.worm_run.proofs.NeverRefused.{run_never_refuses}
 use Rattle.worm_text.specs.Network.{Network}
 use Rattle.wormrun.specs.declared.fault.ProgramFault.{ProgramFault}
@@ -32,17 +33,25 @@ use Rattle.wormrun.specs.Together.{DrainsUnstopped, EndsTogether, FailsTogether,
 
 -- Stops
 
+abbrev AreByGate : List Stop → Type 0
+AreByGate stops = All (λ (s : Stop). s.why ≡ Gate) stops
+
+one_more : (first n : ℕ) (why : Option StopWhy) (rest : List Stop) → ((w : OfferFault) → why ≡ Some (Refused w) → ⊥) →
+    (lack_memory rest ≡ false → AreByGate rest) → lack_memory (stop_of first n why ++ rest) ≡ false →
+    AreByGate (stop_of first n why ++ rest)
+one_more first n None rest none later had = later had
+one_more first n (Some Gate) rest none later had = All-cons (λ (s : Stop). s.why ≡ Gate) _ rest refl (later had)
+one_more first n (Some NoMemory) rest none later had = absurd (cc)
+one_more first n (Some (Refused w)) rest none later had = absurd (none w refl)
+
 -- where no source refused and memory was there, a gate was the cause
 by_gate : (first : ℕ) (endings : List Ending) →
     ((i : ℕ) (why : OfferFault) → i < length endings → (ending_at endings i).why ≡ Some (Refused why) → ⊥) →
-    lack_memory (stops_of first endings) ≡ false → All (λ (s : Stop). s.why ≡ Gate) (stops_of first endings)
+    lack_memory (stops_of first endings) ≡ false → AreByGate (stops_of first endings)
 by_gate first [] none had = All-nil (λ (s : Stop). s.why ≡ Gate)
-by_gate first (record { ended = n; why = None } ∷ es) none had =
-    by_gate (first + 1) es (λ i why below is. none (suc i) why (omega arith) is) had
-by_gate first (record { ended = n; why = Some Gate } ∷ es) none had =
-    All-cons (λ (s : Stop). s.why ≡ Gate) _ _ refl (by_gate (first + 1) es (λ i why below is. none (suc i) why (omega arith) is) had)
-by_gate first (record { ended = n; why = Some NoMemory } ∷ es) none had = absurd (cc)
-by_gate first (record { ended = n; why = Some (Refused why) } ∷ es) none had = absurd (none 0 why (omega arith) refl)
+by_gate first (e ∷ es) none had =
+    one_more first e.ended e.why (stops_of (first + 1) es) (λ w is. none 0 w (omega arith) is)
+    (λ later. by_gate (first + 1) es (λ i why below is. none (suc i) why (omega arith) is) later) had
 
 -- Drains
 
