@@ -159,16 +159,16 @@ pub tried_quiet : (x : ℕ) (step : Step) → ((s : NetState) → refusal_of s s
     ((s : NetState) → IsQuiet x s None (done_step s step)) → Tells (IsQuiet x) (Attempts step)
 tried_quiet x step unasked does old new fault tried there =
     subst (λ (f : Option StepFault). Quiet x old f new) (sym tried.2) (by_answer tried.0 tried.1) where
-  unmoved : (f : Option StepFault) → IsUnrefused f → new ≡ old → Quiet x old f new
-  unmoved f unrefused same = subst (λ (s : NetState). Quiet x old f s) (sym same) (still_quiet x old f unrefused)
+      unmoved : (f : Option StepFault) → IsUnrefused f → new ≡ old → Quiet x old f new
+      unmoved f unrefused same = subst (λ (s : NetState). Quiet x old f s) (sym same) (still_quiet x old f unrefused)
 
-  by_answer : (answer : Result Moved StepFault) → Replies old step answer new → Quiet x old (fault_of answer) new
-  by_answer (Ok Done) made = subst (λ (s : NetState). Quiet x old None s) (sym made.exact) (does old there)
-  by_answer (Ok Idle) i = unmoved None none_refuses i.3
-  by_answer (Err NoSuchPlace) i = unmoved None none_refuses i.1
-  by_answer (Err (Refused why)) i =
-      let clash : ◌≡◌ {A = Option OfferFault} None (Some why) = sym (unasked old) ∙ i.2 in absurd (cc)
-  by_answer (Err NoMemory) i = unmoved (Some NoMemory) (λ why is. absurd (cc)) i.3
+      by_answer : (answer : Result Moved StepFault) → Replies old step answer new → Quiet x old (fault_of answer) new
+      by_answer (Ok Done) made = subst (λ (s : NetState). Quiet x old None s) (sym made.exact) (does old there)
+      by_answer (Ok Idle) i = unmoved None none_refuses i.3
+      by_answer (Err NoSuchPlace) i = unmoved None none_refuses i.1
+      by_answer (Err (Refused why)) i =
+          let clash : ◌≡◌ {A = Option OfferFault} None (Some why) = sym (unasked old) ∙ i.2 in absurd (cc)
+      by_answer (Err NoMemory) i = unmoved (Some NoMemory) (λ why is. absurd (cc)) i.3
 
 fed_quiet : (x k : ℕ) (s : NetState) (o : Option Flit) → IsQuiet x s None (with_node s x (fed_node (node_at s x) k o))
 fed_quiet x k s None = put_quiet s x (node_at s x) s.links (same_source (source_at s x)) refl

@@ -113,8 +113,7 @@ module _ (s : NetState) (x : ℕ) (seat : IsSeated s x) where
       (accepts packet.lane (none_refused t packet.lane false none).0, words.0, words.1)
   enabled (Close lane) words none =
       let found = none_refused t lane true none in
-      let few = found.1 refl in
-      (
+      let few = found.1 refl in (
         accepts lane found.0,
         one_alone s.mesh s.channels s.depth lane.class
             (subst (λ (cs : List ℕ). slice_index cs lane.class ≤ 1) seat.node.source_channels few),
@@ -158,29 +157,29 @@ asked_one : (x : ℕ) (e : Entry) (old new : NetState) (fault : Option StepFault
 asked_one x e old new fault words seat tried =
     subst (λ (f : Option StepFault). ((f ≡ None) × TakesIn e x old new) ⊎ (IsSome f × Declines e x old f new))
     (sym tried.2) (by_answer tried.0 tried.1) where
-  by_answer : (answer : Result Moved StepFault) → Replies old (ask x e.act) answer new →
-      ((fault_of answer ≡ None) × TakesIn e x old new)
-      ⊎ (IsSome (fault_of answer) × Declines e x old (fault_of answer) new)
-  by_answer (Ok Done) made =
-      inl (
-        refl,
-        record {
-          exact = made.exact ∙ done_ask old x e.act;
-          seat = seated_in new x made.framed (rw made.config.mesh seat.in_mesh);
-        },
-      )
-  by_answer (Ok Idle) i = absurd (not_hindered old x e.act (i.1 (enabled old x seat e.act words i.2)))
-  by_answer (Err NoSuchPlace) i = absurd (i.0 (there_of old x e.act seat.in_mesh))
-  by_answer (Err (Refused why)) i =
-      inr (
-        refl,
-        record {
-          same = i.3;
-          refused = λ other is. let one : why ≡ other = cc in
-              subst (λ (w : OfferFault). Refuses (source_at old x) e w) one (refuses_ask old x e why i.2);
-        },
-      )
-  by_answer (Err NoMemory) i = inr (refl, record { same = i.3; refused = λ why is. absurd (cc) })
+      by_answer : (answer : Result Moved StepFault) → Replies old (ask x e.act) answer new →
+          ((fault_of answer ≡ None) × TakesIn e x old new)
+          ⊎ (IsSome (fault_of answer) × Declines e x old (fault_of answer) new)
+      by_answer (Ok Done) made =
+          inl (
+            refl,
+            record {
+              exact = made.exact ∙ done_ask old x e.act;
+              seat = seated_in new x made.framed (rw made.config.mesh seat.in_mesh);
+            },
+          )
+      by_answer (Ok Idle) i = absurd (not_hindered old x e.act (i.1 (enabled old x seat e.act words i.2)))
+      by_answer (Err NoSuchPlace) i = absurd (i.0 (there_of old x e.act seat.in_mesh))
+      by_answer (Err (Refused why)) i =
+          inr (
+            refl,
+            record {
+              same = i.3;
+              refused = λ other is. let one : why ≡ other = cc in
+                  subst (λ (w : OfferFault). Refuses (source_at old x) e w) one (refuses_ask old x e why i.2);
+            },
+          )
+      by_answer (Err NoMemory) i = inr (refl, record { same = i.3; refused = λ why is. absurd (cc) })
 
 -- the source refuses the first of these
 pub record RefusesFirst (left : List Entry) (why : OfferFault) (s : SourceState) : Type 0 where

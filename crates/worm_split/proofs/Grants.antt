@@ -68,13 +68,13 @@ chosen_of : (s : SwAllocState) (requests : List (Option SwGrant)) (n p : ℕ) (o
 chosen_of s requests n p None g e = absurd (cc)
 chosen_of s requests n p (Some h) g e =
     by_tests (nat_lt h.out n) (is_line (chosen s requests h.out) p) refl e where
-  by_tests : (a b : Bool) → is_line (chosen s requests h.out) p ≡ b → (if a && b then Some h else None) ≡ Some g →
-      (Some h ≡ Some g) × (chosen s requests g.out ≡ Some p)
-  by_tests true true line is =
-      let same : h ≡ g = cc in
-      (is, ap (λ (k : SwGrant). chosen s requests k.out) (sym same) ∙ line_is (chosen s requests h.out) p line)
-  by_tests true false line is = absurd (cc)
-  by_tests false b line is = absurd (cc)
+      by_tests : (a b : Bool) → is_line (chosen s requests h.out) p ≡ b → (if a && b then Some h else None) ≡ Some g →
+          (Some h ≡ Some g) × (chosen s requests g.out ≡ Some p)
+      by_tests true true line is =
+          let same : h ≡ g = cc in
+          (is, ap (λ (k : SwGrant). chosen s requests k.out) (sym same) ∙ line_is (chosen s requests h.out) p line)
+      by_tests true false line is = absurd (cc)
+      by_tests false b line is = absurd (cc)
 
 -- a request names the output port of its channel
 request_has : (row : List (Option ℕ)) (v : Option ℕ) (g : SwGrant) → request_of row v ≡ Some g →
@@ -95,15 +95,15 @@ ready_holds : (r : RouterState) (p v out : ℕ) → cell (ready_outs r) p v None
 ready_holds r p v out =
     cell_has (λ (o : Option ℕ). o ≡ Some out → IsPlace r p v × ((channel : ℕ) × ((input_at r p v).state ≡ Active out channel)))
     r None (ready_at r) p v (λ none. absurd (cc)) (λ place is. (place, held (leaving r p v) refl is)) where
-  held : (o : Option (ℕ × Flit)) → leaving r p v ≡ o → option_map (λ (d : ℕ × Flit). d.0) o ≡ Some out →
-      (channel : ℕ) × ((input_at r p v).state ≡ Active out channel)
-  held None at is = absurd (cc)
-  held (Some d) at is =
-      let same : d.0 ≡ out = cc in (
-        d.1.vc,
-        leaves_by_state r p (input_at r p v) (input_at r p v).state (input_at r p v).buffer d at
-            ∙ ap (λ (o : ℕ). Active o d.1.vc) same,
-      )
+      held : (o : Option (ℕ × Flit)) → leaving r p v ≡ o → option_map (λ (d : ℕ × Flit). d.0) o ≡ Some out →
+          (channel : ℕ) × ((input_at r p v).state ≡ Active out channel)
+      held None at is = absurd (cc)
+      held (Some d) at is =
+          let same : d.0 ≡ out = cc in (
+            d.1.vc,
+            leaves_by_state r p (input_at r p v) (input_at r p v).state (input_at r p v).buffer d at
+                ∙ ap (λ (o : ℕ). Active o d.1.vc) same,
+          )
 
 module _ (r : RouterState) where
   asked_of : (p : ℕ) (g : SwGrant) → slice_index_or (switch_grants r) p None ≡ Some g →

@@ -1,3 +1,4 @@
+mod channels;
 mod turns;
 
 ghost use Rattle.std.specs.Prelude.{◌≡◌, ◌*◌, IfOk, length};
