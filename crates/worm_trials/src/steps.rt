@@ -68,7 +68,10 @@ pub fn round_the_corner(alloc: Global) -> Result<Seen, Seen> {
     let Ok(packet) = Packet::new(lane(0, 8), &[7]) else {
         return Err(Seen::Wrong);
     };
-    let offer = [Step::Offer { node: 0, packet }, Step::Feed { node: 0, class: 0 }];
+    let offer = [
+        Step::Offer { node: 0, packet },
+        Step::Feed { node: 0, class: 0 },
+    ];
     let mut refused = take(&mut net, &offer)?;
     refused |= take(&mut net, &pass(0, 4))?;
     refused |= take(&mut net, &[Step::Take { node: 1, port: 0 }])?;
@@ -89,7 +92,13 @@ pub fn round_the_corner(alloc: Global) -> Result<Seen, Seen> {
 pub fn closed_lane(alloc: Global) -> Result<Seen, Seen> {
     let mut net = network(alloc, TWO_NODES)?;
     let over = lane(0, 1);
-    let refused = take(&mut net, &[Step::Close { node: 0, lane: over }])?;
+    let refused = take(
+        &mut net,
+        &[Step::Close {
+            node: 0,
+            lane: over,
+        }],
+    )?;
     let Ok(packet) = Packet::new(over, &[5]) else {
         return Err(Seen::Wrong);
     };
