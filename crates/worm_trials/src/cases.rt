@@ -1,5 +1,9 @@
 //! Worked cases: networks, and what is offered to them.
 
+ghost use Rattle.std.specs.Prelude.{◌≡◌, IfErr, IfOk, length};
+ghost use Rattle.worm_core.specs.NewNet.{IsConfig, IsFresh};
+ghost use Rattle.worm_core.specs.State.{texts_of};
+
 use crate::seen::Seen;
 use std::alloc::Global;
 use worm_core::{Act, Config, Entry, Net, NetFault, Script, ScriptFault};
@@ -30,7 +34,13 @@ pub struct Case {
     pub script: Script,
 }
 
-fn made(alloc: Global, config: &Config) -> Result<Net, Seen> {
+/// The network of a configuration. In range it is refused for want of memory alone.
+fn made(alloc: Global, config: &Config) -> Result<Net, Seen>
+    ensures fresh { IfOk result (IsFresh config.now.radices.items config.now.channels.items config.now.depth
+        (texts_of config.now.classes.items)) }
+    ensures refused { IfErr result (λ seen. IsConfig config.now.radices.items config.now.channels.items
+        config.now.depth (length config.now.classes.items) → seen ≡ Seen.Refused) }
+{
     match Net::new(alloc, config) {
         Ok(net) => Ok(net),
         Err(NetFault::NoMemory) => Err(Seen::Refused),

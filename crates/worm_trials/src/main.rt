@@ -9,6 +9,7 @@
 
 mod asked;
 mod cases;
+mod parts;
 mod reports;
 mod seen;
 mod steps;
@@ -20,9 +21,10 @@ mod turns;
 use asked::{Asked, read_asked, request};
 use seen::Seen;
 use std::process::ExitCode;
+use std::sync::Wait;
 
 /// Makes the requests ahead, and then the trial.
-fn judge(rt: &HostRuntime, asked: Asked) -> Seen {
+fn judge<R: Wait + AllocGlobal>(rt: &R, asked: Asked) -> Seen {
     if !request(rt.alloc(), asked.ahead) {
         return Seen::Wrong;
     }

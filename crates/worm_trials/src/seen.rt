@@ -1,5 +1,7 @@
 //! What a trial sees.
 
+ghost use Rattle.std.specs.Prelude.{◌≡◌, if◌then◌else◌};
+
 /// What a trial saw.
 #[derive(Clone, Copy, Debug, PartialEq, Eq)]
 pub enum Seen {
@@ -22,7 +24,9 @@ impl Seen {
     }
 
     /// `Refused` where a call was, else `Whole`.
-    pub fn of(refused: bool) -> Seen {
+    pub fn of(refused: bool) -> Seen
+        ensures { result ≡ (if refused then Seen.Refused else Seen.Whole) }
+    {
         if refused { Seen::Refused } else { Seen::Whole }
     }
 }

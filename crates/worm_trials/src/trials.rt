@@ -1,11 +1,13 @@
 //! The trials by name.
 
 use crate::cases::{SIXTEEN_NODES, network};
+use crate::parts::split_among;
 use crate::reports::{all_arrived, half_way};
 use crate::seen::Seen;
 use crate::steps::{closed_lane, round_the_corner};
 use crate::turns::two_arrive;
 use std::alloc::Global;
+use std::sync::Wait;
 
 /// What is tried.
 #[derive(Clone, Copy, Debug, PartialEq, Eq)]
@@ -22,6 +24,10 @@ pub enum Trial {
     ShortReport,
     /// The report of sixteen nodes of which each has the words of the node opposite.
     LongReport,
+    /// Sixteen nodes are split for one worker, for four, and for sixteen.
+    SplitOne,
+    SplitFour,
+    SplitSixteen,
 }
 
 impl Trial {
@@ -34,6 +40,9 @@ impl Trial {
             "turns" => Some(Trial::Turns),
             "short_report" => Some(Trial::ShortReport),
             "long_report" => Some(Trial::LongReport),
+            "split_one" => Some(Trial::SplitOne),
+            "split_four" => Some(Trial::SplitFour),
+            "split_sixteen" => Some(Trial::SplitSixteen),
             _ => None,
         }
     }
@@ -51,8 +60,8 @@ fn empty_network(alloc: Global) -> Result<Seen, Seen> {
 }
 
 /// Makes the trial. What ended it early is what was seen.
-pub fn take(rt: &HostRuntime, trial: Trial) -> Seen {
-    let alloc = rt.alloc();
+pub fn take<R: Wait + AllocGlobal>(rt: &R, trial: Trial) -> Seen {
+    let alloc: Global = rt.alloc();
     let seen = match trial {
         Trial::Network => empty_network(alloc),
         Trial::Corner => round_the_corner(alloc),
@@ -60,6 +69,9 @@ pub fn take(rt: &HostRuntime, trial: Trial) -> Seen {
         Trial::Turns => two_arrive(alloc),
         Trial::ShortReport => half_way(alloc),
         Trial::LongReport => all_arrived(alloc),
+        Trial::SplitOne => split_among(rt, alloc, 1),
+        Trial::SplitFour => split_among(rt, alloc, 4),
+        Trial::SplitSixteen => split_among(rt, alloc, 16),
     };
     match seen {
         Ok(seen) => seen,

@@ -1,5 +1,10 @@
 //! Turns and views, of which one wants memory.
 
+ghost use Rattle.std.specs.Prelude.{◌≡◌, false, IfOk, None};
+ghost use Rattle.worm_core.specs.LaneView.{IsLaneCut};
+ghost use Rattle.worm_core.specs.Script.{due};
+ghost use Rattle.worm_core.specs.Turns.{Reaches, Turn};
+
 use crate::cases::{lane, two_words};
 use crate::seen::Seen;
 use std::alloc::Global;
@@ -7,7 +12,10 @@ use worm_core::{Held, LaneView, Net, NoMemory, Place, Script, StepFault};
 use worm_flit::{Flit, Lane};
 
 /// Takes the turn. Whether memory stopped it.
-pub fn take(net: &mut Net, turn: u64, script: &Script) -> Result<bool, Seen> {
+pub fn take(net: &mut Net, turn: u64, script: &Script) -> Result<bool, Seen>
+    ensures done { IfOk result (λ stopped. stopped ≡ false → Turn (due turn script.now) net.old None net.new) }
+    ensures reaches { Reaches net.old net.new }
+{
     match net.turn(turn, script) {
         Ok(()) => Ok(false),
         Err(StepFault::NoMemory) => Ok(true),
@@ -25,7 +33,9 @@ pub fn take_all(net: &mut Net, from: u64, below: u64, script: &Script) -> Result
 }
 
 /// The view of the lane, where memory is refused by a second call. Whether it was refused.
-fn view(alloc: Global, net: &Net, lane: Lane) -> Result<(LaneView, bool), Seen> {
+fn view(alloc: Global, net: &Net, lane: Lane) -> Result<(LaneView, bool), Seen>
+    ensures { IfOk result (λ seen. IsLaneCut net.now lane seen.0.underway.items) }
+{
     if !net.has_lane(lane) {
         return Err(Seen::Wrong);
     }
