@@ -72,7 +72,7 @@ pub fn split_among<R: Wait>(rt: &R, alloc: Global, workers: usize) -> Result<See
     if before.as_bytes() != after.as_bytes() {
         return Err(Seen::Wrong);
     }
-    let late = take_all(&mut net, 3, 50, &script)?;
+    let late = take_all(&mut net, 3, 21, &script)?;
     if have_arrived(&net) {
         Ok(Seen::of(unseen || refused || blind || late))
     } else {

@@ -51,8 +51,10 @@ fn with_line(alloc: Global, text: &[u8], number: usize, line: &[u8]) -> Result<V
 
 /// The text with a byte more at this place.
 fn with_byte(alloc: Global, text: &[u8], place: usize, byte: u8) -> Result<Vec<u8>, Fail> {
-    let mut changed = Vec::from_slice(alloc, text)?;
-    changed.insert(place, byte)?;
+    let (front, back) = text.split_at(place.min(text.len()));
+    let mut changed = Vec::from_slice(alloc, front)?;
+    changed.push(byte)?;
+    changed.extend_from_slice(back)?;
     Ok(changed)
 }
 
