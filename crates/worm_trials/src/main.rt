@@ -1,10 +1,10 @@
-//! Hostile use of the crates below: a trial in which one request for memory is refused, whichever the caller chooses. The standard
-//! input names the trial, and says how many requests are made ahead of it: so where the N-th request of all is refused, which
-//! `rt try --fail-alloc N` does, the refused one is the trial's own, the N less those ahead.
+//! Hostile use of the crates below: a trial in which one request for memory is refused, whichever the caller chooses.
+//! The standard input names the trial, and says how many requests are made ahead of it. So where request number N of
+//! all is refused, which `rt try --fail-alloc N` does, the refused one is the trial's own of number N less those ahead.
 //!
-//! A trial judges each answer by itself: a call is done or says that there was no memory, and what it leaves is what is worked
-//! out, or what its contract says of a refusal. The program ends with 0 where it was so, and then says `refused` where a call
-//! wanted memory, else `whole`. The tests of the crate are of texts and writers.
+//! A trial judges each answer by itself: a call is done or says that there was no memory, and what it leaves is what
+//! is worked out, or what its contract says of a refusal. The program ends with 0 where it was so, and then says
+//! `refused` where a call wanted memory, else `whole`. The tests of the crate are of texts and writers.
 #![tactic(auto)]
 
 mod asked;

@@ -53,7 +53,8 @@ fn write(alloc: Global, net: &Net, summary: &Summary) -> Result<(Text, bool), Se
     }
 }
 
-/// The report, where memory is refused by a second call: what had gone out before is a first part of it. Whether it was refused.
+/// The report, where memory is refused by a second call: what had gone out before is a first part of it. Whether it
+/// was refused.
 pub fn report(alloc: Global, net: &Net, summary: &Summary) -> Result<(Text, bool), Seen> {
     let (first, refused) = write(alloc, net, summary)?;
     if !refused {
@@ -80,7 +81,8 @@ pub fn half_way(alloc: Global) -> Result<Seen, Seen> {
     }
 }
 
-/// The report of sixteen nodes of which each has the three words of the node opposite, as the rules of the report say it.
+/// The report of sixteen nodes of which each has the three words of the node opposite, as the rules of the report say
+/// it.
 fn wanted(alloc: Global) -> Result<String, Seen> {
     let Ok(mut text) = String::with_capacity(alloc, MOST) else {
         return Err(Seen::Refused);

@@ -23,7 +23,8 @@ pub fn take(net: &mut Net, turn: u64, script: &Script) -> Result<bool, Seen>
     }
 }
 
-/// Takes the turns from one on and below another. Whether memory stopped one of them, after which the others are taken, too.
+/// Takes the turns from one on and below another. Whether memory stopped one of them, after which the others are taken,
+/// too.
 pub fn take_all(net: &mut Net, from: u64, below: u64, script: &Script) -> Result<bool, Seen> {
     let mut refused = false;
     for turn in from..below {
@@ -75,8 +76,8 @@ fn is_half_way(view: &LaneView) -> bool {
     }
 }
 
-/// Two words go from node 0 to node 1. A turn that wants memory leaves the lane cut, and the turns after it deliver what was
-/// offered.
+/// Two words go from node 0 to node 1. A turn that wants memory leaves the lane cut, and the turns after it deliver
+/// what was offered.
 pub fn two_arrive(alloc: Global) -> Result<Seen, Seen> {
     let mut case = two_words(alloc)?;
     let over = lane(0, 1);
