@@ -1,0 +1,32 @@
+//! What a trial sees.
+
+ghost use Rattle.std.specs.Prelude.{◌≡◌, if◌then◌else◌};
+
+/// What a trial saw.
+#[derive(Clone, Copy, Debug, PartialEq, Eq)]
+pub enum Seen {
+    /// Each call was done, and left what is worked out.
+    Whole,
+    /// A call said that there was no memory, and left what it promises then.
+    Refused,
+    /// An answer, or what a call left, was another.
+    Wrong,
+}
+
+impl Seen {
+    /// The word that the program says.
+    pub fn word(self) -> &'static str {
+        match self {
+            Seen::Whole => "whole",
+            Seen::Refused => "refused",
+            Seen::Wrong => "wrong",
+        }
+    }
+
+    /// `Refused` where a call was, else `Whole`.
+    pub fn of(refused: bool) -> Seen
+        ensures { result ≡ (if refused then Seen.Refused else Seen.Whole) }
+    {
+        if refused { Seen::Refused } else { Seen::Whole }
+    }
+}

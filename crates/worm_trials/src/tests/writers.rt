@@ -1,0 +1,112 @@
+//! Reports for writers that fail after so many bytes, or take now more and now less.
+
+use super::{TWO_NODES, WORD_AND_MARK, after};
+use crate::reports::summary;
+use std::alloc::Global;
+use std::io;
+use std::io::{ErrorKind, Write};
+use std::process::Abort;
+use std::test::Fail;
+use worm_core::Net;
+use worm_report::{ReportFault, Summary, write_report};
+
+/// Two nodes whose buffers hold one flit.
+const SHALLOW: &[u8] = b"wormnet 1\nradix 2\ndims 1\ndepth 1\nclass data\nend\n";
+
+const FOUR_WORDS: &[u8] = b"wormtraffic 1\nsend 0 0 1 data 1 2 3 4\nend\n";
+
+/// The word arrived, and the mark waits.
+const MARK_WAITS: &str =
+    "wormreport 1\nturns 1 workers 1 drain 0\ndelivered 1 from 0 class 0 packet 0 flit 0 word 5\nunderway 0 1 class 0 packet 1 flit 0 source\nnot offered 0\ntotal injected 2 delivered 1 underway 1\n";
+
+/// Both arrived.
+const MARK_ARRIVED: &str =
+    "wormreport 1\nturns 2 workers 1 drain 0\ndelivered 1 from 0 class 0 packet 0 flit 0 word 5\ndelivered 1 from 0 class 0 packet 1 close\nnot offered 0\ntotal injected 2 delivered 2 underway 0\n";
+
+/// Two of four words arrived before the second worker was stopped.
+const STOPPED: &str =
+    "wormreport 1\nturns 10 workers 2 drain 0\nstopped worker 1 turn 2\ndelivered 1 from 0 class 0 packet 0 flit 0 word 1\ndelivered 1 from 0 class 0 packet 0 flit 1 word 2\nunderway 0 1 class 0 packet 0 flit 2 source\nunderway 0 1 class 0 packet 0 flit 3 source\nnot offered 0\ntotal injected 4 delivered 2 underway 2\n";
+
+/// Takes 1, 2, 3, .. bytes in its calls, and fails once it has taken so many.
+#[derive(Drop)]
+struct Uneven {
+    taken: Vec<u8>,
+    /// How many bytes more it takes.
+    room: usize,
+    calls: usize,
+}
+
+impl Write for Uneven {
+    fn write(&mut self, buf: &[u8]) -> io::Result<usize> {
+        if self.room == 0 {
+            return Err(io::Error::from(ErrorKind::Interrupted));
+        }
+        self.calls = self.calls.saturating_add(1);
+        let count = self.calls.min(self.room).min(buf.len());
+        match self.taken.extend_from_slice(&buf[..count]) {
+            Ok(()) => {
+                self.room -= count;
+                Ok(count)
+            }
+            Err(_) => Err(io::Error::from(ErrorKind::OutOfMemory)),
+        }
+    }
+
+    fn flush(&mut self) -> io::Result<()> {
+        Ok(())
+    }
+}
+
+/// A writer with so much room takes exactly the first bytes of the report, and all where they fit.
+fn takes_first(
+    rt: &impl Abort,
+    alloc: Global,
+    net: &Net,
+    summary: &Summary,
+    wanted: &str,
+    room: usize,
+) {
+    let mut out = Uneven {
+        taken: Vec::new(alloc),
+        room,
+        calls: 0,
+    };
+    let answer = write_report(alloc, net, summary, &mut out);
+    let first = wanted.as_bytes().get(..room);
+    match first {
+        Some(first) => {
+            assert_eq!(rt; answer, Err(ReportFault::Write));
+            assert_eq!(rt; out.taken.as_slice(), first);
+        }
+        None => {
+            assert_eq!(rt; answer, Ok(()));
+            assert_eq!(rt; out.taken.as_slice(), wanted.as_bytes());
+        }
+    }
+}
+
+/// A report for each room below its length, and for one above.
+fn goes_out(rt: &impl Abort, alloc: Global, net: &Net, summary: &Summary, wanted: &str) {
+    for room in 0..wanted.len() {
+        takes_first(rt, alloc, net, summary, wanted, room);
+    }
+    takes_first(rt, alloc, net, summary, wanted, usize::MAX);
+}
+
+#[test]
+fn a_mark_for_uneven_writers(rt: HostRuntime) -> Result<(), Fail> {
+    for (turns, wanted) in [(1, MARK_WAITS), (2, MARK_ARRIVED)] {
+        let net = after(rt.alloc(), TWO_NODES, WORD_AND_MARK, turns)?;
+        goes_out(&rt, rt.alloc(), &net, &summary(turns, 1, 0), wanted);
+    }
+    Ok(())
+}
+
+#[test]
+fn a_stop_for_uneven_writers(rt: HostRuntime) -> Result<(), Fail> {
+    let net = after(rt.alloc(), SHALLOW, FOUR_WORDS, 2)?;
+    let mut summary = summary(10, 2, 0);
+    summary.stops[1] = Some(2);
+    goes_out(&rt, rt.alloc(), &net, &summary, STOPPED);
+    Ok(())
+}
