@@ -1,0 +1,4 @@
+pub mod Rows
+pub mod Rules
+pub mod Reading
+pub mod Report
