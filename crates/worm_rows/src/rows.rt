@@ -4,7 +4,7 @@ use worm_core::Place;
 use worm_flit::Lane;
 
 /// A packet: its lane, and its number there.
-#[derive(Clone, Copy, Debug, PartialEq, Eq)]
+#[derive(Clone, Copy, Debug, PartialEq, Eq, PartialOrd, Ord)]
 pub struct PacketId {
     /// Where it comes from and goes to, and its class.
     pub lane: Lane,
