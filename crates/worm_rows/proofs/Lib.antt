@@ -4,3 +4,4 @@ pub mod RowLaws
 pub mod Order
 pub mod Readings
 pub mod Loop
+pub mod Same

@@ -2,3 +2,4 @@ pub mod Rows
 pub mod Rules
 pub mod Reading
 pub mod Report
+pub mod Written

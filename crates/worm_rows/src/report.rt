@@ -4,6 +4,9 @@ ghost use Rattle.std.specs.Prelude.{◌≡◌, ◌⊎◌, List, map, Ok, IfOk, I
 ghost use Rattle.worm_rows.specs.declared.rows.Row.{Row};
 ghost use Rattle.worm_rows.specs.Rows.{rows_text};
 ghost use Rattle.worm_rows.specs.Rules.{IsReport};
+ghost use Rattle.worm_report.specs.declared.row.Row as printed;
+ghost use Rattle.worm_report.specs.Rows as printing;
+ghost use Rattle.worm_rows.specs.Written.{row_of, AreSummed};
 ghost use Rattle.worm_rows.specs.Report.{report_of, AnswersOrFull, RanOut, IsReportFaultLine};
 
 use crate::lines::judge;
@@ -59,6 +62,8 @@ pub fn read_report(alloc: Global, bytes: &[u8], shape: &Shape) -> Result<Vec<Row
     ensures found { IfOk result (λ rows. IsReport shape.now rows.items × (bytes.now ≡ rows_text rows.items)) }
     // Each such text is read, unless memory runs out.
     ensures only { (rows : List Row) → IsReport shape.now rows → bytes.now ≡ rows_text rows → AnswersOrFull (λ v. v.items) (RanOut shape.now bytes.now) result (Ok rows) }
+    // So is the text that a report was written as.
+    ensures written { (rows : List printed.Row) → AreSummed rows → IsReport shape.now (map row_of rows) → bytes.now ≡ printing.rows_text rows → AnswersOrFull (λ v. v.items) (RanOut shape.now bytes.now) result (Ok (map row_of rows)) }
     // The line of a fault is one more than the longest run of finished lines with which some report begins; memory runs out at the
     // line of a row.
     ensures line { IfErr result (λ fault. RanOut shape.now bytes.now fault ⊎ IsReportFaultLine shape.now bytes.now fault.line) }

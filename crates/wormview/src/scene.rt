@@ -158,7 +158,7 @@ fn part_of(flits: &[Flit], packets: &Packets, flit: &Flit) -> Part {
 }
 
 /// Each of these flits with the part that it stands in.
-fn parted(alloc: Global, flits: &[Flit], packets: &Packets) -> Result<Vec<Parted>, AllocError>
+fn with_parts(alloc: Global, flits: &[Flit], packets: &Packets) -> Result<Vec<Parted>, AllocError>
     ensures { IfOk result (λ parted. spec.flits_of parted.items ≡ flits.now) }
 {
     let mut parted = Vec::new(alloc);
@@ -216,7 +216,7 @@ pub fn front_first(
     ensures { IfOk result (λ sorted. (parted : List Parted) × (spec.flits_of parted ≡ spec.flits_on spot flits.now) × (sorted.items ≡ spec.in_order parted)) }
 {
     let here = flits_on(alloc, flits, spot)?;
-    let parted = parted(alloc, here.as_slice(), packets)?;
+    let parted = with_parts(alloc, here.as_slice(), packets)?;
     in_order(alloc, parted.as_slice())
 }
 

@@ -10,7 +10,8 @@ use worm_text::{TextFault, Why};
 
 const NETWORK: &[u8] = b"wormnet 1\nradix 2\ndims 1\ndepth 2\nclass data\nend\n";
 
-const REPORT: &[u8] = b"wormreport 1\nturns 1 workers 1 drain 0\nunderway 1 0 class 0 packet 0 flit 0 link 1 0 0\nunderway 1 0 class 0 packet 0 flit 1 buffer 1 2 0\nunderway 1 0 class 0 packet 1 flit 0 source\nnot offered 0\ntotal injected 3 delivered 0 underway 3\n";
+const REPORT: &[u8] =
+    b"wormreport 1\nturns 1 workers 1 drain 0\nunderway 1 0 class 0 packet 0 flit 0 link 1 0 0\nunderway 1 0 class 0 packet 0 flit 1 buffer 1 2 0\nunderway 1 0 class 0 packet 1 flit 0 source\nnot offered 0\ntotal injected 3 delivered 0 underway 3\n";
 
 /// A reader that fails behind so many bytes.
 #[derive(Drop)]
@@ -36,7 +37,8 @@ fn map_of(alloc: Global) -> Option<String> {
 
 #[test]
 fn a_map(rt: HostRuntime) {
-    let wanted = "   .      1<  \n\nThe fullest buffers:\nnode 1 port 2 channel 0: 1 flits, at the front 1 to 0 class 0 packet 0 flit 1, which leaves by port 0 <\n";
+    let wanted =
+        "   .      1<  \n\nThe fullest buffers:\nnode 1 port 2 channel 0: 1 flits, at the front 1 to 0 class 0 packet 0 flit 1, which leaves by port 0 <\n";
     assert!(rt; map_of(rt.alloc()).is_some_and(|map| map.as_str() == wanted));
 }
 
@@ -61,10 +63,22 @@ fn readers_that_fail(rt: HostRuntime) {
     let alloc = rt.alloc();
     let mut out = Vec::new(alloc);
     let mut report = REPORT;
-    let ended = run_view(alloc, &mut Failing { left: 10 }, &mut report, false, &mut out);
+    let ended = run_view(
+        alloc,
+        &mut Failing { left: 10 },
+        &mut report,
+        false,
+        &mut out,
+    );
     assert!(rt; ended == Err(ViewFault::ReadNetwork));
     let mut network = NETWORK;
-    let ended = run_view(alloc, &mut network, &mut Failing { left: 10 }, true, &mut out);
+    let ended = run_view(
+        alloc,
+        &mut network,
+        &mut Failing { left: 10 },
+        true,
+        &mut out,
+    );
     assert!(rt; ended == Err(ViewFault::ReadReport));
     assert!(rt; out.is_empty());
 }
@@ -74,6 +88,12 @@ fn a_writer_that_is_full(rt: HostRuntime) {
     let mut room = [0u8; 20];
     let mut network = NETWORK;
     let mut report = REPORT;
-    let ended = run_view(rt.alloc(), &mut network, &mut report, true, &mut room.as_mut_slice());
+    let ended = run_view(
+        rt.alloc(),
+        &mut network,
+        &mut report,
+        true,
+        &mut room.as_mut_slice(),
+    );
     assert!(rt; ended == Err(ViewFault::Write));
 }
