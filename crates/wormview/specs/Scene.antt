@@ -1,7 +1,7 @@
 -- What a report shows of a network, place by place.
-use Rattle.std.specs.Prelude.{ℕ, ◌&&◌, Bool, true, false, not, ◌==◌, List, [], ◌∷◌, ◌++◌, map, Option, Some, None}
+use Rattle.std.specs.Prelude.{ℕ, ◌&&◌, Bool, true, false, not, ◌==◌, List, ◌++◌, map, Option, Some, None}
 use Rattle.std.specs.Option.{option_map}
-use Rattle.std.specs.List.{filter, filter_map, list_any}
+use Rattle.std.specs.List.{filter, filter_map}
 use Rattle.worm_mesh.specs.Address.{neighbour_of, opposite_of}
 use Rattle.worm_core.specs.declared.view.Place.{Place}
 use Rattle.worm_core.specs.declared.view.Place.TheVariants.{Source, Buffer, Link}
@@ -21,7 +21,8 @@ spot_at on_link node port vc = record { node = node; port = port; vc = vc; on_li
 abbrev pub spot_of : List ℕ → Place → Option Spot
 spot_of mesh Source = None
 spot_of mesh (Buffer node port vc) = Some (spot_at false node port vc)
-spot_of mesh (Link node port vc) = option_map (λ to. spot_at true to (opposite_of port) vc) (neighbour_of mesh node port)
+spot_of mesh (Link node port vc) =
+    option_map (λ to. spot_at true to (opposite_of port) vc) (neighbour_of mesh node port)
 
 abbrev pub flit_at : PacketId → ℕ → Spot → Flit
 flit_at packet index spot = record { packet = packet; index = index; spot = spot }
@@ -44,7 +45,9 @@ same true b = b
 same false b = not b
 
 abbrev pub is_on : Spot → Flit → Bool
-is_on spot flit = (flit.spot.node == spot.node) && ((flit.spot.port == spot.port) && ((flit.spot.vc == spot.vc) && same flit.spot.on_link spot.on_link))
+is_on spot flit =
+    (flit.spot.node == spot.node) && ((flit.spot.port == spot.port)
+    && ((flit.spot.vc == spot.vc) && same flit.spot.on_link spot.on_link))
 
 abbrev pub flits_on : Spot → List Flit → List Flit
 flits_on spot flits = filter (is_on spot) flits

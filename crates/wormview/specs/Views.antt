@@ -18,7 +18,7 @@ pub record IsShapeOf (n : Network) (s : Shape) : Type 0 where
   pub classes : s.classes ≡ length n.classes
   pub channels : s.channels ≡ sum n.channels
 
--- The network text is accepted and says n, and the report is the text of these rows, a report of a network of that shape.
+-- The network text is accepted and says n; the report is the text of these rows, a report of a network of that shape.
 pub record IsAccepted (network report : List ℕ) (n : Network) (s : Shape) (rows : List Row) : Type 0 where
   pub format : Format
   pub keeps : Keeps format n
@@ -30,6 +30,7 @@ pub record IsAccepted (network report : List ℕ) (n : Network) (s : Shape) (row
 -- The fault of the network text, and else that of the report, held against the shape of the network.
 abbrev pub IsRefused : List ℕ → List ℕ → ViewFault → Type 0
 IsRefused network report (f.Network t) = network_of network ≡ Err t
-IsRefused network report (f.Report t) = (n : Network) × (s : Shape) × (network_of network ≡ Ok n) × IsShapeOf n s × (report_of s report ≡ Err t)
+IsRefused network report (f.Report t) =
+    (n : Network) × (s : Shape) × (network_of network ≡ Ok n) × IsShapeOf n s × (report_of s report ≡ Err t)
 IsRefused network report f.NoMemory = Unit {0}
 IsRefused network report _ = ⊥

@@ -9,7 +9,8 @@ const MARGIN: u32 = 16;
 /// The room between two nodes.
 const GAP: u32 = 30;
 
-/// The sizes of a node of the picture. A node is a square about its middle; its core is where flits pass from port to port; at each
+/// The sizes of a node of the picture. A node is a square about its middle; its core is where flits pass from port to
+/// port; at each
 /// side of the core is a strip with the buffers of a port.
 #[derive(Clone, Copy, Debug, PartialEq, Eq)]
 pub struct Layout {

@@ -35,19 +35,34 @@ const STYLE: &str = "<style>
 
 const NOTES: &str =
     "<text class=\"note\" x=\"10\" y=\"14\">Flits, one colour and mark a packet:</text>
-<use href=\"#opening\" x=\"245\" y=\"10\" fill=\"#56B4E9\"/><text class=\"note\" x=\"256\" y=\"14\">opening</text>
-<use href=\"#body\" x=\"320\" y=\"10\" fill=\"#56B4E9\"/><text class=\"note\" x=\"331\" y=\"14\">body</text>
-<use href=\"#tail\" x=\"375\" y=\"10\" fill=\"#56B4E9\"/><text class=\"note\" x=\"386\" y=\"14\">tail</text>
-<use href=\"#single\" x=\"420\" y=\"10\" fill=\"#56B4E9\"/><text class=\"note\" x=\"431\" y=\"14\">whole packet or close mark</text>
-<text class=\"note\" x=\"10\" y=\"36\">Buffers stand where flits come in, the front towards the middle of the node; below on the left what is injected.</text>
-<rect class=\"slots\" x=\"10\" y=\"47\" width=\"24\" height=\"12\"/><text class=\"note\" x=\"40\" y=\"58\">a channel of a buffer</text>
-<rect class=\"full\" x=\"190\" y=\"47\" width=\"24\" height=\"12\"/><text class=\"note\" x=\"220\" y=\"58\">a full one</text>
-<rect class=\"n0\" x=\"310\" y=\"45\" width=\"15\" height=\"15\"/><rect class=\"n1\" x=\"328\" y=\"45\" width=\"15\" height=\"15\"/>
-<rect class=\"n2\" x=\"346\" y=\"45\" width=\"15\" height=\"15\"/><rect class=\"n3\" x=\"364\" y=\"45\" width=\"15\" height=\"15\"/>
-<rect class=\"n4\" x=\"382\" y=\"45\" width=\"15\" height=\"15\"/><text class=\"note\" x=\"402\" y=\"58\">how full a node's buffers are: none to over 3/4</text>
-<path class=\"holds\" stroke=\"#0072B2\" d=\"M10,76L34,76\"/><text class=\"note\" x=\"40\" y=\"80\">the way that a packet holds: its opening went there</text>
-<path class=\"wants\" stroke=\"#0072B2\" d=\"M400,76L424,76\"/><text class=\"note\" x=\"430\" y=\"80\">the way that an opening at a front wants</text>
-<text class=\"note\" x=\"10\" y=\"102\"><tspan font-weight=\"bold\">27</tspan> the node's number; <tspan>+3</tspan> flits wait in its source; <tspan text-decoration=\"underline\">5</tspan> flits were delivered to it. Hover over a flit, or a count, to read what it is.</text>
+<use href=\"#opening\" x=\"245\" y=\"10\" fill=\"#56B4E9\"/>
+<text class=\"note\" x=\"256\" y=\"14\">opening</text>
+<use href=\"#body\" x=\"320\" y=\"10\" fill=\"#56B4E9\"/>
+<text class=\"note\" x=\"331\" y=\"14\">body</text>
+<use href=\"#tail\" x=\"375\" y=\"10\" fill=\"#56B4E9\"/>
+<text class=\"note\" x=\"386\" y=\"14\">tail</text>
+<use href=\"#single\" x=\"420\" y=\"10\" fill=\"#56B4E9\"/>
+<text class=\"note\" x=\"431\" y=\"14\">whole packet or close mark</text>
+<text class=\"note\" x=\"10\" y=\"36\">Buffers stand where flits come in, the front towards the middle of the node;
+below on the left what is injected.</text>
+<rect class=\"slots\" x=\"10\" y=\"47\" width=\"24\" height=\"12\"/>
+<text class=\"note\" x=\"40\" y=\"58\">a channel of a buffer</text>
+<rect class=\"full\" x=\"190\" y=\"47\" width=\"24\" height=\"12\"/>
+<text class=\"note\" x=\"220\" y=\"58\">a full one</text>
+<rect class=\"n0\" x=\"310\" y=\"45\" width=\"15\" height=\"15\"/>
+<rect class=\"n1\" x=\"328\" y=\"45\" width=\"15\" height=\"15\"/>
+<rect class=\"n2\" x=\"346\" y=\"45\" width=\"15\" height=\"15\"/>
+<rect class=\"n3\" x=\"364\" y=\"45\" width=\"15\" height=\"15\"/>
+<rect class=\"n4\" x=\"382\" y=\"45\" width=\"15\" height=\"15\"/>
+<text class=\"note\" x=\"402\" y=\"58\">how full a node's buffers are: none to over 3/4</text>
+<path class=\"holds\" stroke=\"#0072B2\" d=\"M10,76L34,76\"/>
+<text class=\"note\" x=\"40\" y=\"80\">the way that a packet holds: its opening went there</text>
+<path class=\"wants\" stroke=\"#0072B2\" d=\"M400,76L424,76\"/>
+<text class=\"note\" x=\"430\" y=\"80\">the way that an opening at a front wants</text>
+<text class=\"note\" x=\"10\" y=\"102\"><tspan font-weight=\"bold\">27</tspan> the node's number;
++3 flits wait in its source;
+<tspan text-decoration=\"underline\">5</tspan> flits were delivered to it.
+Hover over a flit, or a count, to read what it is.</text>
 ";
 
 /// How things look, and the shapes of flits.
@@ -73,7 +88,7 @@ pub fn add_heading(svg: &mut Svg, rows: &[Row], moving: u32) -> Result<(), Alloc
                 underway,
             } => write!(
                 svg.text,
-                ": {delivered} flits delivered, {underway} under way; {moving} packets in the network"
+                ": {delivered} flits delivered, {underway} under way; packets in the network: {moving}"
             )?,
             _ => {}
         }

@@ -1,9 +1,12 @@
 //! The program `wormview`: a report of `wormrun` on the standard input and the file of its network in, a picture out.
 //!
-//! The picture is SVG; with `--text` it is a map for a terminal. A fault is one line on the standard error and a status.
+//! The picture is SVG; with `--text` it is a map for a terminal. A fault is one line on the standard error and a
+//! status.
 //!
-//! That the report is read as what it says is proved (`worm_rows`), and which flits are seen at which node, and on which link to it
-//! (`specs/Scene`). Not proved is what is drawn of them: colours, shapes, lines and the layout, nor the text of the map.
+//! That the report is read as what it says is proved (`worm_rows`), and which flits are seen at which node, and on
+//! which link to it
+//! (`specs/Scene`). Not proved is what is drawn of them: colours, shapes, lines and the layout, nor the text of the
+//! map.
 #![tactic(auto)]
 
 ghost use Rattle.std.specs.Prelude.{◌≡◌};
@@ -56,7 +59,8 @@ fn end<R: Eprint>(rt: &R, ended: Result<(), ViewFault>) -> ExitCode
     }
 }
 
-/// Says what is wrong with the words on the standard error, or on the standard output what they ask for, and gives the status.
+/// Says what is wrong with the words on the standard error, or on the standard output what they ask for, and gives the
+/// status.
 fn refuse<R: Print + Eprint>(rt: &R, fault: WordsFault) -> ExitCode
     ensures { exit_status result ≡ words_status fault }
 {

@@ -178,7 +178,8 @@ impl<'a> Scene<'a> {
     }
 }
 
-/// The map of these rows: a cell a node, with the flits in its buffers and where they go (`<` `>` along the first dimension, `^` `v`
+/// The map of these rows: a cell a node, with the flits in its buffers and where they go (`<` `>` along the first
+/// dimension, `^` `v`
 /// along the second, `-` `+` along the third, `*` to the sink), and the fullest buffers.
 pub fn map(alloc: Global, shape: &Shape, depth: u8, rows: &[Row]) -> Result<String, AllocError> {
     let packets = Packets::of(alloc, rows)?;

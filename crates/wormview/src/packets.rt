@@ -8,7 +8,8 @@ use worm_rows::{Load, PacketId, Row};
 /// What is known of a packet.
 #[derive(Clone, Copy, Debug, PartialEq, Eq, Drop)]
 pub struct Packet {
-    /// The greatest index of its flits in the report. A packet is injected whole and loses no flit, so this is its tail.
+    /// The greatest index of its flits in the report. A packet is injected whole and loses no flit, so this is its
+    /// tail.
     pub last: u8,
     /// Its number among the packets with a flit in a buffer or on a link, in the report's order.
     pub number: Option<u32>,

@@ -160,7 +160,8 @@ impl<'a> Scene<'a> {
         )
     }
 
-    /// The way of the flit at the front of a buffer through the core: a line in its packet's colour to the port that it leaves by, and
+    /// The way of the flit at the front of a buffer through the core: a line in its packet's colour to the port that
+    /// it leaves by, and
     /// along the link where its packet holds it.
     fn add_way(&self, svg: &mut Svg, flit: &Flit, y: u32) -> Result<(), AllocError> {
         let mesh = &self.shape.mesh;
@@ -243,7 +244,8 @@ impl<'a> Scene<'a> {
         svg.close()
     }
 
-    /// The number of a node, how many flits wait in its source and how many it was delivered, each with what it stands for.
+    /// The number of a node, how many flits wait in its source and how many it was delivered, each with what it stands
+    /// for.
     fn add_counts(&self, svg: &mut Svg, node: u8) -> Result<(), AllocError> {
         let waiting = queued(self.rows, node);
         let arrived = delivered(self.rows, node);
@@ -441,6 +443,9 @@ impl<'a> Scene<'a> {
     }
 }
 
+/// The width that the legend takes.
+const NARROWEST: u32 = 780;
+
 /// The room above the mesh.
 const HEADING: u32 = 40;
 
@@ -484,7 +489,7 @@ pub fn picture(
     };
     let mut svg = Svg::new(alloc);
     let (mesh_width, mesh_height) = scene.size();
-    let width = mesh_width.max(640);
+    let width = mesh_width.max(NARROWEST);
     let foot = mesh_height.saturating_add(HEADING);
     let height = foot.saturating_add(LEGEND);
     writeln!(

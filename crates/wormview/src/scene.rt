@@ -204,8 +204,10 @@ fn in_order(alloc: Global, parted: &[Parted]) -> Result<Vec<Flit>, AllocError>
     Ok(sorted)
 }
 
-/// The flits at a spot, the front first as far as a report tells: it lists a spot's flits by lane. Packets do not mix in a channel,
-/// so one whose opening went on is at the front, and one whose tail is to come at the back; between whole packets of several lanes
+/// The flits at a spot, the front first as far as a report tells: it lists a spot's flits by lane. Packets do not mix
+/// in a channel,
+/// so one whose opening went on is at the front, and one whose tail is to come at the back; between whole packets of
+/// several lanes
 /// the report's order stands.
 pub fn front_first(
     alloc: Global,
