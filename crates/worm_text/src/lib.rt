@@ -20,6 +20,7 @@ mod network;
 mod traffic;
 
 pub use fault::{TextFault, Why};
+pub use fields::{Fields, cut_first};
 pub use format::Format;
 pub use network::read_network;
 pub use traffic::read_traffic;

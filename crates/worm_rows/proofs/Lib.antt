@@ -1,0 +1,7 @@
+pub mod Steps
+pub mod Packets
+pub mod RowLaws
+pub mod Order
+pub mod Readings
+pub mod Loop
+pub mod Same

@@ -1,0 +1,30 @@
+use Rattle.std.proofs.Common.{◌≡◌, ◌*◌, ℕ, List, [], ◌∷◌, length, fold, sym, subst, ◌∙◌, arith, inl, inr}
+use Rattle.std.proofs.Math.Nat.{mul_assoc, mul-one, one-mul}
+use Rattle.worm_mesh.specs.Address.{node_count, IsMesh}
+use Rattle.worm_mesh.specs.Faults.{IsFault}
+use Rattle.worm_mesh.specs.declared.mesh.MeshFault.{MeshFault}
+use Rattle.worm_mesh.specs.declared.mesh.MeshFault.TheVariants.{Radix, Dims, TooManyNodes}
+use Rattle.worm_text.specs.declared.format.Format.{Format}
+use Rattle.worm_text.specs.Network.{Network, Keeps, nodes_of, view}
+use Rattle.worm_rows.proofs.shape.Shape.of.Goals as goal
+
+-- the product from the left is the product from the right
+product : (a : ℕ) (radices : List ℕ) → fold ◌*◌ a radices ≡ a * node_count radices
+product a [] = sym (mul-one a)
+product a (k ∷ radices) = product (a * k) radices ∙ mul_assoc a k (node_count radices)
+
+all_nodes : (radices : List ℕ) → nodes_of radices ≡ node_count radices
+all_nodes radices = product 1 radices ∙ one-mul (node_count radices)
+
+kept_mesh : (format : Format) (n : Network) → Keeps format n → IsMesh n.radices
+kept_mesh format n kept =
+    record { some_dims = omega (arith, kept.mesh.dims.0); few_dims = kept.mesh.dims.1; radices = kept.mesh.each; few_nodes = omega (arith, kept.mesh.nodes, all_nodes n.radices) }
+
+no_fault : (ks : List ℕ) (fault : MeshFault) → IsMesh ks → IsFault ks fault → ⊥
+no_fault ks Radix m h = h m.radices
+no_fault ks Dims m h = elim h.1 [ inl z ↦ omega (arith, m.some_dims, z) | inr z ↦ omega (arith, m.few_dims, z) ]
+no_fault ks TooManyNodes m h = omega (arith, h.3, m.few_nodes)
+
+pub unreachable-requires : goal.unreachable-requires
+unreachable-requires c =
+    no_fault c.args.config.now.radices.items c.in-Err.field-0 (kept_mesh c.requires.0 (view c.args.config.now) c.requires.1) (subst (λ ks. IsFault ks c.in-Err.field-0) c.as_slice.ensures.value c.in-Err.ensures)

@@ -1,0 +1,5 @@
+pub mod Rows
+pub mod Rules
+pub mod Reading
+pub mod Report
+pub mod Written

@@ -1,0 +1,74 @@
+//! The text of a report, line by line.
+
+ghost use Rattle.std.specs.Prelude.{◌≡◌, ◌⊎◌, List, map, Ok, IfOk, IfErr};
+ghost use Rattle.worm_rows.specs.declared.rows.Row.{Row};
+ghost use Rattle.worm_rows.specs.Rows.{rows_text};
+ghost use Rattle.worm_rows.specs.Rules.{IsReport};
+ghost use Rattle.worm_report.specs.declared.row.Row as printed;
+ghost use Rattle.worm_report.specs.Rows as printing;
+ghost use Rattle.worm_rows.specs.Written.{row_of, AreSummed};
+ghost use Rattle.worm_rows.specs.Report.{report_of, AnswersOrFull, RanOut, IsReportFaultLine};
+
+use crate::lines::judge;
+use crate::rows::Row;
+use crate::shape::Shape;
+use crate::standing::Standing;
+use std::alloc::Global;
+use worm_text::{TextFault, Why, cut_first};
+
+/// Line after line, up to the first fault.
+fn read_rows(alloc: Global, bytes: &[u8], shape: &Shape) -> Result<Vec<Row>, TextFault>
+    ensures { AnswersOrFull (λ v. v.items) (RanOut shape.now bytes.now) result (report_of shape.now bytes.now) }
+{
+    let mut rows = Vec::new(alloc);
+    let mut standing = Standing::start();
+    let mut line = 1;
+    let mut rest = bytes;
+    while let Some((front, after)) = cut_first(rest, b'\n') {
+        let row = match judge(shape, &standing, front) {
+            Ok(row) => row,
+            Err(why) => return Err(TextFault { line, why }),
+        };
+        if rows.push(row).is_err() {
+            return Err(TextFault {
+                line,
+                why: Why::NoMemory,
+            });
+        }
+        standing = standing.behind(&row);
+        line += 1;
+        rest = after;
+    }
+    if standing.next != 7 {
+        return Err(TextFault {
+            line,
+            why: Why::NoEnd,
+        });
+    }
+    if !rest.is_empty() {
+        return Err(TextFault {
+            line,
+            why: Why::AfterEnd,
+        });
+    }
+    Ok(rows)
+}
+
+/// Reads the text of a report of a network of this shape. `NoMemory`, at the line of a row, where there was no room for it.
+///
+/// `Range` is the fault of a place that the network does not have, and of sums that are not those of the rows.
+pub fn read_report(alloc: Global, bytes: &[u8], shape: &Shape) -> Result<Vec<Row>, TextFault>
+    // What is read is the text of what is answered.
+    ensures found { IfOk result (λ rows. IsReport shape.now rows.items × (bytes.now ≡ rows_text rows.items)) }
+    // Each such text is read, unless memory runs out.
+    ensures only { (rows : List Row) → IsReport shape.now rows → bytes.now ≡ rows_text rows → AnswersOrFull (λ v. v.items) (RanOut shape.now bytes.now) result (Ok rows) }
+    // So is the text that a report was written as.
+    ensures written { (rows : List printed.Row) → AreSummed rows → IsReport shape.now (map row_of rows) → bytes.now ≡ printing.rows_text rows → AnswersOrFull (λ v. v.items) (RanOut shape.now bytes.now) result (Ok (map row_of rows)) }
+    // The line of a fault is one more than the longest run of finished lines with which some report begins; memory runs out at the
+    // line of a row.
+    ensures line { IfErr result (λ fault. RanOut shape.now bytes.now fault ⊎ IsReportFaultLine shape.now bytes.now fault.line) }
+    // Which fault it is.
+    ensures exact { AnswersOrFull (λ v. v.items) (RanOut shape.now bytes.now) result (report_of shape.now bytes.now) }
+{
+    read_rows(alloc, bytes, shape)
+}

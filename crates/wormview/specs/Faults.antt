@@ -1,0 +1,35 @@
+-- The line that the program says of a fault on the standard error, and the status that it ends with.
+use Rattle.std.specs.Prelude.{ℕ, List, ◌++◌, codes, decimal, Result, Ok, Err}
+use Rattle.worm_text.specs.Faults.{words_of}
+use Rattle.wormview.specs.declared.fault.ViewFault.{ViewFault}
+use Rattle.wormview.specs.declared.fault.ViewFault.TheVariants as f
+use Rattle.wormview.specs.declared.words.WordsFault.{WordsFault}
+use Rattle.wormview.specs.declared.words.WordsFault.TheVariants as w
+
+abbrev pub line_of : ViewFault → List ℕ
+line_of (f.Network t) = codes "wormview: network line " ++ (decimal t.line ++ (codes ": " ++ words_of t.why))
+line_of (f.Report t) = codes "wormview: report line " ++ (decimal t.line ++ (codes ": " ++ words_of t.why))
+line_of f.ReadNetwork = codes "wormview: cannot read network"
+line_of f.ReadReport = codes "wormview: cannot read report"
+line_of f.NoMemory = codes "wormview: out of memory"
+line_of f.Write = codes "wormview: picture not written"
+
+abbrev pub status_of : ViewFault → ℕ
+status_of (f.Network t) = 3
+status_of (f.Report t) = 4
+status_of f.ReadNetwork = 5
+status_of f.ReadReport = 5
+status_of f.NoMemory = 6
+status_of f.Write = 8
+
+-- 0 where the whole picture is out
+abbrev pub ended_status : Result (Unit {0}) ViewFault → ℕ
+ended_status (Ok _) = 0
+ended_status (Err fault) = status_of fault
+
+-- help and version were asked for; words that are not those that the program knows, or no text, are the user's fault
+abbrev pub words_status : WordsFault → ℕ
+words_status (w.Asked answer) = 0
+words_status (w.Words error) = 2
+words_status w.NotText = 2
+words_status w.NoMemory = 6

@@ -1,0 +1,36 @@
+-- What is drawn, and why nothing is.
+use Rattle.std.specs.Prelude.{◌≡◌, ℕ, List, length, sum, Result, Ok, Err}
+use Rattle.worm_core.specs.declared.config.Config.{Config}
+use Rattle.worm_text.specs.declared.format.Format.{Format}
+use Rattle.worm_text.specs.Network.{Network, Keeps, text, view}
+use Rattle.worm_text.specs.Reader.{network_of}
+use Rattle.worm_rows.specs.declared.shape.Shape.{Shape}
+use Rattle.worm_rows.specs.declared.rows.Row.{Row}
+use Rattle.worm_rows.specs.Rows.{rows_text}
+use Rattle.worm_rows.specs.Rules.{IsReport}
+use Rattle.worm_rows.specs.Report.{report_of}
+use Rattle.wormview.specs.declared.fault.ViewFault.{ViewFault}
+use Rattle.wormview.specs.declared.fault.ViewFault.TheVariants as f
+
+-- the shape of a network
+pub record IsShapeOf (n : Network) (s : Shape) : Type 0 where
+  pub mesh : s.mesh ≡ n.radices
+  pub classes : s.classes ≡ length n.classes
+  pub channels : s.channels ≡ sum n.channels
+
+-- The network text is accepted and says n; the report is the text of these rows, a report of a network of that shape.
+pub record IsAccepted (network report : List ℕ) (n : Network) (s : Shape) (rows : List Row) : Type 0 where
+  pub format : Format
+  pub keeps : Keeps format n
+  pub said : network ≡ text format n
+  pub shape : IsShapeOf n s
+  pub rules : IsReport s rows
+  pub written : report ≡ rows_text rows
+
+-- The fault of the network text, and else that of the report, held against the shape of the network.
+abbrev pub IsRefused : List ℕ → List ℕ → ViewFault → Type 0
+IsRefused network report (f.Network t) = network_of network ≡ Err t
+IsRefused network report (f.Report t) =
+    (n : Network) × (s : Shape) × (network_of network ≡ Ok n) × IsShapeOf n s × (report_of s report ≡ Err t)
+IsRefused network report f.NoMemory = Unit {0}
+IsRefused network report _ = ⊥

@@ -1,0 +1,65 @@
+//! Where things stand in the picture, in units of its user space.
+
+/// The length and the width of a flit's slot.
+pub const SLOT: u32 = 12;
+
+/// What is left between a strip and the border of its node.
+const MARGIN: u32 = 16;
+
+/// The room between two nodes.
+const GAP: u32 = 30;
+
+/// The sizes of a node of the picture. A node is a square about its middle; its core is where flits pass from port to
+/// port; at each
+/// side of the core is a strip with the buffers of a port.
+#[derive(Clone, Copy, Debug, PartialEq, Eq)]
+pub struct Layout {
+    /// The length of a strip: the depth of a buffer.
+    pub long: u32,
+    /// The width of a strip: the channels.
+    pub wide: u32,
+    /// From the middle to the border of the core.
+    pub core: u32,
+    /// From the middle to the border of the node.
+    pub half: u32,
+    /// From the middle of a node to that of the next.
+    pub pitch: u32,
+    ghost few_long: { long ≤ 4000 },
+    ghost few_wide: { wide ≤ 4000 },
+    ghost few_core: { core ≤ 5000 },
+    ghost few_half: { half ≤ 10000 },
+    ghost few_pitch: { pitch ≤ 30000 },
+    ghost nested: { core + long ≤ half },
+    ghost apart: { 2 * half ≤ pitch },
+}
+
+ghost use Rattle.std.specs.Prelude.{◌≤◌, ◌+◌, ◌*◌};
+
+impl Layout {
+    /// The sizes at so many channels, and buffers of this depth.
+    pub fn new(depth: u8, channels: u8) -> Layout {
+        let long = SLOT * u32::from(depth);
+        let wide = SLOT * u32::from(channels);
+        let core = wide + 4;
+        let half = core + long.max(wide) + MARGIN;
+        Layout {
+            long,
+            wide,
+            core,
+            half,
+            pitch: 2 * half + GAP,
+        }
+    }
+
+    /// The middle of a node's row or column.
+    pub fn middle(&self, digit: u8) -> u32 {
+        u32::from(digit)
+            .saturating_mul(self.pitch)
+            .saturating_add(self.pitch / 2)
+    }
+
+    /// From the middle of a node to the strip of the next node, where a link ends.
+    pub fn reach(&self) -> u32 {
+        self.pitch - (self.core + self.long)
+    }
+}

@@ -1,0 +1,104 @@
+//! What stands about the mesh: the style, the heading and the legend.
+
+use crate::svg::Svg;
+use std::alloc::AllocError;
+use std::fmt::Write;
+use worm_rows::Row;
+
+const STYLE: &str = "<style>
+.n0{fill:#fff;stroke:#999}
+.n1{fill:#f2f2f2;stroke:#777}
+.n2{fill:#e0e0e0;stroke:#555}
+.n3{fill:#c8c8c8;stroke:#333}
+.n4{fill:#aaa;stroke:#000}
+.slots{fill:#fff;stroke:#bbb;stroke-width:0.6}
+.full{fill:#fff;stroke:#000;stroke-width:2}
+.link{fill:none;stroke:#bbb;stroke-width:1}
+.holds{fill:none;stroke-width:4;stroke-linejoin:round}
+.wants{fill:none;stroke-width:3;stroke-dasharray:3 3}
+.node{font-size:10px;font-weight:bold;text-anchor:end;fill:#555}
+.count{font-size:10px;fill:#000}
+.done{font-size:10px;fill:#000;text-decoration:underline}
+.head{font-size:16px;font-weight:bold}
+.note{font-size:12px}
+</style>
+<defs>
+<path id=\"opening\" d=\"M-5,-5L0,-5L6,0L0,5L-5,5z\" stroke=\"#000\" stroke-width=\"0.7\"/>
+<rect id=\"body\" x=\"-5\" y=\"-4\" width=\"10\" height=\"8\" stroke=\"#000\" stroke-width=\"0.7\"/>
+<circle id=\"tail\" r=\"4.6\" stroke=\"#000\" stroke-width=\"0.7\"/>
+<path id=\"single\" d=\"M-5,0L0,-5L6,0L0,5z\" stroke=\"#000\" stroke-width=\"0.7\"/>
+<circle id=\"dot\" r=\"2\" fill=\"#fff\"/>
+<circle id=\"ring\" r=\"2\" fill=\"#000\"/>
+<path id=\"bar\" d=\"M0,-4L0,4\" stroke=\"#000\" stroke-width=\"2\"/>
+</defs>
+";
+
+const NOTES: &str =
+    "<text class=\"note\" x=\"10\" y=\"14\">Flits, one colour and mark a packet:</text>
+<use href=\"#opening\" x=\"245\" y=\"10\" fill=\"#56B4E9\"/>
+<text class=\"note\" x=\"256\" y=\"14\">opening</text>
+<use href=\"#body\" x=\"320\" y=\"10\" fill=\"#56B4E9\"/>
+<text class=\"note\" x=\"331\" y=\"14\">body</text>
+<use href=\"#tail\" x=\"375\" y=\"10\" fill=\"#56B4E9\"/>
+<text class=\"note\" x=\"386\" y=\"14\">tail</text>
+<use href=\"#single\" x=\"420\" y=\"10\" fill=\"#56B4E9\"/>
+<text class=\"note\" x=\"431\" y=\"14\">whole packet or close mark</text>
+<text class=\"note\" x=\"10\" y=\"36\">Buffers stand where flits come in, the front towards the middle of the node;
+below on the left what is injected.</text>
+<rect class=\"slots\" x=\"10\" y=\"47\" width=\"24\" height=\"12\"/>
+<text class=\"note\" x=\"40\" y=\"58\">a channel of a buffer</text>
+<rect class=\"full\" x=\"190\" y=\"47\" width=\"24\" height=\"12\"/>
+<text class=\"note\" x=\"220\" y=\"58\">a full one</text>
+<rect class=\"n0\" x=\"310\" y=\"45\" width=\"15\" height=\"15\"/>
+<rect class=\"n1\" x=\"328\" y=\"45\" width=\"15\" height=\"15\"/>
+<rect class=\"n2\" x=\"346\" y=\"45\" width=\"15\" height=\"15\"/>
+<rect class=\"n3\" x=\"364\" y=\"45\" width=\"15\" height=\"15\"/>
+<rect class=\"n4\" x=\"382\" y=\"45\" width=\"15\" height=\"15\"/>
+<text class=\"note\" x=\"402\" y=\"58\">how full a node's buffers are: none to over 3/4</text>
+<path class=\"holds\" stroke=\"#0072B2\" d=\"M10,76L34,76\"/>
+<text class=\"note\" x=\"40\" y=\"80\">the way that a packet holds: its opening went there</text>
+<path class=\"wants\" stroke=\"#0072B2\" d=\"M400,76L424,76\"/>
+<text class=\"note\" x=\"430\" y=\"80\">the way that an opening at a front wants</text>
+<text class=\"note\" x=\"10\" y=\"102\"><tspan font-weight=\"bold\">27</tspan> the node's number;
++3 flits wait in its source;
+<tspan text-decoration=\"underline\">5</tspan> flits were delivered to it.
+Hover over a flit, or a count, to read what it is.</text>
+";
+
+/// How things look, and the shapes of flits.
+pub fn add_style(svg: &mut Svg) -> Result<(), AllocError> {
+    svg.put(STYLE)
+}
+
+/// What run this is, and what came of it.
+pub fn add_heading(svg: &mut Svg, rows: &[Row], moving: u32) -> Result<(), AllocError> {
+    svg.put("<text class=\"head\" x=\"10\" y=\"22\">")?;
+    for row in rows {
+        match row {
+            Row::Options {
+                turns,
+                workers,
+                drain,
+            } => write!(svg.text, "{turns} turns, workers {workers}, drain {drain}")?,
+            Row::Stopped { worker, turn } => {
+                write!(svg.text, ", worker {worker} stopped in turn {turn}")?
+            }
+            Row::Total {
+                delivered,
+                underway,
+            } => write!(
+                svg.text,
+                ": {delivered} flits delivered, {underway} under way; packets in the network: {moving}"
+            )?,
+            _ => {}
+        }
+    }
+    svg.put("</text>\n")
+}
+
+/// What the signs mean, from this height on.
+pub fn add_legend(svg: &mut Svg, y: u32) -> Result<(), AllocError> {
+    svg.open_at(0, y)?;
+    svg.put(NOTES)?;
+    svg.close()
+}

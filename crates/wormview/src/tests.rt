@@ -1,0 +1,99 @@
+//! The program on worked reports, with readers and writers that fail.
+
+use crate::fault::ViewFault;
+use crate::map::map;
+use crate::program::{accept, run_view};
+use std::alloc::Global;
+use std::io;
+use std::io::{ErrorKind, Read, Write};
+use worm_text::{TextFault, Why};
+
+const NETWORK: &[u8] = b"wormnet 1\nradix 2\ndims 1\ndepth 2\nclass data\nend\n";
+
+const REPORT: &[u8] =
+    b"wormreport 1\nturns 1 workers 1 drain 0\nunderway 1 0 class 0 packet 0 flit 0 link 1 0 0\nunderway 1 0 class 0 packet 0 flit 1 buffer 1 2 0\nunderway 1 0 class 0 packet 1 flit 0 source\nnot offered 0\ntotal injected 3 delivered 0 underway 3\n";
+
+/// A reader that fails behind so many bytes.
+#[derive(Drop)]
+struct Failing {
+    left: usize,
+}
+
+impl Read for Failing {
+    fn read(&mut self, buf: &mut [u8]) -> io::Result<usize> {
+        if self.left == 0 {
+            return Err(io::Error::from(ErrorKind::UnexpectedEof));
+        }
+        let count = self.left.min(buf.len());
+        self.left -= count;
+        Ok(count)
+    }
+}
+
+fn map_of(alloc: Global) -> Option<String> {
+    let accepted = accept(alloc, NETWORK, REPORT).ok()?;
+    map(alloc, &accepted.shape, 2, accepted.rows.as_slice()).ok()
+}
+
+#[test]
+fn a_map(rt: HostRuntime) {
+    let wanted =
+        "   .      1<  \n\nThe fullest buffers:\nnode 1 port 2 channel 0: 1 flits, at the front 1 to 0 class 0 packet 0 flit 1, which leaves by port 0 <\n";
+    assert!(rt; map_of(rt.alloc()).is_some_and(|map| map.as_str() == wanted));
+}
+
+#[test]
+fn faults(rt: HostRuntime) {
+    let alloc = rt.alloc();
+    let mut out = Vec::new(alloc);
+    let fault = TextFault {
+        line: 1,
+        why: Why::NoEnd,
+    };
+    let ended = run_view(alloc, &mut [].as_slice(), &mut REPORT, false, &mut out);
+    assert!(rt; ended == Err(ViewFault::Network(fault)));
+    let mut network = NETWORK;
+    let ended = run_view(alloc, &mut network, &mut [].as_slice(), false, &mut out);
+    assert!(rt; ended == Err(ViewFault::Report(fault)));
+    assert!(rt; out.is_empty());
+}
+
+#[test]
+fn readers_that_fail(rt: HostRuntime) {
+    let alloc = rt.alloc();
+    let mut out = Vec::new(alloc);
+    let mut report = REPORT;
+    let ended = run_view(
+        alloc,
+        &mut Failing { left: 10 },
+        &mut report,
+        false,
+        &mut out,
+    );
+    assert!(rt; ended == Err(ViewFault::ReadNetwork));
+    let mut network = NETWORK;
+    let ended = run_view(
+        alloc,
+        &mut network,
+        &mut Failing { left: 10 },
+        true,
+        &mut out,
+    );
+    assert!(rt; ended == Err(ViewFault::ReadReport));
+    assert!(rt; out.is_empty());
+}
+
+#[test]
+fn a_writer_that_is_full(rt: HostRuntime) {
+    let mut room = [0u8; 20];
+    let mut network = NETWORK;
+    let mut report = REPORT;
+    let ended = run_view(
+        rt.alloc(),
+        &mut network,
+        &mut report,
+        true,
+        &mut room.as_mut_slice(),
+    );
+    assert!(rt; ended == Err(ViewFault::Write));
+}

@@ -1,0 +1,95 @@
+//! The words of the command line.
+
+use clap::error::ErrorKind;
+use clap::{Arg, ArgAction, Command, Error};
+use std::alloc::{AllocError, Global};
+use std::io;
+use std::rt::Env;
+
+/// What the words of the command line say.
+#[derive(Drop, Debug)]
+pub struct Words<'a> {
+    /// The file of the network text.
+    pub network: &'a str,
+    /// Whether a map for a terminal is wanted, in place of a picture.
+    pub text: bool,
+}
+
+/// Why the words were not read.
+#[derive(Drop, Debug)]
+pub enum WordsFault {
+    /// They ask for help, or for the version.
+    Asked(Error),
+    /// They are not those that the program knows.
+    Words(Error),
+    /// One of them is not UTF-8.
+    NotText,
+    /// There was no memory.
+    NoMemory,
+}
+
+impl From<AllocError> for WordsFault {
+    fn from(_error: AllocError) -> WordsFault {
+        WordsFault::NoMemory
+    }
+}
+
+impl From<Error> for WordsFault {
+    fn from(error: Error) -> WordsFault {
+        match error.kind() {
+            ErrorKind::OutOfMemory => WordsFault::NoMemory,
+            ErrorKind::DisplayHelp | ErrorKind::DisplayVersion => WordsFault::Asked(error),
+            _ => WordsFault::Words(error),
+        }
+    }
+}
+
+impl From<io::Error> for WordsFault {
+    fn from(error: io::Error) -> WordsFault {
+        if error.kind() == io::ErrorKind::OutOfMemory {
+            WordsFault::NoMemory
+        } else {
+            WordsFault::NotText
+        }
+    }
+}
+
+/// All words of the command line, the program's name first.
+pub fn all_words<R: Env + AllocGlobal>(rt: &R) -> Result<Vec<String>, WordsFault> {
+    let words = std::env::args(rt)?.collect::<Vec<String>>(rt.alloc())?;
+    Ok(words)
+}
+
+fn command<'a>(alloc: Global) -> Result<Command<'a>, AllocError> {
+    let network = Arg::new(alloc, "NETWORK")
+        .required(true)
+        .help("the file of the network text that the report is of")
+        .action(ArgAction::Set);
+    let text = Arg::new(alloc, "text")
+        .long("text")
+        .help("print a map for a terminal, and not an SVG picture")
+        .action(ArgAction::SetTrue);
+    Command::new(alloc, "wormview")
+        .version("1")
+        .about(
+            "Reads a report of wormrun on the standard input and draws it on the standard output",
+        )
+        .arg(network)?
+        .arg(text)
+}
+
+/// Reads the words, the program's name first: `NETWORK [--text]`, in any order, or `--help` or `--version`.
+pub fn read_words<'a>(alloc: Global, words: &'a [&'a str]) -> Result<Words<'a>, WordsFault> {
+    let mut command = command(alloc)?;
+    let matches = command.try_get_matches_from_mut(words)?;
+    match matches.get_str("NETWORK") {
+        Some(network) => Ok(Words {
+            network,
+            text: matches.get_flag("text"),
+        }),
+        None => Err(WordsFault::from(command.error(
+            ErrorKind::MissingRequiredArgument,
+            "a file of a network is wanted",
+        )?)),
+    }
+}
