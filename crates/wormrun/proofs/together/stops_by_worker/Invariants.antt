@@ -4,4 +4,7 @@ use Rattle.wormrun.specs.Together.{stop_turn}
 use Rattle.wormrun.proofs.together.stops_by_worker.Given as goal
 
 abbrev pub invariant-loop-worker : goal.invariant-loop-worker
-invariant-loop-worker l = (w : ℕ) → w < l.worker → slice_index_or l.table w None ≡ stop_turn l.stops w
+invariant-loop-worker l = record {
+  all : length l.table ≡ 16;
+  done : (w : ℕ) → w < l.worker → slice_index_or l.table w None ≡ stop_turn l.stops w;
+}
