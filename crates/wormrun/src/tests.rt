@@ -7,3 +7,4 @@ mod runs;
 mod whole;
 mod words;
 mod worked;
+mod workers;

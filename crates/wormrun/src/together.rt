@@ -61,12 +61,7 @@ fn lack_memory(stops: &[Stop]) -> bool
 }
 
 /// The drain where nobody was stopped; else nothing, and want of memory is told.
-fn drain_unstopped(
-    alloc: Global,
-    net: &mut Net,
-    stops: &[Stop],
-    most: u64,
-) -> Option<StepFault>
+fn drain_unstopped(alloc: Global, net: &mut Net, stops: &[Stop], most: u64) -> Option<StepFault>
     ensures { DrainsUnstopped most stops.now net.old result net.new }
 {
     if stops.is_empty() {

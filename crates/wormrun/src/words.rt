@@ -110,7 +110,9 @@ fn words_in<'a>(matches: &ArgMatches<'a>) -> Option<Words<'a>>
     ensures { IfSome result (λ w. InRange w.options) }
 {
     let turns = matches.get_one::<u64>("turns").filter(|t| *t <= 1_000_000)?;
-    let workers = matches.get_one::<usize>("workers").filter(|w| 1 <= *w && *w <= 16)?;
+    let workers = matches
+        .get_one::<usize>("workers")
+        .filter(|w| 1 <= *w && *w <= 16)?;
     let drain = matches.get_one::<u64>("drain").filter(|d| *d <= 1_000_000)?;
     Some(Words {
         network: matches.get_str("NETWORK")?,

@@ -57,6 +57,25 @@ fn two_files_are_run(rt: HostRuntime) {
     ends(&rt, rt.alloc(), words, 0, "n\nt\n", A_HUNDRED_TURNS, "");
 }
 
+const TWO_WORKERS: &str =
+    "wormreport 1\nturns 1 workers 2 drain 1000\ndelivered 1 from 0 class 0 packet 0 flit 0 word 17\ndelivered 1 from 0 class 0 packet 0 flit 1 word 18\nnot offered 0\ntotal injected 2 delivered 2 underway 0\n";
+
+#[test]
+fn two_workers_run_two_files(rt: HostRuntime) {
+    let words: &[&[u8]] = &[
+        b"wormrun",
+        b"n",
+        b"t",
+        b"--turns",
+        b"1",
+        b"--workers",
+        b"2",
+        b"--drain",
+        b"1000",
+    ];
+    ends(&rt, rt.alloc(), words, 0, "n\nt\n", TWO_WORKERS, "");
+}
+
 #[test]
 fn no_words_run_the_joined_input(rt: HostRuntime) {
     ends(&rt, rt.alloc(), &[b"wormrun"], 0, "", A_HUNDRED_TURNS, "");

@@ -41,7 +41,7 @@ fn words_are_read(rt: HostRuntime) {
         "--drain",
         "1000000",
         "n",
-        "--workers=1",
+        "--workers=16",
         "t",
         "--turns",
         "0",
@@ -53,7 +53,7 @@ fn words_are_read(rt: HostRuntime) {
                 options,
                 Options {
                     turns: 0,
-                    workers: 1,
+                    workers: 16,
                     drain: 1_000_000
                 }
             );
@@ -85,7 +85,7 @@ fn wrong_words_are_refused(rt: HostRuntime) {
     refuses(
         &rt,
         alloc,
-        &["wormrun", "n", "t", "--turns", "1", "--workers", "2"],
+        &["wormrun", "n", "t", "--turns", "1", "--workers", "17"],
     );
     refuses(
         &rt,
