@@ -9,6 +9,15 @@ const MARGIN: u32 = 16;
 /// The room between two nodes.
 const GAP: u32 = 30;
 
+/// The width that the legend takes.
+pub const NARROWEST: u32 = 780;
+
+/// The room above the mesh.
+pub const HEADING: u32 = 40;
+
+/// The room below the mesh.
+pub const LEGEND: u32 = 150;
+
 /// The sizes of a node of the picture. A node is a square about its middle; its core is where flits pass from port to
 /// port; at each
 /// side of the core is a strip with the buffers of a port.

@@ -2,7 +2,7 @@
 
 ghost use Rattle.std.specs.Prelude.{◌≤◌};
 
-use crate::layout::{Layout, SLOT};
+use crate::layout::{HEADING, LEGEND, Layout, NARROWEST, SLOT};
 use crate::legend::{add_heading, add_legend, add_style};
 use crate::packets::{Packet, Packets};
 use crate::scene::{Flit, Spot, delivered, flits_at, front_first, queued, seen_flits};
@@ -442,15 +442,6 @@ impl<'a> Scene<'a> {
         Ok(())
     }
 }
-
-/// The width that the legend takes.
-const NARROWEST: u32 = 780;
-
-/// The room above the mesh.
-const HEADING: u32 = 40;
-
-/// The room below the mesh.
-const LEGEND: u32 = 150;
 
 /// A digit of a node's address, 0 in a dimension that the mesh does not have.
 pub fn digit(mesh: &Mesh, node: u8, dim: u8) -> u8 {
