@@ -93,9 +93,14 @@ fn written<R: Threads + Wait + Sync, G: Gate + Sync>(
     Ok(out)
 }
 
-/// The text has this line somewhere.
-fn has(text: &[u8], line: &[u8]) -> bool {
-    text.windows(line.len()).any(|part| part == line)
+/// The text has these bytes somewhere.
+fn has(text: &[u8], bytes: &[u8]) -> bool {
+    for at in 0..text.len() {
+        if text[at..].starts_with(bytes) {
+            return true;
+        }
+    }
+    false
 }
 
 const SIXTEEN: &[u8] = b"wormnet 1\nradix 4\ndims 2\ndepth 2\nclass data\nend\n";
