@@ -80,15 +80,15 @@ module _ (mesh channels : List ℕ) where
   picked p some all [] less fine = tt
   picked p some all (e ∷ es) less fine = elim (bool_cases (p e)) [
     | inl passes ↦ rw passes (
-        record {
-          src = fine.0.src;
-          dst = fine.0.dst;
-          class = fine.0.class;
-          open_lane = open_still some all (lane_of e.act) less fine.0.open_lane;
-          may_close = fine.0.may_close;
-        },
-        picked p (some ++ e ∷ []) (all ++ e ∷ []) es (less_both some all e less) fine.1,
-      )
+      record {
+        src = fine.0.src;
+        dst = fine.0.dst;
+        class = fine.0.class;
+        open_lane = open_still some all (lane_of e.act) less fine.0.open_lane;
+        may_close = fine.0.may_close;
+      },
+      picked p (some ++ e ∷ []) (all ++ e ∷ []) es (less_both some all e less) fine.1,
+    )
     | inr fails ↦ rw fails (picked p some (all ++ e ∷ []) es (less_one some all e less) fine.1)
   ]
 
@@ -285,9 +285,9 @@ module _ (mesh channels : List ℕ) where
     one_channel last =
         subst (λ (c : List ℕ). slice_index c (lane_of next.act).class ≤ 1) (sym (has.channels ∙ fits.classes))
         (by_act next.act last fine.may_close) where
-      by_act : (act : Act) → is_close act ≡ true → MayClose channels act → slice_index channels (lane_of act).class ≤ 1
-      by_act (Offer packet) last may = absurd (cc)
-      by_act (Close lane) last may = omega arith
+          by_act : (act : Act) → is_close act ≡ true → MayClose channels act → slice_index channels (lane_of act).class ≤ 1
+          by_act (Offer packet) last may = absurd (cc)
+          by_act (Close lane) last may = omega arith
 
     takes_next : refusal new (lane_of next.act) (is_close next.act) ≡ None
     takes_next = refuses_none new (lane_of next.act) (is_close next.act) is_open one_channel
