@@ -10,6 +10,7 @@ MARK = re.compile(rf"delivered {NUMBER} from {NUMBER} class {NUMBER} packet {NUM
 UNDERWAY = re.compile(rf"underway {NUMBER} {NUMBER} class {NUMBER} packet {NUMBER} flit {NUMBER} "
                       rf"(?:(source)|(buffer|link) {NUMBER} {NUMBER} {NUMBER})")
 NOT_OFFERED = re.compile(rf"not offered {NUMBER}")
+STOPPED = re.compile(rf"stopped worker {NUMBER} turn {NUMBER}")
 TOTAL = re.compile(rf"total injected {NUMBER} delivered {NUMBER} underway {NUMBER}")
 
 
@@ -173,3 +174,45 @@ def judge(run, status, report, errors):
     demand(totals == (injected, len(delivered), len(underway)), f"totals {totals}, injected {injected}, rows {len(delivered)} {len(underway)}")
     demand(run.drain < LARGE_DRAIN or not underway, f"{len(underway)} under way after the drain")
     return injected, len(delivered)
+
+
+def begun_flits(run, stops, most):
+    """What the lanes' entries say, up to the turn in which the source's worker was stopped: without that turn, or with it."""
+    kept = []
+    for entry in run.entries:
+        end = stops.get(entry.lane[0] % run.workers, run.turns)
+        if entry.turn < end or (most and entry.turn == end < run.turns):
+            kept.append(entry)
+    return said_flits(type(run)(run.network, kept, run.turns, run.workers, run.drain))
+
+
+def judge_beginnings(run, report):
+    """Judges the report of a run in which some workers were stopped: each lane holds whole packets of its own, in order,
+    at least those of the turns taken and at most those of the turn stopped in. Answers the stops."""
+    lines = report.split("\n")
+    ended = 2
+    while STOPPED.fullmatch(lines[ended]):
+        ended += 1
+    stops = {int(found[1]): int(found[2]) for found in map(STOPPED.fullmatch, lines[2:ended])}
+    demand(list(stops) == sorted(stops) and all(worker < run.workers for worker in stops), f"stops {stops}")
+    head, delivered, underway, not_offered, totals = parse("\n".join(lines[:2] + lines[ended:]))
+    demand(head == ["wormreport 1", f"turns {run.turns} workers {run.workers} drain {run.drain}"], f"first lines {head}")
+    least, most = begun_flits(run, stops, False), begun_flits(run, stops, True)
+    if not stops and totals == (0, 0, 0):
+        least = {}
+    stamps = defaultdict(set)
+    for lane, flit in delivered:
+        stamps[lane].add(flit[:2])
+    for lane, stamp, _ in underway:
+        stamps[lane].add(stamp)
+    for lane in set(least) | set(stamps):
+        said = [flit for flit in most.get(lane, []) if flit[:2] in stamps[lane]]
+        demand(said == most.get(lane, [])[:len(said)] and len(said) >= len(least.get(lane, [])), f"lane {lane}: {said}")
+        demand(len(said) == len(most.get(lane, [])) or most[lane][len(said)][1] == 0, f"lane {lane}: a packet in part")
+        judge_lane(run.network, lane, said, [flit for held, flit in delivered if held == lane],
+                   [stamp for held, stamp, _ in underway if held == lane])
+    judge_places(run.network, underway)
+    accepted = sum(index == 0 for flits in stamps.values() for _, index in flits)
+    demand(not_offered == len(run.entries) - accepted, f"not offered {not_offered}, accepted {accepted}")
+    demand(totals == (len(delivered) + len(underway), len(delivered), len(underway)), f"totals {totals}")
+    return stops
