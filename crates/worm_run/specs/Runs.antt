@@ -81,8 +81,8 @@ TakesOf (Some Gate) due accepted = accepted ≡ []
 TakesOf (Some OutOfMemory) due accepted = (left : List Entry) × (due ≡ accepted ++ left)
 TakesOf (Some (WasRefused why)) due accepted = (left : List Entry) × (due ≡ accepted ++ left)
 
--- What the source of node x has: what it had, the entries of the turns that its worker ended, in script order, and a first part of
--- those of the turn in which it was stopped.
+-- What the source of node x has: what it had, the entries of the turns that its worker ended, in script order, and a
+-- first part of those of the turn in which it was stopped.
 pub record SourceRan (script : List Entry) (e : Ending) (x : ℕ) (old new : SourceState) : Type 0 where
   pub more : List Entry
   pub first_part : TakesOf e.why (begun_at x (due e.ended script)) more
@@ -95,7 +95,8 @@ most_flits ended (Some Gate) = ended
 most_flits ended (Some OutOfMemory) = ended + 1
 most_flits ended (Some (WasRefused why)) = ended + 1
 
--- Where a refusal stopped worker w of so many, the source of one of its nodes refuses its next entry of that turn for this reason.
+-- Where a refusal stopped worker w of so many, the source of one of its nodes refuses its next entry of that turn
+-- for this reason.
 pub record RefusesItsNext (script : List Entry) (ended : ℕ) (why : OfferFault) (workers w : ℕ) (old new : NetState) : Type 0 where
   pub node : ℕ
   pub there : node < node_count old.mesh
@@ -107,8 +108,8 @@ pub record RefusesItsNext (script : List Entry) (ended : ℕ) (why : OfferFault)
   pub accepted : HasAccepted (source_at old node) (begun_at node (due_before ended script) ++ taken) (source_at new node)
   pub refused : Refuses (source_at new node) next why
 
--- What a run gives, in the words of the network: the same configuration; of each source and sink what its worker's turns may have
--- brought; and the stops, by rising worker.
+-- What a run gives, in the words of the network: the same configuration; of each source and sink what its worker's
+-- turns may have brought; and the stops, by rising worker.
 pub record RunsTo (may : ℕ → ℕ → Type 0) (script : List Entry) (plan : RunPlan) (old : NetState) (end : RunEnd) : Type 0 where
   pub config : HasConfigOf old end.net
   pub endings : List Ending

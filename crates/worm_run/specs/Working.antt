@@ -29,8 +29,8 @@ GrewBy n old new = (more : List Flit) × (new ≡ old ++ more) × (length more �
 unfoldable pub Turns : List Entry → ℕ → PartPassage
 Turns script n = EachOf (λ t. Turn (due t script)) (range_with_len 0 n)
 
--- The part took its turns below n: each source of its nodes accepted the entries of those turns that begin there, in script order,
--- and each sink grew by at most n flits.
+-- The part took its turns below n: each source of its nodes accepted the entries of those turns that begin there, in
+-- script order, and each sink grew by at most n flits.
 pub record HasTurned (script : List Entry) (n : ℕ) (old new : PartState) : Type 0 where
   pub exact : Turns script n old None new
   pub same : IsSamePart old new

@@ -1,9 +1,12 @@
 mod gates;
 mod runs;
 
+use crate::{Gate, RunEnd, RunPlan, run};
 use arrayvec::ArrayVec;
 use std::alloc::Global;
+use std::sync::Wait;
 use std::test::Fail;
+use std::thread::Threads;
 use worm_core::{Act, Config, Entry, Name, Net, Script};
 use worm_flit::{Lane, Packet};
 
@@ -61,4 +64,19 @@ pub fn settle(alloc: Global, net: &mut Net) -> Result<(), Fail> {
         net.turn(turn, &none)?;
     }
     Ok(())
+}
+
+/// What a run gives back; one that is refused fails the test.
+pub fn ran<R: Threads + Wait + Sync, G: Gate + Sync>(
+    rt: &R,
+    alloc: Global,
+    net: Net,
+    script: &Script,
+    plan: RunPlan,
+    gate: &G,
+) -> Result<RunEnd, Fail> {
+    match run(rt, alloc, net, script, plan, gate) {
+        Ok(end) => Ok(end),
+        Err(_) => Err("no run".into()),
+    }
 }

@@ -1,7 +1,7 @@
 //! Gates: where a worker stops, and that two workers run beside each other.
 
-use super::{net_of, offer, pair, settle, words_at};
-use crate::{FreeGate, Gate, RunPlan, Stop, StopWhy, run};
+use super::{net_of, offer, pair, ran, settle, words_at};
+use crate::{FreeGate, Gate, RunPlan, Stop, StopWhy};
 use std::process::Abort;
 use std::sync::atomic::{AtomicBool, Ordering};
 use std::test::Fail;
@@ -73,15 +73,11 @@ fn two_workers_meet(rt: HostRuntime) -> Result<(), Fail> {
         first: AtomicBool::new(false),
         second: AtomicBool::new(false),
     };
-    match run(&rt, alloc, net, &script, plan, &gate) {
-        Ok(end) => {
-            assert!(rt; end.stops.is_empty());
-            assert_eq!(rt; end.ended.as_slice(), [4, 4].as_slice());
-            let words = words_at(alloc, &end.net, 1)?;
-            assert_eq!(rt; words.get(0), Some(&17u32));
-        }
-        Err(_) => return Err("no run".into()),
-    }
+    let end = ran(&rt, alloc, net, &script, plan, &gate)?;
+    assert!(rt; end.stops.is_empty());
+    assert_eq!(rt; end.ended.as_slice(), [4, 4].as_slice());
+    let words = words_at(alloc, &end.net, 1)?;
+    assert_eq!(rt; words.get(0), Some(&17u32));
     Ok(())
 }
 
@@ -94,19 +90,15 @@ fn a_gate_stops_one_worker(rt: HostRuntime) -> Result<(), Fail> {
         workers: 2,
     };
     let gate = StopsAt { worker: 1, turn: 2 };
-    let mut net = match run(&rt, alloc, net, &script, plan, &gate) {
-        Ok(end) => {
-            let stop = Stop {
-                worker: 1,
-                turn: 2,
-                why: StopWhy::Gate,
-            };
-            assert_eq!(rt; end.stops.as_slice(), [stop].as_slice());
-            assert_eq!(rt; end.ended.as_slice(), [10, 2].as_slice());
-            end.net
-        }
-        Err(_) => return Err("no run".into()),
+    let end = ran(&rt, alloc, net, &script, plan, &gate)?;
+    let stop = Stop {
+        worker: 1,
+        turn: 2,
+        why: StopWhy::Gate,
     };
+    assert_eq!(rt; end.stops.as_slice(), [stop].as_slice());
+    assert_eq!(rt; end.ended.as_slice(), [10, 2].as_slice());
+    let mut net = end.net;
     let lane = Lane {
         src: 0,
         dst: 1,
@@ -133,17 +125,13 @@ fn a_refused_entry_stops_its_worker(rt: HostRuntime) -> Result<(), Fail> {
         turns: 3,
         workers: 2,
     };
-    match run(&rt, alloc, net, &script, plan, &FreeGate) {
-        Ok(end) => {
-            let stop = Stop {
-                worker: 0,
-                turn: 1,
-                why: StopWhy::Refused(OfferFault::NoSuchNode),
-            };
-            assert_eq!(rt; end.stops.as_slice(), [stop].as_slice());
-            assert_eq!(rt; end.ended.as_slice(), [1, 3].as_slice());
-        }
-        Err(_) => return Err("no run".into()),
-    }
+    let end = ran(&rt, alloc, net, &script, plan, &FreeGate)?;
+    let stop = Stop {
+        worker: 0,
+        turn: 1,
+        why: StopWhy::Refused(OfferFault::NoSuchNode),
+    };
+    assert_eq!(rt; end.stops.as_slice(), [stop].as_slice());
+    assert_eq!(rt; end.ended.as_slice(), [1, 3].as_slice());
     Ok(())
 }

@@ -1,6 +1,6 @@
 //! Whole runs: everything arrives, whatever the schedule.
 
-use super::{net_of, offer, pair, settle, words_at};
+use super::{net_of, offer, pair, ran, settle, words_at};
 use crate::{FreeGate, RunFault, RunPlan, run};
 use std::alloc::Global;
 use std::process::Abort;
@@ -38,14 +38,10 @@ fn four_workers_deliver_all(rt: HostRuntime) -> Result<(), Fail> {
         turns: 50,
         workers: 4,
     };
-    let mut net = match run(&rt, alloc, net, &script, plan, &FreeGate) {
-        Ok(end) => {
-            assert!(rt; end.stops.is_empty());
-            assert_eq!(rt; end.ended.as_slice(), [50, 50, 50, 50].as_slice());
-            end.net
-        }
-        Err(_) => return Err("no run".into()),
-    };
+    let end = ran(&rt, alloc, net, &script, plan, &FreeGate)?;
+    assert!(rt; end.stops.is_empty());
+    assert_eq!(rt; end.ended.as_slice(), [50, 50, 50, 50].as_slice());
+    let mut net = end.net;
     settle(alloc, &mut net)?;
     assert!(rt; all_arrived(alloc, &net, 15)?);
     let totals = net.totals();
@@ -62,14 +58,10 @@ fn sixteen_workers_share_256_nodes(rt: HostRuntime) -> Result<(), Fail> {
         turns: 20,
         workers: 16,
     };
-    let mut net = match run(&rt, alloc, net, &script, plan, &FreeGate) {
-        Ok(end) => {
-            assert!(rt; end.stops.is_empty());
-            assert_eq!(rt; end.ended.len(), 16);
-            end.net
-        }
-        Err(_) => return Err("no run".into()),
-    };
+    let end = ran(&rt, alloc, net, &script, plan, &FreeGate)?;
+    assert!(rt; end.stops.is_empty());
+    assert_eq!(rt; end.ended.len(), 16);
+    let mut net = end.net;
     settle(alloc, &mut net)?;
     assert!(rt; all_arrived(alloc, &net, 255)?);
     assert_eq!(rt; net.totals().delivered, 768);
@@ -84,13 +76,9 @@ fn one_worker_is_enough(rt: HostRuntime) -> Result<(), Fail> {
         turns: 4,
         workers: 1,
     };
-    match run(&rt, alloc, net, &script, plan, &FreeGate) {
-        Ok(end) => {
-            let words = words_at(alloc, &end.net, 1)?;
-            assert_eq!(rt; words.as_slice(), [1, 2, 3, 4].as_slice());
-        }
-        Err(_) => return Err("no run".into()),
-    }
+    let end = ran(&rt, alloc, net, &script, plan, &FreeGate)?;
+    let words = words_at(alloc, &end.net, 1)?;
+    assert_eq!(rt; words.as_slice(), [1, 2, 3, 4].as_slice());
     Ok(())
 }
 
