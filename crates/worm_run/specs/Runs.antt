@@ -53,7 +53,8 @@ pub record IsEndOf (done : List Worked) (ran : Ran) : Type 0 where
   pub ended : ran.ended.items ≡ map (λ (w : Worked). w.ended) done
 
 -- each worker worked on its part, and gave it back
-pub record RanAs (may : ℕ → ℕ → Type 0) (script : List Entry) (turns : ℕ) (before : List PartState) (ran : Ran) : Type 0 where
+pub record RanAs (may : ℕ → ℕ → Type 0) (script : List Entry) (turns : ℕ) (before : List PartState)
+    (ran : Ran) : Type 0 where
   pub done : List Worked
   pub worked : AllWorked may script turns 0 before done
   pub gives : IsEndOf done ran
@@ -65,7 +66,8 @@ pub record HasWorkers (net : NetState) (plan : RunPlan) : Type 0 where
   pub with_nodes : plan.workers ≤ node_count net.mesh
 
 -- The network was split among the workers, each of them worked on its part, and the network is what their parts make.
-pub record IsRunOf (may : ℕ → ℕ → Type 0) (script : List Entry) (plan : RunPlan) (old : NetState) (end : RunEnd) : Type 0 where
+pub record IsRunOf (may : ℕ → ℕ → Type 0) (script : List Entry) (plan : RunPlan) (old : NetState)
+    (end : RunEnd) : Type 0 where
   pub parts : List PartState
   pub split : IsSplitOf old plan.workers parts
   pub done : List Worked
@@ -97,7 +99,8 @@ most_flits ended (Some (WasRefused why)) = ended + 1
 
 -- Where a refusal stopped worker w of so many, the source of one of its nodes refuses its next entry of that turn
 -- for this reason.
-pub record RefusesItsNext (script : List Entry) (ended : ℕ) (why : OfferFault) (workers w : ℕ) (old new : NetState) : Type 0 where
+pub record RefusesItsNext (script : List Entry) (ended : ℕ) (why : OfferFault) (workers w : ℕ)
+    (old new : NetState) : Type 0 where
   pub node : ℕ
   pub there : node < node_count old.mesh
   pub own : node % workers ≡ w
@@ -105,12 +108,14 @@ pub record RefusesItsNext (script : List Entry) (ended : ℕ) (why : OfferFault)
   pub next : Entry
   pub left : List Entry
   pub cut : begun_at node (due ended script) ≡ taken ++ next ∷ left
-  pub accepted : HasAccepted (source_at old node) (begun_at node (due_before ended script) ++ taken) (source_at new node)
+  pub accepted : HasAccepted (source_at old node) (begun_at node (due_before ended script) ++ taken)
+      (source_at new node)
   pub refused : Refuses (source_at new node) next why
 
 -- What a run gives, in the words of the network: the same configuration; of each source and sink what its worker's
 -- turns may have brought; and the stops, by rising worker.
-pub record RunsTo (may : ℕ → ℕ → Type 0) (script : List Entry) (plan : RunPlan) (old : NetState) (end : RunEnd) : Type 0 where
+pub record RunsTo (may : ℕ → ℕ → Type 0) (script : List Entry) (plan : RunPlan) (old : NetState)
+    (end : RunEnd) : Type 0 where
   pub config : HasConfigOf old end.net
   pub endings : List Ending
   pub all : length endings ≡ plan.workers

@@ -1,5 +1,6 @@
 -- What a worker does with its part: turn after turn, till all are taken or it is stopped.
-use Rattle.std.specs.Prelude.{◌≡◌, ℕ, ◌+◌, ◌<◌, ◌≤◌, nat_lt, true, List, [], ◌∷◌, ◌++◌, length, filter, Option, None, Some}
+use Rattle.std.specs.Prelude.{◌≡◌, ℕ, ◌+◌, ◌<◌, ◌≤◌, nat_lt, true, List, [], ◌∷◌, ◌++◌, length, filter, Option, None}
+use Rattle.std.specs.Prelude.{Some}
 use Rattle.std.specs.List.{range_with_len}
 use Rattle.worm_flit.specs.declared.Flit.{Flit}
 use Rattle.worm_mesh.specs.Address.{node_count}
@@ -71,7 +72,8 @@ fault_of_stop None = None
 fault_of_stop (Some why) = fault_behind why
 
 -- what one worker did with its part
-pub record WorkedAs (may : ℕ → ℕ → Type 0) (script : List Entry) (turns worker : ℕ) (before : PartState) (w : Worked) : Type 0 where
+pub record WorkedAs (may : ℕ → ℕ → Type 0) (script : List Entry) (turns worker : ℕ) (before : PartState)
+    (w : Worked) : Type 0 where
   pub stops : StopsAs may turns worker w.ended w.stop
   pub ends : EndsIn script w.ended (fault_of_stop w.stop) before w.part
 
