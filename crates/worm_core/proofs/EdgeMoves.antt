@@ -15,10 +15,12 @@ use Rattle.worm_theory.specs.Network.{Network, put2, put3}
 use Rattle.worm_theory.specs.Steps.{GiveCredit, Send, IsThere, after, sent_by, gave}
 use Rattle.worm_theory.proofs.Places.{bool_cases}
 use Rattle.worm_core.specs.Shape.{net_shape}
-use Rattle.worm_core.specs.State.{NetState, LinkView, IsNetPlace, shape, network_of, router_at, with_router, link_at}
+use Rattle.worm_core.specs.State.{NetState, IsNetPlace, shape, network_of, router_at, with_router, link_at}
+use Rattle.worm_wires.specs.Links.{LinkView}
 use Rattle.worm_core.specs.State.{with_link}
 use Rattle.worm_core.specs.Workable.{EndsElsewhere, IsWorkableBy, IsSent, Works}
-use Rattle.worm_core.specs.Moves.{into_from, link_out}
+use Rattle.worm_core.specs.Moves.{link_out}
+use Rattle.worm_wires.specs.Wiring.{into_from}
 use Rattle.worm_core.specs.Edges.{Arrives, ComesBack, LetsOut, LetsGive, after_arriving, after_credit_back}
 use Rattle.worm_core.proofs.Bridge.{put2_same}
 use Rattle.worm_core.proofs.Ends.{feeder, leader}

@@ -6,7 +6,8 @@ use Rattle.std.proofs.lemmas.List.Elements.{All-head}
 use Rattle.std.proofs.lemmas.List.Sums.{sum_by-cons}
 use Rattle.worm_mesh.specs.Address.{neighbour_of, opposite_of}
 use Rattle.worm_mesh.specs.Links.{links_before}
-use Rattle.worm_core.specs.Moves.{into_from, link_into, link_out}
+use Rattle.worm_core.specs.Moves.{link_into, link_out}
+use Rattle.worm_wires.specs.Wiring.{into_from}
 use Rattle.worm_core.specs.State.{NetState, IsFramed, link_at}
 use Rattle.worm_core.proofs.Ends.{feeder, leader}
 

@@ -12,12 +12,14 @@ use Rattle.worm_theory.specs.Network.{Network, put2, put3}
 use Rattle.worm_theory.specs.Steps.{GiveCredit, IsThere, Enabled, after, gave, gave_to}
 use Rattle.worm_theory.proofs.Credit.{count-cons}
 use Rattle.worm_core.specs.Shape.{net_shape}
-use Rattle.worm_core.specs.State.{NetState, LinkView, IsFramed, IsNetPlace, shape, network_of, router_at, with_router}
+use Rattle.worm_core.specs.State.{NetState, IsFramed, IsNetPlace, shape, network_of, router_at, with_router}
+use Rattle.worm_wires.specs.Links.{LinkView}
 use Rattle.worm_core.specs.State.{link_at}
 use Rattle.worm_core.specs.Workable.{EndsWithin, IsWorkableBy}
 use Rattle.worm_core.specs.Replies.{Replies}
 use Rattle.worm_core.specs.Answers.{moved_of}
-use Rattle.worm_core.specs.Moves.{done_step, into_from, link_into, can_give, after_giving}
+use Rattle.worm_core.specs.Moves.{done_step, link_into, can_give, after_giving}
+use Rattle.worm_wires.specs.Wiring.{into_from}
 use Rattle.worm_core.proofs.Bridge.{put2_same, put3_same, input_bridge, input_of-there, below_cases}
 use Rattle.worm_core.proofs.LinkBridge.{link_bridge, link_framed, out_there, credits_there}
 use Rattle.worm_core.proofs.There.{owed_there}

@@ -13,7 +13,8 @@ use Rattle.worm_theory.specs.Steps.{Step, IsThere, IsPort, Enabled, after}
 use Rattle.worm_theory.proofs.Places.{number_cases}
 use Rattle.worm_core.specs.Shape.{net_shape}
 use Rattle.worm_core.specs.declared.node.Node.{Node}
-use Rattle.worm_core.specs.State.{NetState, LinkView, IsFramed, IsNodeOf, IsNetPlace, shape, network_of, node_at}
+use Rattle.worm_core.specs.State.{NetState, IsFramed, IsNodeOf, IsNetPlace, shape, network_of, node_at}
+use Rattle.worm_wires.specs.Links.{LinkView}
 use Rattle.worm_core.specs.State.{router_at, with_node, with_router}
 use Rattle.worm_core.specs.Workable.{IsWorkableBy, Works}
 use Rattle.worm_core.proofs.Bridge.{node_at-put}

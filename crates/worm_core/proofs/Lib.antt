@@ -27,9 +27,6 @@ pub mod Headline
 pub mod NewNet
 pub mod Reaching
 pub mod Pointers
-pub mod Wired
-pub mod PortSets
-pub mod Arriving
 pub mod Giving
 pub mod Passages
 pub mod DueEntries

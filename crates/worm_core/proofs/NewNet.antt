@@ -26,9 +26,12 @@ use Rattle.worm_core.specs.Shape.{net_shape}
 use Rattle.worm_core.specs.Owned.{sole}
 use Rattle.worm_core.specs.declared.node.Node.{Node}
 use Rattle.worm_core.specs.declared.own.Own.{Own}
-use Rattle.worm_core.specs.State.{NetState, LinkView, IsNet, IsFramed, IsNodeOf, shape, network_of, node_at, router_at}
-use Rattle.worm_core.specs.State.{link_at, link_of, fresh_node, blank_link, input_of, output_of, queue_of}
-use Rattle.worm_core.specs.NewNet.{IsFresh, AreFresh, empty_link}
+use Rattle.worm_core.specs.State.{NetState, IsNet, IsFramed, IsNodeOf, shape, network_of, node_at, router_at}
+use Rattle.worm_wires.specs.Links.{LinkView}
+use Rattle.worm_core.specs.State.{link_at, link_of, fresh_node, input_of, output_of, queue_of}
+use Rattle.worm_wires.specs.Links.{blank_link}
+use Rattle.worm_core.specs.NewNet.{IsFresh, AreFresh}
+use Rattle.worm_wires.specs.Links.{empty_link}
 use Rattle.worm_core.proofs.Kept.{framed_mesh}
 
 -- a list of one value reads as it at each place, and past its end as the value, too, where that is the default

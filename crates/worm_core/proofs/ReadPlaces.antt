@@ -4,7 +4,8 @@ use Rattle.worm_flit.specs.declared.Lane.{Lane}
 use Rattle.worm_flit.specs.Stamps.{of_lane, on_channel}
 use Rattle.worm_mesh.specs.Address.{node_count, has_neighbour}
 use Rattle.worm_router.specs.Router.{ChannelState, input_at}
-use Rattle.worm_core.specs.State.{NetState, LinkView, IsFramed, IsNetPlace, router_at, link_at}
+use Rattle.worm_core.specs.State.{NetState, IsFramed, IsNetPlace, router_at, link_at}
+use Rattle.worm_wires.specs.Links.{LinkView}
 use Rattle.worm_core.specs.Moves.{link_out}
 use Rattle.worm_core.specs.LaneView.{at_place, buffer_held, link_held}
 use Rattle.worm_core.specs.declared.view.Place.TheVariants.{Buffer, Link}

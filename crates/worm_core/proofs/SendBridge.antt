@@ -17,7 +17,8 @@ use Rattle.worm_router.specs.Router.{with_input, with_output, let_out, passed, c
 use Rattle.worm_theory.specs.Network.{Network, put2, put3}
 use Rattle.worm_theory.specs.Steps.{IsPort, sent_by}
 use Rattle.worm_core.specs.Shape.{net_shape}
-use Rattle.worm_core.specs.State.{NetState, LinkView, IsNetPlace, shape, network_of, router_at, with_router, link_at}
+use Rattle.worm_core.specs.State.{NetState, IsNetPlace, shape, network_of, router_at, with_router, link_at}
+use Rattle.worm_wires.specs.Links.{LinkView}
 use Rattle.worm_core.specs.State.{with_link}
 use Rattle.worm_core.specs.Workable.{IsWorkableBy, LeadsOn}
 use Rattle.worm_core.proofs.Bridge.{put2_same, router_bridge, input_of-put, output_of-put}

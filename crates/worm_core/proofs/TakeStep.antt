@@ -11,12 +11,14 @@ use Rattle.worm_router.specs.Router.{ChannelState, input_at, put_in, after_accep
 use Rattle.worm_theory.specs.Network.{Network, put2, put3}
 use Rattle.worm_theory.specs.Steps.{Take, IsThere, Enabled, FrontIs, IsLinked, after, taken, taken_from}
 use Rattle.worm_core.specs.Shape.{net_shape}
-use Rattle.worm_core.specs.State.{NetState, LinkView, IsFramed, IsNetPlace, shape, network_of, router_at, with_router}
+use Rattle.worm_core.specs.State.{NetState, IsFramed, IsNetPlace, shape, network_of, router_at, with_router}
+use Rattle.worm_wires.specs.Links.{LinkView}
 use Rattle.worm_core.specs.State.{link_at}
 use Rattle.worm_core.specs.Workable.{IsWorkableBy, IsSent}
 use Rattle.worm_core.specs.Replies.{Replies}
 use Rattle.worm_core.specs.Answers.{moved_of}
-use Rattle.worm_core.specs.Moves.{done_step, into_from, link_into, front_into, FrontFits, has_room, can_enter}
+use Rattle.worm_core.specs.Moves.{done_step, link_into, front_into, FrontFits, has_room, can_enter}
+use Rattle.worm_wires.specs.Wiring.{into_from}
 use Rattle.worm_core.specs.Moves.{after_take}
 use Rattle.worm_core.proofs.Ends.{feeder, first_of, none_of}
 use Rattle.worm_core.proofs.Bridge.{put2_same, put3_same, input_bridge, input_of-there, below_cases}

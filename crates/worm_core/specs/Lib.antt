@@ -4,10 +4,6 @@ pub mod Owned
 pub mod State
 pub mod Workable
 pub mod Answers
-pub mod Wiring
-pub mod Ports
-pub mod Fronts
-pub mod Arrivals
 pub mod Moves
 pub mod Still
 pub mod UnderWay

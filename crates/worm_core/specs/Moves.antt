@@ -3,7 +3,7 @@ use Rattle.std.specs.Prelude.{ℕ, ◌*◌, ◌<◌, ◌≤◌, ◌≡◌, ◌==
 use Rattle.std.specs.Prelude.{◌++◌, length, sum, drop, slice_get, slice_index_or, Option, Some, None, IsSome, Result}
 use Rattle.std.specs.Prelude.{Ok, Err}
 use Rattle.worm_flit.specs.declared.Flit.{Flit}
-use Rattle.worm_mesh.specs.Address.{node_count, neighbour_of, opposite_of}
+use Rattle.worm_mesh.specs.Address.{node_count, neighbour_of}
 use Rattle.worm_mesh.specs.Links.{links_before}
 use Rattle.worm_router.specs.Router.{RouterState, IsPlace, terminal, width, input_at, output_at, leaving, after_accept}
 use Rattle.worm_router.specs.Router.{after_route, after_grant, after_send, after_gave, after_credit, can_route}
@@ -13,6 +13,7 @@ use Rattle.worm_vcalloc.specs.ChannelSet.{has}
 use Rattle.worm_term.specs.Sink.{after_take as after_sink}
 use Rattle.worm_term.specs.Source.{front_of, after_offer, after_close, after_fed}
 use Rattle.worm_theory.specs.Steps.{Step, Offer, CloseLane, Feed, Route, Grant, Send, Take, GiveCredit, TakeCredit}
+use Rattle.worm_wires.specs.Wiring.{into_from}
 use Rattle.worm_core.specs.State.{NetState, node_at, router_at, source_at, link_at, with_node, with_router}
 use Rattle.worm_core.specs.State.{with_source, with_link}
 use Rattle.worm_core.specs.declared.node.Node.{Node}
@@ -43,11 +44,7 @@ pub record IsReady (r : RouterState) (p v : ℕ) : Type 0 where
 pub record AreReady (r : RouterState) (grants : List (Option SwGrant)) : Type 0 where
   pub each : (p : ℕ) (g : SwGrant) → slice_index_or grants p None ≡ Some g → IsReady r p g.vc
 
--- the number of the link that comes into a port from this neighbour
-abbrev pub into_from : List ℕ → ℕ → Option ℕ → ℕ
-into_from mesh p None = 0
-into_from mesh p (Some y) = links_before mesh y (opposite_of p)
-
+-- the number of the link that comes into a port
 abbrev pub link_into : NetState → ℕ → ℕ → ℕ
 link_into s x p = into_from s.mesh p (neighbour_of s.mesh x p)
 

@@ -5,7 +5,8 @@ use Rattle.worm_mesh.specs.Address.{IsMesh as IsRadices, node_count}
 use Rattle.worm_mesh.specs.Links.{link_count}
 use Rattle.worm_core.specs.declared.node.Node.{Node}
 use Rattle.worm_core.specs.Owned.{sole}
-use Rattle.worm_core.specs.State.{NetState, LinkView, fresh_node}
+use Rattle.worm_core.specs.State.{NetState, fresh_node}
+use Rattle.worm_wires.specs.Links.{empty_link}
 
 -- the limits of a configuration
 pub record IsConfig (radices channels : List ℕ) (depth names : ℕ) : Type 0 where
@@ -14,9 +15,6 @@ pub record IsConfig (radices channels : List ℕ) (depth names : ℕ) : Type 0 w
   pub least_depth : 1 ≤ depth
   pub most_depth : depth ≤ 16
   pub all_named : names ≡ length channels
-
-abbrev pub empty_link : ℕ → LinkView
-empty_link room = record { flits = []; credits = []; room = room }
 
 abbrev pub AreFresh : List ℕ → List ℕ → ℕ → List Node → Type 0
 AreFresh mesh channels depth nodes =

@@ -5,7 +5,6 @@ use Rattle.arrayvec.specs.ArrayString.{ArrayString}
 use Rattle.worm_flit.specs.Channels.{AreChannels}
 use Rattle.worm_mesh.specs.Address.{IsMesh as IsRadices, node_count, has_neighbour}
 use Rattle.worm_mesh.specs.Links.{links_before, link_count}
-use Rattle.worm_flit.specs.declared.Flit.{Flit}
 use Rattle.worm_records.specs.declared.OutRecord.{OutRecord}
 use Rattle.worm_router.specs.Router.{RouterState, ChannelState, IsPlace, width, places, fresh_channel, free_output}
 use Rattle.worm_router.specs.Router.{fresh_router, input_at, output_at}
@@ -19,14 +18,9 @@ use Rattle.worm_theory.specs.Cut.{LanesCut}
 use Rattle.worm_theory.specs.PacketCut.{PacketsHold}
 use Rattle.worm_core.specs.Shape.{net_shape}
 use Rattle.worm_core.specs.Owned.{sole}
+use Rattle.worm_wires.specs.Links.{LinkView, blank_link}
 use Rattle.worm_core.specs.declared.node.Node.{Node}
 use Rattle.worm_core.specs.declared.own.Own.{Own}
-
--- a link: its flits and its credits, front first, and how many of each fit without growing
-pub record LinkView : Type 0 where
-  pub flits : List Flit
-  pub credits : List ℕ
-  pub room : ℕ
 
 -- the texts of the classes' names
 abbrev pub texts_of : List ArrayString → List (List ℕ)
@@ -61,9 +55,6 @@ fresh_node mesh channels depth x = record {
   source = fresh_source x (node_count mesh) channels;
   sink = record { node = x; delivered = [] };
 }
-
-abbrev pub blank_link : LinkView
-blank_link = record { flits = []; credits = []; room = 0 }
 
 abbrev pub node_at : NetState → ℕ → Node
 node_at s x = slice_index_or s.nodes x (fresh_node s.mesh s.channels s.depth x)

@@ -17,7 +17,7 @@ ghost use Rattle.worm_core.specs.Moves.{AreReady, CreditFits, FrontFits, LeavesB
 ghost use Rattle.worm_core.specs.Moves.{after_giving, after_take, can_enter, can_get, can_give, chosen_router};
 ghost use Rattle.worm_core.specs.Moves.{delivered_node, fed_node, front_credit, front_into, has_room, link_into};
 ghost use Rattle.worm_core.specs.Moves.{link_out};
-ghost use Rattle.worm_core.specs.Wiring.{port_links};
+ghost use Rattle.worm_wires.specs.Wiring.{port_links};
 ghost use Rattle.worm_core.specs.UnderWay.{IsUnderWay, accepted_in, taken_in};
 
 mod edges;
@@ -27,9 +27,7 @@ mod rest;
 mod still;
 
 use crate::fresh::{make_links, make_nodes};
-use crate::links::Links;
 use crate::nodes::Nodes;
-use crate::wiring::PortLinks;
 use crate::{Moved, Name, Node, Own, StepFault};
 use arrayvec::ArrayVec;
 use std::alloc::{AllocError, Global};
@@ -38,6 +36,7 @@ use worm_flit::{ClassChannels, Flit, Lane, Packet};
 use worm_mesh::Mesh;
 use worm_term::OfferFault;
 use worm_vcalloc::ChannelSet;
+use worm_wires::{Links, PortLinks};
 
 /// The nodes by number and the links by number, whatever they hold (Dally and Towles, chapters 5, 13 and 16).
 #[derive(Drop)]

@@ -3,7 +3,8 @@ ghost use Rattle.worm_flit.specs.Channels.{AreChannels};
 ghost use Rattle.worm_mesh.specs.Address.{IsMesh as IsRadices, node_count};
 ghost use Rattle.worm_mesh.specs.Links.{link_count};
 ghost use Rattle.worm_theory.specs.Steps.{empty};
-ghost use Rattle.worm_core.specs.NewNet.{AreFresh, IsConfig, IsFresh, empty_link};
+ghost use Rattle.worm_core.specs.NewNet.{AreFresh, IsConfig, IsFresh};
+ghost use Rattle.worm_wires.specs.Links.{empty_link};
 ghost use Rattle.worm_core.specs.State.{IsNet, fresh_node, network_of, shape};
 
 use crate::{Config, LinkState, Node};

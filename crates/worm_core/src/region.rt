@@ -10,7 +10,7 @@ ghost use Rattle.worm_core.specs.Replies.{Attempts, Replies};
 ghost use Rattle.worm_core.specs.Answers.{accepted_of, moved_of};
 ghost use Rattle.worm_core.specs.State.{shape, router_at, with_router};
 ghost use Rattle.worm_core.specs.Owned.{sole};
-ghost use Rattle.worm_core.specs.Wiring.{port_links};
+ghost use Rattle.worm_wires.specs.Wiring.{port_links};
 ghost use Rattle.worm_core.specs.Workable.{EndsWithin, IsWorkable, owned};
 ghost use Rattle.worm_core.specs.Turns.{ComesInBy, ReachesAt, NodePassesBy, SendsGrantedBy, lowest_owed};
 ghost use Rattle.worm_mesh.specs.Address.{node_count};
@@ -23,12 +23,12 @@ mod edges;
 mod parts;
 
 use crate::fabric::Fabric;
-use crate::wiring::PortLinks;
 use crate::{Moved, Step, StepFault};
 use std::marker::Model;
 use worm_flit::{Lane, Packet};
 use worm_term::OfferFault;
 use worm_vcalloc::ChannelSet;
+use worm_wires::PortLinks;
 
 /// The nodes and links of a network, some nodes or all owned by whoever has it: what a move of a node needs holds of
 /// it, and each move keeps that. Of the nodes that are not owned it has others in their places, which are not moved;

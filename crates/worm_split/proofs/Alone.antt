@@ -13,7 +13,8 @@ use Rattle.worm_theory.specs.Steps.{Step, Feed, Route, Take, GiveCredit, TakeCre
 use Rattle.worm_core.specs.Answers.{refusal_of}
 use Rattle.worm_core.specs.Moves.{after_take, after_getting, done_step, fed_node, front_credit, front_into, link_into}
 use Rattle.worm_core.specs.Replies.{Attempts, Replies}
-use Rattle.worm_core.specs.State.{LinkView, NetState, fresh_node, node_at, router_at, sink_at, source_at, with_node, with_router}
+use Rattle.worm_core.specs.State.{NetState, fresh_node, node_at, router_at, sink_at, source_at, with_node, with_router}
+use Rattle.worm_wires.specs.Links.{LinkView}
 use Rattle.worm_core.specs.Turns.{Allocates, ComesInBy, Each, FeedsClassesBy, Passage, RoutesChannelsBy, RoutesPortBy}
 use Rattle.worm_core.specs.Turns.{TakesCreditsBy, TakesFlitsBy, all_channels, all_classes, all_ports, fault_of, mesh_ports}
 use Rattle.worm_core.specs.declared.fault.StepFault.{StepFault}

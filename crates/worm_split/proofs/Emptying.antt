@@ -3,7 +3,7 @@ use Rattle.std.proofs.Common.{◌≡◌, ℕ, ◌+◌, ◌-◌, ◌<◌, ◌≤�
 use Rattle.std.proofs.Common.{arith, sym, ap, ◌∙◌, append-nil, append_assoc}
 use Rattle.std.proofs.lemmas.Bool.{cases_lt}
 use Rattle.worm_flit.specs.declared.Flit.{Flit}
-use Rattle.worm_core.specs.State.{LinkView}
+use Rattle.worm_wires.specs.Links.{LinkView}
 use Rattle.worm_split.specs.Joins.{FlitsEmptied, CreditsEmptied}
 
 -- so far, of what was sent and of what was taken before

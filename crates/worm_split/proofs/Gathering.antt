@@ -6,7 +6,8 @@ use Rattle.std.proofs.lemmas.Bool.{cases_eq}
 use Rattle.worm_mesh.specs.declared.mesh.LinkEnds.{LinkEnds}
 use Rattle.worm_flit.specs.declared.Flit.{Flit}
 use Rattle.worm_core.specs.Owned.{owned_by}
-use Rattle.worm_core.specs.State.{NetState, IsFramed, LinkView, link_at}
+use Rattle.worm_core.specs.State.{NetState, IsFramed, link_at}
+use Rattle.worm_wires.specs.Links.{LinkView}
 use Rattle.worm_core.specs.declared.node.Node.{Node}
 use Rattle.worm_core.specs.declared.own.Own.{Own}
 use Rattle.worm_split.specs.declared.ends.End.{End}

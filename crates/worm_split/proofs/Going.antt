@@ -21,9 +21,9 @@ use Rattle.worm_theory.proofs.Places.{bool_cases}
 use Rattle.worm_core.specs.Shape.{net_shape}
 use Rattle.worm_core.specs.State.{NetState, IsFramed, IsSameConfig, IsNetPlace, shape, network_of, router_at, with_router}
 use Rattle.worm_core.specs.Edges.{LetsOut, LetsGive}
-use Rattle.worm_core.specs.Wiring.{port_links}
+use Rattle.worm_wires.specs.Wiring.{port_links}
 use Rattle.worm_core.specs.Workable.{owned, EndsWithin, EndsElsewhere}
-use Rattle.worm_core.specs.declared.wiring.PortLinks.{PortLinks}
+use Rattle.worm_wires.specs.declared.wiring.PortLinks.{PortLinks}
 use Rattle.worm_core.proofs.Kept.{net_place}
 use Rattle.worm_core.proofs.There.{buffer_there, record_there, owed_there}
 use Rattle.worm_parts.specs.Openings.{past_of}

@@ -10,7 +10,8 @@ use Rattle.worm_theory.specs.Network.{Network}
 use Rattle.worm_theory.proofs.Places.{number_cases}
 use Rattle.worm_links.specs.Links.{TxView, RxView, CreditTxView, CreditRxView}
 use Rattle.worm_core.specs.Shape.{net_shape}
-use Rattle.worm_core.specs.State.{NetState, LinkView, IsFramed, blank_link, link_at, network_of, shape}
+use Rattle.worm_core.specs.State.{NetState, IsFramed, link_at, network_of, shape}
+use Rattle.worm_wires.specs.Links.{LinkView, blank_link}
 use Rattle.worm_core.proofs.LinkBridge.{credits_there, out_there}
 use Rattle.worm_parts.specs.Whole.{AreQueues}
 use Rattle.worm_split.specs.declared.ends.End.{End}

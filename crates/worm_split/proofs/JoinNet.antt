@@ -15,7 +15,8 @@ use Rattle.worm_theory.proofs.Bridge.{same_network}
 use Rattle.worm_theory.proofs.Places.{bool_cases, number_cases}
 use Rattle.worm_core.specs.Owned.{sole}
 use Rattle.worm_core.specs.Shape.{net_shape}
-use Rattle.worm_core.specs.State.{NetState, LinkView, IsFramed, IsNet, IsNodeOf, blank_link, fresh_node, input_of}
+use Rattle.worm_core.specs.State.{NetState, IsFramed, IsNet, IsNodeOf, fresh_node, input_of}
+use Rattle.worm_wires.specs.Links.{LinkView, blank_link}
 use Rattle.worm_core.specs.State.{link_at, link_of, net_state, network_of, node_at, output_of, queue_of, router_at}
 use Rattle.worm_core.specs.State.{shape, sink_at, texts_of}
 use Rattle.worm_term.specs.Source.{queue_at}

@@ -13,7 +13,8 @@ use Rattle.worm_theory.specs.Cut.{LanesCut}
 use Rattle.worm_theory.specs.PacketCut.{PacketsHold}
 use Rattle.worm_theory.proofs.Marks.{nothing_more_grown}
 use Rattle.worm_core.specs.Headline.{NothingFollowsMarks}
-use Rattle.worm_core.specs.State.{NetState, LinkView, IsNet, network_of, node_at, shape}
+use Rattle.worm_core.specs.State.{NetState, IsNet, network_of, node_at, shape}
+use Rattle.worm_wires.specs.Links.{LinkView}
 use Rattle.worm_core.specs.declared.own.Own.{Own}
 use Rattle.worm_parts.proofs.Regions.{parts_sinks, parts_sources}
 use Rattle.worm_split.specs.declared.exchange.Kept.{Kept}

@@ -6,7 +6,7 @@ use Rattle.std.proofs.Math.ListN.{length-set}
 use Rattle.std.proofs.lemmas.Bool.{cases_eq, cases_lt}
 use Rattle.std.proofs.lemmas.List.{get_or_read, get_or-set_other, get_or-set_same}
 use Rattle.worm_mesh.specs.declared.mesh.LinkEnds.{LinkEnds}
-use Rattle.worm_core.specs.State.{LinkView, blank_link}
+use Rattle.worm_wires.specs.Links.{LinkView, blank_link}
 use Rattle.worm_split.specs.declared.ends.Line.{Line}
 use Rattle.worm_split.specs.declared.exchange.Kept.{Kept}
 use Rattle.worm_split.specs.Ends.{line_at, no_line}

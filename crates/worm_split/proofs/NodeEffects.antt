@@ -8,7 +8,8 @@ use Rattle.worm_term.specs.declared.fault.OfferFault.{OfferFault}
 use Rattle.worm_term.specs.Source.{SourceState}
 use Rattle.worm_core.specs.Replies.{Attempts}
 use Rattle.worm_core.specs.Script.{begun_at, lane_of}
-use Rattle.worm_core.specs.State.{LinkView, NetState, router_at, sink_at, source_at}
+use Rattle.worm_core.specs.State.{NetState, router_at, sink_at, source_at}
+use Rattle.worm_wires.specs.Links.{LinkView}
 use Rattle.worm_core.specs.Turns.{Allocates, AsksSourceBy, ComesInBy, Passage, lowest_owed, mesh_ports}
 use Rattle.worm_core.specs.declared.fault.StepFault.{StepFault}
 use Rattle.worm_core.specs.declared.fault.StepFault.TheVariants.{Refused}

@@ -14,13 +14,13 @@ use Rattle.worm_links.specs.Links.{TxView, RxView, CreditTxView, CreditRxView, M
 use Rattle.worm_theory.specs.Network.{Network, put2}
 use Rattle.worm_core.specs.Shape.{net_shape}
 use Rattle.worm_core.specs.State.{NetState, IsFramed, shape, network_of, link_at}
-use Rattle.worm_core.specs.Wiring.{port_links}
+use Rattle.worm_wires.specs.Wiring.{port_links}
 use Rattle.worm_core.specs.Workable.{owned}
 use Rattle.worm_core.specs.Moves.{link_into, link_out}
-use Rattle.worm_core.specs.declared.wiring.PortLinks.{PortLinks}
+use Rattle.worm_wires.specs.declared.wiring.PortLinks.{PortLinks}
 use Rattle.worm_core.proofs.Ends.{none_of}
 use Rattle.worm_core.proofs.LinkBridge.{out_there, credits_there}
-use Rattle.worm_core.proofs.Wired.{parts, ports_within}
+use Rattle.worm_wires.proofs.Wired.{parts, ports_within}
 use Rattle.worm_split.specs.declared.ends.End.{End}
 use Rattle.worm_split.specs.declared.ends.End.TheVariants.{Inner, Leaving, Entering}
 use Rattle.worm_split.specs.Ends.{CreditPopped, FlitPopped, end_at}

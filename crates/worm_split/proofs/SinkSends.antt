@@ -12,7 +12,8 @@ use Rattle.worm_term.specs.declared.fault.OfferFault.{OfferFault}
 use Rattle.worm_theory.specs.Steps.{Send}
 use Rattle.worm_core.specs.Moves.{after_ready, after_sending, chosen_router, delivered_node, link_out}
 use Rattle.worm_core.specs.Replies.{Replies}
-use Rattle.worm_core.specs.State.{LinkView, NetState, link_at, node_at, router_at, sink_at, source_at, with_link, with_node, with_router}
+use Rattle.worm_core.specs.State.{NetState, link_at, node_at, router_at, sink_at, source_at, with_link, with_node, with_router}
+use Rattle.worm_wires.specs.Links.{LinkView}
 use Rattle.worm_core.specs.Turns.{fault_of}
 use Rattle.worm_core.specs.declared.fault.StepFault.{StepFault}
 use Rattle.worm_core.specs.declared.fault.StepFault.TheVariants.{NoMemory, NoSuchPlace, Refused}

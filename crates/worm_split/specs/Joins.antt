@@ -9,7 +9,8 @@ use Rattle.worm_links.specs.Links.{TxView, RxView, CreditTxView, CreditRxView}
 use Rattle.worm_theory.specs.Growth.{SinksGrow, SourcesGrow}
 use Rattle.worm_core.specs.Headline.{NothingFollowsMarks}
 use Rattle.worm_core.specs.Owned.{sole}
-use Rattle.worm_core.specs.State.{NetState, IsFramed, LinkView, blank_link, link_at, network_of, node_at, shape}
+use Rattle.worm_core.specs.State.{NetState, IsFramed, link_at, network_of, node_at, shape}
+use Rattle.worm_wires.specs.Links.{LinkView, blank_link}
 use Rattle.worm_core.specs.declared.node.Node.{Node}
 use Rattle.worm_core.specs.declared.own.Own.{Own}
 use Rattle.worm_split.specs.declared.ends.End.{End}

@@ -4,7 +4,8 @@ use Rattle.std.specs.Prelude.{vec_capacity}
 use Rattle.worm_mesh.specs.Address.{node_count}
 use Rattle.worm_mesh.specs.Links.{link_count}
 use Rattle.worm_mesh.specs.declared.mesh.LinkEnds.{LinkEnds}
-use Rattle.worm_core.specs.NewNet.{AreFresh, empty_link}
+use Rattle.worm_core.specs.NewNet.{AreFresh}
+use Rattle.worm_wires.specs.Links.{empty_link}
 use Rattle.worm_core.specs.Owned.{sole}
 use Rattle.worm_core.specs.Parts.{IsConfigOf}
 use Rattle.worm_core.specs.State.{NetState, net_state, network_of, node_at, shape, texts_of}

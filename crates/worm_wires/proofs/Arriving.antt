@@ -1,5 +1,5 @@
 -- What comes in at each node, after a write of one link.
-use Rattle.std.proofs.Common.{◌≡◌, ◌==◌, ◌≢◌, ℕ, ◌+◌, ◌*◌, ◌<◌, ◌≤◌, below_more, Bool, true, false, inl, inr, List, [], ◌∷◌, length, drop, get_or, set, Option, Some, None, refl, arith, ap, sym, subst, ◌∙◌}
+use Rattle.std.proofs.Common.{◌≡◌, ◌==◌, ◌⊎◌, ◌≢◌, ℕ, ◌+◌, ◌*◌, ◌<◌, ◌≤◌, below_more, Bool, true, false, inl, inr, List, [], ◌∷◌, length, drop, get_or, set, Option, Some, None, refl, arith, ap, sym, subst, ◌∙◌}
 use Rattle.std.specs.Prelude.{IfNone, IfSome, MatchOption, IsTrue, option_map, IsSome, is_some, not, slice_get}
 use Rattle.std.proofs.lemmas.List.{get_or_default, get_or-set_other, get_or-set_same}
 use Rattle.worm_flit.specs.declared.Flit.{Flit}
@@ -8,17 +8,19 @@ use Rattle.worm_mesh.specs.Links.{links_before, link_count}
 use Rattle.worm_mesh.proofs.Digits.{AreLarge-from_radices}
 use Rattle.worm_mesh.proofs.Neighbours.{Joins-from, Joins-back, Joins-unique, opposite_twice}
 use Rattle.worm_mesh.proofs.Numbers.{one_link}
-use Rattle.worm_theory.proofs.Places.{number_cases}
-use Rattle.worm_core.specs.State.{LinkView, blank_link}
-use Rattle.worm_core.specs.Moves.{into_from}
-use Rattle.worm_core.specs.Wiring.{out_link, in_link, port_links}
-use Rattle.worm_core.specs.Ports.{has, IsFirstFrom, IsPut}
-use Rattle.worm_core.specs.Arrivals.{LinksView, KnowsArrivals, KnowsAll, credits_of, credits_to, flits_of, flits_to, no_arrivals, number_into, number_out, state_at, with_state}
-use Rattle.worm_core.specs.declared.links.Arrivals.{Arrivals}
-use Rattle.worm_core.specs.declared.wiring.PortLinks.{PortLinks}
+use Rattle.worm_wires.specs.Links.{LinkView, blank_link}
+use Rattle.worm_wires.specs.Wiring.{into_from}
+use Rattle.worm_wires.specs.Wiring.{out_link, in_link, port_links}
+use Rattle.worm_wires.specs.Ports.{has, IsFirstFrom, IsPut}
+use Rattle.worm_wires.specs.Arrivals.{LinksView, KnowsArrivals, KnowsAll, credits_of, credits_to, flits_of, flits_to, no_arrivals, number_into, number_out, state_at, with_state}
+use Rattle.worm_wires.specs.declared.links.Arrivals.{Arrivals}
+use Rattle.worm_wires.specs.declared.wiring.PortLinks.{PortLinks}
 use Rattle.std.proofs.lemmas.Bool.{cases_lt}
-use Rattle.worm_core.proofs.PortSets.{has_none}
-use Rattle.worm_core.proofs.Wired.{in_none, out_none, parts, ports_within}
+use Rattle.worm_wires.proofs.PortSets.{has_none}
+use Rattle.worm_wires.proofs.Wired.{in_none, out_none, parts, ports_within}
+
+number_cases : (k c : ℕ) → (((k == c) ≡ true) × (k ≡ c)) ⊎ (((k == c) ≡ false) × (k ≡ c → ⊥))
+number_cases k c = grind arith
 
 -- Each link is that of one port
 

@@ -4,7 +4,7 @@ use Rattle.std.specs.Int.{bit_at, bit_not, trailing_zeros, w8}
 use Rattle.std.proofs.lemmas.Bool.{cases_lt, eq-eqb, eqb-true, ne_eqb}
 use Rattle.std.proofs.lemmas.Nat.Bits.{bit_at_set_same, bit_at_set_other, bit_at_clear_same, bit_at_clear_other, bit_at_above, bit_at-zero, bit_at-trailing_zeros}
 use Rattle.std.proofs.lemmas.Nat.{shr-shr, shr_le}
-use Rattle.worm_core.specs.Ports.{has, IsFirstFrom, IsPut}
+use Rattle.worm_wires.specs.Ports.{has, IsFirstFrom, IsPut}
 
 bit_unset : (n i : ℕ) → bit_at n i ≡ 0 → (bit_at n i == 1) ≡ false
 bit_unset n i e = ne_eqb (bit_at n i) 1 (λ one. absurd (omega arith))

@@ -2,15 +2,15 @@
 use Rattle.std.proofs.Common.{◌≡◌, ℕ, ◌*◌, ◌+◌, ◌<◌, ◌≤◌, ◌≢◌, List, length, Option, Some, None, refl, arith, ap, sym, subst, ◌∙◌, get_or, set, below_more, get_or-set_other, get_or-set_same}
 use Rattle.std.specs.Prelude.{IfSome, IsSome, option_map}
 use Rattle.std.specs.Option.{SomeIff}
-use Rattle.worm_mesh.specs.Address.{IsMesh as IsRadices, neighbour_of, opposite_of}
-use Rattle.worm_mesh.specs.Links.{IsLink, links_before, link_count}
+use Rattle.worm_mesh.specs.Address.{IsMesh as IsRadices, neighbour_of, node_count, opposite_of}
+use Rattle.worm_mesh.specs.Links.{IsLink, degree_of, links_before, link_count}
 use Rattle.worm_mesh.proofs.Digits.{AreLarge-from_radices}
 use Rattle.worm_mesh.proofs.Neighbours.{Joins-from, Joins-back, neighbour_of-some, neighbour_of-none, no_port}
-use Rattle.worm_mesh.proofs.Numbers.{below_count}
-use Rattle.worm_core.specs.Moves.{into_from}
-use Rattle.worm_core.specs.Wiring.{AreLinksOf, AreWired, no_links, out_link, in_link, port_links}
-use Rattle.worm_core.specs.declared.wiring.NodeLinks.{NodeLinks}
-use Rattle.worm_core.specs.declared.wiring.PortLinks.{PortLinks}
+use Rattle.worm_mesh.proofs.Numbers.{below_count, degree_of-le, sum_below-le}
+use Rattle.worm_wires.specs.Wiring.{into_from}
+use Rattle.worm_wires.specs.Wiring.{AreLinksOf, AreWired, kept_number, no_links, out_link, in_link, port_links}
+use Rattle.worm_wires.specs.declared.wiring.NodeLinks.{NodeLinks}
+use Rattle.worm_wires.specs.declared.wiring.PortLinks.{PortLinks}
 
 out_by : (mesh : List ℕ) (x p : ℕ) → IsRadices mesh → (n r : Option ℕ) → neighbour_of mesh x p ≡ n → SomeIff r (IsLink mesh x p) (links_before mesh x p) → r ≡ option_map (λ y. links_before mesh x p) n
 out_by mesh x p radices None None e has = refl
@@ -25,12 +25,6 @@ out_by mesh x p radices (Some y) (Some k) e has = ap (λ (i : ℕ). Some i) has.
 
 pub out_numbered : (mesh : List ℕ) (x p : ℕ) → IsRadices mesh → (r : Option ℕ) → SomeIff r (IsLink mesh x p) (links_before mesh x p) → r ≡ out_link mesh x p
 out_numbered mesh x p radices r has = out_by mesh x p radices (neighbour_of mesh x p) r refl has
-
-pub in_numbered : (mesh : List ℕ) (x p y : ℕ) → IsRadices mesh → neighbour_of mesh x p ≡ Some y → (r : Option ℕ) → SomeIff r (IsLink mesh y (opposite_of p)) (links_before mesh y (opposite_of p)) → r ≡ in_link mesh x p
-in_numbered mesh x p y radices e None has =
-    let large = AreLarge-from_radices mesh radices.radices in
-    absurd (has (x, Joins-back mesh x p y (Joins-from mesh x p y large e)))
-in_numbered mesh x p y radices e (Some k) has = ap (λ (i : ℕ). Some i) has.1 ∙ sym (ap (λ (n : Option ℕ). option_map (λ z. links_before mesh z (opposite_of p)) n) e)
 
 -- past the mesh ports there is none
 pub out_none : (mesh : List ℕ) (x p : ℕ) → 2 * length mesh ≤ p → out_link mesh x p ≡ None
@@ -49,17 +43,50 @@ wired_more mesh nodes i v there here before =
     below_more _ _ (λ x below. let away : x ≢ i = omega arith in rw get_or-set_other (before x below)) (rw get_or-set_same here)
 
 -- what is kept, at a place that is named by other numbers
-pub ports_kept : (mesh now : List ℕ) (nodes : List NodeLinks) (x p i q : ℕ) → AreWired mesh nodes → mesh ≡ now → x < 256 → p < 6 → i ≡ x → q ≡ p → get_or (get_or nodes i no_links).ports q None ≡ port_links now x p
-ports_kept mesh now nodes x p i q wired same x_in p_in at_x at_p =
-    (λ t. get_or (get_or nodes (at_x t) no_links).ports (at_p t) None) ∙ (wired x x_in p p_in ∙ ap (λ (m : List ℕ). port_links m x p) same)
+pub number_kept : (mesh now : List ℕ) (nodes : List NodeLinks) (x p i q : ℕ) → AreWired mesh nodes → mesh ≡ now → x < 256 → p < 6 → i ≡ x → q ≡ p
+    → get_or (get_or nodes i no_links).outs q 0 ≡ kept_number (out_link now x p)
+number_kept mesh now nodes x p i q wired same x_in p_in at_x at_p =
+    (λ t. get_or (get_or nodes (at_x t) no_links).outs (at_p t) 0) ∙ (wired x x_in p p_in ∙ ap (λ (m : List ℕ). kept_number (out_link m x p)) same)
+
+-- of a port with a neighbour it is the link's
+there_kept : (mesh : List ℕ) (x p y : ℕ) → neighbour_of mesh x p ≡ Some y → kept_number (out_link mesh x p) ≡ links_before mesh x p
+there_kept mesh x p y e = ap (λ (n : Option ℕ). kept_number (option_map (λ z. links_before mesh x p) n)) e
+
+-- of one without a neighbour it is none's
+few_links : (mesh : List ℕ) → IsRadices mesh → link_count mesh ≤ 1536
+few_links mesh radices =
+    let each : (x : ℕ) → degree_of mesh x ≤ 6 = λ x. omega (arith, degree_of-le mesh x, radices.few_dims) in
+    omega (arith, sum_below-le (degree_of mesh) 6 (node_count mesh) each, radices.few_nodes)
+
+none_by : (mesh : List ℕ) (x p : ℕ) → IsRadices mesh → (n : Option ℕ) → neighbour_of mesh x p ≡ n → kept_number (out_link mesh x p) ≡ 65535 → n ≡ None
+none_by mesh x p radices None e kept = refl
+none_by mesh x p radices (Some y) e kept =
+    let large = AreLarge-from_radices mesh radices.radices in
+    let below = below_count mesh large x p (y, Joins-from mesh x p y large e) in
+    absurd (omega (arith, below, few_links mesh radices, there_kept mesh x p y e, kept))
+
+pub none_kept : (mesh : List ℕ) (x p : ℕ) → IsRadices mesh → kept_number (out_link mesh x p) ≡ 65535 → neighbour_of mesh x p ≡ None
+none_kept mesh x p radices kept = none_by mesh x p radices (neighbour_of mesh x p) refl kept
+
+some_by : (mesh : List ℕ) (x p : ℕ) (n : Option ℕ) → neighbour_of mesh x p ≡ n → (kept_number (out_link mesh x p) ≡ 65535 → ⊥) → IsSome n
+some_by mesh x p None e kept = absurd (kept (ap (λ (n : Option ℕ). kept_number (option_map (λ z. links_before mesh x p) n)) e))
+some_by mesh x p (Some y) e kept = refl
+
+pub some_kept : (mesh : List ℕ) (x p : ℕ) → (kept_number (out_link mesh x p) ≡ 65535 → ⊥) → IsSome (neighbour_of mesh x p)
+some_kept mesh x p kept = some_by mesh x p (neighbour_of mesh x p) refl kept
 
 -- the links of a port put together of their parts
-pub joined : (mesh : List ℕ) (x p y k j : ℕ) → neighbour_of mesh x p ≡ Some y → Some k ≡ out_link mesh x p → Some j ≡ in_link mesh x p
+pub joined : (mesh : List ℕ) (x p y k j : ℕ) → IsRadices mesh → Some y ≡ neighbour_of mesh x p → k ≡ kept_number (out_link mesh x p) → j ≡ kept_number (out_link mesh y (opposite_of p))
     → ◌≡◌ {A = Option PortLinks} (Some (record { beyond = y; entered = opposite_of p; out = k; into = j })) (port_links mesh x p)
-joined mesh x p y k j e out into =
-    let one : ◌≡◌ {A = Option ℕ} (Some k) (Some (links_before mesh x p)) = out ∙ ap (λ (n : Option ℕ). option_map (λ z. links_before mesh x p) n) e in
-    let two : ◌≡◌ {A = Option ℕ} (Some j) (Some (links_before mesh y (opposite_of p))) = into ∙ ap (λ (n : Option ℕ). option_map (λ z. links_before mesh z (opposite_of p)) n) e in
-    rw e (cc)
+joined mesh x p y k j radices e out into =
+    let large = AreLarge-from_radices mesh radices.radices in
+    let back = neighbour_of-some mesh y (opposite_of p) x large (Joins-back mesh x p y (Joins-from mesh x p y large (sym e))) in
+    let one : k ≡ links_before mesh x p = out ∙ there_kept mesh x p y (sym e) in
+    let two : j ≡ links_before mesh y (opposite_of p) = into ∙ there_kept mesh y (opposite_of p) x back in
+    rw (← e) (cc)
+
+pub no_links_there : (mesh : List ℕ) (x p : ℕ) → neighbour_of mesh x p ≡ None → port_links mesh x p ≡ None
+no_links_there mesh x p e = ap (λ (n : Option ℕ). option_map (λ y. record { beyond = y; entered = opposite_of p; out = links_before mesh x p; into = links_before mesh y (opposite_of p) }) n) e
 
 -- and taken apart
 parts_by : (mesh : List ℕ) (x p : ℕ) (links : PortLinks) (n : Option ℕ)

@@ -4,11 +4,11 @@ use Rattle.std.specs.Prelude.{ℕ, ◌≡◌, ◌<◌, ◌*◌, false, true, len
 use Rattle.worm_flit.specs.declared.Flit.{Flit}
 use Rattle.worm_mesh.specs.Address.{neighbour_of}
 use Rattle.worm_mesh.specs.Links.{links_before}
-use Rattle.worm_core.specs.State.{LinkView, blank_link}
-use Rattle.worm_core.specs.Moves.{into_from}
-use Rattle.worm_core.specs.Wiring.{in_link, out_link}
-use Rattle.worm_core.specs.Ports.{has}
-use Rattle.worm_core.specs.declared.links.Arrivals.{Arrivals}
+use Rattle.worm_wires.specs.Links.{LinkView, blank_link}
+use Rattle.worm_wires.specs.Wiring.{into_from}
+use Rattle.worm_wires.specs.Wiring.{in_link, out_link}
+use Rattle.worm_wires.specs.Ports.{has}
+use Rattle.worm_wires.specs.declared.links.Arrivals.{Arrivals}
 
 -- a mesh, and what is on each of its links
 pub record LinksView : Type 0 where

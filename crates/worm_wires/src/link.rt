@@ -1,4 +1,4 @@
-ghost use Rattle.worm_core.specs.NewNet.{empty_link};
+ghost use Rattle.worm_wires.specs.Links.{empty_link};
 ghost use Rattle.std.specs.Prelude.{◌≡◌, [], ◌∷◌, ◌++◌, ◌<◌, length, drop, min, slice_get, Some, IfOk, ◌≤◌, IfNone, IsSome, option_to_list, vec_len, vec_capacity};
 
 use std::alloc::{AllocError, Global};
@@ -34,8 +34,8 @@ pub struct LinkState {
 
 impl Model for LinkState {
     ghost use Rattle.std.specs.Prelude.{vec_capacity, ◌++◌, option_to_list};
-    ghost use Rattle.worm_core.specs.State.{LinkView};
-    ghost use Rattle.worm_core.specs.Fronts.{IsFronted};
+    ghost use Rattle.worm_wires.specs.Links.{LinkView};
+    ghost use Rattle.worm_wires.specs.Fronts.{IsFronted};
 
     ghost Value = { LinkView };
 

@@ -3,9 +3,9 @@
 ghost use Rattle.std.specs.Prelude.{◌≡◌, ◌<◌, ◌≤◌, ◌*◌, ◌↔◌, ◌==◌, ◌++◌, ◌∷◌, [], ℕ, IfNone, IfSome, IsSome, IsTrue, Option, Some, false, true, drop, length, slice_get, slice_set};
 ghost use Rattle.worm_mesh.specs.Address.{IsMesh as IsRadices, neighbour_of};
 ghost use Rattle.worm_mesh.specs.Links.{link_count};
-ghost use Rattle.worm_core.specs.State.{LinkView};
-ghost use Rattle.worm_core.specs.Arrivals.{KnowsArrivals, LinksView, credits_of, credits_to, flits_of, flits_to, number_into, number_out, state_at, with_state};
-ghost use Rattle.worm_core.specs.Wiring.{port_links};
+ghost use Rattle.worm_wires.specs.Links.{LinkView};
+ghost use Rattle.worm_wires.specs.Arrivals.{KnowsArrivals, LinksView, credits_of, credits_to, flits_of, flits_to, number_into, number_out, state_at, with_state};
+ghost use Rattle.worm_wires.specs.Wiring.{port_links};
 
 use crate::LinkState;
 use crate::port_set::PortSet;
@@ -35,7 +35,7 @@ pub struct Links {
 }
 
 impl Model for Links {
-    ghost use Rattle.worm_core.specs.Arrivals.{LinksView, KnowsAll};
+    ghost use Rattle.worm_wires.specs.Arrivals.{LinksView, KnowsAll};
 
     ghost Value = { LinksView };
 

@@ -1,7 +1,7 @@
 //! Sets of the mesh ports of a node.
 
 ghost use Rattle.std.specs.Prelude.{ℕ, ◌≡◌, ◌==◌, ◌<◌, ◌≤◌, MatchOption, false, true};
-ghost use Rattle.worm_core.specs.Ports.{has, IsFirstFrom, IsPut};
+ghost use Rattle.worm_wires.specs.Ports.{has, IsFirstFrom, IsPut};
 
 use std::marker::Model;
 

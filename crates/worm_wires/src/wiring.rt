@@ -1,10 +1,10 @@
 //! A mesh with the numbers of its links kept by node and port, so that no step searches for a link.
 
 ghost use Rattle.std.specs.Prelude.{◌≡◌, ◌<◌, ◌≤◌, ◌*◌, ℕ, IfSome, IsSome, Some, length};
-ghost use Rattle.worm_mesh.specs.Address.{IsMesh as IsRadices, neighbour_of, node_count};
+ghost use Rattle.worm_mesh.specs.Address.{IsMesh as IsRadices, neighbour_of, node_count, stride_of};
 ghost use Rattle.worm_mesh.specs.Links.{link_count, links_before};
-ghost use Rattle.worm_core.specs.Moves.{into_from};
-ghost use Rattle.worm_core.specs.Wiring.{AreLinksOf, in_link, out_link, port_links};
+ghost use Rattle.worm_wires.specs.Wiring.{into_from};
+ghost use Rattle.worm_wires.specs.Wiring.{AreLinksOf, AreStrides, in_link, kept_number, out_link, port_links};
 
 use std::marker::Model;
 use worm_mesh::Mesh;
@@ -22,14 +22,17 @@ pub struct PortLinks {
     pub into: u16,
 }
 
-/// The links of a node by mesh port, where the port has a neighbour.
+/// What is kept of a port without a neighbour: no link has this number, since there are at most 1,536.
+const NO_LINK: u16 = 65_535;
+
+/// The numbers of the links out of a node by mesh port, `NO_LINK` where there is no neighbour.
 #[derive(Clone, Copy)]
 pub struct NodeLinks {
     /// By port.
-    pub ports: [Option<PortLinks>; 6],
+    pub outs: [u16; 6],
 }
 
-/// A mesh and the links of each of its nodes.
+/// A mesh and the links of each of its nodes. It is small, since networks and parts are moved about by value.
 #[derive(Drop)]
 pub struct Wiring {
     /// The mesh.
@@ -38,6 +41,8 @@ pub struct Wiring {
     count: u16,
     /// The terminal port of each node.
     terminal: u8,
+    /// What one step in each dimension adds to a node's number.
+    strides: [u8; 3],
     /// By node number; of a node that is not there no links.
     nodes: [NodeLinks; 256],
 }
@@ -47,41 +52,22 @@ impl Model for Wiring {
 
     ghost Value = { List ℕ };
 
-    ghost use Rattle.worm_core.specs.Wiring.{IsWired};
+    ghost use Rattle.worm_wires.specs.Wiring.{IsWired};
 
     ghost view = { λ w. w.mesh };
 
-    ghost invariant = { λ w. IsWired w.mesh w.count w.terminal w.nodes };
+    ghost invariant = { λ w. IsWired w.mesh w.count w.terminal w.strides w.nodes };
 }
 
-/// The number of the link out of this port.
-fn number_out(mesh: &Mesh, node: u8, port: u8) -> Option<u16>
+/// The number that is kept of the link out of this port.
+fn number_out(mesh: &Mesh, node: u8, port: u8) -> u16
     requires { IsRadices mesh.now }
-    ensures { result ≡ out_link mesh.now node port }
+    ensures { result ≡ kept_number (out_link mesh.now node port) }
 {
-    mesh.link_number(node, port)
-}
-
-/// The number of the link into this port.
-fn number_into(mesh: &Mesh, node: u8, port: u8) -> Option<u16>
-    requires { IsRadices mesh.now }
-    ensures { result ≡ in_link mesh.now node port }
-{
-    let from = mesh.neighbour(node, port)?;
-    mesh.link_number(from, mesh.opposite(port))
-}
-
-/// The links of this port.
-fn links_of_port(mesh: &Mesh, node: u8, port: u8) -> Option<PortLinks>
-    requires { IsRadices mesh.now }
-    ensures { result ≡ port_links mesh.now node port }
-{
-    Some(PortLinks {
-        beyond: mesh.neighbour(node, port)?,
-        entered: mesh.opposite(port),
-        out: number_out(mesh, node, port)?,
-        into: number_into(mesh, node, port)?,
-    })
+    match mesh.link_number(node, port) {
+        Some(number) => number,
+        None => NO_LINK,
+    }
 }
 
 /// The links of a node; none of a node that is not there.
@@ -89,11 +75,34 @@ fn links_of(mesh: &Mesh, node: u8) -> NodeLinks
     requires { IsRadices mesh.now }
     ensures { AreLinksOf mesh.now node result }
 {
-    let mut ports = [None; 6];
+    let mut outs = [NO_LINK; 6];
     for port in 0..6u8 {
-        ports[usize::from(port)] = links_of_port(mesh, node, port);
+        outs[usize::from(port)] = number_out(mesh, node, port);
     }
-    NodeLinks { ports }
+    NodeLinks { outs }
+}
+
+/// What one step in this dimension adds to a node's number: the number of the node one step from node 0.
+fn stride(mesh: &Mesh, dim: u8) -> u8
+    requires { dim < length mesh.now }
+    ensures { result ≡ stride_of mesh.now dim }
+{
+    let _dims = mesh.dims();
+    match mesh.neighbour(0, 2 * dim + 1) {
+        Some(node) => node,
+        None => unreachable!(),
+    }
+}
+
+/// What one step in each dimension adds.
+fn strides(mesh: &Mesh) -> [u8; 3]
+    ensures { AreStrides mesh.now result }
+{
+    let mut strides = [0; 3];
+    for dim in 0..mesh.dims() {
+        strides[usize::from(dim)] = stride(mesh, dim);
+    }
+    strides
 }
 
 impl Wiring {
@@ -102,16 +111,18 @@ impl Wiring {
         requires { IsRadices mesh }
         ensures { result ≡ mesh }
     {
-        let mut nodes = [NodeLinks { ports: [None; 6] }; 256];
+        let mut nodes = [NodeLinks { outs: [NO_LINK; 6] }; 256];
         for node in 0..256u16 {
             nodes[usize::from(node)] = links_of(&mesh, node as u8);
         }
         let count = mesh.nodes();
         let terminal = 2 * mesh.dims();
+        let strides = strides(&mesh);
         Wiring {
             mesh,
             count,
             terminal,
+            strides,
             nodes,
         }
     }
@@ -139,6 +150,48 @@ impl Wiring {
         self.terminal
     }
 
+    /// The number that is kept of the link out of this port.
+    fn kept(&self, node: u8, port: u8) -> u16
+        requires { port < 6 }
+        ensures value { result ≡ kept_number (out_link self.now node port) }
+        ensures mesh { IsRadices self.now }
+    {
+        let _nodes = self.mesh.nodes();
+        self.nodes[usize::from(node)].outs[usize::from(port)]
+    }
+
+    /// The node beyond a port that has a neighbour.
+    fn beyond(&self, node: u8, port: u8) -> u8
+        requires { IsSome (neighbour_of self.now node port) }
+        ensures { Some result ≡ neighbour_of self.now node port }
+    {
+        let _nodes = self.mesh.nodes();
+        let stride = self.strides[usize::from(port / 2)];
+        if port % 2 == 0 {
+            node - stride
+        } else {
+            node + stride
+        }
+    }
+
+    /// The links of a port that has a neighbour, where this is the number of the one out of it.
+    fn links_by(&self, node: u8, port: u8, out: u16) -> PortLinks
+        requires neighbour { IsSome (neighbour_of self.now node port) }
+        requires out { out ≡ kept_number (out_link self.now node port) }
+        ensures { Some result ≡ port_links self.now node port }
+    {
+        let _nodes = self.mesh.nodes();
+        let beyond = self.beyond(node, port);
+        let entered = self.mesh.opposite(port);
+        let into = self.kept(beyond, entered);
+        PortLinks {
+            beyond,
+            entered,
+            out,
+            into,
+        }
+    }
+
     /// The links of this port of the node, if there is a neighbour.
     pub fn links_at(&self, node: u8, port: u8) -> Option<PortLinks>
         ensures value { result ≡ port_links self.now node port }
@@ -151,11 +204,14 @@ impl Wiring {
         ensures mesh_ports { IfSome result (λ links. (port < 6) × (links.entered < 6)) }
     {
         let _nodes = self.mesh.nodes();
-        if port < 6 {
-            self.nodes[usize::from(node)].ports[usize::from(port)]
-        } else {
-            None
+        if port >= 6 {
+            return None;
         }
+        let out = self.kept(node, port);
+        if out == NO_LINK {
+            return None;
+        }
+        Some(self.links_by(node, port, out))
     }
 
     /// The links of this port of the node, which has a neighbour there.
@@ -167,10 +223,8 @@ impl Wiring {
         ensures entered { result.entered < 6 }
     {
         let _nodes = self.mesh.nodes();
-        let Some(links) = self.nodes[usize::from(node)].ports[usize::from(port)] else {
-            unreachable!()
-        };
-        links
+        let out = self.kept(node, port);
+        self.links_by(node, port, out)
     }
 
     /// The number of the link that leaves the node by this port, if there is one.

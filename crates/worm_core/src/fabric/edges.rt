@@ -7,12 +7,12 @@ ghost use Rattle.worm_mesh.specs.Links.{link_count};
 ghost use Rattle.worm_router.specs.Router.{after_send, leaving};
 ghost use Rattle.worm_core.specs.State.{IsNetPlace, link_at, router_at, with_router};
 ghost use Rattle.worm_core.specs.Moves.{link_into, link_out};
-ghost use Rattle.worm_core.specs.Wiring.{port_links};
+ghost use Rattle.worm_wires.specs.Wiring.{port_links};
 ghost use Rattle.worm_core.specs.Edges.{after_arriving, after_credit_back};
 
 use super::Fabric;
-use crate::wiring::PortLinks;
 use worm_flit::Flit;
+use worm_wires::PortLinks;
 
 impl Fabric {
     /// By which port the front flit may leave, and as which flit, if it may.

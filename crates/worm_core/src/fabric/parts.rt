@@ -8,12 +8,12 @@ ghost use Rattle.worm_core.specs.Parts.{IsConfigOf, part_state};
 
 use super::Fabric;
 use crate::config::copy_names;
-use crate::links::Links;
 use crate::nodes::Nodes;
 use crate::{Config, NetParts, Own};
 use arrayvec::ArrayVec;
 use worm_flit::ClassChannels;
 use worm_mesh::Mesh;
+use worm_wires::Links;
 
 /// The radices of the mesh.
 fn radices_of(mesh: &Mesh) -> ArrayVec<u8, 3>

@@ -3,9 +3,9 @@
 ghost use Rattle.std.specs.Prelude.{◌≡◌};
 
 use super::{config, lane};
-use crate::{LinkState, Net, Step};
+use crate::{Net, Step};
 use std::test::Fail;
-use worm_flit::{Flit, Kind, Packet};
+use worm_flit::Packet;
 
 #[test]
 fn parts_make_the_same_network(rt: HostRuntime) -> Result<(), Fail> {
@@ -29,40 +29,5 @@ fn parts_make_the_same_network(rt: HostRuntime) -> Result<(), Fail> {
     assert!(rt; net.has_lane(far));
     let view = net.lane_view(alloc, far)?;
     assert_eq!(rt; view.underway.len(), 1);
-    Ok(())
-}
-
-fn flit_of(word: u32) -> Flit {
-    Flit {
-        lane: lane(0, 1, 0),
-        packet: 0,
-        index: 0,
-        kind: Kind::Single,
-        vc: 0,
-        word,
-    }
-}
-
-#[test]
-fn a_link_gives_its_lists(rt: HostRuntime) -> Result<(), Fail> {
-    let mut link = LinkState::new(rt.alloc(), 3)?;
-    link.push(flit_of(5));
-    link.push(flit_of(6));
-    link.push(flit_of(7));
-    link.push_credit(0);
-    link.push_credit(2);
-    link.pop();
-    assert_eq!(rt; link.count(), 2);
-    assert_eq!(rt; link.flit(1), flit_of(7));
-    let (flits, credits) = link.into_lists();
-    assert_eq!(rt; flits.as_slice(), [flit_of(6), flit_of(7)].as_slice());
-    assert_eq!(rt; credits.as_slice(), [0, 2].as_slice());
-    let mut link = LinkState::from_lists(flits, credits, 3);
-    assert_eq!(rt; link.front(), Some(flit_of(6)));
-    assert_eq!(rt; link.front_credit(), Some(0));
-    link.pop_credit();
-    assert_eq!(rt; link.front_credit(), Some(2));
-    link.pop_credit();
-    assert_eq!(rt; link.front_credit(), None);
     Ok(())
 }

@@ -1,5 +1,5 @@
 use Rattle.std.proofs.Common.{◌≡◌, replicate}
-use Rattle.worm_core.specs.NewNet.{empty_link}
+use Rattle.worm_wires.specs.Links.{empty_link}
 use Rattle.worm_core.proofs.fresh.make_links.Given as goal
 
 abbrev pub invariant-loop-number : goal.invariant-loop-number

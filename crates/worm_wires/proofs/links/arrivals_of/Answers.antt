@@ -1,9 +1,9 @@
 use Rattle.std.proofs.Common.{◌≡◌, ◌*◌, [], arith, length, refl}
-use Rattle.worm_core.specs.Arrivals.{credits_of, flits_of}
-use Rattle.worm_core.specs.Wiring.{in_link, out_link}
-use Rattle.worm_core.proofs.Arriving.{in_there, out_there, ports_more, within_more}
-use Rattle.worm_core.proofs.PortSets.{has_none}
-use Rattle.worm_core.proofs.links.arrivals_of.Goals as goal
+use Rattle.worm_wires.specs.Arrivals.{credits_of, flits_of}
+use Rattle.worm_wires.specs.Wiring.{in_link, out_link}
+use Rattle.worm_wires.proofs.Arriving.{in_there, out_there, ports_more, within_more}
+use Rattle.worm_wires.proofs.PortSets.{has_none}
+use Rattle.worm_wires.proofs.links.arrivals_of.Goals as goal
 
 pub loop-port-init : goal.loop-port-init
 loop-port-init c = record {

@@ -1,8 +1,8 @@
 use Rattle.std.proofs.Common.{◌≡◌, ℕ, ◌<◌, ◌*◌, false, true, length, []}
-use Rattle.worm_core.specs.Ports.{has}
-use Rattle.worm_core.specs.Arrivals.{credits_of, flits_of}
-use Rattle.worm_core.specs.Wiring.{in_link, out_link}
-use Rattle.worm_core.proofs.links.arrivals_of.Given as goal
+use Rattle.worm_wires.specs.Ports.{has}
+use Rattle.worm_wires.specs.Arrivals.{credits_of, flits_of}
+use Rattle.worm_wires.specs.Wiring.{in_link, out_link}
+use Rattle.worm_wires.proofs.links.arrivals_of.Given as goal
 
 abbrev pub invariant-loop-port : goal.invariant-loop-port
 invariant-loop-port l = record {

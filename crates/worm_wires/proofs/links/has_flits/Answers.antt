@@ -1,9 +1,9 @@
 use Rattle.std.proofs.Common.{◌≡◌, [], Option, ℕ, ap, sym, subst, ◌∙◌}
 use Rattle.std.specs.Prelude.{is_some}
 use Rattle.worm_flit.specs.declared.Flit.{Flit}
-use Rattle.worm_core.specs.Arrivals.{flits_of}
-use Rattle.worm_core.proofs.Arriving.{found_none}
-use Rattle.worm_core.proofs.links.has_flits.Goals as goal
+use Rattle.worm_wires.specs.Arrivals.{flits_of}
+use Rattle.worm_wires.proofs.Arriving.{found_none}
+use Rattle.worm_wires.proofs.links.has_flits.Goals as goal
 
 pub returns-in-Some-get-clause-none : goal.returns-in-Some-get-clause-none
 returns-in-Some-get-clause-none c = λ off.

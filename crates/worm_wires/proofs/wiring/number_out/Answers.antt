@@ -1,5 +1,14 @@
-use Rattle.worm_core.proofs.Wired.{out_numbered}
-use Rattle.worm_core.proofs.wiring.number_out.Goals as goal
+use Rattle.std.proofs.Common.{Option, Some, None, ap, ◌≡◌, ℕ, ◌∙◌, sym}
+use Rattle.worm_wires.specs.Wiring.{kept_number, out_link}
+use Rattle.worm_wires.proofs.Wired.{out_numbered}
+use Rattle.worm_wires.proofs.wiring.number_out.Goals as goal
 
-pub returns : goal.returns
-returns c = out_numbered c.args.mesh.now c.args.node c.args.port c.requires c.link_number.result c.link_number.ensures.value
+pub returns-in-Some : goal.returns-in-Some
+returns-in-Some c =
+    let same = out_numbered c.args.mesh.now c.args.node c.args.port c.requires c.link_number.result c.link_number.ensures.value in
+    ap kept_number (sym c.in-Some.is ∙ same)
+
+pub returns-in-None : goal.returns-in-None
+returns-in-None c =
+    let same = out_numbered c.args.mesh.now c.args.node c.args.port c.requires c.link_number.result c.link_number.ensures.value in
+    ap kept_number (sym c.in-None.is ∙ same)

@@ -3,7 +3,7 @@ use Rattle.std.specs.Prelude.{IsSome}
 use Rattle.worm_mesh.specs.Address.{neighbour_of}
 use Rattle.worm_core.specs.State.{NetState}
 use Rattle.worm_core.specs.Moves.{front_credit, front_into}
-use Rattle.worm_core.proofs.Arriving.{nothing_in, nothing_out}
+use Rattle.worm_wires.proofs.Arriving.{nothing_in, nothing_out}
 use Rattle.worm_core.proofs.fabric.Fabric.are_links_still.Goals as goal
 
 pub returns-clause-credits : goal.returns-clause-credits

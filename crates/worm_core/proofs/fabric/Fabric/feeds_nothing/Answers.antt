@@ -1,6 +1,6 @@
 use Rattle.std.proofs.Common.{◌≡◌, Bool, Option, None, Some, arith, false, not, true}
 use Rattle.std.specs.Prelude.{IfNone, is_some}
-use Rattle.worm_core.proofs.Arriving.{true_of}
+use Rattle.worm_wires.proofs.Arriving.{true_of}
 use Rattle.worm_core.proofs.fabric.Fabric.feeds_nothing.Goals as goal
 
 where_none : {A : Type 0} (o : Option A) (none : Bool) (P : Type 0) → IfNone o P → is_some o ≡ not none → none ≡ true → P

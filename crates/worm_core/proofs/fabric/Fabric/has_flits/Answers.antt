@@ -1,6 +1,7 @@
 use Rattle.std.proofs.Common.{ap, ◌∙◌}
 use Rattle.std.specs.Prelude.{slice_get}
-use Rattle.worm_core.specs.State.{LinkView, link_at}
+use Rattle.worm_core.specs.State.{link_at}
+use Rattle.worm_wires.specs.Links.{LinkView}
 use Rattle.worm_core.specs.Moves.{link_out}
 use Rattle.worm_core.proofs.EmptyLinks.{front_is}
 use Rattle.worm_core.proofs.fabric.Fabric.has_flits.Goals as goal

@@ -3,8 +3,8 @@ use Rattle.std.specs.Prelude.{IfNone, IfSome, IsSome, slice_get}
 use Rattle.worm_mesh.specs.Address.{neighbour_of}
 use Rattle.worm_core.specs.State.{NetState}
 use Rattle.worm_core.specs.Moves.{front_into}
-use Rattle.worm_core.specs.Arrivals.{flits_to, number_into, state_at}
-use Rattle.worm_core.proofs.Arriving.{none_past, some_before, nothing_in}
+use Rattle.worm_wires.specs.Arrivals.{flits_to, number_into, state_at}
+use Rattle.worm_wires.proofs.Arriving.{none_past, some_before, nothing_in}
 use Rattle.worm_core.proofs.fabric.Fabric.next_flit.Goals as goal
 
 pub returns-clause-before : goal.returns-clause-before

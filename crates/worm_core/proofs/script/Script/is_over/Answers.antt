@@ -3,7 +3,7 @@ use Rattle.std.specs.Prelude.{[], unwrap_or}
 use Rattle.std.proofs.lemmas.Option.{unwrap_or-slice_get}
 use Rattle.worm_core.specs.Script.{AreInOrder, due}
 use Rattle.worm_core.specs.declared.script.Entry.{Entry}
-use Rattle.worm_core.proofs.Arriving.{true_of}
+use Rattle.worm_wires.proofs.Arriving.{true_of}
 use Rattle.worm_core.proofs.DueEntries.{less, none_behind}
 use Rattle.worm_core.proofs.script.Script.is_over.Goals as goal
 

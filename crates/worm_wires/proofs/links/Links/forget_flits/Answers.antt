@@ -1,7 +1,7 @@
 use Rattle.std.proofs.Common.{◌≡◌, [], length, arith, rules, subst, sym}
-use Rattle.worm_core.specs.Arrivals.{LinksView, flits_to}
-use Rattle.worm_core.proofs.Arriving.{forgets_flits}
-use Rattle.worm_core.proofs.links.Links.forget_flits.Goals as goal
+use Rattle.worm_wires.specs.Arrivals.{LinksView, flits_to}
+use Rattle.worm_wires.proofs.Arriving.{forgets_flits}
+use Rattle.worm_wires.proofs.links.Links.forget_flits.Goals as goal
 
 pub invariant_of-self : goal.invariant_of-self
 invariant_of-self c =

@@ -1,8 +1,8 @@
 use Rattle.std.proofs.Common.{arith, length-set, subst, List}
-use Rattle.worm_core.specs.State.{LinkView}
-use Rattle.worm_core.specs.Arrivals.{KnowsArrivals}
-use Rattle.worm_core.proofs.Arriving.{nodes_more}
-use Rattle.worm_core.proofs.links.Links.new.Goals as goal
+use Rattle.worm_wires.specs.Links.{LinkView}
+use Rattle.worm_wires.specs.Arrivals.{KnowsArrivals}
+use Rattle.worm_wires.proofs.Arriving.{nodes_more}
+use Rattle.worm_wires.proofs.links.Links.new.Goals as goal
 
 pub loop-node-preserved : goal.loop-node-preserved
 loop-node-preserved c =

@@ -1,6 +1,6 @@
 use Rattle.std.proofs.Common.{◌≡◌, ℕ, ◌<◌, get_or, length}
-use Rattle.worm_core.specs.Arrivals.{KnowsArrivals, no_arrivals}
-use Rattle.worm_core.proofs.links.Links.new.Given as goal
+use Rattle.worm_wires.specs.Arrivals.{KnowsArrivals, no_arrivals}
+use Rattle.worm_wires.proofs.links.Links.new.Given as goal
 
 abbrev pub invariant-loop-node : goal.invariant-loop-node
 invariant-loop-node l = record {

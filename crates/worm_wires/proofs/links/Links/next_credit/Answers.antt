@@ -1,8 +1,8 @@
 use Rattle.std.proofs.Common.{◌≡◌, ℕ, ◌*◌, ◌<◌, ◌≤◌, [], length, arith, subst}
 use Rattle.std.specs.Prelude.{IfNone, IfSome}
-use Rattle.worm_core.specs.Arrivals.{LinksView, credits_to}
-use Rattle.worm_core.proofs.Arriving.{next_credits}
-use Rattle.worm_core.proofs.links.Links.next_credit.Goals as goal
+use Rattle.worm_wires.specs.Arrivals.{LinksView, credits_to}
+use Rattle.worm_wires.proofs.Arriving.{next_credits}
+use Rattle.worm_wires.proofs.links.Links.next_credit.Goals as goal
 
 pub returns : goal.returns
 returns c =

@@ -1,8 +1,8 @@
 use Rattle.std.proofs.Common.{ap, sym, ◌∙◌, Option}
 use Rattle.std.specs.Prelude.{is_some}
 use Rattle.worm_flit.specs.declared.Flit.{Flit}
-use Rattle.worm_core.proofs.Arriving.{empties, front_none, pops}
-use Rattle.worm_core.proofs.links.Links.pop.Goals as goal
+use Rattle.worm_wires.proofs.Arriving.{empties, front_none, pops}
+use Rattle.worm_wires.proofs.links.Links.pop.Goals as goal
 
 pub invariant_of-self : goal.invariant_of-self
 invariant_of-self c =

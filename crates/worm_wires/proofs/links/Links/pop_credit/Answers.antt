@@ -1,7 +1,7 @@
 use Rattle.std.proofs.Common.{ap, sym, ◌∙◌, Option, ℕ}
 use Rattle.std.specs.Prelude.{is_some}
-use Rattle.worm_core.proofs.Arriving.{empties_credits, front_none, pops_credit}
-use Rattle.worm_core.proofs.links.Links.pop_credit.Goals as goal
+use Rattle.worm_wires.proofs.Arriving.{empties_credits, front_none, pops_credit}
+use Rattle.worm_wires.proofs.links.Links.pop_credit.Goals as goal
 
 pub invariant_of-self : goal.invariant_of-self
 invariant_of-self c =

@@ -1,6 +1,6 @@
 use Rattle.std.proofs.Common.{◌≡◌, ◌++◌, ◌∷◌, [], arith, length, rules}
-use Rattle.worm_core.proofs.Arriving.{pushes}
-use Rattle.worm_core.proofs.links.Links.push.Goals as goal
+use Rattle.worm_wires.proofs.Arriving.{pushes}
+use Rattle.worm_wires.proofs.links.Links.push.Goals as goal
 
 pub invariant_of-self : goal.invariant_of-self
 invariant_of-self c =

@@ -1,7 +1,7 @@
 use Rattle.std.proofs.Common.{◌≡◌, ◌++◌, ◌∷◌, [], arith, length, rules}
-use Rattle.worm_core.proofs.Arriving.{pushes_credit}
-use Rattle.worm_core.proofs.Wired.{entered_within}
-use Rattle.worm_core.proofs.links.Links.push_credit.Goals as goal
+use Rattle.worm_wires.proofs.Arriving.{pushes_credit}
+use Rattle.worm_wires.proofs.Wired.{entered_within}
+use Rattle.worm_wires.proofs.links.Links.push_credit.Goals as goal
 
 pub insert-requires : goal.insert-requires
 insert-requires c = entered_within c.args.self.now.mesh c.args.node c.args.port c.args.links c.requires.mesh c.requires.ports

@@ -1,8 +1,8 @@
 use Rattle.std.proofs.Common.{◌+◌, ◌<◌, ◌/◌, ◌^◌, arith, subst, ℕ}
 use Rattle.std.specs.Int.{trailing_zeros, w8}
-use Rattle.worm_core.specs.Ports.{IsFirstFrom}
-use Rattle.worm_core.proofs.PortSets.{none_from, first_from, within_byte, shifted_small}
-use Rattle.worm_core.proofs.port_set.PortSet.first_from.Goals as goal
+use Rattle.worm_wires.specs.Ports.{IsFirstFrom}
+use Rattle.worm_wires.proofs.PortSets.{none_from, first_from, within_byte, shifted_small}
+use Rattle.worm_wires.proofs.port_set.PortSet.first_from.Goals as goal
 
 pub returns-then-rest-eq0 : goal.returns-then-rest-eq0
 returns-then-rest-eq0 c = rw (← c.self.view_is) (none_from c.self.inside.bits c.args.from c.if-rest-eq0.true)

@@ -1,6 +1,6 @@
 use Rattle.std.proofs.Common.{arith, length-set}
-use Rattle.worm_core.proofs.Wired.{wired_more}
-use Rattle.worm_core.proofs.wiring.Wiring.new.Goals as goal
+use Rattle.worm_wires.proofs.Wired.{wired_more}
+use Rattle.worm_wires.proofs.wiring.Wiring.new.Goals as goal
 
 pub loop-node-preserved : goal.loop-node-preserved
 loop-node-preserved c =

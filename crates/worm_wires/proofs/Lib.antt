@@ -1,0 +1,4 @@
+pub mod PortSets
+pub mod Wired
+pub mod Arriving
+pub mod Strides
