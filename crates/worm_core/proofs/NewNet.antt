@@ -26,8 +26,9 @@ use Rattle.worm_core.specs.Shape.{net_shape}
 use Rattle.worm_core.specs.Owned.{sole}
 use Rattle.worm_core.specs.declared.node.Node.{Node}
 use Rattle.worm_core.specs.declared.own.Own.{Own}
-use Rattle.worm_core.specs.State.{NetState, LinkView, net_state, IsNet, IsFramed, IsNodeOf, shape, network_of, node_at, router_at}
-use Rattle.worm_core.specs.State.{link_at, link_of, fresh_node, blank_link, input_of, output_of, queue_of}
+use Rattle.worm_core.specs.State.{NetState, LinkView, net_state, IsNet, IsFramed, IsNodeOf, shape, network_of}
+use Rattle.worm_core.specs.State.{node_at, router_at, link_at, link_of, fresh_node, blank_link, input_of, output_of}
+use Rattle.worm_core.specs.State.{queue_of}
 use Rattle.worm_core.specs.NewNet.{IsFresh, AreFresh, IsOneNetwork, empty_link}
 use Rattle.worm_core.proofs.Kept.{framed_mesh}
 

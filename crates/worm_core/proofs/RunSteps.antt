@@ -1,6 +1,7 @@
 -- Steps that were answered Ok one after another: one step more, what they lead to, and what they keep.
-use Rattle.std.proofs.Common.{◌≡◌, ℕ, zero, suc, ◌+◌, ◌<◌, inl, inr, List, [], ◌∷◌, ◌++◌, length, get_or, take, map}
-use Rattle.std.proofs.Common.{Some, Ok, Err, refl, arith, ap, sym, subst, ◌∙◌}
+use Rattle.std.proofs.Common.{◌≡◌, ℕ, ◌+◌, ◌<◌, inl, inr, List, [], ◌∷◌, ◌++◌, length, get_or, take, map}
+use Rattle.std.proofs.Common.{Ok, refl, ap, sym, subst, ◌∙◌}
+use Rattle.std.specs.Prelude.{Result}
 use Rattle.std.proofs.lemmas.List.{take_more}
 use Rattle.worm_theory.specs.Shape.{Shape}
 use Rattle.worm_theory.specs.Steps.{Step as Event, StepsTo, StepsLead}
@@ -9,10 +10,9 @@ use Rattle.worm_core.specs.declared.step.Moved.{Moved}
 use Rattle.worm_core.specs.declared.step.Moved.TheVariants.{Done, Idle}
 use Rattle.worm_core.specs.declared.step.Step.{Step}
 use Rattle.worm_core.specs.declared.fault.StepFault.{StepFault}
-use Rattle.worm_core.specs.declared.fault.StepFault.TheVariants.{NoSuchPlace, Refused, NoMemory}
 use Rattle.worm_core.specs.State.{NetState, IsSameConfig, shape, network_of}
 use Rattle.worm_core.specs.Answers.{Answers, ArbitersStand}
-use Rattle.worm_core.specs.Runs.{AreAnswered, IsRun, StopsBehind, event_of}
+use Rattle.worm_core.specs.Runs.{AreAnswered, IsRun, event_of}
 use Rattle.worm_core.proofs.Pointers.{arbiters_stand, same_stands}
 
 -- one step
@@ -44,12 +44,20 @@ answered_push old mid new [] step moved same last =
 answered_push old mid new (first ∷ steps) step moved all last =
     (all.0, all.1, all.2, answered_push all.0 mid new steps step moved all.3 last)
 
-pub answered_more : (old mid new : NetState) (steps : List Step) (n : ℕ) (d : Step) (moved : Moved) → n < length steps
-    → AreAnswered old (take n steps) mid → Answers mid (event_of (get_or steps n d)) (Ok moved) new
-    → AreAnswered old (take (n + 1) steps) new
-answered_more old mid new steps n d moved within all last =
-    subst (λ (xs : List Step). AreAnswered old xs new) (sym (take_more steps n d within))
-    (answered_push old mid new (take n steps) (get_or steps n d) moved all last)
+-- the step at a place was answered Ok, behind those before it
+pub answered_on : (old mid new : NetState) (steps : List Step) (n i : ℕ) (step : Step) (answer : Result Moved StepFault)
+    (moved : Moved) → n ≡ i → i < length steps → step ≡ get_or steps i step → AreAnswered old (take n steps) mid
+    → Answers mid (event_of step) answer new → answer ≡ Ok moved → AreAnswered old (take (n + 1) steps) new
+answered_on old mid new steps n i step answer moved so_far within at all last ok =
+    let here : Answers mid (event_of (get_or steps i step)) (Ok moved) new =
+    subst (λ (d : Step). Answers mid (event_of d) (Ok moved) new) at
+    (subst (λ (r : Result Moved StepFault). Answers mid (event_of step) r new) ok last) in
+    let before : AreAnswered old (take i steps) mid =
+    subst (λ (k : ℕ). AreAnswered old (take k steps) mid) so_far all in
+    let on : AreAnswered old (take (i + 1) steps) new =
+    subst (λ (xs : List Step). AreAnswered old xs new) (sym (take_more steps i step within))
+    (answered_push old mid new (take i steps) (get_or steps i step) moved before here) in
+    subst (λ (k : ℕ). AreAnswered old (take (k + 1) steps) new) (sym so_far) on
 
 answered_keep : (old new : NetState) (steps : List Step) → AreAnswered old steps new → IsSameConfig old new
 answered_keep old new [] same = same_config old new same
@@ -86,24 +94,3 @@ answered_stand old new (step ∷ steps) all = λ x.
     let first = arbiters_stand old all.0 (event_of step) (Ok all.1) all.2 in
     let rest = answered_stand all.0 new steps all.3 in
     ((rest x).0 ∙ (first x).0, (rest x).1 ∙ (first x).1)
-
--- the fault behind them
-
-pub fault_left : (old new : NetState) (e : Event) (fault : StepFault) → Answers old e (Err fault) new →
-    Answers new e (Err fault) new
-fault_left old new e NoSuchPlace a = subst (λ (s : NetState). Answers s e (Err NoSuchPlace) new) (sym a.1) a
-fault_left old new e (Refused why) a = subst (λ (s : NetState). Answers s e (Err (Refused why)) new) (sym a.3) a
-fault_left old new e NoMemory a = subst (λ (s : NetState). Answers s e (Err NoMemory) new) (sym a.3) a
-
--- a fault of the step at a place changed nothing, so what was answered before it leads to what it left
-pub answered_left : (old mid new : NetState) (steps : List Step) (e : Event) (fault : StepFault) →
-    AreAnswered old steps mid → Answers mid e (Err fault) new → AreAnswered old steps new
-answered_left old mid new steps e NoSuchPlace all a = subst (λ (s : NetState). AreAnswered old steps s) (sym a.1) all
-answered_left old mid new steps e (Refused why) all a = subst (λ (s : NetState). AreAnswered old steps s) (sym a.3) all
-answered_left old mid new steps e NoMemory all a = subst (λ (s : NetState). AreAnswered old steps s) (sym a.3) all
-
-pub stops_behind : (n : ℕ) (steps : List Step) (d : Step) (fault : StepFault) (left : NetState) → n < length steps →
-    Answers left (event_of (get_or steps n d)) (Err fault) left → StopsBehind n steps (Some fault) left
-stops_behind n [] d fault left within a = absurd (omega arith)
-stops_behind zero (step ∷ steps) d fault left within a = a
-stops_behind (suc n) (step ∷ steps) d fault left within a = stops_behind n steps d fault left (omega arith) a

@@ -195,6 +195,7 @@ impl Net {
     }
 
     /// The steps in turn, up to the first fault.
+    #[tactic(auto, using(crate::proofs::RunSteps::answered_on))]
     fn take_steps(&mut self, steps: &[Step]) -> RunSoFar
         ensures answered { AreAnswered self.old (take result.done steps.now) self.new }
         ensures stopped { StopsBehind result.done steps.now result.fault self.new }

@@ -145,8 +145,8 @@ fn the_entries_of_a_turn(rt: HostRuntime) -> Result<(), Fail> {
     Ok(())
 }
 
-/// The most nodes, the deepest buffers, the most channels and the longest packet, over the longest way. A flit is fed each
-/// turn, and goes all the way in it, as the nodes on it rise.
+/// The most nodes, the deepest buffers, the most channels and the longest packet, over the longest way. A flit is fed
+/// each turn, and goes all the way in it, as the nodes on it rise.
 #[test]
 fn the_widest_network_delivers_the_longest_packet(rt: HostRuntime) -> Result<(), Fail> {
     let mut net = Net::new(rt.alloc(), &config(&[16, 8, 2], 16, &[2, 2, 2, 2]))?;
