@@ -11,8 +11,7 @@ use Rattle.worm_theory.specs.Network.{same, put2}
 use Rattle.worm_theory.proofs.Places.{bool_cases, number_cases, place_cases, same-false}
 use Rattle.worm_theory.proofs.Bridge.{same_network}
 use Rattle.worm_core.specs.State.{NetState, IsFramed, network_of, node_at, link_at, link_of, with_link}
-use Rattle.worm_wires.specs.Links.{LinkView}
-use Rattle.worm_wires.specs.Links.{blank_link}
+use Rattle.worm_wires.specs.Links.{LinkView, blank_link}
 
 pub below_not_same : (q t : ℕ) → q < t → (q == t) ≡ false
 below_not_same q t h = grind arith

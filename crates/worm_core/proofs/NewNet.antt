@@ -26,12 +26,10 @@ use Rattle.worm_core.specs.Shape.{net_shape}
 use Rattle.worm_core.specs.Owned.{sole}
 use Rattle.worm_core.specs.declared.node.Node.{Node}
 use Rattle.worm_core.specs.declared.own.Own.{Own}
-use Rattle.worm_core.specs.State.{NetState, IsNet, IsFramed, IsNodeOf, shape, network_of, node_at, router_at}
-use Rattle.worm_wires.specs.Links.{LinkView}
+use Rattle.worm_wires.specs.Links.{LinkView, blank_link, empty_link}
+use Rattle.worm_core.specs.State.{NetState, net_state, IsNet, IsFramed, IsNodeOf, shape, network_of, node_at, router_at}
 use Rattle.worm_core.specs.State.{link_at, link_of, fresh_node, input_of, output_of, queue_of}
-use Rattle.worm_wires.specs.Links.{blank_link}
-use Rattle.worm_core.specs.NewNet.{IsFresh, AreFresh}
-use Rattle.worm_wires.specs.Links.{empty_link}
+use Rattle.worm_core.specs.NewNet.{IsFresh, AreFresh, IsOneNetwork}
 use Rattle.worm_core.proofs.Kept.{framed_mesh}
 
 -- a list of one value reads as it at each place, and past its end as the value, too, where that is the default
@@ -220,3 +218,24 @@ module _ (mesh channels : List ℕ) (depth : ℕ) (names : List (List ℕ)) (t :
       let count : length t.nodes ≡ node_count t.mesh = rw fresh.same_mesh fresh.all_nodes in
       fresh_net t.mesh t.channels t.depth t.names t.nodes t.links t.own nodes_of links_of
       own_radices own_classes own_depth own_few fresh.all_owned count
+
+-- lists of one length whose items are given by their places
+same_items : {A : Type 0} (f : ℕ → A) (xs ys : List A) → length xs ≡ length ys → ((i : ℕ) → get_or xs i (f i) ≡ f i)
+    → ((i : ℕ) → get_or ys i (f i) ≡ f i) → xs ≡ ys
+same_items {A} f [] [] even all each = refl
+same_items {A} f [] (y ∷ ys) even all each = absurd (omega arith)
+same_items {A} f (x ∷ xs) [] even all each = absurd (omega arith)
+same_items {A} f (x ∷ xs) (y ∷ ys) even all each =
+    let rest : xs ≡ ys =
+    same_items (λ (i : ℕ). f (suc i)) xs ys (omega arith) (λ i. all (suc i)) (λ i. each (suc i)) in
+    let first : x ≡ y = all zero ∙ sym (each zero) in
+    cc
+
+pub fresh_one : (mesh channels : List ℕ) (depth : ℕ) (names : List (List ℕ)) → IsOneNetwork mesh channels depth names
+fresh_one mesh channels depth names one other a b =
+    let even : length one.nodes ≡ length other.nodes = a.all_nodes ∙ sym b.all_nodes in
+    let nodes : one.nodes ≡ other.nodes =
+    same_items (fresh_node mesh channels depth) one.nodes other.nodes even a.nodes b.nodes in
+    λ t. net_state ((a.same_mesh ∙ sym b.same_mesh) t) ((a.same_channels ∙ sym b.same_channels) t)
+    ((a.same_depth ∙ sym b.same_depth) t) ((a.same_names ∙ sym b.same_names) t) (nodes t)
+    ((a.links ∙ sym b.links) t) ((a.all_owned ∙ sym b.all_owned) t)

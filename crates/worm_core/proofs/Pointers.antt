@@ -75,7 +75,7 @@ step_stands s (Take x p) = take_stands s x p (link_into s x p) (front_into s x p
 step_stands s (GiveCredit x p v) = node_stands s x _ refl
 step_stands s (TakeCredit x o) = get_stands s x o (front_credit s x o)
 
-same_stands : (old new : NetState) → new ≡ old → ArbitersStand old new
+pub same_stands : (old new : NetState) → new ≡ old → ArbitersStand old new
 same_stands old new same = subst (λ (s : NetState). ArbitersStand old s) (sym same) (λ y. (refl, refl))
 
 -- whatever a step was answered

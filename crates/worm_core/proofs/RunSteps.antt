@@ -1,68 +1,96 @@
--- A list of steps, one step longer.
-use Rattle.std.proofs.Common.{◌≡◌, ℕ, ◌+◌, ◌<◌, inl, inr, List, [], ◌∷◌, ◌++◌, length, get_or, take, map, Ok, refl, ap}
-use Rattle.std.proofs.Common.{sym, subst, ◌∙◌}
-use Rattle.std.proofs.lemmas.List.{take_more, map-append}
+-- Steps that were answered Ok one after another: one step more, what they lead to, and what they keep.
+use Rattle.std.proofs.Common.{◌≡◌, ℕ, ◌+◌, ◌<◌, inl, inr, List, [], ◌∷◌, ◌++◌, length, get_or, take, map}
+use Rattle.std.proofs.Common.{Ok, refl, ap, sym, subst, ◌∙◌}
+use Rattle.std.specs.Prelude.{Result}
+use Rattle.std.proofs.lemmas.List.{take_more}
 use Rattle.worm_theory.specs.Shape.{Shape}
-use Rattle.worm_theory.specs.Network.{Network}
 use Rattle.worm_theory.specs.Steps.{Step as Event, StepsTo, StepsLead}
 use Rattle.worm_core.specs.Shape.{net_shape}
 use Rattle.worm_core.specs.declared.step.Moved.{Moved}
 use Rattle.worm_core.specs.declared.step.Moved.TheVariants.{Done, Idle}
 use Rattle.worm_core.specs.declared.step.Step.{Step}
+use Rattle.worm_core.specs.declared.fault.StepFault.{StepFault}
 use Rattle.worm_core.specs.State.{NetState, IsSameConfig, shape, network_of}
-use Rattle.worm_core.specs.Answers.{Answers}
-use Rattle.worm_core.specs.Runs.{IsRun, event_of}
+use Rattle.worm_core.specs.Answers.{Answers, ArbitersStand}
+use Rattle.worm_core.specs.Runs.{AreAnswered, IsRun, event_of}
+use Rattle.worm_core.proofs.Pointers.{arbiters_stand, same_stands}
 
-steps_push : (s : Shape) (a b c : Network) (steps : List Event) (e : Event) → StepsLead s a steps b → StepsTo s b e c →
-    StepsLead s a (steps ++ e ∷ []) c
-steps_push s a b c [] e lead to =
-    let here : StepsTo s a e c = subst (λ (n : Network). StepsTo s n e c) lead to in
-    (c, here, refl)
-steps_push s a b c (step ∷ steps) e lead to = (lead.0, lead.1, steps_push s lead.0 b c steps e lead.2 to)
+-- one step
 
 pub steps_to : (mid new : NetState) (e : Event) (moved : Moved) → Answers mid e (Ok moved) new →
     StepsTo (shape mid) (network_of mid) e (network_of new)
 steps_to mid new e Done a = inl (a.there, a.enabled, a.after_it)
 steps_to mid new e Idle a = inr (λ h. a.1 h.1, ap (λ (s : NetState). network_of s) a.3)
 
-pub config_to : (mid new : NetState) (e : Event) (moved : Moved) → Answers mid e (Ok moved) new → IsSameConfig mid new
-config_to mid new e Done a = a.config
-config_to mid new e Idle a = record {
-  mesh = ap (λ (s : NetState). s.mesh) a.3;
-  channels = ap (λ (s : NetState). s.channels) a.3;
-  depth = ap (λ (s : NetState). s.depth) a.3;
-  names = ap (λ (s : NetState). s.names) a.3;
-  own = ap (λ (s : NetState). s.own) a.3;
+same_config : (old new : NetState) → new ≡ old → IsSameConfig old new
+same_config old new same = record {
+  mesh = ap (λ (s : NetState). s.mesh) same;
+  channels = ap (λ (s : NetState). s.channels) same;
+  depth = ap (λ (s : NetState). s.depth) same;
+  names = ap (λ (s : NetState). s.names) same;
+  own = ap (λ (s : NetState). s.own) same;
 }
 
-pub run_none : (s : NetState) (steps : List Step) → IsRun s s steps 0
-run_none s steps =
-    record { led = refl; config = record { mesh = refl; channels = refl; depth = refl; names = refl; own = refl } }
+pub config_to : (mid new : NetState) (e : Event) (moved : Moved) → Answers mid e (Ok moved) new → IsSameConfig mid new
+config_to mid new e Done a = a.config
+config_to mid new e Idle a = same_config mid new a.3
 
-pub run_more : (old mid new : NetState) (steps : List Step) (n : ℕ) (d : Step) (moved : Moved) → n < length steps
-    → IsRun old mid steps n → Answers mid (event_of (get_or steps n d)) (Ok moved) new → IsRun old new steps (n + 1)
-run_more old mid new steps n d moved within run a =
-    let step = get_or steps n d in
-    let config = config_to mid new (event_of step) moved a in
-    let same_shape : shape mid ≡ shape old =
-    λ t. net_shape (run.config.mesh t) (run.config.channels t) (run.config.depth t) in
-    let to : StepsTo (shape old) (network_of mid) (event_of step) (network_of new) =
-    subst (λ (s : Shape). StepsTo s (network_of mid) (event_of step) (network_of new)) same_shape
-    (steps_to mid new (event_of step) moved a) in
-    let pushed =
-    steps_push (shape old) (network_of old) (network_of mid) (network_of new) (map event_of (take n steps))
-    (event_of step) run.led to in
-    let one_more : map event_of (take n steps) ++ event_of step ∷ [] ≡ map event_of (take (n + 1) steps) =
-    sym (ap (λ (xs : List Step). map event_of xs) (take_more steps n d within) ∙
-    map-append event_of (take n steps) (step ∷ [])) in
+-- a list of them
+
+answered_push : (old mid new : NetState) (steps : List Step) (step : Step) (moved : Moved) → AreAnswered old steps mid
+    → Answers mid (event_of step) (Ok moved) new → AreAnswered old (steps ++ step ∷ []) new
+answered_push old mid new [] step moved same last =
+    (new, moved, subst (λ (s : NetState). Answers s (event_of step) (Ok moved) new) same last, refl)
+answered_push old mid new (first ∷ steps) step moved all last =
+    (all.0, all.1, all.2, answered_push all.0 mid new steps step moved all.3 last)
+
+-- the step at a place was answered Ok, behind those before it
+pub answered_on : (old mid new : NetState) (steps : List Step) (n i : ℕ) (step : Step) (answer : Result Moved StepFault)
+    (moved : Moved) → n ≡ i → i < length steps → step ≡ get_or steps i step → AreAnswered old (take n steps) mid
+    → Answers mid (event_of step) answer new → answer ≡ Ok moved → AreAnswered old (take (n + 1) steps) new
+answered_on old mid new steps n i step answer moved so_far within at all last ok =
+    let here : Answers mid (event_of (get_or steps i step)) (Ok moved) new =
+    subst (λ (d : Step). Answers mid (event_of d) (Ok moved) new) at
+    (subst (λ (r : Result Moved StepFault). Answers mid (event_of step) r new) ok last) in
+    let before : AreAnswered old (take i steps) mid =
+    subst (λ (k : ℕ). AreAnswered old (take k steps) mid) so_far all in
+    let on : AreAnswered old (take (i + 1) steps) new =
+    subst (λ (xs : List Step). AreAnswered old xs new) (sym (take_more steps i step within))
+    (answered_push old mid new (take i steps) (get_or steps i step) moved before here) in
+    subst (λ (k : ℕ). AreAnswered old (take (k + 1) steps) new) (sym so_far) on
+
+answered_keep : (old new : NetState) (steps : List Step) → AreAnswered old steps new → IsSameConfig old new
+answered_keep old new [] same = same_config old new same
+answered_keep old new (step ∷ steps) all =
+    let first = config_to old all.0 (event_of step) all.1 all.2 in
+    let rest = answered_keep all.0 new steps all.3 in
     record {
-      led = subst (λ (es : List Event). StepsLead (shape old) (network_of old) es (network_of new)) one_more pushed;
-      config =
-          record {
-            mesh = config.mesh ∙ run.config.mesh;
-            channels = config.channels ∙ run.config.channels;
-            depth = config.depth ∙ run.config.depth;
-            names = config.names ∙ run.config.names;
-            own = config.own ∙ run.config.own;
-          };
+      mesh = rest.mesh ∙ first.mesh;
+      channels = rest.channels ∙ first.channels;
+      depth = rest.depth ∙ first.depth;
+      names = rest.names ∙ first.names;
+      own = rest.own ∙ first.own;
     }
+
+answered_lead : (old new : NetState) (steps : List Step) → AreAnswered old steps new →
+    StepsLead (shape old) (network_of old) (map event_of steps) (network_of new)
+answered_lead old new [] same = ap (λ (s : NetState). network_of s) same
+answered_lead old new (step ∷ steps) all =
+    let config = config_to old all.0 (event_of step) all.1 all.2 in
+    let same : shape all.0 ≡ shape old = λ t. net_shape (config.mesh t) (config.channels t) (config.depth t) in
+    let rest : StepsLead (shape old) (network_of all.0) (map event_of steps) (network_of new) =
+    subst (λ (s : Shape). StepsLead s (network_of all.0) (map event_of steps) (network_of new)) same
+    (answered_lead all.0 new steps all.3) in
+    (network_of all.0, steps_to old all.0 (event_of step) all.1 all.2, rest)
+
+pub run_of : (old new : NetState) (steps : List Step) (n : ℕ) → AreAnswered old (take n steps) new →
+    IsRun old new steps n
+run_of old new steps n all =
+    record { led = answered_lead old new (take n steps) all; config = answered_keep old new (take n steps) all }
+
+pub answered_stand : (old new : NetState) (steps : List Step) → AreAnswered old steps new → ArbitersStand old new
+answered_stand old new [] same = same_stands old new same
+answered_stand old new (step ∷ steps) all = λ x.
+    let first = arbiters_stand old all.0 (event_of step) (Ok all.1) all.2 in
+    let rest = answered_stand all.0 new steps all.3 in
+    ((rest x).0 ∙ (first x).0, (rest x).1 ∙ (first x).1)

@@ -29,3 +29,9 @@ pub record IsFresh (mesh channels : List ℕ) (depth : ℕ) (names : List (List 
   pub all_nodes : length s.nodes ≡ node_count mesh
   pub nodes : AreFresh mesh channels depth s.nodes
   pub links : s.links ≡ replicate (link_count mesh) (empty_link (sum channels * depth))
+
+-- two new networks of one configuration are the same
+abbrev pub IsOneNetwork : List ℕ → List ℕ → ℕ → List (List ℕ) → Type 0
+IsOneNetwork mesh channels depth names =
+    (one other : NetState) → IsFresh mesh channels depth names one → IsFresh mesh channels depth names other
+    → one ≡ other

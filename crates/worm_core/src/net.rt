@@ -1,7 +1,7 @@
 ghost use Rattle.std.specs.Prelude.{None, Some, slice_index_or, ◌≡◌, ◌≤◌, ◌<◌, ◌*◌, ◌↔◌, ℕ, Result, IsTrue, IfNone};
-ghost use Rattle.std.specs.Prelude.{IfOk, Ok, sum, length, slice_get, IfSome, MatchOption, Err};
+ghost use Rattle.std.specs.Prelude.{IfOk, Ok, sum, length, take, Err};
 ghost use Rattle.worm_theory.specs.Steps.{IsThere, Step as Event};
-ghost use Rattle.worm_core.specs.Runs.{IsRun, event_of};
+ghost use Rattle.worm_core.specs.Runs.{AreAnswered, IsRun, StopsBehind, event_of};
 ghost use Rattle.worm_core.specs.Answers.{Answers, ArbitersStand, accepted_of, moved_of};
 ghost use Rattle.worm_theory.specs.Steps.{empty};
 ghost use Rattle.worm_core.specs.NewNet.{IsConfig, IsFresh};
@@ -42,7 +42,7 @@ impl Model for Net {
 /// How far a run of steps came.
 #[derive(Clone, Copy, Debug, PartialEq, Eq)]
 pub struct RunSoFar {
-    /// How many of its steps were judged, from the first; those that were not enabled count, too.
+    /// How many of its steps were answered Ok, from the first; those that were not enabled count, too.
     pub done: usize,
     /// The fault of the step that follows them, if there was one.
     pub fault: Option<StepFault>,
@@ -195,11 +195,10 @@ impl Net {
     }
 
     /// The steps in turn, up to the first fault.
+    #[tactic(auto, using(crate::proofs::RunSteps::answered_on))]
     fn take_steps(&mut self, steps: &[Step]) -> RunSoFar
-        ensures led { IsRun self.old self.new steps.now result.done }
-        ensures stopped { MatchOption result.fault (result.done ≡ length steps.now)
-            (λ fault. IfSome (slice_get steps.now result.done)
-            (λ step. Answers self.new (event_of step) (Err fault) self.new)) }
+        ensures answered { AreAnswered self.old (take result.done steps.now) self.new }
+        ensures stopped { StopsBehind result.done steps.now result.fault self.new }
     {
         let mut done = 0;
         for step in steps {
@@ -219,10 +218,10 @@ impl Net {
     /// Takes the steps one after another, up to the first fault; the steps before it stand. After any such run what
     /// was delivered of a lane, followed by what is under way, is what was injected, and nothing follows a close mark.
     pub fn run(&mut self, steps: &[Step]) -> RunSoFar
+        ensures answered { AreAnswered self.old (take result.done steps.now) self.new }
+        ensures stopped { StopsBehind result.done steps.now result.fault self.new }
         ensures led { IsRun self.old self.new steps.now result.done }
-        ensures stopped { MatchOption result.fault (result.done ≡ length steps.now)
-            (λ fault. IfSome (slice_get steps.now result.done)
-            (λ step. Answers self.new (event_of step) (Err fault) self.new)) }
+        ensures pointers { ArbitersStand self.old self.new }
         ensures delivers { DeliversInOrder self.new }
         ensures marks { NothingFollowsMarks self.old self.new }
     {

@@ -6,10 +6,11 @@ mod view;
 
 use crate::{
     Act, Config, Entry, Moved, Name, Net, NetFault, OfferFault, RunSoFar, Script, ScriptFault,
-    Step, StepFault,
+    Step, StepFault, Totals,
 };
 use arrayvec::ArrayVec;
 use std::test::Fail;
+use view::offer;
 use worm_flit::{Lane, Packet};
 
 /// A configuration with these radices, depth and classes of so many channels.
@@ -85,21 +86,36 @@ fn two_classes_take_turns(rt: HostRuntime) -> Result<(), Fail> {
     Ok(())
 }
 
+/// A run ends at the step that is refused: the mark before it stands, and what is behind it was never asked.
 #[test]
 fn a_closed_lane_takes_nothing(rt: HostRuntime) -> Result<(), Fail> {
     let mut net = Net::new(rt.alloc(), &config(&[2], 2, &[1]))?;
-    assert_eq!(rt;
-        net.step(&Step::Close {
+    let over = lane(0, 1, 0);
+    let steps = [
+        Step::Close {
             node: 0,
-            lane: lane(0, 1, 0)
-        }),
-        Ok(Moved::Done)
-    );
-    let packet = Packet::new(lane(0, 1, 0), &[5])?;
+            lane: over,
+        },
+        offer(over, &[5])?,
+        offer(lane(1, 0, 0), &[6])?,
+    ];
+    let closed = StepFault::Refused(OfferFault::LaneClosed);
     assert_eq!(rt;
-        net.step(&Step::Offer { node: 0, packet }),
-        Err(StepFault::Refused(OfferFault::LaneClosed))
+        net.run(&steps),
+        RunSoFar {
+            done: 1,
+            fault: Some(closed)
+        }
     );
+    assert_eq!(rt;
+        net.totals(),
+        Totals {
+            injected: 1,
+            delivered: 0,
+            accepted: 1
+        }
+    );
+    assert_eq!(rt; net.step(&offer(over, &[5])?), Err(closed));
     Ok(())
 }
 

@@ -5,10 +5,9 @@ use Rattle.std.specs.Prelude.{All, OnErr, Result, is_ok, slice_index_or}
 use Rattle.std.proofs.lemmas.List.{get_or_append_left, get_or_at}
 use Rattle.std.proofs.Math.ListN.{length-replicate}
 use Rattle.worm_mesh.specs.Links.{link_count}
-use Rattle.worm_wires.specs.Links.{empty_link}
+use Rattle.worm_wires.specs.Links.{LinkView, empty_link}
 use Rattle.worm_core.specs.Owned.{owned_by}
 use Rattle.worm_core.specs.State.{NetState, IsNet, network_of, shape}
-use Rattle.worm_wires.specs.Links.{LinkView}
 use Rattle.worm_core.specs.Workable.{IsWorkable}
 use Rattle.worm_core.specs.declared.node.Node.{Node}
 use Rattle.worm_core.specs.declared.own.Own.{Own}

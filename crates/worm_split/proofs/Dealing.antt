@@ -9,10 +9,9 @@ use Rattle.worm_flit.specs.declared.Flit.{Flit}
 use Rattle.worm_mesh.specs.Links.{link_count}
 use Rattle.worm_mesh.specs.declared.mesh.LinkEnds.{LinkEnds}
 use Rattle.worm_core.specs.NewNet.{AreFresh}
-use Rattle.worm_wires.specs.Links.{empty_link}
+use Rattle.worm_wires.specs.Links.{LinkView, blank_link, empty_link}
 use Rattle.worm_core.specs.Owned.{owned_by}
 use Rattle.worm_core.specs.State.{NetState, fresh_node, link_at, node_at}
-use Rattle.worm_wires.specs.Links.{LinkView, blank_link}
 use Rattle.worm_core.specs.declared.node.Node.{Node}
 use Rattle.worm_core.specs.declared.own.Own.{Own}
 use Rattle.worm_split.specs.declared.ends.End.{End}

@@ -16,11 +16,10 @@ use Rattle.worm_theory.specs.Shape.{Shape, IsMesh}
 use Rattle.worm_theory.specs.Steps.{empty}
 use Rattle.worm_theory.proofs.Keeps.{empty_sound}
 use Rattle.worm_theory.proofs.Places.{bool_cases}
-use Rattle.worm_wires.specs.Links.{empty_link}
+use Rattle.worm_wires.specs.Links.{LinkView, blank_link, empty_link}
 use Rattle.worm_core.specs.Owned.{owned_by}
 use Rattle.worm_core.specs.Shape.{net_shape}
 use Rattle.worm_core.specs.State.{NetState, IsFramed, IsNet, IsNodeOf, fresh_node, link_at}
-use Rattle.worm_wires.specs.Links.{LinkView, blank_link}
 use Rattle.worm_core.specs.State.{network_of, node_at, shape, sink_at}
 use Rattle.worm_core.specs.Workable.{IsBound, IsKept, IsSent, IsWorkable, Works, owned}
 use Rattle.worm_core.specs.declared.node.Node.{Node}

@@ -9,8 +9,7 @@ use Rattle.worm_mesh.proofs.Digits.{AreLarge-from_radices}
 use Rattle.worm_mesh.proofs.Neighbours.{Joins-from, Joins-back, Joins-unique, opposite_twice}
 use Rattle.worm_mesh.proofs.Numbers.{one_link}
 use Rattle.worm_wires.specs.Links.{LinkView, blank_link}
-use Rattle.worm_wires.specs.Wiring.{into_from}
-use Rattle.worm_wires.specs.Wiring.{out_link, in_link, port_links}
+use Rattle.worm_wires.specs.Wiring.{in_link, into_from, out_link, port_links}
 use Rattle.worm_wires.specs.Ports.{has, IsFirstFrom, IsPut}
 use Rattle.worm_wires.specs.Arrivals.{LinksView, KnowsArrivals, KnowsAll, credits_of, credits_to, flits_of, flits_to, no_arrivals, number_into, number_out, state_at, with_state}
 use Rattle.worm_wires.specs.declared.links.Arrivals.{Arrivals}

@@ -7,8 +7,7 @@ use Rattle.worm_mesh.specs.Links.{IsLink, degree_of, links_before, link_count}
 use Rattle.worm_mesh.proofs.Digits.{AreLarge-from_radices}
 use Rattle.worm_mesh.proofs.Neighbours.{Joins-from, Joins-back, neighbour_of-some, neighbour_of-none, no_port}
 use Rattle.worm_mesh.proofs.Numbers.{below_count, degree_of-le, sum_below-le}
-use Rattle.worm_wires.specs.Wiring.{into_from}
-use Rattle.worm_wires.specs.Wiring.{AreLinksOf, AreWired, kept_number, no_links, out_link, in_link, port_links}
+use Rattle.worm_wires.specs.Wiring.{AreLinksOf, AreWired, in_link, into_from, kept_number, no_links, out_link, port_links}
 use Rattle.worm_wires.specs.declared.wiring.NodeLinks.{NodeLinks}
 use Rattle.worm_wires.specs.declared.wiring.PortLinks.{PortLinks}
 

@@ -5,8 +5,7 @@ use Rattle.worm_flit.specs.declared.Flit.{Flit}
 use Rattle.worm_mesh.specs.Address.{neighbour_of}
 use Rattle.worm_mesh.specs.Links.{links_before}
 use Rattle.worm_wires.specs.Links.{LinkView, blank_link}
-use Rattle.worm_wires.specs.Wiring.{into_from}
-use Rattle.worm_wires.specs.Wiring.{in_link, out_link}
+use Rattle.worm_wires.specs.Wiring.{in_link, into_from, out_link}
 use Rattle.worm_wires.specs.Ports.{has}
 use Rattle.worm_wires.specs.declared.links.Arrivals.{Arrivals}
 

@@ -3,8 +3,7 @@
 ghost use Rattle.std.specs.Prelude.{◌≡◌, ◌<◌, ◌≤◌, ◌*◌, ℕ, IfSome, IsSome, Some, length};
 ghost use Rattle.worm_mesh.specs.Address.{IsMesh as IsRadices, neighbour_of, node_count, stride_of};
 ghost use Rattle.worm_mesh.specs.Links.{link_count, links_before};
-ghost use Rattle.worm_wires.specs.Wiring.{into_from};
-ghost use Rattle.worm_wires.specs.Wiring.{AreLinksOf, AreStrides, in_link, kept_number, out_link, port_links};
+ghost use Rattle.worm_wires.specs.Wiring.{AreLinksOf, AreStrides, in_link, into_from, kept_number, out_link, port_links};
 
 use std::marker::Model;
 use worm_mesh::Mesh;

@@ -132,6 +132,9 @@ fn the_entries_of_a_turn(rt: HostRuntime) -> Result<(), Fail> {
     for turn in [0, 2, 2, 5] {
         script.push(to_offer(turn, lane(0, turn as u8, 0), &[1])?)?;
     }
+    let early = script.push(to_offer(4, lane(0, 4, 0), &[1])?);
+    assert_eq!(rt; early, Err(ScriptFault::TurnFalls));
+    assert_eq!(rt; script.entries().len(), 4);
     assert_eq!(rt; script.due(0).len(), 1);
     assert_eq!(rt; script.due(1).len(), 0);
     assert_eq!(rt; script.due(2).len(), 2);
@@ -139,6 +142,25 @@ fn the_entries_of_a_turn(rt: HostRuntime) -> Result<(), Fail> {
     assert_eq!(rt; last.len(), 1);
     assert_eq!(rt; last[0].act.lane(), lane(0, 5, 0));
     assert_eq!(rt; script.due(1_000_000_000_000).len(), 0);
+    Ok(())
+}
+
+/// The most nodes, the deepest buffers, the most channels and the longest packet, over the longest way. A flit is fed
+/// each turn, and goes all the way in it, as the nodes on it rise.
+#[test]
+fn the_widest_network_delivers_the_longest_packet(rt: HostRuntime) -> Result<(), Fail> {
+    let mut net = Net::new(rt.alloc(), &config(&[16, 8, 2], 16, &[2, 2, 2, 2]))?;
+    let mut sent = Vec::new(rt.alloc());
+    for word in 0..32u32 {
+        sent.push(word)?;
+    }
+    let mut script = Script::empty(rt.alloc());
+    script.push(to_offer(0, lane(0, 255, 3), sent.as_slice())?)?;
+    for turn in 0..32 {
+        net.turn(turn, &script)?;
+    }
+    let got = words(&net, 255, rt)?;
+    assert_eq!(rt; got.as_slice(), sent.as_slice());
     Ok(())
 }
 

@@ -1,6 +1,6 @@
-use Rattle.std.proofs.Common.{◌≡◌}
-use Rattle.worm_core.specs.Runs.{IsRun}
+use Rattle.std.proofs.Common.{◌≡◌, take}
+use Rattle.worm_core.specs.Runs.{AreAnswered}
 use Rattle.worm_core.proofs.net.Net.take_steps.Given as goal
 
 abbrev pub invariant-loop-step : goal.invariant-loop-step
-invariant-loop-step l = (l.done ≡ l.step-index) × IsRun l.initial.self l.self l.steps l.done
+invariant-loop-step l = (l.done ≡ l.step-index) × AreAnswered l.initial.self (take l.done l.steps) l.self
