@@ -3,7 +3,7 @@
 ghost use Rattle.std.specs.Prelude.{◌≡◌, ◌≤◌, ◌<◌, ◌+◌, ◌++◌, ◌∷◌, [], vec_len, vec_capacity, OnOk, IfOk, IfErr};
 ghost use Rattle.worm_core.specs.Headline.{DeliversInOrder};
 ghost use Rattle.worm_split.specs.Joins.{IsLaterThan};
-ghost use Rattle.worm_run.specs.Working.{AllWorked, stop_of};
+ghost use Rattle.worm_run.specs.Working.{AllWorked, WorkedAs, stop_of};
 ghost use Rattle.worm_run.specs.Runs.{FailsAs, HasRooms, HasWorkers, IsEndOf, RanAs, IsRunOf, RunsTo};
 
 use crate::gate::Gate;
@@ -13,7 +13,7 @@ use std::alloc::{AllocError, Global};
 use std::snapshot::Snapshot;
 use std::sync::Wait;
 use std::thread;
-use std::thread::{Scope, Threads};
+use std::thread::{PromisedHandle, Scope, Threads};
 use worm_core::{Net, Script};
 use worm_split::{Part, join, split};
 
@@ -52,8 +52,65 @@ struct Ran {
     ended: Vec<u64>,
 }
 
+/// Starts the last part's worker. `Err` names it where its thread could not be started.
+///
+/// This and `collect` are not inlined, so that no part lies on the stack while the workers of others are started.
+#[inline(never)]
+fn start<'s, E, R: Threads + Wait + Sync, G: Gate + Sync>(
+    scope: &Scope<'s, E>,
+    rt: &'s R,
+    script: &'s Script,
+    turns: u64,
+    gate: &'s G,
+    parts: &mut Vec<Part>,
+) -> Result<PromisedHandle<Worked, WorksAs<'s, G>>, usize>
+    requires { 0 < vec_len parts.old }
+    ensures taken { IfOk result (λ child. parts.old.items ≡ parts.new.items ++ child.promise.part.value ∷ []) }
+    ensures script { IfOk result (λ child. child.promise.script.now ≡ script.now) }
+    ensures turns { IfOk result (λ child. child.promise.turns ≡ turns) }
+    ensures gate { IfOk result (λ child. child.promise.gate.now ≡ gate.now) }
+    ensures worker { IfOk result (λ child. child.promise.worker ≡ vec_len parts.new) }
+    ensures fewer { vec_len parts.new + 1 ≡ vec_len parts.old }
+    ensures refused { IfErr result (λ w. w < vec_len parts.old) }
+    ensures room { vec_capacity parts.old ≤ vec_capacity parts.new }
+{
+    let Some(part) = parts.pop() else {
+        unreachable!()
+    };
+    let worker = parts.len();
+    let promise = WorksAs {
+        script,
+        turns,
+        gate,
+        worker,
+        part: Snapshot::of(&part),
+    };
+    match scope.spawn_with(promise, move || work(rt, part, worker, turns, script, gate)) {
+        Ok(child) => Ok(child),
+        Err(_) => Err(worker),
+    }
+}
+
+/// Joins a worker, and puts what it gives back behind the others.
+#[inline(never)]
+fn collect<'s, R: Threads, G: Gate>(
+    rt: &R,
+    child: PromisedHandle<Worked, WorksAs<'s, G>>,
+    done: &mut Vec<Worked>,
+)
+    requires { vec_len done.old < vec_capacity done.old }
+    ensures worked { (worked : Worked) × (done.new.items ≡ done.old.items ++ worked ∷ []) ×
+        WorkedAs (G.may_stop child.promise.gate.now) child.promise.script.now child.promise.turns
+        child.promise.worker child.promise.part.value worked }
+    ensures len { vec_len done.new ≡ vec_len done.old + 1 }
+    ensures room { vec_capacity done.old ≤ vec_capacity done.new }
+{
+    let worked = child.join(rt);
+    put(done, worked);
+}
+
 /// Starts the last part's worker, runs the parts before it, and then joins that worker. `Err` names a worker whose
-/// thread could not be started; those that were started have ended.
+/// thread could not be started; those that were started end with the scope.
 fn run_parts<'s, E, R: Threads + Wait + Sync, G: Gate + Sync>(
     scope: &Scope<'s, E>,
     rt: &'s R,
@@ -72,28 +129,13 @@ fn run_parts<'s, E, R: Threads + Wait + Sync, G: Gate + Sync>(
     ensures parts_room { vec_capacity parts.old ≤ vec_capacity parts.new }
     ensures done_room { vec_capacity done.old ≤ vec_capacity done.new }
 {
-    let Some(part) = parts.pop() else {
+    if parts.is_empty() {
         return Ok(());
-    };
-    let worker = parts.len();
-    let promise = WorksAs {
-        script,
-        turns,
-        gate,
-        worker,
-        part: Snapshot::of(&part),
-    };
-    let Ok(child) = scope.spawn_with(promise, move || work(rt, part, worker, turns, script, gate))
-    else {
-        return Err(worker);
-    };
-    let others = run_parts(scope, rt, script, turns, gate, parts, done);
-    let worked = child.join(rt);
-    others?;
-    match done.push(worked) {
-        Ok(()) => Ok(()),
-        Err(_) => unreachable!(),
     }
+    let child = start(scope, rt, script, turns, gate, parts)?;
+    run_parts(scope, rt, script, turns, gate, parts, done)?;
+    collect(rt, child, done);
+    Ok(())
 }
 
 /// Puts an item where there is room for it.

@@ -26,7 +26,7 @@ use Rattle.worm_split.proofs.PartMoves.{credit_comes, flit_comes}
 use Rattle.worm_split.proofs.Pulls.{credit_popped, flit_popped, linked, back, beyond_in, entered_is, out_is, into_is, out_bound, into_bound, out_end_bound, into_end_bound, out_end, into_end, out_credits, into_flits, out_from_beyond, into_from_beyond}
 
 -- another list of one link leaves the configuration
-same_when_linked : (s new : NetState) (k : ℕ) (l : Rattle.worm_core.specs.State.LinkView) → new ≡ Rattle.worm_core.specs.State.with_link s k l → IsSameConfig s new
+same_when_linked : (s new : NetState) (k : ℕ) (l : Rattle.worm_wires.specs.Links.LinkView) → new ≡ Rattle.worm_core.specs.State.with_link s k l → IsSameConfig s new
 same_when_linked s new k l e = record {
   mesh = ap (λ (n : NetState). n.mesh) e;
   channels = ap (λ (n : NetState). n.channels) e;
