@@ -1,8 +1,9 @@
 -- What a report shows of a network, place by place.
-use Rattle.std.specs.Prelude.{ℕ, ◌&&◌, Bool, true, false, not, ◌==◌, List, ◌++◌, map, Option, Some, None}
+use Rattle.std.specs.Prelude.{ℕ, ◌&&◌, Bool, true, false, not, ◌==◌, nat_lt, if◌then◌else◌, List, ◌++◌, map, Option, Some, None}
 use Rattle.std.specs.Option.{option_map}
 use Rattle.std.specs.List.{filter, filter_map}
-use Rattle.worm_mesh.specs.Address.{neighbour_of, opposite_of}
+use Rattle.worm_mesh.specs.Address.{node_count, neighbour_of, opposite_of}
+use Rattle.worm_route.specs.Route.{port_of}
 use Rattle.worm_core.specs.declared.view.Place.{Place}
 use Rattle.worm_core.specs.declared.view.Place.TheVariants.{Source, Buffer, Link}
 use Rattle.worm_rows.specs.declared.rows.Row.{Row}
@@ -34,6 +35,12 @@ seen mesh _ = None
 
 abbrev pub seen_flits : List ℕ → List Row → List Flit
 seen_flits mesh rows = filter_map (seen mesh) rows
+
+-- the port by which a flit leaves the node at which it is seen, on its route
+abbrev pub exit_port : List ℕ → Flit → Option ℕ
+exit_port mesh flit =
+    if nat_lt flit.spot.node (node_count mesh) && nat_lt flit.packet.lane.dst (node_count mesh)
+    then Some (port_of mesh flit.spot.node flit.packet.lane.dst) else None
 
 -- ---- the flits of a place
 

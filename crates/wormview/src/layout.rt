@@ -1,5 +1,7 @@
 //! Where things stand in the picture, in units of its user space.
 
+use worm_mesh::Mesh;
+
 /// The length and the width of a flit's slot.
 pub const SLOT: u32 = 12;
 
@@ -19,8 +21,7 @@ pub const HEADING: u32 = 40;
 pub const LEGEND: u32 = 150;
 
 /// The sizes of a node of the picture. A node is a square about its middle; its core is where flits pass from port to
-/// port; at each
-/// side of the core is a strip with the buffers of a port.
+/// port; at each side of the core is a strip with the buffers of a port.
 #[derive(Clone, Copy, Debug, PartialEq, Eq)]
 pub struct Layout {
     /// The length of a strip: the depth of a buffer.
@@ -70,5 +71,23 @@ impl Layout {
     /// From the middle of a node to the strip of the next node, where a link ends.
     pub fn reach(&self) -> u32 {
         self.pitch - (self.core + self.long)
+    }
+}
+
+/// A digit of a node's address, 0 in a dimension that the mesh does not have.
+pub fn digit(mesh: &Mesh, node: u8, dim: u8) -> u8 {
+    if dim < mesh.dims() && u16::from(node) < mesh.nodes() {
+        mesh.digit(node, dim)
+    } else {
+        0
+    }
+}
+
+/// The radix of a dimension, 1 where the mesh does not have it.
+pub fn radix(mesh: &Mesh, dim: u8) -> u8 {
+    if dim < mesh.dims() {
+        mesh.radix(dim)
+    } else {
+        1
     }
 }

@@ -7,10 +7,10 @@ use worm_rows::Row;
 
 const STYLE: &str = "<style>
 .n0{fill:#fff;stroke:#999}
-.n1{fill:#f2f2f2;stroke:#777}
-.n2{fill:#e0e0e0;stroke:#555}
-.n3{fill:#c8c8c8;stroke:#333}
-.n4{fill:#aaa;stroke:#000}
+.n1{fill:#eee;stroke:#777}
+.n2{fill:#d6d6d6;stroke:#555}
+.n3{fill:#b8b8b8;stroke:#333}
+.n4{fill:#929292;stroke:#000}
 .slots{fill:#fff;stroke:#bbb;stroke-width:0.6}
 .full{fill:#fff;stroke:#000;stroke-width:2}
 .link{fill:none;stroke:#bbb;stroke-width:1}
@@ -43,8 +43,8 @@ const NOTES: &str =
 <text class=\"note\" x=\"386\" y=\"14\">tail</text>
 <use href=\"#single\" x=\"420\" y=\"10\" fill=\"#56B4E9\"/>
 <text class=\"note\" x=\"431\" y=\"14\">whole packet or close mark</text>
-<text class=\"note\" x=\"10\" y=\"36\">Buffers stand where flits come in, the front towards the middle of the node;
-below on the left what is injected.</text>
+<text class=\"note\" x=\"10\" y=\"36\">Buffers stand where flits come in, the front towards the middle of the node;</text>
+<text class=\"note\" x=\"470\" y=\"36\">below on the left what is injected.</text>
 <rect class=\"slots\" x=\"10\" y=\"47\" width=\"24\" height=\"12\"/>
 <text class=\"note\" x=\"40\" y=\"58\">a channel of a buffer</text>
 <rect class=\"full\" x=\"190\" y=\"47\" width=\"24\" height=\"12\"/>
@@ -59,10 +59,12 @@ below on the left what is injected.</text>
 <text class=\"note\" x=\"40\" y=\"80\">the way that a packet holds: its opening went there</text>
 <path class=\"wants\" stroke=\"#0072B2\" d=\"M400,76L424,76\"/>
 <text class=\"note\" x=\"430\" y=\"80\">the way that an opening at a front wants</text>
-<text class=\"note\" x=\"10\" y=\"102\"><tspan font-weight=\"bold\">27</tspan> the node's number;
-+3 flits wait in its source;
-<tspan text-decoration=\"underline\">5</tspan> flits were delivered to it.
-Hover over a flit, or a count, to read what it is.</text>
+<text class=\"note\" x=\"10\" y=\"102\" font-weight=\"bold\">27</text>
+<text class=\"note\" x=\"40\" y=\"102\">the node's number</text>
+<text class=\"note\" x=\"190\" y=\"102\">+3 flits wait in its source</text>
+<text class=\"note\" x=\"400\" y=\"102\" text-decoration=\"underline\">5</text>
+<text class=\"note\" x=\"430\" y=\"102\">flits were delivered to it</text>
+<text class=\"note\" x=\"10\" y=\"124\">Hover over a flit, or a count, to read what it is.</text>
 ";
 
 /// How things look, and the shapes of flits.

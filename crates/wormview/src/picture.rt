@@ -1,96 +1,25 @@
 //! The picture of a report, as SVG.
 
-ghost use Rattle.std.specs.Prelude.{◌≤◌};
-
-use crate::layout::{HEADING, LEGEND, Layout, NARROWEST, SLOT};
+use crate::layout::{HEADING, LEGEND, Layout, NARROWEST, SLOT, digit, radix};
 use crate::legend::{add_heading, add_legend, add_style};
 use crate::packets::{Packet, Packets};
-use crate::scene::{Flit, Spot, delivered, flits_at, front_first, queued, seen_flits};
-use crate::svg::{Frame, Svg};
+use crate::scene::{Flit, exit_port};
+use crate::signs::{colour_of, exit_of, frame_of, mark_of, shape_of};
+use crate::svg::Svg;
+use crate::titles::{ArrivalTitle, FlitTitle};
+use crate::views::{NodeView, Station};
 use std::alloc::{AllocError, Global};
 use std::fmt::Write;
-use worm_core::Place;
-use worm_mesh::Mesh;
-use worm_route::next_port;
-use worm_rows::{Load, Row, Shape};
+use worm_rows::{Row, Shape};
 
 /// What a picture is drawn from.
 #[derive(Drop)]
 struct Scene<'a> {
-    alloc: Global,
     shape: &'a Shape,
     depth: u8,
     rows: &'a [Row],
     packets: &'a Packets,
     layout: Layout,
-}
-
-/// How the strip of an input port is turned.
-fn frame_of(dims: u8, port: u8) -> Frame
-    requires { dims ≤ 3 }
-{
-    if port == 2 * dims {
-        return Frame::Plain;
-    }
-    match port {
-        0 => Frame::Plain,
-        1 | 5 => Frame::Back,
-        2 => Frame::Down,
-        3 => Frame::Up,
-        _ => Frame::Mirrored,
-    }
-}
-
-/// How what leaves by an output port is turned: as what it is at the next node.
-fn exit_of(dims: u8, port: u8) -> Frame
-    requires { dims ≤ 3 }
-{
-    if port == 2 * dims {
-        return Frame::Plain;
-    }
-    match port {
-        0 | 4 => Frame::Back,
-        1 => Frame::Plain,
-        2 => Frame::Up,
-        3 => Frame::Down,
-        _ => Frame::Mirrored,
-    }
-}
-
-/// The shape of a flit: its part in its packet.
-fn shape_of(index: u8, last: u8) -> &'static str {
-    if index == 0 && last == 0 {
-        "single"
-    } else if index == 0 {
-        "opening"
-    } else if index == last {
-        "tail"
-    } else {
-        "body"
-    }
-}
-
-/// The colours of packets: eyes that do not tell red from green tell these apart (Okabe and Ito).
-fn colour_of(number: u32) -> &'static str {
-    match number % 7 {
-        0 => "#0072B2",
-        1 => "#E69F00",
-        2 => "#009E73",
-        3 => "#CC79A7",
-        4 => "#56B4E9",
-        5 => "#D55E00",
-        _ => "#F0E442",
-    }
-}
-
-/// The mark on a packet's flits, which tells packets of one colour apart.
-fn mark_of(number: u32) -> Option<&'static str> {
-    match number / 7 % 4 {
-        0 => None,
-        1 => Some("dot"),
-        2 => Some("ring"),
-        _ => Some("bar"),
-    }
 }
 
 impl<'a> Scene<'a> {
@@ -115,16 +44,12 @@ impl<'a> Scene<'a> {
         let shape = shape_of(flit.index, packet.last);
         let number = packet.number.unwrap_or(0);
         let colour = colour_of(number);
-        let src = flit.packet.lane.src;
-        let dst = flit.packet.lane.dst;
-        let class = flit.packet.lane.class;
-        let id = flit.packet.number;
-        let index = flit.index;
-        let last = packet.last;
-        write!(
-            svg.text,
-            "<g><title>from {src} to {dst} class {class} packet {id} flit {index} of 0 to {last}</title>"
-        )?;
+        let title = FlitTitle {
+            packet: flit.packet,
+            index: flit.index,
+            last: packet.last,
+        };
+        write!(svg.text, "<g><title>{title}</title>")?;
         write!(
             svg.text,
             "<use href=\"#{shape}\" x=\"-{x}\" y=\"{y}\" fill=\"{colour}\"/>"
@@ -166,12 +91,9 @@ impl<'a> Scene<'a> {
     fn add_way(&self, svg: &mut Svg, flit: &Flit, y: u32) -> Result<(), AllocError> {
         let mesh = &self.shape.mesh;
         let dims = mesh.dims();
-        if u16::from(flit.spot.node) >= mesh.nodes()
-            || u16::from(flit.packet.lane.dst) >= mesh.nodes()
-        {
+        let Some(exit) = exit_port(mesh, flit) else {
             return Ok(());
-        }
-        let exit = next_port(mesh, flit.spot.node, flit.packet.lane.dst);
+        };
         let colour = colour_of(self.packets.get(flit.packet).number.unwrap_or(0));
         let class = if flit.index == 0 { "wants" } else { "holds" };
         let core = self.layout.core;
@@ -197,34 +119,31 @@ impl<'a> Scene<'a> {
         svg.close()
     }
 
-    /// A channel of an input port: its link, its slots, and what is in them.
-    fn add_channel(&self, svg: &mut Svg, flits: &[Flit], spot: Spot) -> Result<(), AllocError> {
-        let dims = self.shape.mesh.dims();
-        let held = front_first(self.alloc, flits, self.packets, spot)?;
-        let coming = front_first(
-            self.alloc,
-            flits,
-            self.packets,
-            Spot {
-                on_link: true,
-                ..spot
-            },
-        )?;
-        let top = self
-            .offset(spot.port)
-            .saturating_add(u32::from(spot.vc).saturating_mul(SLOT));
+    /// A channel of an input port: its slots, and what is in them and on its link.
+    fn add_channel(&self, svg: &mut Svg, station: &Station) -> Result<(), AllocError> {
+        let spot = station.spot;
+        let top = self.top_of(station);
         let y = top.saturating_add(SLOT / 2);
-        svg.open_frame(frame_of(dims, spot.port))?;
-        self.add_slots(svg, held.len(), top)?;
+        svg.open_frame(frame_of(self.shape.mesh.dims(), spot.port))?;
+        self.add_slots(svg, station.held.len(), top)?;
         let front = self.layout.core + SLOT / 2;
-        self.add_row(svg, held.as_slice(), front, y)?;
-        self.add_row(
-            svg,
-            coming.as_slice(),
-            front + self.layout.long + SLOT / 2,
-            y,
-        )?;
+        self.add_row(svg, station.held.as_slice(), front, y)?;
+        let behind = front + self.layout.long + SLOT / 2;
+        self.add_row(svg, station.coming.as_slice(), behind, y)?;
         svg.close()
+    }
+
+    /// Whether there is such a channel, or a flit in it.
+    fn is_drawn(&self, station: &Station) -> bool {
+        self.has_input(station.spot.node, station.spot.port)
+            || !station.held.is_empty()
+            || !station.coming.is_empty()
+    }
+
+    /// How far a channel stands from the middle of its node's core, across the way of its flits.
+    fn top_of(&self, station: &Station) -> u32 {
+        let above = u32::from(station.spot.vc).saturating_mul(SLOT);
+        self.offset(station.spot.port).saturating_add(above)
     }
 
     /// The link to an input port.
@@ -246,9 +165,10 @@ impl<'a> Scene<'a> {
 
     /// The number of a node, how many flits wait in its source and how many it was delivered, each with what it stands
     /// for.
-    fn add_counts(&self, svg: &mut Svg, node: u8) -> Result<(), AllocError> {
-        let waiting = queued(self.rows, node);
-        let arrived = delivered(self.rows, node);
+    fn add_counts(&self, svg: &mut Svg, view: &NodeView) -> Result<(), AllocError> {
+        let node = view.node;
+        let waiting = view.waiting;
+        let arrived = view.arrived;
         let left = self.layout.core + 3;
         let low = self.layout.half.saturating_sub(4);
         let core = self.layout.core;
@@ -278,16 +198,11 @@ impl<'a> Scene<'a> {
         for row in self.rows {
             if let Row::Delivered { packet, load } = row {
                 if packet.lane.dst == node {
-                    let src = packet.lane.src;
-                    let class = packet.lane.class;
-                    let id = packet.number;
-                    write!(svg.text, "\nfrom {src} class {class} packet {id}")?;
-                    match load {
-                        Load::Close => write!(svg.text, " close")?,
-                        Load::Word { index, word } => {
-                            write!(svg.text, " flit {index} word {word}")?
-                        }
-                    }
+                    let title = ArrivalTitle {
+                        packet: *packet,
+                        load: *load,
+                    };
+                    write!(svg.text, "\n{title}")?;
                 }
             }
         }
@@ -300,14 +215,14 @@ impl<'a> Scene<'a> {
     }
 
     /// How full the buffers of a node are, in five steps.
-    fn load_of(&self, here: &[Flit], node: u8) -> u8 {
+    fn load_of(&self, view: &NodeView) -> u8 {
         let ports = (0..7u8)
-            .filter(|port| *port <= 2 * self.shape.mesh.dims() && self.has_input(node, *port))
+            .filter(|port| *port <= 2 * self.shape.mesh.dims() && self.has_input(view.node, *port))
             .count();
         let room = ports
             .saturating_mul(usize::from(self.shape.channels))
             .saturating_mul(usize::from(self.depth));
-        let held = here.iter().filter(|flit| !flit.spot.on_link).count();
+        let held = view.held();
         if held == 0 {
             0
         } else if held.saturating_mul(4) <= room {
@@ -321,42 +236,12 @@ impl<'a> Scene<'a> {
         }
     }
 
-    /// The input ports of a node.
-    fn add_ports(&self, svg: &mut Svg, here: &[Flit], node: u8) -> Result<(), AllocError> {
-        for port in 0..7u8 {
-            if port <= 2 * self.shape.mesh.dims() && self.has_input(node, port) {
-                for vc in 0..self.shape.channels {
-                    let spot = Spot {
-                        node,
-                        port,
-                        vc,
-                        on_link: false,
-                    };
-                    self.add_channel(svg, here, spot)?;
-                }
-            }
-        }
-        Ok(())
-    }
-
     /// The ways of the flits at the fronts of a node's buffers.
-    fn add_ways(&self, svg: &mut Svg, here: &[Flit], node: u8) -> Result<(), AllocError> {
-        for port in 0..7u8 {
-            for vc in 0..self.shape.channels {
-                let spot = Spot {
-                    node,
-                    port,
-                    vc,
-                    on_link: false,
-                };
-                let held = front_first(self.alloc, here, self.packets, spot)?;
-                if let Some(first) = held.as_slice().first() {
-                    let y = self
-                        .offset(port)
-                        .saturating_add(u32::from(vc).saturating_mul(SLOT))
-                        .saturating_add(SLOT / 2);
-                    self.add_way(svg, first, y)?;
-                }
+    fn add_ways(&self, svg: &mut Svg, view: &NodeView) -> Result<(), AllocError> {
+        for station in view.stations.as_slice() {
+            if let Some(first) = station.held.as_slice().first() {
+                let y = self.top_of(station).saturating_add(SLOT / 2);
+                self.add_way(svg, first, y)?;
             }
         }
         Ok(())
@@ -390,19 +275,18 @@ impl<'a> Scene<'a> {
     }
 
     /// The border of a node, and the links to it.
-    fn add_ground(&self, svg: &mut Svg, flits: &[Flit], node: u8) -> Result<(), AllocError> {
-        let here = flits_at(self.alloc, flits, node)?;
-        let (x, y) = self.middle_of(node);
+    fn add_ground(&self, svg: &mut Svg, view: &NodeView) -> Result<(), AllocError> {
+        let (x, y) = self.middle_of(view.node);
         let half = self.layout.half;
         let side = 2 * half;
-        let load = self.load_of(here.as_slice(), node);
+        let load = self.load_of(view);
         svg.open_at(x, y)?;
         writeln!(
             svg.text,
             "<rect class=\"n{load}\" x=\"-{half}\" y=\"-{half}\" width=\"{side}\" height=\"{side}\" rx=\"4\"/>"
         )?;
         for port in 0..4u8 {
-            if self.has_input(node, port) {
+            if self.has_input(view.node, port) {
                 self.add_link(svg, port)?;
             }
         }
@@ -410,72 +294,55 @@ impl<'a> Scene<'a> {
     }
 
     /// The ways of a node's flits.
-    fn add_traces(&self, svg: &mut Svg, flits: &[Flit], node: u8) -> Result<(), AllocError> {
-        let here = flits_at(self.alloc, flits, node)?;
-        let (x, y) = self.middle_of(node);
+    fn add_traces(&self, svg: &mut Svg, view: &NodeView) -> Result<(), AllocError> {
+        let (x, y) = self.middle_of(view.node);
         svg.open_at(x, y)?;
-        self.add_ways(svg, here.as_slice(), node)?;
+        self.add_ways(svg, view)?;
         svg.close()
     }
 
     /// The buffers of a node, what is on the links to it, and its counts.
-    fn add_node(&self, svg: &mut Svg, flits: &[Flit], node: u8) -> Result<(), AllocError> {
-        let here = flits_at(self.alloc, flits, node)?;
-        let (x, y) = self.middle_of(node);
+    fn add_node(&self, svg: &mut Svg, view: &NodeView) -> Result<(), AllocError> {
+        let (x, y) = self.middle_of(view.node);
         svg.open_at(x, y)?;
-        self.add_ports(svg, here.as_slice(), node)?;
-        self.add_counts(svg, node)?;
+        for station in view.stations.as_slice() {
+            if self.is_drawn(station) {
+                self.add_channel(svg, station)?;
+            }
+        }
+        self.add_counts(svg, view)?;
         svg.close()
     }
 
     /// The whole mesh: the ground below the ways, and these below the flits.
-    fn add_nodes(&self, svg: &mut Svg, flits: &[Flit]) -> Result<(), AllocError> {
-        for node in 0..self.shape.mesh.nodes() {
-            self.add_ground(svg, flits, node as u8)?;
+    fn add_nodes(&self, svg: &mut Svg, views: &[NodeView]) -> Result<(), AllocError> {
+        for view in views {
+            self.add_ground(svg, view)?;
         }
-        for node in 0..self.shape.mesh.nodes() {
-            self.add_traces(svg, flits, node as u8)?;
+        for view in views {
+            self.add_traces(svg, view)?;
         }
-        for node in 0..self.shape.mesh.nodes() {
-            self.add_node(svg, flits, node as u8)?;
+        for view in views {
+            self.add_node(svg, view)?;
         }
         Ok(())
     }
 }
 
-/// A digit of a node's address, 0 in a dimension that the mesh does not have.
-pub fn digit(mesh: &Mesh, node: u8, dim: u8) -> u8 {
-    if dim < mesh.dims() && u16::from(node) < mesh.nodes() {
-        mesh.digit(node, dim)
-    } else {
-        0
-    }
-}
-
-/// The radix of a dimension, 1 where the mesh does not have it.
-pub fn radix(mesh: &Mesh, dim: u8) -> u8 {
-    if dim < mesh.dims() {
-        mesh.radix(dim)
-    } else {
-        1
-    }
-}
-
-/// The picture of these rows, which are of a network of this shape with buffers of this depth.
+/// The picture of these nodes, as the rows show them of a network of this shape with buffers of this depth.
 pub fn picture(
     alloc: Global,
     shape: &Shape,
     depth: u8,
     rows: &[Row],
+    packets: &Packets,
+    views: &[NodeView],
 ) -> Result<String, AllocError> {
-    let packets = Packets::of(alloc, rows)?;
-    let flits = seen_flits(alloc, &shape.mesh, rows)?;
     let scene = Scene {
-        alloc,
         shape,
         depth,
         rows,
-        packets: &packets,
+        packets,
         layout: Layout::new(depth, shape.channels),
     };
     let mut svg = Svg::new(alloc);
@@ -489,7 +356,7 @@ pub fn picture(
     )?;
     add_style(&mut svg)?;
     add_heading(&mut svg, rows, packets.moving())?;
-    scene.add_nodes(&mut svg, flits.as_slice())?;
+    scene.add_nodes(&mut svg, views)?;
     add_legend(&mut svg, foot)?;
     svg.put("</svg>\n")?;
     Ok(svg.text)

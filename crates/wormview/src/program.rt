@@ -1,13 +1,18 @@
 //! The program over readers and a writer.
 
-ghost use Rattle.std.specs.Prelude.{IfOk, IfErr};
+ghost use Rattle.std.specs.Prelude.{◌≡◌, IfOk, IfErr, OnOk};
+ghost use Rattle.std.specs.Io.KnownBytes.{Appends};
 ghost use Rattle.worm_text.specs.Network.{view};
 ghost use Rattle.wormview.specs.Views.{IsAccepted, IsRefused};
+ghost use Rattle.wormview.specs.Programs.{Draws, DrawsTexts, FailsTexts, FailsToDraw, GaveBoth, ReadsNot, stream};
+ghost use Rattle.wormview.specs.declared.fault.ViewFault.TheVariants.{Write};
 
 use crate::fault::ViewFault;
 use crate::map::map;
+use crate::packets::Packets;
 use crate::picture::picture;
 use crate::reading::{ReadFault, read_text};
+use crate::views::views;
 use std::alloc::{AllocError, Global};
 use std::io::{Read, Write};
 use worm_core::Config;
@@ -46,40 +51,102 @@ pub fn accept(alloc: Global, network: &[u8], report: &[u8]) -> Result<Accepted, 
     }
 }
 
+/// The two texts, read to their end.
+#[derive(Drop)]
+struct Texts {
+    network: Vec<u8>,
+    report: Vec<u8>,
+}
+
+/// Reads both texts to their end, the network first.
+fn read_both<N: Read, R: Read>(
+    alloc: Global,
+    network: &mut N,
+    report: &mut R,
+) -> Result<Texts, ViewFault>
+    ensures ok { IfOk result (λ t. GaveBoth (stream (N.remaining network.old) (N.remaining network.new)) (stream (R.remaining report.old) (R.remaining report.new)) t.network.items t.report.items) }
+    ensures err { IfErr result
+        (ReadsNot (stream (N.remaining network.old) (N.remaining network.new))
+        (stream (R.remaining report.old) (R.remaining report.new))) }
+{
+    let network = match read_text(alloc, network) {
+        Ok(text) => text,
+        Err(ReadFault::Unreadable) => return Err(ViewFault::ReadNetwork),
+        Err(ReadFault::NoMemory) => return Err(ViewFault::NoMemory),
+    };
+    let report = match read_text(alloc, report) {
+        Ok(text) => text,
+        Err(ReadFault::Unreadable) => return Err(ViewFault::ReadReport),
+        Err(ReadFault::NoMemory) => return Err(ViewFault::NoMemory),
+    };
+    Ok(Texts { network, report })
+}
+
 /// The picture of what was accepted, or its map.
-fn drawn(alloc: Global, accepted: &Accepted, text: bool) -> Result<String, AllocError> {
+pub fn drawn(alloc: Global, accepted: &Accepted, text: bool) -> Result<String, AllocError> {
+    let shape = &accepted.shape;
     let rows = accepted.rows.as_slice();
     let depth = accepted.config.depth;
+    let packets = Packets::of(alloc, rows)?;
+    let views = views(alloc, shape, rows, &packets)?;
     if text {
-        map(alloc, &accepted.shape, depth, rows)
+        map(alloc, &shape.mesh, depth, views.as_slice())
     } else {
-        picture(alloc, &accepted.shape, depth, rows)
+        picture(alloc, shape, depth, rows, &packets, views.as_slice())
     }
 }
 
+/// Gives the writer a drawing.
+fn write_drawing<W: Write>(out: &mut W, drawing: &str) -> Result<(), ViewFault>
+    ensures all { OnOk result (Appends (W.contents out.old) (W.contents out.new) drawing.now) }
+    ensures err { IfErr result (λ fault. fault ≡ Write) }
+{
+    if out.write_all(drawing.as_bytes()).is_err() || out.flush().is_err() {
+        return Err(ViewFault::Write);
+    }
+    Ok(())
+}
+
+/// Judges two texts, and gives the writer the picture of the report, or its map.
+fn draw_texts<W: Write>(
+    alloc: Global,
+    network: &[u8],
+    report: &[u8],
+    text: bool,
+    out: &mut W,
+) -> Result<(), ViewFault>
+    ensures ok { OnOk result (DrawsTexts network.now report.now (stream (W.contents out.old) (W.contents out.new))) }
+    ensures err { IfErr result (FailsTexts network.now report.now (stream (W.contents out.old) (W.contents out.new))) }
+{
+    let accepted = accept(alloc, network, report)?;
+    let Ok(drawing) = drawn(alloc, &accepted, text) else {
+        return Err(ViewFault::NoMemory);
+    };
+    write_drawing(out, drawing.as_str())
+}
+
 /// Reads the network and the report to their ends, and gives the writer the picture, or the map.
+///
+/// `ReadNetwork` and `ReadReport` where a reader failed or gave too much; `Network` and `Report` where a text is refused;
+/// `NoMemory` where memory ran out; with these nothing was written. `Write` where the writer failed.
 pub fn run_view<N: Read, R: Read, W: Write>(
     alloc: Global,
     network: &mut N,
     report: &mut R,
     text: bool,
     out: &mut W,
-) -> Result<(), ViewFault> {
-    let network = match read_text(alloc, network) {
-        Ok(bytes) => bytes,
-        Err(ReadFault::Unreadable) => return Err(ViewFault::ReadNetwork),
-        Err(ReadFault::NoMemory) => return Err(ViewFault::NoMemory),
-    };
-    let report = match read_text(alloc, report) {
-        Ok(bytes) => bytes,
-        Err(ReadFault::Unreadable) => return Err(ViewFault::ReadReport),
-        Err(ReadFault::NoMemory) => return Err(ViewFault::NoMemory),
-    };
-    let accepted = accept(alloc, network.as_slice(), report.as_slice())?;
-    let drawing = drawn(alloc, &accepted, text)?;
-    let written = out.write_all(drawing.as_str().as_bytes());
-    if written.is_err() || out.flush().is_err() {
-        return Err(ViewFault::Write);
-    }
-    Ok(())
+) -> Result<(), ViewFault>
+    ensures ok { OnOk result
+        (Draws (stream (N.remaining network.old) (N.remaining network.new))
+        (stream (R.remaining report.old) (R.remaining report.new))
+        (stream (W.contents out.old) (W.contents out.new))) }
+    ensures err { IfErr result
+        (FailsToDraw (stream (N.remaining network.old) (N.remaining network.new))
+        (stream (R.remaining report.old) (R.remaining report.new))
+        (stream (W.contents out.old) (W.contents out.new))) }
+{
+    let texts = read_both(alloc, network, report)?;
+    let network = texts.network.as_slice();
+    let report = texts.report.as_slice();
+    draw_texts(alloc, network, report, text, out)
 }

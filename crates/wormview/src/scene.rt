@@ -1,6 +1,8 @@
 //! What a report shows of a network, place by place.
 
-ghost use Rattle.std.specs.Prelude.{◌≡◌, IfOk, List};
+ghost use Rattle.std.specs.Prelude.{◌≡◌, IfOk, List, length};
+ghost use Rattle.std.specs.List.{filter};
+ghost use Rattle.wormview.specs.Nodes as nodes;
 ghost use Rattle.wormview.specs.declared.scene.Parted.{Parted};
 ghost use Rattle.wormview.specs.Scene as spec;
 
@@ -8,6 +10,7 @@ use crate::packets::Packets;
 use std::alloc::{AllocError, Global};
 use worm_core::Place;
 use worm_mesh::Mesh;
+use worm_route::next_port;
 use worm_rows::{PacketId, Row};
 
 /// A channel of an input port: its buffer, and the link that leads there.
@@ -76,6 +79,19 @@ pub fn seen(mesh: &Mesh, row: &Row) -> Option<Flit>
             })
         }
         _ => None,
+    }
+}
+
+/// The port by which a flit leaves the node at which it is seen, on its route; none where a node is not of the mesh.
+pub fn exit_port(mesh: &Mesh, flit: &Flit) -> Option<u8>
+    ensures { result ≡ spec.exit_port mesh.now flit.now }
+{
+    let node = flit.spot.node;
+    let dst = flit.packet.lane.dst;
+    if u16::from(node) < mesh.nodes() && u16::from(dst) < mesh.nodes() {
+        Some(next_port(mesh, node, dst))
+    } else {
+        None
     }
 }
 
@@ -222,18 +238,40 @@ pub fn front_first(
     in_order(alloc, parted.as_slice())
 }
 
+/// Whether the row is of a flit that waits in the source of the node.
+fn waits_at(row: &Row, node: u8) -> bool
+    ensures { result ≡ nodes.waits_at node row.now }
+{
+    match row {
+        Row::Underway {
+            packet,
+            place: Place::Source,
+            ..
+        } => packet.lane.src == node,
+        _ => false,
+    }
+}
+
+/// Whether the row is of a flit that was delivered to the node.
+fn arrives_at(row: &Row, node: u8) -> bool
+    ensures { result ≡ nodes.arrives_at node row.now }
+{
+    match row {
+        Row::Delivered { packet, .. } => packet.lane.dst == node,
+        _ => false,
+    }
+}
+
 /// How many flits wait in the source of a node.
-pub fn queued(rows: &[Row], node: u8) -> usize {
-    rows.iter()
-        .filter(
-            |row| matches!(row, Row::Underway { packet, place: Place::Source, .. } if packet.lane.src == node),
-        )
-        .count()
+pub fn queued(rows: &[Row], node: u8) -> usize
+    ensures { result ≡ length (filter (nodes.waits_at node) rows.now) }
+{
+    rows.iter().filter(|row| waits_at(row, node)).count()
 }
 
 /// How many flits were delivered to a node.
-pub fn delivered(rows: &[Row], node: u8) -> usize {
-    rows.iter()
-        .filter(|row| matches!(row, Row::Delivered { packet, .. } if packet.lane.dst == node))
-        .count()
+pub fn delivered(rows: &[Row], node: u8) -> usize
+    ensures { result ≡ length (filter (nodes.arrives_at node) rows.now) }
+{
+    rows.iter().filter(|row| arrives_at(row, node)).count()
 }

@@ -1,8 +1,7 @@
 //! The program on worked reports, with readers and writers that fail.
 
 use crate::fault::ViewFault;
-use crate::map::map;
-use crate::program::{accept, run_view};
+use crate::program::{accept, drawn, run_view};
 use std::alloc::Global;
 use std::io;
 use std::io::{ErrorKind, Read, Write};
@@ -30,16 +29,34 @@ impl Read for Failing {
     }
 }
 
-fn map_of(alloc: Global) -> Option<String> {
+fn drawing_of(alloc: Global, text: bool) -> Option<String> {
     let accepted = accept(alloc, NETWORK, REPORT).ok()?;
-    map(alloc, &accepted.shape, 2, accepted.rows.as_slice()).ok()
+    drawn(alloc, &accepted, text).ok()
 }
 
 #[test]
 fn a_map(rt: HostRuntime) {
     let wanted =
         "   .      1<  \n\nThe fullest buffers:\nnode 1 port 2 channel 0: 1 flits, at the front 1 to 0 class 0 packet 0 flit 1, which leaves by port 0 <\n";
-    assert!(rt; map_of(rt.alloc()).is_some_and(|map| map.as_str() == wanted));
+    assert!(rt; drawing_of(rt.alloc(), true).is_some_and(|map| map.as_str() == wanted));
+}
+
+/// The flit on the link is a head and that in the buffer its tail; the third waits in the source.
+#[test]
+fn a_picture(rt: HostRuntime) {
+    let picture = drawing_of(rt.alloc(), false);
+    let text = picture.as_ref().map_or("", |picture| picture.as_str());
+    assert!(rt;
+        text.contains(
+            "<g><title>from 1 to 0 class 0 packet 0 flit 0 of 0 to 1</title><use href=\"#opening\""
+        )
+    );
+    assert!(rt;
+        text.contains(
+            "<g><title>from 1 to 0 class 0 packet 0 flit 1 of 0 to 1</title><use href=\"#tail\""
+        )
+    );
+    assert!(rt; text.contains(">+1<title>1 flits wait in the source of node 1</title>"));
 }
 
 #[test]

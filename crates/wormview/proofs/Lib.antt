@@ -1,0 +1,5 @@
+mod Taken
+mod Shown
+mod InMesh
+mod Steps
+mod Drawing

@@ -1,0 +1,18 @@
+use Rattle.worm_text.specs.Network.{view}
+use Rattle.wormview.specs.Programs.{Accepts, stream}
+use Rattle.wormview.proofs.Drawing.{drew, failed}
+use Rattle.wormview.proofs.program.draw_texts.Goals as goal
+
+pub returns-clause-ok : goal.returns-clause-ok
+returns-clause-ok g c =
+    let accepted = c.in_ok-accepted.accepted in
+    let accepts : Accepts c.args.network.now c.args.report.now =
+    record { said = view accepted.config; shape = accepted.shape; rows = accepted.rows.items; accepted = c.in_ok-accepted.ensures.ok } in
+    drew c.args.network.now c.args.report.now c.as_str.result.now (stream (g.W.Write.contents c.args.out.now) (g.W.Write.contents c.write_drawing.new.out)) c.write_drawing.result accepts c.write_drawing.ensures.all
+
+pub returns-clause-err : goal.returns-clause-err
+returns-clause-err g c =
+    let accepted = c.in_ok-accepted.accepted in
+    let accepts : Accepts c.args.network.now c.args.report.now =
+    record { said = view accepted.config; shape = accepted.shape; rows = accepted.rows.items; accepted = c.in_ok-accepted.ensures.ok } in
+    failed c.args.network.now c.args.report.now (stream (g.W.Write.contents c.args.out.now) (g.W.Write.contents c.write_drawing.new.out)) c.write_drawing.result accepts c.write_drawing.ensures.err

@@ -1,0 +1,9 @@
+use Rattle.std.proofs.Common.{◌≡◌, All, map, take}
+use Rattle.wormview.specs.Nodes.{IsStation}
+use Rattle.wormview.proofs.views.stations.Given as goal
+
+abbrev pub invariant-loop-spot : goal.invariant-loop-spot
+invariant-loop-spot l = record {
+  spots : map (λ s. s.spot) l.stations.items ≡ take l.spot-index l.spots;
+  each : All (IsStation l.flits) l.stations.items;
+}

@@ -1,0 +1,82 @@
+-- What the program makes of two texts: a drawing of the report, or the fault that comes first.
+use Rattle.std.specs.Prelude.{ℕ, List, Option}
+use Rattle.std.specs.Io.KnownBytes.{Keeps, Appends}
+use Rattle.worm_text.specs.Network.{Network}
+use Rattle.worm_rows.specs.declared.shape.Shape.{Shape}
+use Rattle.worm_rows.specs.declared.rows.Row.{Row}
+use Rattle.wormview.specs.declared.fault.ViewFault.{ViewFault}
+use Rattle.wormview.specs.declared.fault.ViewFault.TheVariants as f
+use Rattle.wormview.specs.Reading.{GaveText}
+use Rattle.wormview.specs.Views.{IsAccepted, IsRefused}
+
+-- what a reader had left and has left, or what a writer held and holds
+pub record Stream : Type 0 where
+  pub old : Option (List ℕ)
+  pub new : Option (List ℕ)
+
+abbrev pub stream : Option (List ℕ) → Option (List ℕ) → Stream
+stream old new = record { old = old; new = new }
+
+-- both readers gave their texts to the end
+pub record GaveBoth (first second : Stream) (network report : List ℕ) : Type 0 where
+  pub of_network : GaveText first.old first.new network
+  pub of_report : GaveText second.old second.new report
+
+-- Texts at hand
+
+-- both texts are accepted
+pub record Accepts (network report : List ℕ) : Type 0 where
+  pub said : Network
+  pub shape : Shape
+  pub rows : List Row
+  pub accepted : IsAccepted network report said shape rows
+
+-- both texts are accepted, and a drawing was written, all of it
+pub record DrawsTexts (network report : List ℕ) (out : Stream) : Type 0 where
+  pub accepts : Accepts network report
+  pub drawing : List ℕ
+  pub written : Appends out.old out.new drawing
+
+-- what a fault tells of two texts at hand: nothing was written, but where the writer failed
+abbrev pub FailsTexts : List ℕ → List ℕ → Stream → ViewFault → Type 0
+FailsTexts network report out (f.Network t) = IsRefused network report (f.Network t) × Keeps out.old out.new
+FailsTexts network report out (f.Report t) = IsRefused network report (f.Report t) × Keeps out.old out.new
+FailsTexts network report out f.ReadNetwork = ⊥
+FailsTexts network report out f.ReadReport = ⊥
+FailsTexts network report out f.NoMemory = Keeps out.old out.new
+FailsTexts network report out f.Write = Accepts network report
+
+-- Readers
+
+-- both readers gave their texts, and a drawing of the report was written
+pub record Draws (first second out : Stream) : Type 0 where
+  pub network : List ℕ
+  pub report : List ℕ
+  pub gave : GaveBoth first second network report
+  pub draws : DrawsTexts network report out
+
+-- both readers gave their texts, of which this holds
+pub record FailsBoth (Holds : List ℕ → List ℕ → Type 0) (first second : Stream) : Type 0 where
+  pub network : List ℕ
+  pub report : List ℕ
+  pub gave : GaveBoth first second network report
+  pub fails : Holds network report
+
+-- what a fault tells where two readers give the texts; the report is not read before the network is
+abbrev pub FailsToDraw : Stream → Stream → Stream → ViewFault → Type 0
+FailsToDraw first second out (f.Network t) = FailsBoth (λ network report. FailsTexts network report out (f.Network t)) first second
+FailsToDraw first second out (f.Report t) = FailsBoth (λ network report. FailsTexts network report out (f.Report t)) first second
+FailsToDraw first second out f.ReadNetwork = Keeps second.old second.new × Keeps out.old out.new
+FailsToDraw first second out f.ReadReport =
+    ((network : List ℕ) × GaveText first.old first.new network) × Keeps out.old out.new
+FailsToDraw first second out f.NoMemory = Keeps out.old out.new
+FailsToDraw first second out f.Write = FailsBoth (λ network report. FailsTexts network report out f.Write) first second
+
+-- what a fault of reading tells
+abbrev pub ReadsNot : Stream → Stream → ViewFault → Type 0
+ReadsNot first second f.ReadNetwork = Keeps second.old second.new
+ReadsNot first second f.ReadReport = (network : List ℕ) × GaveText first.old first.new network
+ReadsNot first second f.NoMemory = Unit {0}
+ReadsNot first second (f.Network t) = ⊥
+ReadsNot first second (f.Report t) = ⊥
+ReadsNot first second f.Write = ⊥

@@ -1,0 +1,73 @@
+//! How things look in a picture: which way they are turned, and the shape, the colour and the mark of a flit.
+
+ghost use Rattle.std.specs.Prelude.{◌≤◌};
+
+use crate::svg::Frame;
+
+/// How the strip of an input port is turned.
+pub fn frame_of(dims: u8, port: u8) -> Frame
+    requires { dims ≤ 3 }
+{
+    if port == 2 * dims {
+        return Frame::Plain;
+    }
+    match port {
+        0 => Frame::Plain,
+        1 | 5 => Frame::Back,
+        2 => Frame::Down,
+        3 => Frame::Up,
+        _ => Frame::Mirrored,
+    }
+}
+
+/// How what leaves by an output port is turned: as what it is at the next node.
+pub fn exit_of(dims: u8, port: u8) -> Frame
+    requires { dims ≤ 3 }
+{
+    if port == 2 * dims {
+        return Frame::Plain;
+    }
+    match port {
+        0 | 4 => Frame::Back,
+        1 => Frame::Plain,
+        2 => Frame::Up,
+        3 => Frame::Down,
+        _ => Frame::Mirrored,
+    }
+}
+
+/// The shape of a flit: its part in its packet.
+pub fn shape_of(index: u8, last: u8) -> &'static str {
+    if index == 0 && last == 0 {
+        "single"
+    } else if index == 0 {
+        "opening"
+    } else if index == last {
+        "tail"
+    } else {
+        "body"
+    }
+}
+
+/// The colours of packets: eyes that do not tell red from green tell these apart (Okabe and Ito).
+pub fn colour_of(number: u32) -> &'static str {
+    match number % 7 {
+        0 => "#0072B2",
+        1 => "#E69F00",
+        2 => "#009E73",
+        3 => "#CC79A7",
+        4 => "#56B4E9",
+        5 => "#D55E00",
+        _ => "#F0E442",
+    }
+}
+
+/// The mark on a packet's flits, which tells packets of one colour apart.
+pub fn mark_of(number: u32) -> Option<&'static str> {
+    match number / 7 % 4 {
+        0 => None,
+        1 => Some("dot"),
+        2 => Some("ring"),
+        _ => Some("bar"),
+    }
+}
