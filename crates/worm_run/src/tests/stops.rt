@@ -59,7 +59,8 @@ fn all_cut(alloc: Global, net: &Net, gate: StopsAt) -> Result<bool, Fail> {
         let n = u32::from(src);
         let silent = gate.turn == 0 && usize::from(src % 4) == gate.worker;
         let sent = words.as_slice() == [n, 100 + n, 200 + n].as_slice();
-        if sent == silent || silent && !words.is_empty() {
+        let good = if silent { words.is_empty() } else { sent };
+        if !good {
             return Ok(false);
         }
     }
