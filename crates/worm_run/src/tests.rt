@@ -1,5 +1,6 @@
 mod gates;
 mod runs;
+mod stops;
 
 use crate::{Gate, RunEnd, RunPlan, run};
 use arrayvec::ArrayVec;
@@ -39,6 +40,17 @@ pub fn pair(alloc: Global, depth: u8, words: &[u32]) -> Result<(Net, Script), Fa
     let net = net_of(alloc, &[2], depth)?;
     let mut script = Script::empty(alloc);
     script.push(offer(0, 0, 1, words)?)?;
+    Ok((net, script))
+}
+
+/// So many nodes, each with a packet of three words for the node opposite.
+pub fn opposite(alloc: Global, radices: &[u8], last: u8) -> Result<(Net, Script), Fail> {
+    let net = net_of(alloc, radices, 2)?;
+    let mut script = Script::empty(alloc);
+    for node in 0..=last {
+        let n = u32::from(node);
+        script.push(offer(0, node, last - node, &[n, 100 + n, 200 + n])?)?;
+    }
     Ok((net, script))
 }
 

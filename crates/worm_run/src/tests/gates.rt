@@ -1,13 +1,12 @@
-//! Gates: where a worker stops, and that two workers run beside each other.
+//! That two workers run beside each other, and that a refused entry stops one.
 
-use super::{net_of, offer, pair, ran, settle, words_at};
+use super::{net_of, offer, pair, ran, words_at};
 use crate::{FreeGate, Gate, RunPlan, Stop, StopWhy};
 use std::process::Abort;
 use std::sync::atomic::{AtomicBool, Ordering};
 use std::test::Fail;
 use std::thread;
 use worm_core::{OfferFault, Script};
-use worm_flit::Lane;
 
 /// How often a worker looks for the other before it gives up.
 const LOOKS: u32 = 10_000_000;
@@ -44,23 +43,6 @@ impl Gate for Meeting {
     }
 }
 
-/// Stops one worker at one turn.
-#[derive(Drop)]
-struct StopsAt {
-    worker: usize,
-    turn: u64,
-}
-
-impl Gate for StopsAt {
-    ghost use Rattle.std.specs.Prelude.{◌≡◌};
-
-    ghost may_stop = { λ g worker turn. (worker ≡ g.worker) × (turn ≡ g.turn) };
-
-    fn pass(&self, worker: usize, turn: u64) -> bool {
-        worker != self.worker || turn != self.turn
-    }
-}
-
 #[test]
 fn two_workers_meet(rt: HostRuntime) -> Result<(), Fail> {
     let alloc = rt.alloc();
@@ -78,40 +60,6 @@ fn two_workers_meet(rt: HostRuntime) -> Result<(), Fail> {
     assert_eq!(rt; end.ended.as_slice(), [4, 4].as_slice());
     let words = words_at(alloc, &end.net, 1)?;
     assert_eq!(rt; words.get(0), Some(&17u32));
-    Ok(())
-}
-
-#[test]
-fn a_gate_stops_one_worker(rt: HostRuntime) -> Result<(), Fail> {
-    let alloc = rt.alloc();
-    let (net, script) = pair(alloc, 1, &[1, 2, 3, 4])?;
-    let plan = RunPlan {
-        turns: 10,
-        workers: 2,
-    };
-    let gate = StopsAt { worker: 1, turn: 2 };
-    let end = ran(&rt, alloc, net, &script, plan, &gate)?;
-    let stop = Stop {
-        worker: 1,
-        turn: 2,
-        why: StopWhy::Gate,
-    };
-    assert_eq!(rt; end.stops.as_slice(), [stop].as_slice());
-    assert_eq!(rt; end.ended.as_slice(), [10, 2].as_slice());
-    let mut net = end.net;
-    let lane = Lane {
-        src: 0,
-        dst: 1,
-        class: 0,
-    };
-    if net.has_lane(lane) {
-        let view = net.lane_view(alloc, lane)?;
-        assert!(rt; view.delivered <= 2);
-        assert_eq!(rt; view.delivered + view.underway.len() as u64, 4);
-    }
-    settle(alloc, &mut net)?;
-    let words = words_at(alloc, &net, 1)?;
-    assert_eq!(rt; words.as_slice(), [1, 2, 3, 4].as_slice());
     Ok(())
 }
 

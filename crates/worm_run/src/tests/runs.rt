@@ -1,22 +1,11 @@
 //! Whole runs: everything arrives, whatever the schedule.
 
-use super::{net_of, offer, pair, ran, settle, words_at};
+use super::{opposite, pair, ran, settle, words_at};
 use crate::{FreeGate, RunFault, RunPlan, run};
 use std::alloc::Global;
 use std::process::Abort;
 use std::test::Fail;
-use worm_core::{Net, Script};
-
-/// So many nodes, each with a packet of three words for the node opposite.
-fn opposite(alloc: Global, radices: &[u8], last: u8) -> Result<(Net, Script), Fail> {
-    let net = net_of(alloc, radices, 2)?;
-    let mut script = Script::empty(alloc);
-    for node in 0..=last {
-        let n = u32::from(node);
-        script.push(offer(0, node, last - node, &[n, 100 + n, 200 + n])?)?;
-    }
-    Ok((net, script))
-}
+use worm_core::Net;
 
 /// Each node up to the last has the packet of the node opposite.
 fn all_arrived(alloc: Global, net: &Net, last: u8) -> Result<bool, Fail> {
