@@ -100,8 +100,8 @@ fn collect<'s, R: Threads, G: Gate>(
 )
     requires { vec_len done.old < vec_capacity done.old }
     ensures worked { (worked : Worked) × (done.new.items ≡ done.old.items ++ worked ∷ []) ×
-        WorkedAs (G.may_stop child.promise.gate.now) child.promise.script.now child.promise.turns
-        child.promise.worker child.promise.part.value worked }
+        WorkedAs (G.may_stop child.entry.promise.gate.now) child.entry.promise.script.now
+        child.entry.promise.turns child.entry.promise.worker child.entry.promise.part.value worked }
     ensures len { vec_len done.new ≡ vec_len done.old + 1 }
     ensures room { vec_capacity done.old ≤ vec_capacity done.new }
 {

@@ -5,10 +5,10 @@ use Rattle.std.proofs.Crossing.{crosses}
 use Rattle.worm_run.proofs.running.start.Goals as goal
 
 pub spawn_with-requires-send-F : goal.spawn_with-requires-send-F
-spawn_with-requires-send-F g t c κs within =
+spawn_with-requires-send-F g t c κs =
     let a = part_send in
     let b = script_sync in
     search (sendable, crosses) depth 60
 
 pub spawn_with-requires-send-T : goal.spawn_with-requires-send-T
-spawn_with-requires-send-T g t c κs within = let a = worked_send in search (sendable, crosses) depth 60
+spawn_with-requires-send-T g t c κs = let a = worked_send in search (sendable, crosses) depth 60
