@@ -17,14 +17,16 @@ mod steps;
 mod tests;
 mod trials;
 mod turns;
+mod workers;
 
 use asked::{Asked, read_asked, request};
 use seen::Seen;
 use std::process::ExitCode;
 use std::sync::Wait;
+use std::thread::Threads;
 
 /// Makes the requests ahead, and then the trial.
-fn judge<R: Wait + AllocGlobal>(rt: &R, asked: Asked) -> Seen {
+fn judge<R: Threads + Wait + Sync + AllocGlobal>(rt: &R, asked: Asked) -> Seen {
     if !request(rt.alloc(), asked.ahead) {
         return Seen::Wrong;
     }

@@ -6,8 +6,10 @@ use crate::reports::{all_arrived, half_way};
 use crate::seen::Seen;
 use crate::steps::{closed_lane, round_the_corner};
 use crate::turns::two_arrive;
+use crate::workers::run_by_four;
 use std::alloc::Global;
 use std::sync::Wait;
+use std::thread::Threads;
 
 /// What is tried.
 #[derive(Clone, Copy, Debug, PartialEq, Eq)]
@@ -28,6 +30,8 @@ pub enum Trial {
     SplitOne,
     SplitFour,
     SplitSixteen,
+    /// Sixteen nodes are run by four workers.
+    RunFour,
 }
 
 impl Trial {
@@ -43,6 +47,7 @@ impl Trial {
             "split_one" => Some(Trial::SplitOne),
             "split_four" => Some(Trial::SplitFour),
             "split_sixteen" => Some(Trial::SplitSixteen),
+            "run_four" => Some(Trial::RunFour),
             _ => None,
         }
     }
@@ -60,7 +65,7 @@ fn empty_network(alloc: Global) -> Result<Seen, Seen> {
 }
 
 /// Makes the trial. What ended it early is what was seen.
-pub fn take<R: Wait + AllocGlobal>(rt: &R, trial: Trial) -> Seen {
+pub fn take<R: Threads + Wait + Sync + AllocGlobal>(rt: &R, trial: Trial) -> Seen {
     let alloc: Global = rt.alloc();
     let seen = match trial {
         Trial::Network => empty_network(alloc),
@@ -72,6 +77,7 @@ pub fn take<R: Wait + AllocGlobal>(rt: &R, trial: Trial) -> Seen {
         Trial::SplitOne => split_among(rt, alloc, 1),
         Trial::SplitFour => split_among(rt, alloc, 4),
         Trial::SplitSixteen => split_among(rt, alloc, 16),
+        Trial::RunFour => run_by_four(rt, alloc),
     };
     match seen {
         Ok(seen) => seen,

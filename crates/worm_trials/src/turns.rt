@@ -34,7 +34,7 @@ pub fn take_all(net: &mut Net, from: u64, below: u64, script: &Script) -> Result
 }
 
 /// The view of the lane, where memory is refused by a second call. Whether it was refused.
-fn view(alloc: Global, net: &Net, lane: Lane) -> Result<(LaneView, bool), Seen>
+pub fn view(alloc: Global, net: &Net, lane: Lane) -> Result<(LaneView, bool), Seen>
     ensures { IfOk result (λ seen. IsLaneCut net.now lane seen.0.underway.items) }
 {
     if !net.has_lane(lane) {
@@ -49,7 +49,8 @@ fn view(alloc: Global, net: &Net, lane: Lane) -> Result<(LaneView, bool), Seen>
     }
 }
 
-fn words_are(flits: &[Flit], held: &[Held], words: &[u32]) -> bool {
+/// What arrived, followed by what is under way, are these words.
+pub fn words_are(flits: &[Flit], held: &[Held], words: &[u32]) -> bool {
     let arrived = flits.iter().map(|flit| flit.word);
     let underway = held.iter().map(|held| held.flit.word);
     arrived.chain(underway).eq(words.iter().copied())
