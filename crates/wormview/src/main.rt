@@ -3,9 +3,9 @@
 //! The picture is SVG; with `--text` it is a map for a terminal. A fault is one line on the standard error and a
 //! status.
 //!
-//! That the report is read as what it says is proved (`worm_rows`); which flits are shown at which node, in its buffers and
-//! on the links to it, the front first (`views`); what hovering over a flit says (`titles`); and what each fault tells
-//! (`program`). Not proved is how it is drawn: colours, shapes, lines and the layout, nor the text of the map.
+//! That the report is read as what it says is proved (`worm_rows`); which flits are shown at which node, in its buffers
+//! and on the links to it, the front first (`views`); what hovering over a flit says (`titles`); and what each fault
+//! tells (`program`). Not proved is how it is drawn: colours, shapes, lines and the layout, nor the text of the map.
 #![tactic(auto)]
 
 ghost use Rattle.std.specs.Prelude.{◌≡◌};

@@ -64,7 +64,8 @@ fn read_both<N: Read, R: Read>(
     network: &mut N,
     report: &mut R,
 ) -> Result<Texts, ViewFault>
-    ensures ok { IfOk result (λ t. GaveBoth (stream (N.remaining network.old) (N.remaining network.new)) (stream (R.remaining report.old) (R.remaining report.new)) t.network.items t.report.items) }
+    ensures ok { IfOk result (λ t. GaveBoth (stream (N.remaining network.old) (N.remaining network.new))
+        (stream (R.remaining report.old) (R.remaining report.new)) t.network.items t.report.items) }
     ensures err { IfErr result
         (ReadsNot (stream (N.remaining network.old) (N.remaining network.new))
         (stream (R.remaining report.old) (R.remaining report.new))) }
@@ -127,8 +128,8 @@ fn draw_texts<W: Write>(
 
 /// Reads the network and the report to their ends, and gives the writer the picture, or the map.
 ///
-/// `ReadNetwork` and `ReadReport` where a reader failed or gave too much; `Network` and `Report` where a text is refused;
-/// `NoMemory` where memory ran out; with these nothing was written. `Write` where the writer failed.
+/// `ReadNetwork` and `ReadReport` where a reader failed or gave too much; `Network` and `Report` where a text is
+/// refused; `NoMemory` where memory ran out; with these nothing was written. `Write` where the writer failed.
 pub fn run_view<N: Read, R: Read, W: Write>(
     alloc: Global,
     network: &mut N,

@@ -145,7 +145,8 @@ pub fn views(
     ensures nodes { IfOk result (λ v. map (λ n. n.node) v.items ≡ range_with_len 0 (node_count shape.now.mesh)) }
     ensures each { IfOk result (λ v. All (IsView shape.now rows.now (flits_of_rows shape.now.mesh rows.now)) v.items) }
     // Of a report all flits in buffers and on links are shown, each once, and no others.
-    ensures once { IfOk result (λ v. IsReport shape.now rows.now → IsPermutation (flits_of_rows shape.now.mesh rows.now) (shown v.items)) }
+    ensures once { IfOk result (λ v. IsReport shape.now rows.now
+        → IsPermutation (flits_of_rows shape.now.mesh rows.now) (shown v.items)) }
 {
     let flits = seen_flits(alloc, &shape.mesh, rows)?;
     let mut views = Vec::new(alloc);
