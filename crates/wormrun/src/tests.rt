@@ -1,5 +1,5 @@
-//! Worked runs with their whole reports, faults with their statuses and lines, the words of the command line, and the
-//! whole program.
+//! Worked runs with their whole reports, faults with their statuses and lines, the words of the command line, readers
+//! and writers that fail or give and take little, and the whole program.
 
 mod desk;
 mod faults;
@@ -8,3 +8,4 @@ mod whole;
 mod words;
 mod worked;
 mod workers;
+mod writers;

@@ -224,18 +224,6 @@ fn readers_that_fail_give_nothing(rt: HostRuntime) {
 }
 
 #[test]
-fn writers_that_fail_take_a_prefix(rt: HostRuntime) {
-    let mut room = [0u8; 20];
-    let mut network = TWO_NODES;
-    let mut traffic = TWO_WORDS;
-    let mut out = room.as_mut_slice();
-    let ran = run_alone(rt.alloc(), &mut network, &mut traffic, 0, 0, &mut out);
-    assert_eq!(rt; ran, Err(ProgramFault::Write));
-    assert_eq!(rt; ProgramFault::Write.status(), 8);
-    assert_eq!(rt; room.as_slice(), b"wormreport 1\nturns 0".as_slice());
-}
-
-#[test]
 fn joined_texts_are_cut(rt: HostRuntime) {
     assert_eq!(rt; network_end(b"a\nend\nb\nend\n"), 6);
     assert_eq!(rt; network_end(b"end\nend\n"), 4);

@@ -1,10 +1,11 @@
-//! Runs by several workers: whole reports, stops, and too many workers.
+//! Runs by several workers: whole reports, and too many workers.
 
 use crate::fault::ProgramFault;
 use crate::program::run_texts;
-use crate::tests::runs::{SHALLOW, TWO_NODES, TWO_WORDS};
+use crate::tests::runs::{TWO_NODES, TWO_WORDS};
 use crate::words::Options;
 use std::alloc::{AllocError, Global};
+use std::io::Write;
 use std::process::Abort;
 use std::sync::Wait;
 use std::sync::atomic::{AtomicBool, Ordering};
@@ -15,6 +16,17 @@ use worm_run::{FreeGate, Gate};
 
 /// How often a worker looks for the other before it gives up.
 const LOOKS: u32 = 10_000_000;
+
+/// Whether the flag comes up before the last look.
+pub fn comes_up(flag: &AtomicBool) -> bool {
+    for _ in 0..LOOKS {
+        if flag.load(Ordering::SeqCst) {
+            return true;
+        }
+        thread::yield_now();
+    }
+    false
+}
 
 /// At turn 1 each worker raises its own flag, and then looks for the other's.
 #[derive(Drop)]
@@ -38,38 +50,19 @@ impl Gate for Meeting {
             (&self.second, &self.first)
         };
         mine.store(true, Ordering::SeqCst);
-        for _ in 0..LOOKS {
-            if other.load(Ordering::SeqCst) {
-                return true;
-            }
-            thread::yield_now();
-        }
-        false
+        comes_up(other)
     }
 }
 
-/// Stops worker 1 at turn 2.
-#[derive(Drop)]
-struct StopsAt;
-
-impl Gate for StopsAt {
-    ghost use Rattle.std.specs.Prelude.{◌≡◌};
-
-    ghost may_stop = { λ _ worker turn. (worker ≡ 1) × (turn ≡ 2) };
-
-    fn pass(&self, worker: usize, turn: u64) -> bool {
-        worker != 1 || turn != 2
-    }
-}
-
-/// What is written of both texts, with so many turns, workers and turns of drain.
-fn written<R: Threads + Wait + Sync, G: Gate + Sync>(
+/// Runs both texts with so many turns, workers and turns of drain.
+pub fn runs<R: Threads + Wait + Sync, G: Gate + Sync, W: Write>(
     rt: &R,
     alloc: Global,
     texts: (&[u8], &[u8]),
     options: (u64, usize, u64),
     gate: &G,
-) -> Result<Vec<u8>, ProgramFault> {
+    out: &mut W,
+) -> Result<(), ProgramFault> {
     let (mut network, mut traffic) = texts;
     let (turns, workers, drain) = options;
     if turns > 1_000_000 || workers == 0 || workers > 16 || drain > 1_000_000 {
@@ -80,16 +73,19 @@ fn written<R: Threads + Wait + Sync, G: Gate + Sync>(
         workers,
         drain,
     };
+    run_texts(rt, alloc, &mut network, &mut traffic, &options, gate, out)
+}
+
+/// What is written of both texts.
+fn written<R: Threads + Wait + Sync, G: Gate + Sync>(
+    rt: &R,
+    alloc: Global,
+    texts: (&[u8], &[u8]),
+    options: (u64, usize, u64),
+    gate: &G,
+) -> Result<Vec<u8>, ProgramFault> {
     let mut out = Vec::new(alloc);
-    run_texts(
-        rt,
-        alloc,
-        &mut network,
-        &mut traffic,
-        &options,
-        gate,
-        &mut out,
-    )?;
+    runs(rt, alloc, texts, options, gate, &mut out)?;
     Ok(out)
 }
 
@@ -167,25 +163,6 @@ fn two_workers_meet(rt: HostRuntime) -> Result<(), Fail> {
     }
     assert!(rt; gate.first.load(Ordering::SeqCst));
     assert!(rt; gate.second.load(Ordering::SeqCst));
-    Ok(())
-}
-
-#[test]
-fn a_gate_stops_one_worker(rt: HostRuntime) -> Result<(), Fail> {
-    let traffic = b"wormtraffic 1\nsend 0 0 1 data 1 2 3 4\nend\n";
-    match written(
-        &rt,
-        rt.alloc(),
-        (SHALLOW, traffic.as_slice()),
-        (10, 2, 0),
-        &StopsAt,
-    ) {
-        Ok(report) => {
-            assert!(rt; has(report.as_slice(), b"\nstopped worker 1 turn 2\n"));
-            assert!(rt; !has(report.as_slice(), b"stopped worker 0"));
-        }
-        Err(_) => return Err("no report".into()),
-    }
     Ok(())
 }
 
