@@ -1,6 +1,5 @@
 //! Hostile use of the crates below: a trial in which one request for memory is refused, whichever the caller chooses.
-//! The standard input names the trial, and says how many requests are made ahead of it. So where request number N of
-//! all is refused, which `rt try --fail-alloc N` does, the refused one is the trial's own of number N less those ahead.
+//! The standard input names the trial.
 //!
 //! A trial judges each answer by itself: a call is done or says that there was no memory, and what it leaves is what
 //! is worked out, or what its contract says of a refusal. The program ends with 0 where it was so, and then says
@@ -19,19 +18,9 @@ mod trials;
 mod turns;
 mod workers;
 
-use asked::{Asked, read_asked, request};
+use asked::read_asked;
 use seen::Seen;
 use std::process::ExitCode;
-use std::sync::Wait;
-use std::thread::Threads;
-
-/// Makes the requests ahead, and then the trial.
-fn judge<R: Threads + Wait + Sync + AllocGlobal>(rt: &R, asked: Asked) -> Seen {
-    if !request(rt.alloc(), asked.ahead) {
-        return Seen::Wrong;
-    }
-    trials::take(rt, asked.trial)
-}
 
 /// Says what was seen, and gives the status of it.
 fn end<R: Print>(rt: &R, seen: Seen) -> ExitCode {
@@ -45,7 +34,7 @@ fn end<R: Print>(rt: &R, seen: Seen) -> ExitCode {
 
 fn main(rt: HostRuntime) -> ExitCode {
     match read_asked(&rt) {
-        Some(asked) => end(&rt, judge(&rt, asked)),
+        Some(trial) => end(&rt, trials::take(&rt, trial)),
         None => ExitCode::from(2),
     }
 }
