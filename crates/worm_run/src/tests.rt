@@ -65,6 +65,19 @@ pub fn words_at(alloc: Global, net: &Net, node: u8) -> Result<Vec<u32>, Fail> {
     Ok(words)
 }
 
+/// The words delivered at `dst`, followed by those under way to it from `src`, which alone sends to it.
+pub fn words_to(alloc: Global, net: &Net, src: u8, dst: u8) -> Result<Vec<u32>, Fail> {
+    let mut words = words_at(alloc, net, dst)?;
+    let lane = Lane { src, dst, class: 0 };
+    if net.has_lane(lane) {
+        let view = net.lane_view(alloc, lane)?;
+        for held in &view.underway {
+            words.push(held.flit.word)?;
+        }
+    }
+    Ok(words)
+}
+
 /// Turns without traffic on one thread, at most 10,000, till nothing is under way.
 pub fn settle(alloc: Global, net: &mut Net) -> Result<(), Fail> {
     let none = Script::empty(alloc);

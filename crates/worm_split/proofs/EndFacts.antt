@@ -24,12 +24,12 @@ pub record IsEnteringEnd (mesh channels : List ℕ) (y o : ℕ) (past : List Fli
   pub past_is : rx.past ≡ past
   pub line : give.link ≡ rx.link
 
-module _ (mesh channels : List ℕ) (y o : ℕ) (past : List Flit) where
+module _ (mesh channels : List ℕ) (depth y o : ℕ) (past : List Flit) where
   link_of_same : (a b : LinkCfg) → b ≡ a → IsLinkOf mesh channels y o a → IsLinkOf mesh channels y o b
   link_of_same a b e h = subst (IsLinkOf mesh channels y o) (sym e) h
 
   -- by which of the link's nodes are owned, and the ends that were made of it
-  pub leaving_end : (near far : Bool) (out into : End) (tx : TxView) (back : CreditRxView) → ((near ≡ far → ⊥) → AreEndsMade mesh channels y o past out into)
+  pub leaving_end : (near far : Bool) (out into : End) (tx : TxView) (back : CreditRxView) → ((near ≡ far → ⊥) → AreEndsMade mesh channels depth y o past out into)
       → IsSameEnd (cond near (cond far Inner out) (cond far into Inner)) (Leaving tx back) → IsLeavingEnd mesh channels y o past near far tx back
   leaving_end true true out into tx back made same = absurd same
   leaving_end false false out into tx back made same = absurd same
@@ -52,7 +52,7 @@ module _ (mesh channels : List ℕ) (y o : ℕ) (past : List Flit) where
   leaving_end false true (Leaving tx0 back0) (Leaving tx1 back1) tx back made same = absurd (made (λ e. cc))
   leaving_end false true (Leaving tx0 back0) (Entering rx0 give0) tx back made same = absurd same
 
-  pub entering_end : (near far : Bool) (out into : End) (rx : RxView) (give : CreditTxView) → ((near ≡ far → ⊥) → AreEndsMade mesh channels y o past out into)
+  pub entering_end : (near far : Bool) (out into : End) (rx : RxView) (give : CreditTxView) → ((near ≡ far → ⊥) → AreEndsMade mesh channels depth y o past out into)
       → IsSameEnd (cond near (cond far Inner out) (cond far into Inner)) (Entering rx give) → IsEnteringEnd mesh channels y o past near far rx give
   entering_end true true out into rx give made same = absurd same
   entering_end false false out into rx give made same = absurd same
@@ -74,7 +74,7 @@ module _ (mesh channels : List ℕ) (y o : ℕ) (past : List Flit) where
       }
 
   -- where one of the link's nodes is owned and the other is not, it has an end
-  pub inner_end : (near far : Bool) (out into : End) → ((near ≡ far → ⊥) → AreEndsMade mesh channels y o past out into)
+  pub inner_end : (near far : Bool) (out into : End) → ((near ≡ far → ⊥) → AreEndsMade mesh channels depth y o past out into)
       → IsSameEnd (cond near (cond far Inner out) (cond far into Inner)) Inner → near ≡ far
   inner_end true true out into made same = refl
   inner_end false false out into made same = refl

@@ -25,8 +25,8 @@ pub record IsUnused (near far : Bool) (e : End) : Type 0 where
   pub enters : near ≡ false → far ≡ true → (flits : List Flit) (credits : List ℕ) → (sent_on e flits ≡ flits)
       × (given_on e credits ≡ [])
 
-module _ (mesh channels : List ℕ) (y o : ℕ) (past : List Flit) where
-  out_unused : (out into : End) → AreEndsMade mesh channels y o past out into → IsUnused true false out
+module _ (mesh channels : List ℕ) (depth y o : ℕ) (past : List Flit) where
+  out_unused : (out into : End) → AreEndsMade mesh channels depth y o past out into → IsUnused true false out
   out_unused Inner into made = absurd made
   out_unused (Entering rx give) into made = absurd made
   out_unused (Leaving tx back) Inner made = absurd made
@@ -39,7 +39,7 @@ module _ (mesh channels : List ℕ) (y o : ℕ) (past : List Flit) where
     enters = λ near far flits credits. absurd (cc);
   }
 
-  into_unused : (out into : End) → AreEndsMade mesh channels y o past out into → IsUnused false true into
+  into_unused : (out into : End) → AreEndsMade mesh channels depth y o past out into → IsUnused false true into
   into_unused Inner into made = absurd made
   into_unused (Entering rx give) into made = absurd made
   into_unused (Leaving tx back) Inner made = absurd made
@@ -53,7 +53,7 @@ module _ (mesh channels : List ℕ) (y o : ℕ) (past : List Flit) where
   }
 
   pub first_unused : (near far : Bool) (out into : End) → ((near ≡ far → ⊥)
-      → AreEndsMade mesh channels y o past out into)
+      → AreEndsMade mesh channels depth y o past out into)
       → IsUnused near far (first_end near far out into)
   first_unused true true out into made = record {
     took = refl;

@@ -182,7 +182,7 @@ module _ (p : PartState) (net : IsNet p.opening) (ways : List LinkEnds) (are : A
         ∙ (λ t. end_made (near_is t) (far_is t) (line_at p.lines k))))
 
     pub line_made : (y % p.net.own.workers ≡ x % p.net.own.workers → ⊥)
-        → AreEndsMade O.mesh O.channels y o (past_of (shape p.opening) (network_of p.opening) y o x)
+        → AreEndsMade O.mesh O.channels O.depth y o (past_of (shape p.opening) (network_of p.opening) y o x)
         (line_at p.lines k).out (line_at p.lines k).into
     line_made apart =
         let W = p.net.own.workers in
@@ -192,17 +192,17 @@ module _ (p : PartState) (net : IsNet p.opening) (ways : List LinkEnds) (are : A
         let within = way.within in
         let had = made.each k (omega arith) (λ e. apart (subst (λ (i : ℕ). i % W ≡ x % W) way.from (subst (λ
         (i : ℕ). z.from % W ≡ i % W) way.to e))) in
-        subst (λ (i : ℕ). AreEndsMade O.mesh O.channels y o (past_of (shape O) old y o i) line.out line.into) way.to
-        (subst (λ (i : ℕ). AreEndsMade O.mesh O.channels y i (past_of
+        subst (λ (i : ℕ). AreEndsMade O.mesh O.channels O.depth y o (past_of (shape O) old y o i) line.out line.into) way.to
+        (subst (λ (i : ℕ). AreEndsMade O.mesh O.channels O.depth y i (past_of
         (shape O) old y i z.to) line.out line.into) way.out_port
-        (subst (λ (i : ℕ). AreEndsMade O.mesh O.channels i z.out_port (past_of
+        (subst (λ (i : ℕ). AreEndsMade O.mesh O.channels O.depth i z.out_port (past_of
         (shape O) old i z.out_port z.to) line.out line.into) way.from had))
 
     pub unused : IsUnused (owns p y) (owns p x) (end_of p y o)
     unused =
         let line = line_at p.lines k in
         subst (λ (e : End). IsUnused (owns p y) (owns p x) e) (sym end_linked)
-        (first_unused O.mesh O.channels y o (past_of (shape p.opening) (network_of p.opening) y o x) (owns p y)
+        (first_unused O.mesh O.channels O.depth y o (past_of (shape p.opening) (network_of p.opening) y o x) (owns p y)
         (owns p x) line.out line.into
         (λ apart. line_made (λ e. apart (ap (λ (r : ℕ). r == p.net.own.worker) e))))
 

@@ -164,7 +164,7 @@ module _ (parts : List PartState) (are : AreParts parts) (hold : (w : ℕ) → w
   -- both ends of a link between two workers, as they were made
   pub made : (y o x : ℕ) → (shape opening).neighbour y o ≡ Some x → (y % workers ≡ x % workers → ⊥)
       → let line = line_at (part_at parts 0).lines (links_before opening.mesh y o) in
-      AreEndsMade opening.mesh opening.channels y o (past_of (shape opening)
+      AreEndsMade opening.mesh opening.channels opening.depth y o (past_of (shape opening)
       (network_of opening) y o x) line.out line.into
   made y o x linked apart =
       let all = ap (λ (own : Own). own.workers) (are.owns 0 are.some) in
@@ -202,7 +202,7 @@ module _ (parts : List PartState) (are : AreParts parts) (hold : (w : ℕ) → w
       let there : (x % workers == x % workers) ≡ true = eq-eqb _ _ refl in
       let apart_1 : (x % workers == y % workers) ≡ false = not_same (x % workers) (y % workers) (λ e. apart (sym e)) in
       let apart_2 : (y % workers == x % workers) ≡ false = not_same (y % workers) (x % workers) apart in
-      ends_meet opening.mesh opening.channels y o (past_of (shape opening)
+      ends_meet opening.mesh opening.channels opening.depth y o (past_of (shape opening)
       (network_of opening) y o x) line.out line.into
       (end_of (owner_of parts y) y o) (end_of (owner_of parts x) y o) (made y o x linked apart)
       (rw (here, apart_1) at near) (rw (there, apart_2) at far)

@@ -16,8 +16,8 @@ pub record Meet (near far : End) : Type 0 where
   pub queue : tx.queue ≡ rx.queue
   pub line : give.queue ≡ back.queue
 
-module _ (mesh channels : List ℕ) (y o : ℕ) (past : List Flit) where
-  pub ends_meet : (out into near far : End) → AreEndsMade mesh channels y o past out into → IsSameEnd out near
+module _ (mesh channels : List ℕ) (depth y o : ℕ) (past : List Flit) where
+  pub ends_meet : (out into near far : End) → AreEndsMade mesh channels depth y o past out into → IsSameEnd out near
       → IsSameEnd into far
       → Meet near far
   ends_meet Inner into near far made h k = absurd made

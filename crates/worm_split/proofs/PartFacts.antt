@@ -89,7 +89,7 @@ module _ (p : PartState) (part : IsPart p) where
       ])
 
   made_of : (y o x : ℕ) → (shape p.opening).neighbour y o ≡ Some x → (owns p y ≡ owns p x → ⊥)
-      → AreEndsMade p.opening.mesh p.opening.channels y o (past_of (shape p.opening) (network_of p.opening) y o x)
+      → AreEndsMade p.opening.mesh p.opening.channels p.opening.depth y o (past_of (shape p.opening) (network_of p.opening) y o x)
       (line_at p.lines (links_before p.opening.mesh y o)).out (line_at p.lines (links_before p.opening.mesh y o)).into
   made_of y o x linked apart = part.made y o x linked (owned_apart p.net.own.workers p.net.own.worker y x apart)
 
@@ -98,20 +98,20 @@ module _ (p : PartState) (part : IsPart p) where
       → IsLeavingEnd p.opening.mesh p.opening.channels y o (past_of (shape p.opening) (network_of p.opening) y o x) (owns p y) (owns p x) tx back
   is_leaving y o x tx back linked e =
       let line = line_at p.lines (links_before p.opening.mesh y o) in
-      leaving_end p.opening.mesh p.opening.channels y o (past_of (shape p.opening) (network_of p.opening) y o x) (owns p y) (owns p x) line.out line.into tx back
+      leaving_end p.opening.mesh p.opening.channels p.opening.depth y o (past_of (shape p.opening) (network_of p.opening) y o x) (owns p y) (owns p x) line.out line.into tx back
       (made_of y o x linked) (subst (IsSameEnd (end_made (owns p y) (owns p x) line)) e (part.ends y o x linked))
 
   pub is_entering : (y o x : ℕ) (rx : RxView) (give : CreditTxView) → (shape p.opening).neighbour y o ≡ Some x → end_of p y o ≡ Entering rx give
       → IsEnteringEnd p.opening.mesh p.opening.channels y o (past_of (shape p.opening) (network_of p.opening) y o x) (owns p y) (owns p x) rx give
   is_entering y o x rx give linked e =
       let line = line_at p.lines (links_before p.opening.mesh y o) in
-      entering_end p.opening.mesh p.opening.channels y o (past_of (shape p.opening) (network_of p.opening) y o x) (owns p y) (owns p x) line.out line.into rx give
+      entering_end p.opening.mesh p.opening.channels p.opening.depth y o (past_of (shape p.opening) (network_of p.opening) y o x) (owns p y) (owns p x) line.out line.into rx give
       (made_of y o x linked) (subst (IsSameEnd (end_made (owns p y) (owns p x) line)) e (part.ends y o x linked))
 
   pub is_inner : (y o x : ℕ) → (shape p.opening).neighbour y o ≡ Some x → end_of p y o ≡ Inner → owns p y ≡ owns p x
   is_inner y o x linked e =
       let line = line_at p.lines (links_before p.opening.mesh y o) in
-      inner_end p.opening.mesh p.opening.channels y o (past_of (shape p.opening) (network_of p.opening) y o x) (owns p y) (owns p x) line.out line.into
+      inner_end p.opening.mesh p.opening.channels p.opening.depth y o (past_of (shape p.opening) (network_of p.opening) y o x) (owns p y) (owns p x) line.out line.into
       (made_of y o x linked) (subst (IsSameEnd (end_made (owns p y) (owns p x) line)) e (part.ends y o x linked))
 
   -- With another end of one link that is of the same queues, and with another network of the same configuration, it is a part where the

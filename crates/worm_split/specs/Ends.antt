@@ -79,18 +79,18 @@ IsSameEnd (Entering rx give) (Entering rx2 give2) =
 abbrev pub end_made : Bool → Bool → Line → End
 end_made near far line = cond near (cond far Inner line.out) (cond far line.into Inner)
 
--- The two ends of the link by port o of node y, as they are made: of one flit queue with this past, and of one credit line; nothing
--- has gone over either.
-abbrev pub AreEndsMade : (mesh channels : List ℕ) → (y o : ℕ) → (past : List Flit) → End → End → Type 0
-AreEndsMade mesh channels y o past (Leaving tx back) (Entering rx give) =
-    (IsLinkOf mesh channels y o tx.link × (tx.past ≡ past) × (tx.sent ≡ []))
+-- The two ends of the link by port o of node y, as they are made: of one flit queue with this past, which holds as many
+-- flits as buffers of this depth beyond it, and of one credit line; nothing has gone over either.
+abbrev pub AreEndsMade : (mesh channels : List ℕ) → (depth y o : ℕ) → (past : List Flit) → End → End → Type 0
+AreEndsMade mesh channels depth y o past (Leaving tx back) (Entering rx give) =
+    (IsLinkOf mesh channels y o tx.link × (tx.past ≡ past) × (tx.sent ≡ []) × (tx.link.depth ≡ depth))
     × ((rx.link ≡ tx.link) × (rx.past ≡ past) × (rx.queue ≡ tx.queue) × (rx.taken ≡ []))
     × ((back.link ≡ tx.link) × (back.taken ≡ []))
     × ((give.link ≡ tx.link) × (give.queue ≡ back.queue) × (give.sent ≡ []))
-AreEndsMade mesh channels y o past Inner into = ⊥
-AreEndsMade mesh channels y o past (Entering rx give) into = ⊥
-AreEndsMade mesh channels y o past (Leaving tx back) Inner = ⊥
-AreEndsMade mesh channels y o past (Leaving tx back) (Leaving tx2 back2) = ⊥
+AreEndsMade mesh channels depth y o past Inner into = ⊥
+AreEndsMade mesh channels depth y o past (Entering rx give) into = ⊥
+AreEndsMade mesh channels depth y o past (Leaving tx back) Inner = ⊥
+AreEndsMade mesh channels depth y o past (Leaving tx back) (Leaving tx2 back2) = ⊥
 
 -- by number of the link, where it is there
 abbrev pub end_at : List End → ℕ → End

@@ -48,7 +48,8 @@ returned_to p y o = returned_on (end_of p y o)
 abbrev pub AreLines : NetState → ℕ → List Line → Type 0
 AreLines opening workers lines = (y o x : ℕ) → (shape opening).neighbour y o ≡ Some x → (y % workers ≡ x % workers → ⊥) →
     let line = line_at lines (links_before opening.mesh y o) in
-    AreEndsMade opening.mesh opening.channels y o (past_of (shape opening) (network_of opening) y o x) line.out line.into
+    AreEndsMade opening.mesh opening.channels opening.depth y o (past_of (shape opening) (network_of opening) y o x)
+    line.out line.into
 
 -- of each link the end that is the worker's, whatever has gone over it since
 abbrev pub HasItsEnds : PartState → Type 0

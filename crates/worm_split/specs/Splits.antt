@@ -26,8 +26,8 @@ use Rattle.worm_split.specs.PartState.{PartState, HasConfigOf, owns, part_networ
 -- both ends of a link as they are made, where its nodes are of two workers
 abbrev pub IsLineMade : NetState → ℕ → LinkEnds → Line → Type 0
 IsLineMade s workers way line = (way.from % workers ≡ way.to % workers → ⊥) →
-    AreEndsMade s.mesh s.channels way.from way.out_port (past_of (shape s)
-    (network_of s) way.from way.out_port way.to) line.out line.into
+    AreEndsMade s.mesh s.channels s.depth way.from way.out_port
+    (past_of (shape s) (network_of s) way.from way.out_port way.to) line.out line.into
 
 pub record AreLinesMade (s : NetState) (workers : ℕ) (ways : List LinkEnds) (lines : List Line) : Type 0 where
   pub all : length lines ≡ length ways

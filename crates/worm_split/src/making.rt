@@ -89,7 +89,7 @@ fn make_line<B: Opening>(
     requires depth { cfg.now.depth ≡ net.now.depth }
     requires joined { Joins net.now.mesh way.from way.out_port way.to }
     requires past { B.past ≡ past_of (shape net.now) (network_of net.now) way.from way.out_port way.to }
-    ensures { IfOk result (λ line. AreEndsMade net.now.mesh net.now.channels way.from way.out_port
+    ensures { IfOk result (λ line. AreEndsMade net.now.mesh net.now.channels net.now.depth way.from way.out_port
         (past_of (shape net.now) (network_of net.now) way.from way.out_port way.to) line.out line.into) }
 {
     net.is_sound();

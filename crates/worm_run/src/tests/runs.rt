@@ -1,6 +1,6 @@
 //! Whole runs: everything arrives, whatever the schedule.
 
-use super::{opposite, pair, ran, settle, words_at};
+use super::{opposite, pair, ran, settle, words_at, words_to};
 use crate::{FreeGate, RunFault, RunPlan, run};
 use std::alloc::Global;
 use std::process::Abort;
@@ -36,6 +36,25 @@ fn four_workers_deliver_all(rt: HostRuntime) -> Result<(), Fail> {
     let totals = net.totals();
     assert_eq!(rt; totals.injected, 48);
     assert_eq!(rt; totals.delivered, 48);
+    Ok(())
+}
+
+#[test]
+fn two_workers_lose_nothing_on_the_way(rt: HostRuntime) -> Result<(), Fail> {
+    let alloc = rt.alloc();
+    let (net, script) = opposite(alloc, &[4, 4], 15)?;
+    let plan = RunPlan {
+        turns: 20,
+        workers: 2,
+    };
+    let end = ran(&rt, alloc, net, &script, plan, &FreeGate)?;
+    assert!(rt; end.stops.is_empty());
+    assert_eq!(rt; end.ended.as_slice(), [20, 20].as_slice());
+    for src in 0u8..16 {
+        let n = u32::from(src);
+        let words = words_to(alloc, &end.net, src, 15 - src)?;
+        assert_eq!(rt; words.as_slice(), [n, 100 + n, 200 + n].as_slice());
+    }
     Ok(())
 }
 

@@ -1,6 +1,6 @@
 //! A gate stops one worker: nothing is lost wherever it does, and the network goes on, on one thread and by workers.
 
-use super::{opposite, pair, ran, settle, words_at};
+use super::{opposite, pair, ran, settle, words_at, words_to};
 use crate::{FreeGate, Gate, RunEnd, RunPlan, Stop, StopWhy};
 use std::alloc::Global;
 use std::process::Abort;
@@ -8,7 +8,6 @@ use std::sync::Wait;
 use std::test::Fail;
 use std::thread::Threads;
 use worm_core::{Net, Script};
-use worm_flit::Lane;
 
 /// Stops one worker at one turn.
 #[derive(Clone, Copy, Debug)]
@@ -36,19 +35,6 @@ impl Gate for StopsAt {
     fn pass(&self, worker: usize, turn: u64) -> bool {
         worker != self.worker || turn != self.turn
     }
-}
-
-/// The words delivered at `dst`, followed by those under way to it from `src`, which alone sends to it.
-fn words_to(alloc: Global, net: &Net, src: u8, dst: u8) -> Result<Vec<u32>, Fail> {
-    let mut words = words_at(alloc, net, dst)?;
-    let lane = Lane { src, dst, class: 0 };
-    if net.has_lane(lane) {
-        let view = net.lane_view(alloc, lane)?;
-        for held in &view.underway {
-            words.push(held.flit.word)?;
-        }
-    }
-    Ok(words)
 }
 
 /// What each of sixteen nodes sent is on its way or there, in order: three words, but that a node of a worker that was

@@ -6,6 +6,7 @@ ghost use Rattle.worm_split.specs.Joins.{AreParts};
 use super::{config, lane, offer, parts_of};
 use crate::{Part, join};
 use std::alloc::Global;
+use std::process::Abort;
 use std::sync::Wait;
 use std::test::Fail;
 use worm_core::{Net, Script};
@@ -45,15 +46,15 @@ fn words_of(src: u8, number: u16) -> [u32; 3] {
     [first, first + 1, first + 2]
 }
 
-/// Four nodes in a row, whose class has two channels, and 50 packets of three words for the last of them: in each of 25
+/// Nodes in a row, whose class has two channels, and 50 packets of three words for the last of them: in each of 25
 /// turns one from each of the first two.
-fn row(alloc: Global) -> Result<(Net, Script), Fail> {
-    let net = Net::new(alloc, &config(&[4], 2, &[2]))?;
+fn row(alloc: Global, radix: u8, last: u8) -> Result<(Net, Script), Fail> {
+    let net = Net::new(alloc, &config(&[radix], 2, &[2]))?;
     let mut script = Script::empty(alloc);
     for number in 0u16..25 {
         let turn = u32::from(number);
-        script.push(offer(turn, 0, 3, &words_of(0, number))?)?;
-        script.push(offer(turn, 1, 3, &words_of(1, number))?)?;
+        script.push(offer(turn, 0, last, &words_of(0, number))?)?;
+        script.push(offer(turn, 1, last, &words_of(1, number))?)?;
     }
     Ok((net, script))
 }
@@ -85,22 +86,44 @@ fn are_mixed(flits: &[Flit]) -> bool {
     false
 }
 
+/// The row after 400 turns of each of two workers: each packet came whole to the last node.
+fn all_come_whole<R: Abort + Wait>(
+    rt: &R,
+    alloc: Global,
+    radix: u8,
+    last: u8,
+) -> Result<Net, Fail> {
+    let (net, script) = row(alloc, radix, last)?;
+    let mut parts = parts_of(alloc, net, 2)?;
+    assert!(rt; all_take_turns(rt, &mut parts, 400, &script));
+    let net = join(rt, parts);
+    if u16::from(last) >= net.nodes() {
+        return Err("too few nodes".into());
+    }
+    let flits = net.delivered(last);
+    assert_eq!(rt; flits.len(), 150);
+    for number in 0u16..25 {
+        assert!(rt; came_whole(flits, lane(0, last, 0), number));
+        assert!(rt; came_whole(flits, lane(1, last, 0), number));
+    }
+    Ok(net)
+}
+
 #[test]
 fn each_packet_comes_whole(rt: HostRuntime) -> Result<(), Fail> {
     let alloc = rt.alloc();
-    let (net, script) = row(alloc)?;
-    let mut parts = parts_of(alloc, net, 2)?;
-    assert!(rt; all_take_turns(&rt, &mut parts, 400, &script));
-    let net = join(&rt, parts);
+    let net = all_come_whole(&rt, alloc, 4, 3)?;
     if net.nodes() < 4 {
         return Err("too few nodes".into());
     }
-    let flits = net.sink(3).delivered();
-    assert_eq!(rt; flits.len(), 150);
-    assert!(rt; are_mixed(flits));
-    for number in 0u16..25 {
-        assert!(rt; came_whole(flits, lane(0, 3, 0), number));
-        assert!(rt; came_whole(flits, lane(1, 3, 0), number));
-    }
+    assert!(rt; are_mixed(net.delivered(3)));
+    Ok(())
+}
+
+#[test]
+fn each_packet_comes_whole_to_its_neighbour(rt: HostRuntime) -> Result<(), Fail> {
+    let alloc = rt.alloc();
+    let net = all_come_whole(&rt, alloc, 2, 1)?;
+    assert_eq!(rt; net.totals().delivered, 150);
     Ok(())
 }

@@ -32,7 +32,8 @@ fn take_turns<R: Wait>(
     true
 }
 
-/// A network of two nodes whose buffers hold one flit, and the script of one packet of four words from node 0 to node 1.
+/// A network of two nodes whose buffers hold one flit, and the script of one packet of four words from node 0 to node
+/// 1.
 fn pair(alloc: Global) -> Result<(Net, Script), Fail> {
     let net = Net::new(alloc, &config(&[2], 1, &[1]))?;
     let mut script = Script::empty(alloc);
@@ -97,6 +98,7 @@ fn the_other_part_takes_what_came(rt: HostRuntime) -> Result<(), Fail> {
     let Some(link) = parts.links.get(0) else {
         return Err("no link".into());
     };
+    assert_eq!(rt; link.credit_count(), 1);
     assert_eq!(rt; link.front_credit(), Some(0));
     Ok(())
 }
