@@ -1,6 +1,6 @@
 //! The lines that wait to be written together: a writer is called once a page, and not once a line.
 
-ghost use Rattle.std.specs.Prelude.{◌≡◌, ◌++◌, [], List, ℕ, IfOk, IfErr, OnOk, OnErr};
+ghost use Rattle.std.specs.Prelude.{◌≡◌, ◌++◌, [], List, ℕ, IfOk, IfErr, OnOk, OnErr, length, nat_le};
 ghost use Rattle.worm_report.specs.Rows.{row_text};
 
 use crate::line::Line;
@@ -52,7 +52,9 @@ impl Page {
     }
 
     /// Whether it is to be written before the next line.
-    pub fn is_full(&self) -> bool {
+    pub fn is_full(&self) -> bool
+        ensures { result ≡ nat_le 8192 (length self.now) }
+    {
         self.bytes.len() >= FULL
     }
 

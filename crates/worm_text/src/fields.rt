@@ -1,6 +1,6 @@
 //! The fields of a line, read from the left.
 
-ghost use Rattle.std.specs.Prelude.{◌≡◌, ◌<◌, ◌^◌, ◌↔◌, IsTrue, [], ◌∷◌, length, position, ◌==◌, MatchOption, Bool, true, false, Some, None, nat_le, if◌then◌else◌, List, ℕ};
+ghost use Rattle.std.specs.Prelude.{◌≡◌, ◌<◌, ◌^◌, ◌↔◌, IsTrue, [], ◌∷◌, length, drop, position, ◌==◌, MatchOption, Bool, true, false, Some, None, nat_le, if◌then◌else◌, List, ℕ};
 ghost use Rattle.worm_text.specs.Lines.{cut, space, fields_left};
 ghost use Rattle.worm_text.specs.Numerals.{is_digit, is_numeral, value_of, is_name, is_lower_or_digit};
 ghost use Rattle.std.specs.List.{list_all};
@@ -96,7 +96,7 @@ pub fn name_of(field: &[u8]) -> Option<Name>
     Some(name)
 }
 
-/// The fields that are left of a line. After a fault the line is refused, and nothing more is read of it.
+/// The fields that are left of a line. A call that reads takes one field, also where it is not what was asked for.
 ///
 /// `Fields::new(b"depth 2")` has the word `depth` and the number 2; `b"depth "` has the word and an empty field.
 #[derive(Drop)]
@@ -145,7 +145,8 @@ impl<'a> Fields<'a> {
 
     /// A number from `low` to `high`. `Missing` where no field is left, `Number` where the field is no numeral, else `Range`.
     pub fn number(&mut self, low: u32, high: u32) -> Result<u32, Why>
-        ensures { Reads (λ x. x) result self.new (number_at low high self.old) }
+        ensures answer { Reads (λ x. x) result self.new (number_at low high self.old) }
+        ensures one { self.new ≡ drop 1 self.old }
     {
         let Some(field) = self.next() else {
             return Err(Why::Missing);
@@ -161,7 +162,8 @@ impl<'a> Fields<'a> {
 
     /// A name. `Missing` where no field is left, `Name` where the field is none.
     pub fn name(&mut self) -> Result<Name, Why>
-        ensures { Reads (λ name. name.bytes) result self.new (name_at self.old) }
+        ensures answer { Reads (λ name. name.bytes) result self.new (name_at self.old) }
+        ensures one { self.new ≡ drop 1 self.old }
     {
         let Some(field) = self.next() else {
             return Err(Why::Missing);
@@ -174,7 +176,8 @@ impl<'a> Fields<'a> {
 
     /// This word. `Missing` where no field is left, `UnknownWord` where the field is another one.
     pub fn word(&mut self, word: &[u8]) -> Result<(), Why>
-        ensures { Gives (λ _. self.new) result (word_at word.now self.old) }
+        ensures answer { Gives (λ _. self.new) result (word_at word.now self.old) }
+        ensures one { self.new ≡ drop 1 self.old }
     {
         match self.next() {
             None => Err(Why::Missing),
@@ -185,7 +188,8 @@ impl<'a> Fields<'a> {
 
     /// The word that begins the line. `UnknownWord` where it is no word of a network text.
     pub fn key(&mut self) -> Result<Key, Why>
-        ensures { Reads (λ x. x) result self.new (key_at self.old) }
+        ensures answer { Reads (λ x. x) result self.new (key_at self.old) }
+        ensures one { self.new ≡ drop 1 self.old }
     {
         let Some(field) = self.next() else {
             return Err(Why::Missing);
@@ -195,7 +199,8 @@ impl<'a> Fields<'a> {
 
     /// No further field. `TooMany` where there is one.
     pub fn end(&mut self) -> Result<(), Why>
-        ensures { Gives (λ _. []) result (no_more self.old) }
+        ensures answer { Gives (λ _. []) result (no_more self.old) }
+        ensures one { self.new ≡ drop 1 self.old }
     {
         match self.next() {
             None => Ok(()),

@@ -1,6 +1,9 @@
 //! The words of the command line.
 
-ghost use Rattle.std.specs.Prelude.{◌<◌, ◌≤◌, length, IfOk, IfSome};
+ghost use Rattle.clap.specs.Values.{kind_of};
+ghost use Rattle.std.specs.IoError.{error_kind};
+ghost use Rattle.std.specs.Prelude.{◌≡◌, ◌<◌, ◌≤◌, length, IfOk, IfErr, IfSome};
+ghost use Rattle.wormrun.specs.Faults.{parser_fault, list_fault, IsNoList, IsNoCommand};
 ghost use Rattle.wormrun.specs.Ranges.{InRange};
 
 use clap::error::ErrorKind;
@@ -43,33 +46,41 @@ pub enum WordsFault {
 }
 
 impl From<AllocError> for WordsFault {
+    ghost use Rattle.wormrun.specs.declared.words.WordsFault.TheVariants.{NoMemory};
+
+    ghost from_gives = { λ _ fault. fault ≡ NoMemory };
+
     fn from(_error: AllocError) -> WordsFault {
         WordsFault::NoMemory
     }
 }
 
 impl From<Error> for WordsFault {
+    ghost from_gives = { λ error fault. fault ≡ parser_fault (kind_of error) error };
+
     fn from(error: Error) -> WordsFault {
-        if error.kind() == ErrorKind::OutOfMemory {
-            WordsFault::NoMemory
-        } else {
-            WordsFault::Words(error)
+        match error.kind() {
+            ErrorKind::OutOfMemory => WordsFault::NoMemory,
+            _ => WordsFault::Words(error),
         }
     }
 }
 
 impl From<io::Error> for WordsFault {
+    ghost from_gives = { λ error fault. fault ≡ list_fault (error_kind error) };
+
     fn from(error: io::Error) -> WordsFault {
-        if error.kind() == io::ErrorKind::OutOfMemory {
-            WordsFault::NoMemory
-        } else {
-            WordsFault::NotText
+        match error.kind() {
+            io::ErrorKind::OutOfMemory => WordsFault::NoMemory,
+            _ => WordsFault::NotText,
         }
     }
 }
 
 /// All words of the command line, the program's name first.
-pub fn all_words<R: Env + AllocGlobal>(rt: &R) -> Result<Vec<String>, WordsFault> {
+pub fn all_words<R: Env + AllocGlobal>(rt: &R) -> Result<Vec<String>, WordsFault>
+    ensures { IfErr result IsNoList }
+{
     let words = std::env::args(rt)?.collect::<Vec<String>>(rt.alloc())?;
     Ok(words)
 }
@@ -129,7 +140,8 @@ fn words_in<'a>(matches: &ArgMatches<'a>) -> Option<Words<'a>>
 /// 0 to 1,000,000, workers are 1 to 16; any other word or number is a fault of the words.
 pub fn read_words<'a>(alloc: Global, words: &'a [&'a str]) -> Result<Words<'a>, WordsFault>
     requires { 0 < length words.now }
-    ensures { IfOk result (λ w. InRange w.options) }
+    ensures ok { IfOk result (λ w. InRange w.options) }
+    ensures err { IfErr result IsNoCommand }
 {
     let mut command = command(alloc)?;
     let matches = command.try_get_matches_from_mut(words)?;

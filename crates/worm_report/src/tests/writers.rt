@@ -178,7 +178,7 @@ fn writers_that_fail(rt: HostRuntime) -> Result<(), Fail> {
     Ok(())
 }
 
-/// Where an allocation is refused the answer says so, and the first part of the report has gone out.
+/// Where an allocation is refused the answer says so, and the first lines of the report have gone out, not all of them.
 #[test]
 fn memory_may_run_out(rt: HostRuntime) -> Result<(), Fail> {
     let net = half_way(rt.alloc())?;
@@ -192,7 +192,11 @@ fn memory_may_run_out(rt: HostRuntime) -> Result<(), Fail> {
     assert_eq!(rt; &room[..gone], &TEXT[..gone]);
     match answer {
         Ok(()) => assert_eq!(rt; gone, TEXT.len()),
-        Err(fault) => assert_eq!(rt; fault, ReportFault::NoMemory),
+        Err(fault) => {
+            assert_eq!(rt; fault, ReportFault::NoMemory);
+            assert!(rt; gone < TEXT.len());
+            assert!(rt; matches!(TEXT[..gone].last().copied(), None | Some(b'\n')));
+        }
     }
     Ok(())
 }

@@ -17,12 +17,12 @@ returns-in_err-number-clause-read c =
     let p = err_from_is_err_and c.from_residual.result c.from_residual.ensures.1 in
     let some = some_left c.is_over.result c.loop-words.fields c.is_over.ensures c.loop-words-test.true in
     let room : length c.loop-words.words.items < 32 = grind (arith, nat_tests, c.is_full.ensures.value, c.is_full.ensures.fits, c.if-is_full.false) in
-    rw (p.1, p.2) (sym c.loop-words.invariant.0 ∙ words_bad c.loop-words.words.items c.loop-words.fields c.in_err-number.field-0.0 some room c.in_err-number.ensures)
+    rw (p.1, p.2) (sym c.loop-words.invariant.0 ∙ words_bad c.loop-words.words.items c.loop-words.fields c.in_err-number.field-0.0 some room c.in_err-number.ensures.answer)
 
 pub loop-words-preserved : goal.loop-words-preserved
 loop-words-preserved c =
     let room : length c.loop-words.words.items < 32 = grind (arith, nat_tests, c.is_full.ensures.value, c.is_full.ensures.fits, c.if-is_full.false) in
-    let m = words_more c.loop-words.words.items c.loop-words.fields c.number.new.self c.in_ok-number.field-0 room c.in_ok-number.ensures in
+    let m = words_more c.loop-words.words.items c.loop-words.fields c.number.new.self c.in_ok-number.field-0 room c.in_ok-number.ensures.answer in
     (ap (λ ws. words_at ws c.number.new.self) c.push.ensures.items ∙ sym m.0 ∙ c.loop-words.invariant.0, omega (arith, room, ap length c.push.ensures.items, length_push c.loop-words.words.items c.in_ok-number.field-0))
 
 pub returns-then-is_empty-clause-read : goal.returns-then-is_empty-clause-read
