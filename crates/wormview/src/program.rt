@@ -120,7 +120,7 @@ fn draw_texts<W: Write>(
     text: bool,
     out: &mut W,
 ) -> Result<(), ViewFault>
-    ensures ok { OnOk result (DrawsTexts network.now report.now (stream (W.contents out.old) (W.contents out.new))) }
+    ensures ok { OnOk result (DrawsTexts text network.now report.now (stream (W.contents out.old) (W.contents out.new))) }
     ensures err { IfErr result (FailsTexts network.now report.now (stream (W.contents out.old) (W.contents out.new))) }
 {
     let accepted = accept(alloc, network, report)?;
@@ -142,7 +142,7 @@ pub fn run_view<N: Read, R: Read, W: Write>(
     out: &mut W,
 ) -> Result<(), ViewFault>
     ensures ok { OnOk result
-        (Draws (stream (N.remaining network.old) (N.remaining network.new))
+        (Draws text (stream (N.remaining network.old) (N.remaining network.new))
         (stream (R.remaining report.old) (R.remaining report.new))
         (stream (W.contents out.old) (W.contents out.new))) }
     ensures err { IfErr result
