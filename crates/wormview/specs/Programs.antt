@@ -32,7 +32,8 @@ pub record Accepts (network report : List ℕ) : Type 0 where
   pub rows : List Row
   pub accepted : IsAccepted network report said shape rows
 
--- both texts are accepted, and a drawing was written, all of it: a map where one is asked for, and else a picture of the report
+-- both texts are accepted, and a drawing was written, all of it: a map where one is asked for, and else a picture of
+-- the report
 pub record DrawsTexts (as_map : Bool) (network report : List ℕ) (out : Stream) : Type 0 where
   pub accepts : Accepts network report
   pub drawing : List ℕ
