@@ -1,13 +1,15 @@
 -- What a call that writes tells, where both texts are accepted.
-use Rattle.std.proofs.Common.{◌≡◌, ℕ, List, Result, Ok, Err, OnOk, IfErr, sym, subst}
+use Rattle.std.proofs.Common.{◌≡◌, ℕ, Bool, false, List, Result, Ok, Err, OnOk, IfErr, sym, subst}
 use Rattle.std.specs.Io.KnownBytes.{Appends}
 use Rattle.wormview.specs.declared.fault.ViewFault.{ViewFault}
 use Rattle.wormview.specs.declared.fault.ViewFault.TheVariants.{Network, Report, ReadNetwork, ReadReport, NoMemory, Write}
+use Rattle.wormview.specs.Picture.{PicturesRows}
 use Rattle.wormview.specs.Programs.{Stream, Accepts, DrawsTexts, FailsTexts, FailsToDraw, GaveBoth}
 
-pub drew : (network report drawing : List ℕ) (out : Stream) (result : Result (Unit {0}) ViewFault) → Accepts network report → OnOk result (Appends out.old out.new drawing) → OnOk result (DrawsTexts network report out)
-drew network report drawing out (Ok done) accepts written = record { accepts = accepts; drawing = drawing; written = written }
-drew network report drawing out (Err fault) accepts written = tt
+pub drew : (as_map : Bool) (network report drawing : List ℕ) (out : Stream) (result : Result (Unit {0}) ViewFault) (accepts : Accepts network report)
+    → (as_map ≡ false → PicturesRows accepts.shape accepts.rows drawing) → OnOk result (Appends out.old out.new drawing) → OnOk result (DrawsTexts as_map network report out)
+drew as_map network report drawing out (Ok done) accepts pictured written = record { accepts = accepts; drawing = drawing; pictured = pictured; written = written }
+drew as_map network report drawing out (Err fault) accepts pictured written = tt
 
 pub failed : (network report : List ℕ) (out : Stream) (result : Result (Unit {0}) ViewFault) → Accepts network report → IfErr result (λ fault. fault ≡ Write) → IfErr result (FailsTexts network report out)
 failed network report out (Ok done) accepts same = tt

@@ -3,3 +3,4 @@ mod Shown
 mod InMesh
 mod Steps
 mod Drawing
+mod Names

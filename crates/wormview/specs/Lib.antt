@@ -5,3 +5,4 @@ pub mod Nodes
 pub mod Programs
 pub mod Titles
 pub mod Views
+pub mod Picture

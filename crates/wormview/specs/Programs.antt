@@ -1,11 +1,12 @@
 -- What the program makes of two texts: a drawing of the report, or the fault that comes first.
-use Rattle.std.specs.Prelude.{ℕ, List, Option}
+use Rattle.std.specs.Prelude.{ℕ, ◌≡◌, Bool, false, List, Option}
 use Rattle.std.specs.Io.KnownBytes.{Keeps, Appends}
 use Rattle.worm_text.specs.Network.{Network}
 use Rattle.worm_rows.specs.declared.shape.Shape.{Shape}
 use Rattle.worm_rows.specs.declared.rows.Row.{Row}
 use Rattle.wormview.specs.declared.fault.ViewFault.{ViewFault}
 use Rattle.wormview.specs.declared.fault.ViewFault.TheVariants as f
+use Rattle.wormview.specs.Picture.{PicturesRows}
 use Rattle.wormview.specs.Reading.{GaveText}
 use Rattle.wormview.specs.Views.{IsAccepted, IsRefused}
 
@@ -31,10 +32,12 @@ pub record Accepts (network report : List ℕ) : Type 0 where
   pub rows : List Row
   pub accepted : IsAccepted network report said shape rows
 
--- both texts are accepted, and a drawing was written, all of it
-pub record DrawsTexts (network report : List ℕ) (out : Stream) : Type 0 where
+-- both texts are accepted, and a drawing was written, all of it: a map where one is asked for, and else a picture of
+-- the report
+pub record DrawsTexts (as_map : Bool) (network report : List ℕ) (out : Stream) : Type 0 where
   pub accepts : Accepts network report
   pub drawing : List ℕ
+  pub pictured : as_map ≡ false → PicturesRows accepts.shape accepts.rows drawing
   pub written : Appends out.old out.new drawing
 
 -- what a fault tells of two texts at hand: nothing was written, but where the writer failed
@@ -49,11 +52,11 @@ FailsTexts network report out f.Write = Accepts network report
 -- Readers
 
 -- both readers gave their texts, and a drawing of the report was written
-pub record Draws (first second out : Stream) : Type 0 where
+pub record Draws (as_map : Bool) (first second out : Stream) : Type 0 where
   pub network : List ℕ
   pub report : List ℕ
   pub gave : GaveBoth first second network report
-  pub draws : DrawsTexts network report out
+  pub draws : DrawsTexts as_map network report out
 
 -- both readers gave their texts, of which this holds
 pub record FailsBoth (Holds : List ℕ → List ℕ → Type 0) (first second : Stream) : Type 0 where

@@ -9,7 +9,7 @@ abbrev pub flit_title : FlitTitle → List ℕ
 flit_title t =
     codes "from " ++ (decimal t.packet.lane.src ++ (codes " to " ++ (decimal t.packet.lane.dst
     ++ (codes " class " ++ (decimal t.packet.lane.class ++ (codes " packet " ++ (decimal t.packet.number
-    ++ (codes " flit " ++ (decimal t.index ++ (codes " of 0 to " ++ decimal t.last))))))))))
+    ++ (codes " flit " ++ (decimal t.index ++ (codes ", of 0 to " ++ decimal t.last))))))))))
 
 abbrev pub load_title : Load → List ℕ
 load_title Close = codes " close"

@@ -6,18 +6,21 @@ use worm_mesh::Mesh;
 pub const SLOT: u32 = 12;
 
 /// What is left between a strip and the border of its node.
-const MARGIN: u32 = 16;
+const MARGIN: u32 = 20;
 
 /// The room between two nodes.
 const GAP: u32 = 30;
 
-/// The width that the legend takes.
+/// The width that the legend takes: no picture is narrower.
 pub const NARROWEST: u32 = 780;
 
-/// The room above the mesh.
-pub const HEADING: u32 = 40;
+/// The room above a slice of three dimensions, for its name.
+pub const NAME: u32 = 30;
 
-/// The room below the mesh.
+/// The room above the mesh, in a small picture.
+pub const HEADING: u32 = 48;
+
+/// The room below the mesh, in a small picture.
 pub const LEGEND: u32 = 150;
 
 /// The sizes of a node of the picture. A node is a square about its middle; its core is where flits pass from port to
@@ -90,4 +93,18 @@ pub fn radix(mesh: &Mesh, dim: u8) -> u8 {
     } else {
         1
     }
+}
+
+/// How many slices stand side by side, so that the picture of them all is about square.
+pub fn slices_across(mesh: &Mesh) -> u32
+    ensures { 1 ≤ result }
+{
+    let columns = u32::from(radix(mesh, 0));
+    let rows = u32::from(radix(mesh, 1));
+    let slices = u32::from(radix(mesh, 2));
+    let wanted = slices.saturating_mul(rows);
+    let found = (1..17u32).find(|across| {
+        across.saturating_mul(*across).saturating_mul(columns) >= wanted
+    });
+    found.unwrap_or(1).max(1)
 }

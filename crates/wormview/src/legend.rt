@@ -16,9 +16,10 @@ const STYLE: &str = "<style>
 .link{fill:none;stroke:#bbb;stroke-width:1}
 .holds{fill:none;stroke-width:4;stroke-linejoin:round}
 .wants{fill:none;stroke-width:3;stroke-dasharray:3 3}
-.node{font-size:10px;font-weight:bold;text-anchor:end;fill:#555}
-.count{font-size:10px;fill:#000}
-.done{font-size:10px;fill:#000;text-decoration:underline}
+.edge{stroke:#333;stroke-width:6}
+.node{font-size:15px;font-weight:bold;text-anchor:end;fill:#555}
+.count{font-size:13px;fill:#000}
+.done{font-size:13px;fill:#000;text-decoration:underline}
 .head{font-size:16px;font-weight:bold}
 .note{font-size:12px}
 </style>
@@ -27,6 +28,7 @@ const STYLE: &str = "<style>
 <rect id=\"body\" x=\"-5\" y=\"-4\" width=\"10\" height=\"8\" stroke=\"#000\" stroke-width=\"0.7\"/>
 <circle id=\"tail\" r=\"4.6\" stroke=\"#000\" stroke-width=\"0.7\"/>
 <path id=\"single\" d=\"M-5,0L0,-5L6,0L0,5z\" stroke=\"#000\" stroke-width=\"0.7\"/>
+<g id=\"plain\"/>
 <circle id=\"dot\" r=\"2\" fill=\"#fff\"/>
 <circle id=\"ring\" r=\"2\" fill=\"#000\"/>
 <path id=\"bar\" d=\"M0,-4L0,4\" stroke=\"#000\" stroke-width=\"2\"/>
@@ -55,8 +57,10 @@ const NOTES: &str =
 <rect class=\"n3\" x=\"364\" y=\"45\" width=\"15\" height=\"15\"/>
 <rect class=\"n4\" x=\"382\" y=\"45\" width=\"15\" height=\"15\"/>
 <text class=\"note\" x=\"402\" y=\"58\">how full a node's buffers are: none to over 3/4</text>
+<path class=\"holds edge\" d=\"M10,76L34,76\"/>
 <path class=\"holds\" stroke=\"#0072B2\" d=\"M10,76L34,76\"/>
 <text class=\"note\" x=\"40\" y=\"80\">the way that a packet holds: its opening went there</text>
+<path class=\"wants edge\" d=\"M400,76L424,76\"/>
 <path class=\"wants\" stroke=\"#0072B2\" d=\"M400,76L424,76\"/>
 <text class=\"note\" x=\"430\" y=\"80\">the way that an opening at a front wants</text>
 <text class=\"note\" x=\"10\" y=\"102\" font-weight=\"bold\">27</text>
@@ -64,7 +68,7 @@ const NOTES: &str =
 <text class=\"note\" x=\"190\" y=\"102\">+3 flits wait in its source</text>
 <text class=\"note\" x=\"400\" y=\"102\" text-decoration=\"underline\">5</text>
 <text class=\"note\" x=\"430\" y=\"102\">flits were delivered to it</text>
-<text class=\"note\" x=\"10\" y=\"124\">Hover over a flit, or a count, to read what it is.</text>
+<text class=\"note\" x=\"10\" y=\"124\">A way that ends inside its node leads to the sink. Hover over a flit, or a count, to read what it is.</text>
 ";
 
 /// How things look, and the shapes of flits.
@@ -72,35 +76,55 @@ pub fn add_style(svg: &mut Svg) -> Result<(), AllocError> {
     svg.put(STYLE)
 }
 
-/// What run this is, and what came of it.
-pub fn add_heading(svg: &mut Svg, rows: &[Row], moving: u32) -> Result<(), AllocError> {
-    svg.put("<text class=\"head\" x=\"10\" y=\"22\">")?;
+/// The words of the command line with which the report was made, and which workers were stopped.
+fn add_run(svg: &mut Svg, rows: &[Row]) -> Result<(), AllocError> {
+    svg.put("<text class=\"head\" x=\"10\" y=\"20\">")?;
     for row in rows {
         match row {
             Row::Options {
                 turns,
                 workers,
                 drain,
-            } => write!(svg.text, "{turns} turns, workers {workers}, drain {drain}")?,
+            } => write!(svg.text, "turns {turns}, workers {workers}, drain {drain}")?,
             Row::Stopped { worker, turn } => {
                 write!(svg.text, ", worker {worker} stopped in turn {turn}")?
             }
-            Row::Total {
-                delivered,
-                underway,
-            } => write!(
-                svg.text,
-                ": {delivered} flits delivered, {underway} under way; packets in the network: {moving}"
-            )?,
             _ => {}
         }
     }
     svg.put("</text>\n")
 }
 
-/// What the signs mean, from this height on.
-pub fn add_legend(svg: &mut Svg, y: u32) -> Result<(), AllocError> {
-    svg.open_at(0, y)?;
-    svg.put(NOTES)?;
+/// What came of the run.
+fn add_sums(svg: &mut Svg, rows: &[Row], moving: u32) -> Result<(), AllocError> {
+    svg.put("<text class=\"note\" x=\"10\" y=\"38\">")?;
+    for row in rows {
+        if let Row::Total {
+            delivered,
+            underway,
+        } = row
+        {
+            write!(
+                svg.text,
+                "Flits delivered: {delivered}, under way: {underway}. Packets in buffers and on links: {moving}."
+            )?;
+        }
+    }
+    svg.put("</text>\n")
+}
+
+/// What run this is, and what came of it, so many times as large as in a small picture.
+pub fn add_heading(svg: &mut Svg, rows: &[Row], moving: u32, scale: u32) -> Result<(), AllocError> {
+    svg.open_scaled(0, scale)?;
+    add_run(svg, rows)?;
+    add_sums(svg, rows, moving)?;
     svg.close()
+}
+
+/// The end of a picture: what the signs mean, from this height on, so many times as large as in a small picture.
+pub fn add_legend(svg: &mut Svg, y: u32, scale: u32) -> Result<(), AllocError> {
+    svg.open_scaled(y, scale)?;
+    svg.put(NOTES)?;
+    svg.close()?;
+    svg.put("</svg>\n")
 }

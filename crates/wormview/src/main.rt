@@ -4,8 +4,9 @@
 //! status.
 //!
 //! That the report is read as what it says is proved (`worm_rows`); which flits are shown at which node, in its buffers
-//! and on the links to it, the front first (`views`); what hovering over a flit says (`titles`); and what each fault
-//! tells (`program`). Not proved is how it is drawn: colours, shapes, lines and the layout, nor the text of the map.
+//! and on the links to it, the front first (`views`); what hovering over a flit says (`titles`); that a part of the
+//! picture's text has just these flits, one by one (`picture`); and what each fault tells (`program`). Not proved is
+//! how they look and where they stand, what else is drawn, and the text of the map.
 #![tactic(auto)]
 
 ghost use Rattle.std.specs.Prelude.{◌≡◌};
@@ -13,6 +14,7 @@ ghost use Rattle.std.specs.Process.{exit_status};
 ghost use Rattle.wormview.specs.Faults.{ended_status, words_status};
 
 mod fault;
+mod flits;
 mod layout;
 mod legend;
 mod map;
@@ -25,6 +27,7 @@ mod signs;
 mod svg;
 mod titles;
 mod views;
+mod ways;
 mod words;
 
 use fault::ViewFault;

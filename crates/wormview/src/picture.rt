@@ -1,13 +1,20 @@
 //! The picture of a report, as SVG.
 
-use crate::layout::{HEADING, LEGEND, Layout, NARROWEST, SLOT, digit, radix};
+ghost use Rattle.std.specs.Prelude.{[], map, IfOk, OnOk, string_bytes};
+ghost use Rattle.std.specs.List.{flat_map};
+ghost use Rattle.wormview.specs.Nodes.{shown, station_flits, view_flits};
+ghost use Rattle.wormview.specs.Picture.{Adds, PicturesFlits, flit_name};
+
+use crate::flits::add_row;
+use crate::layout::{HEADING, LEGEND, Layout, NAME, NARROWEST, SLOT, digit, radix, slices_across};
 use crate::legend::{add_heading, add_legend, add_style};
-use crate::packets::{Packet, Packets};
+use crate::packets::Packets;
 use crate::scene::{Flit, exit_port};
-use crate::signs::{colour_of, exit_of, frame_of, mark_of, shape_of};
+use crate::signs::{colour_of, exit_of, frame_of, slots_of};
 use crate::svg::Svg;
-use crate::titles::{ArrivalTitle, FlitTitle};
+use crate::titles::ArrivalTitle;
 use crate::views::{NodeView, Station};
+use crate::ways::{Way, add_way};
 use std::alloc::{AllocError, Global};
 use std::fmt::Write;
 use worm_rows::{Row, Shape};
@@ -20,6 +27,7 @@ struct Scene<'a> {
     rows: &'a [Row],
     packets: &'a Packets,
     layout: Layout,
+    head: u32,
 }
 
 impl<'a> Scene<'a> {
@@ -32,62 +40,32 @@ impl<'a> Scene<'a> {
         }
     }
 
-    /// A flit with its middle there, and what hovering over it says.
-    fn add_flit(
-        &self,
-        svg: &mut Svg,
-        flit: &Flit,
-        packet: Packet,
-        x: u32,
-        y: u32,
-    ) -> Result<(), AllocError> {
-        let shape = shape_of(flit.index, packet.last);
-        let number = packet.number.unwrap_or(0);
-        let colour = colour_of(number);
-        let title = FlitTitle {
-            packet: flit.packet,
-            index: flit.index,
-            last: packet.last,
-        };
-        write!(svg.text, "<g><title>{title}</title>")?;
-        write!(
-            svg.text,
-            "<use href=\"#{shape}\" x=\"-{x}\" y=\"{y}\" fill=\"{colour}\"/>"
-        )?;
-        if let Some(mark) = mark_of(number) {
-            write!(svg.text, "<use href=\"#{mark}\" x=\"-{x}\" y=\"{y}\"/>")?;
-        }
-        svg.put("</g>\n")
-    }
-
-    /// Flits one behind the other, the first with its middle there.
-    fn add_row(&self, svg: &mut Svg, flits: &[Flit], first: u32, y: u32) -> Result<(), AllocError> {
-        let mut x = first;
-        for flit in flits {
-            self.add_flit(svg, flit, self.packets.get(flit.packet), x, y)?;
-            x = x.saturating_add(SLOT);
-        }
-        Ok(())
-    }
-
     /// The slots of a channel, marked where all are taken.
-    fn add_slots(&self, svg: &mut Svg, count: usize, top: u32) -> Result<(), AllocError> {
+    fn add_slots(&self, svg: &mut Svg, count: usize, top: u32) -> Result<(), AllocError>
+        ensures { OnOk result (Adds svg.old svg.new []) }
+    {
         let long = self.layout.long;
         let left = self.layout.core + long;
-        let class = if count >= usize::from(self.depth) {
-            "full"
-        } else {
-            "slots"
-        };
-        writeln!(
+        let class = slots_of(count >= usize::from(self.depth));
+        write!(
             svg.text,
-            "<rect class=\"{class}\" x=\"-{left}\" y=\"{top}\" width=\"{long}\" height=\"{SLOT}\"/>"
+            "<rect class=\"{class}\" x=\"-{left}\" y=\"{top}\" width=\"{long}\" height=\"12\"/>\n"
         )
     }
 
+    /// The buffer of a channel, where there is such a channel.
+    fn add_buffer(&self, svg: &mut Svg, station: &Station, top: u32) -> Result<(), AllocError>
+        ensures { OnOk result (Adds svg.old svg.new []) }
+    {
+        if self.has_input(station.spot.node, station.spot.port) {
+            self.add_slots(svg, station.held.len(), top)
+        } else {
+            Ok(())
+        }
+    }
+
     /// The way of the flit at the front of a buffer through the core: a line in its packet's colour to the port that
-    /// it leaves by, and
-    /// along the link where its packet holds it.
+    /// it leaves by, and along the link where its packet holds it.
     fn add_way(&self, svg: &mut Svg, flit: &Flit, y: u32) -> Result<(), AllocError> {
         let mesh = &self.shape.mesh;
         let dims = mesh.dims();
@@ -98,10 +76,7 @@ impl<'a> Scene<'a> {
         let class = if flit.index == 0 { "wants" } else { "holds" };
         let core = self.layout.core;
         svg.open_frame(frame_of(dims, flit.spot.port))?;
-        writeln!(
-            svg.text,
-            "<path class=\"{class}\" stroke=\"{colour}\" d=\"M-{core},{y}L0,0\"/>"
-        )?;
+        add_way(svg, class, colour, Way::In { core, level: y })?;
         svg.close()?;
         let to = if exit == 2 * dims {
             core
@@ -112,32 +87,23 @@ impl<'a> Scene<'a> {
         };
         let level = if exit == 2 * dims { core } else { 2 + SLOT / 2 };
         svg.open_frame(exit_of(dims, exit))?;
-        writeln!(
-            svg.text,
-            "<path class=\"{class}\" stroke=\"{colour}\" d=\"M0,0L{core},{level}L{to},{level}\"/>"
-        )?;
+        add_way(svg, class, colour, Way::Out { core, level, to })?;
         svg.close()
     }
 
     /// A channel of an input port: its slots, and what is in them and on its link.
-    fn add_channel(&self, svg: &mut Svg, station: &Station) -> Result<(), AllocError> {
-        let spot = station.spot;
+    fn add_channel(&self, svg: &mut Svg, station: &Station) -> Result<(), AllocError>
+        ensures { OnOk result (Adds svg.old svg.new (map flit_name (station_flits station.now))) }
+    {
         let top = self.top_of(station);
         let y = top.saturating_add(SLOT / 2);
-        svg.open_frame(frame_of(self.shape.mesh.dims(), spot.port))?;
-        self.add_slots(svg, station.held.len(), top)?;
         let front = self.layout.core + SLOT / 2;
-        self.add_row(svg, station.held.as_slice(), front, y)?;
         let behind = front + self.layout.long + SLOT / 2;
-        self.add_row(svg, station.coming.as_slice(), behind, y)?;
+        svg.open_frame(frame_of(self.shape.mesh.dims(), station.spot.port))?;
+        self.add_buffer(svg, station, top)?;
+        add_row(svg, self.packets, station.held.as_slice(), front, y)?;
+        add_row(svg, self.packets, station.coming.as_slice(), behind, y)?;
         svg.close()
-    }
-
-    /// Whether there is such a channel, or a flit in it.
-    fn is_drawn(&self, station: &Station) -> bool {
-        self.has_input(station.spot.node, station.spot.port)
-            || !station.held.is_empty()
-            || !station.coming.is_empty()
     }
 
     /// How far a channel stands from the middle of its node's core, across the way of its flits.
@@ -250,31 +216,67 @@ impl<'a> Scene<'a> {
     /// The middle of a node.
     fn middle_of(&self, node: u8) -> (u32, u32) {
         let mesh = &self.shape.mesh;
+        let (left, top) = self.corner_of(digit(mesh, node, 2));
         let x = self.layout.middle(digit(mesh, node, 0));
         let y = self.layout.middle(digit(mesh, node, 1));
-        let slice = u32::from(digit(mesh, node, 2)).saturating_mul(self.slice_width());
-        (x.saturating_add(slice), y.saturating_add(HEADING))
+        (x.saturating_add(left), y.saturating_add(top))
     }
 
-    /// The width of a slice: all nodes with one digit in the third dimension.
-    fn slice_width(&self) -> u32 {
-        let columns = u32::from(radix(&self.shape.mesh, 0));
-        columns
-            .saturating_mul(self.layout.pitch)
-            .saturating_add(SLOT)
+    /// The upper left corner of a slice: all nodes with that digit in the third dimension.
+    fn corner_of(&self, slice: u8) -> (u32, u32) {
+        let across = slices_across(&self.shape.mesh);
+        let (width, height) = self.slice_size();
+        let left = width.saturating_mul(u32::from(slice) % across);
+        let top = height.saturating_mul(u32::from(slice) / across);
+        let name = height.saturating_sub(self.nodes_height());
+        (left, top.saturating_add(name).saturating_add(self.head))
     }
 
-    /// The width and the height of the mesh.
-    fn size(&self) -> (u32, u32) {
-        let slices = u32::from(radix(&self.shape.mesh, 2));
-        let rows = u32::from(radix(&self.shape.mesh, 1));
+    /// The height of the nodes of a slice.
+    fn nodes_height(&self) -> u32 {
+        u32::from(radix(&self.shape.mesh, 1)).saturating_mul(self.layout.pitch)
+    }
+
+    /// The width and the height of a slice, with its name where there are several.
+    fn slice_size(&self) -> (u32, u32) {
+        let mesh = &self.shape.mesh;
+        let columns = u32::from(radix(mesh, 0));
+        let name = if radix(mesh, 2) > 1 { NAME } else { 0 };
         (
-            self.slice_width().saturating_mul(slices),
-            self.layout.pitch.saturating_mul(rows),
+            columns
+                .saturating_mul(self.layout.pitch)
+                .saturating_add(SLOT),
+            self.nodes_height().saturating_add(name),
         )
     }
 
-    /// The border of a node, and the links to it.
+    /// The width and the height of all slices.
+    fn size(&self) -> (u32, u32) {
+        let mesh = &self.shape.mesh;
+        let across = slices_across(mesh);
+        let down = u32::from(radix(mesh, 2)).div_ceil(across);
+        let (width, height) = self.slice_size();
+        (width.saturating_mul(across), height.saturating_mul(down))
+    }
+
+    /// The names of the slices, where there are several.
+    fn add_names(&self, svg: &mut Svg) -> Result<(), AllocError> {
+        let slices = radix(&self.shape.mesh, 2);
+        for slice in 0..slices {
+            let (x, y) = self.corner_of(slice);
+            if slices > 1 {
+                svg.open_at(x, y)?;
+                writeln!(
+                    svg.text,
+                    "<text class=\"head\" x=\"15\" y=\"0\">Third dimension: {slice}</text>"
+                )?;
+                svg.close()?;
+            }
+        }
+        Ok(())
+    }
+
+    /// The border of a node, the links to it, and its counts.
     fn add_ground(&self, svg: &mut Svg, view: &NodeView) -> Result<(), AllocError> {
         let (x, y) = self.middle_of(view.node);
         let half = self.layout.half;
@@ -290,6 +292,7 @@ impl<'a> Scene<'a> {
                 self.add_link(svg, port)?;
             }
         }
+        self.add_counts(svg, view)?;
         svg.close()
     }
 
@@ -301,32 +304,92 @@ impl<'a> Scene<'a> {
         svg.close()
     }
 
-    /// The buffers of a node, what is on the links to it, and its counts.
-    fn add_node(&self, svg: &mut Svg, view: &NodeView) -> Result<(), AllocError> {
+    /// The channels of a node, with what is in them and on their links.
+    fn add_channels(&self, svg: &mut Svg, stations: &[Station]) -> Result<(), AllocError>
+        ensures { OnOk result (Adds svg.old svg.new (map flit_name (flat_map station_flits stations.now))) }
+    {
+        for station in stations {
+            self.add_channel(svg, station)?;
+        }
+        Ok(())
+    }
+
+    /// The flits in a node's buffers and on the links to it.
+    fn add_node(&self, svg: &mut Svg, view: &NodeView) -> Result<(), AllocError>
+        ensures { OnOk result (Adds svg.old svg.new (map flit_name (view_flits view.now))) }
+    {
         let (x, y) = self.middle_of(view.node);
         svg.open_at(x, y)?;
-        for station in view.stations.as_slice() {
-            if self.is_drawn(station) {
-                self.add_channel(svg, station)?;
-            }
-        }
-        self.add_counts(svg, view)?;
+        self.add_channels(svg, view.stations.as_slice())?;
         svg.close()
     }
 
-    /// The whole mesh: the ground below the ways, and these below the flits.
-    fn add_nodes(&self, svg: &mut Svg, views: &[NodeView]) -> Result<(), AllocError> {
-        for view in views {
-            self.add_ground(svg, view)?;
-        }
-        for view in views {
-            self.add_traces(svg, view)?;
-        }
+    /// The flits of all nodes.
+    fn add_nodes(&self, svg: &mut Svg, views: &[NodeView]) -> Result<(), AllocError>
+        ensures { OnOk result (Adds svg.old svg.new (map flit_name (shown views.now))) }
+    {
         for view in views {
             self.add_node(svg, view)?;
         }
         Ok(())
     }
+
+    /// The ground: the borders and links of all nodes, and their counts.
+    fn add_grounds(&self, svg: &mut Svg, views: &[NodeView]) -> Result<(), AllocError> {
+        for view in views {
+            self.add_ground(svg, view)?;
+        }
+        Ok(())
+    }
+
+    /// The ways of all nodes' flits.
+    fn add_all_traces(&self, svg: &mut Svg, views: &[NodeView]) -> Result<(), AllocError> {
+        for view in views {
+            self.add_traces(svg, view)?;
+        }
+        Ok(())
+    }
+
+    /// What stands before the flits.
+    fn add_front(&self, svg: &mut Svg, views: &[NodeView], page: &Page) -> Result<(), AllocError> {
+        let width = page.width;
+        let height = page.height;
+        writeln!(
+            svg.text,
+            "<svg xmlns=\"http://www.w3.org/2000/svg\" viewBox=\"0 0 {width} {height}\" font-family=\"sans-serif\">"
+        )?;
+        add_style(svg)?;
+        add_heading(svg, self.rows, self.packets.moving(), page.scale)?;
+        self.add_names(svg)?;
+        self.add_grounds(svg, views)?;
+        self.add_all_traces(svg, views)
+    }
+
+    /// The flits between what stands before them and what comes behind.
+    fn text(&self, alloc: Global, views: &[NodeView], page: &Page) -> Result<String, AllocError>
+        ensures { IfOk result (λ text. PicturesFlits (string_bytes text) (shown views.now)) }
+    {
+        let mut picture = Svg::new(alloc);
+        self.add_front(&mut picture, views, page)?;
+        let mut flits = Svg::new(alloc);
+        self.add_nodes(&mut flits, views)?;
+        let mut legend = Svg::new(alloc);
+        add_legend(&mut legend, page.foot, page.scale)?;
+        picture.put(flits.text.as_str())?;
+        picture.put(legend.text.as_str())?;
+        Ok(picture.text)
+    }
+}
+
+/// The sizes of a picture.
+#[derive(Clone, Copy, Debug, PartialEq, Eq)]
+struct Page {
+    width: u32,
+    height: u32,
+    /// Where the legend begins.
+    foot: u32,
+    /// How large the heading and the legend are.
+    scale: u32,
 }
 
 /// The picture of these nodes, as the rows show them of a network of this shape with buffers of this depth.
@@ -337,27 +400,27 @@ pub fn picture(
     rows: &[Row],
     packets: &Packets,
     views: &[NodeView],
-) -> Result<String, AllocError> {
-    let scene = Scene {
+) -> Result<String, AllocError>
+    ensures { IfOk result (λ text. PicturesFlits (string_bytes text) (shown views.now)) }
+{
+    let mut scene = Scene {
         shape,
         depth,
         rows,
         packets,
         layout: Layout::new(depth, shape.channels),
+        head: 0,
     };
-    let mut svg = Svg::new(alloc);
     let (mesh_width, mesh_height) = scene.size();
     let width = mesh_width.max(NARROWEST);
-    let foot = mesh_height.saturating_add(HEADING);
-    let height = foot.saturating_add(LEGEND);
-    writeln!(
-        svg.text,
-        "<svg xmlns=\"http://www.w3.org/2000/svg\" viewBox=\"0 0 {width} {height}\" font-family=\"sans-serif\">"
-    )?;
-    add_style(&mut svg)?;
-    add_heading(&mut svg, rows, packets.moving())?;
-    scene.add_nodes(&mut svg, views)?;
-    add_legend(&mut svg, foot)?;
-    svg.put("</svg>\n")?;
-    Ok(svg.text)
+    let scale = width / NARROWEST;
+    scene.head = HEADING.saturating_mul(scale);
+    let foot = mesh_height.saturating_add(scene.head);
+    let page = Page {
+        width,
+        height: foot.saturating_add(LEGEND.saturating_mul(scale)),
+        foot,
+        scale,
+    };
+    scene.text(alloc, views, &page)
 }

@@ -1,8 +1,9 @@
 //! The program over readers and a writer.
 
-ghost use Rattle.std.specs.Prelude.{◌≡◌, IfOk, IfErr, OnOk};
+ghost use Rattle.std.specs.Prelude.{◌≡◌, IfOk, IfErr, OnOk, false, string_bytes};
 ghost use Rattle.std.specs.Io.KnownBytes.{Appends};
 ghost use Rattle.worm_text.specs.Network.{view};
+ghost use Rattle.wormview.specs.Picture.{PicturesRows};
 ghost use Rattle.wormview.specs.Views.{IsAccepted, IsRefused};
 ghost use Rattle.wormview.specs.Programs.{Draws, DrawsTexts, FailsTexts, FailsToDraw, GaveBoth, ReadsNot, stream};
 ghost use Rattle.wormview.specs.declared.fault.ViewFault.TheVariants.{Write};
@@ -84,7 +85,10 @@ fn read_both<N: Read, R: Read>(
 }
 
 /// The picture of what was accepted, or its map.
-pub fn drawn(alloc: Global, accepted: &Accepted, text: bool) -> Result<String, AllocError> {
+pub fn drawn(alloc: Global, accepted: &Accepted, text: bool) -> Result<String, AllocError>
+    ensures { IfOk result (λ drawing. text ≡ false
+        → PicturesRows accepted.now.shape accepted.now.rows.items (string_bytes drawing)) }
+{
     let shape = &accepted.shape;
     let rows = accepted.rows.as_slice();
     let depth = accepted.config.depth;
@@ -116,7 +120,7 @@ fn draw_texts<W: Write>(
     text: bool,
     out: &mut W,
 ) -> Result<(), ViewFault>
-    ensures ok { OnOk result (DrawsTexts network.now report.now (stream (W.contents out.old) (W.contents out.new))) }
+    ensures ok { OnOk result (DrawsTexts text network.now report.now (stream (W.contents out.old) (W.contents out.new))) }
     ensures err { IfErr result (FailsTexts network.now report.now (stream (W.contents out.old) (W.contents out.new))) }
 {
     let accepted = accept(alloc, network, report)?;
@@ -138,7 +142,7 @@ pub fn run_view<N: Read, R: Read, W: Write>(
     out: &mut W,
 ) -> Result<(), ViewFault>
     ensures ok { OnOk result
-        (Draws (stream (N.remaining network.old) (N.remaining network.new))
+        (Draws text (stream (N.remaining network.old) (N.remaining network.new))
         (stream (R.remaining report.old) (R.remaining report.new))
         (stream (W.contents out.old) (W.contents out.new))) }
     ensures err { IfErr result

@@ -1,6 +1,7 @@
 //! How things look in a picture: which way they are turned, and the shape, the colour and the mark of a flit.
 
-ghost use Rattle.std.specs.Prelude.{◌≤◌};
+ghost use Rattle.std.specs.Prelude.{◌≡◌, ◌≤◌, true};
+ghost use Rattle.wormview.specs.Picture.{lacks};
 
 use crate::svg::Frame;
 
@@ -36,8 +37,17 @@ pub fn exit_of(dims: u8, port: u8) -> Frame
     }
 }
 
+/// How the slots of a channel look.
+pub fn slots_of(is_full: bool) -> &'static str
+    ensures plain { lacks 60 result.now ≡ true }
+{
+    if is_full { "full" } else { "slots" }
+}
+
 /// The shape of a flit: its part in its packet.
-pub fn shape_of(index: u8, last: u8) -> &'static str {
+pub fn shape_of(index: u8, last: u8) -> &'static str
+    ensures plain { lacks 60 result.now ≡ true }
+{
     if index == 0 && last == 0 {
         "single"
     } else if index == 0 {
@@ -50,7 +60,9 @@ pub fn shape_of(index: u8, last: u8) -> &'static str {
 }
 
 /// The colours of packets: eyes that do not tell red from green tell these apart (Okabe and Ito).
-pub fn colour_of(number: u32) -> &'static str {
+pub fn colour_of(number: u32) -> &'static str
+    ensures plain { lacks 60 result.now ≡ true }
+{
     match number % 7 {
         0 => "#0072B2",
         1 => "#E69F00",
@@ -63,11 +75,13 @@ pub fn colour_of(number: u32) -> &'static str {
 }
 
 /// The mark on a packet's flits, which tells packets of one colour apart.
-pub fn mark_of(number: u32) -> Option<&'static str> {
+pub fn mark_of(number: u32) -> &'static str
+    ensures plain { lacks 60 result.now ≡ true }
+{
     match number / 7 % 4 {
-        0 => None,
-        1 => Some("dot"),
-        2 => Some("ring"),
-        _ => Some("bar"),
+        0 => "plain",
+        1 => "dot",
+        2 => "ring",
+        _ => "bar",
     }
 }

@@ -1,5 +1,8 @@
 //! The text of a picture, element by element.
 
+ghost use Rattle.std.specs.Prelude.{◌≡◌, ◌++◌, [], OnOk, string_bytes, true};
+ghost use Rattle.wormview.specs.Picture.{Adds, lacks};
+
 use std::alloc::{AllocError, Global};
 use std::fmt::Write;
 
@@ -26,7 +29,9 @@ pub enum Frame {
 }
 
 impl Frame {
-    fn transform(self) -> &'static str {
+    fn transform(self) -> &'static str
+        ensures plain { lacks 60 result.now ≡ true }
+    {
         match self {
             Frame::Plain => "rotate(0)",
             Frame::Down => "rotate(90)",
@@ -39,30 +44,48 @@ impl Frame {
 
 impl Svg {
     /// An empty text.
-    pub fn new(alloc: Global) -> Svg {
+    pub fn new(alloc: Global) -> Svg
+        ensures { string_bytes result.text ≡ [] }
+    {
         Svg {
             text: String::new(alloc),
         }
     }
 
     /// What follows has its origin there, up to `close`.
-    pub fn open_at(&mut self, x: u32, y: u32) -> Result<(), AllocError> {
-        writeln!(self.text, "<g transform=\"translate({x},{y})\">")
+    pub fn open_at(&mut self, x: u32, y: u32) -> Result<(), AllocError>
+        ensures { OnOk result (Adds self.old self.new []) }
+    {
+        write!(self.text, "<g transform=\"translate({x},{y})\">\n")
+    }
+
+    /// What follows begins at this height and is so many times as large, up to `close`.
+    pub fn open_scaled(&mut self, y: u32, scale: u32) -> Result<(), AllocError> {
+        writeln!(
+            self.text,
+            "<g transform=\"translate(0,{y}) scale({scale})\">"
+        )
     }
 
     /// What follows is turned, up to `close`.
-    pub fn open_frame(&mut self, frame: Frame) -> Result<(), AllocError> {
+    pub fn open_frame(&mut self, frame: Frame) -> Result<(), AllocError>
+        ensures { OnOk result (Adds self.old self.new []) }
+    {
         let transform = frame.transform();
-        writeln!(self.text, "<g transform=\"{transform}\">")
+        write!(self.text, "<g transform=\"{transform}\">\n")
     }
 
     /// The end of what was opened last.
-    pub fn close(&mut self) -> Result<(), AllocError> {
+    pub fn close(&mut self) -> Result<(), AllocError>
+        ensures { OnOk result (Adds self.old self.new []) }
+    {
         self.text.push_str("</g>\n")
     }
 
     /// These lines as they are.
-    pub fn put(&mut self, lines: &str) -> Result<(), AllocError> {
+    pub fn put(&mut self, lines: &str) -> Result<(), AllocError>
+        ensures { OnOk result (string_bytes self.new.text ≡ string_bytes self.old.text ++ lines.now) }
+    {
         self.text.push_str(lines)
     }
 }

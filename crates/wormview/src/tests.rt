@@ -48,12 +48,12 @@ fn a_picture(rt: HostRuntime) {
     let text = picture.as_ref().map_or("", |picture| picture.as_str());
     assert!(rt;
         text.contains(
-            "<g><title>from 1 to 0 class 0 packet 0 flit 0 of 0 to 1</title><use href=\"#opening\""
+            "<g><title>from 1 to 0 class 0 packet 0 flit 0, of 0 to 1</title><use href=\"#opening\""
         )
     );
     assert!(rt;
         text.contains(
-            "<g><title>from 1 to 0 class 0 packet 0 flit 1 of 0 to 1</title><use href=\"#tail\""
+            "<g><title>from 1 to 0 class 0 packet 0 flit 1, of 0 to 1</title><use href=\"#tail\""
         )
     );
     assert!(rt; text.contains(">+1<title>1 flits wait in the source of node 1</title>"));

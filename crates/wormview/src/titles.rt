@@ -29,7 +29,7 @@ impl fmt::Display for FlitTitle {
         let last = self.last;
         write!(
             f,
-            "from {src} to {dst} class {class} packet {number} flit {index} of 0 to {last}"
+            "from {src} to {dst} class {class} packet {number} flit {index}, of 0 to {last}"
         )
     }
 }

@@ -1,0 +1,9 @@
+use Rattle.std.proofs.Common.{[], ◌∷◌}
+use Rattle.wormview.specs.Picture.{name_of}
+use Rattle.wormview.proofs.Names.{adds, title}
+use Rattle.wormview.proofs.flits.add_title.Goals as goal
+
+pub returns : goal.returns
+returns c =
+    let t = c.args.title in
+    adds c.write.result c.args.svg.now (record { text = c.write.new.self }) _ (name_of t.packet t.index ∷ []) c.write.ensures.bytes (title t)
