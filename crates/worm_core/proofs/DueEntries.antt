@@ -1,5 +1,6 @@
 -- In a list whose numbers never fall, the elements of one number stand together.
-use Rattle.std.proofs.Common.{inl, inr, ◌≡◌, ℕ, zero, suc, ◌+◌, ◌-◌, ◌<◌, ◌≤◌, ◌==◌, true, false, nat_lt, nat_le, List, [], ◌∷◌, length, get_or, take, drop, refl, arith, ap, sym, ◌∙◌}
+use Rattle.std.proofs.Common.{inl, inr, ◌≡◌, ℕ, zero, suc, ◌+◌, ◌-◌, ◌<◌, ◌≤◌, ◌==◌, true, false, nat_lt, nat_le, List}
+use Rattle.std.proofs.Common.{[], ◌∷◌, length, get_or, take, drop, refl, arith, ap, sym, ◌∙◌}
 use Rattle.std.specs.Prelude.{filter}
 use Rattle.std.specs.List.Sorted.{IsNonDecreasingBy, IsPartitionPoint}
 use Rattle.std.proofs.Math.Seq.{drop-nil}
@@ -29,7 +30,8 @@ take_none : {X : Type 0} (i : ℕ) → take {A = X} i [] ≡ []
 take_none zero = refl
 take_none (suc i) = refl
 
-stands_part : {X : Type 0} (n : X → ℕ) (t : ℕ) (xs : List X) (a b : ℕ) → a ≤ b → StandsAt n t xs a b → filter (λ x. n x == t) xs ≡ take (b - a) (drop a xs)
+stands_part : {X : Type 0} (n : X → ℕ) (t : ℕ) (xs : List X) (a b : ℕ) → a ≤ b → StandsAt n t xs a b
+    → filter (λ x. n x == t) xs ≡ take (b - a) (drop a xs)
 stands_part {X} n t [] a b within stands = sym (ap (λ (xs : List X). take (b - a) xs) (drop-nil a) ∙ take_none (b - a))
 stands_part n t (x ∷ xs) (suc a) zero within stands = absurd (omega arith)
 stands_part {X} n t (x ∷ xs) (suc a) (suc b) within stands =
@@ -42,7 +44,8 @@ stands_part {X} n t (x ∷ xs) (suc a) (suc b) within stands =
       behind = λ k d above below. stands.behind (suc k) d (omega arith) (omega arith);
     } ∙ ap (λ (i : ℕ). take i (drop a xs)) count)
 stands_part {X} n t (x ∷ xs) zero (suc b) within stands =
-    let match : (n x == t) ≡ true = at (n x) t (stands.to 0 x (omega arith)) (stands.from 0 x (omega arith) (omega arith)) in
+    let match : (n x == t) ≡ true = at (n x) t (stands.to 0 x (omega arith))
+    (stands.from 0 x (omega arith) (omega arith)) in
     let count : suc (b - 0) ≡ suc b - 0 = omega arith in
     rw match (ap (λ (ys : List X). x ∷ ys) (stands_part n t xs 0 b (omega arith) record {
       before = λ k d below. absurd (omega arith);
@@ -59,7 +62,8 @@ stands_part {X} n t (x ∷ xs) zero zero within stands =
       behind = λ k d above below. stands.behind (suc k) d (omega arith) (omega arith);
     })
 
-stands_in_order : {X : Type 0} (n : X → ℕ) (t : ℕ) (xs : List X) (a b : ℕ) (d : X) → a ≤ length xs → b < a → StandsAt n t xs a b → ⊥
+stands_in_order : {X : Type 0} (n : X → ℕ) (t : ℕ) (xs : List X) (a b : ℕ) (d : X) → a ≤ length xs → b < a
+    → StandsAt n t xs a b → ⊥
 stands_in_order n t xs a b d within below stands =
     let low = stands.before b d below in
     let high = stands.behind b d (omega arith) (omega arith) in
@@ -78,7 +82,9 @@ not_most : (a b : ℕ) → nat_le a b ≡ false → b < a
 not_most a b e = grind arith
 
 -- by two searches
-stands_by : {X : Type 0} (n : X → ℕ) (t : ℕ) (xs : List X) (a b : ℕ) → IsPartitionPoint (λ y. nat_lt (n y) t ≡ true) (λ y. nat_lt (n y) t ≡ false) xs a → IsPartitionPoint (λ y. nat_le (n y) t ≡ true) (λ y. nat_le (n y) t ≡ false) xs b → StandsAt n t xs a b
+stands_by : {X : Type 0} (n : X → ℕ) (t : ℕ) (xs : List X) (a b : ℕ)
+    → IsPartitionPoint (λ y. nat_lt (n y) t ≡ true) (λ y. nat_lt (n y) t ≡ false) xs a
+    → IsPartitionPoint (λ y. nat_le (n y) t ≡ true) (λ y. nat_le (n y) t ≡ false) xs b → StandsAt n t xs a b
 stands_by n t xs a b first next = record {
   before = λ k d below. less _ t (first.0 k d (omega arith) below);
   from = λ k d above below. not_less _ t (first.1 k d above below);
@@ -104,7 +110,9 @@ places_rise n t (x ∷ xs) a b within stands = elim (below_cases b a) [
 ]
 
 -- the entries of a turn stand between the places that two searches find
-pub due_part : (entries : List Entry) (turn a b : ℕ) → a ≤ length entries → IsPartitionPoint (λ (e : Entry). nat_lt e.turn turn ≡ true) (λ (e : Entry). nat_lt e.turn turn ≡ false) entries a → IsPartitionPoint (λ (e : Entry). nat_le e.turn turn ≡ true) (λ (e : Entry). nat_le e.turn turn ≡ false) entries b
+pub due_part : (entries : List Entry) (turn a b : ℕ) → a ≤ length entries
+    → IsPartitionPoint (λ (e : Entry). nat_lt e.turn turn ≡ true) (λ (e : Entry). nat_lt e.turn turn ≡ false) entries a
+    → IsPartitionPoint (λ (e : Entry). nat_le e.turn turn ≡ true) (λ (e : Entry). nat_le e.turn turn ≡ false) entries b
     → (a ≤ b) × (take (b - a) (drop a entries) ≡ due turn entries)
 due_part entries turn a b within first next =
     let stands = stands_by (λ (e : Entry). e.turn) turn entries a b first next in
@@ -112,7 +120,8 @@ due_part entries turn a b within first next =
     (rise, sym (stands_part (λ (e : Entry). e.turn) turn entries a b rise stands))
 
 -- a turn behind the last entry's has none
-pub none_behind : (entries : List Entry) (turn : ℕ) → AreInOrder entries → ((d : Entry) → 0 < length entries → (get_or entries (length entries - 1) d).turn < turn) → due turn entries ≡ []
+pub none_behind : (entries : List Entry) (turn : ℕ) → AreInOrder entries
+    → ((d : Entry) → 0 < length entries → (get_or entries (length entries - 1) d).turn < turn) → due turn entries ≡ []
 none_behind entries turn in_order last =
     let rise = turns_rise entries in_order in
     let below : (k : ℕ) (d : Entry) → k < length entries → (get_or entries k d).turn < turn = λ k d there.

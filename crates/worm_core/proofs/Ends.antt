@@ -1,5 +1,6 @@
 -- The two ends of a link, and the front of a list.
-use Rattle.std.proofs.Common.{◌≡◌, ℕ, zero, suc, ◌+◌, ◌*◌, ◌<◌, true, List, [], ◌∷◌, length, drop, Option, Some, None, refl, arith, ap, add-one, ◌∙◌}
+use Rattle.std.proofs.Common.{◌≡◌, ℕ, zero, suc, ◌+◌, ◌*◌, ◌<◌, true, List, [], ◌∷◌, length, drop, Option, Some, None}
+use Rattle.std.proofs.Common.{refl, arith, ap, add-one, ◌∙◌}
 use Rattle.std.specs.Prelude.{slice_get}
 use Rattle.worm_mesh.specs.Address.{has_neighbour, neighbour_of, opposite_of}
 use Rattle.worm_mesh.specs.Links.{links_before}
@@ -28,7 +29,8 @@ feeder s x p y framed e =
 
 pub first_of : {A : Type 0} (xs : List A) (f : A) → slice_get xs 0 ≡ Some f → xs ≡ f ∷ drop 1 xs
 first_of {A} [] f e = let no : ◌≡◌ {A = Option A} None (Some f) = e in absurd (cc)
-first_of {A} (g ∷ xs) f e = let is : ◌≡◌ {A = Option A} (Some g) (Some f) = e in let same : g ≡ f = cc in ap (λ (h : A). h ∷ xs) same
+first_of {A} (g ∷ xs) f e = let is : ◌≡◌ {A = Option A} (Some g) (Some f) = e in let same : g ≡ f = cc in
+    ap (λ (h : A). h ∷ xs) same
 
 pub none_of : {A : Type 0} (xs : List A) → slice_get xs 0 ≡ None → xs ≡ []
 none_of [] e = refl

@@ -21,12 +21,17 @@ delivers s net = record {
   elsewhere = nowhere_else s.mesh s.channels s.depth (network_of s) net.framed.radices net.sound;
   fits = net.sound.fits;
   link_fits = links_fit (shape s) (network_of s) net.sound.credits;
-  marks = λ lane c there owned alone before m rest e marked. mark_is_last (shape s) (network_of s) net.sound net.cut lane c there owned alone before m rest e marked;
-  packets = packets_are_cut s.mesh s.channels s.depth net.framed.radices (network_of s) net.framed.classes net.sound net.packets;
+  marks = λ lane c there owned alone before m rest e marked. mark_is_last (shape s)
+      (network_of s) net.sound net.cut lane c there owned alone before m rest e marked;
+  packets = packets_are_cut s.mesh s.channels s.depth net.framed.radices
+      (network_of s) net.framed.classes net.sound net.packets;
   whole = λ lane k. packets_whole lane k (network_of s) (net.sound.histories lane);
-  active = open_is_active s.mesh s.channels s.depth net.framed.radices net.framed.classes (network_of s) net.sound net.packets;
+  active = open_is_active s.mesh s.channels s.depth net.framed.radices net.framed.classes
+      (network_of s) net.sound net.packets;
 }
 
-pub nothing_follows : (old new : NetState) → IsNet old → (steps : List Step) → StepsLead (shape old) (network_of old) steps (network_of new) → NothingFollowsMarks old new
+pub nothing_follows : (old new : NetState) → IsNet old → (steps : List Step)
+    → StepsLead (shape old) (network_of old) steps (network_of new) → NothingFollowsMarks old new
 nothing_follows old new net steps lead = λ lane c there owned alone marked.
-    nothing_more (shape old) (framed_mesh old net.framed) steps (network_of old) (network_of new) lead net.sound net.cut lane c there owned alone marked
+    nothing_more (shape old) (framed_mesh old net.framed) steps (network_of old)
+    (network_of new) lead net.sound net.cut lane c there owned alone marked

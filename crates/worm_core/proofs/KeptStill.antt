@@ -14,7 +14,8 @@ left_out kept x = elim (cases_lt x (length kept)) [
 ]
 
 -- the node that changes is left out; the others are as they were
-pub touched : (nodes : List Node) (kept : List Bool) (x : ℕ) (n : Node) → KnowsStill nodes kept → KnowsStill (set nodes x n) (set kept x false)
+pub touched : (nodes : List Node) (kept : List Bool) (x : ℕ) (n : Node) → KnowsStill nodes kept
+    → KnowsStill (set nodes x n) (set kept x false)
 touched nodes kept x n known = λ y there still. elim (number_cases y x) [
   | inl here ↦ let no : false ≡ true = sym (left_out kept x) ∙ rw here.1 at still in absurd (cc)
   | inr away ↦

@@ -50,3 +50,4 @@ pub mod Marks
 pub mod SourceLedgers
 pub mod ScriptParts
 pub mod NeverRefused
+pub mod ClosedBefore

@@ -1,5 +1,6 @@
 -- Marks of lanes are never lost; and of a lane without a mark no marked list has a flit.
-use Rattle.std.proofs.Common.{ℕ, zero, suc, ◌≡◌, ◌+◌, ◌*◌, ◌<◌, ◌≤◌, ◌^◌, Bool, true, false, ◌==◌, ◌⊎◌, inl, inr, List, [], ◌∷◌, length, take, drop, sum, set, get_or, Some, arith, refl, ap, sym, subst, ◌∙◌}
+use Rattle.std.proofs.Common.{ℕ, zero, suc, ◌≡◌, ◌+◌, ◌*◌, ◌<◌, ◌≤◌, ◌^◌, Bool, true, false, ◌==◌, ◌⊎◌, inl, inr, List}
+use Rattle.std.proofs.Common.{[], ◌∷◌, length, take, drop, sum, set, get_or, Some, arith, refl, ap, sym, subst, ◌∙◌}
 use Rattle.std.specs.Prelude.{slice_get}
 use Rattle.std.proofs.Math.Nat.{mul-le-mul_left, mul-le-mul_right}
 use Rattle.std.proofs.lemmas.List.{get_or_past}
@@ -21,7 +22,8 @@ use Rattle.worm_core.specs.LaneView.{channels_of, at_place, held_at, buffer_held
 use Rattle.worm_core.specs.declared.node.Node.{Node}
 use Rattle.worm_core.specs.declared.view.Place.{Place}
 use Rattle.worm_core.specs.declared.view.Place.TheVariants.{Source, Buffer, Link}
-use Rattle.worm_core.specs.LaneSet.{LaneMarks, lane_line, is_marked, with_mark, AllMarked, KeepsMarks, IsComplete, NodesMarked, LinksMarked}
+use Rattle.worm_core.specs.LaneSet.{LaneMarks, lane_line, is_marked, with_mark, AllMarked, KeepsMarks, IsComplete}
+use Rattle.worm_core.specs.LaneSet.{NodesMarked, LinksMarked}
 use Rattle.worm_core.proofs.Bridge.{below_cases}
 use Rattle.worm_core.proofs.NewNet.{input_fresh}
 use Rattle.worm_core.proofs.ViewLists.{take_more, none_each}
@@ -65,15 +67,20 @@ only : (set : LaneMarks) (f : Flit) → is_marked set f.lane ≡ true → AllMar
 only set f here zero d there = here
 only set f here (suc k) d there = absurd (omega arith)
 
-pub marked_more : (old new : LaneMarks) (fs : List Flit) (i : ℕ) (f : Flit) → slice_get fs i ≡ Some f → new ≡ with_mark old f.lane → AllMarked old (take i fs) → AllMarked new (take (i + 1) fs)
+pub marked_more : (old new : LaneMarks) (fs : List Flit) (i : ℕ) (f : Flit) → slice_get fs i ≡ Some f
+    → new ≡ with_mark old f.lane → AllMarked old (take i fs) → AllMarked new (take (i + 1) fs)
 marked_more old new fs i f is now all =
     let marked : (g : Flit) → Type 0 = λ g. is_marked new g.lane ≡ true in
     let keeps : KeepsMarks old new = subst (λ (s : LaneMarks). KeepsMarks old s) (sym now) (mark_keeps old f.lane) in
-    let here : is_marked new f.lane ≡ true = subst (λ (s : LaneMarks). is_marked s f.lane ≡ true) (sym now) (mark_marks old f.lane) in
-    subst (AllMarked new) (sym (take_more fs i f is)) (All-append marked (take i fs) (f ∷ []) (still_marked old new (take i fs) keeps all) (only new f here))
+    let here : is_marked new f.lane ≡ true =
+    subst (λ (s : LaneMarks). is_marked s f.lane ≡ true) (sym now) (mark_marks old f.lane) in
+    subst (AllMarked new) (sym (take_more fs i f is))
+    (All-append marked (take i fs) (f ∷ []) (still_marked old new (take i fs) keeps all) (only new f here))
 
-pub keeps_more : (start old new : LaneMarks) (lane : Lane) → KeepsMarks start old → new ≡ with_mark old lane → KeepsMarks start new
-keeps_more start old new lane kept now = keeps_then start old new kept (subst (λ (s : LaneMarks). KeepsMarks old s) (sym now) (mark_keeps old lane))
+pub keeps_more : (start old new : LaneMarks) (lane : Lane) → KeepsMarks start old → new ≡ with_mark old lane
+    → KeepsMarks start new
+keeps_more start old new lane kept now =
+    keeps_then start old new kept (subst (λ (s : LaneMarks). KeepsMarks old s) (sym now) (mark_keeps old lane))
 
 -- the same of a list that is read by index
 read_there : {A : Type 0} (xs : List A) (i : ℕ) (d : A) → i < length xs → slice_get xs i ≡ Some (get_or xs i d)
@@ -81,18 +88,22 @@ read_there [] i d there = absurd (omega arith)
 read_there (x ∷ xs) zero d there = refl
 read_there (x ∷ xs) (suc i) d there = read_there xs i d (omega arith)
 
-pub keeps_read : (start old new : LaneMarks) (fs : List Flit) (i : ℕ) (d : Flit) → new ≡ with_mark old (get_or fs i d).lane → KeepsMarks start old → KeepsMarks start new
+pub keeps_read : (start old new : LaneMarks) (fs : List Flit) (i : ℕ) (d : Flit)
+    → new ≡ with_mark old (get_or fs i d).lane → KeepsMarks start old → KeepsMarks start new
 keeps_read start old new fs i d now kept = keeps_more start old new (get_or fs i d).lane kept now
 
-pub marked_read : (old new : LaneMarks) (fs : List Flit) (i : ℕ) (d : Flit) → new ≡ with_mark old (get_or fs i d).lane → i < length fs → AllMarked old (take i fs) → AllMarked new (take (i + 1) fs)
+pub marked_read : (old new : LaneMarks) (fs : List Flit) (i : ℕ) (d : Flit) → new ≡ with_mark old (get_or fs i d).lane
+    → i < length fs → AllMarked old (take i fs) → AllMarked new (take (i + 1) fs)
 marked_read old new fs i d now there all = marked_more old new fs i (get_or fs i d) (read_there fs i d there) now all
 
 -- a list whose lanes are marked has no flit of a lane without a mark
 
-same_lane : (lane : Lane) (f : Flit) → is_of_lane lane f ≡ true → (f.lane.src ≡ lane.src) × (f.lane.dst ≡ lane.dst) × (f.lane.class ≡ lane.class)
+same_lane : (lane : Lane) (f : Flit) → is_of_lane lane f ≡ true
+    → (f.lane.src ≡ lane.src) × (f.lane.dst ≡ lane.dst) × (f.lane.class ≡ lane.class)
 same_lane lane f of = (grind arith, grind arith, grind arith)
 
-pub none_of_lane : (set : LaneMarks) (lane : Lane) (fs : List Flit) → is_marked set lane ≡ false → AllMarked set fs → of_lane lane fs ≡ []
+pub none_of_lane : (set : LaneMarks) (lane : Lane) (fs : List Flit) → is_marked set lane ≡ false → AllMarked set fs
+    → of_lane lane fs ≡ []
 none_of_lane set lane [] free all = refl
 none_of_lane set lane (f ∷ fs) free all =
     elim (bool_cases (is_of_lane lane f)) [
@@ -101,11 +112,15 @@ none_of_lane set lane (f ∷ fs) free all =
           let src = same.0 in
           let dst = same.1 in
           let class = same.2 in
-          let at : lane_line set f.lane ≡ lane_line set lane = λ t. (src t * set.nodes + dst t) * set.classes + class t in
-          let marked : is_marked set lane ≡ true = subst (λ (i : ℕ). get_or set.marks i true ≡ true) at (All-head (λ (g : Flit). is_marked set g.lane ≡ true) f fs all) in
+          let at : lane_line set f.lane ≡ lane_line set lane =
+          λ t. (src t * set.nodes + dst t) * set.classes + class t in
+          let marked : is_marked set lane ≡ true =
+          subst (λ (i : ℕ). get_or set.marks i true ≡ true) at
+          (All-head (λ (g : Flit). is_marked set g.lane ≡ true) f fs all) in
           let clash : true ≡ false = sym marked ∙ free in
           absurd (cc)
-      | inr other ↦ rw other (none_of_lane set lane fs free (All-tail (λ (g : Flit). is_marked set g.lane ≡ true) f fs all))
+      | inr other ↦ rw other (none_of_lane set lane fs free
+          (All-tail (λ (g : Flit). is_marked set g.lane ≡ true) f fs all))
     ]
 
 none_marked : (set : LaneMarks) → AllMarked set []
@@ -116,9 +131,11 @@ port_cases p t = grind arith
 
 -- past the last port no line is left
 past_lines : (p t w v : ℕ) → t < p → (t + 1) * w ≤ p * w + v
-past_lines p t w v h = let rows : (t + 1) * w ≤ p * w = mul-le-mul_right w (let le : t + 1 ≤ p = omega arith in le) in omega arith
+past_lines p t w v h = let rows : (t + 1) * w ≤ p * w = mul-le-mul_right w (let le : t + 1 ≤ p = omega arith in le) in
+    omega arith
 
-past_all : (s : NetState) → IsFramed s → (x p v : ℕ) → x < length s.nodes → 2 * length s.mesh < p → length (router_at s x).inputs ≤ p * width (router_at s x) + v
+past_all : (s : NetState) → IsFramed s → (x p v : ℕ) → x < length s.nodes → 2 * length s.mesh < p
+    → length (router_at s x).inputs ≤ p * width (router_at s x) + v
 past_all s framed x p v inside past =
     let node = framed.each_node x inside in
     let all = node.all_inputs in
@@ -126,7 +143,8 @@ past_all s framed x p v inside past =
     let lines = past_lines p (terminal (router_at s x)) (width (router_at s x)) v longer in
     omega arith
 
-module _ (s : NetState) (framed : IsFramed s) (set : LaneMarks) (nodes : NodesMarked s set (node_count s.mesh)) (links : LinksMarked s set (link_count s.mesh)) where
+module _ (s : NetState) (framed : IsFramed s) (set : LaneMarks) (nodes : NodesMarked s set (node_count s.mesh))
+    (links : LinksMarked s set (link_count s.mesh)) where
   buffer_marked : (x p v : ℕ) → AllMarked set (input_of (router_at s x) p v).buffer
   buffer_marked x p v = elim (below_cases x (length s.nodes)) [
     | inl inside ↦
@@ -139,14 +157,20 @@ module _ (s : NetState) (framed : IsFramed s) (set : LaneMarks) (nodes : NodesMa
               elim (port_cases p (2 * length s.mesh)) [
                 | inl port ↦ rw channel.0 (nodes.buffers x p v there port v_in)
                 | inr past ↦
-                    let lines : length (router_at s x).inputs ≤ p * width (router_at s x) + v = past_all s framed x p v inside.1 past in
-                    rw channel.0 (subst (λ (c : ChannelState). AllMarked set c.buffer) (sym (get_or_past (router_at s x).inputs (p * width (router_at s x) + v) (fresh_channel (router_at s x).depth) lines)) (none_marked set))
+                    let lines : length (router_at s x).inputs ≤ p * width (router_at s x) + v =
+                    past_all s framed x p v inside.1 past in
+                    rw channel.0 (subst (λ (c : ChannelState). AllMarked set c.buffer)
+                    (sym (get_or_past (router_at s x).inputs (p * width (router_at s x) + v)
+                    (fresh_channel (router_at s x).depth) lines)) (none_marked set))
               ]
           | inr past ↦ rw past.0 (none_marked set)
         ]
     | inr outside ↦
-        let fresh : node_at s x ≡ fresh_node s.mesh s.channels s.depth x = get_or_past s.nodes x (fresh_node s.mesh s.channels s.depth x) outside.1 in
-        subst (λ (n : Node). AllMarked set (input_of n.router p v).buffer) (sym fresh) (subst (λ (c : ChannelState). AllMarked set c.buffer) (sym (input_fresh s.mesh x s.channels s.depth p v)) (none_marked set))
+        let fresh : node_at s x ≡ fresh_node s.mesh s.channels s.depth x =
+        get_or_past s.nodes x (fresh_node s.mesh s.channels s.depth x) outside.1 in
+        subst (λ (n : Node). AllMarked set (input_of n.router p v).buffer) (sym fresh)
+        (subst (λ (c : ChannelState). AllMarked set c.buffer) (sym (input_fresh s.mesh x s.channels s.depth p v))
+        (none_marked set))
   ]
 
   link_marked : (x o : ℕ) → AllMarked set (link_of s x o).flits
@@ -158,41 +182,56 @@ module _ (s : NetState) (framed : IsFramed s) (set : LaneMarks) (nodes : NodesMa
     | inr none ↦ rw none (none_marked set)
   ]
 
-  module _ (lane : Lane) (src : lane.src < node_count s.mesh) (class : lane.class < length s.channels) (free : is_marked set lane ≡ false) where
+  module _ (lane : Lane) (src : lane.src < node_count s.mesh) (class : lane.class < length s.channels)
+      (free : is_marked set lane ≡ false) where
     none_at : (place : Place) (fs : List Flit) → AllMarked set fs → at_place place (of_lane lane fs) ≡ []
     none_at place fs all = ap (at_place place) (none_of_lane set lane fs free all)
 
     none_held : (spot : Spot) → held_at s lane spot ≡ []
-    none_held AtSource = none_at Source (drop (queue_of s lane.src lane.class).fed (queue_of s lane.src lane.class).injected) (nodes.sources lane.src lane.class src class)
+    none_held AtSource = none_at Source (drop (queue_of s lane.src lane.class).fed
+        (queue_of s lane.src lane.class).injected) (nodes.sources lane.src lane.class src class)
     none_held (AtBuffer x p) =
-        none_each (buffer_held s lane x p) (channels_of s.channels lane.class) (λ v. none_at (Buffer x p v) (input_of (router_at s x) p v).buffer (buffer_marked x p v))
+        none_each (buffer_held s lane x p) (channels_of s.channels lane.class)
+        (λ v. none_at (Buffer x p v) (input_of (router_at s x) p v).buffer (buffer_marked x p v))
     none_held (AtLink x o) =
         none_each (link_held s lane x o) (channels_of s.channels lane.class)
-        (λ v. none_at (Link x o v) (on_channel v (link_of s x o).flits) (All-filter (λ (f : Flit). v == f.vc) (λ (f : Flit). is_marked set f.lane ≡ true) (link_of s x o).flits (link_marked x o)))
+        (λ v. none_at (Link x o v) (on_channel v (link_of s x o).flits)
+        (All-filter (λ (f : Flit). v == f.vc) (λ (f : Flit). is_marked set f.lane ≡ true) (link_of s x o).flits
+        (link_marked x o)))
 
   pub complete : IsComplete s set
-  complete lane src dst class free = none_each (held_at s lane) (places_of s.mesh lane.src lane.dst) (none_held lane src class free)
+  complete lane src dst class free = none_each (held_at s lane) (places_of s.mesh lane.src lane.dst)
+      (none_held lane src class free)
 
-pub still_nodes : (s : NetState) (old new : LaneMarks) (n : ℕ) → KeepsMarks old new → NodesMarked s old n → NodesMarked s new n
+pub still_nodes : (s : NetState) (old new : LaneMarks) (n : ℕ) → KeepsMarks old new → NodesMarked s old n
+    → NodesMarked s new n
 still_nodes s old new n keeps all = record {
-  sources = λ x k x_in k_in. still_marked old new (drop (queue_of s x k).fed (queue_of s x k).injected) keeps (all.sources x k x_in k_in);
-  buffers = λ x p v x_in p_in v_in. still_marked old new (input_at (router_at s x) p v).buffer keeps (all.buffers x p v x_in p_in v_in);
+  sources = λ x k x_in k_in. still_marked old new (drop (queue_of s x k).fed (queue_of s x k).injected) keeps
+      (all.sources x k x_in k_in);
+  buffers = λ x p v x_in p_in v_in. still_marked old new (input_at (router_at s x) p v).buffer keeps
+      (all.buffers x p v x_in p_in v_in);
 }
 
 -- one node more
-pub node_marked : (s : NetState) → IsFramed s → (x : ℕ) → x < node_count s.mesh → (old mid new : LaneMarks) (node : Node) → node ≡ node_at s x
+pub node_marked : (s : NetState) → IsFramed s → (x : ℕ) → x < node_count s.mesh
+    → (old mid new : LaneMarks) (node : Node) → node ≡ node_at s x
     → NodesMarked s old x → KeepsMarks old mid → KeepsMarks mid new
-    → ((k : ℕ) → k < classes node.source → AllMarked mid (drop (queue_at node.source k).fed (queue_at node.source k).injected))
+    → ((k : ℕ) → k < classes node.source → AllMarked mid
+    (drop (queue_at node.source k).fed (queue_at node.source k).injected))
     → ((p v : ℕ) → p ≤ terminal node.router → v < width node.router → AllMarked new (input_at node.router p v).buffer)
     → NodesMarked s new (x + 1)
 node_marked s framed x x_in old mid new node is before first then sources buffers =
     let all = framed.all_nodes in
     let there : x < length s.nodes = omega arith in
     let frame = framed.each_node x there in
-    let own_sources : (k : ℕ) → k < classes (node_at s x).source → AllMarked mid (drop (queue_of s x k).fed (queue_of s x k).injected) =
-    subst (λ (n : Node). (k : ℕ) → k < classes n.source → AllMarked mid (drop (queue_at n.source k).fed (queue_at n.source k).injected)) is sources in
-    let own_buffers : (p v : ℕ) → p ≤ terminal (router_at s x) → v < width (router_at s x) → AllMarked new (input_at (router_at s x) p v).buffer =
-    subst (λ (n : Node). (p v : ℕ) → p ≤ terminal n.router → v < width n.router → AllMarked new (input_at n.router p v).buffer) is buffers in
+    let own_sources : (k : ℕ) → k < classes (node_at s x).source
+    → AllMarked mid (drop (queue_of s x k).fed (queue_of s x k).injected) =
+    subst (λ (n : Node). (k : ℕ) → k < classes n.source
+    → AllMarked mid (drop (queue_at n.source k).fed (queue_at n.source k).injected)) is sources in
+    let own_buffers : (p v : ℕ) → p ≤ terminal (router_at s x) → v < width (router_at s x)
+    → AllMarked new (input_at (router_at s x) p v).buffer =
+    subst (λ (n : Node). (p v : ℕ) → p ≤ terminal n.router → v < width n.router
+    → AllMarked new (input_at n.router p v).buffer) is buffers in
     let so_far = still_nodes s old new x (keeps_then old mid new first then) before in
     record {
       sources = λ y k y_in k_in. elim (below_cases y x) [
@@ -201,7 +240,8 @@ node_marked s framed x x_in old mid new node is before first then sources buffer
             let low = at.1 in
             let same : x ≡ y = omega arith in
             let count : k < classes (node_at s x).source = rw frame.source_channels k_in in
-            let here = still_marked mid new (drop (queue_of s x k).fed (queue_of s x k).injected) then (own_sources k count) in
+            let here = still_marked mid new (drop (queue_of s x k).fed (queue_of s x k).injected)
+            then (own_sources k count) in
             subst (λ (z : ℕ). AllMarked new (drop (queue_of s z k).fed (queue_of s z k).injected)) same here
       ];
       buffers = λ y p v y_in p_in v_in. elim (below_cases y x) [

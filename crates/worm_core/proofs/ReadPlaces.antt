@@ -13,18 +13,28 @@ use Rattle.worm_core.proofs.Bridge.{input_of-there}
 use Rattle.worm_core.proofs.LinkBridge.{link_there}
 
 -- a port and a channel of a framed network are those of its routers
-pub framed_place : (s : NetState) (x p v : ℕ) → IsFramed s → x < node_count s.mesh → p ≤ 2 * length s.mesh → v < sum s.channels → IsNetPlace s x p v
+pub framed_place : (s : NetState) (x p v : ℕ) → IsFramed s → x < node_count s.mesh → p ≤ 2 * length s.mesh
+    → v < sum s.channels → IsNetPlace s x p v
 framed_place s x p v framed x_in port_in v_in =
     let all = framed.all_nodes in
     let there : x < length s.nodes = omega arith in
     let node = framed.each_node x there in
-    record { node_in = there; place = record { port_in = rw node.same_mesh port_in; channel_in = rw node.same_channels v_in } }
+    record {
+      node_in = there;
+      place = record {
+        port_in = rw node.same_mesh port_in;
+        channel_in = rw node.same_channels v_in;
+      };
+    }
 
-pub buffer_read : (s : NetState) (lane : Lane) (x p v : ℕ) → IsNetPlace s x p v → buffer_held s lane x p v ≡ at_place (Buffer x p v) (of_lane lane (input_at (router_at s x) p v).buffer)
+pub buffer_read : (s : NetState) (lane : Lane) (x p v : ℕ) → IsNetPlace s x p v
+    → buffer_held s lane x p v ≡ at_place (Buffer x p v) (of_lane lane (input_at (router_at s x) p v).buffer)
 buffer_read s lane x p v place =
-    ap (λ (c : ChannelState). at_place (Buffer x p v) (of_lane lane c.buffer)) (input_of-there (router_at s x) p v place.place.channel_in)
+    ap (λ (c : ChannelState). at_place (Buffer x p v) (of_lane lane c.buffer))
+    (input_of-there (router_at s x) p v place.place.channel_in)
 
-pub link_read : (s : NetState) (lane : Lane) (x o v : ℕ) (link : LinkView) → has_neighbour s.mesh x o ≡ true → link ≡ link_at s (link_out s x o)
+pub link_read : (s : NetState) (lane : Lane) (x o v : ℕ) (link : LinkView) → has_neighbour s.mesh x o ≡ true
+    → link ≡ link_at s (link_out s x o)
     → at_place (Link x o v) (of_lane lane (on_channel v link.flits)) ≡ link_held s lane x o v
 link_read s lane x o v link has e =
     ap (λ (l : LinkView). at_place (Link x o v) (of_lane lane (on_channel v l.flits))) (e ∙ sym (link_there s x o has))

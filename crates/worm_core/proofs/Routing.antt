@@ -23,7 +23,7 @@ use Rattle.worm_core.specs.declared.step.Moved.{Moved}
 use Rattle.worm_core.specs.declared.step.Moved.TheVariants.{Done, Idle}
 use Rattle.worm_core.specs.declared.fault.StepFault.{StepFault}
 use Rattle.worm_core.specs.declared.fault.StepFault.TheVariants.{NoSuchPlace, Refused, NoMemory}
-use Rattle.worm_wires.proofs.Arriving.{true_of}
+use Rattle.worm_wires.proofs.Looking.{true_of}
 use Rattle.worm_core.proofs.Bridge.{node_at-put}
 use Rattle.worm_core.proofs.Giving.{input_elsewhere}
 use Rattle.worm_core.proofs.Kept.{net_place}

@@ -1,5 +1,6 @@
 -- A script in order, around a turn: the entries of earlier turns, those that are due, and those of later turns.
-use Rattle.std.proofs.Common.{◌≡◌, ℕ, suc, ◌+◌, ◌<◌, ◌≤◌, ◌==◌, nat_lt, true, false, ◌⊎◌, inl, inr, List, [], ◌∷◌, ◌++◌, length, refl, arith, ap, sym, subst, ◌∙◌, append_assoc, length-append}
+use Rattle.std.proofs.Common.{◌≡◌, ℕ, suc, ◌+◌, ◌<◌, ◌≤◌, ◌==◌, nat_lt, true, false, ◌⊎◌, inl, inr, List, [], ◌∷◌, ◌++◌}
+use Rattle.std.proofs.Common.{length, refl, arith, ap, sym, subst, ◌∙◌, append_assoc, length-append}
 use Rattle.std.specs.Prelude.{filter, slice_index}
 use Rattle.std.proofs.lemmas.List.{append-nil}
 use Rattle.worm_core.specs.declared.script.Entry.{Entry}
@@ -22,7 +23,8 @@ rises_after e [] order = tt
 rises_after e (f ∷ es) order =
     let rest : AreInOrder (f ∷ es) = λ i below.
     let next : suc i + 1 ≡ suc (i + 1) = omega arith in
-    subst (λ (j : ℕ). slice_index (turns_of (f ∷ es)) i ≤ slice_index (turns_of (e ∷ f ∷ es)) j) next (order (suc i) (omega arith)) in
+    subst (λ (j : ℕ). slice_index (turns_of (f ∷ es)) i ≤ slice_index (turns_of (e ∷ f ∷ es)) j) next
+    (order (suc i) (omega arith)) in
     (order 0 (omega arith), rises_after f es rest)
 
 pub rises : (es : List Entry) → AreInOrder es → Rises 0 es
@@ -97,24 +99,42 @@ in_three t low (e ∷ es) h =
       | is_behind a b c d lt ↦
           let none = none_earlier t e.turn es h.1 (omega arith) in
           let no_due = none_due t e.turn es h.1 lt in
-          let only : es ≡ later t es = rest ∙ (ap (λ fs. fs ++ (due t es ++ later t es)) none ∙ ap (λ fs. fs ++ later t es) no_due) in
-          rw (a, b, c) (ap (λ fs. e ∷ fs) only ∙ (ap (λ fs. fs ++ (e ∷ later t es)) (sym no_due) ∙ ap (λ fs. fs ++ (due t es ++ (e ∷ later t es))) (sym none)))
+          let only : es ≡ later t es = rest ∙ (ap (λ fs. fs ++ (due t es ++ later t es)) none
+          ∙ ap (λ fs. fs ++ later t es) no_due) in
+          rw (a, b, c) (ap (λ fs. e ∷ fs) only
+          ∙ (ap (λ fs. fs ++ (e ∷ later t es)) (sym no_due)
+          ∙ ap (λ fs. fs ++ (due t es ++ (e ∷ later t es))) (sym none)))
     ]
 
 -- what is acceptable part by part
-pub acceptable_split : (mesh channels : List ℕ) (before xs ys : List Entry) → AreAcceptable mesh channels before (xs ++ ys) → AreAcceptable mesh channels before xs × AreAcceptable mesh channels (before ++ xs) ys
-acceptable_split mesh channels before [] ys h = (tt, subst (λ (b : List Entry). AreAcceptable mesh channels b ys) (sym (append-nil before)) h)
+pub acceptable_split : (mesh channels : List ℕ) (before xs ys : List Entry)
+    → AreAcceptable mesh channels before (xs ++ ys)
+    → AreAcceptable mesh channels before xs × AreAcceptable mesh channels (before ++ xs) ys
+acceptable_split mesh channels before [] ys h =
+    (tt, subst (λ (b : List Entry). AreAcceptable mesh channels b ys) (sym (append-nil before)) h)
 acceptable_split mesh channels before (x ∷ xs) ys h =
-    let rest = acceptable_split mesh channels (before ++ x ∷ []) xs ys h.1 in
-    ((h.0, rest.0), subst (λ (b : List Entry). AreAcceptable mesh channels b ys) (append_assoc before (x ∷ []) xs) rest.1)
+    let rest = acceptable_split mesh channels (before ++ x ∷ []) xs ys h.1 in (
+      (h.0, rest.0),
+      subst (λ (b : List Entry). AreAcceptable mesh channels b ys)
+          (append_assoc before (x ∷ []) xs) rest.1,
+    )
 
 -- the entries that are due are acceptable behind the earlier ones, and not too many
-pub acceptable_due : (mesh channels : List ℕ) (script : List Entry) (t : ℕ) → AreInOrder script → AreAcceptable mesh channels [] script → AreAcceptable mesh channels (earlier t script) (due t script)
+pub acceptable_due : (mesh channels : List ℕ) (script : List Entry) (t : ℕ) → AreInOrder script
+    → AreAcceptable mesh channels [] script → AreAcceptable mesh channels (earlier t script) (due t script)
 acceptable_due mesh channels script t order all =
-    let parts : AreAcceptable mesh channels [] (earlier t script ++ (due t script ++ later t script)) = subst (AreAcceptable mesh channels []) (in_three t 0 script (rises script order)) all in
-    (acceptable_split mesh channels (earlier t script) (due t script) (later t script) (acceptable_split mesh channels [] (earlier t script) (due t script ++ later t script) parts).1).0
+    let parts : AreAcceptable mesh channels [] (earlier t script ++ (due t script ++ later t script)) =
+    subst (AreAcceptable mesh channels []) (in_three t 0 script (rises script order)) all in
+    (acceptable_split mesh channels (earlier t script) (due t script) (later t script)
+    (acceptable_split mesh channels [] (earlier t script) (due t script ++ later t script) parts).1).0
 
-pub few_due : (script : List Entry) (t : ℕ) → AreInOrder script → length (earlier t script) + length (due t script) ≤ length script
+pub few_due : (script : List Entry) (t : ℕ) → AreInOrder script
+    → length (earlier t script) + length (due t script) ≤ length script
 few_due script t order =
     let whole = ap (λ (es : List Entry). length es) (in_three t 0 script (rises script order)) in
-    omega (arith, whole, length-append (earlier t script) (due t script ++ later t script), length-append (due t script) (later t script))
+    omega (
+      arith,
+      whole,
+      length-append (earlier t script) (due t script ++ later t script),
+      length-append (due t script) (later t script),
+    )

@@ -1,6 +1,7 @@
--- Scripts that no source refuses: their lanes are the network's, only lanes of classes with one channel are closed, and no entry of
--- a lane stands behind its close.
-use Rattle.std.specs.Prelude.{ℕ, ◌≡◌, ◌==◌, ◌<◌, ◌&&◌, Bool, false, List, [], ◌∷◌, ◌++◌, length, slice_index, Option, Some, None, ◌⊎◌}
+-- Scripts that no source refuses: their lanes are the network's, only lanes of classes with one channel are closed, and
+-- no entry of a lane stands behind its close.
+use Rattle.std.specs.Prelude.{ℕ, ◌≡◌, ◌==◌, ◌<◌, ◌&&◌, Bool, false, List, [], ◌∷◌, ◌++◌, length, slice_index, Option}
+use Rattle.std.specs.Prelude.{Some, None, ◌⊎◌}
 use Rattle.std.specs.List.{list_any}
 use Rattle.worm_flit.specs.declared.Lane.{Lane}
 use Rattle.worm_mesh.specs.Address.{node_count}
@@ -39,7 +40,8 @@ pub record IsAcceptable (mesh channels : List ℕ) (before : List Entry) (act : 
 -- each entry is acceptable behind those before it
 abbrev pub AreAcceptable : List ℕ → List ℕ → List Entry → List Entry → Type 0
 AreAcceptable mesh channels before [] = Unit {0}
-AreAcceptable mesh channels before (e ∷ es) = IsAcceptable mesh channels before e.act × AreAcceptable mesh channels (before ++ e ∷ []) es
+AreAcceptable mesh channels before (e ∷ es) =
+    IsAcceptable mesh channels before e.act × AreAcceptable mesh channels (before ++ e ∷ []) es
 
 pub record IsAcceptableScript (mesh channels : List ℕ) (script : List Entry) : Type 0 where
   pub in_order : AreInOrder script
@@ -54,4 +56,5 @@ EndsForMemory fault = (fault ≡ None) ⊎ (fault ≡ Some NoMemory)
 abbrev pub IsTakenWhole : List ℕ → List ℕ → List Entry → Type 0
 IsTakenWhole mesh channels script =
     (depth : ℕ) (names : List (List ℕ)) (opening closing : NetState) → IsFresh mesh channels depth names opening
-    → (turns drain : ℕ) (stop : Option ℕ) (fault : Option StepFault) → OneThreadRun script turns drain opening stop fault closing → EndsForMemory fault
+    → (turns drain : ℕ) (stop : Option ℕ) (fault : Option StepFault)
+    → OneThreadRun script turns drain opening stop fault closing → EndsForMemory fault

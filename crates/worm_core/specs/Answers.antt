@@ -1,11 +1,13 @@
 -- What an answer to a step means, in the theory's words.
 use Rattle.std.specs.Prelude.{ℕ, ◌≡◌, Bool, true, false, Option, Some, None, Result, Ok, Err}
 use Rattle.worm_term.specs.declared.fault.OfferFault.{OfferFault}
-use Rattle.worm_term.specs.declared.fault.OfferFault.TheVariants.{WrongSource, NoSuchNode, NoSuchClass, ManyChannels, LaneClosed, LaneFull, NoMemory as NoRoom}
+use Rattle.worm_term.specs.declared.fault.OfferFault.TheVariants.{WrongSource, NoSuchNode, NoSuchClass, ManyChannels}
+use Rattle.worm_term.specs.declared.fault.OfferFault.TheVariants.{LaneClosed, LaneFull, NoMemory as NoRoom}
 use Rattle.worm_term.specs.Source.{refusal}
 use Rattle.worm_theory.specs.Network.{Network}
 use Rattle.worm_theory.specs.Shape.{Shape}
-use Rattle.worm_theory.specs.Steps.{Step, Offer, CloseLane, Feed, Route, Grant, Send, Take, GiveCredit, TakeCredit, IsThere, IsActiveAt, Enabled, after}
+use Rattle.worm_theory.specs.Steps.{Step, Offer, CloseLane, Feed, Route, Grant, Send, Take, GiveCredit, TakeCredit}
+use Rattle.worm_theory.specs.Steps.{IsThere, IsActiveAt, Enabled, after}
 use Rattle.worm_core.specs.State.{NetState, IsSameConfig, shape, network_of, router_at, source_at}
 use Rattle.worm_core.specs.Moves.{done_step}
 use Rattle.worm_core.specs.declared.step.Moved.{Moved}
@@ -46,13 +48,18 @@ pub record IsDone (old : NetState) (step : Step) (new : NetState) : Type 0 where
   pub exact : new ≡ done_step old step
 
 -- Done where the step's place is there and it is enabled, and the network is then the theory's; Idle where the place is
--- there, the step is not enabled and no source refused; and a fault says which of these it was. All but Done change nothing.
+-- there, the step is not enabled and no source refused; and a fault says which of these it was. All but Done change
+-- nothing.
 abbrev pub Answers : NetState → Step → Result Moved StepFault → NetState → Type 0
 Answers old step (Ok Done) new = IsDone old step new
-Answers old step (Ok Idle) new = IsThere (shape old) step × (Enabled (shape old) (network_of old) step → ⊥) × (refusal_of old step ≡ None) × (new ≡ old)
+Answers old step (Ok Idle) new = IsThere (shape old) step × (Enabled (shape old) (network_of old) step → ⊥)
+    × (refusal_of old step ≡ None) × (new ≡ old)
 Answers old step (Err NoSuchPlace) new = (IsThere (shape old) step → ⊥) × (new ≡ old)
-Answers old step (Err (Refused fault)) new = IsThere (shape old) step × (Enabled (shape old) (network_of old) step → ⊥) × (refusal_of old step ≡ Some fault) × (new ≡ old)
-Answers old step (Err NoMemory) new = IsThere (shape old) step × Enabled (shape old) (network_of old) step × Grows (shape old) (network_of old) step × (new ≡ old)
+Answers old step (Err (Refused fault)) new =
+    IsThere (shape old) step × (Enabled (shape old) (network_of old) step → ⊥) × (refusal_of old step ≡ Some fault)
+    × (new ≡ old)
+Answers old step (Err NoMemory) new = IsThere (shape old) step × Enabled (shape old) (network_of old) step
+    × Grows (shape old) (network_of old) step × (new ≡ old)
 
 abbrev pub moved_of : Bool → Moved
 moved_of true = Done
@@ -72,4 +79,5 @@ accepted_of (Err ManyChannels) = Err (Refused ManyChannels)
 -- no arbiter of any router has moved
 abbrev pub ArbitersStand : NetState → NetState → Type 0
 ArbitersStand old new =
-    (x : ℕ) → ((router_at new x).channel_alloc ≡ (router_at old x).channel_alloc) × ((router_at new x).switch_alloc ≡ (router_at old x).switch_alloc)
+    (x : ℕ) → ((router_at new x).channel_alloc ≡ (router_at old x).channel_alloc)
+    × ((router_at new x).switch_alloc ≡ (router_at old x).switch_alloc)

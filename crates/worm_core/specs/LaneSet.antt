@@ -1,5 +1,6 @@
 -- Which lanes may have something under way: a mark for each lane of a network.
-use Rattle.std.specs.Prelude.{ℕ, ◌+◌, ◌*◌, ◌<◌, ◌≤◌, ◌≡◌, Bool, true, false, List, [], drop, length, sum, slice_index_or, slice_set, All}
+use Rattle.std.specs.Prelude.{ℕ, ◌+◌, ◌*◌, ◌<◌, ◌≤◌, ◌≡◌, Bool, true, false, List, [], drop, length, sum}
+use Rattle.std.specs.Prelude.{slice_index_or, slice_set, All}
 use Rattle.worm_flit.specs.declared.Lane.{Lane}
 use Rattle.worm_flit.specs.declared.Flit.{Flit}
 use Rattle.worm_mesh.specs.Address.{node_count}
@@ -33,13 +34,16 @@ pub record KeepsMarks (old new : LaneMarks) : Type 0 where
 
 -- a lane of the network without a mark has nothing under way
 abbrev pub IsComplete : NetState → LaneMarks → Type 0
-IsComplete s set = (lane : Lane) → lane.src < node_count s.mesh → lane.dst < node_count s.mesh → lane.class < length s.channels →
+IsComplete s set = (lane : Lane) → lane.src < node_count s.mesh → lane.dst < node_count s.mesh
+    → lane.class < length s.channels →
     is_marked set lane ≡ false → underway_view s lane ≡ []
 
 -- the lanes of what the first n nodes' sources and routers hold are all marked
 pub record NodesMarked (s : NetState) (set : LaneMarks) (n : ℕ) : Type 0 where
-  pub sources : (x k : ℕ) → x < n → k < length s.channels → AllMarked set (drop (queue_of s x k).fed (queue_of s x k).injected)
-  pub buffers : (x p v : ℕ) → x < n → p ≤ 2 * length s.mesh → v < sum s.channels → AllMarked set (input_at (router_at s x) p v).buffer
+  pub sources : (x k : ℕ) → x < n → k < length s.channels
+      → AllMarked set (drop (queue_of s x k).fed (queue_of s x k).injected)
+  pub buffers : (x p v : ℕ) → x < n → p ≤ 2 * length s.mesh → v < sum s.channels
+      → AllMarked set (input_at (router_at s x) p v).buffer
 
 -- those of what the first n links hold
 pub record LinksMarked (s : NetState) (set : LaneMarks) (n : ℕ) : Type 0 where

@@ -34,7 +34,8 @@ buffer_held s lane x p v = at_place (Buffer x p v) (of_lane lane (input_of (rout
 abbrev pub link_held : NetState → Lane → ℕ → ℕ → ℕ → List Held
 link_held s lane x o v = at_place (Link x o v) (of_lane lane (on_channel v (link_of s x o).flits))
 
--- what a place of a route holds of the lane: a buffer and a link channel by channel of the lane's class, rising, front first in each
+-- what a place of a route holds of the lane: a buffer and a link channel by channel of the lane's class, rising, front
+-- first in each
 abbrev pub held_at : NetState → Lane → Spot → List Held
 held_at s lane AtSource = unfed_held s lane
 held_at s lane (AtBuffer x p) = flat_map (buffer_held s lane x p) (channels_of s.channels lane.class)
@@ -64,11 +65,12 @@ pub record IsNextLink (mesh : List ℕ) (x dst : ℕ) (link : LinkEnds) : Type 0
 abbrev pub joined_view : NetState → Lane → List Held → List Flit
 joined_view s lane underway = (sink_at s lane.dst).delivered ++ map (λ (h : Held). h.flit) underway
 
--- where the lane's class owns one channel: of the lane, what was delivered and then what is under way is what was injected,
--- channel numbers aside
+-- where the lane's class owns one channel: of the lane, what was delivered and then what is under way is what was
+-- injected, channel numbers aside
 abbrev pub IsLaneCut : NetState → Lane → List Held → Type 0
 IsLaneCut s lane underway = slice_index s.channels lane.class ≡ 1 →
-    map bare (of_lane lane (joined_view s lane underway)) ≡ map bare (of_lane lane (queue_of s lane.src lane.class).injected)
+    map bare (of_lane lane (joined_view s lane underway))
+    ≡ map bare (of_lane lane (queue_of s lane.src lane.class).injected)
 
 -- the same of each packet of the lane, for any class
 abbrev pub ArePacketsCut : NetState → Lane → List Held → Type 0

@@ -1,9 +1,12 @@
 -- The steps of the code as steps of the theory, and what a run of them is.
 use Rattle.std.specs.Prelude.{ℕ, ◌≡◌, List, [], ◌∷◌, length, take, map, slice_get}
 use Rattle.std.specs.Prelude.{Option, Some, None, MatchOption, Ok, Err}
-use Rattle.worm_theory.specs.Steps.{StepsLead, Step as Event, Offer as OfferEvent, CloseLane as CloseEvent, Feed as FeedEvent, Route as RouteEvent, Grant as GrantEvent, Send as SendEvent, Take as TakeEvent, GiveCredit as GiveEvent, TakeCredit as GetEvent}
+use Rattle.worm_theory.specs.Steps.{StepsLead, Step as Event, Offer as OfferEvent, CloseLane as CloseEvent}
+use Rattle.worm_theory.specs.Steps.{Feed as FeedEvent, Route as RouteEvent, Grant as GrantEvent, Send as SendEvent}
+use Rattle.worm_theory.specs.Steps.{Take as TakeEvent, GiveCredit as GiveEvent, TakeCredit as GetEvent}
 use Rattle.worm_core.specs.declared.step.Step.{Step}
-use Rattle.worm_core.specs.declared.step.Step.TheVariants.{Offer, Close, Feed, Route, Grant, Send, Take, GiveCredit, TakeCredit}
+use Rattle.worm_core.specs.declared.step.Step.TheVariants.{Offer, Close, Feed, Route, Grant, Send, Take, GiveCredit}
+use Rattle.worm_core.specs.declared.step.Step.TheVariants.{TakeCredit}
 use Rattle.worm_core.specs.declared.step.Moved.{Moved}
 use Rattle.worm_core.specs.declared.fault.StepFault.{StepFault}
 use Rattle.worm_core.specs.State.{NetState, IsSameConfig, shape, network_of}

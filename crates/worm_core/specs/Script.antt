@@ -1,5 +1,6 @@
 -- The order of a script's entries, and those of a turn and of a node.
-use Rattle.std.specs.Prelude.{ℕ, ◌≤◌, ◌+◌, ◌-◌, ◌<◌, ◌==◌, Bool, false, true, List, Option, None, Some, length, map, filter, slice_index, slice_index_or}
+use Rattle.std.specs.Prelude.{ℕ, ◌≤◌, ◌+◌, ◌-◌, ◌<◌, ◌==◌, Bool, false, true, List, Option, None, Some, length, map}
+use Rattle.std.specs.Prelude.{filter, slice_index, slice_index_or}
 use Rattle.worm_flit.specs.declared.Lane.{Lane}
 use Rattle.worm_core.specs.declared.script.Act.{Act}
 use Rattle.worm_core.specs.declared.script.Act.TheVariants.{Offer, Close}
@@ -15,7 +16,8 @@ last_turn entries = slice_index (turns_of entries) (length entries - 1)
 
 -- turns never fall
 abbrev pub AreInOrder : List Entry → Type 0
-AreInOrder entries = (i : ℕ) → i + 1 < length entries → slice_index (turns_of entries) i ≤ slice_index (turns_of entries) (i + 1)
+AreInOrder entries = (i : ℕ) → i + 1 < length entries
+    → slice_index (turns_of entries) i ≤ slice_index (turns_of entries) (i + 1)
 
 -- the lane of which an entry speaks
 abbrev pub lane_of : Act → Lane

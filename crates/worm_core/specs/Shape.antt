@@ -1,4 +1,5 @@
--- The theory's shape of a network with these radices, these numbers of channels by class, and this depth; kept closed in goals.
+-- The theory's shape of a network with these radices, these numbers of channels by class, and this depth; kept closed
+-- in goals.
 use Rattle.std.specs.Prelude.{ℕ, List}
 use Rattle.worm_theory.specs.Shape.{Shape}
 use Rattle.worm_shape.specs.ShapeOf.{shape_of}

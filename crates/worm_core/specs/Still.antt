@@ -1,5 +1,5 @@
--- Nodes that are still: where nothing comes in by a link, their turn changes nothing. Which are is kept beside the list of nodes;
--- a node that is not kept may be still as well.
+-- Nodes that are still: where nothing comes in by a link, their turn changes nothing. Which are is kept beside the list
+-- of nodes; a node that is not kept may be still as well.
 use Rattle.std.specs.Prelude.{ℕ, ◌≡◌, ◌<◌, Bool, true, false, List, [], length, slice_index_or, slice_set}
 use Rattle.worm_router.specs.Router.{RouterState, terminal}
 use Rattle.worm_router.specs.Rest.{IsAtRest}

@@ -1,5 +1,5 @@
--- How many flits are under way: those that a source accepted, and no sink took yet. The number is kept beside the list of nodes, where
--- it is known.
+-- How many flits are under way: those that a source accepted, and no sink took yet. The number is kept beside the list
+-- of nodes, where it is known.
 use Rattle.std.specs.Prelude.{ℕ, ◌+◌, ◌≡◌, List, length, Option, IfSome}
 use Rattle.std.specs.List.{sum_by}
 use Rattle.worm_term.specs.Queue.{QueueState}

@@ -1,12 +1,13 @@
-//! Which lanes may have something under way, found in one pass over all places that hold flits: so a report asks for the
-//! views of these lanes alone, and not of all that the network has.
+//! Which lanes may have something under way, found in one pass over all places that hold flits: so a report asks for
+//! the views of these lanes alone, and not of all that the network has.
 
 ghost use Rattle.std.specs.Prelude.{ℕ, true, false, ◌≡◌, ◌*◌, ◌<◌, ◌≤◌, IfOk, drop, length, replicate};
 ghost use Rattle.worm_mesh.specs.Address.{node_count};
 ghost use Rattle.worm_mesh.specs.Links.{link_count};
 ghost use Rattle.worm_router.specs.Router.{IsPlace, input_at, terminal, width};
 ghost use Rattle.worm_term.specs.Source.{classes, queue_at};
-ghost use Rattle.worm_core.specs.LaneSet.{AllMarked, IsComplete, KeepsMarks, LinksMarked, NodesMarked, is_marked, lane_line, with_mark};
+ghost use Rattle.worm_core.specs.LaneSet.{AllMarked, IsComplete, KeepsMarks, LinksMarked, NodesMarked, is_marked};
+ghost use Rattle.worm_core.specs.LaneSet.{lane_line, with_mark};
 ghost use Rattle.worm_core.specs.State.{IsFramed};
 
 use crate::fabric::Fabric;
@@ -51,7 +52,11 @@ impl LaneSet {
     fn new(alloc: Global, nodes: u16, classes: u8) -> Result<LaneSet, AllocError>
         requires nodes { nodes ≤ 256 }
         requires classes { classes ≤ 4 }
-        ensures { IfOk result (λ s. s ≡ record { nodes = nodes; classes = classes; marks = replicate (nodes * nodes * classes) false }) }
+        ensures { IfOk result (λ s. s ≡ record {
+          nodes = nodes;
+          classes = classes;
+          marks = replicate (nodes * nodes * classes) false;
+        }) }
     {
         let count = usize::from(nodes) * usize::from(nodes) * usize::from(classes);
         let marks = vec![in alloc; false; count]?;
@@ -101,7 +106,8 @@ impl LaneSet {
     fn mark_source(&mut self, source: &Source, count: u8)
         requires { count ≡ classes source.now }
         ensures kept { KeepsMarks self.old self.new }
-        ensures marked { (k : ℕ) → k < classes source.now → AllMarked self.new (drop (queue_at source.now k).fed (queue_at source.now k).injected) }
+        ensures marked { (k : ℕ) → k < classes source.now
+            → AllMarked self.new (drop (queue_at source.now k).fed (queue_at source.now k).injected) }
     {
         for class in 0..count {
             let fed = source.fed_count(class);
@@ -140,7 +146,8 @@ impl LaneSet {
         requires few { last ≤ 6 }
         requires channels { channels ≡ width router.now }
         ensures kept { KeepsMarks self.old self.new }
-        ensures marked { (p : ℕ) (v : ℕ) → p ≤ terminal router.now → v < width router.now → AllMarked self.new (input_at router.now p v).buffer }
+        ensures marked { (p : ℕ) (v : ℕ) → p ≤ terminal router.now → v < width router.now
+            → AllMarked self.new (input_at router.now p v).buffer }
     {
         for port in 0..last + 1 {
             self.mark_port(router, port, channels);
@@ -196,8 +203,8 @@ impl Fabric {
 }
 
 impl Net {
-    /// Lanes among which are all that have something under way; for any other [`Net::lane_view`] has nothing under way. It
-    /// takes one pass over the network, and memory once. A lane may be in the set with nothing under way. `NoMemory`
+    /// Lanes among which are all that have something under way; for any other [`Net::lane_view`] has nothing under way.
+    /// It takes one pass over the network, and memory once. A lane may be in the set with nothing under way. `NoMemory`
     /// where there is none for the set.
     pub fn busy(&self, alloc: Global) -> Result<LaneSet, NoMemory>
         ensures { IfOk result (IsComplete self.now) }

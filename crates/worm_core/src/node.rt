@@ -1,4 +1,5 @@
-ghost use Rattle.std.specs.Prelude.{IsTrue, true, false, ◌≡◌, ◌<◌, ◌≤◌, Some, OnOk, OnErr, IfErr, None, length, unwrap_or, if◌then◌else◌};
+ghost use Rattle.std.specs.Prelude.{IsTrue, true, false, ◌≡◌, ◌<◌, ◌≤◌, Some, OnOk, OnErr, IfErr, None, length};
+ghost use Rattle.std.specs.Prelude.{unwrap_or, if◌then◌else◌};
 ghost use Rattle.worm_router.specs.Router.{IsPlace, terminal, leaving};
 ghost use Rattle.worm_term.specs.Source.{classes, front_of, refusal, after_offer, after_close};
 ghost use Rattle.worm_core.specs.Moves.{AreUnrouted, FrontFits, can_enter, fed_node, delivered_node};
@@ -25,8 +26,10 @@ impl Node {
         requires class { class < classes self.old.source }
         requires port { port ≡ terminal self.old.router }
         requires front { FrontFits self.old.router (terminal self.old.router) (front_of self.old.source class) }
-        ensures enabled { result ≡ can_enter self.old.router (terminal self.old.router) (front_of self.old.source class) }
-        ensures after { self.new ≡ (if result then fed_node self.old class (front_of self.old.source class) else self.old) }
+        ensures enabled { result ≡ can_enter self.old.router (terminal self.old.router)
+            (front_of self.old.source class) }
+        ensures after { self.new ≡ (if result then fed_node self.old class (front_of self.old.source class)
+            else self.old) }
     {
         if !self.can_feed(class, port) {
             return false;
@@ -79,8 +82,10 @@ impl Node {
 
     /// Hands the packet to the source.
     pub(crate) fn offer(&mut self, packet: &Packet) -> Result<u16, OfferFault>
-        ensures ok { OnOk result ((refusal self.old.source packet.now.lane false ≡ None) × (self.new ≡ record self.old { source = after_offer self.old.source packet.now })) }
-        ensures fault { IfErr result (λ e. e ≡ unwrap_or (refusal self.old.source packet.now.lane false) OfferFault.NoMemory) }
+        ensures ok { OnOk result ((refusal self.old.source packet.now.lane false ≡ None)
+            × (self.new ≡ record self.old { source = after_offer self.old.source packet.now })) }
+        ensures fault { IfErr result (λ e. e
+            ≡ unwrap_or (refusal self.old.source packet.now.lane false) OfferFault.NoMemory) }
         ensures err { OnErr result (self.new ≡ self.old) }
         ensures there { OnOk result (packet.now.lane.class < length self.old.source.queues) }
         ensures some { 1 ≤ length packet.now.words }
@@ -92,7 +97,8 @@ impl Node {
 
     /// Hands the lane's close mark to the source.
     pub(crate) fn close(&mut self, lane: Lane) -> Result<u16, OfferFault>
-        ensures ok { OnOk result ((refusal self.old.source lane true ≡ None) × (self.new ≡ record self.old { source = after_close self.old.source lane })) }
+        ensures ok { OnOk result ((refusal self.old.source lane true ≡ None)
+            × (self.new ≡ record self.old { source = after_close self.old.source lane })) }
         ensures fault { IfErr result (λ e. e ≡ unwrap_or (refusal self.old.source lane true) OfferFault.NoMemory) }
         ensures err { OnErr result (self.new ≡ self.old) }
         ensures there { OnOk result (lane.class < length self.old.source.queues) }

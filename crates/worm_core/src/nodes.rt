@@ -1,7 +1,8 @@
-//! The nodes of a network by number, which of them are known to be still, so that a turn goes past them, and how many flits are under
-//! way, so that a drain ends without a look at each node.
+//! The nodes of a network by number, which of them are known to be still, so that a turn goes past them, and how many
+//! flits are under way, so that a drain ends without a look at each node.
 
-ghost use Rattle.std.specs.Prelude.{ℕ, ◌≡◌, ◌+◌, ◌<◌, ◌≤◌, IsTrue, IfErr, None, OnErr, OnOk, Some, length, slice_set, true, false, unwrap_or, if◌then◌else◌};
+ghost use Rattle.std.specs.Prelude.{ℕ, ◌≡◌, ◌+◌, ◌<◌, ◌≤◌, IsTrue, IfErr, None, OnErr, OnOk, Some, length, slice_set};
+ghost use Rattle.std.specs.Prelude.{true, false, unwrap_or, if◌then◌else◌};
 ghost use Rattle.std.specs.Borrow.{Lends, sem};
 ghost use Rattle.worm_router.specs.Router.{IsPlace, leaving, terminal};
 ghost use Rattle.worm_term.specs.Source.{after_close, after_offer, classes, front_of, refusal};
@@ -40,7 +41,8 @@ impl Model for Nodes {
 
     ghost view = { λ n. n.list.items };
 
-    ghost invariant = { λ n. KnowsStill n.list.items n.still × IsUnderWay (accepted_in n.list.items) (taken_in n.list.items) n.under_way };
+    ghost invariant = { λ n. KnowsStill n.list.items n.still
+        × IsUnderWay (accepted_in n.list.items) (taken_in n.list.items) n.under_way };
 }
 
 /// The count after so many flits were accepted.
@@ -131,27 +133,34 @@ impl Nodes {
         self.under_way = under_way;
     }
 
-    /// Moves the next flit of the class from the node's source into its injection buffer, where there is one and that has room.
+    /// Moves the next flit of the class from the node's source into its injection buffer, where there is one and that
+    /// has room.
     pub fn feed(&mut self, node: u8, class: u8, port: u8) -> bool
         requires node { node < length self.old }
         requires class { class < classes (nth_node self.old node).source }
         requires port { port ≡ terminal (nth_node self.old node).router }
-        requires front { FrontFits (nth_node self.old node).router (terminal (nth_node self.old node).router) (front_of (nth_node self.old node).source class) }
-        ensures enabled { result ≡ can_enter (nth_node self.old node).router (terminal (nth_node self.old node).router) (front_of (nth_node self.old node).source class) }
-        ensures after { self.new ≡ (if result then slice_set self.old node (fed_node (nth_node self.old node) class (front_of (nth_node self.old node).source class)) else self.old) }
+        requires front { FrontFits (nth_node self.old node).router (terminal (nth_node self.old node).router)
+            (front_of (nth_node self.old node).source class) }
+        ensures enabled { result ≡ can_enter (nth_node self.old node).router (terminal (nth_node self.old node).router)
+            (front_of (nth_node self.old node).source class) }
+        ensures after { self.new ≡ (if result
+            then slice_set self.old node (fed_node (nth_node self.old node) class
+            (front_of (nth_node self.old node).source class)) else self.old) }
     {
         self.still[usize::from(node)] = false;
         let here = &mut self.list[usize::from(node)];
         here.feed(class, port)
     }
 
-    /// Lets the flit that is ready at this place out into the node's sink, by the output port `out`, if the sink can take it.
+    /// Lets the flit that is ready at this place out into the node's sink, by the output port `out`, if the sink can
+    /// take it.
     pub fn deliver(&mut self, node: u8, port: u8, vc: u8, out: u8, flit: Flit) -> bool
         requires node { node < length self.old }
         requires place { IsPlace (nth_node self.old node).router port vc }
         requires ready { leaving (nth_node self.old node).router port vc ≡ Some (out, flit) }
         requires home { flit.lane.dst ≡ (nth_node self.old node).sink.node }
-        ensures { self.new ≡ (if result then slice_set self.old node (delivered_node (nth_node self.old node) port vc flit) else self.old) }
+        ensures { self.new ≡ (if result then slice_set self.old node
+            (delivered_node (nth_node self.old node) port vc flit) else self.old) }
     {
         self.still[usize::from(node)] = false;
         let here = &mut self.list[usize::from(node)];
@@ -165,8 +174,10 @@ impl Nodes {
     /// Hands the packet to the node's source.
     pub fn offer(&mut self, node: u8, packet: &Packet) -> Result<u16, OfferFault>
         requires { node < length self.old }
-        ensures ok { OnOk result ((refusal (nth_node self.old node).source packet.now.lane false ≡ None) × (self.new ≡ put_source self.old node (after_offer (nth_node self.old node).source packet.now))) }
-        ensures fault { IfErr result (λ e. e ≡ unwrap_or (refusal (nth_node self.old node).source packet.now.lane false) OfferFault.NoMemory) }
+        ensures ok { OnOk result ((refusal (nth_node self.old node).source packet.now.lane false ≡ None)
+            × (self.new ≡ put_source self.old node (after_offer (nth_node self.old node).source packet.now))) }
+        ensures fault { IfErr result (λ e. e
+            ≡ unwrap_or (refusal (nth_node self.old node).source packet.now.lane false) OfferFault.NoMemory) }
         ensures err { OnErr result (self.new ≡ self.old) }
         ensures some { 1 ≤ length packet.now.words }
         ensures few { length packet.now.words ≤ 32 }
@@ -183,8 +194,10 @@ impl Nodes {
     /// Hands the lane's close mark to the node's source.
     pub fn close(&mut self, node: u8, lane: Lane) -> Result<u16, OfferFault>
         requires { node < length self.old }
-        ensures ok { OnOk result ((refusal (nth_node self.old node).source lane true ≡ None) × (self.new ≡ put_source self.old node (after_close (nth_node self.old node).source lane))) }
-        ensures fault { IfErr result (λ e. e ≡ unwrap_or (refusal (nth_node self.old node).source lane true) OfferFault.NoMemory) }
+        ensures ok { OnOk result ((refusal (nth_node self.old node).source lane true ≡ None)
+            × (self.new ≡ put_source self.old node (after_close (nth_node self.old node).source lane))) }
+        ensures fault { IfErr result (λ e. e
+            ≡ unwrap_or (refusal (nth_node self.old node).source lane true) OfferFault.NoMemory) }
         ensures err { OnErr result (self.new ≡ self.old) }
     {
         self.still[usize::from(node)] = false;

@@ -2,7 +2,8 @@ ghost use Rattle.std.specs.Prelude.{◌≡◌, ◌==◌, ◌<◌, ◌≤◌, ◌
 ghost use Rattle.worm_mesh.specs.Address.{node_count};
 ghost use Rattle.worm_theory.specs.Steps.{packets_in};
 ghost use Rattle.worm_core.specs.State.{sink_at};
-ghost use Rattle.worm_core.specs.Totals.{accepted_below, accepted_total, delivered_total, injected_below, injected_total};
+ghost use Rattle.worm_core.specs.Totals.{accepted_below, accepted_total, delivered_total, injected_below};
+ghost use Rattle.worm_core.specs.Totals.{injected_total};
 ghost use Rattle.worm_core.specs.UnderWay.{IsUnderWay};
 
 use crate::Net;
@@ -63,8 +64,8 @@ impl Net {
         totals
     }
 
-    /// Whether as many flits were delivered as were accepted, so that a drain is over. Reads the number of flits under way, or lengths
-    /// alone.
+    /// Whether as many flits were delivered as were accepted, so that a drain is over. Reads the number of flits under
+    /// way, or lengths alone.
     pub fn is_drained(&self) -> bool
         ensures { result ≡ (injected_total self.now == delivered_total self.now) }
     {

@@ -1,5 +1,5 @@
-//! What is read of a lane: which flits of it are under way, and where. A route is walked from the source to the sink by a
-//! recursion that adds the nearer places first.
+//! What is read of a lane: which flits of it are under way, and where. A route is walked from the source to the sink by
+//! a recursion that adds the nearer places first.
 
 ghost use Rattle.std.specs.Prelude.{true, ◌≡◌, ◌*◌, ◌<◌, ◌≤◌, [], ◌∷◌, ◌++◌, OnOk, IfOk, length, flat_map, drop};
 ghost use Rattle.worm_flit.specs.Stamps.{is_of_lane, of_lane, on_channel};
@@ -7,7 +7,8 @@ ghost use Rattle.worm_mesh.specs.Address.{node_count, has_neighbour};
 ghost use Rattle.worm_router.specs.Router.{IsPlace, input_at};
 ghost use Rattle.worm_term.specs.Source.{classes, queue_at};
 ghost use Rattle.worm_core.specs.State.{IsFramed, sink_at};
-ghost use Rattle.worm_core.specs.LaneView.{IsLaneCut, ArePacketsCut, at_place, buffer_held, link_held, channels_of, places_past, held_at, delivered_view, underway_view};
+ghost use Rattle.worm_core.specs.LaneView.{IsLaneCut, ArePacketsCut, at_place, buffer_held, link_held, channels_of};
+ghost use Rattle.worm_core.specs.LaneView.{places_past, held_at, delivered_view, underway_view};
 
 use crate::fabric::Fabric;
 use crate::{LinkState, Net, NoMemory};
@@ -65,7 +66,9 @@ fn put(held: &mut Vec<Held>, lane: Lane, flit: Flit, place: Place) -> Result<(),
 /// Adds what the source has yet to feed of the lane.
 fn put_unfed(held: &mut Vec<Held>, lane: Lane, source: &Source) -> Result<(), AllocError>
     requires { lane.class < classes source.now }
-    ensures { OnOk result (held.new.items ≡ held.old.items ++ at_place Place.Source (of_lane lane (drop (queue_at source.now lane.class).fed (queue_at source.now lane.class).injected))) }
+    ensures { OnOk result (held.new.items ≡ held.old.items
+        ++ at_place Place.Source (of_lane lane
+        (drop (queue_at source.now lane.class).fed (queue_at source.now lane.class).injected))) }
 {
     let fed = source.fed_count(lane.class);
     for flit in &source.injected(lane.class)[fed..] {
@@ -84,7 +87,8 @@ fn put_channel(
     vc: u8,
 ) -> Result<(), AllocError>
     requires { IsPlace router.now port vc }
-    ensures { OnOk result (held.new.items ≡ held.old.items ++ at_place (Place.Buffer node port vc) (of_lane lane (input_at router.now port vc).buffer)) }
+    ensures { OnOk result (held.new.items ≡ held.old.items
+        ++ at_place (Place.Buffer node port vc) (of_lane lane (input_at router.now port vc).buffer)) }
 {
     let mut i = 0;
     while let Some(flit) = router.buffer_at(port, vc, i) {
@@ -103,7 +107,8 @@ fn put_line(
     port: u8,
     vc: u8,
 ) -> Result<(), AllocError>
-    ensures { OnOk result (held.new.items ≡ held.old.items ++ at_place (Place.Link node port vc) (of_lane lane (on_channel vc link.now.flits))) }
+    ensures { OnOk result (held.new.items ≡ held.old.items
+        ++ at_place (Place.Link node port vc) (of_lane lane (on_channel vc link.now.flits))) }
 {
     for i in 0..link.count() {
         let flit = link.flit(i);
@@ -127,7 +132,8 @@ impl Fabric {
         requires node { node < node_count self.now.mesh }
         requires port { port ≤ 2 * length self.now.mesh }
         requires class { lane.class < length self.now.channels }
-        ensures { OnOk result (held.new.items ≡ held.old.items ++ flat_map (buffer_held self.now lane node port) (channels_of self.now.channels lane.class)) }
+        ensures { OnOk result (held.new.items ≡ held.old.items
+            ++ flat_map (buffer_held self.now lane node port) (channels_of self.now.channels lane.class)) }
     {
         let router = &self.node(node).router;
         let channels = self.channels_of(lane.class);
@@ -148,7 +154,8 @@ impl Fabric {
         requires framed { IsFramed self.now }
         requires linked { has_neighbour self.now.mesh node port ≡ true }
         requires class { lane.class < length self.now.channels }
-        ensures { OnOk result (held.new.items ≡ held.old.items ++ flat_map (link_held self.now lane node port) (channels_of self.now.channels lane.class)) }
+        ensures { OnOk result (held.new.items ≡ held.old.items
+            ++ flat_map (link_held self.now lane node port) (channels_of self.now.channels lane.class)) }
     {
         let link = self.link_from(node, port);
         let channels = self.channels_of(lane.class);
@@ -164,7 +171,8 @@ impl Fabric {
         requires node { node < node_count self.now.mesh }
         requires dst { lane.dst < node_count self.now.mesh }
         requires class { lane.class < length self.now.channels }
-        ensures { OnOk result (held.new.items ≡ held.old.items ++ flat_map (held_at self.now lane) (places_past self.now.mesh node lane.dst)) }
+        ensures { OnOk result (held.new.items ≡ held.old.items
+            ++ flat_map (held_at self.now lane) (places_past self.now.mesh node lane.dst)) }
     {
         let Some(link) = self.next_link(node, lane.dst) else {
             return Ok(());

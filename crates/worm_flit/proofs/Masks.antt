@@ -1,5 +1,6 @@
 -- The channels of a class, as a bit for each.
-use Rattle.std.proofs.Common.{◌≡◌, ℕ, zero, suc, ◌+◌, ◌-◌, ◌*◌, ◌^◌, ◌%◌, ◌<◌, ◌≤◌, ◌==◌, ◌&&◌, ◌⊎◌, inl, inr, nat_lt, nat_le, true, false, List, slice_index, refl, arith, ap, sym, ◌∙◌}
+use Rattle.std.proofs.Common.{◌≡◌, ℕ, zero, suc, ◌+◌, ◌-◌, ◌*◌, ◌^◌, ◌%◌, ◌<◌, ◌≤◌, ◌==◌, ◌&&◌, ◌⊎◌, inl, inr, nat_lt}
+use Rattle.std.proofs.Common.{nat_le, true, false, List, slice_index, refl, arith, ap, sym, ◌∙◌}
 use Rattle.std.specs.Int.{bit_at}
 use Rattle.std.proofs.lemmas.Nat.{one_shl, pow_pos, pow-add}
 use Rattle.std.proofs.lemmas.Nat.Bits.{bit_at_cat_low, bit_at_cat_high, bit_at_ones, bit_at_ones_above, bit_at-zero}
@@ -10,10 +11,12 @@ either : (a b : ℕ) → (a < b) ⊎ (b ≤ a)
 either a b = grind arith
 
 bit_below : (n k c : ℕ) → c < k → bit_at ((2 ^ n - 1) * 2 ^ k) c ≡ 0
-bit_below n k c low = let e : (2 ^ n - 1) * 2 ^ k + 0 ≡ (2 ^ n - 1) * 2 ^ k = omega arith in ap (λ x. bit_at x c) (sym e) ∙ bit_at_cat_low (2 ^ n - 1) k 0 c low ∙ bit_at-zero c
+bit_below n k c low = let e : (2 ^ n - 1) * 2 ^ k + 0 ≡ (2 ^ n - 1) * 2 ^ k = omega arith in
+    ap (λ x. bit_at x c) (sym e) ∙ bit_at_cat_low (2 ^ n - 1) k 0 c low ∙ bit_at-zero c
 
 bit_from : (n k c : ℕ) → k ≤ c → bit_at ((2 ^ n - 1) * 2 ^ k) c ≡ bit_at (2 ^ n - 1) (c - k)
-bit_from n k c high = let e : (2 ^ n - 1) * 2 ^ k + 0 ≡ (2 ^ n - 1) * 2 ^ k = omega arith in ap (λ x. bit_at x c) (sym e) ∙ bit_at_cat_high (2 ^ n - 1) k 0 c (pow_pos k) high
+bit_from n k c high = let e : (2 ^ n - 1) * 2 ^ k + 0 ≡ (2 ^ n - 1) * 2 ^ k = omega arith in
+    ap (λ x. bit_at x c) (sym e) ∙ bit_at_cat_high (2 ^ n - 1) k 0 c (pow_pos k) high
 
 range_bits : (n k c : ℕ) → (bit_at ((2 ^ n - 1) * 2 ^ k) c == 1) ≡ (nat_le k c && nat_lt c (k + n))
 range_bits n k c = elim (either c k) [

@@ -1,5 +1,6 @@
 -- That a class owns a channel: as a test of the class's range, and as the channel's one owner.
-use Rattle.std.proofs.Common.{◌≡◌, ℕ, zero, suc, ◌+◌, ◌-◌, ◌<◌, ◌≤◌, ◌&&◌, ◌⊎◌, drop, nat_lt, nat_le, true, false, inl, inr, List, [], ◌∷◌, length, take, sum, get_or, refl, arith, ap}
+use Rattle.std.proofs.Common.{◌≡◌, ℕ, zero, suc, ◌+◌, ◌-◌, ◌<◌, ◌≤◌, ◌&&◌, ◌⊎◌, drop, nat_lt, nat_le, true, false, inl}
+use Rattle.std.proofs.Common.{inr, List, [], ◌∷◌, length, take, sum, get_or, refl, arith, ap}
 use Rattle.std.proofs.lemmas.List.Sums.{sum_by-cons}
 use Rattle.worm_flit.specs.Channels.{first_channel, owner_of, owns}
 
@@ -18,7 +19,8 @@ below_cases a b = grind arith
 first_more : (n : ℕ) (ns : List ℕ) (class : ℕ) → first_channel (n ∷ ns) (suc class) ≡ n + first_channel ns class
 first_more n ns class = sum_by-cons (λ (x : ℕ). x) n (take class ns)
 
-owned : (counts : List ℕ) (class c : ℕ) → first_channel counts class ≤ c → c < first_channel counts class + get_or counts class 0 → owner_of counts c ≡ class
+owned : (counts : List ℕ) (class c : ℕ) → first_channel counts class ≤ c
+    → c < first_channel counts class + get_or counts class 0 → owner_of counts c ≡ class
 owned [] zero c low high = absurd (omega arith)
 owned [] (suc class) c low high = absurd (omega arith)
 owned (n ∷ ns) zero c low high = let below : nat_lt c n ≡ true = grind arith in rw below refl
@@ -27,7 +29,9 @@ owned (n ∷ ns) (suc class) c low high =
     let past : nat_lt c n ≡ false = grind arith in
     rw past (ap suc (owned ns class (c - n) (omega arith) (omega arith)))
 
-owning : (counts : List ℕ) (c : ℕ) → c < sum counts → (first_channel counts (owner_of counts c) ≤ c) × (c < first_channel counts (owner_of counts c) + get_or counts (owner_of counts c) 0)
+owning : (counts : List ℕ) (c : ℕ) → c < sum counts
+    → (first_channel counts (owner_of counts c) ≤ c)
+    × (c < first_channel counts (owner_of counts c) + get_or counts (owner_of counts c) 0)
 owning [] c there = absurd (omega arith)
 owning (n ∷ ns) c there =
     let whole : sum (n ∷ ns) ≡ n + sum ns = sum_by-cons (λ (x : ℕ). x) n ns in
@@ -53,15 +57,18 @@ owner-class (n ∷ ns) c there =
 
 pub owner-from_owns : (counts : List ℕ) (class c : ℕ) → owns counts class c ≡ true → owner_of counts c ≡ class
 owner-from_owns counts class c e =
-    owned counts class c (within_low _ _ (first_channel counts class + get_or counts class 0) e) (within_high (first_channel counts class) _ _ e)
+    owned counts class c (within_low _ _ (first_channel counts class + get_or counts class 0) e)
+    (within_high (first_channel counts class) _ _ e)
 
-pub owns-from_owner : (counts : List ℕ) (class c : ℕ) → c < sum counts → owner_of counts c ≡ class → owns counts class c ≡ true
+pub owns-from_owner : (counts : List ℕ) (class c : ℕ) → c < sum counts → owner_of counts c ≡ class
+    → owns counts class c ≡ true
 owns-from_owner counts class c there e =
     let both = owning counts c there in
     rw (← e) (within_true (first_channel counts (owner_of counts c)) c _ both.0 both.1)
 
 -- the owner of a channel, class by class
-pub owner-here : (counts : List ℕ) (i c : ℕ) → i < length counts → c < get_or counts i 0 → owner_of (drop i counts) c ≡ 0
+pub owner-here : (counts : List ℕ) (i c : ℕ) → i < length counts → c < get_or counts i 0
+    → owner_of (drop i counts) c ≡ 0
 owner-here [] i c there below = absurd (omega arith)
 owner-here (n ∷ ns) zero c there below = let test : nat_lt c n ≡ true = grind arith in rw test refl
 owner-here (n ∷ ns) (suc i) c there below = owner-here ns i c (omega arith) below

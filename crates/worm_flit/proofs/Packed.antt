@@ -1,5 +1,6 @@
 -- Words and flits stand for one another.
-use Rattle.std.proofs.Common.{◌≡◌, ℕ, zero, suc, ◌+◌, ◌*◌, ◌/◌, ◌%◌, ◌<◌, ◌≤◌, Bool, true, false, refl, ap, ◌∙◌, arith, ltb, leb, ◌&&◌}
+use Rattle.std.proofs.Common.{◌≡◌, ℕ, zero, suc, ◌+◌, ◌*◌, ◌/◌, ◌%◌, ◌<◌, ◌≤◌, Bool, true, false, refl, ap, ◌∙◌, arith}
+use Rattle.std.proofs.Common.{ltb, leb, ◌&&◌}
 use Rattle.std.proofs.lemmas.Bool.Decides.{nat_tests}
 use Rattle.worm_flit.specs.declared.Kind.{Kind}
 use Rattle.worm_flit.specs.declared.Kind.TheVariants.{Head, Body, Tail, Single, Close}
@@ -22,7 +23,8 @@ no_kind x h = let e : leb (kinds_at x) 4 ≡ false = grind (arith, nat_tests) in
 
 pub no_source : (x : ℕ) → 256 ≤ sources_at x → is_word x ≡ false
 unfolding is_word
-no_source x h = let e : ltb (sources_at x) 256 ≡ false = grind (arith, nat_tests) in ap (λ b. leb (kinds_at x) 4 && b) e ∙ and_false (leb (kinds_at x) 4)
+no_source x h = let e : ltb (sources_at x) 256 ≡ false = grind (arith, nat_tests) in
+    ap (λ b. leb (kinds_at x) 4 && b) e ∙ and_false (leb (kinds_at x) 4)
 
 pub is_one : (x : ℕ) → kinds_at x ≤ 4 → sources_at x < 256 → is_word x ≡ true
 unfolding is_word
@@ -82,19 +84,28 @@ parts f fits =
     let e1 : word_of f / 4294967296 ≡ order = cut_word order f.word fits.word in
     let e2 : word_of f / 4294967296 / 256 ≡ kinds = ap (λ n. n / 256) e1 ∙ cut_byte kinds f.vc fits.vc in
     let e3 : word_of f / 4294967296 / 256 / 256 ≡ stamp = ap (λ n. n / 256) e2 ∙ cut_byte stamp k byte in
-    let e4 : word_of f / 4294967296 / 256 / 256 / 256 ≡ packets = ap (λ n. n / 256) e3 ∙ cut_byte packets f.index fits.index in
-    let e5 : word_of f / 4294967296 / 256 / 256 / 256 / 65536 ≡ lane = ap (λ n. n / 65536) e4 ∙ cut_packet lane f.packet fits.packet in
-    let e6 : word_of f / 4294967296 / 256 / 256 / 256 / 65536 / 256 ≡ nodes = ap (λ n. n / 256) e5 ∙ cut_byte nodes f.lane.class fits.class in
-    let e7 : word_of f / 4294967296 / 256 / 256 / 256 / 65536 / 256 / 256 ≡ f.lane.src = ap (λ n. n / 256) e6 ∙ cut_byte f.lane.src f.lane.dst fits.dst in
+    let e4 : word_of f / 4294967296 / 256 / 256 / 256 ≡ packets =
+    ap (λ n. n / 256) e3 ∙ cut_byte packets f.index fits.index in
+    let e5 : word_of f / 4294967296 / 256 / 256 / 256 / 65536 ≡ lane =
+    ap (λ n. n / 65536) e4 ∙ cut_packet lane f.packet fits.packet in
+    let e6 : word_of f / 4294967296 / 256 / 256 / 256 / 65536 / 256 ≡ nodes =
+    ap (λ n. n / 256) e5 ∙ cut_byte nodes f.lane.class fits.class in
+    let e7 : word_of f / 4294967296 / 256 / 256 / 256 / 65536 / 256 / 256 ≡ f.lane.src =
+    ap (λ n. n / 256) e6 ∙ cut_byte f.lane.src f.lane.dst fits.dst in
     let d0 : word_of f % 4294967296 ≡ f.word = low_word order f.word fits.word in
     let d1 : word_of f / 4294967296 % 256 ≡ f.vc = ap (λ n. n % 256) e1 ∙ low_byte kinds f.vc fits.vc in
     let d2 : word_of f / 4294967296 / 256 % 256 ≡ k = ap (λ n. n % 256) e2 ∙ low_byte stamp k byte in
-    let d3 : word_of f / 4294967296 / 256 / 256 % 256 ≡ f.index = ap (λ n. n % 256) e3 ∙ low_byte packets f.index fits.index in
-    let d4 : word_of f / 4294967296 / 256 / 256 / 256 % 65536 ≡ f.packet = ap (λ n. n % 65536) e4 ∙ low_packet lane f.packet fits.packet in
-    let d5 : word_of f / 4294967296 / 256 / 256 / 256 / 65536 % 256 ≡ f.lane.class = ap (λ n. n % 256) e5 ∙ low_byte nodes f.lane.class fits.class in
-    let d6 : word_of f / 4294967296 / 256 / 256 / 256 / 65536 / 256 % 256 ≡ f.lane.dst = ap (λ n. n % 256) e6 ∙ low_byte f.lane.src f.lane.dst fits.dst in
+    let d3 : word_of f / 4294967296 / 256 / 256 % 256 ≡ f.index =
+    ap (λ n. n % 256) e3 ∙ low_byte packets f.index fits.index in
+    let d4 : word_of f / 4294967296 / 256 / 256 / 256 % 65536 ≡ f.packet =
+    ap (λ n. n % 65536) e4 ∙ low_packet lane f.packet fits.packet in
+    let d5 : word_of f / 4294967296 / 256 / 256 / 256 / 65536 % 256 ≡ f.lane.class =
+    ap (λ n. n % 256) e5 ∙ low_byte nodes f.lane.class fits.class in
+    let d6 : word_of f / 4294967296 / 256 / 256 / 256 / 65536 / 256 % 256 ≡ f.lane.dst =
+    ap (λ n. n % 256) e6 ∙ low_byte f.lane.src f.lane.dst fits.dst in
     record {
-      whole = (λ i. flit_by (d0 i) (d1 i) (d2 i) (d3 i) (d4 i) (d5 i) (d6 i) (e7 i)) ∙ ap (λ (kind : Kind). record f { kind = kind }) (kind_back f.kind);
+      whole = (λ i. flit_by (d0 i) (d1 i) (d2 i) (d3 i) (d4 i) (d5 i) (d6 i) (e7 i))
+          ∙ ap (λ (kind : Kind). record f { kind = kind }) (kind_back f.kind);
       sound = is_one (word_of f) (omega (arith, d2, kind_below f.kind)) (omega (arith, e7, fits.src));
     }
 
@@ -147,7 +158,11 @@ word_of-flit_of x h =
 abbrev pub read_as : ℕ → Kind → Flit
 read_as x k =
     record {
-      lane = record { src = sources_at x; dst = x / 4294967296 / 256 / 256 / 256 / 65536 / 256 % 256; class = x / 4294967296 / 256 / 256 / 256 / 65536 % 256 };
+      lane = record {
+        src = sources_at x;
+        dst = x / 4294967296 / 256 / 256 / 256 / 65536 / 256 % 256;
+        class = x / 4294967296 / 256 / 256 / 256 / 65536 % 256;
+      };
       packet = x / 4294967296 / 256 / 256 / 256 % 65536;
       index = x / 4294967296 / 256 / 256 % 256;
       kind = k;

@@ -1,5 +1,6 @@
 -- The flits of a packet, by index.
-use Rattle.std.proofs.Common.{ℕ, zero, suc, ◌+◌, ◌<◌, ◌≡◌, List, [], ◌∷◌, length, slice_get, slice_index_or, Some, arith, refl}
+use Rattle.std.proofs.Common.{ℕ, zero, suc, ◌+◌, ◌<◌, ◌≡◌, List, [], ◌∷◌, length, slice_get, slice_index_or, Some}
+use Rattle.std.proofs.Common.{arith, refl}
 use Rattle.std.proofs.lemmas.Bool.{ne_eqb}
 use Rattle.worm_flit.specs.declared.Lane.{Lane}
 use Rattle.worm_flit.specs.declared.Kind.TheVariants.{Body, Tail, Head, Single}
@@ -25,7 +26,8 @@ last_kind count i many later last =
     rw (ne_eqb count 1 (omega arith), ne_eqb i 0 (omega arith)) (grind arith)
 
 -- flit k of what follows a head, which is flit j of the packet
-later_flits-at : (lane : Lane) (n count i : ℕ) (ws : List ℕ) (k j : ℕ) → 0 < i → i + length ws ≡ count → k < length ws → j ≡ i + k
+later_flits-at : (lane : Lane) (n count i : ℕ) (ws : List ℕ) (k j : ℕ) → 0 < i → i + length ws ≡ count → k < length ws
+    → j ≡ i + k
     → slice_get (later_flits lane n i ws) k ≡ Some (flit lane n j (kind_at count j) (slice_index_or ws k 0))
 later_flits-at lane n count i [] k j later whole below is = absurd (omega arith)
 later_flits-at lane n count i (w ∷ []) zero j later whole below is =
@@ -43,15 +45,30 @@ packet_flits-at lane n (w ∷ []) zero below = refl
 packet_flits-at lane n (w ∷ []) (suc i) below = absurd (omega arith)
 packet_flits-at lane n (w ∷ v ∷ ws) zero below = rw (ne_eqb (length (w ∷ v ∷ ws)) 1 (omega arith)) refl
 packet_flits-at lane n (w ∷ v ∷ ws) (suc i) below =
-    later_flits-at lane n (length (w ∷ v ∷ ws)) 1 (v ∷ ws) i (suc i) (omega arith) (omega arith) (omega arith) (omega arith)
+    later_flits-at lane n (length (w ∷ v ∷ ws)) 1 (v ∷ ws) i (suc i) (omega arith) (omega arith) (omega arith)
+    (omega arith)
 
 -- worked packets
 one_word : packet_flits (record { src = 0; dst = 1; class = 0 }) 0 (17 ∷ []) ≡
-    record { lane = record { src = 0; dst = 1; class = 0 }; packet = 0; index = 0; kind = Single; vc = 0; word = 17 } ∷ []
+    record {
+      lane = record { src = 0; dst = 1; class = 0 };
+      packet = 0;
+      index = 0;
+      kind = Single;
+      vc = 0;
+      word = 17;
+    } ∷ []
 one_word = refl
 
 three_words : packet_flits (record { src = 0; dst = 15; class = 1 }) 4 (0 ∷ 100 ∷ 200 ∷ []) ≡
     record { lane = record { src = 0; dst = 15; class = 1 }; packet = 4; index = 0; kind = Head; vc = 1; word = 0 } ∷
     record { lane = record { src = 0; dst = 15; class = 1 }; packet = 4; index = 1; kind = Body; vc = 1; word = 100 } ∷
-    record { lane = record { src = 0; dst = 15; class = 1 }; packet = 4; index = 2; kind = Tail; vc = 1; word = 200 } ∷ []
+    record {
+      lane = record { src = 0; dst = 15; class = 1 };
+      packet = 4;
+      index = 2;
+      kind = Tail;
+      vc = 1;
+      word = 200;
+    } ∷ []
 three_words = refl

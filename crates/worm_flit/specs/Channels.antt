@@ -1,6 +1,7 @@
 -- Which class owns which channel: class 0 owns the channels from 0, each next class those that follow
 -- (Dally and Towles, chapter 13). A list of counts says how many channels each class owns.
-use Rattle.std.specs.Prelude.{ℕ, suc, ◌+◌, ◌-◌, ◌*◌, ◌^◌, ◌≤◌, Bool, cond, ◌&&◌, nat_lt, nat_le, List, [], ◌∷◌, length, sum, take, slice_index, All}
+use Rattle.std.specs.Prelude.{ℕ, suc, ◌+◌, ◌-◌, ◌*◌, ◌^◌, ◌≤◌, Bool, cond, ◌&&◌, nat_lt, nat_le, List, [], ◌∷◌, length}
+use Rattle.std.specs.Prelude.{sum, take, slice_index, All}
 
 -- one to four classes of one to eight channels each, at most eight in all
 pub record AreChannels (counts : List ℕ) : Type 0 where

@@ -12,13 +12,21 @@ pub record PacketState : Type 0 where
   pub words : List ℕ
 
 abbrev pub flit : Lane → ℕ → ℕ → Kind → ℕ → Flit
-flit lane packet index kind word = record { lane = lane; packet = packet; index = index; kind = kind; vc = lane.class; word = word }
+flit lane packet index kind word = record {
+  lane = lane;
+  packet = packet;
+  index = index;
+  kind = kind;
+  vc = lane.class;
+  word = word;
+}
 
 -- what follows a head: bodies, and the tail
 abbrev pub later_flits : Lane → ℕ → ℕ → List ℕ → List Flit
 later_flits lane packet index [] = []
 later_flits lane packet index (w ∷ []) = flit lane packet index Tail w ∷ []
-later_flits lane packet index (w ∷ v ∷ ws) = flit lane packet index Body w ∷ later_flits lane packet (index + 1) (v ∷ ws)
+later_flits lane packet index (w ∷ v ∷ ws) =
+    flit lane packet index Body w ∷ later_flits lane packet (index + 1) (v ∷ ws)
 
 -- one single flit, or a head, bodies and a tail
 abbrev pub packet_flits : Lane → ℕ → List ℕ → List Flit

@@ -11,7 +11,8 @@ Opens f = (opens f.kind ≡ true) × (f.index ≡ 0)
 
 -- after a closing flit comes the first one of a packet, and after any other the same packet's next
 abbrev pub Follows : Flit → Flit → Type 0
-Follows g f = MatchBool (closes g.kind) (Opens f) ((opens f.kind ≡ false) × (f.lane ≡ g.lane) × (f.packet ≡ g.packet) × (f.index ≡ g.index + 1))
+Follows g f = MatchBool (closes g.kind) (Opens f)
+    ((opens f.kind ≡ false) × (f.lane ≡ g.lane) × (f.packet ≡ g.packet) × (f.index ≡ g.index + 1))
 
 abbrev pub Leads : Flit → List Flit → Type 0
 Leads g [] = Unit {0}

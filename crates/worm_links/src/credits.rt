@@ -94,9 +94,14 @@ impl Model for CreditTx {
 
     ghost Value = { CreditTxView };
 
-    ghost view = { λ t. record { link = (knows t.pass).link.cfg; queue = queue_of t.pass; sent = (knows t.pass).sent } };
+    ghost view = { λ t. record {
+      link = (knows t.pass).link.cfg;
+      queue = queue_of t.pass;
+      sent = (knows t.pass).sent;
+    } };
 
-    ghost invariant = { λ t. IsSender IsCreditHistory (arc_value t.line) t.pass (link_capacity (knows t.pass).link.cfg) };
+    ghost invariant = { λ t. IsSender IsCreditHistory (arc_value t.line) t.pass
+        (link_capacity (knows t.pass).link.cfg) };
 }
 
 /// The taker's end of a credit line: it knows all that was taken. It may lie in a `Vec` and go to another thread.
@@ -123,7 +128,11 @@ impl Model for CreditRx {
 
     ghost Value = { CreditRxView };
 
-    ghost view = { λ t. record { link = (knows t.pass).link.cfg; queue = queue_of t.pass; taken = (knows t.pass).taken } };
+    ghost view = { λ t. record {
+      link = (knows t.pass).link.cfg;
+      queue = queue_of t.pass;
+      taken = (knows t.pass).taken;
+    } };
 
     ghost invariant = { λ t. IsTaker IsCreditHistory (arc_value t.line) t.pass };
 }
@@ -151,7 +160,12 @@ impl Model for CreditEnds {
 
     ghost Value = { CreditEndsView };
 
-    ghost view = { λ t. record { link = (knows t.whole).link.cfg; queue = queue_of t.whole; sent = (knows t.whole).sent; taken = (knows t.whole).taken } };
+    ghost view = { λ t. record {
+      link = (knows t.whole).link.cfg;
+      queue = queue_of t.whole;
+      sent = (knows t.whole).sent;
+      taken = (knows t.whole).taken;
+    } };
 
     ghost invariant = { λ t. IsWhole IsCreditHistory (arc_value t.line) t.whole };
 }
@@ -167,8 +181,8 @@ fn divide<B: Naming>(line: &CreditLine, pass: &mut CreditPass, cfg: LinkCfg) -> 
     line.another::<Roles<B>>(pass)
 }
 
-/// The ends of a new credit line of the link, whose queue has room for the link's channels times its depth of credits. A
-/// credit continues nothing, so there is no other way to open it.
+/// The ends of a new credit line of the link, whose queue has room for the link's channels times its depth of credits.
+/// A credit continues nothing, so there is no other way to open it.
 ///
 /// There are 1 to 8 channels and 1 to 17 places of depth. `NoMemory` where memory is refused.
 pub fn credit_line(alloc: Global, cfg: LinkCfg) -> Result<(CreditTx, CreditRx), LinkFault>
@@ -201,8 +215,8 @@ impl CreditTx {
         let _ = &self.pass;
     }
 
-    /// Sends a credit for the channel. `Err` gives it back and changes nothing: the queue is full, so at least channels times
-    /// depth credits were sent.
+    /// Sends a credit for the channel. `Err` gives it back and changes nothing: the queue is full, so at least channels
+    /// times depth credits were sent.
     pub fn push<R: Wait>(&mut self, rt: &R, channel: u8) -> Result<(), u8>
         requires { channel < self.old.link.channels }
         ensures sent { IfOk result (λ _. self.new ≡ record self.old { sent = self.old.sent ++ channel ∷ [] }) }
@@ -224,7 +238,8 @@ impl CreditRx {
     /// The channel of the next credit that was sent; `None` where the queue is empty.
     pub fn pop<R: Wait>(&mut self, rt: &R) -> Option<u8>
         ensures none { IfNone result (self.new ≡ self.old) }
-        ensures taken { IfSome result (λ channel. self.new ≡ record self.old { taken = self.old.taken ++ channel ∷ [] }) }
+        ensures taken { IfSome result (λ channel. self.new
+            ≡ record self.old { taken = self.old.taken ++ channel ∷ [] }) }
         ensures channel { IfSome result (λ channel. channel < self.old.link.channels) }
     {
         self.line.pop_as::<Takes, R>(rt, &mut self.pass)
@@ -259,7 +274,8 @@ impl CreditEnds {
     /// The channel of the next credit that was sent and not taken; `None` only where all was taken.
     pub fn pop_rest<R: Wait>(&mut self, rt: &R) -> Option<u8>
         ensures none { IfNone result ((self.new ≡ self.old) × (self.old.taken ≡ self.old.sent)) }
-        ensures taken { IfSome result (λ channel. self.new ≡ record self.old { taken = self.old.taken ++ channel ∷ [] }) }
+        ensures taken { IfSome result (λ channel. self.new
+            ≡ record self.old { taken = self.old.taken ++ channel ∷ [] }) }
         ensures sent { IfSome result (λ channel. (rest : List _) × (self.old.sent ≡ self.new.taken ++ rest)) }
         ensures channel { IfSome result (λ channel. channel < self.old.link.channels) }
     {

@@ -1,5 +1,6 @@
 //! The ends of a link: the queue on which flits go from a router to its neighbour (Dally and Towles, chapter 13).
-ghost use Rattle.std.specs.Prelude.{◌≡◌, ◌*◌, ◌<◌, ◌≤◌, [], ◌∷◌, ◌++◌, length, List, IfOk, IfErr, IfSome, IfNone, MatchResult};
+ghost use Rattle.std.specs.Prelude.{◌≡◌, ◌*◌, ◌<◌, ◌≤◌, [], ◌∷◌, ◌++◌, length, List, IfOk, IfErr, IfSome, IfNone};
+ghost use Rattle.std.specs.Prelude.{MatchResult};
 ghost use Rattle.crossbeam_queue.specs.Passes.{view, IsPassOf, IsSamePass, ruled_capacity};
 ghost use Rattle.worm_flit.specs.Packing.{flit_of};
 ghost use Rattle.worm_flit.specs.Stamps.{on_channel};
@@ -98,7 +99,12 @@ impl Model for FlitTx {
 
     ghost Value = { TxView };
 
-    ghost view = { λ t. record { link = (knows t.pass).link.cfg; past = (knows t.pass).link.past; queue = queue_of t.pass; sent = (knows t.pass).sent } };
+    ghost view = { λ t. record {
+      link = (knows t.pass).link.cfg;
+      past = (knows t.pass).link.past;
+      queue = queue_of t.pass;
+      sent = (knows t.pass).sent;
+    } };
 
     ghost invariant = { λ t. IsSender IsLinkHistory (arc_value t.line) t.pass (link_capacity (knows t.pass).link.cfg) };
 }
@@ -127,7 +133,12 @@ impl Model for FlitRx {
 
     ghost Value = { RxView };
 
-    ghost view = { λ t. record { link = (knows t.pass).link.cfg; past = (knows t.pass).link.past; queue = queue_of t.pass; taken = (knows t.pass).taken } };
+    ghost view = { λ t. record {
+      link = (knows t.pass).link.cfg;
+      past = (knows t.pass).link.past;
+      queue = queue_of t.pass;
+      taken = (knows t.pass).taken;
+    } };
 
     ghost invariant = { λ t. IsTaker IsLinkHistory (arc_value t.line) t.pass };
 }
@@ -155,7 +166,13 @@ impl Model for Ends {
 
     ghost Value = { EndsView };
 
-    ghost view = { λ t. record { link = (knows t.whole).link.cfg; past = (knows t.whole).link.past; queue = queue_of t.whole; sent = (knows t.whole).sent; taken = (knows t.whole).taken } };
+    ghost view = { λ t. record {
+      link = (knows t.whole).link.cfg;
+      past = (knows t.whole).link.past;
+      queue = queue_of t.whole;
+      sent = (knows t.whole).sent;
+      taken = (knows t.whole).taken;
+    } };
 
     ghost invariant = { λ t. IsWhole IsLinkHistory (arc_value t.line) t.whole };
 }
@@ -201,9 +218,9 @@ pub fn link(alloc: Global, cfg: LinkCfg) -> Result<(FlitTx, FlitRx), LinkFault>
     link_after::<Brand>(alloc, cfg)
 }
 
-/// The ends of a new link over which other flits are held to have gone before: on each channel the first flit continues the
-/// last of those. They exist for contracts alone, so nothing is pushed and no memory is taken for them. A call picks them
-/// in its proof, or is generic in `B` itself.
+/// The ends of a new link over which other flits are held to have gone before: on each channel the first flit continues
+/// the last of those. They exist for contracts alone, so nothing is pushed and no memory is taken for them. A call
+/// picks them in its proof, or is generic in `B` itself.
 ///
 /// There are 1 to 8 channels and 1 to 17 places of depth. `NoMemory` where memory is refused.
 pub fn link_after<B: Opening>(alloc: Global, cfg: LinkCfg) -> Result<(FlitTx, FlitRx), LinkFault>
@@ -236,7 +253,10 @@ fn send<R: Wait>(rt: &R, line: &FlitLine, pass: &mut FlitPass, flit: Flit) -> Re
     requires continues { Continues (on_channel flit.vc ((view pass.old).link.past ++ (view pass.old).sent)) flit }
     requires crossing { MayCross (view pass.old).link.cfg flit }
     ensures queue { IsSamePass pass.old pass.new }
-    ensures landed { MatchResult result (λ _. view pass.new ≡ sender (view pass.old).link ((view pass.old).sent ++ flit ∷ [])) (λ back. (back ≡ flit) × (view pass.new ≡ view pass.old) × (ruled_capacity line.now ≤ length (view pass.old).sent)) }
+    ensures landed { MatchResult result (λ _. view pass.new
+        ≡ sender (view pass.old).link ((view pass.old).sent ++ flit ∷ []))
+        (λ back. (back ≡ flit) × (view pass.new ≡ view pass.old)
+        × (ruled_capacity line.now ≤ length (view pass.old).sent)) }
 {
     match line.push_as::<Sends, R>(rt, pass, pack(flit)) {
         Ok(()) => Ok(()),
@@ -263,8 +283,8 @@ impl FlitTx {
         let _ = &self.pass;
     }
 
-    /// Sends the flit, which may cross the link and continues the last flit of its channel. `Err` gives it back and changes
-    /// nothing: the queue is full, so at least channels times depth flits were sent.
+    /// Sends the flit, which may cross the link and continues the last flit of its channel. `Err` gives it back and
+    /// changes nothing: the queue is full, so at least channels times depth flits were sent.
     pub fn push<R: Wait>(&mut self, rt: &R, flit: Flit) -> Result<(), Flit>
         requires continues { Continues (on_channel flit.vc (self.old.past ++ self.old.sent)) flit }
         requires crossing { MayCross self.old.link flit }
@@ -289,7 +309,8 @@ impl FlitRx {
     pub fn pop<R: Wait>(&mut self, rt: &R) -> Option<Flit>
         ensures none { IfNone result (self.new ≡ self.old) }
         ensures taken { IfSome result (λ flit. self.new ≡ record self.old { taken = self.old.taken ++ flit ∷ [] }) }
-        ensures continues { IfSome result (λ flit. Continues (on_channel flit.vc (self.old.past ++ self.old.taken)) flit) }
+        ensures continues { IfSome result (λ flit. Continues
+            (on_channel flit.vc (self.old.past ++ self.old.taken)) flit) }
         ensures crossing { IfSome result (λ flit. MayCross self.old.link flit) }
     {
         let word = self.line.pop_as::<Takes, R>(rt, &mut self.pass)?;
@@ -327,7 +348,8 @@ impl Ends {
         ensures none { IfNone result ((self.new ≡ self.old) × (self.old.taken ≡ self.old.sent)) }
         ensures taken { IfSome result (λ flit. self.new ≡ record self.old { taken = self.old.taken ++ flit ∷ [] }) }
         ensures sent { IfSome result (λ flit. (rest : List _) × (self.old.sent ≡ self.new.taken ++ rest)) }
-        ensures continues { IfSome result (λ flit. Continues (on_channel flit.vc (self.old.past ++ self.old.taken)) flit) }
+        ensures continues { IfSome result (λ flit. Continues
+            (on_channel flit.vc (self.old.past ++ self.old.taken)) flit) }
         ensures crossing { IfSome result (λ flit. MayCross self.old.link flit) }
     {
         let next = self.line.pop_as::<Takes, R>(rt, &mut self.whole)?;

@@ -1,11 +1,16 @@
 -- Neighbours by their addresses.
-use Rattle.std.proofs.Common.{ℕ, ◌≡◌, ◌≢◌, ◌+◌, ◌-◌, ◌*◌, ◌/◌, ◌%◌, ◌<◌, ◌≤◌, ◌⊎◌, ⊎_elim, inl, inr, Bool, true, false, ltb, ◌&&◌, Option, Some, None, List, length, get_or, set, arith, refl, ap, sym, ◌∙◌, subst, length-set, get_or-set_same, get_or-set_other}
+use Rattle.std.proofs.Common.{ℕ, ◌≡◌, ◌≢◌, ◌+◌, ◌-◌, ◌*◌, ◌/◌, ◌%◌, ◌<◌, ◌≤◌, ◌⊎◌, ⊎_elim, inl, inr, Bool, true, false}
+use Rattle.std.proofs.Common.{ltb, ◌&&◌, Option, Some, None, List, length, get_or, set, arith, refl, ap, sym, ◌∙◌}
+use Rattle.std.proofs.Common.{subst, length-set, get_or-set_same, get_or-set_other}
 use Rattle.std.proofs.Math.Nat.{div-add-mod}
-use Rattle.std.proofs.lemmas.Bool.{lt-ltb, le-ltb, and_from, and_parts, ltb-true, and_left, and_right, true≢false, cases_eq}
+use Rattle.std.proofs.lemmas.Bool.{lt-ltb, le-ltb, and_from, and_parts, ltb-true, and_left, and_right, true≢false}
+use Rattle.std.proofs.lemmas.Bool.{cases_eq}
 use Rattle.std.proofs.lemmas.List.{ext_get_or}
-use Rattle.worm_mesh.specs.Address.{node_count, stride_of, number_of, address_of, digit_of, IsAddress, Shifts, Joins, AreNeighbours, has_room, has_neighbour, neighbour_of, opposite_of}
+use Rattle.worm_mesh.specs.Address.{node_count, stride_of, number_of, address_of, digit_of, IsAddress, Shifts, Joins}
+use Rattle.worm_mesh.specs.Address.{AreNeighbours, has_room, has_neighbour, neighbour_of, opposite_of}
 use Rattle.worm_mesh.specs.Links.{IsLink}
-use Rattle.worm_mesh.proofs.Digits.{AreLarge, length-address_of, digit_of_lt, address_up, address_down, number_up, stride_le, number_of-address_of, address_of-number_of, same_node}
+use Rattle.worm_mesh.proofs.Digits.{AreLarge, length-address_of, digit_of_lt, address_up, address_down, number_up}
+use Rattle.worm_mesh.proofs.Digits.{stride_le, number_of-address_of, address_of-number_of, same_node}
 
 pub IsAddress-address_of : (ks : List ℕ) (x : ℕ) → AreLarge ks → x < node_count ks → IsAddress ks x (address_of ks x)
 IsAddress-address_of ks x l n = record {
@@ -15,18 +20,23 @@ IsAddress-address_of ks x l n = record {
 }
 
 -- digits that agree at each place make one node
-pub same_from_digits : (ks : List ℕ) (x y : ℕ) → AreLarge ks → x < node_count ks → y < node_count ks → ((d : ℕ) → digit_of ks x d ≡ digit_of ks y d) → x ≡ y
+pub same_from_digits : (ks : List ℕ) (x y : ℕ) → AreLarge ks → x < node_count ks → y < node_count ks
+    → ((d : ℕ) → digit_of ks x d ≡ digit_of ks y d) → x ≡ y
 same_from_digits ks x y l p q e =
-    same_node ks x y l p q (ext_get_or 0 (address_of ks x) (address_of ks y) (length-address_of ks x ∙ sym (length-address_of ks y)) (λ d h. e d))
+    same_node ks x y l p q (ext_get_or 0 (address_of ks x) (address_of ks y)
+    (length-address_of ks x ∙ sym (length-address_of ks y)) (λ d h. e d))
 
 -- the digit at `port`'s dimension, and the others
-digit_at : (ks : List ℕ) (x y d v : ℕ) → d < length ks → address_of ks y ≡ set (address_of ks x) d v → digit_of ks y d ≡ v
+digit_at : (ks : List ℕ) (x y d v : ℕ) → d < length ks → address_of ks y ≡ set (address_of ks x) d v
+    → digit_of ks y d ≡ v
 digit_at ks x y d v h e = rw e (get_or-set_same (address_of ks x) d v 0 (omega (arith, length-address_of ks x)))
 
-digit_other : (ks : List ℕ) (x y d v j : ℕ) → j ≢ d → address_of ks y ≡ set (address_of ks x) d v → digit_of ks y j ≡ digit_of ks x j
+digit_other : (ks : List ℕ) (x y d v j : ℕ) → j ≢ d → address_of ks y ≡ set (address_of ks x) d v
+    → digit_of ks y j ≡ digit_of ks x j
 digit_other ks x y d v j ne e = rw e (get_or-set_other (address_of ks x) d j v 0 ne)
 
-pub joins_up : (ks : List ℕ) (x port : ℕ) → AreLarge ks → x < node_count ks → port < 2 * length ks → port % 2 ≡ 1 → digit_of ks x (port / 2) + 1 < get_or ks (port / 2) 0 → Joins ks x port (x + stride_of ks (port / 2))
+pub joins_up : (ks : List ℕ) (x port : ℕ) → AreLarge ks → x < node_count ks → port < 2 * length ks → port % 2 ≡ 1
+    → digit_of ks x (port / 2) + 1 < get_or ks (port / 2) 0 → Joins ks x port (x + stride_of ks (port / 2))
 joins_up ks x port l n h odd r =
     let d = port / 2 in
     let y = x + stride_of ks d in
@@ -41,7 +51,8 @@ joins_up ks x port l n h odd r =
       others = λ j ne. digit_other ks x y d (digit_of ks x d + 1) j ne e;
     }
 
-pub joins_down : (ks : List ℕ) (x port : ℕ) → AreLarge ks → x < node_count ks → port < 2 * length ks → port % 2 ≡ 0 → 0 < digit_of ks x (port / 2) → Joins ks x port (x - stride_of ks (port / 2))
+pub joins_down : (ks : List ℕ) (x port : ℕ) → AreLarge ks → x < node_count ks → port < 2 * length ks → port % 2 ≡ 0
+    → 0 < digit_of ks x (port / 2) → Joins ks x port (x - stride_of ks (port / 2))
 joins_down ks x port l n h even r =
     let d = port / 2 in
     let y = x - stride_of ks d in
@@ -60,13 +71,16 @@ joins_down ks x port l n h even r =
 pub Joins-unique : (ks : List ℕ) (x port y z : ℕ) → AreLarge ks → Joins ks x port y → Joins ks x port z → y ≡ z
 Joins-unique ks x port y z l p q =
     same_from_digits ks y z l p.to_node q.to_node
-    (λ d. ⊎_elim (λ e. rw e (omega (arith, p.shifted, q.shifted))) (λ ne. p.others d ne ∙ sym (q.others d ne)) (cases_eq d (port / 2)))
+    (λ d. ⊎_elim (λ e. rw e (omega (arith, p.shifted, q.shifted))) (λ ne. p.others d ne ∙ sym (q.others d ne))
+    (cases_eq d (port / 2)))
 
-pub has_up : (ks : List ℕ) (x port : ℕ) → x < node_count ks → port < 2 * length ks → port % 2 ≡ 1 → digit_of ks x (port / 2) + 1 < get_or ks (port / 2) 0 → has_neighbour ks x port ≡ true
+pub has_up : (ks : List ℕ) (x port : ℕ) → x < node_count ks → port < 2 * length ks → port % 2 ≡ 1
+    → digit_of ks x (port / 2) + 1 < get_or ks (port / 2) 0 → has_neighbour ks x port ≡ true
 has_up ks x port n h odd r =
     and_from _ _ (lt-ltb x (node_count ks) n) (and_from _ _ (lt-ltb port (2 * length ks) h) (rw odd (lt-ltb _ _ r)))
 
-pub has_down : (ks : List ℕ) (x port : ℕ) → x < node_count ks → port < 2 * length ks → port % 2 ≡ 0 → 0 < digit_of ks x (port / 2) → has_neighbour ks x port ≡ true
+pub has_down : (ks : List ℕ) (x port : ℕ) → x < node_count ks → port < 2 * length ks → port % 2 ≡ 0
+    → 0 < digit_of ks x (port / 2) → has_neighbour ks x port ≡ true
 has_down ks x port n h even r =
     and_from _ _ (lt-ltb x (node_count ks) n) (and_from _ _ (lt-ltb port (2 * length ks) h) (rw even (lt-ltb _ _ r)))
 
@@ -76,7 +90,8 @@ no_node ks x port n = and_left _ _ (le-ltb x (node_count ks) n)
 pub no_port : (ks : List ℕ) (x port : ℕ) → 2 * length ks ≤ port → has_neighbour ks x port ≡ false
 no_port ks x port h = and_right (ltb x (node_count ks)) _ (and_left _ _ (le-ltb port (2 * length ks) h))
 
-pub no_up : (ks : List ℕ) (x port : ℕ) → port % 2 ≡ 1 → get_or ks (port / 2) 0 ≤ digit_of ks x (port / 2) + 1 → has_neighbour ks x port ≡ false
+pub no_up : (ks : List ℕ) (x port : ℕ) → port % 2 ≡ 1 → get_or ks (port / 2) 0 ≤ digit_of ks x (port / 2) + 1
+    → has_neighbour ks x port ≡ false
 no_up ks x port odd r =
     and_right (ltb x (node_count ks)) _ (and_right (ltb port (2 * length ks)) _ (rw odd (le-ltb _ _ r)))
 
@@ -87,12 +102,14 @@ no_down ks x port even r =
 odd_or_even : (port : ℕ) → (port % 2 ≡ 0) ⊎ (port % 2 ≡ 1)
 odd_or_even port = ⊎_elim inl (λ ne. inr (omega arith)) (cases_eq (port % 2) 0)
 
-pub has_neighbour-from_Joins : (ks : List ℕ) (x port y : ℕ) → AreLarge ks → Joins ks x port y → has_neighbour ks x port ≡ true
+pub has_neighbour-from_Joins : (ks : List ℕ) (x port y : ℕ) → AreLarge ks → Joins ks x port y
+    → has_neighbour ks x port ≡ true
 has_neighbour-from_Joins ks x port y l p =
     let d = port / 2 in
     let fits : port / 2 < length ks = omega (arith, div-add-mod port 2, p.mesh_port) in
     let below = digit_of_lt ks y d l fits in
-    ⊎_elim (λ even. has_down ks x port p.from_node p.mesh_port even (omega (arith, p.shifted))) (λ odd. has_up ks x port p.from_node p.mesh_port odd (omega (arith, p.shifted))) (odd_or_even port)
+    ⊎_elim (λ even. has_down ks x port p.from_node p.mesh_port even (omega (arith, p.shifted)))
+    (λ odd. has_up ks x port p.from_node p.mesh_port odd (omega (arith, p.shifted))) (odd_or_even port)
 
 -- the function of the digits agrees with the relation
 pub neighbour_of-some : (ks : List ℕ) (x port y : ℕ) → AreLarge ks → Joins ks x port y → neighbour_of ks x port ≡ Some y
@@ -100,30 +117,56 @@ neighbour_of-some ks x port y l p =
     let d = port / 2 in
     let fits : port / 2 < length ks = omega (arith, div-add-mod port 2, p.mesh_port) in
     let v = digit_of ks x d + port % 2 - (1 - port % 2) in
-    let moved : digit_of ks y d ≡ digit_of ks x d + port % 2 - (1 - port % 2) = ⊎_elim (λ even. omega (arith, p.shifted)) (λ odd. omega (arith, p.shifted)) (odd_or_even port) in
+    let moved : digit_of ks y d ≡ digit_of ks x d + port % 2 - (1 - port % 2) =
+    ⊎_elim (λ even. omega (arith, p.shifted)) (λ odd. omega (arith, p.shifted)) (odd_or_even port) in
     let same : address_of ks y ≡ set (address_of ks x) d v =
-    ext_get_or 0 (address_of ks y) (set (address_of ks x) d v) (length-address_of ks y ∙ (sym (length-address_of ks x) ∙ sym (length-set (address_of ks x) d v)))
-    (λ j h. ⊎_elim (λ e. rw e (moved ∙ sym (get_or-set_same (address_of ks x) d v 0 (omega (arith, length-address_of ks x))))) (λ ne. p.others j ne ∙ sym (get_or-set_other (address_of ks x) d j v 0 ne)) (cases_eq j d)) in
-    rw (has_neighbour-from_Joins ks x port y l p) (ap Some (ap (number_of ks) (sym same) ∙ number_of-address_of ks y l p.to_node))
+    ext_get_or 0 (address_of ks y) (set (address_of ks x) d v)
+    (length-address_of ks y ∙ (sym (length-address_of ks x) ∙ sym (length-set (address_of ks x) d v)))
+    (λ j h. ⊎_elim (λ e. rw e (moved ∙ sym
+    (get_or-set_same (address_of ks x) d v 0 (omega (arith, length-address_of ks x)))))
+    (λ ne. p.others j ne ∙ sym (get_or-set_other (address_of ks x) d j v 0 ne)) (cases_eq j d)) in
+    rw (has_neighbour-from_Joins ks x port y l p)
+    (ap Some (ap (number_of ks) (sym same) ∙ number_of-address_of ks y l p.to_node))
 
 pub neighbour_of-none : (ks : List ℕ) (x port : ℕ) → has_neighbour ks x port ≡ false → neighbour_of ks x port ≡ None
 neighbour_of-none ks x port e = rw e refl
 
-pub no_Joins : (ks : List ℕ) (x port : ℕ) → AreLarge ks → has_neighbour ks x port ≡ false → (y : ℕ) → Joins ks x port y → ⊥
+pub no_Joins : (ks : List ℕ) (x port : ℕ) → AreLarge ks → has_neighbour ks x port ≡ false → (y : ℕ) → Joins ks x port y
+    → ⊥
 no_Joins ks x port l e y p = true≢false (sym (has_neighbour-from_Joins ks x port y l p) ∙ e)
 
 -- each neighbour stands at some port
-joined_minus : (ks : List ℕ) (x y d : ℕ) → x < node_count ks → y < node_count ks → d < length ks → digit_of ks x d ≡ digit_of ks y d + 1 → ((e : ℕ) → e ≢ d → digit_of ks y e ≡ digit_of ks x e) → (port : ℕ) × Joins ks x port y
+joined_minus : (ks : List ℕ) (x y d : ℕ) → x < node_count ks → y < node_count ks → d < length ks
+    → digit_of ks x d ≡ digit_of ks y d + 1 → ((e : ℕ) → e ≢ d → digit_of ks y e ≡ digit_of ks x e)
+    → (port : ℕ) × Joins ks x port y
 joined_minus ks x y d p q fits e others =
     let half : 2 * d / 2 ≡ d = omega arith in
-    let rest : 2 * d % 2 ≡ 0 = omega arith in
-    (2 * d, record { from_node = p; to_node = q; mesh_port = omega arith; shifted = rw (half, rest) (omega arith); others = rw half others })
+    let rest : 2 * d % 2 ≡ 0 = omega arith in (
+      2 * d,
+      record {
+        from_node = p;
+        to_node = q;
+        mesh_port = omega arith;
+        shifted = rw (half, rest) (omega arith);
+        others = rw half others;
+      },
+    )
 
-joined_plus : (ks : List ℕ) (x y d : ℕ) → x < node_count ks → y < node_count ks → d < length ks → digit_of ks y d ≡ digit_of ks x d + 1 → ((e : ℕ) → e ≢ d → digit_of ks y e ≡ digit_of ks x e) → (port : ℕ) × Joins ks x port y
+joined_plus : (ks : List ℕ) (x y d : ℕ) → x < node_count ks → y < node_count ks → d < length ks
+    → digit_of ks y d ≡ digit_of ks x d + 1 → ((e : ℕ) → e ≢ d → digit_of ks y e ≡ digit_of ks x e)
+    → (port : ℕ) × Joins ks x port y
 joined_plus ks x y d p q fits e others =
     let half : (2 * d + 1) / 2 ≡ d = omega arith in
-    let rest : (2 * d + 1) % 2 ≡ 1 = omega arith in
-    (2 * d + 1, record { from_node = p; to_node = q; mesh_port = omega arith; shifted = rw (half, rest) (omega arith); others = rw half others })
+    let rest : (2 * d + 1) % 2 ≡ 1 = omega arith in (
+      2 * d + 1,
+      record {
+        from_node = p;
+        to_node = q;
+        mesh_port = omega arith;
+        shifted = rw (half, rest) (omega arith);
+        others = rw half others;
+      },
+    )
 
 pub joined : (ks : List ℕ) (x y : ℕ) → AreNeighbours ks x y → (port : ℕ) × Joins ks x port y
 joined ks x y h =
@@ -138,7 +181,15 @@ AreNeighbours-from_Joins ks x port y p =
     record {
       from_node = p.from_node;
       to_node = p.to_node;
-      one_digit = (port / 2, fits, record { by_one = ⊎_elim (λ even. inl (omega (arith, p.shifted))) (λ odd. inr (omega (arith, p.shifted))) (odd_or_even port); others = p.others });
+      one_digit = (
+        port / 2,
+        fits,
+        record {
+          by_one = ⊎_elim (λ even. inl (omega (arith, p.shifted)))
+              (λ odd. inr (omega (arith, p.shifted))) (odd_or_even port);
+          others = p.others;
+        },
+      );
     }
 
 -- what the test says, by the side of the port
@@ -153,21 +204,24 @@ parts ks x port e =
     let second = and_parts (ltb port (2 * length ks)) (has_room ks x port) first.1 in
     record { node = ltb-true _ _ first.0; mesh_port = ltb-true _ _ second.0; side = second.1 }
 
-pub down : (ks : List ℕ) (x port : ℕ) → AreLarge ks → has_neighbour ks x port ≡ true → port % 2 ≡ 0 → (stride_of ks (port / 2) ≤ x) × Joins ks x port (x - stride_of ks (port / 2))
+pub down : (ks : List ℕ) (x port : ℕ) → AreLarge ks → has_neighbour ks x port ≡ true → port % 2 ≡ 0
+    → (stride_of ks (port / 2) ≤ x) × Joins ks x port (x - stride_of ks (port / 2))
 down ks x port l e even =
     let p = parts ks x port e in
     let fits : port / 2 < length ks = omega (arith, div-add-mod port 2, p.mesh_port) in
     let room : 0 < digit_of ks x (port / 2) = ltb-true _ _ (rw even at p.side) in
     (stride_le ks x (port / 2) l fits room, joins_down ks x port l p.node p.mesh_port even room)
 
-pub up : (ks : List ℕ) (x port : ℕ) → AreLarge ks → has_neighbour ks x port ≡ true → port % 2 ≡ 1 → Joins ks x port (x + stride_of ks (port / 2))
+pub up : (ks : List ℕ) (x port : ℕ) → AreLarge ks → has_neighbour ks x port ≡ true → port % 2 ≡ 1
+    → Joins ks x port (x + stride_of ks (port / 2))
 up ks x port l e odd =
     let p = parts ks x port e in
     joins_up ks x port l p.node p.mesh_port odd (ltb-true _ _ (rw odd at p.side))
 
 pub IsLink-from_test : (ks : List ℕ) (x port : ℕ) → AreLarge ks → has_neighbour ks x port ≡ true → IsLink ks x port
 IsLink-from_test ks x port l e =
-    ⊎_elim (λ even. (x - stride_of ks (port / 2), (down ks x port l e even).1)) (λ odd. (x + stride_of ks (port / 2), up ks x port l e odd)) (odd_or_even port)
+    ⊎_elim (λ even. (x - stride_of ks (port / 2), (down ks x port l e even).1))
+    (λ odd. (x + stride_of ks (port / 2), up ks x port l e odd)) (odd_or_even port)
 
 -- the function of the digits has a value only where there is a link
 pub Joins-from : (ks : List ℕ) (x port y : ℕ) → AreLarge ks → neighbour_of ks x port ≡ Some y → Joins ks x port y

@@ -1,5 +1,6 @@
 -- The numbers of links.
-use Rattle.std.proofs.Common.{ℕ, zero, suc, ◌≡◌, ◌+◌, ◌*◌, ◌<◌, ◌≤◌, inl, inr, Bool, true, false, cond, Option, Some, None, List, length, arith, refl, ap, add-one}
+use Rattle.std.proofs.Common.{ℕ, zero, suc, ◌≡◌, ◌+◌, ◌*◌, ◌<◌, ◌≤◌, inl, inr, Bool, true, false, cond, Option, Some}
+use Rattle.std.proofs.Common.{None, List, length, arith, refl, ap, add-one}
 use Rattle.std.proofs.lemmas.Bool.{cases_lt, cases_order}
 use Rattle.worm_mesh.specs.Address.{node_count, number_of, address_of, shifted, has_neighbour, neighbour_of}
 use Rattle.worm_mesh.specs.Links.{count_below, sum_below, degree_of, links_before, link_count, IsLink}
@@ -18,14 +19,19 @@ sum_below_more f n = rw add-one refl
 
 pub count_below-le : (test : ℕ → Bool) (n : ℕ) → count_below test n ≤ n
 count_below-le test zero = omega arith
-count_below-le test (suc n) = elim (test n) as (λ b. count_below test n + cond b 1 0 ≤ suc n) [ true ↦ omega (arith, count_below-le test n) | false ↦ omega (arith, count_below-le test n) ]
+count_below-le test (suc n) = elim (test n) as
+    (λ b. count_below test n + cond b 1 0 ≤ suc n) [
+      | true ↦ omega (arith, count_below-le test n)
+      | false ↦ omega (arith, count_below-le test n)
+    ]
 
 pub sum_below-le : (f : ℕ → ℕ) (m n : ℕ) → ((k : ℕ) → f k ≤ m) → sum_below f n ≤ m * n
 sum_below-le f m zero h = omega arith
 sum_below-le f m (suc n) h = omega (arith, sum_below-le f m n h, h n)
 
 -- the next port has a link where it has a neighbour
-pub links_before-some : (ks : List ℕ) (x p y : ℕ) → neighbour_of ks x p ≡ Some y → links_before ks x (p + 1) ≡ links_before ks x p + 1
+pub links_before-some : (ks : List ℕ) (x p y : ℕ) → neighbour_of ks x p ≡ Some y
+    → links_before ks x (p + 1) ≡ links_before ks x p + 1
 links_before-some ks x p y e = by_test (has_neighbour ks x p) refl
   where
     by_test : (b : Bool) → has_neighbour ks x p ≡ b → links_before ks x (p + 1) ≡ links_before ks x p + 1
@@ -35,7 +41,8 @@ links_before-some ks x p y e = by_test (has_neighbour ks x p) refl
         let clash : ◌≡◌ {A = Option ℕ} None (Some y) = cc in
         cc
 
-pub links_before-none : (ks : List ℕ) (x p : ℕ) → neighbour_of ks x p ≡ None → links_before ks x (p + 1) ≡ links_before ks x p
+pub links_before-none : (ks : List ℕ) (x p : ℕ) → neighbour_of ks x p ≡ None
+    → links_before ks x (p + 1) ≡ links_before ks x p
 links_before-none ks x p e = by_test (has_neighbour ks x p) refl
   where
     by_test : (b : Bool) → has_neighbour ks x p ≡ b → links_before ks x (p + 1) ≡ links_before ks x p
@@ -70,7 +77,11 @@ module _ (ks : List ℕ) (l : AreLarge ks) where
   pub before_node : (x p y q : ℕ) → IsLink ks x p → x < y → links_before ks x p < links_before ks y q
   before_node x p y q h lt =
       let there = has_neighbour-from_Joins ks x p h.0 l h.1 in
-      omega (arith, count_below_past (has_neighbour ks x) p (2 * length ks) h.1.mesh_port there, sum_below_past (degree_of ks) x y lt)
+      omega (
+        arith,
+        count_below_past (has_neighbour ks x) p (2 * length ks) h.1.mesh_port there,
+        sum_below_past (degree_of ks) x y lt,
+      )
 
   pub before_port : (x p q : ℕ) → IsLink ks x p → p < q → links_before ks x p < links_before ks x q
   before_port x p q h lt =
@@ -80,9 +91,14 @@ module _ (ks : List ℕ) (l : AreLarge ks) where
   pub below_count : (x p : ℕ) → IsLink ks x p → links_before ks x p < link_count ks
   below_count x p h =
       let there = has_neighbour-from_Joins ks x p h.0 l h.1 in
-      omega (arith, count_below_past (has_neighbour ks x) p (2 * length ks) h.1.mesh_port there, sum_below_past (degree_of ks) x (node_count ks) h.1.from_node)
+      omega (
+        arith,
+        count_below_past (has_neighbour ks x) p (2 * length ks) h.1.mesh_port there,
+        sum_below_past (degree_of ks) x (node_count ks) h.1.from_node,
+      )
 
-  pub one_link : (x p y q : ℕ) → IsLink ks x p → IsLink ks y q → links_before ks x p ≡ links_before ks y q → (x ≡ y) × (p ≡ q)
+  pub one_link : (x p y q : ℕ) → IsLink ks x p → IsLink ks y q → links_before ks x p ≡ links_before ks y q
+      → (x ≡ y) × (p ≡ q)
   one_link x p y q h k e =
       elim (cases_order x y) [
         | inl same ↦ elim (cases_order p q) [

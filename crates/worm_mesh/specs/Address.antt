@@ -1,6 +1,7 @@
--- Nodes as addresses (Dally and Towles, chapter 5). A list of radices stands for the mesh. An address is a list of digits,
--- one for each dimension, digit d in radix d.
-use Rattle.std.specs.Prelude.{ℕ, ◌≡◌, ◌≢◌, ◌+◌, ◌-◌, ◌*◌, ◌/◌, ◌%◌, ◌<◌, ◌≤◌, Bool, ◌&&◌, ◌⊎◌, cond, nat_lt, nat_eq, List, [], ◌∷◌, length, take, set, All, Option, Some, None, slice_index}
+-- Nodes as addresses (Dally and Towles, chapter 5). A list of radices stands for the mesh. An address is a list of
+-- digits, one for each dimension, digit d in radix d.
+use Rattle.std.specs.Prelude.{ℕ, ◌≡◌, ◌≢◌, ◌+◌, ◌-◌, ◌*◌, ◌/◌, ◌%◌, ◌<◌, ◌≤◌, Bool, ◌&&◌, ◌⊎◌, cond, nat_lt, nat_eq}
+use Rattle.std.specs.Prelude.{List, [], ◌∷◌, length, take, set, All, Option, Some, None, slice_index}
 
 -- how many nodes there are: the product of the radices
 abbrev pub node_count : List ℕ → ℕ
@@ -71,10 +72,12 @@ pub record AreNeighbours (ks : List ℕ) (from to : ℕ) : Type 0 where
   pub to_node : to < node_count ks
   pub one_digit : (d : ℕ) × (d < length ks) × DifferInOne (address_of ks from) (address_of ks to) d
 
--- whether the digit of the port's dimension can step to the port's side: down where it is above 0, up where it is not the last
+-- whether the digit of the port's dimension can step to the port's side: down where it is above 0, up where it is not
+-- the last
 abbrev pub has_room : List ℕ → ℕ → ℕ → Bool
 has_room ks node port =
-    cond (nat_eq (port % 2) 0) (nat_lt 0 (digit_of ks node (port / 2))) (nat_lt (digit_of ks node (port / 2) + 1) (slice_index ks (port / 2)))
+    cond (nat_eq (port % 2) 0) (nat_lt 0 (digit_of ks node (port / 2)))
+    (nat_lt (digit_of ks node (port / 2) + 1) (slice_index ks (port / 2)))
 
 -- whether `node` has a neighbour at `port`, both of them the mesh's
 abbrev pub has_neighbour : List ℕ → ℕ → ℕ → Bool

@@ -1,5 +1,5 @@
--- Links and their numbers (Dally and Towles, chapter 5, call links channels). A link is named by the node and the port that
--- it leaves by.
+-- Links and their numbers (Dally and Towles, chapter 5, call links channels). A link is named by the node and the port
+-- that it leaves by.
 use Rattle.std.specs.Prelude.{ℕ, zero, suc, ◌≡◌, ◌+◌, ◌-◌, ◌*◌, ◌/◌, ◌%◌, Bool, cond, nat_lt, List, [], ◌∷◌, length}
 use Rattle.worm_mesh.specs.Address.{node_count, has_neighbour, Joins}
 
@@ -47,8 +47,9 @@ abbrev pub degree_by_digits : List ℕ → ℕ → ℕ
 degree_by_digits [] node = 0
 degree_by_digits (k ∷ ks) node = sides_of k (node % k) + degree_by_digits ks (node / k)
 
--- how many links leave the nodes of `row` whole rows, each one run of the lowest digit of radix k, and the first `digit`
--- nodes of the next row, where `below` links of the higher dimensions leave the rows before it and `here` leave it
+-- how many links leave the nodes of `row` whole rows, each one run of the lowest digit of radix k, and the first
+-- `digit` nodes of the next row, where `below` links of the higher dimensions leave the rows before it and `here` leave
+-- it
 abbrev pub links_in_rows : ℕ → ℕ → ℕ → ℕ → ℕ → ℕ
 links_in_rows k row digit below here = row * (2 * (k - 1)) + k * below + (digit - 1 + digit) + digit * here
 

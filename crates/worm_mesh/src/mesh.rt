@@ -1,4 +1,5 @@
-ghost use Rattle.std.specs.Prelude.{◌≡◌, ℕ, ◌+◌, ◌-◌, ◌*◌, ◌/◌, ◌%◌, ◌^◌, ◌<◌, ◌≤◌, ◌↔◌, List, length, MatchResult, MatchOption, SomeIff, IfSome, IsTrue, All, take, drop, replicate, slice_index};
+ghost use Rattle.std.specs.Prelude.{◌≡◌, ℕ, ◌+◌, ◌-◌, ◌*◌, ◌/◌, ◌%◌, ◌^◌, ◌<◌, ◌≤◌, ◌↔◌, List, length, MatchResult};
+ghost use Rattle.std.specs.Prelude.{MatchOption, SomeIff, IfSome, IsTrue, All, take, drop, replicate, slice_index};
 ghost use Rattle.worm_mesh.specs.Address.{IsRadix};
 ghost use Rattle.worm_mesh.specs.Links.{degree_by_digits, links_in_rows, sides_of, sum_below};
 
@@ -22,8 +23,8 @@ pub enum MeshFault {
 /// A k-ary n-mesh of 1 to 3 dimensions, each with a radix of its own from 2 to 16, and of at most 256 nodes (Dally and
 /// Towles, chapter 5). In contracts it is the list of its radices, the lowest dimension first.
 ///
-/// Nodes are numbered from 0, by the sum of each digit of the address times the product of the radices below it. Port `2d`
-/// is the minus side of dimension `d`, port `2d + 1` its plus side.
+/// Nodes are numbered from 0, by the sum of each digit of the address times the product of the radices below it. Port
+/// `2d` is the minus side of dimension `d`, port `2d + 1` its plus side.
 ///
 /// ```
 /// let mesh = Mesh::new(&[3, 2])?;
@@ -82,8 +83,8 @@ struct LinkCounts {
     here: u16,
 }
 
-// The counts at `node` in a mesh with these radices, with no look at the nodes below it: from its lowest digit, and from the
-// counts at its row in the mesh of the higher dimensions.
+// The counts at `node` in a mesh with these radices, with no look at the nodes below it: from its lowest digit, and
+// from the counts at its row in the mesh of the higher dimensions.
 fn link_counts(radices: &[u8], node: u16) -> LinkCounts
     requires few_dims { length radices.now ≤ 3 }
     requires radices { All IsRadix radices.now }
@@ -115,8 +116,8 @@ fn sides_of(radix: u16, digit: u16) -> u16
     u16::from(digit > 0) + u16::from(digit + 1 < radix)
 }
 
-// How many links leave the nodes of `row` whole rows and the first `digit` nodes of the next one, where a row is one run of
-// the lowest digit and `rest` has the counts at that next row.
+// How many links leave the nodes of `row` whole rows and the first `digit` nodes of the next one, where a row is one
+// run of the lowest digit and `rest` has the counts at that next row.
 fn links_in_rows(radix: u16, row: u16, digit: u16, rest: LinkCounts) -> u16
     requires radix { IsRadix radix }
     requires fits { links_in_rows radix row digit rest.below rest.here < 2 ^ 16 }
@@ -128,13 +129,16 @@ fn links_in_rows(radix: u16, row: u16, digit: u16, rest: LinkCounts) -> u16
 }
 
 impl Mesh {
-    ghost use Rattle.worm_mesh.specs.Address.{IsMesh, IsAddress, Joins, AreNeighbours, node_count, stride_of, address_of, digit_of, has_neighbour, neighbour_of, opposite_of};
-    ghost use Rattle.worm_mesh.specs.Links.{links_below_port, degree_of, links_before, link_count, channels_in, IsLink, IsNumbering};
+    ghost use Rattle.worm_mesh.specs.Address.{IsMesh, IsAddress, Joins, AreNeighbours, node_count, stride_of};
+    ghost use Rattle.worm_mesh.specs.Address.{address_of, digit_of, has_neighbour, neighbour_of, opposite_of};
+    ghost use Rattle.worm_mesh.specs.Links.{links_below_port, degree_of, links_before, link_count, channels_in, IsLink};
+    ghost use Rattle.worm_mesh.specs.Links.{IsNumbering};
     ghost use Rattle.worm_mesh.specs.Ends.{AreEndsOf};
     ghost use Rattle.worm_mesh.specs.Faults.{IsFault};
 
-    /// The mesh with these radices, the lowest dimension first. Refused, in this order: `Radix` where one of all the radices
-    /// is outside 2 to 16, `Dims` where there is none or more than three, `TooManyNodes` where their product is above 256.
+    /// The mesh with these radices, the lowest dimension first. Refused, in this order: `Radix` where one of all the
+    /// radices is outside 2 to 16, `Dims` where there is none or more than three, `TooManyNodes` where their product is
+    /// above 256.
     pub fn new(radices: &[u8]) -> Result<Mesh, MeshFault>
         ensures { MatchResult result (λ m. (m ≡ radices.now) × IsMesh radices.now) (IsFault radices.now) }
     {
@@ -238,8 +242,8 @@ impl Mesh {
         }
     }
 
-    /// The node that leaving `node` by `port` leads to. None at the edge of the mesh, and for a node or a port that the mesh
-    /// does not have, the terminal among them.
+    /// The node that leaving `node` by `port` leads to. None at the edge of the mesh, and for a node or a port that the
+    /// mesh does not have, the terminal among them.
     pub fn neighbour(&self, node: u8, port: u8) -> Option<u8>
         ensures value { result ≡ neighbour_of self.now node port }
         ensures joins { MatchOption result ((to : ℕ) → ¬ Joins self.now node port to) (Joins self.now node port) }
@@ -302,8 +306,8 @@ impl Mesh {
         self.links_below_node(self.nodes())
     }
 
-    /// The number of the link that leaves `node` by `port`: how many links come before it, by rising node, then rising port.
-    /// None where there is no such link. It takes the same few steps at each node.
+    /// The number of the link that leaves `node` by `port`: how many links come before it, by rising node, then rising
+    /// port. None where there is no such link. It takes the same few steps at each node.
     pub fn link_number(&self, node: u8, port: u8) -> Option<u16>
         ensures value { SomeIff result (IsLink self.now node port) (links_before self.now node port) }
         ensures in_range { IfSome result (λ n. n < link_count self.now) }
@@ -315,8 +319,8 @@ impl Mesh {
         Some(self.links_below_node(u16::from(node)) + self.links_below_port(node, port))
     }
 
-    /// The ends of the link with this number; None at `links()` and above. It goes through the nodes, so it is not for a turn:
-    /// there, name a link by its node and port.
+    /// The ends of the link with this number; None at `links()` and above. It goes through the nodes, so it is not for
+    /// a turn: there, name a link by its node and port.
     pub fn link_ends(&self, number: u16) -> Option<LinkEnds>
         ensures { MatchOption result (link_count self.now ≤ number) (AreEndsOf self.now number) }
     {

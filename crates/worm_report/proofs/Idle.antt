@@ -16,4 +16,5 @@ pub idle_lane : {a : Desk} (s : NetState) (set : LaneMarks) (lane : Lane) → Is
     → lane.dst < node_count s.mesh → lane.class < length s.channels
     → is_marked set lane ≡ false → WritesRows a a done (lane_rows (seen s) lane)
 idle_lane s set lane complete src dst class free =
-    same_rows [] (lane_rows (seen s) lane) (ap (map (λ (held : Held). Underway lane held)) (sym (complete lane src dst class free))) no_rows
+    same_rows [] (lane_rows (seen s) lane)
+    (ap (map (λ (held : Held). Underway lane held)) (sym (complete lane src dst class free))) no_rows

@@ -4,7 +4,8 @@ use Rattle.std.specs.List.{flat_map, range_with_len}
 use Rattle.worm_flit.specs.declared.Lane.{Lane}
 use Rattle.worm_report.specs.declared.summary.Summary.{Summary}
 use Rattle.worm_report.specs.declared.row.Row.{Row}
-use Rattle.worm_report.specs.declared.row.Row.TheVariants.{Header, Options, Stopped, Delivered, Underway, NotOffered, Total}
+use Rattle.worm_report.specs.declared.row.Row.TheVariants.{Header, Options, Stopped, Delivered, Underway, NotOffered}
+use Rattle.worm_report.specs.declared.row.Row.TheVariants.{Total}
 use Rattle.worm_report.specs.Rows.{rows_text}
 use Rattle.worm_report.specs.Seen.{Seen}
 

@@ -1,14 +1,16 @@
-//! The report of a network and of the run that led to it, as text: each flit that arrived, each flit that is under way and where, and
-//! the sums (Dally and Towles, chapters 5, 12 and 13).
+//! The report of a network and of the run that led to it, as text: each flit that arrived, each flit that is under way
+//! and where, and the sums (Dally and Towles, chapters 5, 12 and 13).
 //!
-//! A report is a list of rows, and each row says what one line says. `specs/Report` lists the rows of a network, `specs/Rows` has the
-//! text of each, and the code makes the same rows one after another: so what it proves of the whole is what it proves of a list.
+//! A report is a list of rows, and each row says what one line says. `specs/Report` lists the rows of a network,
+//! `specs/Rows` has the text of each, and the code makes the same rows one after another: so what it proves of the
+//! whole is what it proves of a list.
 //!
-//! A writer may fail, and memory may run out: then a first part of the text has gone out, and the answer says so. That `Write` comes only
-//! from a writer that failed or took nothing no contract can say, since a writer says nothing of its failures; tests show it.
+//! A writer may fail, and memory may run out: then a first part of the text has gone out, and the answer says so. That
+//! `Write` comes only from a writer that failed or took nothing no contract can say, since a writer says nothing of its
+//! failures; tests show it.
 //!
-//! Lanes with nothing under way are passed over without a look at their routes: of up to 262,144 lanes few are busy. Nothing is proved of a
-//! network here; the order of a lane's flits is that of its view.
+//! Lanes with nothing under way are passed over without a look at their routes: of up to 262,144 lanes few are busy.
+//! Nothing is proved of a network here; the order of a lane's flits is that of its view.
 #![tactic(auto)]
 
 mod line;

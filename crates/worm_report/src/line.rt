@@ -99,7 +99,8 @@ impl Line {
 
     /// A place beside a node: an input buffer, or a link by its output port.
     fn side(&mut self, word: &[u8], node: u8, port: u8, vc: u8) -> Result<(), AllocError>
-        ensures { OnOk result (self.new ≡ self.old ++ flat_map (λ f. space ∷ f) (word.now ∷ decimal node ∷ decimal port ∷ decimal vc ∷ [])) }
+        ensures { OnOk result (self.new ≡ self.old
+            ++ flat_map (λ f. space ∷ f) (word.now ∷ decimal node ∷ decimal port ∷ decimal vc ∷ [])) }
     {
         self.word(word)?;
         self.number(u128::from(node))?;

@@ -4,7 +4,9 @@ ghost use Rattle.std.specs.Prelude.{◌≡◌, ◌<◌, [], ◌∷◌, ◌++◌,
 ghost use Rattle.worm_mesh.specs.Address.{node_count};
 ghost use Rattle.worm_core.specs.LaneSet.{IsComplete};
 ghost use Rattle.worm_report.specs.Seen.{seen};
-ghost use Rattle.worm_report.specs.Report.{options_rows, stop_rows, stops_rows, opening_rows, delivered_rows, lane_rows, pair_rows, source_rows, underway_rows, flits_rows, closing_rows, report};
+ghost use Rattle.worm_report.specs.Report.{options_rows, stop_rows, stops_rows, opening_rows, delivered_rows};
+ghost use Rattle.worm_report.specs.Report.{lane_rows, pair_rows, source_rows, underway_rows, flits_rows, closing_rows};
+ghost use Rattle.worm_report.specs.Report.{report};
 ghost use Rattle.worm_report.specs.Writing.{desk, Writes, WritesRows};
 
 use crate::page::Page;

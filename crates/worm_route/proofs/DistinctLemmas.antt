@@ -29,7 +29,8 @@ second_apart : {P : Type 0} (p a b : P) (front back : List P) → IsNotIn p (fro
 second_apart p a b [] back n = n.1.0
 second_apart p a b (q ∷ front) back n = second_apart p a b front back n.1
 
-pub second_not_in_front : {P : Type 0} (front back : List P) (a b : P) → IsDistinct (front ++ a ∷ b ∷ back) → IsNotIn b front
+pub second_not_in_front : {P : Type 0} (front back : List P) (a b : P) → IsDistinct (front ++ a ∷ b ∷ back)
+    → IsNotIn b front
 second_not_in_front [] back a b d = tt
 second_not_in_front (p ∷ front) back a b d =
     ((λ e. second_apart p a b front back d.0 (sym e)), second_not_in_front front back a b d.1)
@@ -39,7 +40,8 @@ distinct_back [] back d = d
 distinct_back (p ∷ front) back d = distinct_back front back d.1
 
 -- it splits at an item in one way
-pub one_split : {P : Type 0} (front front' back back' : List P) (b : P) → IsDistinct (front ++ b ∷ back) → front ++ b ∷ back ≡ front' ++ b ∷ back' → front ≡ front'
+pub one_split : {P : Type 0} (front front' back back' : List P) (b : P) → IsDistinct (front ++ b ∷ back)
+    → front ++ b ∷ back ≡ front' ++ b ∷ back' → front ≡ front'
 one_split [] [] back back' b d e = refl
 one_split [] (q ∷ front') back back' b d e =
     let rest : back ≡ front' ++ b ∷ back' = cc in

@@ -56,7 +56,9 @@ not_past_the_corner : crosses (3 ∷ 2 ∷ []) 3 1 0 5 ≡ false
 not_past_the_corner = refl
 
 -- a square of three, from 0 to 8: ten places for four hops
-places_to_eight : places_of (3 ∷ 3 ∷ []) 0 8 ≡ Buffer 8 2 ∷ Link 5 3 ∷ Buffer 5 2 ∷ Link 2 3 ∷ Buffer 2 0 ∷ Link 1 1 ∷ Buffer 1 0 ∷ Link 0 1 ∷ Buffer 0 4 ∷ Source ∷ []
+places_to_eight : places_of (3 ∷ 3 ∷ []) 0 8
+    ≡ Buffer 8 2 ∷ Link 5 3 ∷ Buffer 5 2 ∷ Link 2 3 ∷ Buffer 2 0 ∷ Link 1 1 ∷ Buffer 1 0 ∷ Link 0 1 ∷ Buffer 0 4
+    ∷ Source ∷ []
 places_to_eight = refl
 
 -- a lane whose source is its destination

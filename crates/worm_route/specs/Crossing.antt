@@ -11,7 +11,8 @@ pub record Follows (ks : List ℕ) (x port src dst : ℕ) : Type 0 where
   pub later : List ℕ
   pub route : route_of ks src dst ≡ before ++ x ∷ to ∷ later
 
--- whether a digit that runs from one value to another, which it does not leave, steps down from `at`; whether it steps up from it
+-- whether a digit that runs from one value to another, which it does not leave, steps down from `at`; whether it steps
+-- up from it
 abbrev pub steps_down : ℕ → ℕ → ℕ → Bool
 steps_down at first last = nat_le at first && nat_lt last at
 
@@ -19,8 +20,8 @@ abbrev pub steps_up : ℕ → ℕ → ℕ → Bool
 steps_up at first last = nat_le first at && nat_lt at last
 
 -- Whether the route from `src` to `dst` crosses the link that leaves node x by this port. A route corrects the lowest
--- dimension first. So where it leaves x by a port of dimension d, x agrees with the destination below d and with the source
--- above d, and its digit d lies between theirs.
+-- dimension first. So where it leaves x by a port of dimension d, x agrees with the destination below d and with the
+-- source above d, and its digit d lies between theirs.
 abbrev pub crosses : List ℕ → ℕ → ℕ → ℕ → ℕ → Bool
 crosses [] x port src dst = false
 crosses (k ∷ ks) x port src dst =

@@ -4,20 +4,21 @@ use Rattle.worm_mesh.specs.Address.{neighbour_of, opposite_of}
 use Rattle.worm_route.specs.Route.{route_of, port_of, hops_of}
 use Rattle.worm_route.specs.Distinct.{IsDistinct}
 
--- where a flit that is under way stands: not yet fed at its source; in the input buffer of a node's port; on the link out
--- of a node's port
+-- where a flit that is under way stands: not yet fed at its source; in the input buffer of a node's port; on the link
+-- out of a node's port
 pub data Place : Type 0 where
   Source : Place
   Buffer : (node port : ℕ) → Place
   Link : (node port : ℕ) → Place
 
--- The places along the nodes of a route to `dst`, the last node first: the buffer by which the route enters the node, then
--- the link before it; at the first node the injection buffer, then the source queue.
+-- The places along the nodes of a route to `dst`, the last node first: the buffer by which the route enters the node,
+-- then the link before it; at the first node the injection buffer, then the source queue.
 abbrev pub places_along : List ℕ → ℕ → List ℕ → List Place
 places_along ks dst [] = []
 places_along ks dst (node ∷ []) = Buffer node (2 * length ks) ∷ Source ∷ []
 places_along ks dst (node ∷ before ∷ nodes) =
-    Buffer node (opposite_of (port_of ks before dst)) ∷ Link before (port_of ks before dst) ∷ places_along ks dst (before ∷ nodes)
+    Buffer node (opposite_of (port_of ks before dst)) ∷ Link before (port_of ks before dst) ∷ places_along ks dst
+    (before ∷ nodes)
 
 -- the places of the lanes from `src` to `dst`
 abbrev pub places_of : List ℕ → ℕ → ℕ → List Place
@@ -55,4 +56,5 @@ pub record ArePlaces (ks : List ℕ) (src dst : ℕ) (places : List Place) : Typ
   pub nearest : (port : ℕ) × (back : List Place) × (places ≡ Buffer dst port ∷ back)
   pub moves : (front back : List Place) (place : Place) → places ≡ front ++ place ∷ back → (IsLast dst place → ⊥) →
       (nearer : List Place) × (front ≡ nearer ++ moved_to ks src dst place ∷ [])
-  pub delivers : (front back : List Place) (place : Place) → places ≡ front ++ place ∷ back → IsLast dst place → front ≡ []
+  pub delivers : (front back : List Place) (place : Place) → places ≡ front ++ place ∷ back → IsLast dst place
+      → front ≡ []

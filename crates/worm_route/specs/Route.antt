@@ -1,5 +1,6 @@
 -- Dimension-order routes (Dally and Towles, chapter 8). A route is a whole list of nodes, by their addresses.
-use Rattle.std.specs.Prelude.{ℕ, zero, suc, ◌≡◌, ◌+◌, ◌-◌, cond, nat_lt, nat_le, ◌==◌, List, [], ◌∷◌, ◌++◌, length, take, drop, map, flat_map, slice_index, unwrap_or}
+use Rattle.std.specs.Prelude.{ℕ, zero, suc, ◌≡◌, ◌+◌, ◌-◌, cond, nat_lt, nat_le, ◌==◌, List, [], ◌∷◌, ◌++◌, length}
+use Rattle.std.specs.Prelude.{take, drop, map, flat_map, slice_index, unwrap_or}
 use Rattle.worm_mesh.specs.Address.{address_of, number_of, neighbour_of, Joins}
 
 -- the n numbers from a upwards

@@ -1,14 +1,15 @@
-//! Dimension-order routing on a k-ary n-mesh (Dally and Towles, chapter 8): the lowest dimension in which a node differs from
-//! the destination is corrected first, so a route depends on its source and destination alone, and is as short as any.
+//! Dimension-order routing on a k-ary n-mesh (Dally and Towles, chapter 8): the lowest dimension in which a node
+//! differs from the destination is corrected first, so a route depends on its source and destination alone, and is as
+//! short as any.
 //!
-//! One idea carries it: a route is one list of addresses, written leg by leg, and the code's single hop is shown to walk it.
-//! From the route come the places of a lane, that is of the flits from one source to one destination: the buffers and links
-//! that they pass, from the sink back; and the lane machine, the list of all its flits with a cut between each two places, of
-//! which a hop raises one cut. What a link has to know, whether a route crosses it, is a test by digits that is true exactly
-//! where the route has that hop.
+//! One idea carries it: a route is one list of addresses, written leg by leg, and the code's single hop is shown to
+//! walk it. From the route come the places of a lane, that is of the flits from one source to one destination: the
+//! buffers and links that they pass, from the sink back; and the lane machine, the list of all its flits with a cut
+//! between each two places, of which a hop raises one cut. What a link has to know, whether a route crosses it, is a
+//! test by digits that is true exactly where the route has that hop.
 //!
-//! A route's list is never made in the code: each call looks once at each dimension. Adaptive and randomized routing stand
-//! nowhere here, nor do channels or flits.
+//! A route's list is never made in the code: each call looks once at each dimension. Adaptive and randomized routing
+//! stand nowhere here, nor do channels or flits.
 #![tactic(auto)]
 
 ghost use Rattle.std.specs.Prelude.{◌≡◌, ◌≢◌, ◌+◌, ◌*◌, ◌%◌, ◌<◌, ◌≤◌, ◌==◌, ◌↔◌, if◌then◌else◌, length, IsTrue};
@@ -19,7 +20,8 @@ ghost use Rattle.worm_route.specs.Route.{LeadsOn, hops_of, port_of, route_of, wa
 
 use worm_mesh::Mesh;
 
-/// The port by which the route to `dst` leaves `here`: `2d` is the minus side of dimension `d`, `2d + 1` its plus side. At
+/// The port by which the route to `dst` leaves `here`: `2d` is the minus side of dimension `d`, `2d + 1` its plus side.
+/// At
 /// `dst` itself it is the terminal, twice the number of dimensions. Both are nodes of the mesh.
 pub fn next_port(mesh: &Mesh, here: u8, dst: u8) -> u8
     requires here_in { here < node_count mesh.now }
@@ -46,8 +48,8 @@ pub fn next_port(mesh: &Mesh, here: u8, dst: u8) -> u8
     2 * mesh.dims()
 }
 
-/// How many links the route from `src` to `dst` takes, 0 where they are one node: the sum of the distances of their digits.
-/// Both are nodes of the mesh.
+/// How many links the route from `src` to `dst` takes, 0 where they are one node: the sum of the distances of their
+/// digits. Both are nodes of the mesh.
 pub fn hops(mesh: &Mesh, src: u8, dst: u8) -> u8
     requires src_in { src < node_count mesh.now }
     requires dst_in { dst < node_count mesh.now }
@@ -63,8 +65,9 @@ pub fn hops(mesh: &Mesh, src: u8, dst: u8) -> u8
     hops
 }
 
-/// Whether the route from `src` to `dst` crosses the link that leaves `node` by `port`: whether it has the link's two nodes one
-/// after the other. False for a node or a port that the mesh does not have; `src` and `dst` are nodes of the mesh.
+/// Whether the route from `src` to `dst` crosses the link that leaves `node` by `port`: whether it has the link's two
+/// nodes one after the other. False for a node or a port that the mesh does not have; `src` and `dst` are nodes of the
+/// mesh.
 pub fn crosses(mesh: &Mesh, node: u8, port: u8, src: u8, dst: u8) -> bool
     requires src_in { src < node_count mesh.now }
     requires dst_in { dst < node_count mesh.now }

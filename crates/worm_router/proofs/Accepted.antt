@@ -1,5 +1,6 @@
 -- What a flit that came leaves of its channel.
-use Rattle.std.proofs.Common.{◌≡◌, ◌++◌, ◌∷◌, [], length, length-append, nat_lt, true, arith, Result, Ok, Err, OnOk, IfErr, ap, ◌∙◌, sym}
+use Rattle.std.proofs.Common.{◌≡◌, ◌++◌, ◌∷◌, [], length, length-append, nat_lt, true, arith, Result, Ok, Err, OnOk}
+use Rattle.std.proofs.Common.{IfErr, ap, ◌∙◌, sym}
 use Rattle.std.proofs.lemmas.Bool.Decides.{nat_tests}
 use Rattle.worm_flit.specs.declared.Flit.{Flit}
 use Rattle.worm_router.specs.Router.{ChannelState, put_in}
@@ -12,9 +13,20 @@ pub record IsLeftBy (had now : ChannelState) : Type 0 where
   pub owing : owes now ≡ owes had
   pub state : now.state ≡ had.state
 
-pub put_leaves : (had now : ChannelState) (f : Flit) (put : Result (Unit {0}) Flit) → OnOk put (now ≡ put_in had f) → IfErr put (λ g. (g ≡ f) × (now ≡ had)) → IsLeftBy had now
-put_leaves had now f (Ok u) is err = record { waiting = ap is_waiting is; active = ap is_active is; owing = ap owes is; state = ap (λ (c : ChannelState). c.state) is }
-put_leaves had now f (Err g) ok is = record { waiting = ap is_waiting is.1; active = ap is_active is.1; owing = ap owes is.1; state = ap (λ (c : ChannelState). c.state) is.1 }
+pub put_leaves : (had now : ChannelState) (f : Flit) (put : Result (Unit {0}) Flit) → OnOk put (now ≡ put_in had f)
+    → IfErr put (λ g. (g ≡ f) × (now ≡ had)) → IsLeftBy had now
+put_leaves had now f (Ok u) is err = record {
+  waiting = ap is_waiting is;
+  active = ap is_active is;
+  owing = ap owes is;
+  state = ap (λ (c : ChannelState). c.state) is;
+}
+put_leaves had now f (Err g) ok is = record {
+  waiting = ap is_waiting is.1;
+  active = ap is_active is.1;
+  owing = ap owes is.1;
+  state = ap (λ (c : ChannelState). c.state) is.1;
+}
 
 -- behind others
 pub put_occupied : (had now : ChannelState) (f : Flit) (put : Result (Unit {0}) Flit) → is_occupied had ≡ true

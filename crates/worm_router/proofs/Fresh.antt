@@ -16,7 +16,8 @@ fresh_channel_sound mesh channels depth = record {
   owed_fits = omega arith;
 }
 
-pub fresh_lists : (mesh : List ℕ) (node : ℕ) (channels : List ℕ) (depth count : ℕ) (inputs : List ChannelState) (outputs : List OutRecord)
+pub fresh_lists : (mesh : List ℕ) (node : ℕ) (channels : List ℕ) (depth count : ℕ) (inputs : List ChannelState)
+    (outputs : List OutRecord)
     → node < node_count mesh → depth ≤ 16
     → count ≡ (2 * length mesh + 1) * sum channels
     → inputs ≡ replicate count (fresh_channel depth)
@@ -27,9 +28,16 @@ fresh_lists mesh node channels depth count inputs outputs node_in depth_in count
   depth_in = depth_in;
   all_inputs = rw all_fresh (rw length-replicate counted);
   all_outputs = rw all_free (rw length-replicate counted);
-  inputs_sound = rw all_fresh (All-replicate (IsChannel mesh channels depth) count (fresh_channel depth) (fresh_channel_sound mesh channels depth));
-  credits_fit = rw all_free (All-replicate (λ (o : OutRecord). o.credits ≤ depth) count (free_output depth) (omega arith));
+  inputs_sound = rw all_fresh (All-replicate (IsChannel mesh channels depth) count (fresh_channel depth)
+      (fresh_channel_sound mesh channels depth));
+  credits_fit = rw all_free (All-replicate (λ (o : OutRecord). o.credits ≤ depth) count (free_output depth)
+      (omega arith));
   terminal_full = λ vc below.
-      let within : 2 * length mesh * sum channels + vc < count = let room = mul-add-lt (2 * length mesh) (sum channels) vc (2 * length mesh + 1) (omega arith) below in omega arith in
-      rw (all_free, get_or-replicate count (2 * length mesh * sum channels + vc) (free_output depth) (free_output depth) within) refl;
+      let within : 2 * length mesh * sum channels + vc < count = let room =
+      mul-add-lt (2 * length mesh) (sum channels) vc (2 * length mesh + 1) (omega arith) below in omega arith in
+      rw (
+        all_free,
+        get_or-replicate count (2 * length mesh * sum channels + vc) (free_output depth)
+            (free_output depth) within,
+      ) refl;
 }

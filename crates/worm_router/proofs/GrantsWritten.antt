@@ -1,5 +1,6 @@
 -- Grants written one by one change no port and no channel of the router.
-use Rattle.std.proofs.Common.{◌≡◌, ℕ, zero, suc, false, is_some, ◌==◌, arith, subst, ◌+◌, ◌<◌, ◌≤◌, List, Option, None, Some, fold, IfSome, refl, ap, sym, ◌∙◌}
+use Rattle.std.proofs.Common.{◌≡◌, ℕ, zero, suc, false, is_some, ◌==◌, arith, subst, ◌+◌, ◌<◌, ◌≤◌, List, Option, None}
+use Rattle.std.proofs.Common.{Some, fold, IfSome, refl, ap, sym, ◌∙◌}
 use Rattle.std.specs.List.{range_with_len}
 use Rattle.std.proofs.lemmas.Nat.Bits.{bit_at_above}
 use Rattle.worm_vcalloc.specs.Arbiter.{line_requests}
@@ -58,35 +59,43 @@ port_written old here now grants port m before next is stays = record {
 }
 
 -- a place of the one is a place of the other
-pub place_stays : (old new : RouterState) (port vc : ℕ) → IsSameSize old new → port ≤ terminal old → vc < width old → IsPlace new port vc
+pub place_stays : (old new : RouterState) (port vc : ℕ) → IsSameSize old new → port ≤ terminal old → vc < width old
+    → IsPlace new port vc
 place_stays old new port vc same port_in vc_in = record {
   port_in = rw same.same_mesh port_in;
   channel_in = rw same.same_channels vc_in;
 }
 
-pub granted_within : (old new : RouterState) (grants : List (List (Option ℕ))) (port vc : ℕ) (granted : Option ℕ) → IsSameSize old new → GrantsWithin (width old) grants
+pub granted_within : (old new : RouterState) (grants : List (List (Option ℕ))) (port vc : ℕ) (granted : Option ℕ)
+    → IsSameSize old new → GrantsWithin (width old) grants
     → granted ≡ cell grants port vc None → IfSome granted (λ c. c < width new)
 granted_within old new grants port vc None same within is = tt
 granted_within old new grants port vc (Some c) same within is = rw same.same_channels (within port vc c (sym is))
 
 pub written_port : (old new : RouterState) (grants : List (List (Option ℕ))) (port n : ℕ) → n ≡ width old
-    → HasWritten old new (fold (λ s v. written s port v (cell grants port v None)) old (range_with_len 0 n)) → new ≡ with_port_grants grants old port
+    → HasWritten old new (fold (λ s v. written s port v (cell grants port v None)) old (range_with_len 0 n))
+    → new ≡ with_port_grants grants old port
 unfolding with_port_grants
-written_port old new grants port n all has = has.so_far ∙ ap (λ m. fold (λ s v. written s port v (cell grants port v None)) old (range_with_len 0 m)) all
+written_port old new grants port n all has =
+    has.so_far ∙ ap (λ m. fold (λ s v. written s port v (cell grants port v None)) old (range_with_len 0 m)) all
 
 pub written_all : (old new : RouterState) (grants : List (List (Option ℕ))) (n : ℕ) → n ≡ terminal old + 1
     → HasWritten old new (fold (with_port_grants grants) old (range_with_len 0 n)) → new ≡ with_grants grants old
 unfolding with_grants
-written_all old new grants n all has = has.so_far ∙ ap (λ m. fold (with_port_grants grants) old (range_with_len 0 m)) all
+written_all old new grants n all has = has.so_far
+    ∙ ap (λ m. fold (with_port_grants grants) old (range_with_len 0 m)) all
 
 -- ---- a port without a grant
 
-fold_same_below : {X : Type 0} (step : X → ℕ → X) (x : X) (n from : ℕ) → ((k : ℕ) → k < from + n → step x k ≡ x) → fold step x (range_with_len from n) ≡ x
+fold_same_below : {X : Type 0} (step : X → ℕ → X) (x : X) (n from : ℕ) → ((k : ℕ) → k < from + n → step x k ≡ x)
+    → fold step x (range_with_len from n) ≡ x
 fold_same_below step x zero from same = refl
 fold_same_below step x (suc n) from same =
-    ap (λ y. fold step y (range_with_len (from + 1) n)) (same from (omega arith)) ∙ fold_same_below step x n (from + 1) (λ k below. same k (omega arith))
+    ap (λ y. fold step y (range_with_len (from + 1) n)) (same from (omega arith))
+    ∙ fold_same_below step x n (from + 1) (λ k below. same k (omega arith))
 
-pub port_without : (r s : RouterState) (grants : List (List (Option ℕ))) (keys lines port n : ℕ) → r ≡ s → n ≡ width r → width r ≤ 8 → port < 7
+pub port_without : (r s : RouterState) (grants : List (List (Option ℕ))) (keys lines port n : ℕ) → r ≡ s → n ≡ width r
+    → width r ≤ 8 → port < 7
     → ((p v : ℕ) → p < 7 → v < 8 → has keys p v ≡ is_some (cell grants p v None))
     → ((k : ℕ) → k < n → line_requests lines k ≡ has keys port k) → lines ≡ 0 → s ≡ with_port_grants grants s port
 unfolding with_port_grants
@@ -95,7 +104,9 @@ port_without r s grants keys lines port n same all few port_in are rows none =
     let narrow : width s ≤ 8 = subst (λ (q : RouterState). width q ≤ 8) same few in
     sym (fold_same_below (λ q vc. written q port vc (cell grants port vc None)) s (width s) 0 (λ k below.
     let k_in : k < n = omega arith in
-    let empty : has keys port k ≡ false = sym (rows k k_in) ∙ ap (λ l. line_requests l k) none ∙ ap (λ b. b == 1) (bit_at_above 0 0 k (omega arith) (omega arith)) in
+    let empty : has keys port k ≡ false =
+    sym (rows k k_in) ∙ ap (λ l. line_requests l k) none
+    ∙ ap (λ b. b == 1) (bit_at_above 0 0 k (omega arith) (omega arith)) in
     ap (written s port k) (not_some (cell grants port k None) (sym (are port k port_in (omega arith)) ∙ empty)))) where
       not_some : (o : Option ℕ) → is_some o ≡ false → o ≡ None
       not_some None e = refl

@@ -1,5 +1,6 @@
 -- Each channel that holds an output channel is its holder, and what keeps that so.
-use Rattle.std.proofs.Common.{◌≡◌, ℕ, ◌+◌, ◌*◌, ◌<◌, ◌≤◌, Bool, true, false, if◌then◌else◌, inl, inr, slice_set, slice_index_or, replicate, Option, None, Some, All, IfSome, arith, ap, sym, ◌∙◌, subst}
+use Rattle.std.proofs.Common.{◌≡◌, ℕ, ◌+◌, ◌*◌, ◌<◌, ◌≤◌, Bool, true, false, if◌then◌else◌, inl, inr, slice_set}
+use Rattle.std.proofs.Common.{slice_index_or, replicate, Option, None, Some, All, IfSome, arith, ap, sym, ◌∙◌, subst}
 use Rattle.std.proofs.lemmas.Grind.{get_or-set_at}
 use Rattle.std.proofs.lemmas.Bool.{cases_eq}
 use Rattle.std.proofs.lemmas.Nat.{same_from_place}
@@ -7,7 +8,8 @@ use Rattle.std.proofs.lemmas.List.{get_or-set_other}
 use Rattle.std.proofs.lemmas.List.Elements.{All-set, All-get_or, All-replicate}
 use Rattle.worm_records.specs.declared.InRecord.TheVariants.{Idle, Active}
 use Rattle.worm_records.specs.declared.OutRecord.{OutRecord}
-use Rattle.worm_router.specs.Router.{RouterState, ChannelState, terminal, width, line, fresh_channel, free_output, input_at}
+use Rattle.worm_router.specs.Router.{RouterState, ChannelState, terminal, width, line, fresh_channel, free_output}
+use Rattle.worm_router.specs.Router.{input_at}
 use Rattle.worm_router.specs.Busy.{AreHolders, IsHolder}
 use Rattle.worm_router.proofs.NothingReady.{get_or-replicate_same}
 use Rattle.worm_router.proofs.Places.{IsInput, IsOutput, same_at}
@@ -20,9 +22,13 @@ holders_in r port vc i had now input before are = record {
   held = λ p v o c p_in v_in holds. elim (cases_eq (line r p v) i) [
     | inl same ↦
         let now_is = get_or-set_at r.inputs i (line r p v) now (fresh_channel r.depth) same input.within in
-        let was : had ≡ input_at r p v = input.was ∙ ap (λ k. slice_index_or r.inputs k (fresh_channel r.depth)) (sym same) in
-        are.held p v o c p_in v_in (sym (ap (λ (x : ChannelState). x.state) was) ∙ before o c (sym (ap (λ (x : ChannelState). x.state) now_is) ∙ holds))
-    | inr other ↦ are.held p v o c p_in v_in (sym (ap (λ (x : ChannelState). x.state) (get_or-set_other r.inputs i (line r p v) now (fresh_channel r.depth) other)) ∙ holds)
+        let was : had ≡ input_at r p v = input.was
+        ∙ ap (λ k. slice_index_or r.inputs k (fresh_channel r.depth)) (sym same) in
+        are.held p v o c p_in v_in (sym (ap (λ (x : ChannelState). x.state) was)
+        ∙ before o c (sym (ap (λ (x : ChannelState). x.state) now_is) ∙ holds))
+    | inr other ↦ are.held p v o c p_in v_in
+        (sym (ap (λ (x : ChannelState). x.state)
+        (get_or-set_other r.inputs i (line r p v) now (fresh_channel r.depth) other)) ∙ holds)
   ];
   fit = are.fit;
 }
@@ -32,15 +38,19 @@ pub holders_out : (r : RouterState) (out vc o : ℕ) (had u : OutRecord) → IsO
     → AreHolders r → AreHolders (record r { outputs = slice_set r.outputs o u })
 holders_out r out vc o had u output same are = record {
   held = λ p v q c p_in v_in holds.
-      same_at (λ (w : OutRecord). w.holder) r.outputs o (line r q c) u (free_output r.depth) output.within (same ∙ ap (λ (w : OutRecord). w.holder) output.was)
+      same_at (λ (w : OutRecord). w.holder) r.outputs o (line r q c) u (free_output r.depth) output.within
+      (same ∙ ap (λ (w : OutRecord). w.holder) output.was)
       ∙ are.held p v q c p_in v_in holds;
   fit = All-set (λ (w : OutRecord). IsHolder (terminal r) (width r) w.holder) r.outputs o u
-      (subst (IsHolder (terminal r) (width r)) (sym (same ∙ ap (λ (w : OutRecord). w.holder) output.was)) (All-get_or (λ (w : OutRecord). IsHolder (terminal r) (width r) w.holder) r.outputs o (free_output r.depth) output.within are.fit))
+      (subst (IsHolder (terminal r) (width r)) (sym (same ∙ ap (λ (w : OutRecord). w.holder) output.was))
+      (All-get_or (λ (w : OutRecord). IsHolder (terminal r) (width r) w.holder) r.outputs o
+      (free_output r.depth) output.within are.fit))
       are.fit;
 }
 
 -- a channel is granted a free output channel
-pub holders_held : (r : RouterState) (port vc i out out_vc o : ℕ) (had now : ChannelState) (had_out u : OutRecord) → IsInput r port vc i had → IsOutput r out out_vc o had_out
+pub holders_held : (r : RouterState) (port vc i out out_vc o : ℕ) (had now : ChannelState) (had_out u : OutRecord)
+    → IsInput r port vc i had → IsOutput r out out_vc o had_out
     → now.state ≡ Active out out_vc → had_out.holder ≡ None → u.holder ≡ Some (port, vc)
     → AreHolders r → AreHolders (record r { inputs = slice_set r.inputs i now; outputs = slice_set r.outputs o u })
 holders_held r port vc i out out_vc o had now had_out u input output granted free takes are = record {
@@ -48,19 +58,26 @@ holders_held r port vc i out out_vc o had now had_out u input output granted fre
     | inl same ↦
         let at = same_from_place p v port vc (width r) v_in input.place.channel_in (same ∙ input.at) in
         let now_is = get_or-set_at r.inputs i (line r p v) now (fresh_channel r.depth) same input.within in
-        let it : Active out out_vc ≡ Active q c = sym granted ∙ sym (ap (λ (x : ChannelState). x.state) now_is) ∙ holds in
+        let it : Active out out_vc ≡ Active q c =
+        sym granted ∙ sym (ap (λ (x : ChannelState). x.state) now_is) ∙ holds in
         let out_is : q ≡ out = cc in
         let vc_is : c ≡ out_vc = cc in
-        let here : line r q c ≡ o = ap (λ k. k * width r + c) out_is ∙ ap (λ k. out * width r + k) vc_is ∙ sym output.at in
-        ap (λ (w : OutRecord). w.holder) (get_or-set_at r.outputs o (line r q c) u (free_output r.depth) here output.within)
+        let here : line r q c ≡ o = ap (λ k. k * width r + c) out_is ∙ ap (λ k. out * width r + k) vc_is
+        ∙ sym output.at in
+        ap (λ (w : OutRecord). w.holder) (get_or-set_at r.outputs o (line r q c) u
+        (free_output r.depth) here output.within)
         ∙ takes ∙ ap (λ k. Some (k, vc)) (sym at.0) ∙ ap (λ k. Some (p, k)) (sym at.1)
     | inr other ↦
-        let held = are.held p v q c p_in v_in (sym (ap (λ (x : ChannelState). x.state) (get_or-set_other r.inputs i (line r p v) now (fresh_channel r.depth) other)) ∙ holds) in
+        let held = are.held p v q c p_in v_in
+        (sym (ap (λ (x : ChannelState). x.state)
+        (get_or-set_other r.inputs i (line r p v) now (fresh_channel r.depth) other)) ∙ holds) in
         elim (cases_eq (line r q c) o) [
           | inl here ↦
-              let unlike : None ≡ Some (p, v) = sym free ∙ ap (λ (w : OutRecord). w.holder) output.was ∙ ap (λ k. (slice_index_or r.outputs k (free_output r.depth)).holder) (sym here) ∙ held in
+              let unlike : None ≡ Some (p, v) = sym free ∙ ap (λ (w : OutRecord). w.holder) output.was
+              ∙ ap (λ k. (slice_index_or r.outputs k (free_output r.depth)).holder) (sym here) ∙ held in
               absurd (cc)
-          | inr away ↦ ap (λ (w : OutRecord). w.holder) (get_or-set_other r.outputs o (line r q c) u (free_output r.depth) away) ∙ held
+          | inr away ↦ ap (λ (w : OutRecord). w.holder)
+              (get_or-set_other r.outputs o (line r q c) u (free_output r.depth) away) ∙ held
         ]
   ];
   fit = All-set (λ (w : OutRecord). IsHolder (terminal r) (width r) w.holder) r.outputs o u
@@ -68,7 +85,8 @@ holders_held r port vc i out out_vc o had now had_out u input output granted fre
 }
 
 -- a closing flit frees both
-pub holders_freed : (r : RouterState) (port vc i out out_vc o : ℕ) (had now : ChannelState) (had_out u : OutRecord) → IsInput r port vc i had → IsOutput r out out_vc o had_out
+pub holders_freed : (r : RouterState) (port vc i out out_vc o : ℕ) (had now : ChannelState) (had_out u : OutRecord)
+    → IsInput r port vc i had → IsOutput r out out_vc o had_out
     → had.state ≡ Active out out_vc → now.state ≡ Idle → u.holder ≡ None
     → AreHolders r → AreHolders (record r { inputs = slice_set r.inputs i now; outputs = slice_set r.outputs o u })
 holders_freed r port vc i out out_vc o had now had_out u input output held_it idle free are = record {
@@ -78,47 +96,70 @@ holders_freed r port vc i out out_vc o had now had_out u input output held_it id
         let unlike : Idle ≡ Active q c = sym idle ∙ sym (ap (λ (x : ChannelState). x.state) now_is) ∙ holds in
         absurd (cc)
     | inr other ↦
-        let held = are.held p v q c p_in v_in (sym (ap (λ (x : ChannelState). x.state) (get_or-set_other r.inputs i (line r p v) now (fresh_channel r.depth) other)) ∙ holds) in
+        let held = are.held p v q c p_in v_in
+        (sym (ap (λ (x : ChannelState). x.state)
+        (get_or-set_other r.inputs i (line r p v) now (fresh_channel r.depth) other)) ∙ holds) in
         elim (cases_eq (line r q c) o) [
           | inl here ↦
-              let was : had ≡ input_at r port vc = input.was ∙ ap (λ k. slice_index_or r.inputs k (fresh_channel r.depth)) input.at in
-              let its = are.held port vc out out_vc input.place.port_in input.place.channel_in (sym (ap (λ (x : ChannelState). x.state) was) ∙ held_it) in
-              let both : Some (p, v) ≡ Some (port, vc) = sym held ∙ ap (λ k. (slice_index_or r.outputs k (free_output r.depth)).holder) (here ∙ output.at) ∙ its in
+              let was : had ≡ input_at r port vc =
+              input.was ∙ ap (λ k. slice_index_or r.inputs k (fresh_channel r.depth)) input.at in
+              let its = are.held port vc out out_vc input.place.port_in input.place.channel_in
+              (sym (ap (λ (x : ChannelState). x.state) was) ∙ held_it) in
+              let both : Some (p, v) ≡ Some (port, vc) =
+              sym held ∙ ap (λ k. (slice_index_or r.outputs k (free_output r.depth)).holder) (here ∙ output.at)
+              ∙ its in
               let pair : (p, v) ≡ (port, vc) = cc in
               let port_is : p ≡ port = ap (λ (k : ℕ × ℕ). k.0) pair in
               let vc_is : v ≡ vc = ap (λ (k : ℕ × ℕ). k.1) pair in
               absurd (other (ap (λ k. k * width r + v) port_is ∙ ap (λ k. port * width r + k) vc_is ∙ sym input.at))
-          | inr away ↦ ap (λ (w : OutRecord). w.holder) (get_or-set_other r.outputs o (line r q c) u (free_output r.depth) away) ∙ held
+          | inr away ↦ ap (λ (w : OutRecord). w.holder)
+              (get_or-set_other r.outputs o (line r q c) u (free_output r.depth) away) ∙ held
         ]
   ];
-  fit = All-set (λ (w : OutRecord). IsHolder (terminal r) (width r) w.holder) r.outputs o u (subst (IsHolder (terminal r) (width r)) (sym free) tt) are.fit;
+  fit = All-set (λ (w : OutRecord). IsHolder (terminal r) (width r) w.holder) r.outputs o u
+      (subst (IsHolder (terminal r) (width r)) (sym free) tt) are.fit;
 }
 
 -- none holds, where all are fresh
-pub fresh_holders : (r : RouterState) (count : ℕ) → r.inputs ≡ replicate count (fresh_channel r.depth) → r.outputs ≡ replicate count (free_output r.depth) → AreHolders r
+pub fresh_holders : (r : RouterState) (count : ℕ) → r.inputs ≡ replicate count (fresh_channel r.depth)
+    → r.outputs ≡ replicate count (free_output r.depth) → AreHolders r
 fresh_holders r count all free = record {
   held = λ p v o c p_in v_in holds.
-      let unlike : Idle ≡ Active o c = sym (ap (λ (x : ChannelState). x.state) (ap (λ l. slice_index_or l (line r p v) (fresh_channel r.depth)) all ∙ get_or-replicate_same count (line r p v) (fresh_channel r.depth))) ∙ holds in
+      let unlike : Idle ≡ Active o c = sym (ap (λ (x : ChannelState). x.state)
+      (ap (λ l. slice_index_or l (line r p v) (fresh_channel r.depth)) all
+      ∙ get_or-replicate_same count (line r p v) (fresh_channel r.depth))) ∙ holds in
       absurd (cc);
-  fit = subst (All (λ (w : OutRecord). IsHolder (terminal r) (width r) w.holder)) (sym free) (All-replicate (λ (w : OutRecord). IsHolder (terminal r) (width r) w.holder) count (free_output r.depth) tt);
+  fit = subst (All (λ (w : OutRecord). IsHolder (terminal r) (width r) w.holder)) (sym free)
+      (All-replicate (λ (w : OutRecord). IsHolder (terminal r) (width r) w.holder) count (free_output r.depth) tt);
 }
 
 -- a flit that left: where it closed both are free, and otherwise all is held as before
-pub holders_left : (r : RouterState) (port vc i out out_vc o : ℕ) (had now : ChannelState) (had_out u : OutRecord) (closed : Bool) → IsInput r port vc i had → IsOutput r out out_vc o had_out
-    → had.state ≡ Active out out_vc → now.state ≡ (if closed then Idle else had.state) → u.holder ≡ (if closed then None else had_out.holder)
+pub holders_left : (r : RouterState) (port vc i out out_vc o : ℕ) (had now : ChannelState) (had_out u : OutRecord)
+    (closed : Bool) → IsInput r port vc i had → IsOutput r out out_vc o had_out
+    → had.state ≡ Active out out_vc → now.state ≡ (if closed then Idle else had.state)
+    → u.holder ≡ (if closed then None else had_out.holder)
     → AreHolders r → AreHolders (record r { inputs = slice_set r.inputs i now; outputs = slice_set r.outputs o u })
-holders_left r port vc i out out_vc o had now had_out u true input output held_it idle free are = holders_freed r port vc i out out_vc o had now had_out u input output held_it idle free are
+holders_left r port vc i out out_vc o had now had_out u true input output held_it idle free are =
+    holders_freed r port vc i out out_vc o had now had_out u input output held_it idle free are
 holders_left r port vc i out out_vc o had now had_out u false input output held_it same kept are =
     holders_out (record r { inputs = slice_set r.inputs i now }) out out_vc o had_out u
-    (record { place = record { port_in = output.place.port_in; channel_in = output.place.channel_in }; at = output.at; within = output.within; was = output.was }) kept
+    (record {
+      place = record { port_in = output.place.port_in; channel_in = output.place.channel_in };
+      at = output.at;
+      within = output.within;
+      was = output.was;
+    }) kept
     (holders_in r port vc i had now input (λ q c holds. sym same ∙ holds) are)
 
 -- the places of holders are there
-pub holder_places : (r : RouterState) (out vc o : ℕ) (had : OutRecord) (was_out : Bool) → IsOutput r out vc o had → AreHolders r → terminal r ≤ 6 → width r ≤ 8
+pub holder_places : (r : RouterState) (out vc o : ℕ) (had : OutRecord) (was_out : Bool) → IsOutput r out vc o had
+    → AreHolders r → terminal r ≤ 6 → width r ≤ 8
     → IfSome (if was_out then had.holder else None) (λ h. (h.0 < 7) × (h.1 < 8))
 holder_places r out vc o had false output are few_ports few_channels = tt
 holder_places r out vc o had true output are few_ports few_channels =
-    by_holder had.holder (subst (IsHolder (terminal r) (width r)) (sym (ap (λ (w : OutRecord). w.holder) output.was)) (All-get_or (λ (w : OutRecord). IsHolder (terminal r) (width r) w.holder) r.outputs o (free_output r.depth) output.within are.fit)) where
+    by_holder had.holder (subst (IsHolder (terminal r) (width r)) (sym (ap (λ (w : OutRecord). w.holder) output.was))
+    (All-get_or (λ (w : OutRecord). IsHolder (terminal r) (width r) w.holder) r.outputs o
+    (free_output r.depth) output.within are.fit)) where
       by_holder : (h : Option (ℕ × ℕ)) → IsHolder (terminal r) (width r) h → IfSome h (λ h. (h.0 < 7) × (h.1 < 8))
       by_holder None fits = tt
       by_holder (Some h) fits = let a = fits.0 in let b = fits.1 in (omega arith, omega arith)

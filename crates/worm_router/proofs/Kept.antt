@@ -1,5 +1,7 @@
 -- What a change of one input channel and one output channel leaves sound.
-use Rattle.std.proofs.Common.{ℕ, ◌+◌, ◌-◌, ◌*◌, ◌≤◌, ◌<◌, ◌≡◌, List, [], ◌∷◌, All, Result, Ok, Err, IsOk, OnOk, IfErr, length, length-append, drop, sum, slice_set, get_or, Bool, true, false, arith, inl, inr, refl, sym, subst, ap, ◌∙◌, if◌then◌else◌}
+use Rattle.std.proofs.Common.{ℕ, ◌+◌, ◌-◌, ◌*◌, ◌≤◌, ◌<◌, ◌≡◌, List, [], ◌∷◌, All, Result, Ok, Err, IsOk, OnOk, IfErr}
+use Rattle.std.proofs.Common.{length, length-append, drop, sum, slice_set, get_or, Bool, true, false, arith, inl, inr}
+use Rattle.std.proofs.Common.{refl, sym, subst, ap, ◌∙◌, if◌then◌else◌}
 use Rattle.std.proofs.Math.ListN.{length-set}
 use Rattle.std.proofs.lemmas.Grind.{common_steps, elements, get_or-set_at}
 use Rattle.std.proofs.lemmas.Bool.{cases_eq, eq-eqb}
@@ -12,13 +14,16 @@ use Rattle.worm_mesh.specs.Address.{node_count}
 use Rattle.worm_records.specs.declared.InRecord.{InRecord}
 use Rattle.worm_records.specs.declared.InRecord.TheVariants.{Idle, Waiting}
 use Rattle.worm_records.specs.declared.OutRecord.{OutRecord}
-use Rattle.worm_router.specs.Router.{HasLists, IsChannel, ChannelState, StateFits, RouterState, terminal, width, credit_of, free_output, fresh_channel, line, input_at, put_in, in_state, let_out}
+use Rattle.worm_router.specs.Router.{HasLists, IsChannel, ChannelState, StateFits, RouterState, terminal, width}
+use Rattle.worm_router.specs.Router.{credit_of, free_output, fresh_channel, line, input_at, put_in, in_state, let_out}
 
-pub both_set_sound : (mesh : List ℕ) (node : ℕ) (channels : List ℕ) (depth : ℕ) (inputs : List ChannelState) (outputs : List OutRecord) (i o : ℕ) (c : ChannelState) (u : OutRecord)
+pub both_set_sound : (mesh : List ℕ) (node : ℕ) (channels : List ℕ) (depth : ℕ) (inputs : List ChannelState)
+    (outputs : List OutRecord) (i o : ℕ) (c : ChannelState) (u : OutRecord)
     → HasLists mesh node channels depth inputs outputs
     → IsChannel mesh channels depth c
     → u.credits ≤ depth
-    → ((vc : ℕ) → vc < sum channels → (get_or (slice_set outputs o u) (2 * length mesh * sum channels + vc) (free_output depth)).credits ≡ depth)
+    → ((vc : ℕ) → vc < sum channels → (get_or (slice_set outputs o u) (2 * length mesh * sum channels + vc)
+    (free_output depth)).credits ≡ depth)
     → HasLists mesh node channels depth (slice_set inputs i c) (slice_set outputs o u)
 both_set_sound mesh node channels depth inputs outputs i o c u sound channel_sound fits full = record {
   node_in = sound.node_in;
@@ -30,7 +35,8 @@ both_set_sound mesh node channels depth inputs outputs i o c u sound channel_sou
   terminal_full = full;
 }
 
-idle_or_same : (closing : Bool) (terminal width : ℕ) (s : InRecord) → StateFits terminal width s → StateFits terminal width (if closing then Idle else s)
+idle_or_same : (closing : Bool) (terminal width : ℕ) (s : InRecord) → StateFits terminal width s
+    → StateFits terminal width (if closing then Idle else s)
 idle_or_same true terminal width s fits = tt
 idle_or_same false terminal width s fits = fits
 
@@ -38,7 +44,8 @@ pub let_out_sound : (mesh channels : List ℕ) (depth : ℕ) (c : ChannelState) 
     → IsChannel mesh channels depth c → c.owed + more ≤ depth → IsChannel mesh channels depth (let_out c f more)
 let_out_sound mesh channels depth c f more sound room = record {
   same_depth = sound.same_depth;
-  fits = let less : length (drop 1 c.buffer) ≤ length c.buffer = grind (arith, common_steps) in let fits = sound.fits in omega arith;
+  fits = let less : length (drop 1 c.buffer) ≤ length c.buffer = grind (arith, common_steps) in let fits = sound.fits in
+      omega arith;
   bound_for_nodes = let all = sound.bound_for_nodes in grind (arith, elements);
   state_fits = idle_or_same (closes f.kind) (2 * length mesh) (sum channels) c.state sound.state_fits;
   owed_fits = room;
@@ -58,7 +65,8 @@ full_after outputs t w depth o u d within full here vc below =
 
 -- what was read at an index of the terminal has all credits
 pub full_before : (outputs : List OutRecord) (i o depth : ℕ) (had d : OutRecord)
-    → o < length outputs → had ≡ get_or outputs o had → i ≡ o → (get_or outputs i d).credits ≡ depth → had.credits ≡ depth
+    → o < length outputs → had ≡ get_or outputs o had → i ≡ o → (get_or outputs i d).credits ≡ depth
+    → had.credits ≡ depth
 full_before outputs i o depth had d within read same full =
     let e : (get_or outputs o d).credits ≡ depth = subst (λ k. (get_or outputs k d).credits ≡ depth) same full in
     ap (λ (v : OutRecord). v.credits) (read ∙ get_or_default outputs o had d within) ∙ e
@@ -75,8 +83,10 @@ no_credit r out v t w vc place spent v_in is_terminal is_width vc_in same is_pla
     is_spent ∙ rw (eq-eqb out (terminal r) e) refl
 
 -- a write of one input channel
-pub input_set_sound : (mesh : List ℕ) (node : ℕ) (channels : List ℕ) (depth : ℕ) (inputs : List ChannelState) (outputs : List OutRecord) (i : ℕ) (c : ChannelState)
-    → HasLists mesh node channels depth inputs outputs → IsChannel mesh channels depth c → HasLists mesh node channels depth (slice_set inputs i c) outputs
+pub input_set_sound : (mesh : List ℕ) (node : ℕ) (channels : List ℕ) (depth : ℕ) (inputs : List ChannelState)
+    (outputs : List OutRecord) (i : ℕ) (c : ChannelState)
+    → HasLists mesh node channels depth inputs outputs → IsChannel mesh channels depth c
+    → HasLists mesh node channels depth (slice_set inputs i c) outputs
 input_set_sound mesh node channels depth inputs outputs i c sound channel_sound = record {
   node_in = sound.node_in;
   depth_in = sound.depth_in;
@@ -88,14 +98,19 @@ input_set_sound mesh node channels depth inputs outputs i c sound channel_sound 
 }
 
 -- an input channel that was read at a place
-pub input_read : (r s : RouterState) (port vc i : ℕ) (had : ChannelState) → r ≡ s → had ≡ get_or r.inputs i had → i ≡ line s port vc → i < length s.inputs → had ≡ input_at s port vc
+pub input_read : (r s : RouterState) (port vc i : ℕ) (had : ChannelState) → r ≡ s → had ≡ get_or r.inputs i had
+    → i ≡ line s port vc → i < length s.inputs → had ≡ input_at s port vc
 input_read r s port vc i had same read place within =
-    read ∙ ap (λ (q : RouterState). get_or q.inputs i had) same ∙ get_or_default s.inputs i had (fresh_channel s.depth) within ∙ ap (λ k. get_or s.inputs k (fresh_channel s.depth)) place
+    read ∙ ap (λ (q : RouterState). get_or q.inputs i had) same
+    ∙ get_or_default s.inputs i had (fresh_channel s.depth) within
+    ∙ ap (λ k. get_or s.inputs k (fresh_channel s.depth)) place
 
 pub read_sound : (mesh channels : List ℕ) (depth : ℕ) (inputs : List ChannelState) (i : ℕ) (had : ChannelState)
-    → had ≡ get_or inputs i had → i < length inputs → All (IsChannel mesh channels depth) inputs → IsChannel mesh channels depth had
+    → had ≡ get_or inputs i had → i < length inputs → All (IsChannel mesh channels depth) inputs
+    → IsChannel mesh channels depth had
 read_sound mesh channels depth inputs i had read within all =
-    subst (IsChannel mesh channels depth) (sym read) (All-get_or (IsChannel mesh channels depth) inputs i had within all)
+    subst (IsChannel mesh channels depth) (sym read)
+    (All-get_or (IsChannel mesh channels depth) inputs i had within all)
 
 pub put_sound : (mesh channels : List ℕ) (depth : ℕ) (had now : ChannelState) (f : Flit) (put : Result (Unit {0}) Flit)
     → IsChannel mesh channels depth had → f.lane.dst < node_count mesh → (IsOk put → length had.buffer < had.depth)
@@ -109,9 +124,11 @@ put_sound mesh channels depth had now f (Ok u) sound bound room is err =
       state_fits = sound.state_fits;
       owed_fits = sound.owed_fits;
     }
-put_sound mesh channels depth had now f (Err g) sound bound room ok is = subst (IsChannel mesh channels depth) (sym is.1) sound
+put_sound mesh channels depth had now f (Err g) sound bound room ok is =
+    subst (IsChannel mesh channels depth) (sym is.1) sound
 
-pub waiting_sound : (mesh channels : List ℕ) (depth : ℕ) (had now : ChannelState) (out : ℕ) → IsChannel mesh channels depth had → out ≤ 2 * length mesh
+pub waiting_sound : (mesh channels : List ℕ) (depth : ℕ) (had now : ChannelState) (out : ℕ)
+    → IsChannel mesh channels depth had → out ≤ 2 * length mesh
     → now ≡ in_state had (Waiting out) → IsChannel mesh channels depth now
 waiting_sound mesh channels depth had now out sound within is = subst (IsChannel mesh channels depth) (sym is) record {
   same_depth = sound.same_depth;

@@ -1,15 +1,18 @@
 -- A pass of the channel allocator in which no channel may use a free output channel leaves the router as it is.
-use Rattle.std.proofs.Common.{◌≡◌, ℕ, ◌+◌, ◌/◌, ◌%◌, ◌&&◌, Bool, true, false, cond, List, [], ◌∷◌, Option, None, Some, fold, find, replicate, is_none, refl, ap, sym, ◌∙◌, inl, inr}
+use Rattle.std.proofs.Common.{◌≡◌, ℕ, ◌+◌, ◌/◌, ◌%◌, ◌&&◌, Bool, true, false, cond, List, [], ◌∷◌, Option, None, Some}
+use Rattle.std.proofs.Common.{fold, find, replicate, is_none, refl, ap, sym, ◌∙◌, inl, inr}
 use Rattle.std.specs.List.{range_with_len}
 use Rattle.std.proofs.lemmas.Bool.{cases_Bool}
 use Rattle.worm_vcalloc.specs.declared.request.VcRequest.{VcRequest}
 use Rattle.worm_vcalloc.specs.VcRequest.{may_use}
 use Rattle.worm_vcalloc.specs.Arbiter.{ArbiterState, no_arbiter, winner, asked_in_order, after_pick}
 use Rattle.worm_vcalloc.specs.Table.{cell, with_cell}
-use Rattle.worm_vcalloc.specs.VcAlloc.{VcPass, IsChannelMatching, is_requester, offered, vc_step, port_pass, vc_pass, with_grant}
+use Rattle.worm_vcalloc.specs.VcAlloc.{VcPass, IsChannelMatching, is_requester, offered, vc_step, port_pass, vc_pass}
+use Rattle.worm_vcalloc.specs.VcAlloc.{with_grant}
 use Rattle.worm_vcalloc.proofs.TableLemmas.{with_cell_same, cell-replicate}
 use Rattle.worm_router.specs.Router.{RouterState, terminal, width}
-use Rattle.worm_router.specs.Allocation.{requests, free_channels, channel_pass, written, with_port_grants, with_grants, after_allocate}
+use Rattle.worm_router.specs.Allocation.{requests, free_channels, channel_pass, written, with_port_grants, with_grants}
+use Rattle.worm_router.specs.Allocation.{after_allocate}
 
 -- steps that each leave what there is leave it together
 pub fold_same : {X : Type 0} (step : X → ℕ → X) (x : X) (ns : List ℕ) → ((n : ℕ) → step x n ≡ x) → fold step x ns ≡ x
@@ -22,7 +25,8 @@ find_none asks (n ∷ ns) none = rw none (find_none asks ns none)
 
 -- no request is for a free output channel
 abbrev pub NobodyUses : List (List (Option VcRequest)) → List (List Bool) → Type 0
-NobodyUses waiting free = (out channel p v : ℕ) → cell free out channel false ≡ true → may_use (cell waiting p v None) out channel ≡ false
+NobodyUses waiting free = (out channel p v : ℕ) → cell free out channel false ≡ true
+    → may_use (cell waiting p v None) out channel ≡ false
 
 pub no_winner : (a : ArbiterState) (asks : ℕ → Bool) → ((n : ℕ) → asks n ≡ false) → winner a asks ≡ None
 unfolding winner
@@ -33,29 +37,51 @@ pub offered_to_none : (waiting : List (List (Option VcRequest))) (pass : VcPass)
 unfolding offered
 offered_to_none waiting pass out channel none =
     let a : ArbiterState = cell pass.alloc.arbiters out channel no_arbiter in
-    let asks : ℕ → Bool = λ line. is_requester waiting pass.grants out channel (line / pass.alloc.channels) (line % pass.alloc.channels) in
+    let asks : ℕ → Bool = λ line. is_requester waiting pass.grants out channel (line / pass.alloc.channels)
+    (line % pass.alloc.channels) in
     let nobody : winner a asks ≡ None =
     no_winner a asks (λ line.
     ap (λ (b : Bool). b && is_none (cell pass.grants (line / pass.alloc.channels) (line % pass.alloc.channels) None))
     (none (line / pass.alloc.channels) (line % pass.alloc.channels))) in
     ap
-    (λ line. record { alloc = record { ports = pass.alloc.ports; channels = pass.alloc.channels; arbiters = with_cell pass.alloc.arbiters out channel (after_pick a line) }; grants = with_grant pass.alloc.channels pass.grants channel line })
+    (λ line. record {
+      alloc = record {
+        ports = pass.alloc.ports;
+        channels = pass.alloc.channels;
+        arbiters = with_cell pass.alloc.arbiters out channel (after_pick a line);
+      };
+      grants = with_grant pass.alloc.channels pass.grants channel line;
+    })
     nobody
-    ∙ ap (λ arbiters. record { alloc = record { ports = pass.alloc.ports; channels = pass.alloc.channels; arbiters = arbiters }; grants = pass.grants }) (with_cell_same pass.alloc.arbiters out channel no_arbiter)
+    ∙ ap (λ arbiters. record {
+      alloc = record {
+        ports = pass.alloc.ports;
+        channels = pass.alloc.channels;
+        arbiters = arbiters;
+      };
+      grants = pass.grants;
+    }) (with_cell_same pass.alloc.arbiters out channel no_arbiter)
 
-step_same : (waiting : List (List (Option VcRequest))) (free : List (List Bool)) → NobodyUses waiting free → (pass : VcPass) (out channel : ℕ) → vc_step waiting free out pass channel ≡ pass
+step_same : (waiting : List (List (Option VcRequest))) (free : List (List Bool)) → NobodyUses waiting free
+    → (pass : VcPass) (out channel : ℕ) → vc_step waiting free out pass channel ≡ pass
 step_same waiting free nobody pass out channel = elim (cases_Bool (cell free out channel false)) [
-  | inl is_free ↦ ap (λ b. cond b (offered waiting pass out channel) pass) is_free ∙ offered_to_none waiting pass out channel (λ p v. nobody out channel p v is_free)
+  | inl is_free ↦ ap (λ b. cond b (offered waiting pass out channel) pass) is_free
+      ∙ offered_to_none waiting pass out channel (λ p v. nobody out channel p v is_free)
   | inr is_held ↦ ap (λ b. cond b (offered waiting pass out channel) pass) is_held
 ]
 
-port_same : (waiting : List (List (Option VcRequest))) (free : List (List Bool)) → NobodyUses waiting free → (pass : VcPass) (out : ℕ) → port_pass waiting free pass out ≡ pass
+port_same : (waiting : List (List (Option VcRequest))) (free : List (List Bool)) → NobodyUses waiting free
+    → (pass : VcPass) (out : ℕ) → port_pass waiting free pass out ≡ pass
 unfolding port_pass
-port_same waiting free nobody pass out = fold_same (vc_step waiting free out) pass (range_with_len 0 pass.alloc.channels) (step_same waiting free nobody pass out)
+port_same waiting free nobody pass out =
+    fold_same (vc_step waiting free out) pass (range_with_len 0 pass.alloc.channels)
+    (step_same waiting free nobody pass out)
 
-pass_same : (waiting : List (List (Option VcRequest))) (free : List (List Bool)) → NobodyUses waiting free → (pass : VcPass) → vc_pass waiting free pass ≡ pass
+pass_same : (waiting : List (List (Option VcRequest))) (free : List (List Bool)) → NobodyUses waiting free
+    → (pass : VcPass) → vc_pass waiting free pass ≡ pass
 unfolding vc_pass
-pass_same waiting free nobody pass = fold_same (port_pass waiting free) pass (range_with_len 0 pass.alloc.ports) (port_same waiting free nobody pass)
+pass_same waiting free nobody pass = fold_same (port_pass waiting free) pass (range_with_len 0 pass.alloc.ports)
+    (port_same waiting free nobody pass)
 
 abbrev pub no_grants : List (List (Option ℕ))
 no_grants = replicate 7 (replicate 8 None)
@@ -63,29 +89,37 @@ no_grants = replicate 7 (replicate 8 None)
 abbrev pub NoGrants : List (List (Option ℕ)) → Type 0
 NoGrants grants = (port vc : ℕ) → cell grants port vc None ≡ None
 
-port_ungranted : (grants : List (List (Option ℕ))) → NoGrants grants → (r : RouterState) (port : ℕ) → with_port_grants grants r port ≡ r
+port_ungranted : (grants : List (List (Option ℕ))) → NoGrants grants → (r : RouterState) (port : ℕ)
+    → with_port_grants grants r port ≡ r
 unfolding with_port_grants
 port_ungranted grants none r port =
-    fold_same (λ s vc. written s port vc (cell grants port vc None)) r (range_with_len 0 (width r)) (λ vc. ap (written r port vc) (none port vc))
+    fold_same (λ s vc. written s port vc (cell grants port vc None)) r (range_with_len 0 (width r))
+    (λ vc. ap (written r port vc) (none port vc))
 
 pub ungranted : (grants : List (List (Option ℕ))) → NoGrants grants → (r : RouterState) → with_grants grants r ≡ r
 unfolding with_grants
-ungranted grants none r = fold_same (with_port_grants grants) r (range_with_len 0 (terminal r + 1)) (port_ungranted grants none r)
+ungranted grants none r = fold_same (with_port_grants grants) r (range_with_len 0 (terminal r + 1))
+    (port_ungranted grants none r)
 
 none_granted : NoGrants no_grants
 none_granted port vc = cell-replicate 7 8 port vc None
 
-pub idle_pass : (r : RouterState) → NobodyUses (requests r) (free_channels r) → channel_pass r ≡ record { alloc = r.channel_alloc; grants = no_grants }
-idle_pass r nobody = pass_same (requests r) (free_channels r) nobody (record { alloc = r.channel_alloc; grants = no_grants })
+pub idle_pass : (r : RouterState) → NobodyUses (requests r) (free_channels r)
+    → channel_pass r ≡ record { alloc = r.channel_alloc; grants = no_grants }
+idle_pass r nobody = pass_same (requests r) (free_channels r) nobody
+    (record { alloc = r.channel_alloc; grants = no_grants })
 
 pub idle_allocate : (r : RouterState) → NobodyUses (requests r) (free_channels r) → after_allocate r ≡ r
 idle_allocate r nobody =
     ap (λ (p : VcPass). with_grants p.grants (record r { channel_alloc = p.alloc })) (idle_pass r nobody)
     ∙ ungranted no_grants none_granted r
 
-pub idle_matching : (ports channels : ℕ) (waiting : List (List (Option VcRequest))) (free : List (List Bool)) → NobodyUses waiting free → IsChannelMatching ports channels waiting free no_grants
+pub idle_matching : (ports channels : ℕ) (waiting : List (List (Option VcRequest))) (free : List (List Bool))
+    → NobodyUses waiting free → IsChannelMatching ports channels waiting free no_grants
 idle_matching ports channels waiting free nobody = record {
   requested = λ port vc channel is. let no : None ≡ Some channel = sym (none_granted port vc) ∙ is in absurd (cc);
-  once = λ port vc port' vc' out channel one two. let no : None ≡ Some channel = sym (none_granted port vc) ∙ one.granted in absurd (cc);
-  complete = λ out channel port vc _ _ _ _ is_free asks _. let no : true ≡ false = sym asks ∙ nobody out channel port vc is_free in absurd (cc);
+  once = λ port vc port' vc' out channel one two. let no : None ≡ Some channel =
+      sym (none_granted port vc) ∙ one.granted in absurd (cc);
+  complete = λ out channel port vc _ _ _ _ is_free asks _. let no : true ≡ false =
+      sym asks ∙ nobody out channel port vc is_free in absurd (cc);
 }

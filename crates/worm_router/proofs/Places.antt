@@ -20,7 +20,8 @@ pub record IsOutput (r : RouterState) (out vc o : ℕ) (had : OutRecord) : Type 
   pub within : o < length r.outputs
   pub was : had ≡ get_or r.outputs o (free_output r.depth)
 
-pub input_of : (r s : RouterState) (port vc i : ℕ) (had : ChannelState) → r ≡ s → IsPlace s port vc → i ≡ line s port vc → i < length s.inputs
+pub input_of : (r s : RouterState) (port vc i : ℕ) (had : ChannelState) → r ≡ s → IsPlace s port vc → i ≡ line s port vc
+    → i < length s.inputs
     → had ≡ get_or r.inputs i had → IsInput r port vc i had
 input_of r s port vc i had same place at within read =
     let here : i < length r.inputs = subst (λ (q : RouterState). i < length q.inputs) (sym same) within in
@@ -31,7 +32,8 @@ input_of r s port vc i had same place at within read =
       was = read ∙ get_or_default r.inputs i had (fresh_channel r.depth) here;
     }
 
-pub output_of : (r s : RouterState) (out vc o : ℕ) (had : OutRecord) → r ≡ s → IsPlace s out vc → o ≡ line s out vc → o < length s.outputs
+pub output_of : (r s : RouterState) (out vc o : ℕ) (had : OutRecord) → r ≡ s → IsPlace s out vc → o ≡ line s out vc
+    → o < length s.outputs
     → had ≡ get_or r.outputs o had → IsOutput r out vc o had
 output_of r s out vc o had same place at within read =
     let here : o < length r.outputs = subst (λ (q : RouterState). o < length q.outputs) (sym same) within in
@@ -43,12 +45,16 @@ output_of r s out vc o had same place at within read =
     }
 
 -- an output channel that was read at a place
-pub output_read : (r s : RouterState) (out vc o : ℕ) (had : OutRecord) → r ≡ s → had ≡ get_or r.outputs o had → o ≡ line s out vc → o < length s.outputs → had ≡ output_at s out vc
+pub output_read : (r s : RouterState) (out vc o : ℕ) (had : OutRecord) → r ≡ s → had ≡ get_or r.outputs o had
+    → o ≡ line s out vc → o < length s.outputs → had ≡ output_at s out vc
 output_read r s out vc o had same read at within =
-    read ∙ ap (λ (q : RouterState). get_or q.outputs o had) same ∙ get_or_default s.outputs o had (free_output s.depth) within ∙ ap (λ k. get_or s.outputs k (free_output s.depth)) at
+    read ∙ ap (λ (q : RouterState). get_or q.outputs o had) same
+    ∙ get_or_default s.outputs o had (free_output s.depth) within
+    ∙ ap (λ k. get_or s.outputs k (free_output s.depth)) at
 
 -- what a write leaves as it was at its own place, it leaves so at all places
-pub same_at : {A B : Type 0} (h : A → B) (l : List A) (i j : ℕ) (x d : A) → i < length l → h x ≡ h (get_or l i d) → h (get_or (slice_set l i x) j d) ≡ h (get_or l j d)
+pub same_at : {A B : Type 0} (h : A → B) (l : List A) (i j : ℕ) (x d : A) → i < length l → h x ≡ h (get_or l i d)
+    → h (get_or (slice_set l i x) j d) ≡ h (get_or l j d)
 same_at h l i j x d within same = elim (cases_eq j i) [
   | inl e ↦ ap h (get_or-set_at l i j x d e within) ∙ same ∙ ap (λ k. h (get_or l k d)) (sym e)
   | inr ne ↦ ap h (get_or-set_other l i j x d ne)

@@ -1,5 +1,6 @@
 -- Where the sets of busy channels show that a router is at rest.
-use Rattle.std.proofs.Common.{◌≡◌, ℕ, ◌&&◌, ◌==◌, true, false, List, [], ◌∷◌, length, not, nat_lt, replicate, None, refl, arith, sym, ◌∙◌, subst}
+use Rattle.std.proofs.Common.{◌≡◌, ℕ, ◌&&◌, ◌==◌, true, false, List, [], ◌∷◌, length, not, nat_lt, replicate, None}
+use Rattle.std.proofs.Common.{refl, arith, sym, ◌∙◌, subst}
 use Rattle.std.proofs.lemmas.Bool.Decides.{nat_tests}
 use Rattle.worm_flit.specs.declared.Flit.{Flit}
 use Rattle.worm_records.specs.declared.InRecord.{InRecord}
@@ -14,13 +15,16 @@ use Rattle.worm_router.proofs.ReadySet.{none_ready_of}
 use Rattle.worm_router.proofs.NothingReady.{idle_grants, idle_choose}
 
 -- a channel with a flit that neither waits nor is active is idle; any other has nothing to route
-unrouted : (state : InRecord) (buffer : List Flit) → ((nat_lt 0 (length buffer) && not (waits state)) && not (holds state)) ≡ false → (is_idle state && opens_front buffer) ≡ false
+unrouted : (state : InRecord) (buffer : List Flit)
+    → ((nat_lt 0 (length buffer) && not (waits state)) && not (holds state)) ≡ false
+    → (is_idle state && opens_front buffer) ≡ false
 unrouted Idle [] none = refl
 unrouted Idle (f ∷ fs) none = let some : nat_lt 0 (length (f ∷ fs)) ≡ true = grind (arith, nat_tests) in absurd (cc)
 unrouted (Waiting o) buffer none = refl
 unrouted (Active o c) buffer none = refl
 
-pub routes_none : (c : ChannelState) → ((is_occupied c && not (is_waiting c)) && not (is_active c)) ≡ false → (is_idle c.state && opens_front c.buffer) ≡ false
+pub routes_none : (c : ChannelState) → ((is_occupied c && not (is_waiting c)) && not (is_active c)) ≡ false
+    → (is_idle c.state && opens_front c.buffer) ≡ false
 routes_none c none = unrouted c.state c.buffer none
 
 pub owes_none : (r : RouterState) (owing : ℕ) → IsSetOf owes r owing → (owing == 0) ≡ true → OwesNothing r
@@ -28,14 +32,18 @@ owes_none r owing is none = λ p v p_in v_in.
     let e : nat_lt 0 (input_at r p v).owed ≡ false = sym (is.inside p v p_in v_in) ∙ has-empty owing p v none in
     grind (arith, nat_tests)
 
-pub chooses_none : (r s : RouterState) (sets : BusyChannels) (masks : List ℕ) → r ≡ s → IsKept r sets masks → (sets.ready == 0) ≡ true → after_choose s ≡ s
+pub chooses_none : (r s : RouterState) (sets : BusyChannels) (masks : List ℕ) → r ≡ s → IsKept r sets masks
+    → (sets.ready == 0) ≡ true → after_choose s ≡ s
 chooses_none r s sets masks same kept none =
     let ports = kept.router.allocators.switch_ports in
     let few = kept.busy.few_ports in
-    subst (λ (q : RouterState). after_choose q ≡ q) same (idle_choose r (omega arith) kept.arbiters (none_ready_of r sets.ready kept.ready none))
+    subst (λ (q : RouterState). after_choose q ≡ q) same
+    (idle_choose r (omega arith) kept.arbiters (none_ready_of r sets.ready kept.ready none))
 
-pub grants_none : (r s : RouterState) (sets : BusyChannels) (masks : List ℕ) → r ≡ s → IsKept r sets masks → (sets.ready == 0) ≡ true → switch_grants s ≡ replicate 7 None
+pub grants_none : (r s : RouterState) (sets : BusyChannels) (masks : List ℕ) → r ≡ s → IsKept r sets masks
+    → (sets.ready == 0) ≡ true → switch_grants s ≡ replicate 7 None
 grants_none r s sets masks same kept none =
     let ports = kept.router.allocators.switch_ports in
     let few = kept.busy.few_ports in
-    subst (λ (q : RouterState). switch_grants q ≡ replicate 7 None) same (idle_grants r (omega arith) (none_ready_of r sets.ready kept.ready none))
+    subst (λ (q : RouterState). switch_grants q ≡ replicate 7 None) same
+    (idle_grants r (omega arith) (none_ready_of r sets.ready kept.ready none))

@@ -1,5 +1,7 @@
--- What the channels of a router ask of its allocators, and what a pass of each leaves (Dally and Towles, chapters 16 and 19).
-use Rattle.std.specs.Prelude.{ℕ, ◌≡◌, ◌<◌, ◌≤◌, ◌+◌, ◌&&◌, nat_le, nat_lt, Bool, true, false, is_none, if◌then◌else◌, List, [], ◌∷◌, Option, None, Some, fold, replicate}
+-- What the channels of a router ask of its allocators, and what a pass of each leaves (Dally and Towles, chapters 16
+-- and 19).
+use Rattle.std.specs.Prelude.{ℕ, ◌≡◌, ◌<◌, ◌≤◌, ◌+◌, ◌&&◌, nat_le, nat_lt, Bool, true, false, is_none, if◌then◌else◌}
+use Rattle.std.specs.Prelude.{List, [], ◌∷◌, Option, None, Some, fold, replicate}
 use Rattle.std.specs.Option.{option_map}
 use Rattle.std.specs.List.{range_with_len}
 use Rattle.worm_flit.specs.declared.Flit.{Flit}
@@ -14,7 +16,8 @@ use Rattle.worm_vcalloc.specs.VcAlloc.{VcPass, IsChannelMatching, vc_pass}
 use Rattle.worm_swalloc.specs.declared.grant.SwGrant.{SwGrant}
 use Rattle.worm_swalloc.specs.SwAlloc.{sw_grants, sw_after}
 use Rattle.worm_router.specs.Tables.{table}
-use Rattle.worm_router.specs.Router.{RouterState, IsPlace, terminal, width, input_at, output_at, can_grant, after_grant, leaving}
+use Rattle.worm_router.specs.Router.{RouterState, IsPlace, terminal, width, input_at, output_at, can_grant, after_grant}
+use Rattle.worm_router.specs.Router.{leaving}
 
 -- what f says of a port and channel of the router; of any other, d
 abbrev pub within : {X : Type 0} → RouterState → X → (ℕ → ℕ → X) → ℕ → ℕ → X
@@ -43,7 +46,8 @@ free_channels r = table (within r false (is_free r))
 
 -- two tables of requests say the same of each free output channel
 abbrev pub AgreeWhereFree : List (List Bool) → List (List (Option VcRequest)) → List (List (Option VcRequest)) → Type 0
-AgreeWhereFree free v w = (out c port vc : ℕ) → cell free out c false ≡ true → may_use (cell v port vc None) out c ≡ may_use (cell w port vc None) out c
+AgreeWhereFree free v w = (out c port vc : ℕ) → cell free out c false ≡ true
+    → may_use (cell v port vc None) out c ≡ may_use (cell w port vc None) out c
 
 -- an output channel is free, and an input channel may use it
 abbrev pub may_get : RouterState → ℕ → ℕ → ℕ → ℕ → Bool
@@ -97,7 +101,8 @@ written r port vc (Some out_vc) = after_grant r port vc out_vc
 
 -- the grants of one input port, one by one, by rising channel
 unfoldable pub with_port_grants : List (List (Option ℕ)) → RouterState → ℕ → RouterState
-with_port_grants grants r port = fold (λ s vc. written s port vc (cell grants port vc None)) r (range_with_len 0 (width r))
+with_port_grants grants r port = fold (λ s vc. written s port vc (cell grants port vc None)) r
+    (range_with_len 0 (width r))
 
 -- all of them, by rising port
 unfoldable pub with_grants : List (List (Option ℕ)) → RouterState → RouterState

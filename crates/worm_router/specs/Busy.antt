@@ -1,5 +1,7 @@
--- Which input channels have something to do: the sets that a router keeps beside its lists, so that a turn skips all others.
-use Rattle.std.specs.Prelude.{ℕ, ◌+◌, ◌*◌, ◌<◌, ◌≤◌, ◌≡◌, ◌==◌, ◌&&◌, ◌||◌, nat_lt, Bool, true, false, List, length, slice_index, slice_index_or, IsTrue, is_some, All, Option, Some, None}
+-- Which input channels have something to do: the sets that a router keeps beside its lists, so that a turn skips all
+-- others.
+use Rattle.std.specs.Prelude.{ℕ, ◌+◌, ◌*◌, ◌<◌, ◌≤◌, ◌≡◌, ◌==◌, ◌&&◌, ◌||◌, nat_lt, Bool, true, false, List, length}
+use Rattle.std.specs.Prelude.{slice_index, slice_index_or, IsTrue, is_some, All, Option, Some, None}
 use Rattle.worm_flit.specs.Channels.{class_bits}
 use Rattle.worm_records.specs.declared.InRecord.{InRecord}
 use Rattle.worm_records.specs.declared.InRecord.TheVariants.{Idle, Waiting, Active}
@@ -8,7 +10,8 @@ use Rattle.worm_vcalloc.specs.ChannelSet.{has}
 use Rattle.worm_swalloc.specs.SwAlloc.{SwAllocState}
 use Rattle.worm_router.specs.Allocation.{GrantsNothing}
 use Rattle.worm_router.specs.declared.busy.BusyChannels.{BusyChannels}
-use Rattle.worm_router.specs.Router.{ChannelState, RouterState, IsRouter, IsPlace, terminal, width, fresh_channel, free_output, input_at, output_at, leaving}
+use Rattle.worm_router.specs.Router.{ChannelState, RouterState, IsRouter, IsPlace, terminal, width, fresh_channel}
+use Rattle.worm_router.specs.Router.{free_output, input_at, output_at, leaving}
 
 -- an input channel has a flit
 abbrev pub is_occupied : ChannelState → Bool
@@ -37,8 +40,10 @@ abbrev pub owes : ChannelState → Bool
 owes c = nat_lt 0 c.owed
 
 -- a set has the input channels that pass a test, and no others
-pub record IsSetIn (test : ChannelState → Bool) (terminal width depth : ℕ) (inputs : List ChannelState) (set : ℕ) : Type 0 where
-  pub inside : (port vc : ℕ) → port ≤ terminal → vc < width → has set port vc ≡ test (slice_index_or inputs (port * width + vc) (fresh_channel depth))
+pub record IsSetIn (test : ChannelState
+    → Bool) (terminal width depth : ℕ) (inputs : List ChannelState) (set : ℕ) : Type 0 where
+  pub inside : (port vc : ℕ) → port ≤ terminal → vc < width
+      → has set port vc ≡ test (slice_index_or inputs (port * width + vc) (fresh_channel depth))
   pub outside : (port vc : ℕ) → port < 7 → vc < 8 → has set port vc ≡ true → (port ≤ terminal) × (vc < width)
 
 -- a set has those input channels of a router that pass a test, and no others
@@ -66,12 +71,14 @@ IsHolder terminal width (Some h) = (h.0 ≤ terminal) × (h.1 < width)
 
 -- each input channel that holds an output channel is its holder
 pub record AreHolders (r : RouterState) : Type 0 where
-  pub held : (p v o c : ℕ) → p ≤ terminal r → v < width r → (input_at r p v).state ≡ Active o c → (output_at r o c).holder ≡ Some (p, v)
+  pub held : (p v o c : ℕ) → p ≤ terminal r → v < width r → (input_at r p v).state ≡ Active o c
+      → (output_at r o c).holder ≡ Some (p, v)
   pub fit : All (λ u. IsHolder (terminal r) (width r) u.holder) r.outputs
 
 -- a set has those output channels that are held
 pub record IsHeldIn (terminal width depth : ℕ) (outputs : List OutRecord) (set : ℕ) : Type 0 where
-  pub all : (out vc : ℕ) → out ≤ terminal → vc < width → has set out vc ≡ is_some (slice_index_or outputs (out * width + vc) (free_output depth)).holder
+  pub all : (out vc : ℕ) → out ≤ terminal → vc < width
+      → has set out vc ≡ is_some (slice_index_or outputs (out * width + vc) (free_output depth)).holder
 
 -- a set has the input channels of a router that may send, and no others
 pub record IsReadySet (r : RouterState) (set : ℕ) : Type 0 where
@@ -98,7 +105,8 @@ is_of (Active o c) out vc = o == out && c == vc
 pub record IsWoken (old new : RouterState) (port vc : ℕ) : Type 0 where
   pub place : IsPlace old port vc
   pub ready : is_some (leaving new port vc) ≡ true
-  pub others : (p v : ℕ) → IsPlace old p v → ((p ≡ port) → (v ≡ vc) → ⊥) → is_some (leaving new p v) ≡ is_some (leaving old p v)
+  pub others : (p v : ℕ) → IsPlace old p v → ((p ≡ port) → (v ≡ vc) → ⊥)
+      → is_some (leaving new p v) ≡ is_some (leaving old p v)
 
 -- none does
 abbrev pub NoneWoken : (old new : RouterState) → Type 0

@@ -1,5 +1,7 @@
 -- What a contract sees of a router, and what each call makes of it.
-use Rattle.std.specs.Prelude.{ℕ, ◌+◌, ◌-◌, ◌*◌, ◌≤◌, ◌<◌, ◌≡◌, ◌==◌, Bool, true, false, ◌&&◌, ◌||◌, nat_lt, is_none, if◌then◌else◌, List, [], ◌∷◌, ◌++◌, length, sum, drop, slice_index_or, slice_set, replicate, All, Option, None, Some}
+use Rattle.std.specs.Prelude.{ℕ, ◌+◌, ◌-◌, ◌*◌, ◌≤◌, ◌<◌, ◌≡◌, ◌==◌, Bool, true, false, ◌&&◌, ◌||◌, nat_lt, is_none}
+use Rattle.std.specs.Prelude.{if◌then◌else◌, List, [], ◌∷◌, ◌++◌, length, sum, drop, slice_index_or, slice_set}
+use Rattle.std.specs.Prelude.{replicate, All, Option, None, Some}
 use Rattle.worm_flit.specs.declared.Flit.{Flit}
 use Rattle.worm_flit.specs.Kinds.{opens, closes}
 use Rattle.worm_flit.specs.Stamps.{with_channel}
@@ -12,7 +14,8 @@ use Rattle.worm_records.specs.declared.OutRecord.{OutRecord}
 use Rattle.worm_vcalloc.specs.VcAlloc.{VcAllocState}
 use Rattle.worm_swalloc.specs.SwAlloc.{SwAllocState}
 
--- an input channel: its flits, front first, how many fit, its record, the credits that it owes, and the flit that left last
+-- an input channel: its flits, front first, how many fit, its record, the credits that it owes, and the flit that left
+-- last
 pub record ChannelState : Type 0 where
   pub buffer : List Flit
   pub depth : ℕ
@@ -43,9 +46,19 @@ width r = sum r.channels
 abbrev pub places : RouterState → ℕ
 places r = (terminal r + 1) * width r
 
-abbrev pub router_state : List ℕ → ℕ → List ℕ → ℕ → List ChannelState → List OutRecord → VcAllocState → SwAllocState → RouterState
+abbrev pub router_state : List ℕ → ℕ → List ℕ → ℕ → List ChannelState → List OutRecord → VcAllocState → SwAllocState
+    → RouterState
 router_state mesh node channels depth inputs outputs channel_alloc switch_alloc =
-    record { mesh = mesh; node = node; channels = channels; depth = depth; inputs = inputs; outputs = outputs; channel_alloc = channel_alloc; switch_alloc = switch_alloc }
+    record {
+      mesh = mesh;
+      node = node;
+      channels = channels;
+      depth = depth;
+      inputs = inputs;
+      outputs = outputs;
+      channel_alloc = channel_alloc;
+      switch_alloc = switch_alloc;
+    }
 
 -- where a channel of a port stands in the lists
 abbrev pub line : RouterState → ℕ → ℕ → ℕ
@@ -77,11 +90,20 @@ with_output r out vc o = record r { outputs = slice_set r.outputs (line r out vc
 -- allocators whose pointers stand at the first line
 abbrev pub fresh_vc_alloc : ℕ → ℕ → VcAllocState
 fresh_vc_alloc ports channels =
-    record { ports = ports; channels = channels; arbiters = replicate 7 (replicate 8 (record { width = ports * channels; pointer = 0 })) }
+    record {
+      ports = ports;
+      channels = channels;
+      arbiters = replicate 7 (replicate 8 (record { width = ports * channels; pointer = 0 }));
+    }
 
 abbrev pub fresh_sw_alloc : ℕ → ℕ → SwAllocState
 fresh_sw_alloc ports channels =
-    record { ports = ports; channels = channels; inputs = replicate 7 (record { width = channels; pointer = 0 }); outputs = replicate 7 (record { width = ports; pointer = 0 }) }
+    record {
+      ports = ports;
+      channels = channels;
+      inputs = replicate 7 (record { width = channels; pointer = 0 });
+      outputs = replicate 7 (record { width = ports; pointer = 0 });
+    }
 
 -- a router with empty buffers, every output free and every credit there
 abbrev pub fresh_router : List ℕ → ℕ → List ℕ → ℕ → RouterState
@@ -167,7 +189,13 @@ leaving r port vc =
 -- the input channel without its front, which left as f
 abbrev pub let_out : ChannelState → Flit → ℕ → ChannelState
 let_out c f more_owed =
-    record { buffer = drop 1 c.buffer; depth = c.depth; state = (if closes f.kind then Idle else c.state); owed = c.owed + more_owed; last_out = Some f }
+    record {
+      buffer = drop 1 c.buffer;
+      depth = c.depth;
+      state = (if closes f.kind then Idle else c.state);
+      owed = c.owed + more_owed;
+      last_out = Some f;
+    }
 
 -- the output channel by which f left
 abbrev pub passed : OutRecord → Flit → ℕ → OutRecord
@@ -224,17 +252,20 @@ pub record IsChannel (mesh channels : List ℕ) (depth : ℕ) (c : ChannelState)
   pub owed_fits : c.owed ≤ depth
 
 -- what holds of the input and output channels of a router: its mesh, node, channels and depth, and both lists
-pub record HasLists (mesh : List ℕ) (node : ℕ) (channels : List ℕ) (depth : ℕ) (inputs : List ChannelState) (outputs : List OutRecord) : Type 0 where
+pub record HasLists (mesh : List ℕ) (node : ℕ) (channels : List ℕ) (depth : ℕ) (inputs : List ChannelState)
+    (outputs : List OutRecord) : Type 0 where
   pub node_in : node < node_count mesh
   pub depth_in : depth ≤ 16
   pub all_inputs : length inputs ≡ (2 * length mesh + 1) * sum channels
   pub all_outputs : length outputs ≡ (2 * length mesh + 1) * sum channels
   pub inputs_sound : All (IsChannel mesh channels depth) inputs
   pub credits_fit : All (λ o. o.credits ≤ depth) outputs
-  pub terminal_full : (vc : ℕ) → vc < sum channels → (slice_index_or outputs (2 * length mesh * sum channels + vc) (free_output depth)).credits ≡ depth
+  pub terminal_full : (vc : ℕ) → vc < sum channels
+      → (slice_index_or outputs (2 * length mesh * sum channels + vc) (free_output depth)).credits ≡ depth
 
 -- the allocators are for so many ports and channels
-pub record HasAllocators (ports channels : ℕ) (channel_alloc : VcAllocState) (switch_alloc : SwAllocState) : Type 0 where
+pub record HasAllocators (ports channels : ℕ) (channel_alloc : VcAllocState)
+    (switch_alloc : SwAllocState) : Type 0 where
   pub channel_ports : channel_alloc.ports ≡ ports
   pub channel_channels : channel_alloc.channels ≡ channels
   pub switch_ports : switch_alloc.ports ≡ ports

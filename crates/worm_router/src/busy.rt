@@ -50,7 +50,15 @@ fn join_if(set: &mut ChannelSet, port: u8, vc: u8, comes: bool)
 impl BusyChannels {
     /// No channel has anything to do.
     pub fn new() -> BusyChannels
-        ensures { result ≡ record { occupied = 0; waiting = 0; active = 0; owing = 0; in_vain = false; ready = 0; held = 0 } }
+        ensures { result ≡ record {
+          occupied = 0;
+          waiting = 0;
+          active = 0;
+          owing = 0;
+          in_vain = false;
+          ready = 0;
+          held = 0;
+        } }
     {
         BusyChannels {
             occupied: ChannelSet::new(),
@@ -70,7 +78,11 @@ impl BusyChannels {
         ensures occupied { IsPut self.old.occupied self.new.occupied port vc (is_occupied channel.now) }
         ensures in_vain { self.new.in_vain ≡ (self.old.in_vain && not (is_waiting channel.now)) }
         ensures ready { IsPut self.old.ready self.new.ready port vc (sends && is_occupied channel.now) }
-        ensures others { self.new ≡ record self.old { occupied = self.new.occupied; in_vain = self.new.in_vain; ready = self.new.ready } }
+        ensures others { self.new ≡ record self.old {
+          occupied = self.new.occupied;
+          in_vain = self.new.in_vain;
+          ready = self.new.ready;
+        } }
     {
         let has_flit = channel.is_occupied();
         let waits = channel.is_waiting();
@@ -100,7 +112,13 @@ impl BusyChannels {
         ensures active { IsPut self.old.active self.new.active port vc true }
         ensures ready { IsPut self.old.ready self.new.ready port vc sends }
         ensures held { IsPut self.old.held self.new.held out out_vc true }
-        ensures others { self.new ≡ record self.old { waiting = self.new.waiting; active = self.new.active; in_vain = false; ready = self.new.ready; held = self.new.held } }
+        ensures others { self.new ≡ record self.old {
+          waiting = self.new.waiting;
+          active = self.new.active;
+          in_vain = false;
+          ready = self.new.ready;
+          held = self.new.held;
+        } }
     {
         self.waiting.put(port, vc, false);
         self.active.put(port, vc, true);
@@ -131,9 +149,17 @@ impl BusyChannels {
         ensures active { IsFiled self.old.active self.new.active port vc (is_active channel.now) }
         ensures owing { IsFiled self.old.owing self.new.owing port vc (owes channel.now) }
         ensures in_vain { self.new.in_vain ≡ (self.old.in_vain && is_active channel.now) }
-        ensures ready { IsFiled self.old.ready self.new.ready port vc ((is_active channel.now && is_occupied channel.now) && follows) }
+        ensures ready { IsFiled self.old.ready self.new.ready port vc
+            ((is_active channel.now && is_occupied channel.now) && follows) }
         ensures held { IsFiled self.old.held self.new.held out out_vc (is_active channel.now) }
-        ensures others { self.new ≡ record self.old { occupied = self.new.occupied; active = self.new.active; owing = self.new.owing; in_vain = self.new.in_vain; ready = self.new.ready; held = self.new.held } }
+        ensures others { self.new ≡ record self.old {
+          occupied = self.new.occupied;
+          active = self.new.active;
+          owing = self.new.owing;
+          in_vain = self.new.in_vain;
+          ready = self.new.ready;
+          held = self.new.held;
+        } }
     {
         let has_more = channel.is_occupied();
         let holds = channel.is_active();
@@ -147,7 +173,8 @@ impl BusyChannels {
         join_if(&mut self.owing, port, vc, channel.owed() > 0);
     }
 
-    /// Files a channel whose credit, one that it owed, has gone out; `woken` where it could not send while it owed that.
+    /// Files a channel whose credit, one that it owed, has gone out; `woken` where it could not send while it owed
+    /// that.
     pub fn file_given(&mut self, port: u8, vc: u8, channel: &InputChannel, woken: bool)
         requires port { port < 7 }
         requires vc { vc < 8 }
@@ -163,7 +190,8 @@ impl BusyChannels {
     /// Files that a credit has come for which this channel waited, if any did.
     pub fn file_credit(&mut self, woken: Option<(u8, u8)>)
         requires { IfSome woken (λ place. (place.0 < 7) × (place.1 < 8)) }
-        ensures ready { MatchOption woken (self.new.ready ≡ self.old.ready) (λ place. IsPut self.old.ready self.new.ready place.0 place.1 true) }
+        ensures ready { MatchOption woken (self.new.ready ≡ self.old.ready)
+            (λ place. IsPut self.old.ready self.new.ready place.0 place.1 true) }
         ensures others { self.new ≡ record self.old { ready = self.new.ready } }
     {
         if let Some((port, vc)) = woken {

@@ -1,7 +1,12 @@
-ghost use Rattle.std.specs.Prelude.{◌≡◌, ◌==◌, ◌&&◌, ◌||◌, ◌+◌, ◌*◌, ◌≤◌, ◌<◌, ◌^◌, ◌↔◌, length, sum, IfOk, IfErr, OnOk, OnErr, IsOk, IsErr, IsSome, IfSome, IfNone, None, Some, ℕ, is_some, nat_lt, slice_get, replicate, if◌then◌else◌};
+ghost use Rattle.std.specs.Prelude.{◌≡◌, ◌==◌, ◌&&◌, ◌||◌, ◌+◌, ◌*◌, ◌≤◌, ◌<◌, ◌^◌, ◌↔◌, length, sum, IfOk, IfErr};
+ghost use Rattle.std.specs.Prelude.{OnOk, OnErr, IsOk, IsErr, IsSome, IfSome, IfNone, None, Some, ℕ, is_some, nat_lt};
+ghost use Rattle.std.specs.Prelude.{slice_get, replicate, if◌then◌else◌};
 ghost use Rattle.worm_flit.specs.Channels.{AreChannels};
 ghost use Rattle.worm_mesh.specs.Address.{node_count};
-ghost use Rattle.worm_router.specs.Router.{IsPlace, IsRouter, line, fresh_channel, free_output, fresh_router, input_at, output_at, terminal, width, after_accept, can_route, after_route, can_grant, after_grant, after_granting, leaving, MayLeave, passed, credit_of, after_send, after_gave, after_credit};
+ghost use Rattle.worm_router.specs.Router.{IsPlace, IsRouter, line, fresh_channel, free_output, fresh_router, input_at};
+ghost use Rattle.worm_router.specs.Router.{output_at, terminal, width, after_accept, can_route, after_route, can_grant};
+ghost use Rattle.worm_router.specs.Router.{after_grant, after_granting, leaving, MayLeave, passed, credit_of};
+ghost use Rattle.worm_router.specs.Router.{after_send, after_gave, after_credit};
 ghost use Rattle.worm_router.specs.Busy.{IsSetOf, AreMasks, is_occupied, is_waiting, is_active, owes};
 
 mod allocation;
@@ -59,9 +64,11 @@ impl Model for Router {
 
     ghost Value = { RouterState };
 
-    ghost view = { λ r. router_state r.mesh r.node r.classes r.depth r.inputs.items r.outputs.items r.channel_alloc r.switch_alloc };
+    ghost view = { λ r. router_state r.mesh r.node r.classes r.depth r.inputs.items r.outputs.items r.channel_alloc
+        r.switch_alloc };
 
-    ghost invariant = { λ r. IsKept (router_state r.mesh r.node r.classes r.depth r.inputs.items r.outputs.items r.channel_alloc r.switch_alloc) r.busy r.masks };
+    ghost invariant = { λ r. IsKept (router_state r.mesh r.node r.classes r.depth r.inputs.items r.outputs.items
+        r.channel_alloc r.switch_alloc) r.busy r.masks };
 }
 
 /// So many input channels with empty buffers.
@@ -100,8 +107,8 @@ fn pass(output: &mut OutRecord, flit: Flit, spent: u8)
     }
 }
 
-/// Whether a flit may follow one that left: there is a credit for it, and room for one more owed. `more_owed` and `spent` are
-/// what a flit costs.
+/// Whether a flit may follow one that left: there is a credit for it, and room for one more owed. `more_owed` and
+/// `spent` are what a flit costs.
 fn may_follow(owed: u8, more_owed: u8, credits: u8, spent: u8, depth: u8) -> bool
     requires spent { spent ≤ 1 }
     requires more_owed { more_owed ≤ 1 }
@@ -125,8 +132,8 @@ fn class_masks(classes: &ClassChannels) -> [u8; 4]
 }
 
 impl Router {
-    /// The router of a node of the mesh, with so many channels for each class and buffers of this depth, 1 to 16. All its
-    /// buffers are made here, and no other call takes memory. `NoMemory` where there is none.
+    /// The router of a node of the mesh, with so many channels for each class and buffers of this depth, 1 to 16. All
+    /// its buffers are made here, and no other call takes memory. `NoMemory` where there is none.
     pub fn new(
         alloc: Global,
         mesh: &Mesh,
@@ -271,8 +278,8 @@ impl Router {
         channel.has_room()
     }
 
-    /// Puts a flit that came in by the port at the end of its channel's buffer. It comes back exactly where the buffer is
-    /// full; the router is then as it was.
+    /// Puts a flit that came in by the port at the end of its channel's buffer. It comes back exactly where the buffer
+    /// is full; the router is then as it was.
     #[inline(always)]
     pub fn accept(&mut self, port: u8, flit: Flit) -> Result<(), Flit>
         requires place { IsPlace self.old port flit.vc }
@@ -354,8 +361,8 @@ impl Router {
         output.grant(port, vc);
     }
 
-    /// A waiting channel gets channel `out_vc` of the port that it waits for, where that is free and owned by the class of
-    /// the packet at its front. False, and nothing done, where it is not.
+    /// A waiting channel gets channel `out_vc` of the port that it waits for, where that is free and owned by the class
+    /// of the packet at its front. False, and nothing done, where it is not.
     pub fn grant(&mut self, port: u8, vc: u8, out_vc: u8) -> bool
         requires place { IsPlace self.old port vc }
         requires out_channel { out_vc < width self.old }
@@ -371,8 +378,8 @@ impl Router {
         }
     }
 
-    /// The output port and the flit that may leave now, as it would leave: on the channel that it was granted, where there is
-    /// a credit for it, and room for one more owed.
+    /// The output port and the flit that may leave now, as it would leave: on the channel that it was granted, where
+    /// there is a credit for it, and room for one more owed.
     pub fn ready(&self, port: u8, vc: u8) -> Option<(u8, Flit)>
         requires { IsPlace self.now port vc }
         ensures leaves { result ≡ leaving self.now port vc }
@@ -390,7 +397,8 @@ impl Router {
         Some((out, flit))
     }
 
-    /// The flit that `ready` names has left. A credit is spent for it and one is owed; a closing flit frees both channels.
+    /// The flit that `ready` names has left. A credit is spent for it and one is owed; a closing flit frees both
+    /// channels.
     pub fn sent(&mut self, port: u8, vc: u8)
         requires place { IsPlace self.old port vc }
         requires ready { IsSome (leaving self.old port vc) }
@@ -449,8 +457,8 @@ impl Router {
         self.busy.file_given(port, vc, channel, woken);
     }
 
-    /// A credit has come back for this output channel. `TooMany` exactly where its count is the depth, as at the terminal; the
-    /// router is then as it was.
+    /// A credit has come back for this output channel. `TooMany` exactly where its count is the depth, as at the
+    /// terminal; the router is then as it was.
     pub fn credit(&mut self, out_port: u8, vc: u8) -> Result<(), TooMany>
         requires { IsPlace self.old out_port vc }
         ensures full { IsErr result ↔ ((output_at self.old out_port vc).credits ≡ self.old.depth) }

@@ -1,5 +1,6 @@
 -- Which rows a reader admits, and where a report then stands.
-use Rattle.std.proofs.Common.{◌≡◌, lit<, lit≤, ℕ, suc, ◌+◌, ◌<◌, ◌≤◌, Bool, true, false, ◌&&◌, cond, eqb, leb, ltb, List, [], ◌∷◌, ◌++◌, length, Result, Ok, Err, refl, sym, ap, subst, ◌∙◌, arith, inl, inr}
+use Rattle.std.proofs.Common.{◌≡◌, lit<, lit≤, ℕ, suc, ◌+◌, ◌<◌, ◌≤◌, Bool, true, false, ◌&&◌, cond, eqb, leb, ltb}
+use Rattle.std.proofs.Common.{List, [], ◌∷◌, ◌++◌, length, Result, Ok, Err, refl, sym, ap, subst, ◌∙◌, arith, inl, inr}
 use Rattle.std.proofs.lemmas.Bool.Decides.{nat_tests}
 use Rattle.worm_text.specs.declared.fault.Why.{Why}
 use Rattle.worm_text.specs.declared.fault.Why.TheVariants.{Range, Repeated, Missing, TooMany, AfterEnd}
@@ -11,7 +12,8 @@ use Rattle.worm_text.proofs.Followed.{line_is}
 use Rattle.worm_rows.specs.declared.shape.Shape.{Shape}
 use Rattle.worm_rows.specs.declared.standing.Standing.{Standing}
 use Rattle.worm_rows.specs.declared.rows.Row.{Row}
-use Rattle.worm_rows.specs.declared.rows.Row.TheVariants.{Header, Options, Stopped, Delivered, Underway, NotOffered, Total}
+use Rattle.worm_rows.specs.declared.rows.Row.TheVariants.{Header, Options, Stopped, Delivered, Underway, NotOffered}
+use Rattle.worm_rows.specs.declared.rows.Row.TheVariants.{Total}
 use Rattle.worm_rows.specs.Rows.{row_fields, row_line}
 use Rattle.worm_rows.specs.Rules.{IsRow, rank, latest, listed, Fits, MayFollow, behind}
 use Rattle.worm_rows.specs.Reading.{row_at, fits_at, admits, judge}
@@ -42,9 +44,12 @@ fits_takes : (t : Standing) (row found : Row) → fits_at t row ≡ fine found �
 unfolding fits_at
 fits_takes t Header found e = (tt, ok_is Header found e)
 fits_takes t (Options a b c) found e = (tt, ok_is (Options a b c) found e)
-fits_takes t (Stopped a b) found e = let c = checked_ok (ltb (listed t) 1000000) TooMany (Stopped a b) found e in (ltb_lt (listed t) 1000000 c.0, c.1)
-fits_takes t (Delivered p l) found e = let c = checked_ok (ltb (listed t) 1000000) TooMany (Delivered p l) found e in (ltb_lt (listed t) 1000000 c.0, c.1)
-fits_takes t (Underway p i l) found e = let c = checked_ok (ltb (listed t) 1000000) TooMany (Underway p i l) found e in (ltb_lt (listed t) 1000000 c.0, c.1)
+fits_takes t (Stopped a b) found e = let c = checked_ok (ltb (listed t) 1000000) TooMany (Stopped a b) found e in
+    (ltb_lt (listed t) 1000000 c.0, c.1)
+fits_takes t (Delivered p l) found e = let c = checked_ok (ltb (listed t) 1000000) TooMany (Delivered p l) found e in
+    (ltb_lt (listed t) 1000000 c.0, c.1)
+fits_takes t (Underway p i l) found e = let c = checked_ok (ltb (listed t) 1000000) TooMany (Underway p i l) found e in
+    (ltb_lt (listed t) 1000000 c.0, c.1)
 fits_takes t (NotOffered n) found e = (tt, ok_is (NotOffered n) found e)
 fits_takes t (Total d u) found e =
     let c = checked_ok (eqb d t.delivered && eqb u t.underway) Range (Total d u) found e in
@@ -71,7 +76,10 @@ admits_takes t row found e =
 
 admits_again : (t : Standing) (row : Row) → MayFollow t row → admits t row ≡ fine row
 unfolding admits
-admits_again t row h = rw (le_leb t.next (rank row) h.early, le_leb (rank row) (latest t.next) h.late) (fits_again t row h.fits)
+admits_again t row h = rw (
+  le_leb t.next (rank row) h.early,
+  le_leb (rank row) (latest t.next) h.late,
+) (fits_again t row h.fits)
 
 -- ---- a line
 
@@ -100,7 +108,8 @@ rank_small (Underway p i l) = lit≤ tt
 rank_small (NotOffered n) = lit≤ tt
 rank_small (Total d u) = lit≤ tt
 
-pub judge_again : (s : Shape) (t : Standing) (row : Row) → IsRow s row → MayFollow t row → judge s t (row_line row) ≡ fine row
+pub judge_again : (s : Shape) (t : Standing) (row : Row) → IsRow s row → MayFollow t row
+    → judge s t (row_line row) ≡ fine row
 unfolding judge
 judge_again s t row h f =
     let open_end : ltb t.next 7 ≡ true = lt_ltb t.next 7 (omega (arith, f.early, rank_small row)) in
@@ -117,10 +126,17 @@ pub record GoesOn (t u : Standing) : Type 0 where
   pub more : t.next + listed t < u.next + listed u
 
 pub goes_on : (t : Standing) (row : Row) → IsSound t → MayFollow t row → GoesOn t (behind t row)
-goes_on t Header h f = let e = f.early in record { sound = record { next = lit≤ tt; listed = h.listed }; more = omega arith }
-goes_on t (Options a b c) h f = let e = f.early in record { sound = record { next = lit≤ tt; listed = h.listed }; more = omega arith }
-goes_on t (Stopped a b) h f = let e = f.early in let lt : listed t < 1000000 = f.fits in record { sound = record { next = lit≤ tt; listed = omega arith }; more = omega arith }
-goes_on t (Delivered p l) h f = let e = f.early in let lt : listed t < 1000000 = f.fits in record { sound = record { next = lit≤ tt; listed = omega arith }; more = omega arith }
-goes_on t (Underway p i l) h f = let e = f.early in let lt : listed t < 1000000 = f.fits in record { sound = record { next = lit≤ tt; listed = omega arith }; more = omega arith }
-goes_on t (NotOffered n) h f = let e = f.early in record { sound = record { next = lit≤ tt; listed = h.listed }; more = omega arith }
-goes_on t (Total d u) h f = let e = f.early in record { sound = record { next = lit≤ tt; listed = h.listed }; more = omega arith }
+goes_on t Header h f = let e = f.early in
+    record { sound = record { next = lit≤ tt; listed = h.listed }; more = omega arith }
+goes_on t (Options a b c) h f = let e = f.early in
+    record { sound = record { next = lit≤ tt; listed = h.listed }; more = omega arith }
+goes_on t (Stopped a b) h f = let e = f.early in let lt : listed t < 1000000 = f.fits in
+    record { sound = record { next = lit≤ tt; listed = omega arith }; more = omega arith }
+goes_on t (Delivered p l) h f = let e = f.early in let lt : listed t < 1000000 = f.fits in
+    record { sound = record { next = lit≤ tt; listed = omega arith }; more = omega arith }
+goes_on t (Underway p i l) h f = let e = f.early in let lt : listed t < 1000000 = f.fits in
+    record { sound = record { next = lit≤ tt; listed = omega arith }; more = omega arith }
+goes_on t (NotOffered n) h f = let e = f.early in
+    record { sound = record { next = lit≤ tt; listed = h.listed }; more = omega arith }
+goes_on t (Total d u) h f = let e = f.early in
+    record { sound = record { next = lit≤ tt; listed = h.listed }; more = omega arith }

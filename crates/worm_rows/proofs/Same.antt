@@ -32,13 +32,17 @@ same_fields w.Header h = refl
 same_fields (w.Options turns workers drain) h = refl
 same_fields (w.Stopped worker turn) h = refl
 same_fields (w.Delivered node flit) h =
-    ap (λ (fs : List (List ℕ)). codes "delivered" ∷ decimal node ∷ codes "from" ∷ decimal flit.lane.src ∷ codes "class" ∷ decimal flit.lane.class ∷ codes "packet" ∷ decimal flit.packet ∷ fs) (same_load flit.kind flit)
+    ap (λ (fs : List (List ℕ)). codes "delivered" ∷ decimal node ∷ codes "from" ∷ decimal flit.lane.src ∷ codes "class"
+    ∷ decimal flit.lane.class ∷ codes "packet" ∷ decimal flit.packet ∷ fs) (same_load flit.kind flit)
 same_fields (w.Underway lane held) h =
-    ap (λ (fs : List (List ℕ)). codes "underway" ∷ decimal lane.src ∷ decimal lane.dst ∷ codes "class" ∷ decimal held.flit.lane.class ∷ codes "packet" ∷ decimal held.flit.packet ∷ codes "flit" ∷ decimal held.flit.index ∷ fs) (same_place held.place)
+    ap (λ (fs : List (List ℕ)). codes "underway" ∷ decimal lane.src ∷ decimal lane.dst ∷ codes "class"
+    ∷ decimal held.flit.lane.class ∷ codes "packet" ∷ decimal held.flit.packet ∷ codes "flit"
+    ∷ decimal held.flit.index ∷ fs) (same_place held.place)
 same_fields (w.NotOffered entries) h = refl
 same_fields (w.Total injected delivered) h =
     let sum : injected ≡ delivered + (injected - delivered) = omega arith in
-    ap (λ (n : ℕ). codes "total" ∷ codes "injected" ∷ decimal n ∷ codes "delivered" ∷ decimal delivered ∷ codes "underway" ∷ decimal (injected - delivered) ∷ []) sum
+    ap (λ (n : ℕ). codes "total" ∷ codes "injected" ∷ decimal n ∷ codes "delivered" ∷ decimal delivered
+    ∷ codes "underway" ∷ decimal (injected - delivered) ∷ []) sum
 
 same_line : (row : written.Row) → IsSummed row → r.row_text row ≡ row_line (row_of row) ++ newline ∷ []
 unfolding r.row_text
@@ -48,4 +52,6 @@ pub same_text : (rows : List written.Row) → AreSummed rows → r.rows_text row
 same_text [] h = refl
 same_text (row ∷ rows) h =
     flat_map-cons r.row_text row rows ∙ ap (λ (x : List ℕ). x ++ r.rows_text rows) (same_line row h.0)
-    ∙ ap (λ (x : List ℕ). (row_line (row_of row) ++ newline ∷ []) ++ x) (same_text rows h.1) ∙ sym (flat_map-cons (λ (l : List ℕ). l ++ newline ∷ []) (row_line (row_of row)) (map row_line (map row_of rows)))
+    ∙ ap (λ (x : List ℕ). (row_line (row_of row) ++ newline ∷ []) ++ x) (same_text rows h.1)
+    ∙ sym (flat_map-cons (λ (l : List ℕ). l ++ newline ∷ []) (row_line (row_of row))
+    (map row_line (map row_of rows)))

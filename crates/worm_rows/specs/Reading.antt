@@ -1,5 +1,6 @@
 -- What each line of a report has to be, behind the rows before it.
-use Rattle.std.specs.Prelude.{ℕ, ◌+◌, ◌*◌, ◌&&◌, Bool, List, [], ◌∷◌, length, Result, Ok, Err, nat_le, nat_lt, ◌==◌, if◌then◌else◌, codes}
+use Rattle.std.specs.Prelude.{ℕ, ◌+◌, ◌*◌, ◌&&◌, Bool, List, [], ◌∷◌, length, Result, Ok, Err, nat_le, nat_lt, ◌==◌}
+use Rattle.std.specs.Prelude.{if◌then◌else◌, codes}
 use Rattle.std.specs.Str.{bytes_eq}
 use Rattle.worm_mesh.specs.Address.{node_count, has_neighbour}
 use Rattle.worm_flit.specs.declared.Lane.{Lane}
@@ -15,7 +16,8 @@ use Rattle.worm_rows.specs.declared.rows.PacketId.{PacketId}
 use Rattle.worm_rows.specs.declared.rows.Load.{Load}
 use Rattle.worm_rows.specs.declared.rows.Load.TheVariants.{Close, Word}
 use Rattle.worm_rows.specs.declared.rows.Row.{Row}
-use Rattle.worm_rows.specs.declared.rows.Row.TheVariants.{Header, Options, Stopped, Delivered, Underway, NotOffered, Total}
+use Rattle.worm_rows.specs.declared.rows.Row.TheVariants.{Header, Options, Stopped, Delivered, Underway, NotOffered}
+use Rattle.worm_rows.specs.declared.rows.Row.TheVariants.{Total}
 use Rattle.worm_rows.specs.Rules.{has_buffer, rank, latest, listed}
 
 -- ---- fields
@@ -164,7 +166,8 @@ row_at s (f ∷ fs) =
 -- ---- a row behind those before it
 
 unfoldable pub fits_at : Standing → Row → Result Row Why
-fits_at t (Total delivered underway) = checked ((delivered == t.delivered) && (underway == t.underway)) Range (Total delivered underway)
+fits_at t (Total delivered underway) = checked ((delivered == t.delivered) && (underway == t.underway)) Range
+    (Total delivered underway)
 fits_at t (Stopped worker turn) = checked (nat_lt (listed t) 1000000) TooMany (Stopped worker turn)
 fits_at t (Delivered p load) = checked (nat_lt (listed t) 1000000) TooMany (Delivered p load)
 fits_at t (Underway p index place) = checked (nat_lt (listed t) 1000000) TooMany (Underway p index place)

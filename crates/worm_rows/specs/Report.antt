@@ -1,5 +1,6 @@
 -- What a report's text is read as, line after line, and at which line it is refused.
-use Rattle.std.specs.Prelude.{◌≡◌, ℕ, suc, ◌+◌, ◌<◌, List, [], ◌∷◌, ◌++◌, length, Result, Ok, Err, ◌⊎◌, ◌==◌, if◌then◌else◌}
+use Rattle.std.specs.Prelude.{◌≡◌, ℕ, suc, ◌+◌, ◌<◌, List, [], ◌∷◌, ◌++◌, length, Result, Ok, Err, ◌⊎◌, ◌==◌}
+use Rattle.std.specs.Prelude.{if◌then◌else◌}
 use Rattle.worm_text.specs.declared.fault.Why.{Why}
 use Rattle.worm_text.specs.declared.fault.Why.TheVariants.{NoEnd, AfterEnd, NoMemory}
 use Rattle.worm_text.specs.declared.fault.TextFault.{TextFault}
@@ -15,7 +16,8 @@ use Rattle.worm_rows.specs.Reading.{judge}
 -- behind the last line end stands this rest
 abbrev pub at_end : Standing → List Row → ℕ → List ℕ → Result (List Row) TextFault
 at_end t rows line rest =
-    if t.next == 7 then (if length rest == 0 then Ok rows else Err (at_line line AfterEnd)) else Err (at_line line NoEnd)
+    if t.next == 7 then (if length rest == 0 then Ok rows else Err (at_line line AfterEnd))
+    else Err (at_line line NoEnd)
 
 -- the rows so far, the finished lines from this one on, and the rest behind them as the last piece
 abbrev pub read : Shape → Standing → List Row → ℕ → List (List ℕ) → Result (List Row) TextFault
@@ -50,6 +52,7 @@ pub record RanOut (s : Shape) (bytes : List ℕ) (fault : TextFault) : Type 0 wh
   pub line : BeginsReport s bytes fault.line
 
 -- A call answered this, seen by view, unless memory ran out.
-abbrev pub AnswersOrFull : {X Y : Type 0} → (X → Y) → (TextFault → Type 0) → Result X TextFault → Result Y TextFault → Type 0
+abbrev pub AnswersOrFull : {X Y : Type 0} → (X → Y) → (TextFault → Type 0) → Result X TextFault → Result Y TextFault
+    → Type 0
 AnswersOrFull view Full (Ok x) answer = answer ≡ Ok (view x)
 AnswersOrFull view Full (Err fault) answer = Full fault ⊎ (answer ≡ Err fault)

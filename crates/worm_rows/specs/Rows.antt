@@ -7,7 +7,8 @@ use Rattle.worm_rows.specs.declared.rows.PacketId.{PacketId}
 use Rattle.worm_rows.specs.declared.rows.Load.{Load}
 use Rattle.worm_rows.specs.declared.rows.Load.TheVariants.{Close, Word}
 use Rattle.worm_rows.specs.declared.rows.Row.{Row}
-use Rattle.worm_rows.specs.declared.rows.Row.TheVariants.{Header, Options, Stopped, Delivered, Underway, NotOffered, Total}
+use Rattle.worm_rows.specs.declared.rows.Row.TheVariants.{Header, Options, Stopped, Delivered, Underway, NotOffered}
+use Rattle.worm_rows.specs.declared.rows.Row.TheVariants.{Total}
 
 -- what stands behind the words of a place
 abbrev pub spot_fields : ℕ → ℕ → ℕ → List (List ℕ)

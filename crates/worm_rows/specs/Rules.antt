@@ -1,5 +1,6 @@
 -- Which rows are a report of a network of this shape.
-use Rattle.std.specs.Prelude.{ℕ, ◌≡◌, ◌+◌, ◌*◌, ◌<◌, ◌≤◌, Bool, true, ◌||◌, ◌&&◌, nat_le, if◌then◌else◌, ◌==◌, List, [], ◌∷◌, length, fold}
+use Rattle.std.specs.Prelude.{ℕ, ◌≡◌, ◌+◌, ◌*◌, ◌<◌, ◌≤◌, Bool, true, ◌||◌, ◌&&◌, nat_le, if◌then◌else◌, ◌==◌, List, []}
+use Rattle.std.specs.Prelude.{◌∷◌, length, fold}
 use Rattle.worm_mesh.specs.Address.{node_count, has_neighbour}
 use Rattle.worm_core.specs.declared.view.Place.{Place}
 use Rattle.worm_core.specs.declared.view.Place.TheVariants.{Source, Buffer, Link}
@@ -9,7 +10,8 @@ use Rattle.worm_rows.specs.declared.rows.PacketId.{PacketId}
 use Rattle.worm_rows.specs.declared.rows.Load.{Load}
 use Rattle.worm_rows.specs.declared.rows.Load.TheVariants.{Close, Word}
 use Rattle.worm_rows.specs.declared.rows.Row.{Row}
-use Rattle.worm_rows.specs.declared.rows.Row.TheVariants.{Header, Options, Stopped, Delivered, Underway, NotOffered, Total}
+use Rattle.worm_rows.specs.declared.rows.Row.TheVariants.{Header, Options, Stopped, Delivered, Underway, NotOffered}
+use Rattle.worm_rows.specs.declared.rows.Row.TheVariants.{Total}
 
 -- ---- what a row may say
 

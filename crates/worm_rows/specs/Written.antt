@@ -10,7 +10,8 @@ use Rattle.worm_rows.specs.declared.rows.PacketId.{PacketId}
 use Rattle.worm_rows.specs.declared.rows.Load.{Load}
 use Rattle.worm_rows.specs.declared.rows.Load.TheVariants.{Close, Word}
 use Rattle.worm_rows.specs.declared.rows.Row.{Row}
-use Rattle.worm_rows.specs.declared.rows.Row.TheVariants.{Header, Options, Stopped, Delivered, Underway, NotOffered, Total}
+use Rattle.worm_rows.specs.declared.rows.Row.TheVariants.{Header, Options, Stopped, Delivered, Underway, NotOffered}
+use Rattle.worm_rows.specs.declared.rows.Row.TheVariants.{Total}
 
 abbrev pub packet_of : ℕ → ℕ → ℕ → ℕ → PacketId
 packet_of src dst class number = record { lane = record { src = src; dst = dst; class = class }; number = number }
@@ -24,8 +25,10 @@ abbrev pub row_of : written.Row → Row
 row_of w.Header = Header
 row_of (w.Options turns workers drain) = Options turns workers drain
 row_of (w.Stopped worker turn) = Stopped worker turn
-row_of (w.Delivered node flit) = Delivered (packet_of flit.lane.src node flit.lane.class flit.packet) (load_of flit.kind flit)
-row_of (w.Underway lane held) = Underway (packet_of lane.src lane.dst held.flit.lane.class held.flit.packet) held.flit.index held.place
+row_of (w.Delivered node flit) = Delivered (packet_of flit.lane.src node flit.lane.class flit.packet)
+    (load_of flit.kind flit)
+row_of (w.Underway lane held) = Underway
+    (packet_of lane.src lane.dst held.flit.lane.class held.flit.packet) held.flit.index held.place
 row_of (w.NotOffered entries) = NotOffered entries
 row_of (w.Total injected delivered) = Total delivered (injected - delivered)
 

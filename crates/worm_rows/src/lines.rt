@@ -5,7 +5,9 @@ ghost use Rattle.worm_mesh.specs.Address.{node_count, has_neighbour};
 ghost use Rattle.worm_text.specs.Lines.{cut, space};
 ghost use Rattle.worm_text.specs.Reading.{Reads, Gives};
 ghost use Rattle.worm_rows.specs.Rules.{has_buffer, listed};
-ghost use Rattle.worm_rows.specs.Reading.{below_at, packet_at, buffer_at, link_at, place_at, load_word_at, load_at, header_at, options_at, stopped_at, delivered_at, underway_at, not_offered_at, total_at, row_at, judge};
+ghost use Rattle.worm_rows.specs.Reading.{below_at, packet_at, buffer_at, link_at, place_at, load_word_at, load_at};
+ghost use Rattle.worm_rows.specs.Reading.{header_at, options_at, stopped_at, delivered_at, underway_at, not_offered_at};
+ghost use Rattle.worm_rows.specs.Reading.{total_at, row_at, judge};
 
 use crate::fields::{any, below, named};
 use crate::rows::{Load, PacketId, Row};

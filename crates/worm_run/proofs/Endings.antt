@@ -1,5 +1,6 @@
 -- What a worker's turns made of its part, however they ended.
-use Rattle.std.proofs.Common.{◌≡◌, ℕ, ◌+◌, ◌<◌, ◌≤◌, true, List, [], ◌∷◌, ◌++◌, length, Option, Some, None, refl, arith, ap, sym, subst, ◌∙◌, append-nil, append_assoc}
+use Rattle.std.proofs.Common.{◌≡◌, ℕ, ◌+◌, ◌<◌, ◌≤◌, true, List, [], ◌∷◌, ◌++◌, length, Option, Some, None, refl, arith}
+use Rattle.std.proofs.Common.{ap, sym, subst, ◌∙◌, append-nil, append_assoc}
 use Rattle.worm_flit.specs.declared.Flit.{Flit}
 use Rattle.worm_mesh.specs.Address.{node_count}
 use Rattle.worm_term.specs.declared.fault.OfferFault.{OfferFault}
@@ -35,14 +36,16 @@ module _ (script : List Entry) (n : ℕ) (old new : PartState) where
         (sym (append-nil (begun_at x (due_before n script)))) (turned.sources x below own)
 
     -- the last was not
-    cut_source : (fault : StepFault) (mid : PartState) → HasTurned script n old mid → IsStopped (due n script) fault mid new →
+    cut_source : (fault : StepFault) (mid : PartState) → HasTurned script n old mid
+        → IsStopped (due n script) fault mid new →
         (taken : List Entry) × ((left : List Entry) × (begun_at x (due n script) ≡ taken ++ left))
         × HasAccepted (source_at old.net x) (begun_at x (due_before n script) ++ taken) (source_at new.net x)
     cut_source fault mid turned stopped =
         let took = stopped.sources x (there_still old mid x turned.same below) (own_still old mid x turned.same own) in (
           took.taken,
           (took.left, took.cut),
-          accepted-then (source_at old.net x) (source_at mid.net x) (source_at new.net x) (begun_at x (due_before n script))
+          accepted-then (source_at old.net x) (source_at mid.net x) (source_at new.net x)
+              (begun_at x (due_before n script))
               took.taken (turned.sources x below own) took.accepted,
         )
 
@@ -57,7 +60,8 @@ module _ (script : List Entry) (n : ℕ) (old new : PartState) where
         let cut = cut_source _ mid turned stopped in
         record { more = cut.0; first_part = cut.1; accepted = cut.2 }
 
-    cut_sink : (fault : StepFault) (mid : PartState) → HasTurned script n old mid → IsStopped (due n script) fault mid new →
+    cut_sink : (fault : StepFault) (mid : PartState) → HasTurned script n old mid
+        → IsStopped (due n script) fault mid new →
         GrewBy (n + 1) (sink_at old.net x).delivered (sink_at new.net x).delivered
     cut_sink fault mid turned stopped =
         grew_more n (sink_at old.net x).delivered (sink_at mid.net x).delivered (sink_at new.net x).delivered
@@ -80,13 +84,15 @@ module _ (script : List Entry) (n : ℕ) (old new : PartState) where
     pub next : Entry
     pub left : List Entry
     pub cut : begun_at node (due n script) ≡ taken ++ next ∷ left
-    pub accepted : HasAccepted (source_at old.net node) (begun_at node (due_before n script) ++ taken) (source_at new.net node)
+    pub accepted : HasAccepted (source_at old.net node) (begun_at node (due_before n script) ++ taken)
+        (source_at new.net node)
     pub refused : Refuses (source_at new.net node) next why
 
   pub ends_refused : (why : OfferFault) → EndsIn script n (fault_of_stop (Some (Refused why))) old new → PartRefuses why
   ends_refused why (mid, turned, stopped) =
       let r = stopped.refused why refl in
-      let below : r.node < node_count old.net.mesh = subst (λ (m : List ℕ). r.node < node_count m) turned.same.config.mesh r.there in
+      let below : r.node < node_count old.net.mesh =
+      subst (λ (m : List ℕ). r.node < node_count m) turned.same.config.mesh r.there in
       let own = own_back turned.same r.node r.own in
       record {
         node = r.node;

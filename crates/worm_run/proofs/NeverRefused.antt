@@ -1,5 +1,7 @@
 -- No source refuses an entry of an acceptable script, whatever turns the workers took in whatever order.
-use Rattle.std.proofs.Common.{◌≡◌, ℕ, zero, suc, ◌+◌, ◌*◌, ◌<◌, ◌≤◌, ◌==◌, ◌||◌, Bool, true, false, ◌⊎◌, inl, inr, List, [], ◌∷◌, ◌++◌, length, set, get_or, replicate, Option, Some, None, refl, arith, ap, sym, subst, ◌∙◌, append-nil, append_assoc, length-append}
+use Rattle.std.proofs.Common.{◌≡◌, ℕ, zero, suc, ◌+◌, ◌*◌, ◌<◌, ◌≤◌, ◌==◌, ◌||◌, Bool, true, false, ◌⊎◌, inl, inr, List}
+use Rattle.std.proofs.Common.{[], ◌∷◌, ◌++◌, length, set, get_or, replicate, Option, Some, None, refl, arith, ap, sym}
+use Rattle.std.proofs.Common.{subst, ◌∙◌, append-nil, append_assoc, length-append}
 use Rattle.std.specs.Prelude.{filter, slice_index_or, slice_index}
 use Rattle.std.proofs.lemmas.Bool.{cases_eq}
 use Rattle.std.proofs.lemmas.List.{get_or-set_other}
@@ -10,7 +12,8 @@ use Rattle.worm_flit.specs.declared.Flit.{Flit}
 use Rattle.worm_mesh.specs.Address.{node_count}
 use Rattle.worm_term.specs.declared.fault.OfferFault.{OfferFault}
 use Rattle.worm_term.specs.declared.source.LaneState.{LaneState}
-use Rattle.worm_term.specs.Source.{SourceState, IsOpen, fresh_lane, fresh_source, lane_at, lane_line, refusal, with_packet}
+use Rattle.worm_term.specs.Source.{SourceState, IsOpen, fresh_lane, fresh_source, lane_at, lane_line, refusal}
+use Rattle.worm_term.specs.Source.{with_packet}
 use Rattle.worm_theory.proofs.Places.{bool_cases}
 use Rattle.worm_core.specs.Acceptable.{AreAcceptable, IsAcceptable, IsAcceptableScript, MayClose, closes, is_closed}
 use Rattle.worm_core.specs.NewNet.{IsFresh}
@@ -41,10 +44,12 @@ or_cases : (a b : Bool) → (a || b) ≡ true → (a ≡ true) ⊎ (b ≡ true)
 or_cases true b e = inl refl
 or_cases false b e = inr e
 
-still_closed : (before more : List Entry) (lane : Lane) → is_closed before lane ≡ true → is_closed (before ++ more) lane ≡ true
+still_closed : (before more : List Entry) (lane : Lane) → is_closed before lane ≡ true
+    → is_closed (before ++ more) lane ≡ true
 still_closed before more lane e = list_any-append (λ (f : Entry). closes lane f.act) before more ∙ rw e refl
 
-closed_behind : (before more : List Entry) (lane : Lane) → is_closed more lane ≡ true → is_closed (before ++ more) lane ≡ true
+closed_behind : (before more : List Entry) (lane : Lane) → is_closed more lane ≡ true
+    → is_closed (before ++ more) lane ≡ true
 closed_behind before more lane e =
     list_any-append (λ (f : Entry). closes lane f.act) before more
     ∙ (ap (λ (b : Bool). is_closed before lane || b) e ∙ or_true (is_closed before lane))
@@ -60,7 +65,8 @@ less_both some all e less lane shut =
       | inr here ↦ closed_behind all (e ∷ []) lane here
     ]
 
-open_still : (some all : List Entry) (lane : Lane) → Less some all → is_closed all lane ≡ false → is_closed some lane ≡ false
+open_still : (some all : List Entry) (lane : Lane) → Less some all → is_closed all lane ≡ false
+    → is_closed some lane ≡ false
 open_still some all lane less is_open = elim (bool_cases (is_closed some lane)) [
   | inl shut ↦ let also = less lane shut in absurd (cc)
   | inr yet ↦ yet
@@ -93,7 +99,8 @@ module _ (mesh channels : List ℕ) where
   ]
 
   -- each behind those before it
-  acceptable_at : (before pre left : List Entry) (next : Entry) → AreAcceptable mesh channels before (pre ++ next ∷ left) →
+  acceptable_at : (before pre left : List Entry) (next : Entry)
+      → AreAcceptable mesh channels before (pre ++ next ∷ left) →
       IsAcceptable mesh channels (before ++ pre) next.act
   acceptable_at before [] left next fine =
       subst (λ (b : List Entry). IsAcceptable mesh channels b next.act) (sym (append-nil before)) fine.0
@@ -112,7 +119,11 @@ module _ (mesh channels : List ℕ) where
   begun_of : (x : ℕ) (before es : List Entry) → AreAcceptable mesh channels before es → AreOf x (begun_at x es)
   begun_of x before [] fine = tt
   begun_of x before (e ∷ es) fine = elim (bool_cases ((lane_of e.act).src == x)) [
-    | inl passes ↦ rw passes (is_same (lane_of e.act).src x passes, fine.0.class, begun_of x (before ++ e ∷ []) es fine.1)
+    | inl passes ↦ rw passes (
+      is_same (lane_of e.act).src x passes,
+      fine.0.class,
+      begun_of x (before ++ e ∷ []) es fine.1,
+    )
     | inr fails ↦ rw fails (begun_of x (before ++ e ∷ []) es fine.1)
   ]
 
@@ -135,12 +146,14 @@ module _ (mesh channels : List ℕ) where
     classes : s.channels ≡ channels
     lanes : (lane : Lane) → lane.src ≡ x → lane.class < length channels → LaneFits s before lane
 
-  set_read : {A : Type 0} (xs : List A) (i : ℕ) (v d : A) → (get_or (set xs i v) i d ≡ v) ⊎ (get_or (set xs i v) i d ≡ get_or xs i d)
+  set_read : {A : Type 0} (xs : List A) (i : ℕ) (v d : A)
+      → (get_or (set xs i v) i d ≡ v) ⊎ (get_or (set xs i v) i d ≡ get_or xs i d)
   set_read [] i v d = inr refl
   set_read (x ∷ xs) zero v d = inl refl
   set_read (x ∷ xs) (suc i) v d = set_read xs i v d
 
-  fits_on : (s : SourceState) (before more : List Entry) (lane : Lane) → LaneFits s before lane → LaneFits s (before ++ more) lane
+  fits_on : (s : SourceState) (before more : List Entry) (lane : Lane) → LaneFits s before lane
+      → LaneFits s (before ++ more) lane
   fits_on s before more lane h = record {
     closed = λ shut. still_closed before more lane (h.closed shut);
     next = let few = h.next in let count = length-append before more in omega arith;
@@ -186,7 +199,8 @@ module _ (mesh channels : List ℕ) where
               elim read [
                 | inl now ↦ record {
                   closed = λ shut. closed_behind before (e ∷ []) other
-                      (closes_itself e other (ap (λ (a : LaneState). a.closed) (sym now) ∙ shut) (other_src ∙ sym src) both.0 both.1);
+                      (closes_itself e other (ap (λ (a : LaneState). a.closed) (sym now) ∙ shut)
+                      (other_src ∙ sym src) both.0 both.1);
                   next = let few = own.next in let is = ap (λ (a : LaneState). a.next) now in
                       let longer = length-append before (e ∷ []) in omega arith;
                 }
@@ -212,8 +226,10 @@ module _ (mesh channels : List ℕ) where
   fits_act x s before e h src class_in = by_act e.turn e.act src class_in where
     by_act : (turn : ℕ) (act : Act) → (lane_of act).src ≡ x → (lane_of act).class < length channels →
         Fits x (after_act s act) (before ++ record { turn = turn; act = act } ∷ [])
-    by_act turn (Offer packet) own in_class = fits_packet x s before (record { turn = turn; act = Offer packet }) _ h own in_class
-    by_act turn (Close closed) own in_class = fits_packet x s before (record { turn = turn; act = Close closed }) _ h own in_class
+    by_act turn (Offer packet) own in_class =
+        fits_packet x s before (record { turn = turn; act = Offer packet }) _ h own in_class
+    by_act turn (Close closed) own in_class =
+        fits_packet x s before (record { turn = turn; act = Close closed }) _ h own in_class
 
   fits_all : (x : ℕ) (s : SourceState) (before es : List Entry) → Fits x s before → AreOf x es →
       Fits x (after_entries s es) (before ++ es)
@@ -285,14 +301,16 @@ module _ (mesh channels : List ℕ) where
     one_channel last =
         subst (λ (c : List ℕ). slice_index c (lane_of next.act).class ≤ 1) (sym (has.channels ∙ fits.classes))
         (by_act next.act last fine.may_close) where
-          by_act : (act : Act) → is_close act ≡ true → MayClose channels act → slice_index channels (lane_of act).class ≤ 1
+          by_act : (act : Act) → is_close act ≡ true → MayClose channels act
+              → slice_index channels (lane_of act).class ≤ 1
           by_act (Offer packet) last may = absurd (cc)
           by_act (Close lane) last may = omega arith
 
     takes_next : refusal new (lane_of next.act) (is_close next.act) ≡ None
     takes_next = refuses_none new (lane_of next.act) (is_close next.act) is_open one_channel
 
-  pub never_refuses : (script : List Entry) → IsAcceptableScript mesh channels script → (x n : ℕ) (taken left : List Entry)
+  pub never_refuses : (script : List Entry) → IsAcceptableScript mesh channels script
+      → (x n : ℕ) (taken left : List Entry)
       (next : Entry) (new : SourceState) (why : OfferFault) → begun_at x (due n script) ≡ taken ++ next ∷ left →
       HasAccepted (fresh_source x (node_count mesh) channels) (begun_at x (due_before n script) ++ taken) new →
       Refuses new next why → ⊥
@@ -300,9 +318,12 @@ module _ (mesh channels : List ℕ) where
       let P = begun_at x (due_before n script) in
       let all : List Entry = begun_at x (due_before (n + 1) script) in
       let whole : all ≡ (P ++ taken) ++ next ∷ left
-      = begun-more script n x fine.in_order ∙ (ap (λ (l : List Entry). P ++ l) cut ∙ sym (append_assoc P taken (next ∷ left))) in
-      let below = picked (λ (e : Entry). Rattle.std.specs.Prelude.nat_lt e.turn (n + 1)) [] [] script (λ lane shut. shut) fine.entries in
-      let here = picked (λ (e : Entry). (lane_of e.act).src == x) [] [] (due_before (n + 1) script) (λ lane shut. shut) below in
+      = begun-more script n x fine.in_order
+      ∙ (ap (λ (l : List Entry). P ++ l) cut ∙ sym (append_assoc P taken (next ∷ left))) in
+      let below = picked (λ (e : Entry). Rattle.std.specs.Prelude.nat_lt e.turn (n + 1)) [] [] script
+      (λ lane shut. shut) fine.entries in
+      let here = picked (λ (e : Entry). (lane_of e.act).src == x) [] [] (due_before (n + 1) script)
+      (λ lane shut. shut) below in
       let of = begun_of x [] (due_before (n + 1) script) below in
       let fine_next = acceptable_at [] (P ++ taken) left next
       (subst (λ (l : List Entry). AreAcceptable mesh channels [] l) whole here) in
@@ -319,7 +340,8 @@ module _ (mesh channels : List ℕ) where
 
 -- A run of workers on a new network, by such a script
 
-fresh_at : (mesh channels : List ℕ) (depth : ℕ) (names : List (List ℕ)) (s : NetState) → IsFresh mesh channels depth names s →
+fresh_at : (mesh channels : List ℕ) (depth : ℕ) (names : List (List ℕ)) (s : NetState)
+    → IsFresh mesh channels depth names s →
     (x : ℕ) → source_at s x ≡ fresh_source x (node_count mesh) channels
 fresh_at mesh channels depth names s fresh x =
     let same : node_at s x ≡ slice_index_or s.nodes x (fresh_node mesh channels depth x)
@@ -338,4 +360,5 @@ run_never_refuses may mesh channels depth names script plan old end fresh fine r
     let has : HasAccepted (fresh_source r.node (node_count mesh) channels) accepted (source_at end.net r.node)
     = subst (λ (s : SourceState). HasAccepted s accepted (source_at end.net r.node))
     (fresh_at mesh channels depth names old fresh r.node) r.accepted in
-    never_refuses mesh channels script fine r.node n r.taken r.left r.next (source_at end.net r.node) why r.cut has r.refused
+    never_refuses mesh channels script fine r.node n r.taken r.left r.next
+    (source_at end.net r.node) why r.cut has r.refused

@@ -1,5 +1,6 @@
 -- The parts that workers gave back, by worker.
-use Rattle.std.proofs.Common.{◌≡◌, ℕ, zero, suc, ◌+◌, ◌<◌, ◌≤◌, List, [], ◌∷◌, length, map, refl, arith, ap, sym, subst, ◌∙◌}
+use Rattle.std.proofs.Common.{◌≡◌, ℕ, zero, suc, ◌+◌, ◌<◌, ◌≤◌, List, [], ◌∷◌, length, map, refl, arith, ap, sym, subst}
+use Rattle.std.proofs.Common.{◌∙◌}
 use Rattle.std.specs.Prelude.{slice_index_or}
 use Rattle.std.proofs.lemmas.List.{get_or-map, length-map}
 use Rattle.worm_core.specs.State.{NetState}
@@ -47,7 +48,8 @@ module _ (may : ℕ → ℕ → Type 0) (script : List Entry) (turns : ℕ) wher
       (each_worked (first + 1) ps ws all.1 i (omega arith))
 
 -- a network was split, and each worker worked on its part
-module _ (may : ℕ → ℕ → Type 0) (script : List Entry) (turns : ℕ) (old : NetState) (workers : ℕ) (parts : List PartState)
+module _ (may : ℕ → ℕ → Type 0) (script : List Entry) (turns : ℕ) (old : NetState) (workers : ℕ)
+    (parts : List PartState)
     (done : List Worked) (split : IsSplitOf old workers parts) (all : AllWorked may script turns 0 parts done) where
   abbrev pub moved : List PartState
   moved = map part_of done
@@ -64,14 +66,16 @@ module _ (may : ℕ → ℕ → Type 0) (script : List Entry) (turns : ℕ) (old
 
   pub moved_at : (w : ℕ) → w < workers → part_at moved w ≡ (worked_at done w).part
   moved_at w below =
-      let within : w < length done = let n = split.count in let m = as_many may script turns 0 parts done all in omega arith in
+      let within : w < length done = let n = split.count in let m = as_many may script turns 0 parts done all in
+      omega arith in
       get_or-map part_of done w no_work no_part within
 
   pub same : (w : ℕ) → w < workers → IsSamePart (part_at parts w) (part_at moved w)
   same w below =
       let did = worked w below in
       subst (λ (p : PartState). IsSamePart (part_at parts w) p) (sym (moved_at w below))
-      (ends_same script (worked_at done w).ended (part_at parts w) (worked_at done w).part (fault_of_stop (worked_at done w).stop)
+      (ends_same script (worked_at done w).ended (part_at parts w) (worked_at done w).part
+      (fault_of_stop (worked_at done w).stop)
       did.ends)
 
   first_part : (w : ℕ) → w < workers → IsFirstPart old workers w split.lines (part_at parts w)

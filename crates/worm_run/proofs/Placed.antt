@@ -6,13 +6,15 @@ use Rattle.worm_swalloc.specs.declared.grant.SwGrant.{SwGrant}
 use Rattle.worm_theory.specs.Steps.{Step, Feed, Route, Send, Take, GiveCredit, TakeCredit}
 use Rattle.worm_core.specs.Replies.{Attempts}
 use Rattle.worm_core.specs.State.{NetState}
-use Rattle.worm_core.specs.Turns.{Passage, AsksSourceBy, ComesInBy, TakesCreditsBy, TakesFlitsBy, FeedsClassesBy, RoutesChannelsBy, RoutesPortBy, Allocates, fault_of}
+use Rattle.worm_core.specs.Turns.{Passage, AsksSourceBy, ComesInBy, TakesCreditsBy, TakesFlitsBy, FeedsClassesBy}
+use Rattle.worm_core.specs.Turns.{RoutesChannelsBy, RoutesPortBy, Allocates, fault_of}
 use Rattle.worm_core.specs.declared.script.Entry.{Entry}
 use Rattle.worm_core.specs.declared.step.Moved.{Moved}
 use Rattle.worm_core.specs.declared.fault.StepFault.{StepFault}
 use Rattle.worm_core.specs.declared.fault.StepFault.TheVariants.{NoSuchPlace, Refused, NoMemory}
 use Rattle.worm_split.specs.PartState.{PartState}
-use Rattle.worm_split.specs.PartTurns.{Within, PullsCredits, PullsFlits, SendsGranted, SendsGrant, Sends, GivesCredits, GivesCredit, Gives, NodeTurn, Turn, EachOf, PartPassage, PullsCredit, PullsFlit}
+use Rattle.worm_split.specs.PartTurns.{Within, PullsCredits, PullsFlits, SendsGranted, SendsGrant, Sends, GivesCredits}
+use Rattle.worm_split.specs.PartTurns.{GivesCredit, Gives, NodeTurn, Turn, EachOf, PartPassage, PullsCredit, PullsFlit}
 use Rattle.worm_split.proofs.Told.{Tells, TellsOf, then_tells, each_tells, then_tells_of, each_tells_of}
 
 abbrev Placed : Passage
@@ -66,7 +68,8 @@ node_turn entries x =
     then (Within (AsksSourceBy Attempts entries x)) _
     (within (AsksSourceBy Attempts entries x) (λ old. each_tells Placed at_rest on Attempts tried _ old))
     (then (PullsCredits x) _
-    (λ old. each_tells_of Placed at_rest on (PullsCredit x) (λ o a b fault made. no_fault a.net b.net fault made.0) _ old)
+    (λ old. each_tells_of Placed at_rest on (PullsCredit x)
+    (λ o a b fault made. no_fault a.net b.net fault made.0) _ old)
     (then (PullsFlits x) _
     (λ old. each_tells_of Placed at_rest on (PullsFlit x) (λ p a b fault made. no_fault a.net b.net fault made.0) _ old)
     (then (Within (ComesInBy Attempts x)) _ (within (ComesInBy Attempts x) (comes_in x))

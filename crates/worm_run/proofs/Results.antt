@@ -1,5 +1,6 @@
 -- What a run gives, read off what its workers did.
-use Rattle.std.proofs.Common.{◌≡◌, ℕ, ◌+◌, ◌<◌, ◌≤◌, ◌%◌, ◌==◌, true, List, [], ◌∷◌, ◌++◌, length, map, Option, Some, None, refl, arith, ap, sym, subst, ◌∙◌}
+use Rattle.std.proofs.Common.{◌≡◌, ℕ, ◌+◌, ◌<◌, ◌≤◌, ◌%◌, ◌==◌, true, List, [], ◌∷◌, ◌++◌, length, map, Option, Some}
+use Rattle.std.proofs.Common.{None, refl, arith, ap, sym, subst, ◌∙◌}
 use Rattle.std.proofs.lemmas.List.{get_or-map, length-map}
 use Rattle.std.proofs.lemmas.Nat.{mod_below}
 use Rattle.worm_flit.specs.declared.Flit.{Flit}
@@ -17,7 +18,8 @@ use Rattle.worm_split.specs.Effects.{HasAccepted, Refuses}
 use Rattle.worm_split.specs.Joins.{IsJoinOf, IsLaterThan, owner_of}
 use Rattle.worm_split.specs.PartState.{PartState, HasConfigOf}
 use Rattle.worm_split.specs.Splits.{IsSplitOf, part_at}
-use Rattle.worm_run.specs.Runs.{Ending, HasWorkers, IsRunOf, RanAs, RefusesItsNext, RunsTo, SourceRan, ending_at, ending_of, most_flits}
+use Rattle.worm_run.specs.Runs.{Ending, HasWorkers, IsRunOf, RanAs, RefusesItsNext, RunsTo, SourceRan, ending_at}
+use Rattle.worm_run.specs.Runs.{ending_of, most_flits}
 use Rattle.worm_run.specs.Working.{AllWorked, EndsIn, GrewBy, StopsAs, WorkedAs, due_before, fault_of_stop}
 use Rattle.worm_run.specs.declared.plan.RunEnd.{RunEnd}
 use Rattle.worm_run.specs.declared.running.Ran.{Ran}
@@ -34,13 +36,15 @@ same_number a = grind arith
 number_is : (a b : ℕ) → (a == b) ≡ true → a ≡ b
 number_is a b e = grind (arith, e)
 
-ended_of : (done : List Worked) → map (λ (w : Worked). w.ended) done ≡ map (λ (e : Ending). e.ended) (map ending_of done)
+ended_of : (done : List Worked) → map (λ (w : Worked). w.ended) done
+    ≡ map (λ (e : Ending). e.ended) (map ending_of done)
 ended_of [] = refl
 ended_of (w ∷ ws) = ap (λ (l : List ℕ). w.ended ∷ l) (ended_of ws)
 
 -- what came back, sorted out, and joined
 pub run_of : (may : ℕ → ℕ → Type 0) (script : List Entry) (plan : RunPlan) (old net : NetState) (parts : List PartState)
-    (ran : Ran) → IsSplitOf old plan.workers parts → RanAs may script plan.turns parts ran → IsJoinOf ran.parts.items net →
+    (ran : Ran) → IsSplitOf old plan.workers parts → RanAs may script plan.turns parts ran
+    → IsJoinOf ran.parts.items net →
     IsRunOf may script plan old (record { net = net; stops = ran.stops; ended = ran.ended })
 run_of may script plan old net parts ran split so joined = record {
   parts = parts;
@@ -54,7 +58,8 @@ run_of may script plan old net parts ran split so joined = record {
 
 -- and it is later than the network that was split
 pub later_of : (may : ℕ → ℕ → Type 0) (script : List Entry) (turns : ℕ) (old net : NetState) (workers : ℕ)
-    (parts : List PartState) (ran : Ran) → IsSplitOf old workers parts → RanAs may script turns parts ran → 0 < workers →
+    (parts : List PartState) (ran : Ran) → IsSplitOf old workers parts → RanAs may script turns parts ran
+    → 0 < workers →
     IsLaterThan (part_at ran.parts.items 0).opening net → IsLaterThan old net
 later_of may script turns old net workers parts ran split so some later =
     let same : (part_at ran.parts.items 0).opening ≡ old
@@ -140,10 +145,13 @@ module _ (may : ℕ → ℕ → Type 0) (script : List Entry) (plan : RunPlan) (
         (sink_at old x).delivered (sink_at end.net x).delivered
     sink =
         let grew = ends_sink script did_w.ended before did_w.part x in_part mine did_w.stop (did w below).ends in
-        subst (λ (e : Ending). GrewBy (most_flits e.ended e.why) (sink_at old x).delivered (sink_at end.net x).delivered)
+        subst (λ (e : Ending). GrewBy (most_flits e.ended e.why) (sink_at old x).delivered
+        (sink_at end.net x).delivered)
         (sym (ending w below))
-        (subst (λ (n : Node). GrewBy (most_flits did_w.ended did_w.stop) n.sink.delivered (sink_at end.net x).delivered) from
-        (subst (λ (n : Node). GrewBy (most_flits did_w.ended did_w.stop) (sink_at before.net x).delivered n.sink.delivered)
+        (subst (λ (n : Node). GrewBy (most_flits did_w.ended did_w.stop) n.sink.delivered (sink_at end.net x).delivered)
+        from
+        (subst (λ (n : Node). GrewBy (most_flits did_w.ended did_w.stop)
+        (sink_at before.net x).delivered n.sink.delivered)
         (sym to) grew))
 
   -- by worker
@@ -157,17 +165,23 @@ module _ (may : ℕ → ℕ → Type 0) (script : List Entry) (plan : RunPlan) (
   refuses w why under is =
       let d = worked_at done w in
       let stopped : d.stop ≡ Some (Refused why) = ap (λ (e : Ending). e.why) (sym (ending w under)) ∙ is in
-      let r : PartRefuses script d.ended (part_at parts w) d.part why = ends_refused script d.ended (part_at parts w) d.part why
-      (subst (λ (s : Option StopWhy). EndsIn script d.ended (fault_of_stop s) (part_at parts w) d.part) stopped (did w under).ends) in
+      let r : PartRefuses script d.ended (part_at parts w) d.part why =
+      ends_refused script d.ended (part_at parts w) d.part why
+      (subst (λ (s : Option StopWhy). EndsIn script d.ended (fault_of_stop s) (part_at parts w) d.part) stopped
+      (did w under).ends) in
       let first = ran.split.each w under in
-      let there : r.node < node_count old.mesh = subst (λ (m : List ℕ). r.node < node_count m) first.config.mesh r.there in
+      let there : r.node < node_count old.mesh =
+      subst (λ (m : List ℕ). r.node < node_count m) first.config.mesh r.there in
       let own : (r.node % W == w) ≡ true = subst (λ (o : Own). owned_by o r.node ≡ true) first.own r.own in
       let at_w : r.node % W ≡ w = number_is (r.node % W) w own in
-      let before : source_at (part_at parts w).net r.node ≡ source_at old r.node = ap (λ (n : Node). n.source) (first.nodes r.node r.own) in
+      let before : source_at (part_at parts w).net r.node ≡ source_at old r.node =
+      ap (λ (n : Node). n.source) (first.nodes r.node r.own) in
       let behind : source_at end.net r.node ≡ source_at d.part.net r.node
-      = ap (λ (n : Node). n.source) (to r.node there) ∙ ap (λ (v : ℕ). source_at (worked_at done v).part.net r.node) at_w in
+      = ap (λ (n : Node). n.source) (to r.node there)
+      ∙ ap (λ (v : ℕ). source_at (worked_at done v).part.net r.node) at_w in
       let accepted : List Entry = begun_at r.node (due_before d.ended script) ++ r.taken in
-      subst (λ (n : ℕ). RefusesItsNext script n why W w old end.net) (ap (λ (e : Ending). e.ended) (sym (ending w under))) record {
+      subst (λ (n : ℕ). RefusesItsNext script n why W w old end.net)
+      (ap (λ (e : Ending). e.ended) (sym (ending w under))) record {
         node = r.node;
         there = there;
         own = at_w;
@@ -176,7 +190,8 @@ module _ (may : ℕ → ℕ → Type 0) (script : List Entry) (plan : RunPlan) (
         left = r.left;
         cut = r.cut;
         accepted = subst (λ (s : SourceState). HasAccepted s accepted (source_at end.net r.node)) before
-            (subst (λ (s : SourceState). HasAccepted (source_at (part_at parts w).net r.node) accepted s) (sym behind) r.accepted);
+            (subst (λ (s : SourceState). HasAccepted (source_at (part_at parts w).net r.node) accepted s)
+            (sym behind) r.accepted);
         refused = subst (λ (s : SourceState). Refuses s r.next why) (sym behind) r.refused;
       }
 

@@ -9,7 +9,8 @@ use Rattle.worm_run.specs.declared.plan.StopWhy.{StopWhy}
 use Rattle.worm_run.specs.declared.plan.StopWhy.TheVariants.{Gate, NoMemory, Refused}
 
 -- a fault stopped its turn
-pub stopped_at : (may : ℕ → ℕ → Type 0) (script : List Entry) (turns worker n : ℕ) (old mid new : PartState) (fault : StepFault)
+pub stopped_at : (may : ℕ → ℕ → Type 0) (script : List Entry) (turns worker n : ℕ) (old mid new : PartState)
+    (fault : StepFault)
     (why : StopWhy) → n < turns → fault_behind why ≡ Some fault → HasTurned script n old mid →
     IsStopped (due n script) fault mid new →
     WorkedAs may script turns worker old (record { part = new; ended = n; stop = Some why })

@@ -1,5 +1,6 @@
 -- A part that takes one turn after another.
-use Rattle.std.proofs.Common.{◌≡◌, ℕ, ◌+◌, ◌<◌, ◌≤◌, true, List, [], ◌∷◌, ◌++◌, length, Option, Some, None, refl, arith, ap, sym, subst, ◌∙◌, append-nil, append_assoc, length-append}
+use Rattle.std.proofs.Common.{◌≡◌, ℕ, ◌+◌, ◌<◌, ◌≤◌, true, List, [], ◌∷◌, ◌++◌, length, Option, Some, None, refl, arith}
+use Rattle.std.proofs.Common.{ap, sym, subst, ◌∙◌, append-nil, append_assoc, length-append}
 use Rattle.std.specs.Option.{option_to_list}
 use Rattle.worm_flit.specs.declared.Flit.{Flit}
 use Rattle.worm_mesh.specs.Address.{node_count}
@@ -41,7 +42,8 @@ unfolding Turns
 turned-none script p = record {
   exact = (refl, refl);
   same = same_still p;
-  sources = λ x below own. subst (λ (es : List Entry). HasAccepted (source_at p.net x) (begun_at x es) (source_at p.net x)) (sym (due_before-zero script)) (accepted-none (source_at p.net x));
+  sources = λ x below own. subst (λ (es : List Entry). HasAccepted (source_at p.net x) (begun_at x es)
+      (source_at p.net x)) (sym (due_before-zero script)) (accepted-none (source_at p.net x));
   sinks = λ x below own. ([], sym (append-nil (sink_at p.net x).delivered), omega arith);
 }
 
@@ -56,10 +58,14 @@ module _ (script : List Entry) (n : ℕ) (in_order : AreInOrder script) (old mid
     sources = λ x below own.
         let took = sources x (there_still old mid x turned.same below) (own_still old mid x turned.same own) in
         let then : HasAccepted (source_at mid.net x) (begun_at x (due n script)) (source_at new.net x) = subst
-        (λ (es : List Entry). HasAccepted (source_at mid.net x) es (source_at new.net x)) (sym (took.all refl)) took.accepted in
-        subst (λ (es : List Entry). HasAccepted (source_at old.net x) es (source_at new.net x)) (sym (begun-more script n x in_order))
-        (accepted-then (source_at old.net x) (source_at mid.net x) (source_at new.net x) (begun_at x (due_before n script)) (begun_at x (due n script)) (turned.sources x below own) then);
+        (λ (es : List Entry). HasAccepted (source_at mid.net x) es (source_at new.net x))
+        (sym (took.all refl)) took.accepted in
+        subst (λ (es : List Entry). HasAccepted (source_at old.net x) es (source_at new.net x))
+        (sym (begun-more script n x in_order))
+        (accepted-then (source_at old.net x) (source_at mid.net x) (source_at new.net x)
+        (begun_at x (due_before n script)) (begun_at x (due n script)) (turned.sources x below own) then);
     sinks = λ x below own.
-        grew_more n (sink_at old.net x).delivered (sink_at mid.net x).delivered (sink_at new.net x).delivered (turned.sinks x below own)
+        grew_more n (sink_at old.net x).delivered (sink_at mid.net x).delivered (sink_at new.net x).delivered
+        (turned.sinks x below own)
         (sinks x (there_still old mid x turned.same below) (own_still old mid x turned.same own));
   }

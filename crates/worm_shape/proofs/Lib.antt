@@ -9,3 +9,4 @@ pub mod Elsewhere
 pub mod PastPlaces
 pub mod StepsCut
 mod Worked
+pub mod SameLane

@@ -24,18 +24,26 @@ use Rattle.worm_shape.proofs.Shapes.{shape_is_mesh}
 use Rattle.worm_shape.proofs.Joined.{joined_all}
 
 -- the machine of a lane is one
-pub machine_stands : (ks counts : List ℕ) (depth : ℕ) (net : Network) (lane : Lane) (c : ℕ) → IsMachine (lane_machine ks (shape_of ks counts depth) net lane c)
+pub machine_stands : (ks counts : List ℕ) (depth : ℕ) (net : Network) (lane : Lane) (c : ℕ)
+    → IsMachine (lane_machine ks (shape_of ks counts depth) net lane c)
 machine_stands ks counts depth net lane c =
-    IsMachine-of (lane_held (shape_of ks counts depth) net lane c) (delivered (shape_of ks counts depth) net lane) (places_of ks lane.src lane.dst)
+    IsMachine-of (lane_held (shape_of ks counts depth) net lane c) (delivered (shape_of ks counts depth) net lane)
+    (places_of ks lane.src lane.dst)
 
 module _ (ks counts : List ℕ) (depth : ℕ) (mesh : MeshHolds ks) (net : Network) where
   -- its list is what the theory has delivered and under way
-  items_are : (lane : Lane) (c : ℕ) → HasLane (shape_of ks counts depth) lane → (lane_machine ks (shape_of ks counts depth) net lane c).items ≡ delivered (shape_of ks counts depth) net lane ++ underway (shape_of ks counts depth) net lane c
+  items_are : (lane : Lane) (c : ℕ) → HasLane (shape_of ks counts depth) lane
+      → (lane_machine ks (shape_of ks counts depth) net lane c).items ≡ delivered (shape_of ks counts depth) net lane
+      ++ underway (shape_of ks counts depth) net lane c
   items_are lane c there =
       let s = shape_of ks counts depth in
       ap (λ v. delivered (shape_of ks counts depth) net lane ++ v)
-      (joined_all ks counts depth (AreLarge-from_radices ks mesh.radices) lane.dst there.destination (lane_held s net lane c) (lane_line net lane) (λ x o h. rw (ne_eqb o (2 * length ks) (λ e. absurd (omega arith))) refl) lane.src there.source ∙
-      ap (λ v. underway_from (shape_of ks counts depth) (lane_store net lane c) (lane_line net lane) lane.dst (hops_of ks lane.src lane.dst) lane.src (2 * length ks) ++ v) (append-nil (held lane (net.unfed lane.src lane.class))))
+      (joined_all ks counts depth (AreLarge-from_radices ks mesh.radices) lane.dst there.destination
+      (lane_held s net lane c) (lane_line net lane)
+      (λ x o h. rw (ne_eqb o (2 * length ks) (λ e. absurd (omega arith))) refl) lane.src there.source ∙
+      ap (λ v. underway_from (shape_of ks counts depth) (lane_store net lane c) (lane_line net lane) lane.dst
+      (hops_of ks lane.src lane.dst) lane.src (2 * length ks) ++ v)
+      (append-nil (held lane (net.unfed lane.src lane.class))))
 
   pub lanes_are_cut : LanesCut (shape_of ks counts depth) net → LanesAreCut ks (shape_of ks counts depth) net
   lanes_are_cut cut = λ lane c there owned alone. items_are lane c there ∙ cut lane c there owned alone
@@ -43,11 +51,16 @@ module _ (ks counts : List ℕ) (depth : ℕ) (mesh : MeshHolds ks) (net : Netwo
   packet_items_are : ChannelsCut (shape_of ks counts depth) net → PacketsAreCut ks (shape_of ks counts depth) net
   packet_items_are cut = λ lane k there.
       ap (λ v. packet_held lane k (net.out lane.dst (2 * length ks)) ++ v)
-      (joined_all ks counts depth (AreLarge-from_radices ks mesh.radices) lane.dst there.destination (packet_at (shape_of ks counts depth) net lane k) (class_line (shape_of ks counts depth) net lane k)
+      (joined_all ks counts depth (AreLarge-from_radices ks mesh.radices) lane.dst there.destination
+      (packet_at (shape_of ks counts depth) net lane k) (class_line (shape_of ks counts depth) net lane k)
       (λ x o h. rw (ne_eqb o (2 * length ks) (λ e. absurd (omega arith))) refl) lane.src there.source ∙
-      ap (λ v. underway_from (shape_of ks counts depth) (class_store (shape_of ks counts depth) net lane k) (class_line (shape_of ks counts depth) net lane k) lane.dst (hops_of ks lane.src lane.dst) lane.src (2 * length ks) ++ v) (append-nil (packet_held lane k (net.unfed lane.src lane.class)))) ∙
+      ap (λ v. underway_from (shape_of ks counts depth) (class_store (shape_of ks counts depth) net lane k)
+      (class_line (shape_of ks counts depth) net lane k) lane.dst (hops_of ks lane.src lane.dst) lane.src
+      (2 * length ks) ++ v) (append-nil (packet_held lane k (net.unfed lane.src lane.class)))) ∙
       cut lane k there
 
-  pub packets_are_cut : AreChannels counts → Sound (shape_of ks counts depth) net → PacketsHold (shape_of ks counts depth) net → PacketsAreCut ks (shape_of ks counts depth) net
+  pub packets_are_cut : AreChannels counts → Sound (shape_of ks counts depth) net
+      → PacketsHold (shape_of ks counts depth) net → PacketsAreCut ks (shape_of ks counts depth) net
   packets_are_cut classes sound hold =
-      packet_items_are (λ lane k there. channels_cut (shape_of ks counts depth) (shape_is_mesh ks counts depth mesh classes) lane there k net sound hold)
+      packet_items_are (λ lane k there. channels_cut (shape_of ks counts depth)
+      (shape_is_mesh ks counts depth mesh classes) lane there k net sound hold)

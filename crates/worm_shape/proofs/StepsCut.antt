@@ -18,9 +18,15 @@ pub record IsKept (ks counts : List ℕ) (depth : ℕ) (net : Network) : Type 0 
   pub lanes : LanesCut (shape_of ks counts depth) net
   pub packets : PacketsHold (shape_of ks counts depth) net
 
-pub steps_kept : (ks counts : List ℕ) (depth : ℕ) (steps : List Step) (new : Network) → MeshHolds ks → AreChannels counts → StepsLead (shape_of ks counts depth) (empty (shape_of ks counts depth)) steps new → IsKept ks counts depth new
+pub steps_kept : (ks counts : List ℕ) (depth : ℕ) (steps : List Step) (new : Network) → MeshHolds ks
+    → AreChannels counts → StepsLead (shape_of ks counts depth) (empty (shape_of ks counts depth)) steps new
+    → IsKept ks counts depth new
 steps_kept ks counts depth steps new mesh classes lead =
     let s = shape_of ks counts depth in
     let good = shape_is_mesh ks counts depth mesh classes in
     let kept = steps_keep s good steps (empty s) new lead (empty_sound s) (empty_cut s good) in
-    record { sound = kept.0; lanes = kept.1; packets = steps_packets s good steps (empty s) new lead (empty_sound s) (empty_packets s good) }
+    record {
+      sound = kept.0;
+      lanes = kept.1;
+      packets = steps_packets s good steps (empty s) new lead (empty_sound s) (empty_packets s good);
+    }

@@ -1,5 +1,5 @@
--- The definitions at worked values that were taken from outside: runs of a few steps on a line of two nodes, with the terminal at
--- port 2.
+-- The definitions at worked values that were taken from outside: runs of a few steps on a line of two nodes, with the
+-- terminal at port 2.
 use Rattle.std.proofs.Common.{◌≡◌, List, [], ◌∷◌, refl}
 use Rattle.worm_flit.specs.declared.Lane.{Lane}
 use Rattle.worm_flit.specs.declared.Kind.TheVariants.{Head, Tail, Single}
@@ -40,7 +40,8 @@ cuts_then : (lane_machine (2 ∷ []) line (run line (empty line) head_sent) back
 unfolding run line back head_sent
 cuts_then = refl
 
-list_then : (lane_machine (2 ∷ []) line (run line (empty line) head_sent) back 0).items ≡ flit back 0 0 Head 17 ∷ flit back 0 1 Tail 18 ∷ []
+list_then : (lane_machine (2 ∷ []) line (run line (empty line) head_sent) back 0).items
+    ≡ flit back 0 0 Head 17 ∷ flit back 0 1 Tail 18 ∷ []
 unfolding run line back head_sent
 list_then = refl
 
@@ -53,17 +54,21 @@ there = record { src = 0; dst = 1; class = 0 }
 
 overtaken : List Step
 overtaken =
-    Offer 0 there (1 ∷ 2 ∷ []) ∷ Offer 0 there (3 ∷ []) ∷ Feed 0 0 ∷ Feed 0 0 ∷ Route 0 2 0 ∷ Grant 0 2 0 0 ∷ Send 0 2 0 ∷ Send 0 2 0
-    ∷ Feed 0 0 ∷ Route 0 2 0 ∷ Grant 0 2 0 1 ∷ Send 0 2 0 ∷ Take 1 0 ∷ Take 1 0 ∷ Take 1 0 ∷ Route 1 0 1 ∷ Grant 1 0 1 1 ∷ Send 1 0 1 ∷ []
+    Offer 0 there (1 ∷ 2 ∷ []) ∷ Offer 0 there
+    (3 ∷ []) ∷ Feed 0 0 ∷ Feed 0 0 ∷ Route 0 2 0 ∷ Grant 0 2 0 0 ∷ Send 0 2 0 ∷ Send 0 2 0
+    ∷ Feed 0 0 ∷ Route 0 2 0 ∷ Grant 0 2 0 1 ∷ Send 0 2 0 ∷ Take 1 0 ∷ Take 1 0 ∷ Take 1 0 ∷ Route 1 0 1 ∷ Grant 1 0 1 1
+    ∷ Send 1 0 1 ∷ []
 
 second_delivered : packet_along wide (run wide (empty wide) overtaken) there 1 [] ≡ flit there 1 0 Single 3 ∷ []
 unfolding run wide there overtaken
 second_delivered = refl
 
-first_in_buffer : packet_at wide (run wide (empty wide) overtaken) there 0 (Buffer 1 0) ≡ flit there 0 0 Head 1 ∷ flit there 0 1 Tail 2 ∷ []
+first_in_buffer : packet_at wide (run wide (empty wide) overtaken) there 0 (Buffer 1 0)
+    ≡ flit there 0 0 Head 1 ∷ flit there 0 1 Tail 2 ∷ []
 unfolding run wide there overtaken
 first_in_buffer = refl
 
-first_whole : packet_items (2 ∷ []) wide (run wide (empty wide) overtaken) there 0 ≡ flit there 0 0 Head 1 ∷ flit there 0 1 Tail 2 ∷ []
+first_whole : packet_items (2 ∷ []) wide (run wide (empty wide) overtaken) there 0
+    ≡ flit there 0 0 Head 1 ∷ flit there 0 1 Tail 2 ∷ []
 unfolding run wide there overtaken
 first_whole = refl

@@ -22,7 +22,8 @@ lane_held s net lane c (Link x o) = cond (o == s.terminal) [] (held lane (net.ou
 
 -- what was delivered of the lane, then what its places hold from the sink back
 abbrev pub lane_machine : List ℕ → Shape → Network → Lane → ℕ → Machine Flit
-lane_machine ks s net lane c = machine_of (delivered s net lane) (lane_held s net lane c) (places_of ks lane.src lane.dst)
+lane_machine ks s net lane c = machine_of (delivered s net lane) (lane_held s net lane c)
+    (places_of ks lane.src lane.dst)
 
 -- the lane of the flit in front; of the flit that a record would send; of the flit in front of a link
 abbrev pub front_lane : List Flit → Option Lane
@@ -59,11 +60,12 @@ pub record MovesOne (s : Shape) (net : Network) (step : Step) (lane : Lane) (old
 
 -- each step makes at most one move of one such machine, of lanes whose class owns one channel, c
 abbrev pub EachMovesOne : List ℕ → Shape → Type 0
-EachMovesOne ks s = (net : Network) (step : Step) (lane : Lane) (c : ℕ) → HasLane s lane → OwnsAlone s lane.class c → Sound s net → IsThere s step → Enabled s net step →
+EachMovesOne ks s = (net : Network) (step : Step) (lane : Lane) (c : ℕ) → HasLane s lane → OwnsAlone s lane.class c
+    → Sound s net → IsThere s step → Enabled s net step →
     MovesOne s net step lane (lane_machine ks s net lane c) (lane_machine ks s (after s net step) lane c)
 
--- The lane cut by its places, of each lane whose class owns one channel: the flits delivered, followed by those at each place
--- from the sink back, are the flits injected, channel numbers aside.
+-- The lane cut by its places, of each lane whose class owns one channel: the flits delivered, followed by those at each
+-- place from the sink back, are the flits injected, channel numbers aside.
 abbrev pub LanesAreCut : List ℕ → Shape → Network → Type 0
 LanesAreCut ks s net = (lane : Lane) (c : ℕ) → HasLane s lane → Owns s lane.class c → OwnsAlone s lane.class c →
     (lane_machine ks s net lane c).items ≡ held lane (net.injected lane.src lane.class)
@@ -71,7 +73,8 @@ LanesAreCut ks s net = (lane : Lane) (c : ℕ) → HasLane s lane → Owns s lan
 -- no place but the lane's own, no sink but its destination's, and no channel but its class's holds a flit of the lane
 pub record NoneElsewhere (ks : List ℕ) (s : Shape) (net : Network) (lane : Lane) : Type 0 where
   pub buffers : (x p v : ℕ) → (IsPlaceOf ks lane.src lane.dst (Buffer x p) → ⊥) → held lane (net.buffer x p v) ≡ []
-  pub links : (x o : ℕ) → o ≢ s.terminal → (IsPlaceOf ks lane.src lane.dst (Link x o) → ⊥) → held lane (net.out x o) ≡ []
+  pub links : (x o : ℕ) → o ≢ s.terminal → (IsPlaceOf ks lane.src lane.dst (Link x o) → ⊥)
+      → held lane (net.out x o) ≡ []
   pub sinks : (x : ℕ) → x ≢ lane.dst → held lane (net.out x s.terminal) ≡ []
   pub sources : (x class : ℕ) → (x ≡ lane.src → class ≡ lane.class → ⊥) → held lane (net.unfed x class) ≡ []
   pub channels : (x p v : ℕ) → (Owns s lane.class v → ⊥) → held lane (net.buffer x p v) ≡ []

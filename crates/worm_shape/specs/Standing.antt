@@ -1,4 +1,5 @@
--- Where the theory lets the flits of a lane stand, beside the buffers that the lane's route enters: the links that it leaves by.
+-- Where the theory lets the flits of a lane stand, beside the buffers that the lane's route enters: the links that it
+-- leaves by.
 use Rattle.std.specs.Prelude.{ℕ, ◌≡◌, Some}
 use Rattle.worm_flit.specs.declared.Lane.{Lane}
 use Rattle.worm_theory.specs.Shape.{Shape, Enters}

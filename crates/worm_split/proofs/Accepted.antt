@@ -1,5 +1,6 @@
 -- Sources that have accepted the same, whatever was fed of it.
-use Rattle.std.proofs.Common.{◌≡◌, ℕ, zero, suc, ◌+◌, ◌*◌, List, [], ◌∷◌, ◌++◌, length, get_or, Bool, true, false, refl, ap, sym, subst, ◌∙◌}
+use Rattle.std.proofs.Common.{◌≡◌, ℕ, zero, suc, ◌+◌, ◌*◌, List, [], ◌∷◌, ◌++◌, length, get_or, Bool, true, false, refl}
+use Rattle.std.proofs.Common.{ap, sym, subst, ◌∙◌}
 use Rattle.std.specs.Prelude.{slice_set, slice_index_or}
 use Rattle.std.proofs.Math.ListN.{length-set}
 use Rattle.worm_flit.specs.declared.Lane.{Lane}
@@ -14,7 +15,14 @@ use Rattle.worm_core.specs.declared.script.Entry.{Entry}
 use Rattle.worm_split.specs.Effects.{HaveTheSame, HasAccepted, after_act, after_entries}
 
 pub same_source : (s : SourceState) → HaveTheSame s s
-same_source s = record { node = refl; nodes = refl; channels = refl; lanes = refl; all_queues = refl; injected = λ class. refl }
+same_source s = record {
+  node = refl;
+  nodes = refl;
+  channels = refl;
+  lanes = refl;
+  all_queues = refl;
+  injected = λ class. refl;
+}
 
 pub same_then : (a b c : SourceState) → HaveTheSame a b → HaveTheSame b c → HaveTheSame a c
 same_then a b c h k = record {
@@ -42,7 +50,8 @@ same_fed s k = record {
   channels = refl;
   lanes = refl;
   all_queues = length-set s.queues k (one_fed (queue_at s k));
-  injected = λ class. same_anywhere (λ (q : QueueState). q.injected) s.queues k class (one_fed (queue_at s k)) empty_queue refl;
+  injected = λ class. same_anywhere (λ (q : QueueState). q.injected) s.queues k class
+      (one_fed (queue_at s k)) empty_queue refl;
 }
 
 -- two lists that are the same at each place, written at one place
@@ -65,7 +74,8 @@ counted lane closed lanes channels =
     slice_set lanes line (record { next = (slice_index_or lanes line fresh_lane).next + 1; closed = closed })
 
 same_packet : (s t : SourceState) (lane : Lane) (closed : Bool) (f : ℕ → List Flit) → HaveTheSame s t →
-    HaveTheSame (with_packet s lane (f (next_number s lane)) closed) (with_packet t lane (f (next_number t lane)) closed)
+    HaveTheSame (with_packet s lane (f (next_number s lane)) closed)
+    (with_packet t lane (f (next_number t lane)) closed)
 same_packet s t lane closed f h =
     let number : next_number t lane ≡ next_number s lane =
     λ i. (slice_index_or (h.lanes i) (lane.dst * length (h.channels i) + lane.class) fresh_lane).next in

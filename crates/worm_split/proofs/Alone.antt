@@ -1,5 +1,7 @@
--- What is done at one node: the others stay as they are, and so does what its source accepted, and but for what is sent to it, its sink.
-use Rattle.std.proofs.Common.{◌≡◌, ℕ, ◌*◌, ◌<◌, inl, inr, List, [], ◌∷◌, ◌++◌, length, map, Option, Some, None, Ok, Err, refl, sym, ap, subst, ◌∙◌}
+-- What is done at one node: the others stay as they are, and so does what its source accepted, and but for what is sent
+-- to it, its sink.
+use Rattle.std.proofs.Common.{◌≡◌, ℕ, ◌*◌, ◌<◌, inl, inr, List, [], ◌∷◌, ◌++◌, length, map, Option, Some, None, Ok, Err}
+use Rattle.std.proofs.Common.{refl, sym, ap, subst, ◌∙◌}
 use Rattle.std.specs.Prelude.{Result, slice_get, slice_index_or}
 use Rattle.std.specs.Option.{option_to_list}
 use Rattle.std.proofs.Math.ListN.{length-set}
@@ -16,7 +18,8 @@ use Rattle.worm_core.specs.Replies.{Attempts, Replies}
 use Rattle.worm_core.specs.State.{NetState, fresh_node, node_at, router_at, sink_at, source_at, with_node, with_router}
 use Rattle.worm_wires.specs.Links.{LinkView}
 use Rattle.worm_core.specs.Turns.{Allocates, ComesInBy, Each, FeedsClassesBy, Passage, RoutesChannelsBy, RoutesPortBy}
-use Rattle.worm_core.specs.Turns.{TakesCreditsBy, TakesFlitsBy, all_channels, all_classes, all_ports, fault_of, mesh_ports}
+use Rattle.worm_core.specs.Turns.{TakesCreditsBy, TakesFlitsBy, all_channels, all_classes, all_ports, fault_of}
+use Rattle.worm_core.specs.Turns.{mesh_ports}
 use Rattle.worm_core.specs.declared.fault.StepFault.{StepFault}
 use Rattle.worm_core.specs.declared.fault.StepFault.TheVariants.{NoMemory, NoSuchPlace, Refused}
 use Rattle.worm_core.specs.declared.node.Node.{Node}

@@ -1,5 +1,6 @@
 -- What a source does of what it is asked: it accepts the first entries, and where it refuses one, that one is the next.
-use Rattle.std.proofs.Common.{◌≡◌, ℕ, ◌+◌, ◌<◌, ◌≤◌, Bool, true, false, ◌⊎◌, inl, inr, List, [], ◌∷◌, ◌++◌, length, map, Option, Some, None, Ok, Err, refl, arith, sym, ap, subst, ◌∙◌}
+use Rattle.std.proofs.Common.{◌≡◌, ℕ, ◌+◌, ◌<◌, ◌≤◌, Bool, true, false, ◌⊎◌, inl, inr, List, [], ◌∷◌, ◌++◌, length, map}
+use Rattle.std.proofs.Common.{Option, Some, None, Ok, Err, refl, arith, sym, ap, subst, ◌∙◌}
 use Rattle.std.proofs.Common.{nat_le, nat_lt, ◌&&◌}
 use Rattle.std.specs.Prelude.{All, IsSome, Result, slice_index}
 use Rattle.std.proofs.lemmas.List.Elements.{All-head, All-tail}
@@ -19,7 +20,8 @@ use Rattle.worm_core.specs.Answers.{refusal_of}
 use Rattle.worm_core.specs.Moves.{done_step}
 use Rattle.worm_core.specs.Replies.{Attempts, Hindered, Replies}
 use Rattle.worm_core.specs.Shape.{net_shape}
-use Rattle.worm_core.specs.State.{NetState, IsFramed, IsNodeOf, network_of, node_at, queue_of, shape, sink_at, source_at, with_source}
+use Rattle.worm_core.specs.State.{NetState, IsFramed, IsNodeOf, network_of, node_at, queue_of, shape, sink_at}
+use Rattle.worm_core.specs.State.{source_at, with_source}
 use Rattle.worm_core.specs.Turns.{Each, ask, fault_of}
 use Rattle.worm_core.specs.declared.fault.StepFault.{StepFault}
 use Rattle.worm_core.specs.declared.fault.StepFault.TheVariants.{NoMemory, NoSuchPlace, Refused}
@@ -63,7 +65,8 @@ one_alone : (mesh channels : List ℕ) (depth class : ℕ) → slice_index chann
 unfolding net_shape
 one_alone mesh channels depth class few v owned =
     let test : owns channels class v ≡ true = owns-from_owner channels class v owned.0 owned.1 in
-    let from = above (first_channel channels class) v (first_channel channels class + slice_index channels class) test in
+    let from = above (first_channel channels class) v
+    (first_channel channels class + slice_index channels class) test in
     let to = below (first_channel channels class) v (first_channel channels class + slice_index channels class) test in
     omega arith
 
@@ -122,14 +125,16 @@ module _ (s : NetState) (x : ℕ) (seat : IsSeated s x) where
 -- What comes of it
 
 -- the source after what it was asked
-done_ask : (s : NetState) (x : ℕ) (act : Act) → done_step s (ask x act) ≡ with_source s x (after_act (source_at s x) act)
+done_ask : (s : NetState) (x : ℕ) (act : Act)
+    → done_step s (ask x act) ≡ with_source s x (after_act (source_at s x) act)
 done_ask s x (Offer packet) = refl
 done_ask s x (Close lane) = refl
 
 refuses_ask : (s : NetState) (x : ℕ) (e : Entry) (why : OfferFault) → refusal_of s (ask x e.act) ≡ Some why →
     Refuses (source_at s x) e why
 refuses_ask s x e why is = by_act e.act is where
-  by_act : (act : Act) → refusal_of s (ask x act) ≡ Some why → Refuses (source_at s x) (record { turn = e.turn; act = act }) why
+  by_act : (act : Act) → refusal_of s (ask x act) ≡ Some why
+      → Refuses (source_at s x) (record { turn = e.turn; act = act }) why
   by_act (Offer packet) is = is
   by_act (Close lane) is = is
 
@@ -188,7 +193,8 @@ pub record RefusesFirst (left : List Entry) (why : OfferFault) (s : SourceState)
   pub first : left ≡ next ∷ rest
   pub refused : Refuses s next why
 
-pub record Asked (entries : List Entry) (x : ℕ) (old : NetState) (fault : Option StepFault) (new : NetState) : Type 0 where
+pub record Asked (entries : List Entry) (x : ℕ) (old : NetState) (fault : Option StepFault)
+    (new : NetState) : Type 0 where
   pub touches : Touches x old new
   pub delivered : (sink_at new x).delivered ≡ (sink_at old x).delivered
   pub taken : List Entry
@@ -200,7 +206,8 @@ pub record Asked (entries : List Entry) (x : ℕ) (old : NetState) (fault : Opti
 
 -- nothing of these was accepted
 asked_none : (entries : List Entry) (x : ℕ) (s : NetState) (fault : Option StepFault) → (fault ≡ None → entries ≡ []) →
-    ((why : OfferFault) → fault ≡ Some (Refused why) → RefusesFirst entries why (source_at s x)) → Asked entries x s fault s
+    ((why : OfferFault) → fault ≡ Some (Refused why) → RefusesFirst entries why (source_at s x))
+    → Asked entries x s fault s
 asked_none entries x s fault all refused = record {
   touches = untouched x s;
   delivered = refl;
@@ -213,12 +220,14 @@ asked_none entries x s fault all refused = record {
 }
 
 -- the first was, and then what of the others was
-asked_more : (e : Entry) (entries : List Entry) (x : ℕ) (a b c : NetState) (fault : Option StepFault) → x < length a.nodes →
+asked_more : (e : Entry) (entries : List Entry) (x : ℕ) (a b c : NetState) (fault : Option StepFault)
+    → x < length a.nodes →
     TakesIn e x a b → Asked entries x b fault c → Asked (e ∷ entries) x a fault c
 asked_more e entries x a b c fault there first then =
     let n : Node = record (node_at a x) { source = after_act (source_at a x) e.act } in
     let at : node_at b x ≡ n = ap (λ (s : NetState). node_at s x) first.exact ∙ put_there a x n a.links there in
-    let touched : Touches x a b = subst (λ (s : NetState). Touches x a s) (sym first.exact) (put_touches a x n a.links) in
+    let touched : Touches x a b = subst (λ (s : NetState). Touches x a s) (sym first.exact)
+    (put_touches a x n a.links) in
     let one : HasAccepted (source_at a x) (e ∷ []) (source_at b x) =
     subst (λ (m : Node). HaveTheSame (after_act (source_at a x) e.act) m.source) (sym at)
     (same_source (after_act (source_at a x) e.act)) in

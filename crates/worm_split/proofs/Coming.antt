@@ -1,5 +1,6 @@
 -- What comes by a part's end: a credit of a link that leaves its nodes, a flit of one that enters them.
-use Rattle.std.proofs.Common.{◌≡◌, ℕ, ◌<◌, true, false, List, [], ◌∷◌, ◌++◌, length, sum, get_or, Option, Some, None, refl, arith, sym, ap, subst, ◌∙◌}
+use Rattle.std.proofs.Common.{◌≡◌, ℕ, ◌<◌, true, false, List, [], ◌∷◌, ◌++◌, length, sum, get_or, Option, Some, None}
+use Rattle.std.proofs.Common.{refl, arith, sym, ap, subst, ◌∙◌}
 use Rattle.std.specs.Prelude.{IsSome, is_some, slice_get, slice_set}
 use Rattle.std.proofs.lemmas.List.{get_or_default}
 use Rattle.worm_flit.specs.declared.Flit.{Flit}
@@ -23,10 +24,13 @@ use Rattle.worm_split.specs.PartTurns.{CreditComes, FlitComes, PullsCredit, Pull
 use Rattle.worm_split.proofs.EndFacts.{IsLeavingEnd, IsEnteringEnd}
 use Rattle.worm_split.proofs.PartFacts.{is_leaving, is_entering}
 use Rattle.worm_split.proofs.PartMoves.{credit_comes, flit_comes}
-use Rattle.worm_split.proofs.Pulls.{credit_popped, flit_popped, linked, back, beyond_in, entered_is, out_is, into_is, out_bound, into_bound, out_end_bound, into_end_bound, out_end, into_end, out_credits, into_flits, out_from_beyond, into_from_beyond}
+use Rattle.worm_split.proofs.Pulls.{credit_popped, flit_popped, linked, back, beyond_in, entered_is, out_is, into_is}
+use Rattle.worm_split.proofs.Pulls.{out_bound, into_bound, out_end_bound, into_end_bound, out_end, into_end}
+use Rattle.worm_split.proofs.Pulls.{out_credits, into_flits, out_from_beyond, into_from_beyond}
 
 -- another list of one link leaves the configuration
-same_when_linked : (s new : NetState) (k : ℕ) (l : Rattle.worm_wires.specs.Links.LinkView) → new ≡ Rattle.worm_core.specs.State.with_link s k l → IsSameConfig s new
+same_when_linked : (s new : NetState) (k : ℕ) (l : Rattle.worm_wires.specs.Links.LinkView)
+    → new ≡ Rattle.worm_core.specs.State.with_link s k l → IsSameConfig s new
 same_when_linked s new k l e = record {
   mesh = ap (λ (n : NetState). n.mesh) e;
   channels = ap (λ (n : NetState). n.channels) e;
@@ -60,7 +64,8 @@ pub record FlitInHand (p : PartState) (x o : ℕ) (f : Flit) (links : PortLinks)
   pub linked_back : IsSome (neighbour_of p.net.mesh links.beyond links.entered)
   pub none_waits : (network_of p.net).out links.beyond (opposite_of o) ≡ []
 
-module _ (p : PartState) (part : IsPart p) (framed : IsFramed p.net) (x o : ℕ) (links : PortLinks) (at : ◌≡◌ {A = Option PortLinks} (Some links) (port_links p.net.mesh x o)) where
+module _ (p : PartState) (part : IsPart p) (framed : IsFramed p.net) (x o : ℕ) (links : PortLinks)
+    (at : ◌≡◌ {A = Option PortLinks} (Some links) (port_links p.net.mesh x o)) where
   pub linked_then : (shape p.opening).neighbour x o ≡ Some links.beyond
   unfolding net_shape
   linked_then = rw (← part.config.mesh) (linked p part framed x o links at)
@@ -72,14 +77,19 @@ module _ (p : PartState) (part : IsPart p) (framed : IsFramed p.net) (x o : ℕ)
   pub back_is_some : IsSome (neighbour_of p.net.mesh links.beyond links.entered)
   back_is_some = rw (entered_is p part framed x o links at, back p part framed x o links at) refl
 
-  pub credit_in_hand : (c : ℕ) (end new : End) → end ≡ end_at p.ends links.out → (link_at p.net (link_into p.net links.beyond links.entered)).credits ≡ [] → CreditPopped end c new → CreditInHand p x o c links new
+  pub credit_in_hand : (c : ℕ) (end new : End) → end ≡ end_at p.ends links.out
+      → (link_at p.net (link_into p.net links.beyond links.entered)).credits ≡ [] → CreditPopped end c new
+      → CreditInHand p x o c links new
   credit_in_hand c end new end_now empty popped =
       let by = credit_popped end new c popped in
       let end_is : end_of p x o ≡ Leaving by.0 by.1 = sym (out_end p part framed x o links at) ∙ (sym end_now ∙ by.2) in
       let is = is_leaving p part x o links.beyond by.0 by.1 linked_then end_is in
-      let channels : by.1.link.channels ≡ sum p.net.channels = ap (λ (l : Rattle.worm_links.specs.declared.LinkCfg.LinkCfg). l.channels) is.line ∙ (is.link.same_channels ∙ ap sum (sym part.config.channels)) in
+      let channels : by.1.link.channels ≡ sum p.net.channels =
+      ap (λ (l : Rattle.worm_links.specs.declared.LinkCfg.LinkCfg). l.channels) is.line
+      ∙ (is.link.same_channels ∙ ap sum (sym part.config.channels)) in
       let channel : c < sum p.net.channels = subst (λ (n : ℕ). c < n) channels by.4 in
-      let list : (link_at p.net links.out).credits ≡ [] = ap (λ (k : ℕ). (link_at p.net k).credits) (sym (out_from_beyond p part framed x o links at)) ∙ empty in
+      let list : (link_at p.net links.out).credits ≡ [] =
+      ap (λ (k : ℕ). (link_at p.net k).credits) (sym (out_from_beyond p part framed x o links at)) ∙ empty in
       record {
         tx = by.0;
         line = by.1;
@@ -92,15 +102,20 @@ module _ (p : PartState) (part : IsPart p) (framed : IsFramed p.net) (x o : ℕ)
         none_waits = out_credits p part framed x o links at ∙ list;
       }
 
-  pub flit_in_hand : (f : Flit) (end new : End) → end ≡ end_at p.ends links.into → (link_at p.net (link_out p.net links.beyond links.entered)).flits ≡ [] → FlitPopped end f new → FlitInHand p x o f links new
+  pub flit_in_hand : (f : Flit) (end new : End) → end ≡ end_at p.ends links.into
+      → (link_at p.net (link_out p.net links.beyond links.entered)).flits ≡ [] → FlitPopped end f new
+      → FlitInHand p x o f links new
   flit_in_hand f end new end_now empty popped =
       let by = flit_popped end new f popped in
-      let end_is : end_of p links.beyond (opposite_of o) ≡ Entering by.0 by.1 = sym (into_end p part framed x o links at) ∙ (sym end_now ∙ by.2) in
+      let end_is : end_of p links.beyond (opposite_of o) ≡ Entering by.0 by.1 =
+      sym (into_end p part framed x o links at) ∙ (sym end_now ∙ by.2) in
       let is = is_entering p part links.beyond (opposite_of o) x by.0 by.1 back_then end_is in
-      let channels : by.0.link.channels ≡ sum p.net.channels = is.link.same_channels ∙ ap (λ (counts : List ℕ). sum counts) (sym part.config.channels) in
+      let channels : by.0.link.channels ≡ sum p.net.channels =
+      is.link.same_channels ∙ ap (λ (counts : List ℕ). sum counts) (sym part.config.channels) in
       let channel : f.vc < sum p.net.channels = subst (λ (n : ℕ). f.vc < n) channels by.5.channel in
       let mesh : by.0.link.mesh ≡ p.net.mesh = is.link.same_mesh ∙ sym part.config.mesh in
-      let list : (link_at p.net links.into).flits ≡ [] = ap (λ (k : ℕ). (link_at p.net k).flits) (sym (into_from_beyond p part framed x o links at)) ∙ empty in
+      let list : (link_at p.net links.into).flits ≡ [] =
+      ap (λ (k : ℕ). (link_at p.net k).flits) (sym (into_from_beyond p part framed x o links at)) ∙ empty in
       record {
         rx = by.0;
         line = by.1;
@@ -116,21 +131,29 @@ module _ (p : PartState) (part : IsPart p) (framed : IsFramed p.net) (x o : ℕ)
       }
 
   -- the same where the end is the one of this number of all
-  pub credit_taken : (c n : ℕ) (end new : End) → n ≡ links.out → end ≡ get_or p.ends n end → (link_at p.net (link_into p.net links.beyond links.entered)).credits ≡ [] → CreditPopped end c new → CreditInHand p x o c links new
+  pub credit_taken : (c n : ℕ) (end new : End) → n ≡ links.out → end ≡ get_or p.ends n end
+      → (link_at p.net (link_into p.net links.beyond links.entered)).credits ≡ [] → CreditPopped end c new
+      → CreditInHand p x o c links new
   credit_taken c n end new number now empty popped =
       let few = out_end_bound p part framed x o links at in
       let bound : n < length p.ends = omega (arith, few, number) in
-      credit_in_hand c end new (now ∙ get_or_default p.ends n end Inner bound ∙ (λ t. end_at p.ends (number t))) empty popped
+      credit_in_hand c end new (now ∙ get_or_default p.ends n end Inner bound
+      ∙ (λ t. end_at p.ends (number t))) empty popped
 
-  pub flit_off : (f : Flit) (n : ℕ) (end new : End) → n ≡ links.into → end ≡ get_or p.ends n end → (link_at p.net (link_out p.net links.beyond links.entered)).flits ≡ [] → FlitPopped end f new → FlitInHand p x o f links new
+  pub flit_off : (f : Flit) (n : ℕ) (end new : End) → n ≡ links.into → end ≡ get_or p.ends n end
+      → (link_at p.net (link_out p.net links.beyond links.entered)).flits ≡ [] → FlitPopped end f new
+      → FlitInHand p x o f links new
   flit_off f n end new number now empty popped =
       let few = into_end_bound p part framed x o links at in
       let bound : n < length p.ends = omega (arith, few, number) in
-      flit_in_hand f end new (now ∙ get_or_default p.ends n end Inner bound ∙ (λ t. end_at p.ends (number t))) empty popped
+      flit_in_hand f end new (now ∙ get_or_default p.ends n end Inner bound
+      ∙ (λ t. end_at p.ends (number t))) empty popped
 
   -- it is put down, and the part stays a part
-  pub credit_put : (c n : ℕ) (new : End) (net : NetState) → n ≡ links.out → CreditInHand p x o c links new → ComesBack p.net links.beyond links.entered c net
-      → IsPart (record p { net = net; ends = slice_set p.ends n new }) × CreditComes x o p (record p { net = net; ends = slice_set p.ends n new })
+  pub credit_put : (c n : ℕ) (new : End) (net : NetState) → n ≡ links.out → CreditInHand p x o c links new
+      → ComesBack p.net links.beyond links.entered c net
+      → IsPart (record p { net = net; ends = slice_set p.ends n new })
+      × CreditComes x o p (record p { net = net; ends = slice_set p.ends n new })
       × IsSamePart p (record p { net = net; ends = slice_set p.ends n new })
   credit_put c n new net number hand comes =
       let N = network_of p.net in
@@ -138,15 +161,23 @@ module _ (p : PartState) (part : IsPart p) (framed : IsFramed p.net) (x o : ℕ)
       let q = opposite_of o in
       let entered = entered_is p part framed x o links at in
       let y_back : neighbour_of p.net.mesh y links.entered ≡ Some x = rw entered (back p part framed x o links at) in
-      let twice : opposite_of links.entered ≡ o = ap opposite_of entered ∙ Rattle.worm_mesh.proofs.Neighbours.opposite_twice o in
-      let after_it : network_of net ≡ record N { credit_list = Rattle.worm_theory.specs.Network.put2 N.credit_list x o (N.credit_list x o ++ c ∷ []) }
-      = comes.after_it x y_back ∙ ap (λ (k : ℕ). record N { credit_list = Rattle.worm_theory.specs.Network.put2 N.credit_list x k (N.credit_list x k ++ c ∷ []) }) twice in
+      let twice : opposite_of links.entered ≡ o =
+      ap opposite_of entered ∙ Rattle.worm_mesh.proofs.Neighbours.opposite_twice o in
+      let after_it : network_of net ≡ record N
+      { credit_list = Rattle.worm_theory.specs.Network.put2 N.credit_list x o (N.credit_list x o ++ c ∷ []) }
+      = comes.after_it x y_back ∙ ap (λ (k : ℕ).
+      record N {
+        credit_list = Rattle.worm_theory.specs.Network.put2 N.credit_list x k
+            (N.credit_list x k ++ c ∷ []);
+      }) twice in
       let config = same_when_linked p.net net _ _ comes.exact in
       let made = credit_comes p part x o y linked_then net config hand.tx hand.line c hand.end_is after_it in
       let place : n ≡ links_before p.net.mesh x o = number ∙ out_is p part framed x o links at in
-      let to : with_end p x o (Leaving hand.tx (record hand.line { taken = hand.line.taken ++ c ∷ [] })) net ≡ record p { net = net; ends = slice_set p.ends n new }
+      let to : with_end p x o (Leaving hand.tx (record hand.line { taken = hand.line.taken ++ c ∷ [] })) net
+      ≡ record p { net = net; ends = slice_set p.ends n new }
       = λ t. record p { net = net; ends = slice_set p.ends (sym place t) (sym hand.new_is t) } in
-      let exact_net : after_credit_back p.net y q c ≡ net = sym (comes.exact ∙ ap (λ (k : ℕ). after_credit_back p.net y k c) entered) in (
+      let exact_net : after_credit_back p.net y q c ≡ net =
+      sym (comes.exact ∙ ap (λ (k : ℕ). after_credit_back p.net y k c) entered) in (
         subst IsPart to made,
         record {
           beyond = y;
@@ -156,27 +187,35 @@ module _ (p : PartState) (part : IsPart p) (framed : IsFramed p.net) (x o : ℕ)
           linked = linked p part framed x o links at;
           end = hand.end_is;
           none_waits = hand.none_waits;
-          exact = sym (ap (λ (m : NetState). with_end p x o (Leaving hand.tx (record hand.line { taken = hand.line.taken ++ c ∷ [] })) m) exact_net ∙ to);
+          exact = sym (ap (λ (m : NetState). with_end p x o
+              (Leaving hand.tx (record hand.line { taken = hand.line.taken ++ c ∷ [] })) m) exact_net ∙ to);
         },
         record { config = config; opening = refl; lines = refl },
       )
 
-  pub flit_put : (f : Flit) (n : ℕ) (new : End) (net : NetState) → n ≡ links.into → FlitInHand p x o f links new → Arrives p.net links.beyond links.entered f net
-      → IsPart (record p { net = net; ends = slice_set p.ends n new }) × FlitComes x o p (record p { net = net; ends = slice_set p.ends n new })
+  pub flit_put : (f : Flit) (n : ℕ) (new : End) (net : NetState) → n ≡ links.into → FlitInHand p x o f links new
+      → Arrives p.net links.beyond links.entered f net
+      → IsPart (record p { net = net; ends = slice_set p.ends n new })
+      × FlitComes x o p (record p { net = net; ends = slice_set p.ends n new })
       × IsSamePart p (record p { net = net; ends = slice_set p.ends n new })
   flit_put f n new net number hand comes =
       let N = network_of p.net in
       let y = links.beyond in
       let q = opposite_of o in
       let entered = entered_is p part framed x o links at in
-      let after_it : network_of net ≡ record N { out = Rattle.worm_theory.specs.Network.put2 N.out y q (N.out y q ++ f ∷ []) }
-      = comes.after_it ∙ ap (λ (k : ℕ). record N { out = Rattle.worm_theory.specs.Network.put2 N.out y k (N.out y k ++ f ∷ []) }) entered in
+      let after_it : network_of net ≡ record N
+      { out = Rattle.worm_theory.specs.Network.put2 N.out y q (N.out y q ++ f ∷ []) }
+      = comes.after_it ∙ ap (λ (k : ℕ). record N
+      { out = Rattle.worm_theory.specs.Network.put2 N.out y k (N.out y k ++ f ∷ []) }) entered in
       let config = same_when_linked p.net net _ _ comes.exact in
-      let made = flit_comes p part y q x back_then net config hand.rx hand.line f hand.end_is hand.continues hand.crossing after_it in
+      let made = flit_comes p part y q x back_then net config hand.rx hand.line f hand.end_is hand.continues
+      hand.crossing after_it in
       let place : n ≡ links_before p.net.mesh y q = number ∙ into_is p part framed x o links at in
-      let to : with_end p y q (Entering (record hand.rx { taken = hand.rx.taken ++ f ∷ [] }) hand.line) net ≡ record p { net = net; ends = slice_set p.ends n new }
+      let to : with_end p y q (Entering (record hand.rx { taken = hand.rx.taken ++ f ∷ [] }) hand.line) net
+      ≡ record p { net = net; ends = slice_set p.ends n new }
       = λ t. record p { net = net; ends = slice_set p.ends (sym place t) (sym hand.new_is t) } in
-      let exact_net : after_arriving p.net y q f ≡ net = sym (comes.exact ∙ ap (λ (k : ℕ). after_arriving p.net y k f) entered) in (
+      let exact_net : after_arriving p.net y q f ≡ net =
+      sym (comes.exact ∙ ap (λ (k : ℕ). after_arriving p.net y k f) entered) in (
         subst IsPart to made,
         record {
           beyond = y;
@@ -186,7 +225,8 @@ module _ (p : PartState) (part : IsPart p) (framed : IsFramed p.net) (x o : ℕ)
           linked = linked p part framed x o links at;
           end = hand.end_is;
           none_waits = hand.none_waits;
-          exact = sym (ap (λ (m : NetState). with_end p y q (Entering (record hand.rx { taken = hand.rx.taken ++ f ∷ [] }) hand.line) m) exact_net ∙ to);
+          exact = sym (ap (λ (m : NetState). with_end p y q
+              (Entering (record hand.rx { taken = hand.rx.taken ++ f ∷ [] }) hand.line) m) exact_net ∙ to);
         },
         record { config = config; opening = refl; lines = refl },
       )

@@ -1,5 +1,6 @@
 -- What a turn of a part does to the sources and sinks of its nodes.
-use Rattle.std.proofs.Common.{◌≡◌, ◌≢◌, ℕ, zero, suc, ◌+◌, ◌<◌, ◌≤◌, Bool, true, false, ◌⊎◌, inl, inr, List, [], ◌∷◌, ◌++◌, length, Option, Some, None, refl, arith, sym, ap, subst, ◌∙◌}
+use Rattle.std.proofs.Common.{◌≡◌, ◌≢◌, ℕ, zero, suc, ◌+◌, ◌<◌, ◌≤◌, Bool, true, false, ◌⊎◌, inl, inr, List, [], ◌∷◌}
+use Rattle.std.proofs.Common.{◌++◌, length, Option, Some, None, refl, arith, sym, ap, subst, ◌∙◌}
 use Rattle.std.specs.Prelude.{IsSome, filter}
 use Rattle.std.specs.List.{range_with_len}
 use Rattle.std.proofs.lemmas.Bool.{cases_eq}
@@ -39,7 +40,8 @@ seated_still x y a b touched away seat = record {
 }
 
 -- a node from this one on whose source refuses an entry
-record RefusedFrom (entries : List Entry) (own : ℕ → Bool) (from : ℕ) (why : OfferFault) (old new : NetState) : Type 0 where
+record RefusedFrom (entries : List Entry) (own : ℕ
+    → Bool) (from : ℕ) (why : OfferFault) (old new : NetState) : Type 0 where
   node : ℕ
   above : from ≤ node
   there : node < node_count old.mesh

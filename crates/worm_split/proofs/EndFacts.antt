@@ -9,7 +9,8 @@ use Rattle.worm_split.specs.declared.ends.End.TheVariants.{Inner, Leaving, Enter
 use Rattle.worm_split.specs.Ends.{IsLinkOf, IsSameEnd, end_made, AreEndsMade}
 
 -- the sender's end of a link
-pub record IsLeavingEnd (mesh channels : List ℕ) (y o : ℕ) (past : List Flit) (near far : Bool) (tx : TxView) (back : CreditRxView) : Type 0 where
+pub record IsLeavingEnd (mesh channels : List ℕ) (y o : ℕ) (past : List Flit) (near far : Bool) (tx : TxView)
+    (back : CreditRxView) : Type 0 where
   pub near_own : near ≡ true
   pub far_elsewhere : far ≡ false
   pub link : IsLinkOf mesh channels y o tx.link
@@ -17,7 +18,8 @@ pub record IsLeavingEnd (mesh channels : List ℕ) (y o : ℕ) (past : List Flit
   pub line : back.link ≡ tx.link
 
 -- the taker's end of one
-pub record IsEnteringEnd (mesh channels : List ℕ) (y o : ℕ) (past : List Flit) (near far : Bool) (rx : RxView) (give : CreditTxView) : Type 0 where
+pub record IsEnteringEnd (mesh channels : List ℕ) (y o : ℕ) (past : List Flit) (near far : Bool) (rx : RxView)
+    (give : CreditTxView) : Type 0 where
   pub near_elsewhere : near ≡ false
   pub far_own : far ≡ true
   pub link : IsLinkOf mesh channels y o rx.link
@@ -29,8 +31,10 @@ module _ (mesh channels : List ℕ) (depth y o : ℕ) (past : List Flit) where
   link_of_same a b e h = subst (IsLinkOf mesh channels y o) (sym e) h
 
   -- by which of the link's nodes are owned, and the ends that were made of it
-  pub leaving_end : (near far : Bool) (out into : End) (tx : TxView) (back : CreditRxView) → ((near ≡ far → ⊥) → AreEndsMade mesh channels depth y o past out into)
-      → IsSameEnd (cond near (cond far Inner out) (cond far into Inner)) (Leaving tx back) → IsLeavingEnd mesh channels y o past near far tx back
+  pub leaving_end : (near far : Bool) (out into : End) (tx : TxView) (back : CreditRxView)
+      → ((near ≡ far → ⊥) → AreEndsMade mesh channels depth y o past out into)
+      → IsSameEnd (cond near (cond far Inner out) (cond far into Inner)) (Leaving tx back)
+      → IsLeavingEnd mesh channels y o past near far tx back
   leaving_end true true out into tx back made same = absurd same
   leaving_end false false out into tx back made same = absurd same
   leaving_end true false Inner into tx back made same = absurd same
@@ -52,8 +56,10 @@ module _ (mesh channels : List ℕ) (depth y o : ℕ) (past : List Flit) where
   leaving_end false true (Leaving tx0 back0) (Leaving tx1 back1) tx back made same = absurd (made (λ e. cc))
   leaving_end false true (Leaving tx0 back0) (Entering rx0 give0) tx back made same = absurd same
 
-  pub entering_end : (near far : Bool) (out into : End) (rx : RxView) (give : CreditTxView) → ((near ≡ far → ⊥) → AreEndsMade mesh channels depth y o past out into)
-      → IsSameEnd (cond near (cond far Inner out) (cond far into Inner)) (Entering rx give) → IsEnteringEnd mesh channels y o past near far rx give
+  pub entering_end : (near far : Bool) (out into : End) (rx : RxView) (give : CreditTxView)
+      → ((near ≡ far → ⊥) → AreEndsMade mesh channels depth y o past out into)
+      → IsSameEnd (cond near (cond far Inner out) (cond far into Inner)) (Entering rx give)
+      → IsEnteringEnd mesh channels y o past near far rx give
   entering_end true true out into rx give made same = absurd same
   entering_end false false out into rx give made same = absurd same
   entering_end true false Inner into rx give made same = absurd same
@@ -74,7 +80,8 @@ module _ (mesh channels : List ℕ) (depth y o : ℕ) (past : List Flit) where
       }
 
   -- where one of the link's nodes is owned and the other is not, it has an end
-  pub inner_end : (near far : Bool) (out into : End) → ((near ≡ far → ⊥) → AreEndsMade mesh channels depth y o past out into)
+  pub inner_end : (near far : Bool) (out into : End)
+      → ((near ≡ far → ⊥) → AreEndsMade mesh channels depth y o past out into)
       → IsSameEnd (cond near (cond far Inner out) (cond far into Inner)) Inner → near ≡ far
   inner_end true true out into made same = refl
   inner_end false false out into made same = refl

@@ -40,7 +40,8 @@ use Rattle.worm_split.specs.Apart.{AreWays}
 use Rattle.worm_split.specs.Ends.{AreEndsMade, IsSameEnd, end_at, end_made, given_on, line_at, returned_on, sent_on}
 use Rattle.worm_split.specs.Ends.{taken_on}
 use Rattle.worm_split.specs.Exchange.{far_of, near_of, way_at}
-use Rattle.worm_split.specs.PartState.{PartState, HasConfigOf, IsPart, end_of, owns, part_network, returned_to, taken_by}
+use Rattle.worm_split.specs.PartState.{PartState, HasConfigOf, IsPart, end_of, owns, part_network, returned_to}
+use Rattle.worm_split.specs.PartState.{taken_by}
 use Rattle.worm_split.specs.Splits.{AreLinesMade}
 use Rattle.worm_split.proofs.FirstEnds.{IsUnused, first_unused, same_end_itself}
 use Rattle.worm_split.proofs.Gathered.{IsWay, net_holds, way_is}
@@ -192,7 +193,8 @@ module _ (p : PartState) (net : IsNet p.opening) (ways : List LinkEnds) (are : A
         let within = way.within in
         let had = made.each k (omega arith) (λ e. apart (subst (λ (i : ℕ). i % W ≡ x % W) way.from (subst (λ
         (i : ℕ). z.from % W ≡ i % W) way.to e))) in
-        subst (λ (i : ℕ). AreEndsMade O.mesh O.channels O.depth y o (past_of (shape O) old y o i) line.out line.into) way.to
+        subst (λ (i : ℕ). AreEndsMade O.mesh O.channels O.depth y o (past_of (shape O) old y o i) line.out line.into)
+        way.to
         (subst (λ (i : ℕ). AreEndsMade O.mesh O.channels O.depth y i (past_of
         (shape O) old y i z.to) line.out line.into) way.out_port
         (subst (λ (i : ℕ). AreEndsMade O.mesh O.channels O.depth i z.out_port (past_of

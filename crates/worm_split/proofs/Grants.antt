@@ -1,6 +1,7 @@
--- What a pass of the switch allocator grants: each grant is of a channel that holds a channel of the port granted, and no port is granted to
--- two others.
-use Rattle.std.proofs.Common.{◌≡◌, ◌≢◌, ℕ, ◌<◌, ◌&&◌, Bool, true, false, nat_lt, if◌then◌else◌, inl, inr, List, [], ◌∷◌, Option, Some, None, refl, sym, ap, subst, ◌∙◌}
+-- What a pass of the switch allocator grants: each grant is of a channel that holds a channel of the port granted, and
+-- no port is granted to two others.
+use Rattle.std.proofs.Common.{◌≡◌, ◌≢◌, ℕ, ◌<◌, ◌&&◌, Bool, true, false, nat_lt, if◌then◌else◌, inl, inr, List, [], ◌∷◌}
+use Rattle.std.proofs.Common.{Option, Some, None, refl, sym, ap, subst, ◌∙◌}
 use Rattle.std.specs.Prelude.{replicate, slice_index_or}
 use Rattle.std.specs.Option.{option_map}
 use Rattle.std.proofs.lemmas.Bool.{cases_lt, eqb-true}
@@ -10,7 +11,8 @@ use Rattle.worm_records.specs.declared.InRecord.TheVariants.{Active}
 use Rattle.worm_vcalloc.specs.Table.{cell}
 use Rattle.worm_swalloc.specs.declared.grant.SwGrant.{SwGrant}
 use Rattle.worm_swalloc.specs.Front.{with_front}
-use Rattle.worm_swalloc.specs.SwAlloc.{SwAllocState, all_named, chosen, granted, if_chosen, is_line, named, named_channel, request_of}
+use Rattle.worm_swalloc.specs.SwAlloc.{SwAllocState, all_named, chosen, granted, if_chosen, is_line, named}
+use Rattle.worm_swalloc.specs.SwAlloc.{named_channel, request_of}
 use Rattle.worm_swalloc.proofs.FrontLemmas.{slice_index_or-with_front_below, slice_index_or-with_front_past}
 use Rattle.worm_swalloc.proofs.SwLemmas.{get_or-replicate_same}
 use Rattle.worm_router.specs.Allocation.{ready_at, ready_outs, switch_grants}
@@ -43,7 +45,8 @@ holding_still r p v (Some d) q g here away holding =
       place = record { port_in = holding.place.port_in; channel_in = holding.place.channel_in };
       channel = holding.channel;
       active = ap (λ c. c.state)
-          (input_at-other r p v q g.vc (let_out (input_at r p v) d.1 (credit_of r p)) here holding.place (inl away)) ∙ holding.active;
+          (input_at-other r p v q g.vc (let_out (input_at r p v) d.1 (credit_of r p)) here holding.place (inl away))
+          ∙ holding.active;
     }
 
 -- what the front of a list of nothing has
@@ -93,7 +96,8 @@ request_has row (Some v) g e = by_row (slice_index_or row v None) refl e where
 ready_holds : (r : RouterState) (p v out : ℕ) → cell (ready_outs r) p v None ≡ Some out →
     IsPlace r p v × ((channel : ℕ) × ((input_at r p v).state ≡ Active out channel))
 ready_holds r p v out =
-    cell_has (λ (o : Option ℕ). o ≡ Some out → IsPlace r p v × ((channel : ℕ) × ((input_at r p v).state ≡ Active out channel)))
+    cell_has (λ (o : Option ℕ). o ≡ Some out
+    → IsPlace r p v × ((channel : ℕ) × ((input_at r p v).state ≡ Active out channel)))
     r None (ready_at r) p v (λ none. absurd (cc)) (λ place is. (place, held (leaving r p v) refl is)) where
       held : (o : Option (ℕ × Flit)) → leaving r p v ≡ o → option_map (λ (d : ℕ × Flit). d.0) o ≡ Some out →
           (channel : ℕ) × ((input_at r p v).state ≡ Active out channel)

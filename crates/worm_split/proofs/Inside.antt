@@ -1,5 +1,6 @@
 -- What a part's network does by itself, at one of the part's nodes, keeps it a part.
-use Rattle.std.proofs.Common.{◌≡◌, ℕ, ◌<◌, Bool, true, false, cond, inl, inr, List, length, Option, Some, None, refl, arith, sym, ap, subst, ◌∙◌}
+use Rattle.std.proofs.Common.{◌≡◌, ℕ, ◌<◌, Bool, true, false, cond, inl, inr, List, length, Option, Some, None, refl}
+use Rattle.std.proofs.Common.{arith, sym, ap, subst, ◌∙◌}
 use Rattle.std.specs.Prelude.{Result}
 use Rattle.worm_flit.specs.declared.Flit.{Flit}
 use Rattle.worm_mesh.specs.Address.{has_neighbour, neighbour_of, node_count}
@@ -15,7 +16,8 @@ use Rattle.worm_core.specs.Shape.{net_shape}
 use Rattle.worm_core.specs.State.{NetState, IsSameConfig, shape, network_of, router_at, with_router}
 use Rattle.worm_core.specs.Moves.{chosen_router}
 use Rattle.worm_core.specs.Replies.{Attempts, Replies}
-use Rattle.worm_core.specs.Turns.{Passage, Allocates, ◌and_then◌, AsksSourceBy, ComesInBy, TakesCreditsBy, TakesFlitsBy, FeedsClassesBy, RoutesChannelsBy}
+use Rattle.worm_core.specs.Turns.{Passage, Allocates, ◌and_then◌, AsksSourceBy, ComesInBy, TakesCreditsBy, TakesFlitsBy}
+use Rattle.worm_core.specs.Turns.{FeedsClassesBy, RoutesChannelsBy}
 use Rattle.worm_core.specs.Workable.{owned, IsWorkable}
 use Rattle.worm_core.specs.Owned.{owned_by}
 use Rattle.worm_core.specs.declared.own.Own.{Own}
@@ -28,14 +30,16 @@ use Rattle.worm_split.specs.declared.ends.End.{End}
 use Rattle.worm_split.specs.declared.ends.End.TheVariants.{Inner, Leaving, Entering}
 use Rattle.worm_split.specs.Ends.{IsSameEnd, end_made, end_at, line_at, seen_by, taken_on, returned_on}
 use Rattle.worm_split.specs.PartState.{PartState, IsPart, end_of, owns, part_network, taken_by, returned_to}
-use Rattle.worm_split.proofs.Keeping.{IsOf, Keeps, keeps_answer, keeps_asking, keeps_credits, keeps_flits, keeps_feeding, keeps_routing, keeps_then}
+use Rattle.worm_split.proofs.Keeping.{IsOf, Keeps, keeps_answer, keeps_asking, keeps_credits, keeps_flits}
+use Rattle.worm_split.proofs.Keeping.{keeps_feeding, keeps_routing, keeps_then}
 use Rattle.worm_split.proofs.PartFacts.{mesh_of_part, part_shape, is_leaving, is_entering}
 use Rattle.worm_split.proofs.Within.{SeesFlits, SeesCredits}
 
 module _ (p : PartState) (part : IsPart p) where
   -- the network of these lists is that of a part with these ends
   abbrev pub IsInside : NetState → Type 0
-  IsInside net = IsOf (shape p.opening) (mesh_of_part p part) (network_of p.opening) (owns p) (end_of p) (taken_by p) (returned_to p) net
+  IsInside net = IsOf (shape p.opening) (mesh_of_part p part) (network_of p.opening) (owns p) (end_of p) (taken_by p)
+      (returned_to p) net
 
   pub inside_now : IsInside p.net
   inside_now = record { same_shape = part_shape p part; holds = part.holds }
@@ -43,7 +47,9 @@ module _ (p : PartState) (part : IsPart p) where
   -- with this network the part is a part
   pub part_with_net : (net : NetState) → IsInside net → IsSameConfig p.net net → IsPart (record p { net = net })
   part_with_net net inside config =
-      let ends : end_of p ≡ end_of (record p { net = net }) = λ t y o. cond (has_neighbour (sym config.mesh t) y o) (end_at p.ends (links_before (sym config.mesh t) y o)) Inner in
+      let ends : end_of p ≡ end_of (record p { net = net }) =
+      λ t y o. cond (has_neighbour (sym config.mesh t) y o)
+      (end_at p.ends (links_before (sym config.mesh t) y o)) Inner in
       record {
         opened = part.opened;
         config = record {
@@ -57,29 +63,38 @@ module _ (p : PartState) (part : IsPart p) where
         all_ends = part.all_ends ∙ ap link_count (sym config.mesh);
         ends = λ y o x linked.
             let line = line_at p.lines (links_before p.opening.mesh y o) in
-            let first = subst (λ (f : ℕ → ℕ → End). IsSameEnd (end_made (owns p y) (owns p x) line) (f y o)) ends (part.ends y o x linked) in
-            subst (λ (w : Own). IsSameEnd (end_made (owned_by w y) (owned_by w x) line) (end_of (record p { net = net }) y o)) (sym config.own) first;
+            let first = subst (λ (f : ℕ → ℕ → End). IsSameEnd (end_made (owns p y) (owns p x) line) (f y o)) ends
+            (part.ends y o x linked) in
+            subst (λ (w : Own). IsSameEnd (end_made (owned_by w y) (owned_by w x) line)
+            (end_of (record p { net = net }) y o)) (sym config.own) first;
         holds =
-            let Holds : (ℕ → ℕ → End) → Type 0 = λ f. HasPart (shape p.opening) (network_of p.opening) (owns p) (seen_by f (network_of net)) (λ y o. taken_on (f y o)) (λ y o. returned_on (f y o)) in
+            let Holds : (ℕ → ℕ → End) → Type 0 =
+            λ f. HasPart (shape p.opening) (network_of p.opening) (owns p) (seen_by f (network_of net))
+            (λ y o. taken_on (f y o)) (λ y o. returned_on (f y o)) in
             let first = subst Holds ends inside.holds in
             let f = end_of (record p { net = net }) in
-            subst (λ (w : Own). HasPart (shape p.opening) (network_of p.opening) (owned_by w) (seen_by f (network_of net)) (λ y o. taken_on (f y o)) (λ y o. returned_on (f y o))) (sym config.own) first;
+            subst (λ (w : Own). HasPart (shape p.opening) (network_of p.opening) (owned_by w)
+            (seen_by f (network_of net)) (λ y o. taken_on (f y o)) (λ y o. returned_on (f y o)))
+            (sym config.own) first;
       }
 
   -- after a pass of a node's switch allocator, which moves its pointers alone
-  pub inside_chosen : (x : ℕ) → IsWorkable p.net → x < node_count p.net.mesh → IsInside (with_router p.net x (chosen_router (router_at p.net x)))
+  pub inside_chosen : (x : ℕ) → IsWorkable p.net → x < node_count p.net.mesh
+      → IsInside (with_router p.net x (chosen_router (router_at p.net x)))
   inside_chosen x workable x_in =
       let all = workable.framed.all_nodes in
       let same = chosen_apart p.net x (omega arith) in
       record {
         same_shape = part_shape p part;
-        holds = subst (λ (n : Network). HasPart (shape p.opening) (network_of p.opening) (owns p) (seen_by (end_of p) n) (taken_by p) (returned_to p)) (sym same) part.holds;
+        holds = subst (λ (n : Network). HasPart (shape p.opening) (network_of p.opening) (owns p) (seen_by (end_of p) n)
+            (taken_by p) (returned_to p)) (sym same) part.holds;
       }
 
   -- At one of its nodes
 
   module _ (x : ℕ) (here : owns p x ≡ true) where
-    by_in : (q y : ℕ) → (shape p.opening).neighbour x q ≡ Some y → (e : End) → end_of p y ((shape p.opening).opposite q) ≡ e → SeesFlits e
+    by_in : (q y : ℕ) → (shape p.opening).neighbour x q ≡ Some y → (e : End)
+        → end_of p y ((shape p.opening).opposite q) ≡ e → SeesFlits e
     by_in q y linked Inner at flits = refl
     by_in q y linked (Entering rx give) at flits = refl
     by_in q y linked (Leaving tx back) at flits =
@@ -88,7 +103,8 @@ module _ (p : PartState) (part : IsPart p) where
         let clash : true ≡ false = sym here ∙ is.far_elsewhere in
         absurd (cc)
 
-    pub in_sees : (q y : ℕ) → (shape p.opening).neighbour x q ≡ Some y → SeesFlits (end_of p y ((shape p.opening).opposite q))
+    pub in_sees : (q y : ℕ) → (shape p.opening).neighbour x q ≡ Some y
+        → SeesFlits (end_of p y ((shape p.opening).opposite q))
     in_sees q y linked = by_in q y linked (end_of p y ((shape p.opening).opposite q)) refl
 
     by_out : (o y : ℕ) → (shape p.opening).neighbour x o ≡ Some y → (e : End) → end_of p x o ≡ e → SeesCredits e
@@ -111,11 +127,13 @@ module _ (p : PartState) (part : IsPart p) where
     ]
 
     abbrev KeepsIt : Passage → Type 0
-    KeepsIt P = Keeps (shape p.opening) (mesh_of_part p part) (network_of p.opening) (owns p) (end_of p) (taken_by p) (returned_to p) P
+    KeepsIt P = Keeps (shape p.opening) (mesh_of_part p part) (network_of p.opening) (owns p) (end_of p) (taken_by p)
+        (returned_to p) P
 
     -- what is asked of its source
     pub keeps_asked : (entries : List Entry) → KeepsIt (AsksSourceBy Attempts entries x)
-    keeps_asked entries = keeps_asking (shape p.opening) (mesh_of_part p part) (network_of p.opening) (owns p) (end_of p) (taken_by p) (returned_to p) x here in_sees out_sees entries
+    keeps_asked entries = keeps_asking (shape p.opening) (mesh_of_part p part) (network_of p.opening) (owns p)
+        (end_of p) (taken_by p) (returned_to p) x here in_sees out_sees entries
 
     -- what comes in
     pub keeps_coming : KeepsIt (ComesInBy Attempts x)
@@ -124,23 +142,29 @@ module _ (p : PartState) (part : IsPart p) where
         let mesh = mesh_of_part p part in
         let old = network_of p.opening in
         let then = keeps_then s mesh old (owns p) (end_of p) (taken_by p) (returned_to p) in
-        then (TakesCreditsBy Attempts x) _ (keeps_credits s mesh old (owns p) (end_of p) (taken_by p) (returned_to p) x here in_sees out_sees)
-        (then (TakesFlitsBy Attempts x) _ (keeps_flits s mesh old (owns p) (end_of p) (taken_by p) (returned_to p) x here in_sees out_sees)
-        (then (FeedsClassesBy Attempts x) (RoutesChannelsBy Attempts x) (keeps_feeding s mesh old (owns p) (end_of p) (taken_by p) (returned_to p) x here in_sees out_sees)
+        then (TakesCreditsBy Attempts x) _ (keeps_credits s mesh old (owns p) (end_of p) (taken_by p)
+        (returned_to p) x here in_sees out_sees)
+        (then (TakesFlitsBy Attempts x) _ (keeps_flits s mesh old (owns p) (end_of p) (taken_by p)
+        (returned_to p) x here in_sees out_sees)
+        (then (FeedsClassesBy Attempts x) (RoutesChannelsBy Attempts x)
+        (keeps_feeding s mesh old (owns p) (end_of p) (taken_by p) (returned_to p) x here in_sees out_sees)
         (keeps_routing s mesh old (owns p) (end_of p) (taken_by p) (returned_to p) x here in_sees out_sees)))
 
     -- what is granted
     kept_by_grants : IsKeptByGrants x IsInside
     kept_by_grants = record {
       by_grant = λ t u q v k answer replied had.
-          (keeps_answer (shape p.opening) (mesh_of_part p part) (network_of p.opening) (owns p) (end_of p) (taken_by p) (returned_to p) (Grant x q v k) here t u answer tt had replied).0;
+          (keeps_answer (shape p.opening) (mesh_of_part p part) (network_of p.opening) (owns p) (end_of p) (taken_by p)
+          (returned_to p) (Grant x q v k) here t u answer tt had replied).0;
       by_places = λ t u config same had. record {
         same_shape = (λ i. net_shape (config.mesh i) (config.channels i) (config.depth i)) ∙ had.same_shape;
-        holds = subst (λ (n : Network). HasPart (shape p.opening) (network_of p.opening) (owns p) (seen_by (end_of p) n) (taken_by p) (returned_to p)) (sym same) had.holds;
+        holds = subst (λ (n : Network). HasPart (shape p.opening) (network_of p.opening) (owns p) (seen_by (end_of p) n)
+            (taken_by p) (returned_to p)) (sym same) had.holds;
       };
     }
 
-    pub keeps_allocating : (net : NetState) → IsWorkable net → x < node_count net.mesh → IsInside net → IsInside (with_router net x (after_allocate (router_at net x)))
+    pub keeps_allocating : (net : NetState) → IsWorkable net → x < node_count net.mesh → IsInside net
+        → IsInside (with_router net x (after_allocate (router_at net x)))
     keeps_allocating net workable x_in inside =
         let all = workable.framed.all_nodes in
         (allocated_keeps IsInside net x kept_by_grants workable (omega arith) inside).1

@@ -1,15 +1,19 @@
 -- What the network of a part does by itself, within the part, keeps it a part.
-use Rattle.std.proofs.Common.{◌≡◌, ℕ, ◌+◌, ◌*◌, ◌<◌, Bool, true, false, cond, inl, inr, List, [], ◌∷◌, length, map, Option, Some, None, Ok, Err, refl, sym, ap, subst, ◌∙◌}
+use Rattle.std.proofs.Common.{◌≡◌, ℕ, ◌+◌, ◌*◌, ◌<◌, Bool, true, false, cond, inl, inr, List, [], ◌∷◌, length, map}
+use Rattle.std.proofs.Common.{Option, Some, None, Ok, Err, refl, sym, ap, subst, ◌∙◌}
 use Rattle.std.specs.Prelude.{Result}
 use Rattle.std.specs.List.{range_with_len}
 use Rattle.worm_flit.specs.declared.Flit.{Flit}
 use Rattle.worm_theory.specs.Shape.{Shape, IsMesh}
 use Rattle.worm_theory.specs.Network.{Network}
-use Rattle.worm_theory.specs.Steps.{Step, Offer, CloseLane, Feed, Route, Grant, Send, Take, GiveCredit, TakeCredit, after}
+use Rattle.worm_theory.specs.Steps.{Step, Offer, CloseLane, Feed, Route, Grant, Send, Take, GiveCredit, TakeCredit}
+use Rattle.worm_theory.specs.Steps.{after}
 use Rattle.worm_core.specs.Shape.{net_shape}
 use Rattle.worm_core.specs.State.{NetState, IsSameConfig, shape, network_of}
 use Rattle.worm_core.specs.Replies.{Attempts, Replies}
-use Rattle.worm_core.specs.Turns.{Passage, Each, ForEach, ◌and_then◌, ComesInBy, AsksSourceBy, TakesCreditsBy, TakesFlitsBy, FeedsClassesBy, RoutesPortBy, RoutesChannelsBy, ask, all_ports, mesh_ports}
+use Rattle.worm_core.specs.Turns.{Passage, Each, ForEach, ◌and_then◌, ComesInBy, AsksSourceBy, TakesCreditsBy}
+use Rattle.worm_core.specs.Turns.{TakesFlitsBy, FeedsClassesBy, RoutesPortBy, RoutesChannelsBy, ask, all_ports}
+use Rattle.worm_core.specs.Turns.{mesh_ports}
 use Rattle.worm_core.specs.Script.{begun_at}
 use Rattle.worm_core.specs.declared.script.Act.{Act}
 use Rattle.worm_core.specs.declared.script.Act.TheVariants.{Offer as ToOffer, Close as ToClose}
@@ -28,9 +32,16 @@ same_config : (s : NetState) → IsSameConfig s s
 same_config s = record { mesh = refl; channels = refl; depth = refl; names = refl; own = refl }
 
 config_on : (a b c : NetState) → IsSameConfig a b → IsSameConfig b c → IsSameConfig a c
-config_on a b c h k = record { mesh = k.mesh ∙ h.mesh; channels = k.channels ∙ h.channels; depth = k.depth ∙ h.depth; names = k.names ∙ h.names; own = k.own ∙ h.own }
+config_on a b c h k = record {
+  mesh = k.mesh ∙ h.mesh;
+  channels = k.channels ∙ h.channels;
+  depth = k.depth ∙ h.depth;
+  names = k.names ∙ h.names;
+  own = k.own ∙ h.own;
+}
 
-module _ (s : Shape) (mesh : IsMesh s) (old : Network) (own : ℕ → Bool) (end : ℕ → ℕ → End) (taken : ℕ → ℕ → List Flit) (returned : ℕ → ℕ → List ℕ) where
+module _ (s : Shape) (mesh : IsMesh s) (old : Network) (own : ℕ → Bool) (end : ℕ → ℕ → End) (taken : ℕ → ℕ
+    → List Flit) (returned : ℕ → ℕ → List ℕ) where
   -- the network of these lists is a part's with these ends
   pub record IsOf (a : NetState) : Type 0 where
     pub same_shape : shape a ≡ s
@@ -50,15 +61,23 @@ module _ (s : Shape) (mesh : IsMesh s) (old : Network) (own : ℕ → Bool) (end
   pub stays : (a b : NetState) → b ≡ a → IsOf a → IsOf b × IsSameConfig a b
   stays a b e h = (subst IsOf (sym e) h, subst (λ (t : NetState). IsSameConfig a t) (sym e) (same_config a))
 
-  pub keeps_answer : (step : Step) → own (node_of step) ≡ true → (a b : NetState) (answer : Result Moved StepFault) → Sees s end (network_of a) step → IsOf a → Replies a step answer b → IsOf b × IsSameConfig a b
+  pub keeps_answer : (step : Step) → own (node_of step) ≡ true → (a b : NetState) (answer : Result Moved StepFault)
+      → Sees s end (network_of a) step → IsOf a → Replies a step answer b → IsOf b × IsSameConfig a b
   keeps_answer step here a b (Ok Done) sees h d =
       let N = network_of a in
       let there = subst (λ (z : Shape). Rattle.worm_theory.specs.Steps.IsThere z step) h.same_shape d.there in
       let enabled = subst (λ (z : Shape). Rattle.worm_theory.specs.Steps.Enabled z N step) h.same_shape d.enabled in
-      let made = step_part s mesh old own taken returned (seen_by end N) step here there (seen_enabled s end N step sees enabled) h.holds in
+      let made = step_part s mesh old own taken returned (seen_by end N) step here there
+      (seen_enabled s end N step sees enabled) h.holds in
       let to : seen_by end (network_of b) ≡ after s (seen_by end N) step
-      = ap (λ (n : Network). seen_by end n) (d.after_it ∙ ap (λ (z : Shape). after z N step) h.same_shape) ∙ seen_after s end N step sees in
-      (record { same_shape = shape_on a b h.same_shape d.config; holds = subst (λ (n : Network). HasPart s old own n taken returned) (sym to) made }, d.config)
+      = ap (λ (n : Network). seen_by end n) (d.after_it ∙ ap (λ (z : Shape). after z N step) h.same_shape)
+      ∙ seen_after s end N step sees in (
+        record {
+          same_shape = shape_on a b h.same_shape d.config;
+          holds = subst (λ (n : Network). HasPart s old own n taken returned) (sym to) made;
+        },
+        d.config,
+      )
   keeps_answer step here a b (Ok Idle) sees h i = stays a b i.3 h
   keeps_answer step here a b (Err NoSuchPlace) sees h i = stays a b i.1 h
   keeps_answer step here a b (Err (Refused why)) sees h i = stays a b i.3 h
@@ -98,23 +117,27 @@ module _ (s : Shape) (mesh : IsMesh s) (old : Network) (own : ℕ → Bool) (end
   ]
 
   -- The phases of a turn, at one of the part's nodes whose links are seen as the node's own lists.
-  module _ (x : ℕ) (here : own x ≡ true) (in_sees : (p y : ℕ) → s.neighbour x p ≡ Some y → Rattle.worm_split.proofs.Within.SeesFlits (end y (s.opposite p)))
+  module _ (x : ℕ) (here : own x ≡ true) (in_sees : (p y : ℕ) → s.neighbour x p ≡ Some y
+      → Rattle.worm_split.proofs.Within.SeesFlits (end y (s.opposite p)))
       (out_sees : (o : ℕ) → Rattle.worm_split.proofs.Within.SeesCredits (end x o)) where
     asked_within : (act : Act) → IsWithin (ask x act)
     asked_within (ToOffer packet) = (here, λ net. tt)
     asked_within (ToClose lane) = (here, λ net. tt)
 
     pub keeps_asking : (entries : List Entry) → Keeps (AsksSourceBy Attempts entries x)
-    keeps_asking entries a b fault h made = keeps_map (λ (e : Entry). ask x e.act) (begun_at x entries) (λ e. asked_within e.act) a b fault h made
+    keeps_asking entries a b fault h made =
+        keeps_map (λ (e : Entry). ask x e.act) (begun_at x entries) (λ e. asked_within e.act) a b fault h made
 
     pub keeps_credits : Keeps (TakesCreditsBy Attempts x)
-    keeps_credits a b fault h made = keeps_map (TakeCredit x) (mesh_ports a) (λ o. (here, λ net. out_sees o)) a b fault h made
+    keeps_credits a b fault h made = keeps_map (TakeCredit x) (mesh_ports a)
+        (λ o. (here, λ net. out_sees o)) a b fault h made
 
     pub keeps_flits : Keeps (TakesFlitsBy Attempts x)
     keeps_flits a b fault h made = keeps_map (Take x) (mesh_ports a) (λ p. (here, λ net. in_sees p)) a b fault h made
 
     pub keeps_feeding : Keeps (FeedsClassesBy Attempts x)
-    keeps_feeding a b fault h made = keeps_map (Feed x) (range_with_len 0 (length a.channels)) (λ k. (here, λ net. tt)) a b fault h made
+    keeps_feeding a b fault h made = keeps_map (Feed x) (range_with_len 0 (length a.channels))
+        (λ k. (here, λ net. tt)) a b fault h made
 
     keeps_port : (p : ℕ) → Keeps (RoutesPortBy Attempts x p)
     keeps_port p a b fault h made = keeps_map (Route x p) _ (λ v. (here, λ net. tt)) a b fault h made

@@ -1,5 +1,6 @@
 -- What the turn of a node does to its source and its sink, and that it leaves every other node as it is.
-use Rattle.std.proofs.Common.{◌≡◌, ℕ, ◌*◌, ◌<◌, ◌==◌, ◌⊎◌, inl, inr, List, [], ◌∷◌, ◌++◌, length, Option, Some, None, refl, sym, ap, subst, ◌∙◌}
+use Rattle.std.proofs.Common.{◌≡◌, ℕ, ◌*◌, ◌<◌, ◌==◌, ◌⊎◌, inl, inr, List, [], ◌∷◌, ◌++◌, length, Option, Some, None}
+use Rattle.std.proofs.Common.{refl, sym, ap, subst, ◌∙◌}
 use Rattle.std.specs.Option.{option_to_list}
 use Rattle.std.proofs.lemmas.List.Elements.{All-filter}
 use Rattle.worm_flit.specs.declared.Flit.{Flit}
@@ -14,11 +15,15 @@ use Rattle.worm_core.specs.Turns.{Allocates, AsksSourceBy, ComesInBy, Passage, l
 use Rattle.worm_core.specs.declared.fault.StepFault.{StepFault}
 use Rattle.worm_core.specs.declared.fault.StepFault.TheVariants.{Refused}
 use Rattle.worm_core.specs.declared.script.Entry.{Entry}
-use Rattle.worm_split.specs.Effects.{HasAccepted, HasWords, HaveTheSame, HaveWords, OneMore, Refuses, SourceTakes, after_entries}
+use Rattle.worm_split.specs.Effects.{HasAccepted, HasWords, HaveTheSame, HaveWords, OneMore, Refuses, SourceTakes}
+use Rattle.worm_split.specs.Effects.{after_entries}
 use Rattle.worm_split.specs.PartState.{PartState}
-use Rattle.worm_split.specs.PartTurns.{◌then◌, EachOf, Gives, GivesCredit, GivesCredits, NodeTurn, PartPassage, PullsCredit, PullsCredits, PullsFlit, PullsFlits, SendsGranted, Within}
+use Rattle.worm_split.specs.PartTurns.{◌then◌, EachOf, Gives, GivesCredit, GivesCredits, NodeTurn, PartPassage}
+use Rattle.worm_split.specs.PartTurns.{PullsCredit, PullsCredits, PullsFlit, PullsFlits, SendsGranted, Within}
 use Rattle.worm_split.proofs.Accepted.{same_source, same_then}
-use Rattle.worm_split.proofs.Alone.{IsQuiet, Passed, Quiet, Touches, allocates_quietly, comes_in_quietly, gives_quietly, no_more, none_refuses, passed_quietly, quiet_on, quiet_then, router_quiet, still_quiet, then_quiet, touched_on}
+use Rattle.worm_split.proofs.Alone.{IsQuiet, Passed, Quiet, Touches, allocates_quietly, comes_in_quietly, gives_quietly}
+use Rattle.worm_split.proofs.Alone.{no_more, none_refuses, passed_quietly, quiet_on, quiet_then, router_quiet}
+use Rattle.worm_split.proofs.Alone.{still_quiet, then_quiet, touched_on}
 use Rattle.worm_split.proofs.Asked.{Asked, IsSeated, RefusesFirst, asked}
 use Rattle.worm_split.proofs.SinkSends.{sends_passed}
 use Rattle.worm_split.proofs.Told.{Tells, TellsOf, each_tells_of}
@@ -91,7 +96,8 @@ gives_credits x old =
     each_tells_of (IsQuiet x) (at_rest x) (quiet_on x) (GivesCredit x) (gives_credit x) (mesh_ports old.net) old
 
 -- one flit at most comes, before or after what brings none
-quietly_then : (x : ℕ) (P Q : PartPassage) → TellsOf (IsQuiet x) P → TellsOf (IsPassed x) Q → TellsOf (IsPassed x) (P then Q)
+quietly_then : (x : ℕ) (P Q : PartPassage) → TellsOf (IsQuiet x) P → TellsOf (IsPassed x) Q
+    → TellsOf (IsPassed x) (P then Q)
 quietly_then x P Q quiet passes old new fault made there = elim made [
   | inl ended ↦ passed_quietly x old.net new.net fault (quiet old new fault ended.1 there)
   | inr on ↦
@@ -100,7 +106,8 @@ quietly_then x P Q quiet passes old new fault made there = elim made [
       quiet_then x old.net on.0.net new.net fault first (passes on.0 new fault on.2 there_still)
 ]
 
-then_quietly : (x : ℕ) (P Q : PartPassage) → TellsOf (IsPassed x) P → TellsOf (IsQuiet x) Q → TellsOf (IsPassed x) (P then Q)
+then_quietly : (x : ℕ) (P Q : PartPassage) → TellsOf (IsPassed x) P → TellsOf (IsQuiet x) Q
+    → TellsOf (IsPassed x) (P then Q)
 then_quietly x P Q passes quiet old new fault made there = elim made [
   | inl ended ↦ passes old new fault ended.1 there
   | inr on ↦
@@ -139,11 +146,13 @@ pub record NodeRefuses (entries : List Entry) (why : OfferFault) (x : ℕ) (old 
   pub accepted : HasAccepted old taken new
   pub refused : Refuses new next why
 
-pub record NodeDid (entries : List Entry) (x : ℕ) (old : NetState) (fault : Option StepFault) (new : NetState) : Type 0 where
+pub record NodeDid (entries : List Entry) (x : ℕ) (old : NetState) (fault : Option StepFault)
+    (new : NetState) : Type 0 where
   pub touches : Touches x old new
   pub takes : SourceTakes entries fault x (source_at old x) (source_at new x)
   pub one : OneMore (sink_at old x).delivered (sink_at new x).delivered
-  pub refuses : (why : OfferFault) → fault ≡ Some (Refused why) → NodeRefuses entries why x (source_at old x) (source_at new x)
+  pub refuses : (why : OfferFault) → fault ≡ Some (Refused why)
+      → NodeRefuses entries why x (source_at old x) (source_at new x)
 
 -- a fault ended it as its source was asked
 did_ask : (entries : List Entry) (x : ℕ) (old new : NetState) (fault : Option StepFault) →

@@ -12,7 +12,8 @@ use Rattle.worm_split.specs.Splits.{no_part, part_at}
 abbrev worker_of : ℕ → ℕ → Own
 worker_of w n = record { worker = w; workers = n }
 
-pub AreParts-set : (parts : List PartState) (k : ℕ) (new : PartState) → AreParts parts → k < length parts → IsSamePart (part_at parts k) new → AreParts (slice_set parts k new)
+pub AreParts-set : (parts : List PartState) (k : ℕ) (new : PartState) → AreParts parts → k < length parts
+    → IsSamePart (part_at parts k) new → AreParts (slice_set parts k new)
 AreParts-set parts k new are there same =
     let count : length (slice_set parts k new) ≡ length parts = length-set parts k new in
     let own = λ (w : ℕ). same_at (λ (p : PartState). p.net.own) parts k w new no_part there same.config.own in

@@ -1,5 +1,6 @@
 -- What a part knows where it asks for a flit or a credit, or sends one: the links of a port, and its ends of them.
-use Rattle.std.proofs.Common.{◌≡◌, ℕ, ◌*◌, ◌+◌, ◌<◌, ◌≤◌, true, false, Bool, List, [], ◌∷◌, ◌++◌, length, sum, Option, Some, None, refl, arith, sym, ap, subst, ◌∙◌}
+use Rattle.std.proofs.Common.{◌≡◌, ℕ, ◌*◌, ◌+◌, ◌<◌, ◌≤◌, true, false, Bool, List, [], ◌∷◌, ◌++◌, length, sum, Option}
+use Rattle.std.proofs.Common.{Some, None, refl, arith, sym, ap, subst, ◌∙◌}
 use Rattle.std.specs.Prelude.{IsSome, is_some, slice_get, slice_set, slice_index_or}
 use Rattle.std.proofs.Math.Nat.{mul-le-mul_left}
 use Rattle.worm_flit.specs.declared.Flit.{Flit}
@@ -28,20 +29,31 @@ use Rattle.worm_split.specs.PartState.{PartState, IsPart, end_of, owns}
 use Rattle.worm_split.proofs.PartFacts.{linked_there}
 
 -- which end it was that something came by
-pub credit_popped : (e new : End) (c : ℕ) → CreditPopped e c new → (tx : TxView) × (back : CreditRxView) × (e ≡ Leaving tx back) × (new ≡ Leaving tx (record back { taken = back.taken ++ c ∷ [] })) × (c < back.link.channels)
+pub credit_popped : (e new : End) (c : ℕ) → CreditPopped e c new
+    → (tx : TxView) × (back : CreditRxView) × (e ≡ Leaving tx back)
+    × (new ≡ Leaving tx (record back { taken = back.taken ++ c ∷ [] })) × (c < back.link.channels)
 credit_popped Inner new c h = absurd h
 credit_popped (Leaving tx back) new c h = (tx, back, refl, h.0, h.1)
 credit_popped (Entering rx give) new c h = absurd h
 
 pub flit_popped : (e new : End) (f : Flit) → FlitPopped e f new
-    → (rx : RxView) × (give : CreditTxView) × (e ≡ Entering rx give) × (new ≡ Entering (record rx { taken = rx.taken ++ f ∷ [] }) give) × Continues (on_channel f.vc (rx.past ++ rx.taken)) f × MayCross rx.link f
+    → (rx : RxView) × (give : CreditTxView) × (e ≡ Entering rx give)
+    × (new ≡ Entering (record rx { taken = rx.taken ++ f ∷ [] }) give)
+    × Continues (on_channel f.vc (rx.past ++ rx.taken)) f × MayCross rx.link f
 flit_popped Inner new f h = absurd h
 flit_popped (Leaving tx back) new f h = absurd h
 flit_popped (Entering rx give) new f h = (rx, give, refl, h.0, h.1, h.2)
 
 -- The links of a port.
-module _ (p : PartState) (part : IsPart p) (framed : IsFramed p.net) (x o : ℕ) (links : PortLinks) (at : ◌≡◌ {A = Option PortLinks} (Some links) (port_links p.net.mesh x o)) where
-  these : (neighbour_of p.net.mesh x o ≡ Some links.beyond) × (links ≡ record { beyond = links.beyond; entered = opposite_of o; out = links_before p.net.mesh x o; into = links_before p.net.mesh links.beyond (opposite_of o) })
+module _ (p : PartState) (part : IsPart p) (framed : IsFramed p.net) (x o : ℕ) (links : PortLinks)
+    (at : ◌≡◌ {A = Option PortLinks} (Some links) (port_links p.net.mesh x o)) where
+  these : (neighbour_of p.net.mesh x o ≡ Some links.beyond)
+      × (links ≡ record {
+        beyond = links.beyond;
+        entered = opposite_of o;
+        out = links_before p.net.mesh x o;
+        into = links_before p.net.mesh links.beyond (opposite_of o);
+      })
   these = parts p.net.mesh x o links at
 
   pub linked : neighbour_of p.net.mesh x o ≡ Some links.beyond
@@ -50,10 +62,12 @@ module _ (p : PartState) (part : IsPart p) (framed : IsFramed p.net) (x o : ℕ)
   pub back : neighbour_of p.net.mesh links.beyond (opposite_of o) ≡ Some x
   back =
       let large = AreLarge-from_radices p.net.mesh framed.radices.radices in
-      neighbour_of-some p.net.mesh links.beyond (opposite_of o) x large (Joins-back p.net.mesh x o links.beyond (Joins-from p.net.mesh x o links.beyond large linked))
+      neighbour_of-some p.net.mesh links.beyond (opposite_of o) x large
+      (Joins-back p.net.mesh x o links.beyond (Joins-from p.net.mesh x o links.beyond large linked))
 
   pub beyond_in : links.beyond < node_count p.net.mesh
-  beyond_in = (Joins-from p.net.mesh x o links.beyond (AreLarge-from_radices p.net.mesh framed.radices.radices) linked).to_node
+  beyond_in = (Joins-from p.net.mesh x o links.beyond
+      (AreLarge-from_radices p.net.mesh framed.radices.radices) linked).to_node
 
   pub entered_is : links.entered ≡ opposite_of o
   entered_is = ap (λ (l : PortLinks). l.entered) these.1
@@ -84,18 +98,22 @@ module _ (p : PartState) (part : IsPart p) (framed : IsFramed p.net) (x o : ℕ)
   out_end = let there = linked_there p part x o links.beyond linked in rw there (ap (λ (k : ℕ). end_at p.ends k) out_is)
 
   pub into_end : end_at p.ends links.into ≡ end_of p links.beyond (opposite_of o)
-  into_end = let there = linked_there p part links.beyond (opposite_of o) x back in rw there (ap (λ (k : ℕ). end_at p.ends k) into_is)
+  into_end = let there = linked_there p part links.beyond (opposite_of o) x back in
+      rw there (ap (λ (k : ℕ). end_at p.ends k) into_is)
 
   -- their lists
   pub out_credits : (network_of p.net).credit_list x o ≡ (link_at p.net links.out).credits
-  out_credits = credits_there p.net x o framed (linked_there p part x o links.beyond linked) ∙ ap (λ (k : ℕ). (link_at p.net k).credits) (sym out_is)
+  out_credits = credits_there p.net x o framed (linked_there p part x o links.beyond linked)
+      ∙ ap (λ (k : ℕ). (link_at p.net k).credits) (sym out_is)
 
   pub into_flits : (network_of p.net).out links.beyond (opposite_of o) ≡ (link_at p.net links.into).flits
-  into_flits = out_there p.net links.beyond (opposite_of o) framed (linked_there p part links.beyond (opposite_of o) x back) ∙ ap (λ (k : ℕ). (link_at p.net k).flits) (sym into_is)
+  into_flits = out_there p.net links.beyond (opposite_of o) framed
+      (linked_there p part links.beyond (opposite_of o) x back) ∙ ap (λ (k : ℕ). (link_at p.net k).flits) (sym into_is)
 
   -- the same links as the neighbour's port has them
   pub out_from_beyond : link_into p.net links.beyond links.entered ≡ links.out
-  out_from_beyond = rw entered_is (rw back (ap (λ (q : ℕ). links_before p.net.mesh x q) (opposite_twice o) ∙ sym out_is))
+  out_from_beyond = rw entered_is (rw back
+      (ap (λ (q : ℕ). links_before p.net.mesh x q) (opposite_twice o) ∙ sym out_is))
 
   pub into_from_beyond : link_out p.net links.beyond links.entered ≡ links.into
   into_from_beyond = rw entered_is (sym into_is)

@@ -1,5 +1,7 @@
 -- What a node sends of what was granted: one flit at most comes to its sink.
-use Rattle.std.proofs.Common.{◌≡◌, ◌≢◌, ℕ, zero, suc, ◌+◌, ◌*◌, ◌<◌, ◌≤◌, ◌==◌, Bool, true, false, if◌then◌else◌, ◌⊎◌, inl, inr, List, [], ◌∷◌, ◌++◌, length, Option, Some, None, Ok, Err, refl, arith, sym, ap, subst, ◌∙◌}
+use Rattle.std.proofs.Common.{◌≡◌, ◌≢◌, ℕ, zero, suc, ◌+◌, ◌*◌, ◌<◌, ◌≤◌, ◌==◌, Bool, true, false, if◌then◌else◌, ◌⊎◌}
+use Rattle.std.proofs.Common.{inl, inr, List, [], ◌∷◌, ◌++◌, length, Option, Some, None, Ok, Err, refl, arith, sym, ap}
+use Rattle.std.proofs.Common.{subst, ◌∙◌}
 use Rattle.std.specs.Prelude.{IsSome, Result, slice_index_or}
 use Rattle.std.specs.List.{range_with_len}
 use Rattle.std.specs.Option.{option_to_list}
@@ -12,7 +14,8 @@ use Rattle.worm_term.specs.declared.fault.OfferFault.{OfferFault}
 use Rattle.worm_theory.specs.Steps.{Send}
 use Rattle.worm_core.specs.Moves.{after_ready, after_sending, chosen_router, delivered_node, link_out}
 use Rattle.worm_core.specs.Replies.{Replies}
-use Rattle.worm_core.specs.State.{NetState, link_at, node_at, router_at, sink_at, source_at, with_link, with_node, with_router}
+use Rattle.worm_core.specs.State.{NetState, link_at, node_at, router_at, sink_at, source_at, with_link, with_node}
+use Rattle.worm_core.specs.State.{with_router}
 use Rattle.worm_wires.specs.Links.{LinkView}
 use Rattle.worm_core.specs.Turns.{fault_of}
 use Rattle.worm_core.specs.declared.fault.StepFault.{StepFault}
@@ -24,7 +27,8 @@ use Rattle.worm_split.specs.Effects.{HaveTheSame, OneMore}
 use Rattle.worm_split.specs.PartState.{PartState}
 use Rattle.worm_split.specs.PartTurns.{EachOf, PartPassage, Sends, SendsGrant, SendsGranted}
 use Rattle.worm_split.proofs.Accepted.{same_source}
-use Rattle.worm_split.proofs.Alone.{IsUnrefused, Passed, Quiet, none_refuses, passed_quietly, put_at, put_there, put_touches, quiet_then, router_quiet, still_quiet, then_quiet}
+use Rattle.worm_split.proofs.Alone.{IsUnrefused, Passed, Quiet, none_refuses, passed_quietly, put_at, put_there}
+use Rattle.worm_split.proofs.Alone.{put_touches, quiet_then, router_quiet, still_quiet, then_quiet}
 use Rattle.worm_split.proofs.Grants.{IsHolding, granted_once, grants_hold, holding_still, leaves_by}
 
 -- the sink has what it had
@@ -125,7 +129,8 @@ one_sent x p g old new fault there holding sends =
             | inl went ↦
                 subst (λ (t : PartState). OneSent x p g s None t.net) (sym went) (link_sent x p g s s.links there)
             | inr stayed ↦
-                subst (λ (t : PartState). OneSent x p g s None t.net) (sym stayed.0) (still_sent x p g s None none_refuses)
+                subst (λ (t : PartState). OneSent x p g s None t.net) (sym stayed.0)
+                (still_sent x p g s None none_refuses)
           ])
       | inr within ↦
           let tried = within.1.0 in
@@ -223,7 +228,8 @@ module _ (x : ℕ) (grants : List (Option SwGrant))
   more_sent p a b c fault sent rest =
       let first = last_sent p a None b sent in
       let past : NoneHome grants (p + 1) a → NoneHome grants (p + 1) b =
-      λ away q h above at home. away q h above at (home ∙ ap (λ (mesh : List ℕ). 2 * length mesh) first.passed.touches.mesh) in
+      λ away q h above at home. away q h above at
+      (home ∙ ap (λ (mesh : List ℕ). 2 * length mesh) first.passed.touches.mesh) in
       let none : NoneHome grants p a → SinkStays x a c =
       λ away. rest.quiet (past (λ q h above. away q h (omega arith))) ∙ first.quiet away in
       elim sent [

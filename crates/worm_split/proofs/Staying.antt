@@ -1,5 +1,6 @@
 -- A flit that leaves for a node of the part's own, or for its sink, goes as in a network.
-use Rattle.std.proofs.Common.{◌≡◌, ℕ, ◌+◌, ◌*◌, ◌<◌, arith, Bool, true, false, inl, inr, List, [], ◌∷◌, Option, Some, None, Ok, Err, refl, sym, ap, subst, ◌∙◌}
+use Rattle.std.proofs.Common.{◌≡◌, ℕ, ◌+◌, ◌*◌, ◌<◌, arith, Bool, true, false, inl, inr, List, [], ◌∷◌, Option, Some}
+use Rattle.std.proofs.Common.{None, Ok, Err, refl, sym, ap, subst, ◌∙◌}
 use Rattle.std.specs.Prelude.{IfSome, IsTrue, Result, nat_lt}
 use Rattle.worm_flit.specs.declared.Flit.{Flit}
 use Rattle.worm_links.specs.Links.{TxView, RxView, CreditTxView, CreditRxView}
@@ -33,17 +34,26 @@ use Rattle.worm_split.proofs.PartFacts.{mesh_of_part, is_leaving, is_entering, i
 use Rattle.worm_split.proofs.Within.{Sees, SeesFlits, SeesCredits}
 
 -- the test of an end
-pub leaves_means : (e : End) (b : Bool) → b ≡ leaves_by e → (IsTrue b → (tx : TxView) × (back : CreditRxView) × (e ≡ Leaving tx back)) × (((tx : TxView) × (back : CreditRxView) × (e ≡ Leaving tx back)) → IsTrue b)
-leaves_means Inner b is = (λ yes_it. let clash : true ≡ false = sym yes_it ∙ is in absurd (cc), λ l. let e = l.2 in absurd (cc))
+pub leaves_means : (e : End) (b : Bool) → b ≡ leaves_by e
+    → (IsTrue b → (tx : TxView) × (back : CreditRxView) × (e ≡ Leaving tx back))
+    × (((tx : TxView) × (back : CreditRxView) × (e ≡ Leaving tx back)) → IsTrue b)
+leaves_means Inner b is = (
+  λ yes_it. let clash : true ≡ false = sym yes_it ∙ is in absurd (cc),
+  λ l. let e = l.2 in absurd (cc),
+)
 leaves_means (Leaving tx back) b is = (λ _. (tx, back, refl), λ _. is)
-leaves_means (Entering rx give) b is = (λ yes_it. let clash : true ≡ false = sym yes_it ∙ is in absurd (cc), λ l. let e = l.2 in absurd (cc))
+leaves_means (Entering rx give) b is = (
+  λ yes_it. let clash : true ≡ false = sym yes_it ∙ is in absurd (cc),
+  λ l. let e = l.2 in absurd (cc),
+)
 
 owes_some : (n : ℕ) → nat_lt 0 n ≡ true → 0 < n
 owes_some n e = grind arith
 
 module _ (p : PartState) (part : IsPart p) (x : ℕ) (here : owns p x ≡ true) where
   -- a link out of the node that does not leave the part leads to another of its nodes
-  leads_within : (o y : ℕ) → (shape p.opening).neighbour x o ≡ Some y → (LeavesBy p x o → ⊥) → (e : End) → end_of p x o ≡ e → owns p y ≡ true
+  leads_within : (o y : ℕ) → (shape p.opening).neighbour x o ≡ Some y → (LeavesBy p x o → ⊥) → (e : End)
+      → end_of p x o ≡ e → owns p y ≡ true
   leads_within o y linked stays_in Inner at = sym (is_inner p part x o y linked at) ∙ here
   leads_within o y linked stays_in (Leaving tx back) at = absurd (stays_in (tx, back, at))
   leads_within o y linked stays_in (Entering rx give) at =
@@ -57,7 +67,8 @@ module _ (p : PartState) (part : IsPart p) (x : ℕ) (here : owns p x ≡ true) 
       let then : neighbour_of p.opening.mesh x o ≡ Some y = rw (← part.config.mesh) to in
       (here, leads_within o y then stays_in (end_of p x o) refl)
 
-  pub sends_within : (d : Option (ℕ × Flit)) → StaysWithin p x d → IfSome d (λ out. EndsWithin (shape p.net) (owned p.net) x out.0)
+  pub sends_within : (d : Option (ℕ × Flit)) → StaysWithin p x d
+      → IfSome d (λ out. EndsWithin (shape p.net) (owned p.net) x out.0)
   sends_within None stays_in = tt
   sends_within (Some d) stays_in = ends_within d.0 stays_in
 
@@ -71,19 +82,25 @@ module _ (p : PartState) (part : IsPart p) (x : ℕ) (here : owns p x ≡ true) 
   Made net = IsInside p part net × IsSameConfig p.net net
 
   unmoved : (net : NetState) → net ≡ p.net → Made net
-  unmoved net e = stays (shape p.opening) (mesh_of_part p part) (network_of p.opening) (owns p) (end_of p) (taken_by p) (returned_to p) p.net net e (inside_now p part)
+  unmoved net e = stays (shape p.opening) (mesh_of_part p part) (network_of p.opening) (owns p) (end_of p) (taken_by p)
+      (returned_to p) p.net net e (inside_now p part)
 
   module _ (q v : ℕ) (net : NetState) (framed : IsFramed p.net) where
-    done_by : (d : Option (ℕ × Flit)) → leaving (router_at p.net x) q v ≡ d → StaysWithin p x d → Replies p.net (Send x q v) (Ok Done) net → Made net
-    done_by None at stays_in made = unmoved net (made.exact ∙ ap (λ (d : Option (ℕ × Flit)). after_ready p.net x q v d) at)
+    done_by : (d : Option (ℕ × Flit)) → leaving (router_at p.net x) q v ≡ d → StaysWithin p x d
+        → Replies p.net (Send x q v) (Ok Done) net → Made net
+    done_by None at stays_in made = unmoved net
+        (made.exact ∙ ap (λ (d : Option (ℕ × Flit)). after_ready p.net x q v d) at)
     done_by (Some d) at stays_in made =
         let place = net_place p.net x q v framed made.there.0 made.there.1 made.there.2 in
         let ready = ready_at p.net x q v d.0 d.1 place at in
         let sees : Sees (shape p.opening) (end_of p) (network_of p.net) (Send x q v)
-        = subst (λ (r : InRecord). IsActiveAt r (λ o c. SeesFlits (end_of p x o))) (sym ready.active) (sees_unless d.0 stays_in (end_of p x d.0) refl) in
-        keeps_answer (shape p.opening) (mesh_of_part p part) (network_of p.opening) (owns p) (end_of p) (taken_by p) (returned_to p) (Send x q v) here p.net net (Ok Done) sees (inside_now p part) made
+        = subst (λ (r : InRecord). IsActiveAt r (λ o c. SeesFlits (end_of p x o))) (sym ready.active)
+        (sees_unless d.0 stays_in (end_of p x d.0) refl) in
+        keeps_answer (shape p.opening) (mesh_of_part p part) (network_of p.opening) (owns p) (end_of p) (taken_by p)
+        (returned_to p) (Send x q v) here p.net net (Ok Done) sees (inside_now p part) made
 
-    pub sent_within : (answer : Result Moved StepFault) → StaysWithin p x (leaving (router_at p.net x) q v) → Replies p.net (Send x q v) answer net → Made net
+    pub sent_within : (answer : Result Moved StepFault) → StaysWithin p x (leaving (router_at p.net x) q v)
+        → Replies p.net (Send x q v) answer net → Made net
     sent_within (Ok Done) stays_in made = done_by (leaving (router_at p.net x) q v) refl stays_in made
     sent_within (Ok Idle) stays_in i = unmoved net i.3
     sent_within (Err NoSuchPlace) stays_in i = unmoved net i.1
@@ -92,7 +109,8 @@ module _ (p : PartState) (part : IsPart p) (x : ℕ) (here : owns p x ≡ true) 
 
   -- The same of a credit, by a port of which the link into it does not come from elsewhere
 
-  comes_within : (o y : ℕ) → (shape p.opening).neighbour x o ≡ Some y → (ComesBy p x o → ⊥) → neighbour_of p.net.mesh x o ≡ Some y → (e : End) → end_of p y (opposite_of o) ≡ e
+  comes_within : (o y : ℕ) → (shape p.opening).neighbour x o ≡ Some y → (ComesBy p x o → ⊥)
+      → neighbour_of p.net.mesh x o ≡ Some y → (e : End) → end_of p y (opposite_of o) ≡ e
       → (owns p y ≡ true) × SeesCredits e
   unfolding net_shape
   comes_within o y linked stays_in to Inner at =
@@ -111,28 +129,38 @@ module _ (p : PartState) (part : IsPart p) (x : ℕ) (here : owns p x ≡ true) 
       let then : neighbour_of p.opening.mesh x o ≡ Some y = rw (← part.config.mesh) to in
       (here, (comes_within o y then stays_in to (end_of p y (opposite_of o)) refl).0)
 
-  pub gave_within : (o v : ℕ) (net : NetState) (answer : Result Moved StepFault) → (ComesBy p x o → ⊥) → Replies p.net (GiveCredit x o v) answer net → Made net
+  pub gave_within : (o v : ℕ) (net : NetState) (answer : Result Moved StepFault) → (ComesBy p x o → ⊥)
+      → Replies p.net (GiveCredit x o v) answer net → Made net
   unfolding net_shape
   gave_within o v net answer stays_in replied =
       let sees : Sees (shape p.opening) (end_of p) (network_of p.net) (GiveCredit x o v)
-      = λ y then. (let to : neighbour_of p.net.mesh x o ≡ Some y = rw part.config.mesh then in (comes_within o y then stays_in to (end_of p y (opposite_of o)) refl).1) in
-      keeps_answer (shape p.opening) (mesh_of_part p part) (network_of p.opening) (owns p) (end_of p) (taken_by p) (returned_to p) (GiveCredit x o v) here p.net net answer sees (inside_now p part) replied
+      = λ y then. (let to : neighbour_of p.net.mesh x o ≡ Some y = rw part.config.mesh then in
+      (comes_within o y then stays_in to (end_of p y (opposite_of o)) refl).1) in
+      keeps_answer (shape p.opening) (mesh_of_part p part) (network_of p.opening) (owns p) (end_of p) (taken_by p)
+      (returned_to p) (GiveCredit x o v) here p.net net answer sees (inside_now p part) replied
 
 -- a credit that is given ends no turn
-pub gives_no_fault : (s new : NetState) (x o v : ℕ) (answer : Result Moved StepFault) → Replies s (GiveCredit x o v) answer new → fault_of answer ≡ None
+pub gives_no_fault : (s new : NetState) (x o v : ℕ) (answer : Result Moved StepFault)
+    → Replies s (GiveCredit x o v) answer new → fault_of answer ≡ None
 gives_no_fault s new x o v (Ok moved) replied = refl
 gives_no_fault s new x o v (Err NoSuchPlace) replied = refl
 gives_no_fault s new x o v (Err (Refused why)) replied = let clash = replied.2 in absurd (cc)
 gives_no_fault s new x o v (Err NoMemory) replied = absurd replied.2
 
 -- the test of an end by which flits enter
-pub enters_means : (e : End) (b : Bool) → b ≡ enters_by e → (IsTrue b → (rx : RxView) × (give : CreditTxView) × (e ≡ Entering rx give)) × (((rx : RxView) × (give : CreditTxView) × (e ≡ Entering rx give)) → IsTrue b)
+pub enters_means : (e : End) (b : Bool) → b ≡ enters_by e
+    → (IsTrue b → (rx : RxView) × (give : CreditTxView) × (e ≡ Entering rx give))
+    × (((rx : RxView) × (give : CreditTxView) × (e ≡ Entering rx give)) → IsTrue b)
 enters_means Inner b is = (λ it. let clash : true ≡ false = sym it ∙ is in absurd (cc), λ l. let e = l.2 in absurd (cc))
-enters_means (Leaving tx back) b is = (λ it. let clash : true ≡ false = sym it ∙ is in absurd (cc), λ l. let e = l.2 in absurd (cc))
+enters_means (Leaving tx back) b is = (
+  λ it. let clash : true ≡ false = sym it ∙ is in absurd (cc),
+  λ l. let e = l.2 in absurd (cc),
+)
 enters_means (Entering rx give) b is = (λ _. (rx, give, refl), λ _. is)
 
 -- the link into a port whose end this is
-pub comes_means : (p : PartState) (x o beyond : ℕ) (b : Bool) → neighbour_of p.net.mesh x o ≡ Some beyond → b ≡ enters_by (end_of p beyond (opposite_of o)) → (IsTrue b → ComesBy p x o) × (ComesBy p x o → IsTrue b)
+pub comes_means : (p : PartState) (x o beyond : ℕ) (b : Bool) → neighbour_of p.net.mesh x o ≡ Some beyond
+    → b ≡ enters_by (end_of p beyond (opposite_of o)) → (IsTrue b → ComesBy p x o) × (ComesBy p x o → IsTrue b)
 comes_means p x o beyond b linked is =
     let means = enters_means (end_of p beyond (opposite_of o)) b is in (
       λ it. (beyond, linked, means.0 it),
@@ -143,7 +171,8 @@ comes_means p x o beyond b linked is =
     )
 
 -- the lowest channel that owes a credit is there, and owes one
-pub lowest_found : (r : RouterState) (port : ℕ) (o : Option ℕ) → o ≡ lowest_owed r port → IfSome o (λ vc. (vc < width r) × (0 < (input_at r port vc).owed))
+pub lowest_found : (r : RouterState) (port : ℕ) (o : Option ℕ) → o ≡ lowest_owed r port
+    → IfSome o (λ vc. (vc < width r) × (0 < (input_at r port vc).owed))
 lowest_found r port None e = tt
 lowest_found r port (Some vc) e =
     let found = find-range_found (λ v. nat_lt 0 (input_at r port v).owed) 0 (width r) vc (sym e) in

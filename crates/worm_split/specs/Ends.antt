@@ -1,5 +1,6 @@
 -- What a worker's end of a link knows: all that went over it since the network was split.
-use Rattle.std.specs.Prelude.{◌≡◌, ℕ, ◌≤◌, ◌<◌, Bool, true, false, cond, List, [], ◌∷◌, ◌++◌, length, sum, slice_get, slice_index_or, Some}
+use Rattle.std.specs.Prelude.{◌≡◌, ℕ, ◌≤◌, ◌<◌, Bool, true, false, cond, List, [], ◌∷◌, ◌++◌, length, sum, slice_get}
+use Rattle.std.specs.Prelude.{slice_index_or, Some}
 use Rattle.worm_flit.specs.declared.Flit.{Flit}
 use Rattle.worm_flit.specs.Channels.{owner_of}
 use Rattle.worm_flit.specs.Stamps.{on_channel}
@@ -52,8 +53,8 @@ returned_on Inner = []
 returned_on (Leaving tx back) = back.taken
 returned_on (Entering rx give) = []
 
--- A network of lists as the worker has it whose ends these are, by node and output port: a link that leaves its nodes has all that was
--- sent on it, and the credit line of one that enters them all that was given.
+-- A network of lists as the worker has it whose ends these are, by node and output port: a link that leaves its nodes
+-- has all that was sent on it, and the credit line of one that enters them all that was given.
 abbrev pub seen_by : (ℕ → ℕ → End) → Network → Network
 seen_by end net = record net {
   out = λ y o. sent_on (end y o) (net.out y o);
@@ -67,15 +68,17 @@ IsSameEnd Inner (Leaving tx back) = ⊥
 IsSameEnd Inner (Entering rx give) = ⊥
 IsSameEnd (Leaving tx back) Inner = ⊥
 IsSameEnd (Leaving tx back) (Leaving tx2 back2) =
-    (tx2.link ≡ tx.link) × (tx2.past ≡ tx.past) × (tx2.queue ≡ tx.queue) × (back2.link ≡ back.link) × (back2.queue ≡ back.queue)
+    (tx2.link ≡ tx.link) × (tx2.past ≡ tx.past) × (tx2.queue ≡ tx.queue) × (back2.link ≡ back.link)
+    × (back2.queue ≡ back.queue)
 IsSameEnd (Leaving tx back) (Entering rx2 give2) = ⊥
 IsSameEnd (Entering rx give) Inner = ⊥
 IsSameEnd (Entering rx give) (Leaving tx2 back2) = ⊥
 IsSameEnd (Entering rx give) (Entering rx2 give2) =
-    (rx2.link ≡ rx.link) × (rx2.past ≡ rx.past) × (rx2.queue ≡ rx.queue) × (give2.link ≡ give.link) × (give2.queue ≡ give.queue)
+    (rx2.link ≡ rx.link) × (rx2.past ≡ rx.past) × (rx2.queue ≡ rx.queue) × (give2.link ≡ give.link)
+    × (give2.queue ≡ give.queue)
 
--- The end of a link that a worker has, of the two that were made: whether it owns the node that the link leaves, and the one that
--- the link enters.
+-- The end of a link that a worker has, of the two that were made: whether it owns the node that the link leaves, and
+-- the one that the link enters.
 abbrev pub end_made : Bool → Bool → Line → End
 end_made near far line = cond near (cond far Inner line.out) (cond far line.into Inner)
 
@@ -107,7 +110,8 @@ line_at lines k = slice_index_or lines k no_line
 -- the credit came back by it
 abbrev pub CreditPopped : End → ℕ → End → Type 0
 CreditPopped Inner c new = ⊥
-CreditPopped (Leaving tx back) c new = (new ≡ Leaving tx (record back { taken = back.taken ++ c ∷ [] })) × (c < back.link.channels)
+CreditPopped (Leaving tx back) c new = (new ≡ Leaving tx (record back { taken = back.taken ++ c ∷ [] }))
+    × (c < back.link.channels)
 CreditPopped (Entering rx give) c new = ⊥
 
 -- the flit came by it: it continues what was taken on its channel, and may cross the link
@@ -115,7 +119,8 @@ abbrev pub FlitPopped : End → Flit → End → Type 0
 FlitPopped Inner f new = ⊥
 FlitPopped (Leaving tx back) f new = ⊥
 FlitPopped (Entering rx give) f new =
-    (new ≡ Entering (record rx { taken = rx.taken ++ f ∷ [] }) give) × Continues (on_channel f.vc (rx.past ++ rx.taken)) f × MayCross rx.link f
+    (new ≡ Entering (record rx { taken = rx.taken ++ f ∷ [] }) give)
+    × Continues (on_channel f.vc (rx.past ++ rx.taken)) f × MayCross rx.link f
 
 -- the flit may be sent by it, and was, or was not
 abbrev pub MayGo : End → Flit → Type 0

@@ -1,5 +1,5 @@
--- A worker's part of a network: the network of its own nodes and links, its ends of the links that it shares with other workers, and,
--- for contracts alone, the network that was split.
+-- A worker's part of a network: the network of its own nodes and links, its ends of the links that it shares with other
+-- workers, and, for contracts alone, the network that was split.
 use Rattle.std.specs.Prelude.{◌≡◌, ℕ, ◌<◌, ◌==◌, ◌%◌, Bool, true, false, cond, List, Option, length, Some}
 use Rattle.worm_flit.specs.declared.Flit.{Flit}
 use Rattle.worm_mesh.specs.Address.{has_neighbour}
@@ -46,7 +46,8 @@ returned_to p y o = returned_on (end_of p y o)
 
 -- of each link between two workers the two ends that were made of it
 abbrev pub AreLines : NetState → ℕ → List Line → Type 0
-AreLines opening workers lines = (y o x : ℕ) → (shape opening).neighbour y o ≡ Some x → (y % workers ≡ x % workers → ⊥) →
+AreLines opening workers lines = (y o x : ℕ) → (shape opening).neighbour y o ≡ Some x
+    → (y % workers ≡ x % workers → ⊥) →
     let line = line_at lines (links_before opening.mesh y o) in
     AreEndsMade opening.mesh opening.channels opening.depth y o (past_of (shape opening) (network_of opening) y o x)
     line.out line.into

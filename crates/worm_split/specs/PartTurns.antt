@@ -1,6 +1,7 @@
--- The turn of a node in a worker's part: the turn of a node, in which what goes to another worker goes by the worker's end of the link, and
--- what comes from one comes by it (Dally and Towles, chapters 13 and 16).
-use Rattle.std.specs.Prelude.{ℕ, ◌≡◌, ◌≤◌, ◌*◌, ◌⊎◌, List, [], ◌∷◌, ◌++◌, length, map, filter, slice_set, slice_index_or, Option, Some, None, IsSome, option_map}
+-- The turn of a node in a worker's part: the turn of a node, in which what goes to another worker goes by the worker's
+-- end of the link, and what comes from one comes by it (Dally and Towles, chapters 13 and 16).
+use Rattle.std.specs.Prelude.{ℕ, ◌≡◌, ◌≤◌, ◌*◌, ◌⊎◌, List, [], ◌∷◌, ◌++◌, length, map, filter, slice_set}
+use Rattle.std.specs.Prelude.{slice_index_or, Option, Some, None, IsSome, option_map}
 use Rattle.std.specs.List.{flat_map}
 use Rattle.std.specs.Option.{option_to_list}
 use Rattle.worm_flit.specs.declared.Flit.{Flit}
@@ -14,7 +15,8 @@ use Rattle.worm_core.specs.State.{NetState, router_at, with_router, network_of}
 use Rattle.worm_core.specs.Edges.{after_arriving, after_credit_back}
 use Rattle.worm_core.specs.Moves.{chosen_router}
 use Rattle.worm_core.specs.Replies.{Attempts}
-use Rattle.worm_core.specs.Turns.{ComesInBy, AsksSourceBy, Passage, ◌and_then◌, Allocates, lowest_owed, mesh_ports, all_ports, all_nodes}
+use Rattle.worm_core.specs.Turns.{ComesInBy, AsksSourceBy, Passage, ◌and_then◌, Allocates, lowest_owed, mesh_ports}
+use Rattle.worm_core.specs.Turns.{all_ports, all_nodes}
 use Rattle.worm_core.specs.declared.fault.StepFault.{StepFault}
 use Rattle.worm_core.specs.declared.script.Entry.{Entry}
 use Rattle.worm_split.specs.declared.ends.End.{End}
@@ -53,10 +55,12 @@ Within P old fault new = P old.net fault new.net × (new ≡ record old { net = 
 abbrev pub with_end : PartState → ℕ → ℕ → End → NetState → PartState
 with_end p y o e net = record p { net = net; ends = slice_set p.ends (links_before p.net.mesh y o) e }
 
--- a credit that came back by this end of the link out of port o of node x, which leads to node y, stands behind the credits of its list
+-- a credit that came back by this end of the link out of port o of node x, which leads to node y, stands behind the
+-- credits of its list
 abbrev pub with_credit : PartState → ℕ → ℕ → ℕ → TxView → CreditRxView → ℕ → PartState
 with_credit p x o y tx back c =
-    with_end p x o (Leaving tx (record back { taken = back.taken ++ c ∷ [] })) (after_credit_back p.net y (opposite_of o) c)
+    with_end p x o (Leaving tx (record back { taken = back.taken ++ c ∷ [] }))
+    (after_credit_back p.net y (opposite_of o) c)
 
 pub record CreditComes (x o : ℕ) (old new : PartState) : Type 0 where
   pub beyond : ℕ
@@ -91,8 +95,8 @@ pub record FlitComes (x p : ℕ) (old new : PartState) : Type 0 where
 abbrev pub PullsFlit : ℕ → ℕ → PartPassage
 PullsFlit x p old fault new = (fault ≡ None) × ((new ≡ old) ⊎ FlitComes x p old new)
 
--- The flit that is ready leaves by a link to another worker: its push lands, and it left; or the push comes back full, and nothing is done.
--- It comes back full only where as many flits were sent as the queue holds.
+-- The flit that is ready leaves by a link to another worker: its push lands, and it left; or the push comes back full,
+-- and nothing is done. It comes back full only where as many flits were sent as the queue holds.
 pub record SendsAcross (x p v : ℕ) (old new : PartState) : Type 0 where
   pub out : ℕ
   pub flit : Flit
@@ -100,7 +104,8 @@ pub record SendsAcross (x p v : ℕ) (old new : PartState) : Type 0 where
   pub back : CreditRxView
   pub ready : leaving (router_at old.net x) p v ≡ Some (out, flit)
   pub end : end_of old x out ≡ Leaving tx back
-  pub answer : (new ≡ with_end old x out (Leaving (record tx { sent = tx.sent ++ flit ∷ [] }) back) (with_router old.net x (after_send (router_at old.net x) p v)))
+  pub answer : (new ≡ with_end old x out (Leaving (record tx { sent = tx.sent ++ flit ∷ [] }) back)
+      (with_router old.net x (after_send (router_at old.net x) p v)))
       ⊎ ((new ≡ old) × (link_capacity tx.link ≤ length tx.sent))
 
 -- what leaves a node leaves by this port for another worker
@@ -118,25 +123,28 @@ Sends x p v old fault new =
     ((fault ≡ None) × SendsAcross x p v old new)
     ⊎ (StaysWithin old x (leaving (router_at old.net x) p v) × Within (Attempts (Send x p v)) old fault new)
 
--- A credit that is owed goes back over a link to another worker: its push lands, and it is given; or the push comes back full, and nothing is
--- done. It comes back full only where as many credits were given as the line holds.
+-- A credit that is owed goes back over a link to another worker: its push lands, and it is given; or the push comes
+-- back full, and nothing is done. It comes back full only where as many credits were given as the line holds.
 pub record GivesAcross (x p v : ℕ) (old new : PartState) : Type 0 where
   pub beyond : ℕ
   pub rx : RxView
   pub give : CreditTxView
   pub linked : neighbour_of old.net.mesh x p ≡ Some beyond
   pub end : end_of old beyond (opposite_of p) ≡ Entering rx give
-  pub answer : (new ≡ with_end old beyond (opposite_of p) (Entering rx (record give { sent = give.sent ++ v ∷ [] })) (with_router old.net x (after_gave (router_at old.net x) p v)))
+  pub answer : (new ≡ with_end old beyond (opposite_of p) (Entering rx (record give { sent = give.sent ++ v ∷ [] }))
+      (with_router old.net x (after_gave (router_at old.net x) p v)))
       ⊎ ((new ≡ old) × (link_capacity give.link ≤ length give.sent))
 
 -- what comes in by this port comes from another worker
 abbrev pub ComesBy : PartState → ℕ → ℕ → Type 0
-ComesBy part x p = (y : ℕ) × (neighbour_of part.net.mesh x p ≡ Some y) × ((rx : RxView) × (give : CreditTxView) × (end_of part y (opposite_of p) ≡ Entering rx give))
+ComesBy part x p = (y : ℕ) × (neighbour_of part.net.mesh x p ≡ Some y)
+    × ((rx : RxView) × (give : CreditTxView) × (end_of part y (opposite_of p) ≡ Entering rx give))
 
 -- a credit is given, over a link to another worker or within the part
 abbrev pub Gives : ℕ → ℕ → ℕ → PartPassage
 Gives x p v old fault new =
-    ((fault ≡ None) × GivesAcross x p v old new) ⊎ ((ComesBy old x p → ⊥) × Within (Attempts (GiveCredit x p v)) old fault new)
+    ((fault ≡ None) × GivesAcross x p v old new)
+    ⊎ ((ComesBy old x p → ⊥) × Within (Attempts (GiveCredit x p v)) old fault new)
 
 -- The turn of a node
 
@@ -154,7 +162,8 @@ SendsGrant grants x p = EachOf (λ (g : SwGrant). Sends x p g.vc) (option_to_lis
 -- one pass of the switch allocator, and then what it granted is sent, by input port
 abbrev pub SendsGranted : ℕ → PartPassage
 SendsGranted x old fault new =
-    EachOf (SendsGrant (switch_grants (router_at old.net x)) x) (all_ports old.net) (record old { net = with_router old.net x (chosen_router (router_at old.net x)) }) fault new
+    EachOf (SendsGrant (switch_grants (router_at old.net x)) x) (all_ports old.net)
+    (record old { net = with_router old.net x (chosen_router (router_at old.net x)) }) fault new
 
 -- a credit of the lowest channel that owes one is given to each link into the node
 abbrev pub GivesCredit : ℕ → ℕ → PartPassage

@@ -4,7 +4,8 @@ ghost use Rattle.std.specs.Prelude.{◌≡◌, ◌<◌, ◌++◌, ◌∷◌, [],
 ghost use Rattle.worm_flit.specs.Stamps.{on_channel};
 ghost use Rattle.worm_flit.specs.Worms.{Continues};
 ghost use Rattle.worm_links.specs.Links.{MayCross};
-ghost use Rattle.worm_split.specs.Ends.{leaves_by, enters_by, CreditPopped, FlitPopped, FlitPushed, CreditPushed, MayGo, MayGive};
+ghost use Rattle.worm_split.specs.Ends.{leaves_by, enters_by, CreditPopped, FlitPopped, FlitPushed, CreditPushed};
+ghost use Rattle.worm_split.specs.Ends.{MayGo, MayGive};
 
 use std::sync::Wait;
 use worm_flit::Flit;

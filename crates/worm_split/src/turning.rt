@@ -1,6 +1,7 @@
 //! What a part does in a turn of one of its nodes.
 
-ghost use Rattle.std.specs.Prelude.{◌≡◌, ◌<◌, ◌≤◌, ◌+◌, ◌*◌, ◌↔◌, ◌∷◌, [], ℕ, filter, true, None, Some, IfSome, IsTrue, length, slice_index_or, sum};
+ghost use Rattle.std.specs.Prelude.{◌≡◌, ◌<◌, ◌≤◌, ◌+◌, ◌*◌, ◌↔◌, ◌∷◌, [], ℕ, filter, true, None, Some, IfSome, IsTrue};
+ghost use Rattle.std.specs.Prelude.{length, slice_index_or, sum};
 ghost use Rattle.std.specs.Result.{result_err};
 ghost use Rattle.worm_mesh.specs.Address.{node_count};
 ghost use Rattle.worm_core.specs.Replies.{Attempts};
@@ -16,7 +17,9 @@ ghost use Rattle.worm_swalloc.specs.SwAlloc.{AreGranted};
 ghost use Rattle.worm_swalloc.specs.declared.grant.SwGrant.{SwGrant};
 ghost use Rattle.worm_router.specs.Router.{input_at, leaving};
 ghost use Rattle.worm_theory.specs.Steps.{IsThere, Step as Event};
-ghost use Rattle.worm_split.specs.PartTurns.{ComesBy, EachOf, GivesAcross, GivesCredit, GivesCredits, LeavesBy, NodeTurn, Sends, SendsAcross, SendsGranted, StaysWithin, Turn, PullsCredit, PullsCredits, PullsFlit, PullsFlits, Within};
+ghost use Rattle.worm_split.specs.PartTurns.{ComesBy, EachOf, GivesAcross, GivesCredit, GivesCredits, LeavesBy};
+ghost use Rattle.worm_split.specs.PartTurns.{NodeTurn, Sends, SendsAcross, SendsGranted, StaysWithin, Turn};
+ghost use Rattle.worm_split.specs.PartTurns.{PullsCredit, PullsCredits, PullsFlit, PullsFlits, Within};
 
 use crate::ends::{is_entering, is_leaving, pop_credit, pop_flit, push_credit, push_flit};
 use crate::exchange::owns;
@@ -27,7 +30,8 @@ use worm_flit::Flit;
 use worm_vcalloc::ChannelSet;
 
 impl Part {
-    /// Asks for the next credit of the link out of the port, where the link leaves the worker's nodes and no credit of it waits.
+    /// Asks for the next credit of the link out of the port, where the link leaves the worker's nodes and no credit of
+    /// it waits.
     fn pull_credit<R: Wait>(&mut self, rt: &R, node: u8, port: u8)
         requires node { node < node_count self.old.net.mesh }
         requires own { owned self.old.net node ≡ true }
@@ -47,7 +51,8 @@ impl Part {
         self.region.arrive_credit(links.beyond, links.entered, vc);
     }
 
-    /// Asks for the next flit of the link into the port, where the link enters the worker's nodes and no flit of it waits.
+    /// Asks for the next flit of the link into the port, where the link enters the worker's nodes and no flit of it
+    /// waits.
     fn pull_flit<R: Wait>(&mut self, rt: &R, node: u8, port: u8)
         requires node { node < node_count self.old.net.mesh }
         requires own { owned self.old.net node ≡ true }
@@ -162,8 +167,8 @@ impl Part {
         is_leaving(&self.ends[usize::from(links.out)])
     }
 
-    /// Lets a granted channel send, over a link to another worker or within the part. `NoMemory` where its flit is for the sink and there is
-    /// none for it there.
+    /// Lets a granted channel send, over a link to another worker or within the part. `NoMemory` where its flit is for
+    /// the sink and there is none for it there.
     fn send<R: Wait>(&mut self, rt: &R, node: u8, port: u8, vc: u8) -> Result<(), StepFault>
         requires own { owned self.old.net node ≡ true }
         requires there { IsThere (shape self.old.net) (Event.Send node port vc) }
@@ -184,9 +189,14 @@ impl Part {
         requires node { node < node_count self.old.net.mesh }
         requires own { owned self.old.net node ≡ true }
         ensures granted { AreGranted (switch_grants (router_at self.old.net node)) result }
-        ensures after { self.new ≡ record self.old { net = with_router self.old.net node (chosen_router (router_at self.old.net node)) } }
-        ensures there { (p : ℕ) (g : SwGrant) → slice_index_or (switch_grants (router_at self.old.net node)) p None ≡ Some g → IsThere (shape self.old.net) (Event.Send node p g.vc) }
-        ensures ports { (p : ℕ) (g : SwGrant) → slice_index_or (switch_grants (router_at self.old.net node)) p None ≡ Some g → p ≤ 2 * length self.old.net.mesh }
+        ensures after { self.new ≡ record self.old
+            { net = with_router self.old.net node (chosen_router (router_at self.old.net node)) } }
+        ensures there { (p : ℕ) (g : SwGrant)
+            → slice_index_or (switch_grants (router_at self.old.net node)) p None ≡ Some g
+            → IsThere (shape self.old.net) (Event.Send node p g.vc) }
+        ensures ports { (p : ℕ) (g : SwGrant)
+            → slice_index_or (switch_grants (router_at self.old.net node)) p None ≡ Some g
+            → p ≤ 2 * length self.old.net.mesh }
         ensures few { 2 * length self.old.net.mesh + 1 ≤ 7 }
         ensures same { IsSamePart self.old self.new }
     {
@@ -273,7 +283,8 @@ impl Part {
         requires node { node < node_count self.now.net.mesh }
         requires port { port < 2 * length self.now.net.mesh }
         ensures lowest { result ≡ lowest_owed (router_at self.now.net node) port }
-        ensures channel { IfSome result (λ vc. (vc < sum self.now.net.channels) × (0 < (input_at (router_at self.now.net node) port vc).owed)) }
+        ensures channel { IfSome result (λ vc. (vc < sum self.now.net.channels)
+            × (0 < (input_at (router_at self.now.net node) port vc).owed)) }
     {
         self.region.is_workable();
         self.region.owed(node, port)
@@ -318,7 +329,8 @@ impl Part {
     /// The turn of the node if it is the worker's own, and nothing if it is not.
     fn own_turn<R: Wait>(&mut self, rt: &R, node: u8, entries: &[Entry]) -> Result<(), StepFault>
         requires node { node < node_count self.old.net.mesh }
-        ensures turn { EachOf (NodeTurn entries.now) (filter (owned self.old.net) (node ∷ [])) self.old (result_err result) self.new }
+        ensures turn { EachOf (NodeTurn entries.now) (filter (owned self.old.net) (node ∷ [])) self.old
+            (result_err result) self.new }
         ensures same { IsSamePart self.old self.new }
     {
         if !self.owns(node) {
@@ -338,9 +350,10 @@ impl Part {
         Ok(())
     }
 
-    /// The turns of the worker's nodes, in rising number: the turn of this number, with the script's entries for it, up to the first fault. What
-    /// leaves by a link to another worker leaves by the link's queue, if its push lands; what comes from another worker is what its queue gives.
-    /// Each of its sources accepts in order what the script has for it, each of its sinks gets one flit at most.
+    /// The turns of the worker's nodes, in rising number: the turn of this number, with the script's entries for it, up
+    /// to the first fault. What leaves by a link to another worker leaves by the link's queue, if its push lands; what
+    /// comes from another worker is what its queue gives. Each of its sources accepts in order what the script has for
+    /// it, each of its sinks gets one flit at most.
     /// `Refused` where a source refuses an entry, `NoMemory` where there is none for an accepted or a delivered flit.
     pub fn turn<R: Wait>(&mut self, rt: &R, turn: u64, script: &Script) -> Result<(), StepFault>
         ensures exact { Turn (due turn script.now) self.old (result_err result) self.new }

@@ -21,11 +21,14 @@ walked_from all left left' n ports port w f = elim (cases_lt port n) [
 ]
 
 -- the ports that it passes over have nothing in the set
-pub walked_over : (all left left' n ports port p c : ℕ) → IsWalked all left n ports → IsFirstPort left left' port → n ≤ p → p < port → p < ports → c < 8 → has all p c ≡ false
-walked_over all left left' n ports port p c w f from below within lc = sym (w.kept p c from within lc) ∙ f.none_before p c below lc
+pub walked_over : (all left left' n ports port p c : ℕ) → IsWalked all left n ports → IsFirstPort left left' port
+    → n ≤ p → p < port → p < ports → c < 8 → has all p c ≡ false
+walked_over all left left' n ports port p c w f from below within lc =
+    sym (w.kept p c from within lc) ∙ f.none_before p c below lc
 
 -- after it
-pub walked_more : (all left left' n ports port : ℕ) → IsWalked all left n ports → IsFirstPort left left' port → port < ports → ports ≤ 7 → IsWalked all left' (port + 1) ports
+pub walked_more : (all left left' n ports port : ℕ) → IsWalked all left n ports → IsFirstPort left left' port
+    → port < ports → ports ≤ 7 → IsWalked all left' (port + 1) ports
 walked_more all left left' n ports port w f within few =
     let from = walked_from all left left' n ports port w f in
     record {
@@ -34,9 +37,12 @@ walked_more all left left' n ports port w f within few =
         | inl same ↦ ap (λ k. has left' k c) same ∙ f.taken c lc
         | inr other ↦ f.elsewhere p c (omega arith) lc other ∙ f.none_before p c (omega arith) lc
       ];
-      kept = λ p c l l' lc. f.elsewhere p c (omega arith) lc (λ e. absurd (omega arith)) ∙ w.kept p c (omega arith) l' lc;
+      kept = λ p c l l' lc. f.elsewhere p c (omega arith) lc (λ e. absurd (omega arith))
+          ∙ w.kept p c (omega arith) l' lc;
     }
 
 -- and in the end none is left
-pub walked_all : (all left n ports p c : ℕ) → IsWalked all left n ports → left ≡ 0 → n ≤ p → p < ports → c < 8 → has all p c ≡ false
-walked_all all left n ports p c w e from within lc = sym (w.kept p c from within lc) ∙ ap (λ s. has s p c) e ∙ has-zero p c
+pub walked_all : (all left n ports p c : ℕ) → IsWalked all left n ports → left ≡ 0 → n ≤ p → p < ports → c < 8
+    → has all p c ≡ false
+walked_all all left n ports p c w e from within lc =
+    sym (w.kept p c from within lc) ∙ ap (λ s. has s p c) e ∙ has-zero p c

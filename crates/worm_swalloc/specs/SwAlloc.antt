@@ -1,5 +1,6 @@
 -- One pass of switch allocation, separable and input first (Dally and Towles, chapter 19).
-use Rattle.std.specs.Prelude.{◌≡◌, ℕ, ◌<◌, ◌≤◌, ◌==◌, ◌&&◌, nat_lt, Bool, false, if◌then◌else◌, List, [], Option, Some, None, IfSome, is_some, replicate, slice_index_or, slice_set}
+use Rattle.std.specs.Prelude.{◌≡◌, ℕ, ◌<◌, ◌≤◌, ◌==◌, ◌&&◌, nat_lt, Bool, false, if◌then◌else◌, List, [], Option, Some}
+use Rattle.std.specs.Prelude.{None, IfSome, is_some, replicate, slice_index_or, slice_set}
 use Rattle.std.specs.Option.{option_map}
 use Rattle.worm_vcalloc.specs.Arbiter.{ArbiterState, no_arbiter, winner, after_pick}
 use Rattle.worm_vcalloc.specs.ChannelSet.{has}
@@ -48,7 +49,8 @@ is_for (Some g) out = g.out == out
 
 -- the input port that the arbiter of an output port chooses
 abbrev pub chosen : SwAllocState → List (Option SwGrant) → ℕ → Option ℕ
-chosen s requests out = winner (slice_index_or s.outputs out no_arbiter) (λ port. is_for (slice_index_or requests port None) out)
+chosen s requests out = winner (slice_index_or s.outputs out no_arbiter)
+    (λ port. is_for (slice_index_or requests port None) out)
 
 -- the grants with the chosen port's request added
 abbrev pub with_choice : List (Option SwGrant) → List (Option SwGrant) → Option ℕ → List (Option SwGrant)
@@ -63,11 +65,14 @@ channel_of (Some g) = Some g.vc
 -- the input arbiters once that of the chosen port has moved past the channel of its request
 abbrev pub with_move : List ArbiterState → List (Option SwGrant) → Option ℕ → List ArbiterState
 with_move inputs requests None = inputs
-with_move inputs requests (Some port) = slice_set inputs port (after_pick (slice_index_or inputs port no_arbiter) (channel_of (slice_index_or requests port None)))
+with_move inputs requests (Some port) =
+    slice_set inputs port (after_pick (slice_index_or inputs port no_arbiter)
+    (channel_of (slice_index_or requests port None)))
 
 -- the arbiter of an input port once it has moved past the channel that it was granted
 abbrev pub after_grant : SwAllocState → List (Option SwGrant) → ℕ → ArbiterState
-after_grant s grants port = after_pick (slice_index_or s.inputs port no_arbiter) (channel_of (slice_index_or grants port None))
+after_grant s grants port = after_pick (slice_index_or s.inputs port no_arbiter)
+    (channel_of (slice_index_or grants port None))
 
 -- each request is for a channel below n
 abbrev pub AreChannelsBelow : ℕ → List (Option SwGrant) → Type 0
@@ -75,7 +80,8 @@ AreChannelsBelow n requests = (port : ℕ) → IfSome (slice_index_or requests p
 
 -- the input ports that ask for each output port, as a set of its channels
 abbrev pub AreAskers : List (Option SwGrant) → ℕ → Type 0
-AreAskers requests askers = (out port : ℕ) → out < 7 → port < 8 → has askers out port ≡ is_for (slice_index_or requests port None) out
+AreAskers requests askers = (out port : ℕ) → out < 7 → port < 8
+    → has askers out port ≡ is_for (slice_index_or requests port None) out
 
 -- what the input ports name where one of them alone may name anything
 abbrev pub sole_named : ℕ → Option SwGrant → List (Option SwGrant)
@@ -128,12 +134,14 @@ sw_after s ready = record s {
 }
 
 -- the grants of a pass match input ports to output ports
-pub record IsSwitchMatching (s : SwAllocState) (ready : List (List (Option ℕ))) (grants : List (Option SwGrant)) : Type 0 where
+pub record IsSwitchMatching (s : SwAllocState) (ready : List (List (Option ℕ)))
+    (grants : List (Option SwGrant)) : Type 0 where
   -- each grant is a ready channel with its output port
   pub requested : (port : ℕ) (g : SwGrant) → slice_index_or grants port None ≡ Some g
       → (cell ready port g.vc None ≡ Some g.out) × (port < s.ports) × (g.vc < s.channels) × (g.out < s.ports)
   -- no output port is granted twice
-  pub once : (port port' : ℕ) (g g' : SwGrant) → slice_index_or grants port None ≡ Some g → slice_index_or grants port' None ≡ Some g' → g.out ≡ g'.out → port ≡ port'
+  pub once : (port port' : ℕ) (g g' : SwGrant) → slice_index_or grants port None ≡ Some g
+      → slice_index_or grants port' None ≡ Some g' → g.out ≡ g'.out → port ≡ port'
   -- an output port that some input arbiter named has a winner
   pub complete : (port : ℕ) (g : SwGrant) → port < s.ports → named s ready port ≡ Some g → g.out < s.ports
       → (port' : ℕ) × (g' : SwGrant) × (slice_index_or grants port' None ≡ Some g') × (g'.out ≡ g.out)

@@ -16,7 +16,8 @@ pub struct SwGrant {
 /// The output port that each ready input channel would send to, by port and channel.
 pub type ReadyOuts = ChannelMap;
 
-/// What each input port may send. Beside the list it knows the channels that may send, so that whoever sends goes past all other ports.
+/// What each input port may send. Beside the list it knows the channels that may send, so that whoever sends goes past
+/// all other ports.
 ///
 /// ```text
 /// let mut granted = grants.channels();

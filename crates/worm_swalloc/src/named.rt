@@ -5,8 +5,9 @@ use crate::grant::SwGrant;
 use std::marker::Model;
 use worm_vcalloc::ChannelSet;
 
-/// What the input ports name in the first half of a pass: each a ready channel of its own, with its output port. Beside the list it
-/// keeps the input ports filed by the output port that they ask for, so that the second half goes past all others.
+/// What the input ports name in the first half of a pass: each a ready channel of its own, with its output port. Beside
+/// the list it keeps the input ports filed by the output port that they ask for, so that the second half goes past all
+/// others.
 ///
 /// ```text
 /// let mut named = Named::new();
@@ -44,7 +45,8 @@ impl Named {
         }
     }
 
-    /// An input port that has named nothing names this. A request for an output port past the seventh is kept and never met.
+    /// An input port that has named nothing names this. A request for an output port past the seventh is kept and never
+    /// met.
     pub fn put(&mut self, port: u8, request: SwGrant)
         requires port { port < 7 }
         requires none { slice_index_or self.old port None ≡ None }

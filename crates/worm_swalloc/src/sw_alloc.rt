@@ -1,8 +1,12 @@
-ghost use Rattle.std.specs.Prelude.{◌≡◌, ℕ, ◌+◌, ◌^◌, ◌<◌, ◌≤◌, IfSome, None, is_some, replicate, true, slice_index_or, slice_set};
+ghost use Rattle.std.specs.Prelude.{◌≡◌, ℕ, ◌+◌, ◌^◌, ◌<◌, ◌≤◌, IfSome, None, is_some, replicate, true, slice_index_or};
+ghost use Rattle.std.specs.Prelude.{slice_set};
 ghost use Rattle.worm_vcalloc.specs.Arbiter.{no_arbiter, line_requests, winner, after_pick};
 ghost use Rattle.worm_vcalloc.specs.Table.{cell};
 ghost use Rattle.worm_swalloc.specs.Front.{with_front};
-ghost use Rattle.worm_swalloc.specs.SwAlloc.{SwAllocState, IsSwAlloc, IsSwitchMatching, AreChannelsBelow, AreAskers, request_of, named, all_named, sole_named, is_for, channel_of, chosen, granted, sw_grants, sw_after, output_after, after_grant, with_choice, with_move};
+ghost use Rattle.worm_swalloc.specs.SwAlloc.{SwAllocState, IsSwAlloc, IsSwitchMatching, AreChannelsBelow, AreAskers};
+ghost use Rattle.worm_swalloc.specs.SwAlloc.{request_of, named, all_named, sole_named, is_for, channel_of, chosen};
+ghost use Rattle.worm_swalloc.specs.SwAlloc.{granted, sw_grants, sw_after, output_after, after_grant, with_choice};
+ghost use Rattle.worm_swalloc.specs.SwAlloc.{with_move};
 
 use crate::grant::{ReadyOuts, SwGrant, SwGrants};
 use crate::named::Named;
@@ -46,7 +50,12 @@ impl SwAlloc {
         requires few_ports { ports ≤ 7 }
         requires some_channel { 0 < channels }
         requires few_channels { channels ≤ 8 }
-        ensures { result ≡ record { ports = ports; channels = channels; inputs = replicate 7 (record { width = channels; pointer = 0 }); outputs = replicate 7 (record { width = ports; pointer = 0 }) } }
+        ensures { result ≡ record {
+          ports = ports;
+          channels = channels;
+          inputs = replicate 7 (record { width = channels; pointer = 0 });
+          outputs = replicate 7 (record { width = ports; pointer = 0 });
+        } }
     {
         SwAlloc {
             ports,
@@ -117,8 +126,8 @@ impl SwAlloc {
         ready.get(port, vc).map(|out| SwGrant { vc, out })
     }
 
-    /// The channel that an input port names among its ready ones, bit `vc` of `lines` for each: the first at its arbiter's pointer or
-    /// after it, cyclically. The pointer stays.
+    /// The channel that an input port names among its ready ones, bit `vc` of `lines` for each: the first at its
+    /// arbiter's pointer or after it, cyclically. The pointer stays.
     pub fn name(&self, port: u8, lines: u64) -> Option<u8>
         requires port { port < self.now.ports }
         requires lines { lines < 2 ^ self.now.channels }
@@ -129,12 +138,16 @@ impl SwAlloc {
         self.inputs[port as usize].peek(lines)
     }
 
-    /// The second half of a pass: the arbiter of each output port that is asked for chooses among the input ports that ask for it. It
-    /// moves, and so does that of the chosen input port, past the channel that it named.
+    /// The second half of a pass: the arbiter of each output port that is asked for chooses among the input ports that
+    /// ask for it. It moves, and so does that of the chosen input port, past the channel that it named.
     pub fn grant_named(&mut self, named: &Named) -> SwGrants
         requires { AreChannelsBelow self.old.channels named.now }
-        ensures grants { result ≡ with_front self.old.ports (granted self.old named.now self.old.ports) (replicate 7 None) }
-        ensures after { self.new ≡ record self.old { inputs = with_front self.old.ports (after_grant self.old result) self.old.inputs; outputs = with_front self.old.ports (output_after self.old named.now) self.old.outputs } }
+        ensures grants { result ≡ with_front self.old.ports (granted self.old named.now self.old.ports)
+            (replicate 7 None) }
+        ensures after { self.new ≡ record self.old {
+          inputs = with_front self.old.ports (after_grant self.old result) self.old.inputs;
+          outputs = with_front self.old.ports (output_after self.old named.now) self.old.outputs;
+        } }
     {
         let ports = self.ports;
         let askers = named.askers();
@@ -148,12 +161,17 @@ impl SwAlloc {
         grants
     }
 
-    /// The second half of a pass in which one input port alone may name anything: it has no rival, so what it names is granted.
+    /// The second half of a pass in which one input port alone may name anything: it has no rival, so what it names is
+    /// granted.
     pub fn grant_sole(&mut self, port: u8, request: Option<SwGrant>) -> SwGrants
         requires port { port < self.old.ports }
         requires channel { IfSome request (λ g. g.vc < self.old.channels) }
-        ensures grants { result ≡ with_front self.old.ports (granted self.old (sole_named port request) self.old.ports) (replicate 7 None) }
-        ensures after { self.new ≡ record self.old { inputs = with_front self.old.ports (after_grant self.old result) self.old.inputs; outputs = with_front self.old.ports (output_after self.old (sole_named port request)) self.old.outputs } }
+        ensures grants { result ≡ with_front self.old.ports (granted self.old (sole_named port request) self.old.ports)
+            (replicate 7 None) }
+        ensures after { self.new ≡ record self.old {
+          inputs = with_front self.old.ports (after_grant self.old result) self.old.inputs;
+          outputs = with_front self.old.ports (output_after self.old (sole_named port request)) self.old.outputs;
+        } }
     {
         let ports = self.ports;
         let mut grants = SwGrants::new();
@@ -172,10 +190,15 @@ impl SwAlloc {
         requires out { out < self.old.ports }
         requires channels { AreChannelsBelow self.old.channels named.now }
         requires few { lines < 2 ^ self.old.ports }
-        requires lines { (line : ℕ) → line < self.old.ports → line_requests lines line ≡ is_for (slice_index_or named.now line None) out }
-        requires none { (port : ℕ) → is_for (slice_index_or named.now port None) out ≡ true → slice_index_or grants.old port None ≡ None }
+        requires lines { (line : ℕ) → line < self.old.ports
+            → line_requests lines line ≡ is_for (slice_index_or named.now line None) out }
+        requires none { (port : ℕ) → is_for (slice_index_or named.now port None) out ≡ true
+            → slice_index_or grants.old port None ≡ None }
         ensures grants { grants.new ≡ with_choice grants.old named.now (chosen self.old named.now out) }
-        ensures after { self.new ≡ record self.old { inputs = with_move self.old.inputs named.now (chosen self.old named.now out); outputs = slice_set self.old.outputs out (output_after self.old named.now out) } }
+        ensures after { self.new ≡ record self.old {
+          inputs = with_move self.old.inputs named.now (chosen self.old named.now out);
+          outputs = slice_set self.old.outputs out (output_after self.old named.now out);
+        } }
     {
         if let Some(port) = self.outputs[out as usize].pick(lines) {
             self.commit(port, named.get(port), grants);
@@ -188,7 +211,10 @@ impl SwAlloc {
         requires channel { IfSome request (λ g. g.vc < self.old.channels) }
         requires none { slice_index_or grants.old port None ≡ None }
         ensures grants { grants.new ≡ slice_set grants.old port request }
-        ensures after { self.new ≡ record self.old { inputs = slice_set self.old.inputs port (after_pick (slice_index_or self.old.inputs port no_arbiter) (channel_of request)) } }
+        ensures after { self.new ≡ record self.old {
+          inputs = slice_set self.old.inputs port
+              (after_pick (slice_index_or self.old.inputs port no_arbiter) (channel_of request));
+        } }
     {
         if let Some(grant) = request {
             grants.put(port, grant);

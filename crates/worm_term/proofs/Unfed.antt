@@ -1,5 +1,6 @@
 -- Which classes have a flit that was not fed, after a change of one.
-use Rattle.std.proofs.Common.{ℕ, zero, suc, refl, ◌≡◌, ◌<◌, Bool, true, false, List, length, slice_index_or, slice_set, replicate, inl, inr, arith, ap, sym, ◌∙◌}
+use Rattle.std.proofs.Common.{ℕ, zero, suc, refl, ◌≡◌, ◌<◌, Bool, true, false, List, length, slice_index_or, slice_set}
+use Rattle.std.proofs.Common.{replicate, inl, inr, arith, ap, sym, ◌∙◌}
 use Rattle.std.specs.Prelude.{Option, Some, None, IsSome, is_some, OnOk, Result, Ok, Err}
 use Rattle.std.specs.Result.{is_err}
 use Rattle.std.proofs.Math.ListN.{length-set}
@@ -21,11 +22,13 @@ same_all_through (suc n) (suc i) a = same_all_through n i a
 pub fresh_unfed : (count : ℕ) → KnowsUnfed (replicate count empty_queue) (replicate 4 false)
 fresh_unfed count = record {
   all = length-replicate 4 false;
-  each = λ class below. same_all_through 4 class false ∙ sym (ap (λ (q : QueueState). is_some (waiting q)) (same_all_through count class empty_queue));
+  each = λ class below. same_all_through 4 class false
+      ∙ sym (ap (λ (q : QueueState). is_some (waiting q)) (same_all_through count class empty_queue));
 }
 
 -- a class whose queue comes to have one
-pub more_unfed : (queues : List QueueState) (unfed : List Bool) (i j class : ℕ) (q : QueueState) → KnowsUnfed queues unfed → i ≡ class → j ≡ class → class < 4 → IsSome (waiting q)
+pub more_unfed : (queues : List QueueState) (unfed : List Bool) (i j class : ℕ) (q : QueueState)
+    → KnowsUnfed queues unfed → i ≡ class → j ≡ class → class < 4 → IsSome (waiting q)
     → KnowsUnfed (slice_set queues i q) (slice_set unfed j true)
 more_unfed queues unfed i j class q known at_i at_j few waits =
     let all = known.all in
@@ -34,9 +37,20 @@ more_unfed queues unfed i j class q known at_i at_j few waits =
       each = λ k below. elim (cases_eq k class) [
         | inl here ↦
             let there : class < length queues = omega (arith, rw length-set at below) in
-            rw (here, at_i, at_j, get_or-set_same queues class q empty_queue there, get_or-set_same unfed class true false (omega arith)) (sym (is_some_of (waiting q) waits))
+            rw (
+              here,
+              at_i,
+              at_j,
+              get_or-set_same queues class q empty_queue there,
+              get_or-set_same unfed class true false (omega arith),
+            ) (sym (is_some_of (waiting q) waits))
         | inr away ↦
-            rw (at_i, at_j, get_or-set_other queues class k q empty_queue away, get_or-set_other unfed class k true false away) (known.each k (rw length-set at below))
+            rw (
+              at_i,
+              at_j,
+              get_or-set_other queues class k q empty_queue away,
+              get_or-set_other unfed class k true false away,
+            ) (known.each k (rw length-set at below))
       ];
     }
 

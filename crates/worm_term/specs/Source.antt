@@ -1,11 +1,14 @@
 -- What a contract sees of a source, and what each call makes of it.
-use Rattle.std.specs.Prelude.{ℕ, ◌+◌, ◌*◌, ◌≤◌, ◌<◌, ◌≡◌, ◌==◌, Bool, true, false, ◌&&◌, not, nat_lt, nat_le, if◌then◌else◌, List, [], ◌∷◌, length, slice_index, slice_index_or, slice_set, replicate, All, Option, None, Some, is_some, option_map}
+use Rattle.std.specs.Prelude.{ℕ, ◌+◌, ◌*◌, ◌≤◌, ◌<◌, ◌≡◌, ◌==◌, Bool, true, false, ◌&&◌, not, nat_lt, nat_le}
+use Rattle.std.specs.Prelude.{if◌then◌else◌, List, [], ◌∷◌, length, slice_index, slice_index_or, slice_set, replicate}
+use Rattle.std.specs.Prelude.{All, Option, None, Some, is_some, option_map}
 use Rattle.worm_flit.specs.declared.Lane.{Lane}
 use Rattle.worm_flit.specs.declared.Flit.{Flit}
 use Rattle.worm_flit.specs.Channels.{first_channel}
 use Rattle.worm_flit.specs.Packets.{PacketState, packet_flits, mark}
 use Rattle.worm_term.specs.declared.fault.OfferFault.{OfferFault}
-use Rattle.worm_term.specs.declared.fault.OfferFault.TheVariants.{WrongSource, NoSuchNode, NoSuchClass, ManyChannels, LaneClosed, LaneFull}
+use Rattle.worm_term.specs.declared.fault.OfferFault.TheVariants.{WrongSource, NoSuchNode, NoSuchClass, ManyChannels}
+use Rattle.worm_term.specs.declared.fault.OfferFault.TheVariants.{LaneClosed, LaneFull}
 use Rattle.worm_term.specs.declared.source.LaneState.{LaneState}
 use Rattle.worm_flit.specs.Stamps.{of_lane, with_channel}
 use Rattle.worm_term.specs.Lanes.{lane_of, IsPackets}
@@ -71,7 +74,10 @@ next_number s lane = (lane_at s lane).next
 -- the flits of one packet at the end of the class's queue
 abbrev pub with_packet : SourceState → Lane → List Flit → Bool → SourceState
 with_packet s lane fs closed =
-    record s { queues = slice_set s.queues lane.class (appended (queue_at s lane.class) fs); lanes = slice_set s.lanes (lane_line s lane) (record { next = next_number s lane + 1; closed = closed }) }
+    record s {
+      queues = slice_set s.queues lane.class (appended (queue_at s lane.class) fs);
+      lanes = slice_set s.lanes (lane_line s lane) (record { next = next_number s lane + 1; closed = closed });
+    }
 
 abbrev pub after_offer : SourceState → PacketState → SourceState
 after_offer s p = with_packet s p.lane (packet_flits p.lane (next_number s p.lane) p.words) false
@@ -120,4 +126,5 @@ pub record AreFirsts (channels firsts : List ℕ) : Type 0 where
 -- what is kept of each class is whether it has a flit that was not fed
 pub record KnowsUnfed (queues : List QueueState) (unfed : List Bool) : Type 0 where
   pub all : length unfed ≡ 4
-  pub each : (class : ℕ) → class < length queues → slice_index_or unfed class false ≡ is_some (waiting (slice_index_or queues class empty_queue))
+  pub each : (class : ℕ) → class < length queues
+      → slice_index_or unfed class false ≡ is_some (waiting (slice_index_or queues class empty_queue))

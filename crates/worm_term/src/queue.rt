@@ -28,7 +28,8 @@ impl Model for Queue {
 
 /// Appends the packet's flits. Room for all of them is made first.
 fn push_flits(flits: &mut Vec<Flit>, packet: &Packet, number: u16) -> Result<(), AllocError>
-    ensures ok { OnOk result (flits.new.items ≡ flits.old.items ++ packet_flits packet.now.lane number packet.now.words) }
+    ensures ok { OnOk result (flits.new.items ≡ flits.old.items
+        ++ packet_flits packet.now.lane number packet.now.words) }
     ensures err { OnErr result (flits.new.items ≡ flits.old.items) }
     ensures some { 1 ≤ length packet.now.words }
     ensures few { length packet.now.words ≤ 32 }

@@ -1,9 +1,12 @@
-ghost use Rattle.std.specs.Prelude.{ℕ, ◌≡◌, ◌+◌, ◌≤◌, ◌<◌, length, IfOk, IfErr, OnOk, OnErr, IsSome, None, Some, unwrap_or, true, false, replicate, All, option_map};
+ghost use Rattle.std.specs.Prelude.{ℕ, ◌≡◌, ◌+◌, ◌≤◌, ◌<◌, length, IfOk, IfErr, OnOk, OnErr, IsSome, None, Some};
+ghost use Rattle.std.specs.Prelude.{unwrap_or, true, false, replicate, All, option_map};
 ghost use Rattle.worm_flit.specs.Channels.{AreChannels, first_channel};
 ghost use Rattle.worm_term.specs.Queue.{empty_queue, waiting};
 ghost use Rattle.worm_flit.specs.Stamps.{of_lane};
 ghost use Rattle.worm_term.specs.Lanes.{IsPackets, lane_of};
-ghost use Rattle.worm_term.specs.Source.{SourceState, fresh_lane, fresh_source, lane_at, lane_line, queue_at, refusal, next_number, after_offer, after_close, front_of, after_fed, classes, IsOpen, IsFrom, AreFirsts};
+ghost use Rattle.worm_term.specs.Source.{SourceState, fresh_lane, fresh_source, lane_at, lane_line, queue_at, refusal};
+ghost use Rattle.worm_term.specs.Source.{next_number, after_offer, after_close, front_of, after_fed, classes, IsOpen};
+ghost use Rattle.worm_term.specs.Source.{IsFrom, AreFirsts};
 
 use crate::fault::{NoMemory, OfferFault};
 use crate::queue::Queue;
@@ -35,8 +38,8 @@ pub struct Source {
     lanes: Vec<LaneState>,
     /// The first channel of each class.
     firsts: [u8; 4],
-    /// Whether the class of this number has a flit that was not fed. This and `firsts` stand last, since a turn mostly reads them alone
-    /// and goes on with what stands behind the source.
+    /// Whether the class of this number has a flit that was not fed. This and `firsts` stand last, since a turn mostly
+    /// reads them alone and goes on with what stands behind the source.
     unfed: [bool; 4],
 }
 
@@ -47,7 +50,8 @@ impl Model for Source {
 
     ghost view = { λ s. source_state s.node s.nodes s.classes s.queues.items s.lanes.items };
 
-    ghost invariant = { λ s. IsSource (source_state s.node s.nodes s.classes s.queues.items s.lanes.items) × AreFirsts s.classes s.firsts × KnowsUnfed s.queues.items s.unfed };
+    ghost invariant = { λ s. IsSource (source_state s.node s.nodes s.classes s.queues.items s.lanes.items)
+        × AreFirsts s.classes s.firsts × KnowsUnfed s.queues.items s.unfed };
 }
 
 /// The first channel of each class; past the last class 0.
@@ -154,7 +158,8 @@ impl Source {
     /// order: `WrongSource`, `NoSuchNode`, `NoSuchClass`, `LaneClosed`, `LaneFull`, `NoMemory`; the source is
     /// then as it was.
     pub fn offer(&mut self, packet: &Packet) -> Result<u16, OfferFault>
-        ensures ok { IfOk result (λ n. (refusal self.old packet.now.lane false ≡ None) × (n ≡ next_number self.old packet.now.lane) × (self.new ≡ after_offer self.old packet.now)) }
+        ensures ok { IfOk result (λ n. (refusal self.old packet.now.lane false ≡ None)
+            × (n ≡ next_number self.old packet.now.lane) × (self.new ≡ after_offer self.old packet.now)) }
         ensures fault { IfErr result (λ e. e ≡ unwrap_or (refusal self.old packet.now.lane false) OfferFault.NoMemory) }
         ensures err { OnErr result (self.new ≡ self.old) }
         ensures there { OnOk result (packet.now.lane.class < length self.old.queues) }
@@ -178,7 +183,8 @@ impl Source {
     /// refuses it, in this order: `WrongSource`, `NoSuchNode`, `NoSuchClass`, `ManyChannels`, `LaneClosed`,
     /// `LaneFull`, `NoMemory`; the source is then as it was.
     pub fn close(&mut self, lane: Lane) -> Result<u16, OfferFault>
-        ensures ok { IfOk result (λ n. (refusal self.old lane true ≡ None) × (n ≡ next_number self.old lane) × (self.new ≡ after_close self.old lane)) }
+        ensures ok { IfOk result (λ n. (refusal self.old lane true ≡ None) × (n ≡ next_number self.old lane)
+            × (self.new ≡ after_close self.old lane)) }
         ensures fault { IfErr result (λ e. e ≡ unwrap_or (refusal self.old lane true) OfferFault.NoMemory) }
         ensures err { OnErr result (self.new ≡ self.old) }
         ensures there { OnOk result (lane.class < length self.old.queues) }
@@ -241,7 +247,10 @@ impl Source {
         requires { class < classes self.now }
         ensures value { result.now ≡ (queue_at self.now class).injected }
         ensures owned { All (IsFrom self.now.node self.now.nodes class) result.now }
-        ensures in_order { (dst : ℕ) → dst < self.now.nodes → IsPackets (lane_of self.now.node dst class) (next_number self.now (lane_of self.now.node dst class)) (lane_at self.now (lane_of self.now.node dst class)).closed (of_lane (lane_of self.now.node dst class) result.now) }
+        ensures in_order { (dst : ℕ) → dst < self.now.nodes
+            → IsPackets (lane_of self.now.node dst class) (next_number self.now (lane_of self.now.node dst class))
+            (lane_at self.now (lane_of self.now.node dst class)).closed
+            (of_lane (lane_of self.now.node dst class) result.now) }
     {
         let queue = &self.queues[usize::from(class)];
         queue.injected()

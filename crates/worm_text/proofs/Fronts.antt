@@ -13,7 +13,8 @@ pub record Longer (xs ls : List (List ℕ)) (p : List ℕ) (ps ys : List (List �
   pub front : xs ≡ ls ++ p ∷ others
   pub back : others ++ ys ≡ ps
 
-pub longer : (xs ys ls : List (List ℕ)) (p : List ℕ) (ps : List (List ℕ)) → xs ++ ys ≡ ls ++ p ∷ ps → length ls < length xs → Longer xs ls p ps ys
+pub longer : (xs ys ls : List (List ℕ)) (p : List ℕ) (ps : List (List ℕ)) → xs ++ ys ≡ ls ++ p ∷ ps
+    → length ls < length xs → Longer xs ls p ps ys
 longer [] ys ls p ps e lt = absurd (omega arith)
 longer (x ∷ xs) ys [] p ps e lt =
     let head : x ≡ p = cc in
@@ -22,12 +23,18 @@ longer (x ∷ xs) ys (l ∷ ls) p ps e lt =
     let head : x ≡ l = cc in
     let tail : xs ++ ys ≡ ls ++ p ∷ ps = cc in
     let r = longer xs ys ls p ps tail (omega arith) in
-    record { others = r.others; front = ap (λ (y : List ℕ). y ∷ xs) head ∙ ap (λ (y : List (List ℕ)). l ∷ y) r.front; back = r.back }
+    record {
+      others = r.others;
+      front = ap (λ (y : List ℕ). y ∷ xs) head ∙ ap (λ (y : List (List ℕ)). l ∷ y) r.front;
+      back = r.back;
+    }
 
 -- a front that leaves something is a front of all but the last
-pub fronts : (xs ys zs : List (List ℕ)) (z : List ℕ) → 0 < length ys → xs ++ ys ≡ zs ++ z ∷ [] → (ms : List (List ℕ)) × (zs ≡ xs ++ ms)
+pub fronts : (xs ys zs : List (List ℕ)) (z : List ℕ) → 0 < length ys → xs ++ ys ≡ zs ++ z ∷ []
+    → (ms : List (List ℕ)) × (zs ≡ xs ++ ms)
 fronts [] ys zs z lt e = (zs, refl)
-fronts (x ∷ xs) ys [] z lt e = absurd (let tail : xs ++ ys ≡ [] = cc in omega (arith, length-append xs ys, ap length tail))
+fronts (x ∷ xs) ys [] z lt e = absurd (let tail : xs ++ ys ≡ [] = cc in
+    omega (arith, length-append xs ys, ap length tail))
 fronts (x ∷ xs) ys (w ∷ zs) z lt e =
     let head : x ≡ w = cc in
     let tail : xs ++ ys ≡ zs ++ z ∷ [] = cc in

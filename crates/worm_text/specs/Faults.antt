@@ -1,7 +1,9 @@
 -- The words that say a text's fault.
 use Rattle.std.specs.Prelude.{ℕ, List, codes}
 use Rattle.worm_text.specs.declared.fault.Why.{Why}
-use Rattle.worm_text.specs.declared.fault.Why.TheVariants.{Header, Missing, Number, Range, Name, Repeated, UnknownWord, OrderOfTurns, LaneClosed, TooMany, NoEnd, AfterEnd, NoMemory, ManyChannels}
+use Rattle.worm_text.specs.declared.fault.Why.TheVariants.{Header, Missing, Number, Range, Name, Repeated, UnknownWord}
+use Rattle.worm_text.specs.declared.fault.Why.TheVariants.{OrderOfTurns, LaneClosed, TooMany, NoEnd, AfterEnd, NoMemory}
+use Rattle.worm_text.specs.declared.fault.Why.TheVariants.{ManyChannels}
 
 abbrev pub words_of : Why → List ℕ
 words_of Header = codes "header"

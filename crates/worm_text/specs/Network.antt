@@ -1,5 +1,6 @@
 -- A network, as its text says it, and the two formats of that text.
-use Rattle.std.specs.Prelude.{◌≡◌, ℕ, ◌*◌, ◌≤◌, List, [], ◌∷◌, ◌++◌, length, map, fold, sum, All, Contains, codes, slice_index, true}
+use Rattle.std.specs.Prelude.{◌≡◌, ℕ, ◌*◌, ◌≤◌, List, [], ◌∷◌, ◌++◌, length, map, fold, sum, All, Contains, codes}
+use Rattle.std.specs.Prelude.{slice_index, true}
 use Rattle.std.specs.Fmt.{decimal}
 use Rattle.arrayvec.specs.ArrayString.{ArrayString}
 use Rattle.worm_core.specs.declared.config.Config.{Config}
@@ -19,7 +20,12 @@ abbrev pub names_of : List ArrayString → List (List ℕ)
 names_of classes = map (λ name. name.bytes) classes
 
 abbrev pub view : Config → Network
-view c = record { radices = c.radices.items; depth = c.depth; classes = names_of c.classes.items; channels = c.channels.items }
+view c = record {
+  radices = c.radices.items;
+  depth = c.depth;
+  classes = names_of c.classes.items;
+  channels = c.channels.items;
+}
 
 -- how many nodes a mesh of these radices has
 abbrev pub nodes_of : List ℕ → ℕ
@@ -41,14 +47,17 @@ class_lines f (name ∷ names) (m ∷ ms) = class_line f name m ∷ class_lines 
 class_lines f names ms = []
 
 abbrev pub mesh_lines : Format → List ℕ → List (List ℕ)
-mesh_lines One radices = line (codes "radix" ∷ decimal (slice_index radices 0) ∷ []) ∷ line (codes "dims" ∷ decimal (length radices) ∷ []) ∷ []
-mesh_lines Two radices = line (codes "dims" ∷ decimal (length radices) ∷ []) ∷ line (codes "radix" ∷ map decimal radices) ∷ []
+mesh_lines One radices = line (codes "radix" ∷ decimal (slice_index radices 0) ∷ []) ∷ line
+    (codes "dims" ∷ decimal (length radices) ∷ []) ∷ []
+mesh_lines Two radices = line (codes "dims" ∷ decimal (length radices) ∷ []) ∷ line
+    (codes "radix" ∷ map decimal radices) ∷ []
 
 abbrev pub depth_line : ℕ → List ℕ
 depth_line depth = line (codes "depth" ∷ decimal depth ∷ [])
 
 abbrev pub lines_of : Format → Network → List (List ℕ)
-lines_of f n = (header_line f ∷ mesh_lines f n.radices) ++ depth_line n.depth ∷ class_lines f n.classes n.channels ++ codes "end" ∷ []
+lines_of f n = (header_line f ∷ mesh_lines f n.radices) ++ depth_line n.depth ∷ class_lines f n.classes n.channels
+    ++ codes "end" ∷ []
 
 -- the one text of a network in a format
 abbrev pub text : Format → Network → List ℕ

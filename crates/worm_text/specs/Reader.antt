@@ -22,7 +22,10 @@ at_end stage line rest = Err (at_line line NoEnd)
 abbrev pub read : Stage → ℕ → List (List ℕ) → Result Network TextFault
 read stage line [] = Err (at_line line NoEnd)
 read stage line (rest ∷ []) = at_end stage line rest
-read stage line (l ∷ next ∷ more) = elim (judge stage l) [ Ok behind ↦ read behind (suc line) (next ∷ more) | Err why ↦ Err (at_line line why) ]
+read stage line (l ∷ next ∷ more) = elim (judge stage l) [
+  | Ok behind ↦ read behind (suc line) (next ∷ more)
+  | Err why ↦ Err (at_line line why)
+]
 
 -- A call returned this, seen by view.
 abbrev pub Answers : {X Y : Type 0} → (X → Y) → Result X TextFault → Result Y TextFault → Type 0

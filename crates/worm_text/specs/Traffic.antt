@@ -1,11 +1,13 @@
 -- What each line of a traffic text has to be, after the lines before it.
-use Rattle.std.specs.Prelude.{ℕ, suc, ◌-◌, ◌&&◌, List, [], ◌∷◌, ◌++◌, length, Bool, false, not, Option, Some, None, Result, Ok, Err, ◌==◌, nat_le, nat_lt, if◌then◌else◌, codes, slice_index, fold}
+use Rattle.std.specs.Prelude.{ℕ, suc, ◌-◌, ◌&&◌, List, [], ◌∷◌, ◌++◌, length, Bool, false, not, Option, Some, None}
+use Rattle.std.specs.Prelude.{Result, Ok, Err, ◌==◌, nat_le, nat_lt, if◌then◌else◌, codes, slice_index, fold}
 use Rattle.std.specs.Ordering.{nat_cmp, ordering_then}
 use Rattle.std.specs.declared.cmp.Ordering.{Ordering}
 use Rattle.std.specs.Str.{bytes_eq}
 use Rattle.std.specs.List.{list_any, position_or_len}
 use Rattle.worm_text.specs.declared.fault.Why.{Why}
-use Rattle.worm_text.specs.declared.fault.Why.TheVariants.{Header, Missing, Name, UnknownWord, OrderOfTurns, LaneClosed, TooMany, ManyChannels, NoEnd, AfterEnd}
+use Rattle.worm_text.specs.declared.fault.Why.TheVariants.{Header, Missing, Name, UnknownWord, OrderOfTurns, LaneClosed}
+use Rattle.worm_text.specs.declared.fault.Why.TheVariants.{TooMany, ManyChannels, NoEnd, AfterEnd}
 use Rattle.worm_text.specs.declared.fault.TextFault.{TextFault}
 use Rattle.worm_flit.specs.declared.Lane.{Lane}
 use Rattle.worm_core.specs.declared.script.Act.{Act}
@@ -110,8 +112,10 @@ close_at n last closed fields = do
 unfoldable pub entry_at : Network → ℕ → ℕ → (Lane → Bool) → List (List ℕ) → Result (Option Said) Why
 entry_at n count last closed [] = Err Missing
 entry_at n count last closed (f ∷ fs) =
-    if bytes_eq f (codes "send") then (checked (nat_lt count 10000) TooMany f >>= λ _. send_at n last closed fs >>= λ e. Ok (Some e))
-    else if bytes_eq f (codes "close") then (checked (nat_lt count 10000) TooMany f >>= λ _. close_at n last closed fs >>= λ e. Ok (Some e))
+    if bytes_eq f (codes "send") then (checked (nat_lt count 10000) TooMany f >>= λ _. send_at n last closed fs >>=
+    λ e. Ok (Some e))
+    else if bytes_eq f (codes "close") then (checked (nat_lt count 10000) TooMany f >>=
+    λ _. close_at n last closed fs >>= λ e. Ok (Some e))
     else if bytes_eq f (codes "end") then (no_more fs >>= λ _. Ok None)
     else Err UnknownWord
 
@@ -124,16 +128,18 @@ after_end entries line pieces = Err (at_line line AfterEnd)
 abbrev pub read_entries : Network → List Said → ℕ → List (List ℕ) → Result (List Said) TextFault
 read_entries n entries line [] = Err (at_line line NoEnd)
 read_entries n entries line (rest ∷ []) = Err (at_line line NoEnd)
-read_entries n entries line (l ∷ next ∷ more) = elim (entry_at n (length entries) (last_turn entries) (is_closed entries) (cut space l)) [
-  | Ok (Some e) ↦ read_entries n (entries ++ e ∷ []) (suc line) (next ∷ more)
-  | Ok None ↦ after_end entries (suc line) (next ∷ more)
-  | Err why ↦ Err (at_line line why)
-]
+read_entries n entries line (l ∷ next ∷ more) =
+    elim (entry_at n (length entries) (last_turn entries) (is_closed entries) (cut space l)) [
+      | Ok (Some e) ↦ read_entries n (entries ++ e ∷ []) (suc line) (next ∷ more)
+      | Ok None ↦ after_end entries (suc line) (next ∷ more)
+      | Err why ↦ Err (at_line line why)
+    ]
 
 abbrev pub read_header : Network → List (List ℕ) → Result (List Said) TextFault
 read_header n [] = Err (at_line 1 NoEnd)
 read_header n (rest ∷ []) = Err (at_line 1 NoEnd)
-read_header n (l ∷ next ∷ more) = if bytes_eq l (codes "wormtraffic 1") then read_entries n [] 2 (next ∷ more) else Err (at_line 1 Header)
+read_header n (l ∷ next ∷ more) = if bytes_eq l (codes "wormtraffic 1") then read_entries n [] 2 (next ∷ more)
+    else Err (at_line 1 Header)
 
 -- the whole text
 abbrev pub traffic_of : Network → List ℕ → Result (List Said) TextFault

@@ -1,5 +1,6 @@
 -- The one text of a list of entries, and the rules that they keep.
-use Rattle.std.specs.Prelude.{◌≡◌, ℕ, ◌-◌, ◌<◌, ◌≤◌, List, [], ◌∷◌, ◌++◌, length, map, All, codes, slice_index, slice_index_or, false}
+use Rattle.std.specs.Prelude.{◌≡◌, ℕ, ◌-◌, ◌<◌, ◌≤◌, List, [], ◌∷◌, ◌++◌, length, map, All, codes, slice_index}
+use Rattle.std.specs.Prelude.{slice_index_or, false}
 use Rattle.std.specs.Fmt.{decimal}
 use Rattle.worm_flit.specs.declared.Lane.{Lane}
 use Rattle.worm_text.specs.Lines.{line, finished}
@@ -8,7 +9,8 @@ use Rattle.worm_text.specs.Traffic.{Said, send, close, is_closed, last_turn}
 
 -- turn, source, destination, class
 abbrev pub where_fields : Network → ℕ → Lane → List (List ℕ)
-where_fields n turn lane = decimal turn ∷ decimal lane.src ∷ decimal lane.dst ∷ slice_index_or n.classes lane.class [] ∷ []
+where_fields n turn lane = decimal turn ∷ decimal lane.src ∷ decimal lane.dst ∷ slice_index_or n.classes lane.class []
+    ∷ []
 
 abbrev pub entry_line : Network → Said → List ℕ
 entry_line n (send turn lane words) = line ((codes "send" ∷ where_fields n turn lane) ++ map decimal words)
@@ -31,7 +33,8 @@ pub record IsPlaced (n : Network) (before : List Said) (turn : ℕ) (lane : Lane
   pub open_lane : is_closed before lane ≡ false
 
 abbrev pub IsEntry : Network → List Said → Said → Type 0
-IsEntry n before (send turn lane words) = IsPlaced n before turn lane × IsBetween 1 32 (length words) × All (IsBetween 0 4294967295) words
+IsEntry n before (send turn lane words) =
+    IsPlaced n before turn lane × IsBetween 1 32 (length words) × All (IsBetween 0 4294967295) words
 IsEntry n before (close turn lane) = IsPlaced n before turn lane × (slice_index n.channels lane.class ≡ 1)
 
 -- each entry keeps the rules behind those before it

@@ -1,6 +1,7 @@
 //! The fields of a line, read from the left.
 
-ghost use Rattle.std.specs.Prelude.{◌≡◌, ◌<◌, ◌^◌, ◌↔◌, IsTrue, [], ◌∷◌, length, drop, position, ◌==◌, MatchOption, Bool, true, false, Some, None, nat_le, if◌then◌else◌, List, ℕ};
+ghost use Rattle.std.specs.Prelude.{◌≡◌, ◌<◌, ◌^◌, ◌↔◌, IsTrue, [], ◌∷◌, length, drop, position, ◌==◌, MatchOption};
+ghost use Rattle.std.specs.Prelude.{Bool, true, false, Some, None, nat_le, if◌then◌else◌, List, ℕ};
 ghost use Rattle.worm_text.specs.Lines.{cut, space, fields_left};
 ghost use Rattle.worm_text.specs.Numerals.{is_digit, is_numeral, value_of, is_name, is_lower_or_digit};
 ghost use Rattle.std.specs.List.{list_all};
@@ -20,7 +21,8 @@ fn position_of(bytes: &[u8], end: u8) -> Option<usize>
 
 /// The bytes before the first `end`, and those after it.
 pub fn cut_first(bytes: &[u8], end: u8) -> Option<(&[u8], &[u8])>
-    ensures parts { MatchOption result (cut end bytes.now ≡ bytes.now ∷ []) (λ p. cut end bytes.now ≡ p.0.now ∷ cut end p.1.now) }
+    ensures parts { MatchOption result (cut end bytes.now ≡ bytes.now ∷ [])
+        (λ p. cut end bytes.now ≡ p.0.now ∷ cut end p.1.now) }
     ensures shorter { MatchOption result (Unit {0}) (λ p. length p.1.now < length bytes.now) }
 {
     match position_of(bytes, end) {
@@ -84,7 +86,8 @@ fn are_name_bytes(bytes: &[u8]) -> bool
 
 /// The name that a field is, if it is one.
 pub fn name_of(field: &[u8]) -> Option<Name>
-    ensures { MatchOption result (is_name field.now ≡ false) (λ name. (is_name field.now ≡ true) × (name.bytes ≡ field.now)) }
+    ensures { MatchOption result (is_name field.now ≡ false)
+        (λ name. (is_name field.now ≡ true) × (name.bytes ≡ field.now)) }
 {
     if !is_name_text(field) {
         return None;
@@ -143,7 +146,8 @@ impl<'a> Fields<'a> {
         }
     }
 
-    /// A number from `low` to `high`. `Missing` where no field is left, `Number` where the field is no numeral, else `Range`.
+    /// A number from `low` to `high`. `Missing` where no field is left, `Number` where the field is no numeral, else
+    /// `Range`.
     pub fn number(&mut self, low: u32, high: u32) -> Result<u32, Why>
         ensures answer { Reads (λ x. x) result self.new (number_at low high self.old) }
         ensures one { self.new ≡ drop 1 self.old }

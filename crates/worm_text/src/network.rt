@@ -4,7 +4,9 @@ ghost use Rattle.std.specs.Prelude.{◌≡◌, ◌≤◌, ◌<◌, [], ◌∷◌
 ghost use Rattle.worm_text.specs.Lines.{cut, space};
 ghost use Rattle.worm_text.specs.Reading.{Reads, Gives};
 ghost use Rattle.worm_text.specs.Network.{Network, Keeps, text, nodes_of, view, names_of};
-ghost use Rattle.worm_text.specs.Stages.{begins, widened, copies_at, radices_at, header_stage, radix_stage, dims_stage, dims_first_stage, radices_stage, depth_stage, new_name_at, channels_at, one_class, the_end, class_stage, judge, at_class};
+ghost use Rattle.worm_text.specs.Stages.{begins, widened, copies_at, radices_at, header_stage, radix_stage, dims_stage};
+ghost use Rattle.worm_text.specs.Stages.{dims_first_stage, radices_stage, depth_stage, new_name_at, channels_at};
+ghost use Rattle.worm_text.specs.Stages.{one_class, the_end, class_stage, judge, at_class};
 ghost use Rattle.worm_text.specs.declared.format.Format.{Format};
 ghost use Rattle.std.specs.List.{list_any};
 ghost use Rattle.std.specs.Str.{bytes_eq};
@@ -60,7 +62,8 @@ fn is_among(key: Key, keys: &[Key]) -> bool
     keys.iter().any(|k| key.is(*k))
 }
 
-/// The word with which this line has to begin. `Repeated` where its word began an earlier line, `Missing` where it comes too early.
+/// The word with which this line has to begin. `Repeated` where its word began an earlier line, `Missing` where it
+/// comes too early.
 #[tactic(auto, unfolding(crate::specs::Stages::begins))]
 fn begin(fields: &mut Fields<'_>, wanted: Key, earlier: &[Key]) -> Result<(), Why>
     ensures { Gives (λ _. fields.new) result (begins wanted earlier.now fields.old) }
@@ -357,7 +360,8 @@ fn read_lines(bytes: &[u8]) -> Result<Config, TextFault>
 
 /// Reads a network text of either format (Dally and Towles, chapters 5 and 13). It takes no memory.
 ///
-/// `wormnet 1`, `radix 4`, `dims 2`, `depth 2`, `class data` and `end`, each line ended by a line feed, are a network of 16 nodes.
+/// `wormnet 1`, `radix 4`, `dims 2`, `depth 2`, `class data` and `end`, each line ended by a line feed, are a network
+/// of 16 nodes.
 pub fn read_network(bytes: &[u8]) -> Result<Config, TextFault>
     // What is read is a text of what is answered.
     ensures found { IfOk result (λ config. (f : Format) × Keeps f (view config) × (bytes.now ≡ text f (view config))) }

@@ -1,6 +1,7 @@
 //! The text of the traffic, line by line.
 
-ghost use Rattle.std.specs.Prelude.{◌≡◌, ◌≤◌, ◌<◌, ◌-◌, ◌^◌, [], ◌∷◌, ◌==◌, length, MatchOption, position, Some, None, OnOk, IfOk, IfErr, Ok, ◌⊎◌, List, ◌||◌, All, map, false};
+ghost use Rattle.std.specs.Prelude.{◌≡◌, ◌≤◌, ◌<◌, ◌-◌, ◌^◌, [], ◌∷◌, ◌==◌, length, MatchOption, position, Some, None};
+ghost use Rattle.std.specs.Prelude.{OnOk, IfOk, IfErr, Ok, ◌⊎◌, List, ◌||◌, All, map, false};
 ghost use Rattle.worm_text.specs.TrafficText.{AreEntries, traffic_text};
 ghost use Rattle.worm_text.specs.ScriptView.{said_of};
 ghost use Rattle.std.specs.Option.{option_map};
@@ -9,7 +10,9 @@ ghost use Rattle.std.specs.BTreeSet.{contains};
 ghost use Rattle.worm_text.specs.Reading.{Reads, Gives};
 ghost use Rattle.worm_text.specs.Network.{view, nodes_of, names_of, Keeps};
 ghost use Rattle.worm_text.specs.declared.format.Format.{Format};
-ghost use Rattle.worm_text.specs.Traffic.{Said, class_at, turn_at, lane_at, words_at, send_at, close_at, entry_at, is_closed, entry_view, said, same_lane, lane_cmp, closes, read_entries, traffic_of};
+ghost use Rattle.worm_text.specs.Traffic.{Said, class_at, turn_at, lane_at, words_at, send_at, close_at, entry_at};
+ghost use Rattle.worm_text.specs.Traffic.{is_closed, entry_view, said, same_lane, lane_cmp, closes, read_entries};
+ghost use Rattle.worm_text.specs.Traffic.{traffic_of};
 ghost use Rattle.worm_text.specs.TrafficFaults.{AnswersOrFull, RanOut, IsEntryLine, IsEntryPiece, IsTrafficFaultLine};
 ghost use Rattle.worm_text.specs.Lines.{cut, space, newline};
 
@@ -86,7 +89,9 @@ impl ClosedLanes {
 
     /// The lane is closed from then on.
     fn add(&mut self, lane: Lane) -> Result<(), AllocError>
-        ensures added { OnOk result ((other : Lane) → contains lane_cmp self.new.lanes other ≡ (same_lane other lane || contains lane_cmp self.old.lanes other)) }
+        ensures added { OnOk result ((other : Lane)
+            → contains lane_cmp self.new.lanes other
+            ≡ (same_lane other lane || contains lane_cmp self.old.lanes other)) }
     {
         self.lanes.insert(lane)?;
         Ok(())
@@ -94,7 +99,9 @@ impl ClosedLanes {
 
     /// The lane of a close entry is closed from then on.
     fn note(&mut self, entry: &Entry) -> Result<(), AllocError>
-        ensures noted { OnOk result ((other : Lane) → contains lane_cmp self.new.lanes other ≡ (closes other (entry_view entry.now) || contains lane_cmp self.old.lanes other)) }
+        ensures noted { OnOk result ((other : Lane)
+            → contains lane_cmp self.new.lanes other
+            ≡ (closes other (entry_view entry.now) || contains lane_cmp self.old.lanes other)) }
     {
         match &entry.act {
             Act::Offer(_) => Ok(()),
@@ -172,7 +179,8 @@ fn close(
     requires counted { nodes ≡ nodes_of config.now.radices.items }
     requires some { 1 ≤ nodes }
     requires few { nodes ≤ 256 }
-    ensures { Gives entry_view result (close_at (view config.now) last (contains lane_cmp closed.now.lanes) fields.old) }
+    ensures { Gives entry_view result (close_at (view config.now) last
+        (contains lane_cmp closed.now.lanes) fields.old) }
 {
     let turn = turn(last, fields)?;
     let lane = lane(config, nodes, fields)?;
@@ -202,7 +210,8 @@ fn entry(
     requires counted { nodes ≡ nodes_of config.now.radices.items }
     requires some { 1 ≤ nodes }
     requires few { nodes ≤ 256 }
-    ensures { Gives (option_map entry_view) result (entry_at (view config.now) count last (contains lane_cmp closed.now.lanes) (cut space line.now)) }
+    ensures { Gives (option_map entry_view) result
+        (entry_at (view config.now) count last (contains lane_cmp closed.now.lanes) (cut space line.now)) }
 {
     let mut fields = Fields::new(line);
     let Some(word) = fields.next() else {
@@ -249,7 +258,8 @@ fn read_entries(
     requires counted { nodes ≡ nodes_of config.now.radices.items }
     requires some { 1 ≤ nodes }
     requires few { nodes ≤ 256 }
-    ensures { AnswersOrFull said_of (IsEntryPiece (view config.now) (cut newline rest.now)) result (read_entries (view config.now) [] 2 (cut newline rest.now)) }
+    ensures { AnswersOrFull said_of (IsEntryPiece (view config.now) (cut newline rest.now)) result
+        (read_entries (view config.now) [] 2 (cut newline rest.now)) }
 {
     let mut script = Script::empty(alloc);
     let mut closed = ClosedLanes::new(alloc);
@@ -291,7 +301,8 @@ fn read_entries(
 /// Line after line, up to the first fault.
 fn read_script(alloc: Global, bytes: &[u8], config: &Config) -> Result<Script, TextFault>
     requires { (f : Format) × Keeps f (view config.now) }
-    ensures { AnswersOrFull said_of (IsEntryLine (view config.now) bytes.now) result (traffic_of (view config.now) bytes.now) }
+    ensures { AnswersOrFull said_of (IsEntryLine (view config.now) bytes.now) result
+        (traffic_of (view config.now) bytes.now) }
 {
     let nodes = node_count(config.radices.as_slice());
     let Some((header, rest)) = cut_first(bytes, b'\n') else {
@@ -309,20 +320,27 @@ fn read_script(alloc: Global, bytes: &[u8], config: &Config) -> Result<Script, T
     read_entries(alloc, rest, config, nodes)
 }
 
-/// Reads a traffic text for a network that a network text says. `NoMemory`, at the line of an entry, where there was no room for it.
+/// Reads a traffic text for a network that a network text says. `NoMemory`, at the line of an entry, where there was no
+/// room for it.
 ///
-/// `wormtraffic 1`, `send 0 0 5 data 17 18` and `end`, each line ended by a line feed, offer one packet of two words to node 0 in turn 0.
+/// `wormtraffic 1`, `send 0 0 5 data 17 18` and `end`, each line ended by a line feed, offer one packet of two words to
+/// node 0 in turn 0.
 pub fn read_traffic(alloc: Global, bytes: &[u8], config: &Config) -> Result<Script, TextFault>
     requires { (f : Format) × Keeps f (view config.now) }
     // What is read is the text of what is answered.
-    ensures found { IfOk result (λ script. AreEntries (view config.now) [] (said_of script) × (bytes.now ≡ traffic_text (view config.now) (said_of script))) }
+    ensures found { IfOk result (λ script. AreEntries (view config.now) [] (said_of script)
+        × (bytes.now ≡ traffic_text (view config.now) (said_of script))) }
     // Each such text is read, unless memory runs out.
-    ensures only { (entries : List Said) → AreEntries (view config.now) [] entries → bytes.now ≡ traffic_text (view config.now) entries → AnswersOrFull said_of (IsEntryLine (view config.now) bytes.now) result (Ok entries) }
+    ensures only { (entries : List Said) → AreEntries (view config.now) [] entries
+        → bytes.now ≡ traffic_text (view config.now) entries
+        → AnswersOrFull said_of (IsEntryLine (view config.now) bytes.now) result (Ok entries) }
     // The line of a fault is one more than the longest run of finished lines with which an accepted text begins; memory
     // runs out at the line of an entry.
-    ensures line { IfErr result (λ fault. RanOut (IsEntryLine (view config.now) bytes.now) fault ⊎ IsTrafficFaultLine (view config.now) bytes.now fault.line) }
+    ensures line { IfErr result (λ fault. RanOut (IsEntryLine (view config.now) bytes.now) fault
+        ⊎ IsTrafficFaultLine (view config.now) bytes.now fault.line) }
     // Which fault it is.
-    ensures exact { AnswersOrFull said_of (IsEntryLine (view config.now) bytes.now) result (traffic_of (view config.now) bytes.now) }
+    ensures exact { AnswersOrFull said_of (IsEntryLine (view config.now) bytes.now) result
+        (traffic_of (view config.now) bytes.now) }
 {
     read_script(alloc, bytes, config)
 }

@@ -1,5 +1,6 @@
 -- Credits on their way back.
-use Rattle.std.proofs.Common.{◌≡◌, ℕ, ◌+◌, ◌<◌, true, false, cond, inl, inr, ◌==◌, List, [], ◌∷◌, ◌++◌, Some, arith, count_by}
+use Rattle.std.proofs.Common.{◌≡◌, ℕ, ◌+◌, ◌<◌, true, false, cond, inl, inr, ◌==◌, List, [], ◌∷◌, ◌++◌, Some, arith}
+use Rattle.std.proofs.Common.{count_by}
 use Rattle.std.proofs.lemmas.List.Elements.{All-tail, All-push}
 use Rattle.std.proofs.lemmas.List.Sums.{sum_by-cons, sum_by_push}
 use Rattle.worm_theory.specs.Shape.{Shape, IsMesh}
@@ -10,10 +11,12 @@ use Rattle.worm_theory.proofs.Places.{number_cases, place_cases, same-true, same
 use Rattle.worm_theory.proofs.Meshes.{same_end, same_start}
 
 -- one more of this channel at the end
-pub count-push : (v c : ℕ) (cs : List ℕ) → count_by (λ d. v == d) (cs ++ c ∷ []) ≡ count_by (λ d. v == d) cs + cond (v == c) 1 0
+pub count-push : (v c : ℕ) (cs : List ℕ)
+    → count_by (λ d. v == d) (cs ++ c ∷ []) ≡ count_by (λ d. v == d) cs + cond (v == c) 1 0
 count-push v c cs = sum_by_push (λ d. cond (v == d) 1 0) cs c
 
-pub count-cons : (v c : ℕ) (cs : List ℕ) → count_by (λ d. v == d) (c ∷ cs) ≡ cond (v == c) 1 0 + count_by (λ d. v == d) cs
+pub count-cons : (v c : ℕ) (cs : List ℕ)
+    → count_by (λ d. v == d) (c ∷ cs) ≡ cond (v == c) 1 0 + count_by (λ d. v == d) cs
 count-cons v c cs = sum_by-cons (λ d. cond (v == d) 1 0) c cs
 
 module _ (s : Shape) (mesh : IsMesh s) (net : Network) (x p y v : ℕ) (linked : s.neighbour x p ≡ Some y) where
@@ -32,14 +35,19 @@ module _ (s : Shape) (mesh : IsMesh s) (net : Network) (x p y v : ℕ) (linked :
               | inr off ↦ rw (here.0, there, ← line, count-push v2 v (net.credit_list y2 o2), off.0) (omega arith)
             ]
         | inr away ↦
-            let there : same x2 (s.opposite o2) x p ≡ false = same-false x2 (s.opposite o2) x p (λ e1 e2. let starts = same_start s mesh x p y linked y2 o2 x2 n2 e1 e2 in away.1 starts.0 starts.1) in
+            let there : same x2 (s.opposite o2) x p ≡ false =
+            same-false x2 (s.opposite o2) x p
+            (λ e1 e2. let starts = same_start s mesh x p y linked y2 o2 x2 n2 e1 e2 in
+            away.1 starts.0 starts.1) in
             rw (away.0, there) h
       ]
 
-  pub give_entries : v < s.channels → CreditsAreChannels s net → CreditsAreChannels s (gave_to net x p v y (s.opposite p))
+  pub give_entries : v < s.channels → CreditsAreChannels s net
+      → CreditsAreChannels s (gave_to net x p v y (s.opposite p))
   give_entries there_v sound y2 o2 =
       elim (place_cases y2 o2 y (s.opposite p)) [
-        | inl here ↦ rw here.0 (All-push (λ c. c < s.channels) (net.credit_list y (s.opposite p)) v (sound y (s.opposite p)) there_v)
+        | inl here ↦ rw here.0 (All-push (λ c. c < s.channels) (net.credit_list y (s.opposite p)) v
+            (sound y (s.opposite p)) there_v)
         | inr away ↦ rw away.0 (sound y2 o2)
       ]
 

@@ -1,5 +1,6 @@
 -- A flit goes from its source into the injection buffer.
-use Rattle.std.proofs.Common.{◌≡◌, ℕ, ◌<◌, true, false, inl, inr, ◌==◌, List, ◌∷◌, length, Some, refl, subst, arith, length-append}
+use Rattle.std.proofs.Common.{◌≡◌, ℕ, ◌<◌, true, false, inl, inr, ◌==◌, List, ◌∷◌, length, Some, refl, subst, arith}
+use Rattle.std.proofs.Common.{length-append}
 use Rattle.std.proofs.lemmas.List.Elements.{All-head, All-tail, All-push}
 use Rattle.worm_flit.specs.declared.Flit.{Flit}
 use Rattle.worm_flit.specs.Stamps.{with_channel}
@@ -7,13 +8,15 @@ use Rattle.worm_theory.specs.Worm.{Between, worm_after}
 use Rattle.worm_theory.specs.Shape.{Shape, IsMesh, Enters, at_source}
 use Rattle.worm_theory.specs.Network.{Network, same}
 use Rattle.worm_theory.specs.Steps.{fed}
-use Rattle.worm_theory.specs.Sound.{LinksRun, SourcesRun, RecordsAgree, BuffersFit, CreditsAdd, UnfedHold, BuffersHold, Sound, unfed_on, InBuffer, IsFrom}
+use Rattle.worm_theory.specs.Sound.{LinksRun, SourcesRun, RecordsAgree, BuffersFit, CreditsAdd, UnfedHold, BuffersHold}
+use Rattle.worm_theory.specs.Sound.{Sound, unfed_on, InBuffer, IsFrom}
 use Rattle.worm_theory.proofs.Runs.{Runs-shift}
 use Rattle.worm_theory.proofs.Places.{number_cases, place_cases, place3_cases, same-true, same-false}
 use Rattle.worm_theory.proofs.Meshes.{is_mesh_start}
 use Rattle.worm_theory.proofs.Agreement.{Agrees-push}
 
-module _ (s : Shape) (mesh : IsMesh s) (net : Network) (x k : ℕ) (class_there : k < s.classes) (f : Flit) (rest : List Flit) (front : net.unfed x k ≡ f ∷ rest) where
+module _ (s : Shape) (mesh : IsMesh s) (net : Network) (x k : ℕ) (class_there : k < s.classes) (f : Flit)
+    (rest : List Flit) (front : net.unfed x k ≡ f ∷ rest) where
   -- no link leads into the injection buffer
   pub off_links : (y2 o2 x2 : ℕ) → s.neighbour y2 o2 ≡ Some x2 → same x2 (s.opposite o2) x s.terminal ≡ false
   off_links y2 o2 x2 n2 = same-false x2 (s.opposite o2) x s.terminal (λ _ e. is_mesh_start s mesh y2 o2 x2 n2 e)
@@ -28,7 +31,8 @@ module _ (s : Shape) (mesh : IsMesh s) (net : Network) (x k : ℕ) (class_there 
   first_class = (mesh.first_owned k class_there).1
 
   -- what is unfed for another channel
-  pub unfed_elsewhere : (x2 v2 : ℕ) → (x2 ≡ x → v2 ≡ s.first k → ⊥) → unfed_on s (fed s net x k (f ∷ rest)) x2 v2 ≡ unfed_on s net x2 v2
+  pub unfed_elsewhere : (x2 v2 : ℕ) → (x2 ≡ x → v2 ≡ s.first k → ⊥)
+      → unfed_on s (fed s net x k (f ∷ rest)) x2 v2 ≡ unfed_on s net x2 v2
   unfed_elsewhere x2 v2 other =
       elim (number_cases (s.first (s.owner v2)) v2) [
         | inl first ↦ elim (place_cases x2 (s.owner v2) x k) [
@@ -50,7 +54,8 @@ module _ (s : Shape) (mesh : IsMesh s) (net : Network) (x k : ℕ) (class_there 
             let line : net.unfed x2 (s.owner v2) ≡ f ∷ rest = cc in
             let full : net.buffer x2 s.terminal v2 ≡ net.buffer x s.terminal (s.first k) = cc in
             let at_front = rw (first, line) at h in
-            let moved = Runs-shift (net.buffer x2 s.terminal v2) f (s.first k) rest (worm_after (net.last_out x2 s.terminal v2)) Between at_front in
+            let moved = Runs-shift (net.buffer x2 s.terminal v2) f (s.first k) rest
+            (worm_after (net.last_out x2 s.terminal v2)) Between at_front in
             rw (here.0, first, unfed_here, ← full) moved
         | inr away ↦
             let line = unfed_elsewhere x2 v2 (λ e1 e2. away.1 e1 refl e2) in
@@ -63,11 +68,13 @@ module _ (s : Shape) (mesh : IsMesh s) (net : Network) (x k : ℕ) (class_there 
       elim (place3_cases x2 p2 v2 x s.terminal (s.first k)) [
         | inl here ↦
             let full : net.buffer x2 p2 v2 ≡ net.buffer x s.terminal (s.first k) = cc in
-            rw (here.0, ← full) (Agrees-push s x2 (net.in_record x2 p2 v2) (worm_after (net.last_out x2 p2 v2)) (net.buffer x2 p2 v2) (with_channel f (s.first k)) h)
+            rw (here.0, ← full) (Agrees-push s x2 (net.in_record x2 p2 v2) (worm_after (net.last_out x2 p2 v2))
+            (net.buffer x2 p2 v2) (with_channel f (s.first k)) h)
         | inr away ↦ rw away.0 h
       ]
 
-  pub feed_fits : length (net.buffer x s.terminal (s.first k)) < s.depth → BuffersFit s net → BuffersFit s (fed s net x k (f ∷ rest))
+  pub feed_fits : length (net.buffer x s.terminal (s.first k)) < s.depth → BuffersFit s net
+      → BuffersFit s (fed s net x k (f ∷ rest))
   feed_fits room sound x2 p2 v2 =
       elim (place3_cases x2 p2 v2 x s.terminal (s.first k)) [
         | inl here ↦ rw here.0 (simp length-append (omega arith))
@@ -92,7 +99,8 @@ module _ (s : Shape) (mesh : IsMesh s) (net : Network) (x k : ℕ) (class_there 
   feed_buffered unfed sound x2 p2 v2 =
       elim (place3_cases x2 p2 v2 x s.terminal (s.first k)) [
         | inl here ↦
-            let all = All-push (InBuffer s x s.terminal (s.first k)) (net.buffer x s.terminal (s.first k)) (with_channel f (s.first k)) (sound x s.terminal (s.first k)) (entering unfed) in
+            let all = All-push (InBuffer s x s.terminal (s.first k)) (net.buffer x s.terminal (s.first k))
+            (with_channel f (s.first k)) (sound x s.terminal (s.first k)) (entering unfed) in
             rw (here.0, here.1, here.2, here.3) all
         | inr away ↦ rw away.0 (sound x2 p2 v2)
       ]
@@ -106,7 +114,8 @@ module _ (s : Shape) (mesh : IsMesh s) (net : Network) (x k : ℕ) (class_there 
         | inr away ↦ rw away.0 (sound x2 k2)
       ]
 
-  pub feed_sound : length (net.buffer x s.terminal (s.first k)) < s.depth → Sound s net → Sound s (fed s net x k (f ∷ rest))
+  pub feed_sound : length (net.buffer x s.terminal (s.first k)) < s.depth → Sound s net
+      → Sound s (fed s net x k (f ∷ rest))
   feed_sound room sound = record {
     links = feed_links sound.links;
     sources = feed_sources sound.sources;

@@ -8,9 +8,12 @@ use Rattle.worm_theory.specs.Steps.{granted}
 use Rattle.worm_theory.specs.Sound.{LinksRun, SinksRun, RecordsAgree, HoldersAgree, Sound}
 use Rattle.worm_theory.proofs.Places.{place3_cases, some_pair}
 
-module _ (s : Shape) (net : Network) (x p v c o : ℕ) (waiting : net.in_record x p v ≡ Waiting o) (free : net.holder x o c ≡ None) (f : Flit) (rest : List Flit) (front : net.buffer x p v ≡ f ∷ rest) (owned : Owns s f.lane.class c) where
+module _ (s : Shape) (net : Network) (x p v c o : ℕ) (waiting : net.in_record x p v ≡ Waiting o)
+    (free : net.holder x o c ≡ None) (f : Flit) (rest : List Flit) (front : net.buffer x p v ≡ f ∷ rest)
+    (owned : Owns s f.lane.class c) where
   -- no packet is under way on the output channel, before the grant and after it
-  pub grant_upstream : RecordsAgree s net → (x2 o2 c2 : ℕ) → upstream (granted net x p v c (Waiting o)) x2 o2 c2 ≡ upstream net x2 o2 c2
+  pub grant_upstream : RecordsAgree s net → (x2 o2 c2 : ℕ)
+      → upstream (granted net x p v c (Waiting o)) x2 o2 c2 ≡ upstream net x2 o2 c2
   grant_upstream sound x2 o2 c2 =
       elim (place3_cases x2 o2 c2 x o c) [
         | inl here ↦
@@ -48,7 +51,11 @@ module _ (s : Shape) (net : Network) (x p v c o : ℕ) (waiting : net.in_record 
             let was : net.holder x2 o2 c2 ≡ None = cc in
             elim (place3_cases x2 p2 v2 x p v) [
               | inl here ↦ rw (held.0, here.0) (λ _. cc, λ _. cc)
-              | inr away ↦ rw (held.0, away.0) (λ e. let pair = some_pair p v p2 v2 e in absurd (away.1 held.1 pair.0 pair.1), λ e. let other = h.1 e in cc)
+              | inr away ↦ rw (held.0, away.0) (
+                λ e. let pair = some_pair p v p2 v2 e in
+                    absurd (away.1 held.1 pair.0 pair.1),
+                λ e. let other = h.1 e in cc,
+              )
             ]
         | inr unheld ↦
             elim (place3_cases x2 p2 v2 x p v) [

@@ -1,5 +1,6 @@
 -- Sources and sinks only grow.
-use Rattle.std.proofs.Common.{◌≡◌, ℕ, inl, inr, List, [], ◌∷◌, ◌++◌, Option, Some, None, refl, sym, ap, subst, ◌∙◌, append_assoc, append-nil}
+use Rattle.std.proofs.Common.{◌≡◌, ℕ, inl, inr, List, [], ◌∷◌, ◌++◌, Option, Some, None, refl, sym, ap, subst, ◌∙◌}
+use Rattle.std.proofs.Common.{append_assoc, append-nil}
 use Rattle.worm_flit.specs.declared.Lane.{Lane}
 use Rattle.worm_flit.specs.declared.Flit.{Flit}
 use Rattle.worm_flit.specs.Stamps.{with_channel}
@@ -8,7 +9,9 @@ use Rattle.worm_records.specs.declared.InRecord.{InRecord}
 use Rattle.worm_records.specs.declared.InRecord.TheVariants.{Idle, Waiting, Active}
 use Rattle.worm_theory.specs.Shape.{Shape, IsMesh}
 use Rattle.worm_theory.specs.Network.{Network}
-use Rattle.worm_theory.specs.Steps.{Step, Offer, CloseLane, Feed, Route, Grant, Send, Take, GiveCredit, TakeCredit, next_number, Enabled, offered, fed, routed, granted, sent, taken, taken_from, gave, got, after, StepsLead}
+use Rattle.worm_theory.specs.Steps.{Step, Offer, CloseLane, Feed, Route, Grant, Send, Take, GiveCredit, TakeCredit}
+use Rattle.worm_theory.specs.Steps.{next_number, Enabled, offered, fed, routed, granted, sent, taken, taken_from, gave}
+use Rattle.worm_theory.specs.Steps.{got, after, StepsLead}
 use Rattle.worm_theory.specs.Growth.{SinksGrow, SourcesGrow}
 use Rattle.worm_theory.proofs.Places.{place_cases, same-false}
 use Rattle.worm_theory.proofs.Meshes.{is_mesh_start}
@@ -17,7 +20,8 @@ use Rattle.worm_theory.proofs.Lists.{any_list}
 pub sinks_same : (s : Shape) (net : Network) → SinksGrow s net net
 sinks_same s net x = ([], sym (append-nil (net.out x s.terminal)))
 
-pub sinks_further : (s : Shape) (old mid new : Network) → SinksGrow s old mid → SinksGrow s mid new → SinksGrow s old new
+pub sinks_further : (s : Shape) (old mid new : Network) → SinksGrow s old mid → SinksGrow s mid new
+    → SinksGrow s old new
 sinks_further s old mid new g h x =
     let first = g x in
     let then = h x in
@@ -56,10 +60,12 @@ module _ (s : Shape) (mesh : IsMesh s) (net : Network) where
         | inr away ↦ rw away.0 (sinks_same s net z)
       ]
 
-  take_grows_on : (x p y : ℕ) (fs : List Flit) → s.neighbour x p ≡ Some y → SinksGrow s net (taken_from net x p y (s.opposite p) fs)
+  take_grows_on : (x p y : ℕ) (fs : List Flit) → s.neighbour x p ≡ Some y
+      → SinksGrow s net (taken_from net x p y (s.opposite p) fs)
   take_grows_on x p y [] linked = sinks_same s net
   take_grows_on x p y (f ∷ rest) linked = λ z.
-      rw (same-false z s.terminal y (s.opposite p) (λ _ e. is_mesh_start s mesh x p y linked (sym e))) (sinks_same s net z)
+      rw (same-false z s.terminal y (s.opposite p) (λ _ e. is_mesh_start s mesh x p y linked (sym e)))
+      (sinks_same s net z)
 
   pub take_grows : (x p : ℕ) (end : Option ℕ) → s.neighbour x p ≡ end → SinksGrow s net (taken s net x p end)
   take_grows x p None e = sinks_same s net
@@ -122,13 +128,19 @@ module _ (s : Shape) (net : Network) where
   get_injected x o (c ∷ rest) = refl
 
   -- what holds of what the sources accepted is kept by each other step
-  pub by_injected : (Kept : (ℕ → ℕ → List Flit) → Type 0) → Kept net.injected → ((x : ℕ) (lane : Lane) (words : List ℕ) → Enabled s net (Offer x lane words) → Kept (after s net (Offer x lane words)).injected) → ((x : ℕ) (lane : Lane) → Enabled s net (CloseLane x lane) → Kept (after s net (CloseLane x lane)).injected) → (step : Step) → Enabled s net step → Kept (after s net step).injected
+  pub by_injected : (Kept : (ℕ → ℕ → List Flit) → Type 0) → Kept net.injected
+      → ((x : ℕ) (lane : Lane) (words : List ℕ) → Enabled s net (Offer x lane words)
+      → Kept (after s net (Offer x lane words)).injected)
+      → ((x : ℕ) (lane : Lane) → Enabled s net (CloseLane x lane) → Kept (after s net (CloseLane x lane)).injected)
+      → (step : Step) → Enabled s net step → Kept (after s net step).injected
   by_injected Kept kept offer close (Offer x lane words) h = offer x lane words h
   by_injected Kept kept offer close (CloseLane x lane) h = close x lane h
   by_injected Kept kept offer close (Feed x k) h = subst Kept (sym (feed_injected x k (net.unfed x k))) kept
   by_injected Kept kept offer close (Route x p v) h = subst Kept (sym (route_injected x p v (net.buffer x p v))) kept
-  by_injected Kept kept offer close (Grant x p v c) h = subst Kept (sym (grant_injected x p v c (net.in_record x p v))) kept
-  by_injected Kept kept offer close (Send x p v) h = subst Kept (sym (send_injected x p v (net.in_record x p v) (net.buffer x p v))) kept
+  by_injected Kept kept offer close (Grant x p v c) h =
+      subst Kept (sym (grant_injected x p v c (net.in_record x p v))) kept
+  by_injected Kept kept offer close (Send x p v) h =
+      subst Kept (sym (send_injected x p v (net.in_record x p v) (net.buffer x p v))) kept
   by_injected Kept kept offer close (Take x p) h = subst Kept (sym (take_injected x p (s.neighbour x p))) kept
   by_injected Kept kept offer close (GiveCredit x p v) h = subst Kept (sym (give_injected x p v (s.neighbour x p))) kept
   by_injected Kept kept offer close (TakeCredit x o) h = subst Kept (sym (get_injected x o (net.credit_list x o))) kept
@@ -142,14 +154,19 @@ module _ (s : Shape) (net : Network) where
 
   pub step_sources : (step : Step) → Enabled s net step → SourcesGrow net (after s net step)
   step_sources step h =
-      by_injected (λ injected. (x k : ℕ) → (more : List Flit) × (injected x k ≡ net.injected x k ++ more)) (sources_same net)
+      by_injected (λ injected. (x k : ℕ) → (more : List Flit) × (injected x k ≡ net.injected x k ++ more))
+      (sources_same net)
       (λ x lane words _. offer_sources_grow x lane.class (packet_flits lane (next_number net lane) words))
       (λ x lane _. offer_sources_grow x lane.class (mark lane (next_number net lane) ∷ [])) step h
 
-pub steps_sinks : (s : Shape) → IsMesh s → (steps : List Step) (old new : Network) → StepsLead s old steps new → SinksGrow s old new
+pub steps_sinks : (s : Shape) → IsMesh s → (steps : List Step) (old new : Network) → StepsLead s old steps new
+    → SinksGrow s old new
 steps_sinks s mesh steps old new lead =
-    any_list s (λ n. SinksGrow s old n) (λ net step _ _ grown. sinks_further s old net (after s net step) grown (step_sinks s mesh net step)) steps old new lead (sinks_same s old)
+    any_list s (λ n. SinksGrow s old n) (λ net step _ _ grown. sinks_further s old net (after s net step) grown
+    (step_sinks s mesh net step)) steps old new lead (sinks_same s old)
 
-pub steps_sources : (s : Shape) (steps : List Step) (old new : Network) → StepsLead s old steps new → SourcesGrow old new
+pub steps_sources : (s : Shape) (steps : List Step) (old new : Network) → StepsLead s old steps new
+    → SourcesGrow old new
 steps_sources s steps old new lead =
-    any_list s (λ n. SourcesGrow old n) (λ net step _ enabled grown. sources_further old net (after s net step) grown (step_sources s net step enabled)) steps old new lead (sources_same old)
+    any_list s (λ n. SourcesGrow old n) (λ net step _ enabled grown. sources_further old net (after s net step) grown
+    (step_sources s net step enabled)) steps old new lead (sources_same old)

@@ -1,4 +1,5 @@
--- A shape that is a mesh: two nodes in a line, one class of some channels. So what the theory asks of a mesh can be met.
+-- A shape that is a mesh: two nodes in a line, one class of some channels. So what the theory asks of a mesh can be
+-- met.
 use Rattle.std.proofs.Common.{◌≡◌, ℕ, suc, ◌<◌, cond, inl, inr, ◌==◌, Some, None, refl, arith}
 use Rattle.worm_theory.specs.Shape.{Shape, IsMesh}
 use Rattle.worm_theory.specs.Network.{same}
@@ -24,7 +25,8 @@ module _ (channels depth : ℕ) where
   abbrev own : Shape
   own = line channels depth
 
-  both_ways : (x p y : ℕ) → own.neighbour x p ≡ Some y → (own.neighbour y (own.opposite p) ≡ Some x) × (own.opposite (own.opposite p) ≡ p)
+  both_ways : (x p y : ℕ) → own.neighbour x p ≡ Some y
+      → (own.neighbour y (own.opposite p) ≡ Some x) × (own.opposite (own.opposite p) ≡ p)
   both_ways x p y e =
       elim (place_cases x p 0 1) [
         | inl a ↦ let at = rw a.0 at e in let one : y ≡ 1 = cc in rw (one, a.1, a.2) (refl, refl)
@@ -34,7 +36,8 @@ module _ (channels depth : ℕ) where
         ]
       ]
 
-  line_goes : (x d n : ℕ) → x < 2 → d < 2 → own.hops x d ≡ suc n → (y : ℕ) × (own.neighbour x (own.next_port x d) ≡ Some y) × (y < 2) × (own.hops y d ≡ n)
+  line_goes : (x d n : ℕ) → x < 2 → d < 2 → own.hops x d ≡ suc n
+      → (y : ℕ) × (own.neighbour x (own.next_port x d) ≡ Some y) × (y < 2) × (own.hops y d ≡ n)
   line_goes x d n in_x in_d e =
       elim (number_cases x d) [
         | inl a ↦ let none = rw a.0 at e in absurd (omega arith)
@@ -44,7 +47,8 @@ module _ (channels depth : ℕ) where
             let left : 0 ≡ n = omega arith in
             elim (number_cases x 0) [
               | inl b ↦ let there : d ≡ 1 = grind arith in (1, rw (a.0, b.1) refl, omega arith, rw there left)
-              | inr b ↦ let here : x ≡ 1 = omega arith in let there : d ≡ 0 = grind arith in (0, rw (a.0, here) refl, omega arith, rw there left)
+              | inr b ↦ let here : x ≡ 1 = omega arith in let there : d ≡ 0 = grind arith in
+                  (0, rw (a.0, here) refl, omega arith, rw there left)
             ]
       ]
 
@@ -59,7 +63,10 @@ module _ (channels depth : ℕ) where
   line_is_mesh some = record {
     link_back = λ x p y e. (both_ways x p y e).0;
     opposite_twice = λ x p y e. (both_ways x p y e).1;
-    terminal_alone = λ x. rw (same-false x 2 0 1 (λ _ e. absurd (omega arith)), same-false x 2 1 0 (λ _ e. absurd (omega arith))) refl;
+    terminal_alone = λ x. rw (
+      same-false x 2 0 1 (λ _ e. absurd (omega arith)),
+      same-false x 2 1 0 (λ _ e. absurd (omega arith)),
+    ) refl;
     first_owned = λ k h. (some, omega arith);
     arrives = λ x d _ _ e. line_ends x d e;
     goes_on = λ x d n in_x in_d e. line_goes x d n in_x in_d e;

@@ -14,7 +14,8 @@ any_list s Kept each (step ∷ steps) old new lead kept =
     ])
 
 -- a step leads to one network alone
-step_unique : (s : Shape) (old new other : Network) (step : Step) → StepsTo s old step new → StepsTo s old step other → new ≡ other
+step_unique : (s : Shape) (old new other : Network) (step : Step) → StepsTo s old step new → StepsTo s old step other
+    → new ≡ other
 step_unique s old new other step h g =
     elim h [
       | inl done ↦ elim g [
@@ -27,16 +28,21 @@ step_unique s old new other step h g =
       ]
     ]
 
-pub steps_unique : (s : Shape) (steps : List Step) (old new other : Network) → StepsLead s old steps new → StepsLead s old steps other → new ≡ other
+pub steps_unique : (s : Shape) (steps : List Step) (old new other : Network) → StepsLead s old steps new
+    → StepsLead s old steps other → new ≡ other
 steps_unique s [] old new other h g = h ∙ sym g
-steps_unique s (step ∷ steps) old new other h g = steps_unique s steps g.0 new other (subst (λ mid. StepsLead s mid steps new) (step_unique s old h.0 g.0 step h.1 g.1) h.2) g.2
+steps_unique s (step ∷ steps) old new other h g =
+    steps_unique s steps g.0 new other (subst (λ mid. StepsLead s mid steps new)
+    (step_unique s old h.0 g.0 step h.1 g.1) h.2) g.2
 
 -- the steps of two lists, one after another
-pub steps-append : (s : Shape) (first then : List Step) (old mid new : Network) → StepsLead s old first mid → StepsLead s mid then new → StepsLead s old (first ++ then) new
+pub steps-append : (s : Shape) (first then : List Step) (old mid new : Network) → StepsLead s old first mid
+    → StepsLead s mid then new → StepsLead s old (first ++ then) new
 steps-append s [] then old mid new h g = subst (λ net. StepsLead s net then new) h g
 steps-append s (step ∷ steps) then old mid new h g = (h.0, h.1, steps-append s steps then h.0 mid new h.2 g)
 
-pub steps-split : (s : Shape) (first then : List Step) (old new : Network) → StepsLead s old (first ++ then) new → (mid : Network) × StepsLead s old first mid × StepsLead s mid then new
+pub steps-split : (s : Shape) (first then : List Step) (old new : Network) → StepsLead s old (first ++ then) new
+    → (mid : Network) × StepsLead s old first mid × StepsLead s mid then new
 steps-split s [] then old new h = (old, refl, h)
 steps-split s (step ∷ steps) then old new h =
     let rest = steps-split s steps then h.0 new h.2 in

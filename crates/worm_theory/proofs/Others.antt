@@ -5,7 +5,9 @@ use Rattle.worm_theory.specs.Shape.{Shape, IsMesh}
 use Rattle.worm_theory.specs.Network.{Network}
 use Rattle.worm_records.specs.declared.InRecord.{InRecord}
 use Rattle.worm_records.specs.declared.InRecord.TheVariants.{Idle, Waiting, Active}
-use Rattle.worm_theory.specs.Steps.{Step, Offer, CloseLane, Feed, Route, Grant, Send, Take, GiveCredit, TakeCredit, IsThere, fed, routed, granted, sent, taken, taken_from, gave, got, after, StepsLead, empty}
+use Rattle.worm_theory.specs.Steps.{Step, Offer, CloseLane, Feed, Route, Grant, Send, Take, GiveCredit, TakeCredit}
+use Rattle.worm_theory.specs.Steps.{IsThere, fed, routed, granted, sent, taken, taken_from, gave, got, after, StepsLead}
+use Rattle.worm_theory.specs.Steps.{empty}
 use Rattle.worm_theory.specs.Sound.{OthersIdle}
 use Rattle.worm_theory.proofs.Places.{place3_cases}
 use Rattle.worm_theory.proofs.Meshes.{is_mesh_port}
@@ -50,7 +52,8 @@ module _ (s : Shape) (mesh : IsMesh s) (net : Network) (idle : OthersIdle s net)
         | inr away ↦ rw away.0 h
       ]
 
-  pub send_others : (x p v : ℕ) (r : InRecord) (fs : List Flit) → net.buffer x p v ≡ fs → OthersIdle s (sent s net x p v r fs)
+  pub send_others : (x p v : ℕ) (r : InRecord) (fs : List Flit) → net.buffer x p v ≡ fs
+      → OthersIdle s (sent s net x p v r fs)
   send_others x p v Idle fs e = idle
   send_others x p v (Waiting o) fs e = idle
   send_others x p v (Active o c) [] e = idle
@@ -64,7 +67,8 @@ module _ (s : Shape) (mesh : IsMesh s) (net : Network) (idle : OthersIdle s net)
         | inr away ↦ rw away.0 h
       ]
 
-  pub take_others_on : (x p y : ℕ) (fs : List Flit) → s.neighbour x p ≡ Some y → OthersIdle s (taken_from net x p y (s.opposite p) fs)
+  pub take_others_on : (x p y : ℕ) (fs : List Flit) → s.neighbour x p ≡ Some y
+      → OthersIdle s (taken_from net x p y (s.opposite p) fs)
   take_others_on x p y [] linked = idle
   take_others_on x p y (f ∷ rest) linked = λ x2 v2 other.
       elim (place3_cases x2 s.terminal v2 x p f.vc) [
@@ -98,5 +102,6 @@ module _ (s : Shape) (mesh : IsMesh s) (net : Network) (idle : OthersIdle s net)
 pub empty_others : (s : Shape) → OthersIdle s (empty s)
 empty_others s x v other = (refl, refl, refl)
 
-pub steps_others : (s : Shape) → IsMesh s → (steps : List Step) (old new : Network) → StepsLead s old steps new → OthersIdle s old → OthersIdle s new
+pub steps_others : (s : Shape) → IsMesh s → (steps : List Step) (old new : Network) → StepsLead s old steps new
+    → OthersIdle s old → OthersIdle s new
 steps_others s mesh = any_list s (OthersIdle s) (λ net step there _ idle. step_others s mesh net idle step there)

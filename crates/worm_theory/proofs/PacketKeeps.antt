@@ -1,5 +1,6 @@
 -- Whatever steps are taken, each packet is cut.
-use Rattle.std.proofs.Common.{◌≡◌, ℕ, suc, zero, ◌<◌, inl, inr, true, List, [], ◌∷◌, ◌++◌, Option, Some, None, IfSome, refl, sym, ap, subst, ◌∙◌, arith, append_assoc, length-append}
+use Rattle.std.proofs.Common.{◌≡◌, ℕ, suc, zero, ◌<◌, inl, inr, true, List, [], ◌∷◌, ◌++◌, Option, Some, None, IfSome}
+use Rattle.std.proofs.Common.{refl, sym, ap, subst, ◌∙◌, arith, append_assoc, length-append}
 use Rattle.std.proofs.lemmas.List.Elements.{All-head}
 use Rattle.worm_flit.specs.declared.Lane.{Lane}
 use Rattle.worm_flit.specs.declared.Flit.{Flit}
@@ -11,10 +12,13 @@ use Rattle.worm_theory.specs.Shape.{Shape, IsMesh, HasLane, Enters}
 use Rattle.worm_theory.specs.Network.{Network}
 use Rattle.worm_records.specs.declared.InRecord.{InRecord}
 use Rattle.worm_records.specs.declared.InRecord.TheVariants.{Idle, Waiting, Active}
-use Rattle.worm_theory.specs.Steps.{Step, Offer, CloseLane, Feed, Route, Grant, Send, Take, GiveCredit, TakeCredit, IsPort, IsThere, offered, fed, routed, granted, sent, sent_by, taken, taken_from, gave, got, after, next_number, empty, StepsLead}
+use Rattle.worm_theory.specs.Steps.{Step, Offer, CloseLane, Feed, Route, Grant, Send, Take, GiveCredit, TakeCredit}
+use Rattle.worm_theory.specs.Steps.{IsPort, IsThere, offered, fed, routed, granted, sent, sent_by, taken, taken_from}
+use Rattle.worm_theory.specs.Steps.{gave, got, after, next_number, empty, StepsLead}
 use Rattle.worm_theory.specs.Sound.{Sound, Passes, Leaves, IsFrom}
 use Rattle.worm_theory.specs.Cut.{underway_from}
-use Rattle.worm_theory.specs.PacketCut.{is_of_packet, packet_held, joined, packet_store, packet_line, PacketsCut, OneWithin, WithinPast, PacketsHold}
+use Rattle.worm_theory.specs.PacketCut.{is_of_packet, packet_held, joined, packet_store, packet_line, PacketsCut}
+use Rattle.worm_theory.specs.PacketCut.{OneWithin, WithinPast, PacketsHold}
 use Rattle.worm_theory.proofs.Places.{place_cases, place3_cases}
 use Rattle.worm_theory.proofs.Cut.{ahead, past, ahead-split}
 use Rattle.worm_theory.proofs.PacketLists.{packet-append, packet-cons, packet_cases}
@@ -27,21 +31,30 @@ use Rattle.worm_theory.proofs.Keeps.{step_sound}
 use Rattle.worm_theory.proofs.Runs.{within-is, nowhere}
 
 -- what a channel is within has passed it
-pub within-passed : (s : Shape) (x p v : ℕ) (last : Option Flit) (g : Flit) → worm_after last ≡ Within g → IfSome last (Passes s x p v) → Enters s g.lane x p
+pub within-passed : (s : Shape) (x p v : ℕ) (last : Option Flit) (g : Flit) → worm_after last ≡ Within g
+    → IfSome last (Passes s x p v) → Enters s g.lane x p
 within-passed s x p v None g e h = cc
-within-passed s x p v (Some f) g e h = subst (λ l. Enters s l x p) (ap (λ (q : Flit). q.lane) (within-is (closes f.kind) f g e)) h.entered
+within-passed s x p v (Some f) g e h = subst (λ l. Enters s l x p)
+    (ap (λ (q : Flit). q.lane) (within-is (closes f.kind) f g e)) h.entered
 
 module _ (s : Shape) (mesh : IsMesh s) where
   pub split_packet : (net : Network) (lane : Lane) (k : ℕ) (there : HasLane s lane) →
-      packet_held lane k (net.out lane.dst s.terminal) ++ (underway_from s (packet_store s net lane k) (packet_line net lane k) lane.dst (s.hops lane.src lane.dst) lane.src s.terminal ++ packet_held lane k (net.unfed lane.src lane.class)) ≡
-      ahead s mesh lane there (packet_store s net lane k) (packet_line net lane k) (s.hops lane.src lane.dst) lane.src s.terminal ++ packet_held lane k (net.unfed lane.src lane.class)
+      packet_held lane k (net.out lane.dst s.terminal)
+      ++ (underway_from s (packet_store s net lane k) (packet_line net lane k) lane.dst
+      (s.hops lane.src lane.dst) lane.src s.terminal ++ packet_held lane k (net.unfed lane.src lane.class)) ≡
+      ahead s mesh lane there (packet_store s net lane k) (packet_line net lane k)
+      (s.hops lane.src lane.dst) lane.src s.terminal ++ packet_held lane k (net.unfed lane.src lane.class)
   split_packet net lane k there =
       rw (
-        ahead-split s mesh lane there (packet_store s net lane k) (packet_line net lane k) (s.hops lane.src lane.dst) lane.src s.terminal there.source refl,
-        append_assoc (packet_held lane k (net.out lane.dst s.terminal)) (underway_from s (packet_store s net lane k) (packet_line net lane k) lane.dst (s.hops lane.src lane.dst) lane.src s.terminal) (packet_held lane k (net.unfed lane.src lane.class)),
+        ahead-split s mesh lane there (packet_store s net lane k) (packet_line net lane k)
+            (s.hops lane.src lane.dst) lane.src s.terminal there.source refl,
+        append_assoc (packet_held lane k (net.out lane.dst s.terminal))
+            (underway_from s (packet_store s net lane k) (packet_line net lane k) lane.dst
+            (s.hops lane.src lane.dst) lane.src s.terminal) (packet_held lane k (net.unfed lane.src lane.class)),
       )
 
-  pub to_packets : (net : Network) → ((lane : Lane) (k : ℕ) (there : HasLane s lane) → PacketCutHolds s mesh lane there k net) → PacketsCut s net
+  pub to_packets : (net : Network) → ((lane : Lane) (k : ℕ) (there : HasLane s lane)
+      → PacketCutHolds s mesh lane there k net) → PacketsCut s net
   to_packets net h lane k there = split_packet net lane k there ∙ h lane k there
 
   module _ (net : Network) (sound : Sound s net) (hold : PacketsHold s net) where
@@ -62,7 +75,9 @@ module _ (s : Shape) (mesh : IsMesh s) where
                   all,
                   packet-append lane k (net.unfed lane.src lane.class) fs,
                   packet-append lane k (net.injected lane.src lane.class) fs,
-                  ← append_assoc (ahead s mesh lane there (packet_store s net lane k) (packet_line net lane k) (s.hops lane.src lane.dst) lane.src s.terminal) (packet_held lane k (net.unfed lane.src lane.class)) (packet_held lane k fs),
+                  ← append_assoc (ahead s mesh lane there (packet_store s net lane k) (packet_line net lane k)
+                      (s.hops lane.src lane.dst) lane.src s.terminal)
+                      (packet_held lane k (net.unfed lane.src lane.class)) (packet_held lane k fs),
                   cut,
                 )
             | inr away ↦ rw away.0 cut
@@ -71,46 +86,64 @@ module _ (s : Shape) (mesh : IsMesh s) where
       within_past = hold.within_past;
     }
 
-    pub feed_packets : (x c : ℕ) (fs : List Flit) → net.unfed x c ≡ fs → c < s.classes → PacketsHold s (fed s net x c fs)
+    pub feed_packets : (x c : ℕ) (fs : List Flit) → net.unfed x c ≡ fs → c < s.classes
+        → PacketsHold s (fed s net x c fs)
     feed_packets x c [] e class_there = hold
     feed_packets x c (f ∷ rest) e class_there =
         let from = All-head (IsFrom s x c) f rest (rw e at (sound.unfed x c)) in
         record {
-          cut = to_packets (fed s net x c (f ∷ rest)) (λ lane k there. packet_feed_cut s mesh lane there k net sound (cut_of lane k there) hold.one hold.within_past x c class_there f rest e from);
+          cut = to_packets (fed s net x c (f ∷ rest))
+              (λ lane k there. packet_feed_cut s mesh lane there k net sound
+              (cut_of lane k there) hold.one hold.within_past x c class_there f rest e from);
           one = hold.one;
           within_past = λ lane k there x2 p2 v2 g entered w l n.
-              rw (feed_past s mesh lane there k net sound (cut_of lane k there) hold.one hold.within_past x c class_there f rest e from x2 p2 entered) (hold.within_past lane k there x2 p2 v2 g entered w l n);
+              rw (feed_past s mesh lane there k net sound
+              (cut_of lane k there) hold.one hold.within_past x c class_there f rest e from x2 p2 entered)
+              (hold.within_past lane k there x2 p2 v2 g entered w l n);
         }
 
-    pub take_packets_on : (x p y : ℕ) (fs : List Flit) → s.neighbour x p ≡ Some y → net.out y (s.opposite p) ≡ fs → PacketsHold s (taken_from net x p y (s.opposite p) fs)
+    pub take_packets_on : (x p y : ℕ) (fs : List Flit) → s.neighbour x p ≡ Some y → net.out y (s.opposite p) ≡ fs
+        → PacketsHold s (taken_from net x p y (s.opposite p) fs)
     take_packets_on x p y [] linked e = hold
     take_packets_on x p y (f ∷ rest) linked e =
         let leaves = All-head (Leaves s y (s.opposite p)) f rest (rw e at (sound.leaving y (s.opposite p))) in
         record {
-          cut = to_packets (taken_from net x p y (s.opposite p) (f ∷ rest)) (λ lane k there. packet_take_cut s mesh lane there k net sound (cut_of lane k there) hold.one hold.within_past x p y linked f rest e leaves);
+          cut = to_packets (taken_from net x p y (s.opposite p) (f ∷ rest))
+              (λ lane k there. packet_take_cut s mesh lane there k net sound
+              (cut_of lane k there) hold.one hold.within_past x p y linked f rest e leaves);
           one = hold.one;
           within_past = λ lane k there x2 p2 v2 g entered w l n.
-              rw (take_past s mesh lane there k net sound (cut_of lane k there) hold.one hold.within_past x p y linked f rest e leaves x2 p2 entered) (hold.within_past lane k there x2 p2 v2 g entered w l n);
+              rw (take_past s mesh lane there k net sound
+              (cut_of lane k there) hold.one hold.within_past x p y linked f rest e leaves x2 p2 entered)
+              (hold.within_past lane k there x2 p2 v2 g entered w l n);
         }
 
     pub take_packets : (x p : ℕ) (end : Option ℕ) → s.neighbour x p ≡ end → PacketsHold s (taken s net x p end)
     take_packets x p None e = hold
     take_packets x p (Some y) e = take_packets_on x p y (net.out y (s.opposite p)) e refl
 
-    module _ (x p v o d : ℕ) (f : Flit) (rest : List Flit) (front : net.buffer x p v ≡ f ∷ rest) (pass : Passes s x p v f) (leads : s.next_port x f.lane.dst ≡ o) (follows : MayCome (worm_after (net.last_out x p v)) f) where
+    module _ (x p v o d : ℕ) (f : Flit) (rest : List Flit) (front : net.buffer x p v ≡ f ∷ rest)
+        (pass : Passes s x p v f) (leads : s.next_port x f.lane.dst ≡ o)
+        (follows : MayCome (worm_after (net.last_out x p v)) f) where
       own_first : packet_held f.lane f.packet (net.buffer x p v) ≡ bare f ∷ packet_held f.lane f.packet rest
       own_first =
-          let test : is_of_packet f.lane f.packet f ≡ true = elim (packet_cases f.lane f.packet f) [ inl on ↦ on.0 | inr off ↦ absurd (off.1 refl refl) ] in
+          let test : is_of_packet f.lane f.packet f ≡ true =
+          elim (packet_cases f.lane f.packet f) [ inl on ↦ on.0 | inr off ↦ absurd (off.1 refl refl) ] in
           rw (front, packet-cons f.lane f.packet f rest, test)
 
-      pub send_new_at : (w : Worm) → worm_after (net.last_out x p v) ≡ w → MayCome w f → (p3 v3 : ℕ) (g : Flit) → worm_after (net.last_out x p3 v3) ≡ Within g → g.lane ≡ f.lane → g.packet ≡ f.packet → (p3 ≡ p) × (v3 ≡ v)
+      pub send_new_at : (w : Worm) → worm_after (net.last_out x p v) ≡ w → MayCome w f → (p3 v3 : ℕ) (g : Flit)
+          → worm_after (net.last_out x p3 v3) ≡ Within g → g.lane ≡ f.lane → g.packet ≡ f.packet → (p3 ≡ p) × (v3 ≡ v)
       send_new_at Between e fol p3 v3 g e3 l n =
-          let entered = subst (λ q. Enters s q x p3) l (within-passed s x p3 v3 (net.last_out x p3 v3) g e3 (sound.passed x p3 v3)) in
+          let entered = subst (λ q. Enters s q x p3) l
+          (within-passed s x p3 v3 (net.last_out x p3 v3) g e3 (sound.passed x p3 v3)) in
           let some = hold.within_past f.lane f.packet pass.lane_there x p3 v3 g entered e3 (sym l) (sym n) in
-          absurd (stored_first s mesh f.lane pass.lane_there f.packet net sound (cut_of f.lane f.packet pass.lane_there) hold.one hold.within_past pass.entered v pass.owned.0 (bare f) (packet_held f.lane f.packet rest) own_first fol.1 some)
+          absurd (stored_first s mesh f.lane pass.lane_there f.packet net sound
+          (cut_of f.lane f.packet pass.lane_there) hold.one hold.within_past pass.entered v pass.owned.0 (bare f)
+          (packet_held f.lane f.packet rest) own_first fol.1 some)
       send_new_at (Within h) e fol p3 v3 g e3 l n = hold.one x p3 v3 p v g h e3 e (l ∙ fol.1) (n ∙ fol.2)
 
-      pub send_new : (p3 v3 : ℕ) (g : Flit) → worm_after (net.last_out x p3 v3) ≡ Within g → g.lane ≡ f.lane → g.packet ≡ f.packet → (p3 ≡ p) × (v3 ≡ v)
+      pub send_new : (p3 v3 : ℕ) (g : Flit) → worm_after (net.last_out x p3 v3) ≡ Within g → g.lane ≡ f.lane
+          → g.packet ≡ f.packet → (p3 ≡ p) × (v3 ≡ v)
       send_new = send_new_at (worm_after (net.last_out x p v)) refl follows
 
       pub send_one : OneWithin (sent_by s net x p v o d f rest)
@@ -122,7 +155,8 @@ module _ (s : Shape) (mesh : IsMesh s) where
                   | inl b ↦ (a.2 ∙ sym b.2, a.3 ∙ sym b.3)
                   | inr b ↦
                       let old = rw (b.0, a.1) at e2 in
-                      let at = send_new p3 v3 g2 old (sym l ∙ sym (ap (λ (q : Flit). q.lane) is_f)) (sym n ∙ sym (ap (λ (q : Flit). q.packet) is_f)) in
+                      let at = send_new p3 v3 g2 old (sym l ∙ sym (ap (λ (q : Flit). q.lane) is_f))
+                      (sym n ∙ sym (ap (λ (q : Flit). q.packet) is_f)) in
                       (a.2 ∙ sym at.0, a.3 ∙ sym at.1)
                 ]
             | inr a ↦
@@ -130,7 +164,8 @@ module _ (s : Shape) (mesh : IsMesh s) where
                   | inl b ↦
                       let is_f = within-is (closes f.kind) f g2 (rw b.0 at e2) in
                       let old = rw (a.0, b.1) at e1 in
-                      let at = send_new p2 v2 g old (l ∙ sym (ap (λ (q : Flit). q.lane) is_f)) (n ∙ sym (ap (λ (q : Flit). q.packet) is_f)) in
+                      let at = send_new p2 v2 g old (l ∙ sym (ap (λ (q : Flit). q.lane) is_f))
+                      (n ∙ sym (ap (λ (q : Flit). q.packet) is_f)) in
                       (at.0 ∙ sym b.2, at.1 ∙ sym b.3)
                   | inr b ↦ hold.one x2 p2 v2 p3 v3 g g2 (rw a.0 at e1) (rw b.0 at e2) l n
                 ]
@@ -145,25 +180,32 @@ module _ (s : Shape) (mesh : IsMesh s) where
                   | inl on ↦
                       rw (
                         here.1,
-                        past_more s mesh lane there k net sound (cut_of lane k there) hold.one hold.within_past x p v o d f rest front pass leads on.0 on.1,
-                        length-append (past s mesh lane there (packet_store s net lane k) (packet_line net lane k) (s.hops x lane.dst) x) (bare f ∷ []),
+                        past_more s mesh lane there k net sound
+                            (cut_of lane k there) hold.one hold.within_past x p v o d f rest front pass leads on.0 on.1,
+                        length-append (past s mesh lane there (packet_store s net lane k) (packet_line net lane k)
+                            (s.hops x lane.dst) x) (bare f ∷ []),
                       ) (omega arith)
-                  | inr off ↦ absurd (off.1 (l ∙ sym (ap (λ (q : Flit). q.lane) is_f)) (n ∙ sym (ap (λ (q : Flit). q.packet) is_f)))
+                  | inr off ↦ absurd (off.1 (l ∙ sym (ap (λ (q : Flit). q.lane) is_f))
+                      (n ∙ sym (ap (λ (q : Flit). q.packet) is_f)))
                 ]
             | inr away ↦
                 let old = hold.within_past lane k there x2 p2 v2 g entered (rw away.0 at e) l n in
-                let stays = past_stays s mesh lane there k net sound (cut_of lane k there) hold.one hold.within_past x p v o d f rest front pass leads x2 p2 entered in
+                let stays = past_stays s mesh lane there k net sound
+                (cut_of lane k there) hold.one hold.within_past x p v o d f rest front pass leads x2 p2 entered in
                 omega arith
           ]
 
       pub send_packets_by : PacketsHold s (sent_by s net x p v o d f rest)
       send_packets_by = record {
-        cut = to_packets (sent_by s net x p v o d f rest) (λ lane k there. packet_send_cut s mesh lane there k net sound (cut_of lane k there) hold.one hold.within_past x p v o d f rest front pass leads);
+        cut = to_packets (sent_by s net x p v o d f rest)
+            (λ lane k there. packet_send_cut s mesh lane there k net sound
+            (cut_of lane k there) hold.one hold.within_past x p v o d f rest front pass leads);
         one = send_one;
         within_past = send_within;
       }
 
-    pub send_packets : (x p v : ℕ) (r : InRecord) (fs : List Flit) → net.in_record x p v ≡ r → net.buffer x p v ≡ fs → IsPort s x p → PacketsHold s (sent s net x p v r fs)
+    pub send_packets : (x p v : ℕ) (r : InRecord) (fs : List Flit) → net.in_record x p v ≡ r → net.buffer x p v ≡ fs
+        → IsPort s x p → PacketsHold s (sent s net x p v r fs)
     send_packets x p v Idle fs e1 e2 port = hold
     send_packets x p v (Waiting o) fs e1 e2 port = hold
     send_packets x p v (Active o d) [] e1 e2 port = hold
@@ -205,7 +247,8 @@ module _ (s : Shape) (mesh : IsMesh s) where
   nothing_stored zero = refl
   nothing_stored (suc n) = rw (nothing_stored n)
 
-  nothing_ahead : (lane : Lane) (there : HasLane s lane) (k n x p : ℕ) → x < s.nodes → s.hops x lane.dst ≡ n → ahead s mesh lane there (packet_store s (empty s) lane k) (packet_line (empty s) lane k) n x p ≡ []
+  nothing_ahead : (lane : Lane) (there : HasLane s lane) (k n x p : ℕ) → x < s.nodes → s.hops x lane.dst ≡ n
+      → ahead s mesh lane there (packet_store s (empty s) lane k) (packet_line (empty s) lane k) n x p ≡ []
   nothing_ahead lane there k zero x p in_mesh e = nothing_stored s.channels
   nothing_ahead lane there k (suc n) x p in_mesh e =
       let on = mesh.goes_on x lane.dst n in_mesh there.destination e in
@@ -215,11 +258,17 @@ module _ (s : Shape) (mesh : IsMesh s) where
 
   pub empty_packets : PacketsHold s (empty s)
   empty_packets = record {
-    cut = to_packets (empty s) (λ lane k there. rw (nothing_ahead lane there k (s.hops lane.src lane.dst) lane.src s.terminal there.source refl));
+    cut = to_packets (empty s) (λ lane k there. rw
+        (nothing_ahead lane there k (s.hops lane.src lane.dst) lane.src s.terminal there.source refl));
     one = λ x p v p2 v2 g g2 e e2 l n. absurd (nowhere g e);
     within_past = λ lane k there x p v g entered e l n. absurd (nowhere g e);
   }
 
-  pub steps_packets : (steps : List Step) (old new : Network) → StepsLead s old steps new → Sound s old → PacketsHold s old → PacketsHold s new
+  pub steps_packets : (steps : List Step) (old new : Network) → StepsLead s old steps new → Sound s old
+      → PacketsHold s old → PacketsHold s new
   steps_packets steps old new lead sound hold =
-      (any_list s (λ net. Sound s net × PacketsHold s net) (λ net step at enabled kept. (step_sound s mesh net step at enabled kept.0, step_packets net kept.0 kept.1 step at)) steps old new lead (sound, hold)).1
+      (any_list s (λ net. Sound s net × PacketsHold s net)
+      (λ net step at enabled kept. (
+        step_sound s mesh net step at enabled kept.0,
+        step_packets net kept.0 kept.1 step at,
+      )) steps old new lead (sound, hold)).1

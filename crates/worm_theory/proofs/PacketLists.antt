@@ -1,5 +1,7 @@
 -- Lists of one packet's flits.
-use Rattle.std.proofs.Common.{◌≡◌, ℕ, suc, zero, ◌+◌, ◌<◌, ◌≤◌, ◌⊎◌, inl, inr, true, false, cond, ◌==◌, List, [], ◌∷◌, ◌++◌, filter, length, count_by, refl, sym, ap, ◌∙◌, arith, append_assoc, append-nil, eq-eqb}
+use Rattle.std.proofs.Common.{◌≡◌, ℕ, suc, zero, ◌+◌, ◌<◌, ◌≤◌, ◌⊎◌, inl, inr, true, false, cond, ◌==◌, List, [], ◌∷◌}
+use Rattle.std.proofs.Common.{◌++◌, filter, length, count_by, refl, sym, ap, ◌∙◌, arith, append_assoc, append-nil}
+use Rattle.std.proofs.Common.{eq-eqb}
 use Rattle.std.proofs.lemmas.List.Sums.{sum_by-append, sum_by-cons}
 use Rattle.worm_flit.specs.declared.Lane.{Lane}
 use Rattle.worm_flit.specs.declared.Flit.{Flit}
@@ -16,15 +18,23 @@ use Rattle.worm_theory.proofs.Cut.{one-cons}
 abbrev pub packet_one : Lane → ℕ → Flit → List Flit
 packet_one lane k f = cond (is_of_packet lane k f) (bare f ∷ []) []
 
-pub packet-cons : (lane : Lane) (k : ℕ) (f : Flit) (fs : List Flit) → packet_held lane k (f ∷ fs) ≡ packet_one lane k f ++ packet_held lane k fs
+pub packet-cons : (lane : Lane) (k : ℕ) (f : Flit) (fs : List Flit)
+    → packet_held lane k (f ∷ fs) ≡ packet_one lane k f ++ packet_held lane k fs
 packet-cons lane k f fs = one-cons (is_of_packet lane k f) f (filter (is_of_packet lane k) fs)
 
-pub packet-append : (lane : Lane) (k : ℕ) (fs gs : List Flit) → packet_held lane k (fs ++ gs) ≡ packet_held lane k fs ++ packet_held lane k gs
+pub packet-append : (lane : Lane) (k : ℕ) (fs gs : List Flit)
+    → packet_held lane k (fs ++ gs) ≡ packet_held lane k fs ++ packet_held lane k gs
 packet-append lane k [] gs = refl
 packet-append lane k (f ∷ fs) gs =
-    rw (packet-cons lane k f (fs ++ gs), packet-cons lane k f fs, packet-append lane k fs gs, append_assoc (packet_one lane k f) (packet_held lane k fs) (packet_held lane k gs))
+    rw (
+      packet-cons lane k f (fs ++ gs),
+      packet-cons lane k f fs,
+      packet-append lane k fs gs,
+      append_assoc (packet_one lane k f) (packet_held lane k fs) (packet_held lane k gs),
+    )
 
-pub packet-push : (lane : Lane) (k : ℕ) (fs : List Flit) (f : Flit) → packet_held lane k (fs ++ f ∷ []) ≡ packet_held lane k fs ++ packet_one lane k f
+pub packet-push : (lane : Lane) (k : ℕ) (fs : List Flit) (f : Flit)
+    → packet_held lane k (fs ++ f ∷ []) ≡ packet_held lane k fs ++ packet_one lane k f
 packet-push lane k fs f = rw (packet-append lane k fs (f ∷ []), packet-cons lane k f [], append-nil)
 
 lane_differs : (other lane : Lane) → is_same_lane other lane ≡ false → other ≡ lane → ⊥
@@ -32,11 +42,14 @@ lane_differs other lane off e =
     let src = ap (λ (l : Lane). l.src) (sym e) in
     let dst = ap (λ (l : Lane). l.dst) (sym e) in
     let class = ap (λ (l : Lane). l.class) (sym e) in
-    let on : is_same_lane other lane ≡ true = rw (eq-eqb lane.src other.src src, eq-eqb lane.dst other.dst dst, eq-eqb lane.class other.class class) in
+    let on : is_same_lane other lane ≡ true =
+    rw (eq-eqb lane.src other.src src, eq-eqb lane.dst other.dst dst, eq-eqb lane.class other.class class) in
     cc
 
 -- whether a flit is of the packet
-pub packet_cases : (lane : Lane) (k : ℕ) (f : Flit) → ((is_of_packet lane k f ≡ true) × (lane ≡ f.lane) × (k ≡ f.packet)) ⊎ ((is_of_packet lane k f ≡ false) × (lane ≡ f.lane → k ≡ f.packet → ⊥))
+pub packet_cases : (lane : Lane) (k : ℕ) (f : Flit)
+    → ((is_of_packet lane k f ≡ true) × (lane ≡ f.lane) × (k ≡ f.packet))
+    ⊎ ((is_of_packet lane k f ≡ false) × (lane ≡ f.lane → k ≡ f.packet → ⊥))
 packet_cases lane k f =
     elim (same_lane_cases lane f.lane) [
       | inl on ↦ elim (number_cases k f.packet) [
@@ -56,7 +69,8 @@ module _ (lane : Lane) (k : ℕ) where
   first-here Between f h e1 e2 = inl h.1
   first-here (Within g) f h e1 e2 = inr (g, refl, e1 ∙ h.1, e2 ∙ h.2)
 
-  pub first_of_packet : (fs : List Flit) (a c : Worm) (b : Flit) (bs : List Flit) → Runs a fs c → packet_held lane k fs ≡ b ∷ bs → (b.index ≡ 0) ⊎ IsOn lane k a
+  pub first_of_packet : (fs : List Flit) (a c : Worm) (b : Flit) (bs : List Flit) → Runs a fs c
+      → packet_held lane k fs ≡ b ∷ bs → (b.index ≡ 0) ⊎ IsOn lane k a
   first_of_packet [] a c b bs h e = cc
   first_of_packet (f ∷ fs) a c b bs h e =
       elim (packet_cases lane k f) [
@@ -73,7 +87,8 @@ module _ (lane : Lane) (k : ℕ) where
               | inl opens ↦ inl opens
               | inr goes_on ↦
                   let last = within-is (closes f.kind) f goes_on.0 goes_on.1 in
-                  absurd (other.1 (goes_on.2 ∙ sym (ap (λ (g : Flit). g.lane) last)) (goes_on.3 ∙ sym (ap (λ (g : Flit). g.packet) last)))
+                  absurd (other.1 (goes_on.2 ∙ sym (ap (λ (g : Flit). g.lane) last))
+                  (goes_on.3 ∙ sym (ap (λ (g : Flit). g.packet) last)))
             ]
       ]
 
@@ -97,7 +112,11 @@ IsIndexed i (f ∷ fs) = (f.index ≡ i) × IsIndexed (i + 1) fs
 no-zeros : (i : ℕ) (fs : List Flit) → 0 < i → IsIndexed i fs → zeros fs ≡ 0
 no-zeros i [] pos h = refl
 no-zeros i (f ∷ fs) pos h =
-    let off : (f.index == 0) ≡ false = elim (number_cases f.index 0) [ inl at ↦ let e = h.0 in let z = at.1 in absurd (omega arith) | inr away ↦ away.0 ] in
+    let off : (f.index == 0) ≡ false = elim (number_cases f.index 0) [
+      | inl at ↦ let e = h.0 in let z = at.1 in
+          absurd (omega arith)
+      | inr away ↦ away.0
+    ] in
     rw (zeros-cons f fs, off, no-zeros (i + 1) fs (omega arith) h.1)
 
 pub zeros-le-one : (fs : List Flit) → IsIndexed 0 fs → zeros fs ≤ 1
@@ -150,7 +169,8 @@ joined-at (suc n) v a l =
           rw sum (omega arith)
     ]
 
-pub joined-two : (n v w : ℕ) (a : ℕ → List Flit) → v < n → w < n → (v ≡ w → ⊥) → zeros (a v) + zeros (a w) ≤ zeros (joined n a)
+pub joined-two : (n v w : ℕ) (a : ℕ → List Flit) → v < n → w < n → (v ≡ w → ⊥)
+    → zeros (a v) + zeros (a w) ≤ zeros (joined n a)
 joined-two zero v w a l m apart = absurd (omega arith)
 joined-two (suc n) v w a l m apart =
     let sum = zeros-append (joined n a) (a n) in

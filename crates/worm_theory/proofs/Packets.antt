@@ -1,5 +1,6 @@
 -- The flits of a packet: whole, of its lane, closed once.
-use Rattle.std.proofs.Common.{◌≡◌, ℕ, ◌+◌, ◌<◌, Bool, true, false, cond, ◌⊎◌, inl, inr, ◌==◌, ◌&&◌, List, [], ◌∷◌, length, All, refl, sym, ap, ◌∙◌, arith}
+use Rattle.std.proofs.Common.{◌≡◌, ℕ, ◌+◌, ◌<◌, Bool, true, false, cond, ◌⊎◌, inl, inr, ◌==◌, ◌&&◌, List, [], ◌∷◌}
+use Rattle.std.proofs.Common.{length, All, refl, sym, ap, ◌∙◌, arith}
 use Rattle.std.proofs.lemmas.List.Elements.{All-nil, All-cons}
 use Rattle.std.proofs.lemmas.List.Sums.{sum_by-cons}
 use Rattle.worm_flit.specs.declared.Lane.{Lane}
@@ -12,9 +13,11 @@ use Rattle.worm_theory.specs.Worm.{Between, Within, Runs}
 use Rattle.worm_theory.proofs.Places.{number_cases}
 use Rattle.worm_theory.specs.Steps.{packets_in, has_mark}
 
-later-runs : (lane : Lane) (n i w : ℕ) (ws : List ℕ) (g : Flit) → g.lane ≡ lane → g.packet ≡ n → g.index + 1 ≡ i → Runs (Within g) (later_flits lane n i (w ∷ ws)) Between
+later-runs : (lane : Lane) (n i w : ℕ) (ws : List ℕ) (g : Flit) → g.lane ≡ lane → g.packet ≡ n → g.index + 1 ≡ i
+    → Runs (Within g) (later_flits lane n i (w ∷ ws)) Between
 later-runs lane n i w [] g l k e = ((refl, sym l, sym k, sym e), refl)
-later-runs lane n i w (v ∷ ws) g l k e = ((refl, sym l, sym k, sym e), later-runs lane n (i + 1) v ws (bare (flit lane n i Body w)) refl refl refl)
+later-runs lane n i w (v ∷ ws) g l k e =
+    ((refl, sym l, sym k, sym e), later-runs lane n (i + 1) v ws (bare (flit lane n i Body w)) refl refl refl)
 
 pub packet-runs : (lane : Lane) (n : ℕ) (ws : List ℕ) → Runs Between (packet_flits lane n ws) Between
 packet-runs lane n [] = refl
@@ -26,18 +29,21 @@ module _ (P : Flit → Type 0) (lane : Lane) (n : ℕ) (each : (f : Flit) → f.
   later-all : (i : ℕ) (ws : List ℕ) → All P (later_flits lane n i ws)
   later-all i [] = All-nil P
   later-all i (w ∷ []) = All-cons P (flit lane n i Tail w) [] (each (flit lane n i Tail w) refl) (All-nil P)
-  later-all i (w ∷ v ∷ ws) = All-cons P (flit lane n i Body w) (later_flits lane n (i + 1) (v ∷ ws)) (each (flit lane n i Body w) refl) (later-all (i + 1) (v ∷ ws))
+  later-all i (w ∷ v ∷ ws) = All-cons P (flit lane n i Body w) (later_flits lane n (i + 1) (v ∷ ws))
+      (each (flit lane n i Body w) refl) (later-all (i + 1) (v ∷ ws))
 
   pub packet-all : (ws : List ℕ) → All P (packet_flits lane n ws)
   packet-all [] = All-nil P
   packet-all (w ∷ []) = All-cons P (flit lane n 0 Single w) [] (each (flit lane n 0 Single w) refl) (All-nil P)
-  packet-all (w ∷ v ∷ ws) = All-cons P (flit lane n 0 Head w) (later_flits lane n 1 (v ∷ ws)) (each (flit lane n 0 Head w) refl) (later-all 1 (v ∷ ws))
+  packet-all (w ∷ v ∷ ws) = All-cons P (flit lane n 0 Head w) (later_flits lane n 1 (v ∷ ws))
+      (each (flit lane n 0 Head w) refl) (later-all 1 (v ∷ ws))
 
 -- of one lane all flits are, or none
 abbrev pub is_same_lane : Lane → Lane → Bool
 is_same_lane other lane = (lane.src == other.src) && (lane.dst == other.dst) && (lane.class == other.class)
 
-pub same_lane_cases : (other lane : Lane) → ((is_same_lane other lane ≡ true) × (other ≡ lane)) ⊎ (is_same_lane other lane ≡ false)
+pub same_lane_cases : (other lane : Lane)
+    → ((is_same_lane other lane ≡ true) × (other ≡ lane)) ⊎ (is_same_lane other lane ≡ false)
 same_lane_cases other lane =
     elim (number_cases lane.src other.src) [
       | inl a ↦ elim (number_cases lane.dst other.dst) [
@@ -51,12 +57,14 @@ same_lane_cases other lane =
     ]
 
 module _ (other lane : Lane) (n : ℕ) where
-  later-own : is_same_lane other lane ≡ true → (i : ℕ) (ws : List ℕ) → of_lane other (later_flits lane n i ws) ≡ later_flits lane n i ws
+  later-own : is_same_lane other lane ≡ true → (i : ℕ) (ws : List ℕ)
+      → of_lane other (later_flits lane n i ws) ≡ later_flits lane n i ws
   later-own e i [] = refl
   later-own e i (w ∷ []) = rw e
   later-own e i (w ∷ v ∷ ws) = rw e (ap (λ fs. flit lane n i Body w ∷ fs) (later-own e (i + 1) (v ∷ ws)))
 
-  pub packet-own : is_same_lane other lane ≡ true → (ws : List ℕ) → of_lane other (packet_flits lane n ws) ≡ packet_flits lane n ws
+  pub packet-own : is_same_lane other lane ≡ true → (ws : List ℕ)
+      → of_lane other (packet_flits lane n ws) ≡ packet_flits lane n ws
   packet-own e [] = refl
   packet-own e (w ∷ []) = rw e
   packet-own e (w ∷ v ∷ ws) = rw e (ap (λ fs. flit lane n 0 Head w ∷ fs) (later-own e 1 (v ∷ ws)))
@@ -74,12 +82,14 @@ module _ (other lane : Lane) (n : ℕ) where
 module _ (lane : Lane) (n : ℕ) where
   later-closes : (i w : ℕ) (ws : List ℕ) → packets_in (later_flits lane n i (w ∷ ws)) ≡ 1
   later-closes i w [] = refl
-  later-closes i w (v ∷ ws) = sum_by-cons (λ (f : Flit). cond (closes f.kind) 1 0) (flit lane n i Body w) (later_flits lane n (i + 1) (v ∷ ws)) ∙ ap (λ m. 0 + m) (later-closes (i + 1) v ws)
+  later-closes i w (v ∷ ws) = sum_by-cons (λ (f : Flit). cond (closes f.kind) 1 0) (flit lane n i Body w)
+      (later_flits lane n (i + 1) (v ∷ ws)) ∙ ap (λ m. 0 + m) (later-closes (i + 1) v ws)
 
   pub packet-closes : (ws : List ℕ) → 0 < length ws → packets_in (packet_flits lane n ws) ≡ 1
   packet-closes [] h = absurd (omega arith)
   packet-closes (w ∷ []) h = refl
-  packet-closes (w ∷ v ∷ ws) h = sum_by-cons (λ (f : Flit). cond (closes f.kind) 1 0) (flit lane n 0 Head w) (later_flits lane n 1 (v ∷ ws)) ∙ ap (λ m. 0 + m) (later-closes 1 v ws)
+  packet-closes (w ∷ v ∷ ws) h = sum_by-cons (λ (f : Flit). cond (closes f.kind) 1 0) (flit lane n 0 Head w)
+      (later_flits lane n 1 (v ∷ ws)) ∙ ap (λ m. 0 + m) (later-closes 1 v ws)
 
   later-unmarked : (i : ℕ) (ws : List ℕ) → has_mark (later_flits lane n i ws) ≡ false
   later-unmarked i [] = refl

@@ -20,7 +20,8 @@ pub and_false_r : (x y : Bool) → y ≡ false → (x && y) ≡ false
 and_false_r true y q = q
 and_false_r false y q = refl
 
-pub place_cases : (i j a b : ℕ) → ((same i j a b ≡ true) × (i ≡ a) × (j ≡ b)) ⊎ ((same i j a b ≡ false) × (i ≡ a → j ≡ b → ⊥))
+pub place_cases : (i j a b : ℕ) → ((same i j a b ≡ true) × (i ≡ a) × (j ≡ b))
+    ⊎ ((same i j a b ≡ false) × (i ≡ a → j ≡ b → ⊥))
 place_cases i j a b =
     elim (number_cases i a) [
       | inl p ↦ elim (number_cases j b) [
@@ -36,7 +37,8 @@ same-true i j a b p q = elim (place_cases i j a b) [ inl h ↦ h.0 | inr h ↦ a
 pub same-false : (i j a b : ℕ) → (i ≡ a → j ≡ b → ⊥) → same i j a b ≡ false
 same-false i j a b n = elim (place_cases i j a b) [ inl h ↦ absurd (n h.1 h.2) | inr h ↦ h.0 ]
 
-pub place3_cases : (i j k a b c : ℕ) → ((same3 i j k a b c ≡ true) × (i ≡ a) × (j ≡ b) × (k ≡ c)) ⊎ ((same3 i j k a b c ≡ false) × (i ≡ a → j ≡ b → k ≡ c → ⊥))
+pub place3_cases : (i j k a b c : ℕ) → ((same3 i j k a b c ≡ true) × (i ≡ a) × (j ≡ b) × (k ≡ c))
+    ⊎ ((same3 i j k a b c ≡ false) × (i ≡ a → j ≡ b → k ≡ c → ⊥))
 place3_cases i j k a b c =
     elim (place_cases i j a b) [
       | inl p ↦ elim (number_cases k c) [

@@ -8,7 +8,8 @@ use Rattle.worm_theory.specs.Steps.{routed}
 use Rattle.worm_theory.specs.Sound.{RecordsAgree, HoldersAgree, Sound}
 use Rattle.worm_theory.proofs.Places.{place3_cases}
 
-module _ (s : Shape) (net : Network) (x p v : ℕ) (idle : net.in_record x p v ≡ Idle) (f : Flit) (rest : List Flit) (front : net.buffer x p v ≡ f ∷ rest) where
+module _ (s : Shape) (net : Network) (x p v : ℕ) (idle : net.in_record x p v ≡ Idle) (f : Flit) (rest : List Flit)
+    (front : net.buffer x p v ≡ f ∷ rest) where
   pub route_records : RecordsAgree s net → RecordsAgree s (routed s net x p v (f ∷ rest))
   route_records sound x2 p2 v2 =
       let h = sound x2 p2 v2 in

@@ -26,10 +26,13 @@ MayCome-channel Between f c p = p
 MayCome-channel (Within g) f c p = p
 
 -- a flit goes from the front of the second list to the end of the first, perhaps onto another channel
-pub Runs-shift : (fs : List Flit) (f : Flit) (c : ℕ) (gs : List Flit) (a b : Worm) → Runs a (fs ++ f ∷ gs) b → Runs a ((fs ++ with_channel f c ∷ []) ++ gs) b
+pub Runs-shift : (fs : List Flit) (f : Flit) (c : ℕ) (gs : List Flit) (a b : Worm) → Runs a (fs ++ f ∷ gs) b
+    → Runs a ((fs ++ with_channel f c ∷ []) ++ gs) b
 Runs-shift [] f c gs a b p = (MayCome-channel a f c p.0, p.1)
 Runs-shift (g ∷ fs) f c gs a b p = (p.0, Runs-shift fs f c gs (after_flit g) b p.1)
 
 -- one more at the end
-pub Runs-push : (fs gs : List Flit) (f : Flit) (a b : Worm) → Runs a (fs ++ gs) b → MayCome b f → Runs a (fs ++ (gs ++ f ∷ [])) (after_flit f)
-Runs-push fs gs f a b p q = rw (← append_assoc fs gs (f ∷ [])) (Runs-append (fs ++ gs) (f ∷ []) a b (after_flit f) p (q, refl))
+pub Runs-push : (fs gs : List Flit) (f : Flit) (a b : Worm) → Runs a (fs ++ gs) b → MayCome b f
+    → Runs a (fs ++ (gs ++ f ∷ [])) (after_flit f)
+Runs-push fs gs f a b p q = rw (← append_assoc fs gs (f ∷ []))
+    (Runs-append (fs ++ gs) (f ∷ []) a b (after_flit f) p (q, refl))

@@ -1,5 +1,6 @@
 -- No two flits that a lane's source accepted have the same stamp.
-use Rattle.std.proofs.Common.{◌≡◌, ℕ, ◌+◌, ◌<◌, ◌≤◌, ◌⊎◌, inl, inr, Bool, false, List, [], ◌∷◌, ◌++◌, map, refl, subst, sym, arith}
+use Rattle.std.proofs.Common.{◌≡◌, ℕ, ◌+◌, ◌<◌, ◌≤◌, ◌⊎◌, inl, inr, Bool, false, List, [], ◌∷◌, ◌++◌, map, refl, subst}
+use Rattle.std.proofs.Common.{sym, arith}
 use Rattle.std.specs.List.{IsDistinct, AllByRecursion}
 use Rattle.worm_flit.specs.declared.Lane.{Lane}
 use Rattle.worm_flit.specs.declared.Flit.{Flit}
@@ -32,9 +33,15 @@ rises-earlier : (a b n i : ℕ) (fs : List Flit) → (a < n) ⊎ ((a ≡ n) × (
 rises-earlier a b n i [] h r = tt
 rises-earlier a b n i (f ∷ fs) h r = (from-earlier a b n i f h r.0, r.1)
 
-rises-append : (a b n : ℕ) (fs gs : List Flit) → (a < n) ⊎ ((a ≡ n) × (b ≡ 0)) → Rises a b fs → AreBelow n fs → Rises n 0 gs → Rises a b (fs ++ gs)
-rises-append a b n [] gs h r below rest = rises-earlier a b n 0 gs (elim h [ inl less ↦ inl less | inr same ↦ inr (same.0, let e = same.1 in omega arith) ]) rest
-rises-append a b n (f ∷ fs) gs h r below rest = (r.0, rises-append f.packet (f.index + 1) n fs gs (inl below.0) r.1 below.1 rest)
+rises-append : (a b n : ℕ) (fs gs : List Flit) → (a < n) ⊎ ((a ≡ n) × (b ≡ 0)) → Rises a b fs → AreBelow n fs
+    → Rises n 0 gs → Rises a b (fs ++ gs)
+rises-append a b n [] gs h r below rest =
+    rises-earlier a b n 0 gs (elim h [
+      | inl less ↦ inl less
+      | inr same ↦ inr (same.0, let e = same.1 in omega arith)
+    ]) rest
+rises-append a b n (f ∷ fs) gs h r below rest =
+    (r.0, rises-append f.packet (f.index + 1) n fs gs (inl below.0) r.1 below.1 rest)
 
 below-append : (n m : ℕ) (fs gs : List Flit) → n ≤ m → AreBelow n fs → AreBelow m gs → AreBelow m (fs ++ gs)
 below-append n m [] gs le below rest = rest
@@ -67,14 +74,19 @@ start a n e = grind arith
 history-rises : (lane : Lane) {n : ℕ} {b : Bool} {fs : List Flit} → History lane n b fs → Rises 0 0 fs × AreBelow n fs
 history-rises lane fresh = (tt, tt)
 history-rises lane (packet {n} {fs} ws some few h) =
-    let before = history-rises lane h in
-    (rises-append 0 0 n fs (packet_flits lane n ws) (start 0 n refl) before.0 before.1 (packet-rises lane n ws), below-append n (n + 1) fs (packet_flits lane n ws) (omega arith) before.1 (packet-below lane n ws))
+    let before = history-rises lane h in (
+      rises-append 0 0 n fs (packet_flits lane n ws) (start 0 n refl) before.0 before.1 (packet-rises lane n ws),
+      below-append n (n + 1) fs (packet_flits lane n ws) (omega arith) before.1 (packet-below lane n ws),
+    )
 history-rises lane (closed {n} {fs} h) =
-    let before = history-rises lane h in
-    (rises-append 0 0 n fs _ (start 0 n refl) before.0 before.1 (inr (refl, omega arith), tt), below-append n (n + 1) fs _ (omega arith) before.1 (omega arith, tt))
+    let before = history-rises lane h in (
+      rises-append 0 0 n fs _ (start 0 n refl) before.0 before.1 (inr (refl, omega arith), tt),
+      below-append n (n + 1) fs _ (omega arith) before.1 (omega arith, tt),
+    )
 
 -- a flit that comes before where stamps rise from differs from all of them
-none-same : (f : Flit) (n i : ℕ) (fs : List Flit) → (f.packet < n) ⊎ ((f.packet ≡ n) × (f.index < i)) → Rises n i fs → AllByRecursion (λ g. same_stamp f g ≡ false) fs
+none-same : (f : Flit) (n i : ℕ) (fs : List Flit) → (f.packet < n) ⊎ ((f.packet ≡ n) × (f.index < i)) → Rises n i fs
+    → AllByRecursion (λ g. same_stamp f g ≡ false) fs
 none-same f n i [] h r = tt
 none-same f n i (g ∷ gs) h r =
     let first = r.0 in
@@ -82,7 +94,11 @@ none-same f n i (g ∷ gs) h r =
     let off : same_stamp f g ≡ false =
     elim (number_cases f.packet g.packet) [
       | inl same_packet ↦ elim (number_cases f.index g.index) [
-        | inl same_index ↦ let p = same_packet.1 in let q = same_index.1 in absurd (elim apart [ inl less ↦ (let l = less in omega arith) | inr more ↦ (let m = more.1 in omega arith) ])
+        | inl same_index ↦ let p = same_packet.1 in let q = same_index.1 in
+            absurd (elim apart [
+              | inl less ↦ (let l = less in omega arith)
+              | inr more ↦ (let m = more.1 in omega arith)
+            ])
         | inr other ↦ rw (same_packet.0, other.0)
       ]
       | inr other ↦ rw other.0
@@ -93,16 +109,24 @@ none-same f n i (g ∷ gs) h r =
 pub rises-distinct : (n i : ℕ) (fs : List Flit) → Rises n i fs → IsDistinct same_stamp fs
 unfolding IsDistinct
 rises-distinct n i [] r = tt
-rises-distinct n i (f ∷ fs) r = (none-same f f.packet (f.index + 1) fs (inr (refl, omega arith)) r.1, rises-distinct f.packet (f.index + 1) fs r.1)
+rises-distinct n i (f ∷ fs) r = (
+  none-same f f.packet (f.index + 1) fs (inr (refl, omega arith)) r.1,
+  rises-distinct f.packet (f.index + 1) fs r.1,
+)
 
 bare-rises : (n i : ℕ) (fs : List Flit) → Rises n i fs → Rises n i (map bare fs)
 bare-rises n i [] r = tt
 bare-rises n i (f ∷ fs) r = (r.0, bare-rises f.packet (f.index + 1) fs r.1)
 
-pub accepted_once : (s : Shape) (net : Network) → Sound s net → (lane : Lane) → IsDistinct same_stamp (lane_injected net lane)
-accepted_once s net sound lane = rises-distinct 0 0 (lane_injected net lane) (history-rises lane (sound.histories lane)).0
+pub accepted_once : (s : Shape) (net : Network) → Sound s net → (lane : Lane)
+    → IsDistinct same_stamp (lane_injected net lane)
+accepted_once s net sound lane = rises-distinct 0 0 (lane_injected net lane)
+    (history-rises lane (sound.histories lane)).0
 
-pub cut_once : (s : Shape) (net : Network) → Sound s net → LanesCut s net → (lane : Lane) (c : ℕ) → HasLane s lane → Owns s lane.class c → OwnsAlone s lane.class c → IsDistinct same_stamp (delivered s net lane ++ underway s net lane c)
+pub cut_once : (s : Shape) (net : Network) → Sound s net → LanesCut s net → (lane : Lane) (c : ℕ) → HasLane s lane
+    → Owns s lane.class c → OwnsAlone s lane.class c
+    → IsDistinct same_stamp (delivered s net lane ++ underway s net lane c)
 cut_once s net sound cut lane c there owned alone =
     subst (λ fs. IsDistinct same_stamp fs) (sym (cut lane c there owned alone))
-    (rises-distinct 0 0 (map bare (lane_injected net lane)) (bare-rises 0 0 (lane_injected net lane) (history-rises lane (sound.histories lane)).0))
+    (rises-distinct 0 0 (map bare (lane_injected net lane))
+    (bare-rises 0 0 (lane_injected net lane) (history-rises lane (sound.histories lane)).0))

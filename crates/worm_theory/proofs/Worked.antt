@@ -6,7 +6,8 @@ use Rattle.worm_flit.specs.Stamps.{with_channel}
 use Rattle.worm_flit.specs.Packets.{flit, packet_flits, mark}
 use Rattle.worm_theory.specs.Shape.{Shape}
 use Rattle.worm_theory.specs.Network.{Network}
-use Rattle.worm_theory.specs.Steps.{Step, Offer, CloseLane, Feed, Route, Grant, Send, Take, IsThere, Enabled, after, StepsLead, empty}
+use Rattle.worm_theory.specs.Steps.{Step, Offer, CloseLane, Feed, Route, Grant, Send, Take, IsThere, Enabled, after}
+use Rattle.worm_theory.specs.Steps.{StepsLead, empty}
 use Rattle.worm_theory.specs.Cut.{delivered, underway}
 use Rattle.worm_theory.proofs.Lists.{steps-append}
 use Rattle.worm_theory.proofs.Lines.{line}
@@ -21,7 +22,8 @@ abbrev pub AllEnabled : Shape → Network → List Step → Type 0
 AllEnabled s net [] = Unit {0}
 AllEnabled s net (step ∷ steps) = (IsThere s step × Enabled s net step) × AllEnabled s (after s net step) steps
 
-pub all_lead : (s : Shape) (net : Network) (steps : List Step) → AllEnabled s net steps → StepsLead s net steps (all_after s net steps)
+pub all_lead : (s : Shape) (net : Network) (steps : List Step) → AllEnabled s net steps
+    → StepsLead s net steps (all_after s net steps)
 all_lead s net [] h = refl
 all_lead s net (step ∷ steps) h = (after s net step, inl (h.0.0, h.0.1, refl), all_lead s (after s net step) steps h.1)
 
@@ -35,13 +37,16 @@ lane = record { src = 0; dst = 1; class = 0 }
 two_words : packet_flits lane 0 (17 ∷ 18 ∷ []) ≡ flit lane 0 0 Head 17 ∷ flit lane 0 1 Tail 18 ∷ []
 two_words = refl
 
-three_words : packet_flits lane 4 (1 ∷ 2 ∷ 3 ∷ []) ≡ flit lane 4 0 Head 1 ∷ flit lane 4 1 Body 2 ∷ flit lane 4 2 Tail 3 ∷ []
+three_words : packet_flits lane 4 (1 ∷ 2 ∷ 3 ∷ [])
+    ≡ flit lane 4 0 Head 1 ∷ flit lane 4 1 Body 2 ∷ flit lane 4 2 Tail 3 ∷ []
 three_words = refl
 
 -- A class of two channels: the second packet, of one word, overtakes the first.
 abbrev overtaking : List Step
 overtaking =
-    Offer 0 lane (1 ∷ 2 ∷ []) ∷ Offer 0 lane (3 ∷ []) ∷ Feed 0 0 ∷ Feed 0 0 ∷ Route 0 2 0 ∷ Grant 0 2 0 0 ∷ Send 0 2 0 ∷ Send 0 2 0 ∷ Feed 0 0 ∷ Route 0 2 0 ∷ Grant 0 2 0 1 ∷ Send 0 2 0 ∷
+    Offer 0 lane (1 ∷ 2 ∷ []) ∷ Offer 0 lane
+    (3 ∷ []) ∷ Feed 0 0 ∷ Feed 0 0 ∷ Route 0 2 0 ∷ Grant 0 2 0 0 ∷ Send 0 2 0 ∷ Send 0 2 0 ∷ Feed 0 0 ∷ Route 0 2 0
+    ∷ Grant 0 2 0 1 ∷ Send 0 2 0 ∷
     Take 1 0 ∷ Take 1 0 ∷ Take 1 0 ∷ Route 1 0 1 ∷ Grant 1 0 1 1 ∷ Send 1 0 1 ∷ []
 
 abbrev overtaken : Network
@@ -50,13 +55,44 @@ overtaken = all_after (line 2 2) (empty (line 2 2)) overtaking
 overtaken_delivered : overtaken.out 1 2 ≡ with_channel (flit lane 1 0 Single 3) 1 ∷ []
 overtaken_delivered = refl
 
-overtaken_buffer : overtaken.buffer 1 0 0 ≡ with_channel (flit lane 0 0 Head 1) 0 ∷ with_channel (flit lane 0 1 Tail 2) 0 ∷ []
+overtaken_buffer : overtaken.buffer 1 0 0
+    ≡ with_channel (flit lane 0 0 Head 1) 0 ∷ with_channel (flit lane 0 1 Tail 2) 0 ∷ []
 overtaken_buffer = refl
 
 overtaking_done : AllEnabled (line 2 2) (empty (line 2 2)) overtaking
-overtaking_done =
-    (omega arith, (record { own = refl; lane_there = record { source = omega arith; destination = omega arith; class = omega arith }; is_open = refl; room = omega arith }, omega arith, omega arith)) next
-    (omega arith, (record { own = refl; lane_there = record { source = omega arith; destination = omega arith; class = omega arith }; is_open = refl; room = omega arith }, omega arith, omega arith)) next
+overtaking_done = (
+  omega arith,
+  (
+    record {
+      own = refl;
+      lane_there = record {
+        source = omega arith;
+        destination = omega arith;
+        class = omega arith;
+      };
+      is_open = refl;
+      room = omega arith;
+    },
+    omega arith,
+    omega arith,
+  ),
+) next (
+  omega arith,
+  (
+    record {
+      own = refl;
+      lane_there = record {
+        source = omega arith;
+        destination = omega arith;
+        class = omega arith;
+      };
+      is_open = refl;
+      room = omega arith;
+    },
+    omega arith,
+    omega arith,
+  ),
+) next
     ((omega arith, omega arith), (omega arith, omega arith)) next
     ((omega arith, omega arith), (omega arith, omega arith)) next
     ((omega arith, inl refl, omega arith), (refl, refl)) next
@@ -87,8 +123,23 @@ abbrev starved : Network
 starved = all_after (line 1 1) (empty (line 1 1)) starving
 
 starving_done : AllEnabled (line 1 1) (empty (line 1 1)) starving
-starving_done =
-    (omega arith, (record { own = refl; lane_there = record { source = omega arith; destination = omega arith; class = omega arith }; is_open = refl; room = omega arith }, omega arith, omega arith)) next
+starving_done = (
+  omega arith,
+  (
+    record {
+      own = refl;
+      lane_there = record {
+        source = omega arith;
+        destination = omega arith;
+        class = omega arith;
+      };
+      is_open = refl;
+      room = omega arith;
+    },
+    omega arith,
+    omega arith,
+  ),
+) next
     ((omega arith, omega arith), (omega arith, omega arith)) next
     ((omega arith, inl refl, omega arith), (refl, refl)) next
     ((omega arith, inl refl, omega arith, omega arith), (refl, (omega arith, refl))) next
@@ -105,11 +156,13 @@ no_flit h = absurd h
 -- eight steps, of which two are idle
 starved_leads : StepsLead (line 1 1) (empty (line 1 1)) (starving ++ Send 0 2 0 ∷ Take 0 1 ∷ []) starved
 starved_leads =
-    steps-append (line 1 1) starving (Send 0 2 0 ∷ Take 0 1 ∷ []) (empty (line 1 1)) starved starved (all_lead (line 1 1) (empty (line 1 1)) starving starving_done)
+    steps-append (line 1 1) starving (Send 0 2 0 ∷ Take 0 1 ∷ []) (empty (line 1 1)) starved starved
+    (all_lead (line 1 1) (empty (line 1 1)) starving starving_done)
     (starved, inr (λ h. no_credit h.1, refl), (starved, inr (λ h. no_flit h.1, refl), refl))
 
 -- the first is on the link, the second behind it
-starved_cut : delivered (line 1 1) starved lane ++ underway (line 1 1) starved lane 0 ≡ with_channel (flit lane 0 0 Head 17) 0 ∷ with_channel (flit lane 0 1 Tail 18) 0 ∷ []
+starved_cut : delivered (line 1 1) starved lane ++ underway (line 1 1) starved lane 0
+    ≡ with_channel (flit lane 0 0 Head 17) 0 ∷ with_channel (flit lane 0 1 Tail 18) 0 ∷ []
 starved_cut = refl
 
 starved_credits : starved.credits 0 1 0 ≡ 0
@@ -120,8 +173,22 @@ abbrev shut : Network
 shut = after (line 1 2) (empty (line 1 2)) (CloseLane 0 lane)
 
 closing_done : AllEnabled (line 1 2) (empty (line 1 2)) (CloseLane 0 lane ∷ [])
-closing_done =
-    (omega arith, (record { own = refl; lane_there = record { source = omega arith; destination = omega arith; class = omega arith }; is_open = refl; room = omega arith }, λ v h. omega arith)) next
+closing_done = (
+  omega arith,
+  (
+    record {
+      own = refl;
+      lane_there = record {
+        source = omega arith;
+        destination = omega arith;
+        class = omega arith;
+      };
+      is_open = refl;
+      room = omega arith;
+    },
+    λ v h. omega arith,
+  ),
+) next
     tt
 
 shut_injected : shut.injected 0 0 ≡ mark lane 0 ∷ []
@@ -138,8 +205,23 @@ abbrev returning : List Step
 returning = Offer 1 home (5 ∷ []) ∷ Feed 1 0 ∷ Route 1 2 0 ∷ Grant 1 2 0 0 ∷ Send 1 2 0 ∷ []
 
 returning_done : AllEnabled (line 1 2) (empty (line 1 2)) returning
-returning_done =
-    (omega arith, (record { own = refl; lane_there = record { source = omega arith; destination = omega arith; class = omega arith }; is_open = refl; room = omega arith }, omega arith, omega arith)) next
+returning_done = (
+  omega arith,
+  (
+    record {
+      own = refl;
+      lane_there = record {
+        source = omega arith;
+        destination = omega arith;
+        class = omega arith;
+      };
+      is_open = refl;
+      room = omega arith;
+    },
+    omega arith,
+    omega arith,
+  ),
+) next
     ((omega arith, omega arith), (omega arith, omega arith)) next
     ((omega arith, inl refl, omega arith), (refl, refl)) next
     ((omega arith, inl refl, omega arith, omega arith), (refl, (omega arith, refl))) next

@@ -24,5 +24,6 @@ class_line s net lane k x o = class_joined s lane.class (λ v. packet_held lane 
 abbrev pub ChannelsCut : Shape → Network → Type 0
 ChannelsCut s net = (lane : Lane) (k : ℕ) → HasLane s lane →
     packet_held lane k (net.out lane.dst s.terminal) ++
-    (underway_from s (class_store s net lane k) (class_line s net lane k) lane.dst (s.hops lane.src lane.dst) lane.src s.terminal ++ packet_held lane k (net.unfed lane.src lane.class)) ≡
+    (underway_from s (class_store s net lane k) (class_line s net lane k) lane.dst
+    (s.hops lane.src lane.dst) lane.src s.terminal ++ packet_held lane k (net.unfed lane.src lane.class)) ≡
     packet_held lane k (net.injected lane.src lane.class)

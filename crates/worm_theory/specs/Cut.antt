@@ -21,20 +21,23 @@ at_link (Some y) list = list y
 abbrev pub underway_from : Shape → (ℕ → ℕ → List Flit) → (ℕ → ℕ → List Flit) → ℕ → ℕ → ℕ → ℕ → List Flit
 underway_from s store line dst zero x p = store x p
 underway_from s store line dst (suc n) x p =
-    at_link (s.neighbour x (s.next_port x dst)) (λ y. underway_from s store line dst n y (s.opposite (s.next_port x dst))) ++
+    at_link (s.neighbour x (s.next_port x dst))
+    (λ y. underway_from s store line dst n y (s.opposite (s.next_port x dst))) ++
     (line x (s.next_port x dst) ++ store x p)
 
 -- the same with the sink before it, and what of that is past the store of a node
 abbrev pub ahead_from : Shape → (ℕ → ℕ → List Flit) → (ℕ → ℕ → List Flit) → ℕ → ℕ → ℕ → ℕ → List Flit
 ahead_from s store line dst zero x p = line x (s.next_port x dst) ++ store x p
 ahead_from s store line dst (suc n) x p =
-    at_link (s.neighbour x (s.next_port x dst)) (λ y. ahead_from s store line dst n y (s.opposite (s.next_port x dst))) ++
+    at_link (s.neighbour x (s.next_port x dst))
+    (λ y. ahead_from s store line dst n y (s.opposite (s.next_port x dst))) ++
     (line x (s.next_port x dst) ++ store x p)
 
 abbrev pub past_from : Shape → (ℕ → ℕ → List Flit) → (ℕ → ℕ → List Flit) → ℕ → ℕ → ℕ → List Flit
 past_from s store line dst zero x = line x (s.next_port x dst)
 past_from s store line dst (suc n) x =
-    at_link (s.neighbour x (s.next_port x dst)) (λ y. ahead_from s store line dst n y (s.opposite (s.next_port x dst))) ++ line x (s.next_port x dst)
+    at_link (s.neighbour x (s.next_port x dst)) (λ y. ahead_from s store line dst n y (s.opposite (s.next_port x dst)))
+    ++ line x (s.next_port x dst)
 
 -- what the buffers at a port, and a link or a sink, hold of a lane
 abbrev pub lane_store : Network → Lane → ℕ → ℕ → ℕ → List Flit
@@ -47,7 +50,8 @@ abbrev pub delivered : Shape → Network → Lane → List Flit
 delivered s net lane = held lane (net.out lane.dst s.terminal)
 
 abbrev pub underway : Shape → Network → Lane → ℕ → List Flit
-underway s net lane c = underway_from s (lane_store net lane c) (lane_line net lane) lane.dst (s.hops lane.src lane.dst) lane.src s.terminal ++ held lane (net.unfed lane.src lane.class)
+underway s net lane c = underway_from s (lane_store net lane c) (lane_line net lane) lane.dst
+    (s.hops lane.src lane.dst) lane.src s.terminal ++ held lane (net.unfed lane.src lane.class)
 
 -- the same packet number and index
 abbrev pub same_stamp : Flit → Flit → Bool
@@ -64,4 +68,5 @@ StampsDiffer net = (lane : Lane) → IsDistinct same_stamp (lane_injected net la
 
 -- so each flit of a lane is delivered or under way once
 abbrev pub EachOnce : Shape → Network → Type 0
-EachOnce s net = (lane : Lane) (c : ℕ) → HasLane s lane → Owns s lane.class c → OwnsAlone s lane.class c → IsDistinct same_stamp (delivered s net lane ++ underway s net lane c)
+EachOnce s net = (lane : Lane) (c : ℕ) → HasLane s lane → Owns s lane.class c → OwnsAlone s lane.class c
+    → IsDistinct same_stamp (delivered s net lane ++ underway s net lane c)

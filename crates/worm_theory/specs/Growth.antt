@@ -16,4 +16,5 @@ SourcesGrow old new = (x k : ℕ) → (more : List Flit) × (new.injected x k �
 
 -- the lane's sink has grown by flits of other lanes alone
 abbrev pub NothingMore : Shape → Network → Network → Lane → Type 0
-NothingMore s old new lane = (more : List Flit) × (new.out lane.dst s.terminal ≡ old.out lane.dst s.terminal ++ more) × (of_lane lane more ≡ [])
+NothingMore s old new lane = (more : List Flit) × (new.out lane.dst s.terminal ≡ old.out lane.dst s.terminal ++ more)
+    × (of_lane lane more ≡ [])

@@ -22,14 +22,16 @@ NoneCloses (f ∷ fs) = (closes f.kind ≡ false) × NoneCloses fs
 
 -- what is past node x of the packet, delivered or nearer the sink than the node's buffers
 abbrev pub packet_past : Shape → Network → Lane → ℕ → ℕ → List Flit
-packet_past s net lane k x = past_from s (packet_store s net lane k) (packet_line net lane k) lane.dst (s.hops x lane.dst) x
+packet_past s net lane k x = past_from s (packet_store s net lane k) (packet_line net lane k) lane.dst
+    (s.hops x lane.dst) x
 
 -- some flit of the packet is past the node, and its closing flit is not
 pub record IsOpenPast (s : Shape) (net : Network) (lane : Lane) (k x : ℕ) : Type 0 where
   pub some : 0 < length (packet_past s net lane k x)
   pub unclosed : NoneCloses (packet_past s net lane k x)
 
--- what left the input channel last is one of the packet's flits and not closing, and the channel is active for the packet
+-- what left the input channel last is one of the packet's flits and not closing, and the channel is active for the
+-- packet
 pub record IsWithin (s : Shape) (net : Network) (lane : Lane) (k x p v : ℕ) : Type 0 where
   pub owned : Owns s lane.class v
   pub flit : Flit
@@ -58,7 +60,8 @@ pub record OpenRecord (s : Shape) (net : Network) (lane : Lane) (k x p v : ℕ) 
   pub next : Leads last (awaited s net x p v)
 
 -- No packet is open past it: what left the buffer last, if anything, ended a packet whose class owns the channel and
--- whose route passes here; what comes next opens a packet; and a record that is not idle is for the front of the buffer.
+-- whose route passes here; what comes next opens a packet; and a record that is not idle is for the front of the
+-- buffer.
 pub record FreeRecord (s : Shape) (net : Network) (x p v : ℕ) : Type 0 where
   pub done : IfSome (net.last_out x p v) (λ f. (closes f.kind ≡ true) × Passes s x p v f)
   pub next : IfFront (awaited s net x p v) Opens
@@ -66,23 +69,30 @@ pub record FreeRecord (s : Shape) (net : Network) (x p v : ℕ) : Type 0 where
 
 -- a packet that is open past a node is so past exactly one input channel there
 abbrev pub OpenOnce : Shape → Network → Type 0
-OpenOnce s net = (lane : Lane) (k : ℕ) → HasLane s lane → (x p : ℕ) → Enters s lane x p → IsOpenPast s net lane k x → OneWithinAt s net lane k x p
+OpenOnce s net = (lane : Lane) (k : ℕ) → HasLane s lane → (x p : ℕ) → Enters s lane x p → IsOpenPast s net lane k x
+    → OneWithinAt s net lane k x p
 
 -- and an input channel is within no other packet
 abbrev pub WithinIsOpen : Shape → Network → Type 0
-WithinIsOpen s net = (lane : Lane) (k : ℕ) → HasLane s lane → (x p v : ℕ) → Enters s lane x p → IsWithin s net lane k x p v → IsOpenPast s net lane k x
+WithinIsOpen s net = (lane : Lane) (k : ℕ) → HasLane s lane → (x p v : ℕ) → Enters s lane x p
+    → IsWithin s net lane k x p v → IsOpenPast s net lane k x
 
 -- A class that owns one channel: the channel's records where one packet is open past it, ..
 abbrev pub OpenRecords : Shape → Network → Type 0
-OpenRecords s net = (lane : Lane) (k : ℕ) → HasLane s lane → (x p v : ℕ) → Enters s lane x p → Owns s lane.class v → OwnsAlone s lane.class v → IsOpenPast s net lane k x → OpenRecord s net lane k x p v
+OpenRecords s net = (lane : Lane) (k : ℕ) → HasLane s lane → (x p v : ℕ) → Enters s lane x p → Owns s lane.class v
+    → OwnsAlone s lane.class v → IsOpenPast s net lane k x → OpenRecord s net lane k x p v
 
 -- .. and that there are never two. For any class: the records where none is.
 abbrev pub NeverTwo : Shape → Network → Type 0
-NeverTwo s net = (v x p : ℕ) (lane : Lane) (k : ℕ) → HasLane s lane → Enters s lane x p → Owns s lane.class v → OwnsAlone s lane.class v → IsOpenPast s net lane k x →
-    (other : Lane) (j : ℕ) → HasLane s other → Enters s other x p → Owns s other.class v → OwnsAlone s other.class v → IsOpenPast s net other j x → (lane ≡ other) × (k ≡ j)
+NeverTwo s net = (v x p : ℕ) (lane : Lane) (k : ℕ) → HasLane s lane → Enters s lane x p → Owns s lane.class v
+    → OwnsAlone s lane.class v → IsOpenPast s net lane k x →
+    (other : Lane) (j : ℕ) → HasLane s other → Enters s other x p → Owns s other.class v → OwnsAlone s other.class v
+    → IsOpenPast s net other j x → (lane ≡ other) × (k ≡ j)
 
 abbrev pub FreeRecords : Shape → Network → Type 0
-FreeRecords s net = (x p v : ℕ) → IsPort s x p → ((lane : Lane) (k : ℕ) → HasLane s lane → Enters s lane x p → Owns s lane.class v → IsOpenPast s net lane k x → ⊥) → FreeRecord s net x p v
+FreeRecords s net = (x p v : ℕ) → IsPort s x p
+    → ((lane : Lane) (k : ℕ) → HasLane s lane → Enters s lane x p → Owns s lane.class v → IsOpenPast s net lane k x → ⊥)
+    → FreeRecord s net x p v
 
 -- an input channel and the output channel that it holds belong to one class
 abbrev pub ClassesMatch : Shape → Network → Type 0

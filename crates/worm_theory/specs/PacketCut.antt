@@ -21,7 +21,8 @@ packet_held lane k fs = map bare (filter (is_of_packet lane k) fs)
 
 -- these are the flits of the lane's packet of number k, channel numbers aside: those of 1 to 32 words, or a mark
 abbrev pub IsWhole : Lane → ℕ → List Flit → Type 0
-IsWhole lane k fs = ((words : List ℕ) × (0 < length words) × (length words ≤ 32) × (fs ≡ map bare (packet_flits lane k words))) ⊎ (fs ≡ bare (mark lane k) ∷ [])
+IsWhole lane k fs = ((words : List ℕ) × (0 < length words) × (length words ≤ 32)
+    × (fs ≡ map bare (packet_flits lane k words))) ⊎ (fs ≡ bare (mark lane k) ∷ [])
 
 -- lists joined in rising channel
 abbrev pub joined : ℕ → (ℕ → List Flit) → List Flit
@@ -39,16 +40,19 @@ packet_line net lane k x o = packet_held lane k (net.out x o)
 abbrev pub PacketsCut : Shape → Network → Type 0
 PacketsCut s net = (lane : Lane) (k : ℕ) → HasLane s lane →
     packet_held lane k (net.out lane.dst s.terminal) ++
-    (underway_from s (packet_store s net lane k) (packet_line net lane k) lane.dst (s.hops lane.src lane.dst) lane.src s.terminal ++ packet_held lane k (net.unfed lane.src lane.class)) ≡
+    (underway_from s (packet_store s net lane k) (packet_line net lane k) lane.dst
+    (s.hops lane.src lane.dst) lane.src s.terminal ++ packet_held lane k (net.unfed lane.src lane.class)) ≡
     packet_held lane k (net.injected lane.src lane.class)
 
 -- no two input channels of a node are within one packet
 abbrev pub OneWithin : Network → Type 0
-OneWithin net = (x p v p2 v2 : ℕ) (g g2 : Flit) → worm_after (net.last_out x p v) ≡ Within g → worm_after (net.last_out x p2 v2) ≡ Within g2 → g.lane ≡ g2.lane → g.packet ≡ g2.packet → (p ≡ p2) × (v ≡ v2)
+OneWithin net = (x p v p2 v2 : ℕ) (g g2 : Flit) → worm_after (net.last_out x p v) ≡ Within g
+    → worm_after (net.last_out x p2 v2) ≡ Within g2 → g.lane ≡ g2.lane → g.packet ≡ g2.packet → (p ≡ p2) × (v ≡ v2)
 
 -- where a channel is within a packet, something of it is past that node
 abbrev pub WithinPast : Shape → Network → Type 0
-WithinPast s net = (lane : Lane) (k : ℕ) → HasLane s lane → (x p v : ℕ) (g : Flit) → Enters s lane x p → worm_after (net.last_out x p v) ≡ Within g → lane ≡ g.lane → k ≡ g.packet →
+WithinPast s net = (lane : Lane) (k : ℕ) → HasLane s lane → (x p v : ℕ) (g : Flit) → Enters s lane x p
+    → worm_after (net.last_out x p v) ≡ Within g → lane ≡ g.lane → k ≡ g.packet →
     0 < length (past_from s (packet_store s net lane k) (packet_line net lane k) lane.dst (s.hops x lane.dst) x)
 
 -- What each step keeps of packets.
@@ -59,4 +63,6 @@ pub record PacketsHold (s : Shape) (net : Network) : Type 0 where
 
 -- each packet that a lane's source accepted is there whole, and what is numbered past them is not there
 abbrev pub PacketsWhole : Network → Type 0
-PacketsWhole net = (lane : Lane) (k : ℕ) → (k < next_number net lane → IsWhole lane k (packet_held lane k (net.injected lane.src lane.class))) × (next_number net lane ≤ k → packet_held lane k (net.injected lane.src lane.class) ≡ [])
+PacketsWhole net = (lane : Lane) (k : ℕ)
+    → (k < next_number net lane → IsWhole lane k (packet_held lane k (net.injected lane.src lane.class)))
+    × (next_number net lane ≤ k → packet_held lane k (net.injected lane.src lane.class) ≡ [])

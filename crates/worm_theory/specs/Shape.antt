@@ -44,7 +44,8 @@ pub record IsMesh (s : Shape) : Type 0 where
   pub first_owned : (class : ℕ) → class < s.classes → Owns s class (s.first class)
   -- a route ends at its destination, by the terminal, and else each of its links leads one link nearer
   pub arrives : (x d : ℕ) → x < s.nodes → d < s.nodes → s.hops x d ≡ 0 → (x ≡ d) × (s.next_port x d ≡ s.terminal)
-  pub goes_on : (x d n : ℕ) → x < s.nodes → d < s.nodes → s.hops x d ≡ suc n → (y : ℕ) × (s.neighbour x (s.next_port x d) ≡ Some y) × (y < s.nodes) × (s.hops y d ≡ n)
+  pub goes_on : (x d n : ℕ) → x < s.nodes → d < s.nodes → s.hops x d ≡ suc n
+      → (y : ℕ) × (s.neighbour x (s.next_port x d) ≡ Some y) × (y < s.nodes) × (s.hops y d ≡ n)
 
 -- the network has this lane
 pub record HasLane (s : Shape) (lane : Lane) : Type 0 where
@@ -55,4 +56,5 @@ pub record HasLane (s : Shape) (lane : Lane) : Type 0 where
 -- the route of the lane enters this node by this port: at its source by the terminal, then by one link after another
 pub data Enters (s : Shape) (lane : Lane) : ℕ → ℕ → Type 0 where
   at_source : Enters s lane lane.src s.terminal
-  by_link : {x p y : ℕ} → Enters s lane x p → s.neighbour x (s.next_port x lane.dst) ≡ Some y → Enters s lane y (s.opposite (s.next_port x lane.dst))
+  by_link : {x p y : ℕ} → Enters s lane x p → s.neighbour x (s.next_port x lane.dst) ≡ Some y
+      → Enters s lane y (s.opposite (s.next_port x lane.dst))

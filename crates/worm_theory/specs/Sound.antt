@@ -1,6 +1,7 @@
 -- A sound network, said place by place: each clause is for all places, and reads but a few of them
 -- (credits: Dally and Towles, chapter 13; records: chapter 16).
-use Rattle.std.specs.Prelude.{◌≡◌, ℕ, ◌+◌, ◌<◌, ◌≤◌, Bool, true, false, cond, ◌==◌, ◌↔◌, List, [], ◌∷◌, ◌++◌, length, Some, None, IfSome, IsSomeAnd}
+use Rattle.std.specs.Prelude.{◌≡◌, ℕ, ◌+◌, ◌<◌, ◌≤◌, Bool, true, false, cond, ◌==◌, ◌↔◌, List, [], ◌∷◌, ◌++◌, length}
+use Rattle.std.specs.Prelude.{Some, None, IfSome, IsSomeAnd}
 use Rattle.std.specs.List.{All, count_by}
 use Rattle.worm_flit.specs.declared.Lane.{Lane}
 use Rattle.worm_flit.specs.declared.Flit.{Flit}
@@ -16,7 +17,9 @@ use Rattle.worm_theory.specs.Steps.{lane_injected, packets_in, has_mark}
 -- Per link and channel: what left the buffer last, then the buffer, then the link's flits of the channel
 -- lead to where the channel stands at its upstream end.
 abbrev pub LinksRun : Shape → Network → Type 0
-LinksRun s net = (y o x v : ℕ) → s.neighbour y o ≡ Some x → Runs (worm_after (net.last_out x (s.opposite o) v)) (net.buffer x (s.opposite o) v ++ on_channel v (net.out y o)) (upstream net y o v)
+LinksRun s net = (y o x v : ℕ) → s.neighbour y o ≡ Some x
+    → Runs (worm_after (net.last_out x (s.opposite o) v)) (net.buffer x (s.opposite o) v ++ on_channel v (net.out y o))
+    (upstream net y o v)
 
 -- what the source has yet to feed into this channel: its class's first channel gets it all
 abbrev pub unfed_on : Shape → Network → ℕ → ℕ → List Flit
@@ -24,7 +27,8 @@ unfed_on s net x v = cond (s.first (s.owner v) == v) (net.unfed x (s.owner v)) [
 
 -- per injection channel: the same, up to whole packets
 abbrev pub SourcesRun : Shape → Network → Type 0
-SourcesRun s net = (x v : ℕ) → Runs (worm_after (net.last_out x s.terminal v)) (net.buffer x s.terminal v ++ unfed_on s net x v) Between
+SourcesRun s net = (x v : ℕ) → Runs (worm_after (net.last_out x s.terminal v))
+    (net.buffer x s.terminal v ++ unfed_on s net x v) Between
 
 -- per sink and channel: what was delivered leads from nothing to where the channel stands
 abbrev pub SinksRun : Shape → Network → Type 0
@@ -34,7 +38,8 @@ SinksRun s net = (x v : ℕ) → Runs Between (on_channel v (net.out x s.termina
 abbrev pub Agrees : Shape → ℕ → InRecord → Worm → List Flit → Type 0
 Agrees s x Idle worm fs = worm ≡ Between
 Agrees s x (Waiting o) worm fs = (worm ≡ Between) × IsSomeAnd (lane_at worm fs) (λ lane. s.next_port x lane.dst ≡ o)
-Agrees s x (Active o c) worm fs = IsSomeAnd (lane_at worm fs) (λ lane. (s.next_port x lane.dst ≡ o) × Owns s lane.class c)
+Agrees s x (Active o c) worm fs = IsSomeAnd (lane_at worm fs)
+    (λ lane. (s.next_port x lane.dst ≡ o) × Owns s lane.class c)
 
 -- each input channel's record fits where the channel stands and what its buffer holds
 abbrev pub RecordsAgree : Shape → Network → Type 0
@@ -48,11 +53,12 @@ HoldersAgree net = (x o c p v : ℕ) → (net.holder x o c ≡ Some (p, v)) ↔ 
 abbrev pub BuffersFit : Shape → Network → Type 0
 BuffersFit s net = (x p v : ℕ) → length (net.buffer x p v) ≤ s.depth
 
--- Per link and channel: each place of the downstream buffer is a credit upstream, a flit on the link or in the buffer, a
--- credit owed or a credit on its way back.
+-- Per link and channel: each place of the downstream buffer is a credit upstream, a flit on the link or in the buffer,
+-- a credit owed or a credit on its way back.
 abbrev pub CreditsAdd : Shape → Network → Type 0
 CreditsAdd s net = (y o x v : ℕ) → v < s.channels → s.neighbour y o ≡ Some x →
-    net.credits y o v + length (on_channel v (net.out y o)) + length (net.buffer x (s.opposite o) v) + net.owed x (s.opposite o) v + count_by (λ c. v == c) (net.credit_list y o) ≡ s.depth
+    net.credits y o v + length (on_channel v (net.out y o)) + length (net.buffer x (s.opposite o) v) + net.owed x
+    (s.opposite o) v + count_by (λ c. v == c) (net.credit_list y o) ≡ s.depth
 
 -- each credit on its way is a channel's
 abbrev pub CreditsAreChannels : Shape → Network → Type 0
@@ -102,7 +108,8 @@ AcceptedHold s net = (x k : ℕ) → All (IsFrom s x k) (net.injected x k)
 -- n packets of 1 to 32 words and marks of a lane, numbered from 0; the flag says whether the last is a mark
 pub data History (lane : Lane) : ℕ → Bool → List Flit → Type 0 where
   fresh : History lane 0 false []
-  packet : {n : ℕ} {fs : List Flit} (words : List ℕ) → 0 < length words → length words ≤ 32 → History lane n false fs → History lane (n + 1) false (fs ++ packet_flits lane n words)
+  packet : {n : ℕ} {fs : List Flit} (words : List ℕ) → 0 < length words → length words ≤ 32 → History lane n false fs
+      → History lane (n + 1) false (fs ++ packet_flits lane n words)
   closed : {n : ℕ} {fs : List Flit} → History lane n false fs → History lane (n + 1) true (fs ++ mark lane n ∷ [])
 
 -- a lane's list is such a history
@@ -131,7 +138,8 @@ pub record Sound (s : Shape) (net : Network) : Type 0 where
 
 -- a buffer and its channel's flits on the link together do not exceed the depth
 abbrev pub LinksFit : Shape → Network → Type 0
-LinksFit s net = (y o x v : ℕ) → v < s.channels → s.neighbour y o ≡ Some x → length (net.buffer x (s.opposite o) v) + length (on_channel v (net.out y o)) ≤ s.depth
+LinksFit s net = (y o x v : ℕ) → v < s.channels → s.neighbour y o ≡ Some x
+    → length (net.buffer x (s.opposite o) v) + length (on_channel v (net.out y o)) ≤ s.depth
 
 -- only lanes whose class owns one channel are closed
 abbrev pub OnesClosed : Shape → Network → Type 0
@@ -139,4 +147,5 @@ OnesClosed s net = (lane : Lane) → has_mark (lane_injected net lane) ≡ true 
 
 -- what comes from a source uses its class's first channel alone: the others at the terminal stay empty and idle
 abbrev pub OthersIdle : Shape → Network → Type 0
-OthersIdle s net = (x v : ℕ) → (s.first (s.owner v) ≡ v → ⊥) → (net.buffer x s.terminal v ≡ []) × (net.in_record x s.terminal v ≡ Idle) × (net.last_out x s.terminal v ≡ None)
+OthersIdle s net = (x v : ℕ) → (s.first (s.owner v) ≡ v → ⊥)
+    → (net.buffer x s.terminal v ≡ []) × (net.in_record x s.terminal v ≡ Idle) × (net.last_out x s.terminal v ≡ None)

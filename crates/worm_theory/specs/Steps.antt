@@ -1,6 +1,7 @@
 -- The nine steps of a network: where each is enabled, and what it does (Dally and Towles, chapters 13 and 16).
 -- A step changes the network at one node, or at the two ends of one link.
-use Rattle.std.specs.Prelude.{◌≡◌, ℕ, ◌+◌, ◌-◌, ◌<◌, ◌≤◌, Bool, true, false, cond, ◌==◌, ◌⊎◌, List, [], ◌∷◌, ◌++◌, length, Option, Some, None, is_some, IsSome}
+use Rattle.std.specs.Prelude.{◌≡◌, ℕ, ◌+◌, ◌-◌, ◌<◌, ◌≤◌, Bool, true, false, cond, ◌==◌, ◌⊎◌, List, [], ◌∷◌, ◌++◌}
+use Rattle.std.specs.Prelude.{length, Option, Some, None, is_some, IsSome}
 use Rattle.std.specs.List.{count_by, list_any}
 use Rattle.worm_flit.specs.declared.Lane.{Lane}
 use Rattle.worm_flit.specs.declared.Flit.{Flit}
@@ -87,7 +88,8 @@ IsThere s (TakeCredit x o) = (x < s.nodes) × IsSome (s.neighbour x o)
 -- A flit may be sent from this buffer by channel c of port o: there is one; a link has a credit left; and the port by
 -- which it came, if it came by one, can owe one credit more.
 abbrev pub MaySend : Shape → Network → ℕ → ℕ → ℕ → ℕ → ℕ → Type 0
-MaySend s net x p v o c = (0 < length (net.buffer x p v)) × ((o ≡ s.terminal) ⊎ (0 < net.credits x o c)) × (IsSome (s.neighbour x p) → net.owed x p v < s.depth)
+MaySend s net x p v o c = (0 < length (net.buffer x p v)) × ((o ≡ s.terminal) ⊎ (0 < net.credits x o c))
+    × (IsSome (s.neighbour x p) → net.owed x p v < s.depth)
 
 -- The step can be done now.
 abbrev pub Enabled : Shape → Network → Step → Type 0
@@ -96,9 +98,11 @@ Enabled s net (Offer x lane words) = Accepts s net x lane × (0 < length words) 
 Enabled s net (CloseLane x lane) = Accepts s net x lane × OwnsOne s lane.class
 Enabled s net (Feed x k) = (0 < length (net.unfed x k)) × (length (net.buffer x s.terminal (s.first k)) < s.depth)
 Enabled s net (Route x p v) = (net.in_record x p v ≡ Idle) × FrontIs (net.buffer x p v) (λ f. opens f.kind ≡ true)
-Enabled s net (Grant x p v c) = IsWaitingAt (net.in_record x p v) (λ o. (net.holder x o c ≡ None) × FrontIs (net.buffer x p v) (λ f. Owns s f.lane.class c))
+Enabled s net (Grant x p v c) = IsWaitingAt (net.in_record x p v)
+    (λ o. (net.holder x o c ≡ None) × FrontIs (net.buffer x p v) (λ f. Owns s f.lane.class c))
 Enabled s net (Send x p v) = IsActiveAt (net.in_record x p v) (MaySend s net x p v)
-Enabled s net (Take x p) = IsLinked (s.neighbour x p) (λ y. FrontIs (net.out y (s.opposite p)) (λ f. length (net.buffer x p f.vc) < s.depth))
+Enabled s net (Take x p) = IsLinked (s.neighbour x p)
+    (λ y. FrontIs (net.out y (s.opposite p)) (λ f. length (net.buffer x p f.vc) < s.depth))
 Enabled s net (GiveCredit x p v) = 0 < net.owed x p v
 Enabled s net (TakeCredit x o) = FrontIs (net.credit_list x o) (λ c. net.credits x o c < s.depth)
 
@@ -114,7 +118,8 @@ abbrev pub fed : Shape → Network → ℕ → ℕ → List Flit → Network
 fed s net x k [] = net
 fed s net x k (f ∷ rest) = record net {
   unfed = put2 net.unfed x k rest;
-  buffer = put3 net.buffer x s.terminal (s.first k) (net.buffer x s.terminal (s.first k) ++ with_channel f (s.first k) ∷ []);
+  buffer = put3 net.buffer x s.terminal (s.first k)
+      (net.buffer x s.terminal (s.first k) ++ with_channel f (s.first k) ∷ []);
 }
 
 -- the record waits for the port by which the route of the front packet leaves
@@ -196,7 +201,8 @@ after s net (TakeCredit x o) = got net x o (net.credit_list x o)
 
 -- a step that is there and enabled is done, and any other changes nothing
 abbrev pub StepsTo : Shape → Network → Step → Network → Type 0
-StepsTo s old step new = (IsThere s step × Enabled s old step × (new ≡ after s old step)) ⊎ ((IsThere s step × Enabled s old step → ⊥) × (new ≡ old))
+StepsTo s old step new = (IsThere s step × Enabled s old step × (new ≡ after s old step))
+    ⊎ ((IsThere s step × Enabled s old step → ⊥) × (new ≡ old))
 
 -- the steps of a list, one after another
 abbrev pub StepsLead : Shape → Network → List Step → Network → Type 0
@@ -205,7 +211,8 @@ StepsLead s old (step ∷ steps) new = (mid : Network) × StepsTo s old step mid
 
 -- each step that is there and enabled keeps it
 abbrev pub EachStepKeeps : Shape → (Network → Type 0) → Type 0
-EachStepKeeps s Kept = (net : Network) (step : Step) → IsThere s step → Enabled s net step → Kept net → Kept (after s net step)
+EachStepKeeps s Kept = (net : Network) (step : Step) → IsThere s step → Enabled s net step → Kept net
+    → Kept (after s net step)
 
 -- any list of steps keeps it, whichever of them are done
 abbrev pub AnyStepsKeep : Shape → (Network → Type 0) → Type 0

@@ -33,10 +33,12 @@ abbrev pub held_last : Network → ℕ → Option (ℕ × ℕ) → Option Flit
 held_last net y None = None
 held_last net y (Some h) = net.last_out y h.0 h.1
 
--- per link and channel: what left the buffer last, the buffer and the link are one worm, and it ends at the holder's last flit
+-- per link and channel: what left the buffer last, the buffer and the link are one worm, and it ends at the holder's
+-- last flit
 pub record Joint (s : Shape) (net : Network) (y o x v : ℕ) : Type 0 where
   pub worm : IsWorm (option_to_list (net.last_out x (s.opposite o) v) ++ channel_holds s net y o x v)
-  pub ends : EndsAt (latest (option_to_list (net.last_out x (s.opposite o) v) ++ channel_holds s net y o x v)) (held_last net y (net.holder y o v))
+  pub ends : EndsAt (latest (option_to_list (net.last_out x (s.opposite o) v) ++ channel_holds s net y o x v))
+      (held_last net y (net.holder y o v))
 
 -- the first of the list, if there is one, has this property
 abbrev pub IfFront : List Flit → (Flit → Type 0) → Type 0
@@ -55,7 +57,8 @@ RecordWithin s x r g = IsActiveAt r (λ o c. (s.next_port x g.lane.dst ≡ o) ×
 
 -- what is in an input channel's buffer, and then what comes to it: from its link, or at the terminal from the source
 abbrev pub awaited : Shape → Network → ℕ → ℕ → ℕ → List Flit
-awaited s net x p v = net.buffer x p v ++ cond (p == s.terminal) (unfed_on s net x v) (at_link (s.neighbour x p) (λ y. on_channel v (net.out y (s.opposite p))))
+awaited s net x p v = net.buffer x p v ++ cond (p == s.terminal) (unfed_on s net x v)
+    (at_link (s.neighbour x p) (λ y. on_channel v (net.out y (s.opposite p))))
 
 -- what may come next on a channel whose last flit was this one, if any
 abbrev pub ComesNext : Option Flit → List Flit → Type 0

@@ -28,8 +28,10 @@ ghost use Rattle.worm_theory.specs.OpenPast.{OpenOnce, WithinIsOpen, OpenRecords
 
 /// Steps lead from a network to one network alone, and lists of steps one after another are their joined list.
 pub fn steps_lead_to_one()
-    ensures one { (s : Shape) (steps : List Step) (old new other : Network) → StepsLead s old steps new → StepsLead s old steps other → new ≡ other }
-    ensures joined { (s : Shape) (first then : List Step) (old mid new : Network) → StepsLead s old first mid → StepsLead s mid then new → StepsLead s old (first ++ then) new }
+    ensures one { (s : Shape) (steps : List Step) (old new other : Network) → StepsLead s old steps new
+        → StepsLead s old steps other → new ≡ other }
+    ensures joined { (s : Shape) (first then : List Step) (old mid new : Network) → StepsLead s old first mid
+        → StepsLead s mid then new → StepsLead s old (first ++ then) new }
 {}
 
 /// The empty network is sound, cut for each lane and each packet, idle and open.
@@ -76,30 +78,39 @@ pub fn packets_stay_cut()
 pub fn marks_come_last()
     ensures accepted { (s : Shape) (net : Network) → Sound s net → EndsAccepted net }
     ensures delivered { (s : Shape) (net : Network) → Sound s net → LanesCut s net → EndsDelivered s net }
-    ensures for_good { (s : Shape) (steps : List Step) (old new : Network) → IsMesh s → Sound s old → LanesCut s old → StepsLead s old steps new → EndsForGood s old new }
+    ensures for_good { (s : Shape) (steps : List Step) (old new : Network) → IsMesh s → Sound s old → LanesCut s old
+        → StepsLead s old steps new → EndsForGood s old new }
     ensures step { (s : Shape) → EachStepKeeps s (OnesClosed s) }
     ensures steps { (s : Shape) → AnyStepsKeep s (OnesClosed s) }
 {}
 
 /// What a sink has and what a source accepted stays, and only grows.
 pub fn ends_only_grow()
-    ensures sinks { (s : Shape) (steps : List Step) (old new : Network) → IsMesh s → StepsLead s old steps new → SinksGrow s old new }
-    ensures sources { (s : Shape) (steps : List Step) (old new : Network) → StepsLead s old steps new → SourcesGrow old new }
+    ensures sinks { (s : Shape) (steps : List Step) (old new : Network) → IsMesh s → StepsLead s old steps new
+        → SinksGrow s old new }
+    ensures sources { (s : Shape) (steps : List Step) (old new : Network) → StepsLead s old steps new
+        → SourcesGrow old new }
 {}
 
 /// The joint worm: what left a buffer last, the buffer and its link's flits of the channel are one worm, which ends
 /// where the link's writer stands. So are a sink's flits of a channel, and what a source feeds into one.
 pub fn links_hold_worms()
-    ensures link { (s : Shape) (net : Network) → Sound s net → (y o x v : ℕ) → s.neighbour y o ≡ Some x → Joint s net y o x v }
-    ensures sink { (s : Shape) (net : Network) → Sound s net → (x v : ℕ) → IsWorm (on_channel v (net.out x s.terminal)) }
-    ensures sink_end { (s : Shape) (net : Network) → Sound s net → (x v : ℕ) → EndsAt (latest_on v (net.out x s.terminal)) (held_last net x (net.holder x s.terminal v)) }
-    ensures source { (s : Shape) (net : Network) → Sound s net → (x v : ℕ) → IsWorm (option_to_list (net.last_out x s.terminal v) ++ (net.buffer x s.terminal v ++ unfed_on s net x v)) }
-    ensures next { (s : Shape) (net : Network) → IsMesh s → Sound s net → (x p v : ℕ) → IsPort s x p → ComesNext (net.last_out x p v) (awaited s net x p v) }
+    ensures link { (s : Shape) (net : Network) → Sound s net → (y o x v : ℕ) → s.neighbour y o ≡ Some x
+        → Joint s net y o x v }
+    ensures sink { (s : Shape) (net : Network) → Sound s net → (x v : ℕ)
+        → IsWorm (on_channel v (net.out x s.terminal)) }
+    ensures sink_end { (s : Shape) (net : Network) → Sound s net → (x v : ℕ)
+        → EndsAt (latest_on v (net.out x s.terminal)) (held_last net x (net.holder x s.terminal v)) }
+    ensures source { (s : Shape) (net : Network) → Sound s net → (x v : ℕ)
+        → IsWorm (option_to_list (net.last_out x s.terminal v) ++ (net.buffer x s.terminal v ++ unfed_on s net x v)) }
+    ensures next { (s : Shape) (net : Network) → IsMesh s → Sound s net → (x p v : ℕ) → IsPort s x p
+        → ComesNext (net.last_out x p v) (awaited s net x p v) }
 {}
 
 /// Record agreement, read from each channel: a record fits what left its buffer last and what its buffer holds.
 pub fn records_fit_their_channels()
-    ensures record { (s : Shape) (net : Network) → Sound s net → (x p v : ℕ) → RecordFits s x (net.in_record x p v) (net.last_out x p v) (net.buffer x p v) }
+    ensures record { (s : Shape) (net : Network) → Sound s net → (x p v : ℕ)
+        → RecordFits s x (net.in_record x p v) (net.last_out x p v) (net.buffer x p v) }
     ensures classes { (s : Shape) (net : Network) → Sound s net → ClassesMatch s net }
 {}
 

@@ -8,8 +8,12 @@ use worm_core::Net;
 use worm_report::{ReportFault, Summary, write_report};
 
 /// The report of two words for node 1 after one turn.
-const HALF_WAY: &[u8] =
-    b"wormreport 1\nturns 1 workers 1 drain 0\ndelivered 1 from 0 class 0 packet 0 flit 0 word 17\nunderway 0 1 class 0 packet 0 flit 1 source\nnot offered 0\ntotal injected 2 delivered 1 underway 1\n";
+const HALF_WAY: &[u8] = b"wormreport 1\n\
+      turns 1 workers 1 drain 0\n\
+      delivered 1 from 0 class 0 packet 0 flit 0 word 17\n\
+      underway 0 1 class 0 packet 0 flit 1 source\n\
+      not offered 0\n\
+      total injected 2 delivered 1 underway 1\n";
 
 /// The most bytes of a report here.
 pub const MOST: usize = 8192;

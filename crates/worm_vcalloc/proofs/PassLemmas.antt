@@ -1,45 +1,76 @@
 -- Lemmas that tie the code of a pass to its definition.
-use Rattle.std.proofs.Common.{◌≡◌, ℕ, ◌+◌, ◌/◌, ◌%◌, ◌<◌, ◌≤◌, Bool, true, false, List, zero, suc, fold, cond, ◌&&◌, ◌*◌, Option, Some, None, is_some, is_none, refl, sym, ap, ◌∙◌, arith, add-one, inl, inr}
+use Rattle.std.proofs.Common.{◌≡◌, ℕ, ◌+◌, ◌/◌, ◌%◌, ◌<◌, ◌≤◌, Bool, true, false, List, zero, suc, fold, cond, ◌&&◌}
+use Rattle.std.proofs.Common.{◌*◌, Option, Some, None, is_some, is_none, refl, sym, ap, ◌∙◌, arith, add-one, inl, inr}
 use Rattle.std.proofs.lemmas.Bool.{cases_Bool}
 use Rattle.std.specs.List.{range_with_len}
 use Rattle.worm_vcalloc.specs.declared.request.VcRequest.{VcRequest}
 use Rattle.worm_vcalloc.specs.Arbiter.{ArbiterState, winner, after_pick, line_requests, no_arbiter}
 use Rattle.worm_vcalloc.specs.Table.{cell, with_cell}
-use Rattle.worm_vcalloc.specs.VcAlloc.{VcAllocState, VcPass, IsVcAlloc, with_grant, is_requester, vc_winner, offered, vc_step, port_pass, vc_pass}
+use Rattle.worm_vcalloc.specs.VcAlloc.{VcAllocState, VcPass, IsVcAlloc, with_grant, is_requester, vc_winner, offered}
+use Rattle.worm_vcalloc.specs.VcAlloc.{vc_step, port_pass, vc_pass}
 use Rattle.worm_vcalloc.specs.VcRequest.{is_for, allows}
 use Rattle.worm_vcalloc.proofs.ArbiterLemmas.{winner_same, winner_none}
 use Rattle.worm_vcalloc.proofs.LineLemmas.{line_port}
 use Rattle.worm_vcalloc.proofs.TableLemmas.{with_cell_same}
 
 -- what `offer` leaves, by what its arbiter picked
-pub offer_is : (waiting : List (List (Option VcRequest))) (grants : List (List (Option ℕ))) (s : VcAllocState) (out channel requests : ℕ) (old new : ArbiterState) (line : Option ℕ)
+pub offer_is : (waiting : List (List (Option VcRequest))) (grants : List (List (Option ℕ))) (s : VcAllocState)
+    (out channel requests : ℕ) (old new : ArbiterState) (line : Option ℕ)
     → cell s.arbiters out channel no_arbiter ≡ old
     → old.pointer ≤ old.width
-    → ((i : ℕ) → i < old.width → line_requests requests i ≡ is_requester waiting grants out channel (i / s.channels) (i % s.channels))
+    → ((i : ℕ) → i < old.width → line_requests requests i
+    ≡ is_requester waiting grants out channel (i / s.channels) (i % s.channels))
     → line ≡ winner old (line_requests requests)
     → new ≡ after_pick old line
-    → record { alloc = record { ports = s.ports; channels = s.channels; arbiters = with_cell s.arbiters out channel new }; grants = with_grant s.channels grants channel line }
+    → record {
+      alloc = record {
+        ports = s.ports;
+        channels = s.channels;
+        arbiters = with_cell s.arbiters out channel new;
+      };
+      grants = with_grant s.channels grants channel line;
+    }
     ≡ offered waiting (record { alloc = s; grants = grants }) out channel
 unfolding offered
 offer_is waiting grants s out channel requests old new line here in_range lines won moved =
     let same : line ≡ vc_winner waiting (record { alloc = s; grants = grants }) out channel =
-    won ∙ winner_same old _ (λ i. is_requester waiting grants out channel (i / s.channels) (i % s.channels)) in_range lines
+    won ∙ winner_same old _ (λ i. is_requester waiting grants out channel (i / s.channels) (i % s.channels)) in_range
+    lines
     ∙ ap (λ a. winner a (λ i. is_requester waiting grants out channel (i / s.channels) (i % s.channels))) (sym here) in
-    let moved_here : new ≡ after_pick (cell s.arbiters out channel no_arbiter) line = moved ∙ ap (λ a. after_pick a line) (sym here) in
-    ap (λ a. record { alloc = record { ports = s.ports; channels = s.channels; arbiters = with_cell s.arbiters out channel a }; grants = with_grant s.channels grants channel line }) moved_here
-    ∙ ap (λ l. record { alloc = record { ports = s.ports; channels = s.channels; arbiters = with_cell s.arbiters out channel (after_pick (cell s.arbiters out channel no_arbiter) l) }; grants = with_grant s.channels grants channel l }) same
+    let moved_here : new ≡ after_pick (cell s.arbiters out channel no_arbiter) line =
+    moved ∙ ap (λ a. after_pick a line) (sym here) in
+    ap (λ a. record {
+      alloc = record {
+        ports = s.ports;
+        channels = s.channels;
+        arbiters = with_cell s.arbiters out channel a;
+      };
+      grants = with_grant s.channels grants channel line;
+    }) moved_here
+    ∙ ap (λ l. record {
+      alloc = record {
+        ports = s.ports;
+        channels = s.channels;
+        arbiters = with_cell s.arbiters out channel (after_pick (cell s.arbiters out channel no_arbiter) l);
+      };
+      grants = with_grant s.channels grants channel l;
+    }) same
 
 -- a fold over a range that is one longer
-fold-range_suc : {X : Type 0} (step : X → ℕ → X) (x : X) (a n : ℕ) → fold step x (range_with_len a (suc n)) ≡ step (fold step x (range_with_len a n)) (a + n)
+fold-range_suc : {X : Type 0} (step : X → ℕ → X) (x : X) (a n : ℕ)
+    → fold step x (range_with_len a (suc n)) ≡ step (fold step x (range_with_len a n)) (a + n)
 fold-range_suc step x a zero = ap (step x) (omega arith)
 fold-range_suc step x a (suc n) =
     fold-range_suc step (step x a) (a + 1) n ∙ ap (step (fold step (step x a) (range_with_len (a + 1) n))) (omega arith)
 
-pub fold-range_next : {X : Type 0} (step : X → ℕ → X) (x : X) (n : ℕ) → fold step x (range_with_len 0 (suc n)) ≡ step (fold step x (range_with_len 0 n)) n
+pub fold-range_next : {X : Type 0} (step : X → ℕ → X) (x : X) (n : ℕ)
+    → fold step x (range_with_len 0 (suc n)) ≡ step (fold step x (range_with_len 0 n)) n
 fold-range_next step x n = fold-range_suc step x 0 n ∙ ap (step (fold step x (range_with_len 0 n))) (omega arith)
 
-pub fold-range_more : {X : Type 0} (step : X → ℕ → X) (x : X) (n : ℕ) → fold step x (range_with_len 0 (n + 1)) ≡ step (fold step x (range_with_len 0 n)) n
-fold-range_more step x n = rw add-one (fold-range_suc step x 0 n ∙ ap (step (fold step x (range_with_len 0 n))) (omega arith))
+pub fold-range_more : {X : Type 0} (step : X → ℕ → X) (x : X) (n : ℕ)
+    → fold step x (range_with_len 0 (n + 1)) ≡ step (fold step x (range_with_len 0 n)) n
+fold-range_more step x n = rw add-one (fold-range_suc step x 0 n
+    ∙ ap (step (fold step x (range_with_len 0 n))) (omega arith))
 
 -- how far a pass has come, within which the numbers of ports and channels stay
 pub record Reached (first : VcAllocState) (here there : VcPass) : Type 0 where
@@ -48,7 +79,8 @@ pub record Reached (first : VcAllocState) (here there : VcPass) : Type 0 where
   pub channels : here.alloc.channels ≡ first.channels
 
 -- the loop over channels: a free channel is offered
-pub channel_offered : (waiting : List (List (Option VcRequest))) (free : List (List Bool)) (first : VcAllocState) (start here there : VcPass) (out channel : ℕ)
+pub channel_offered : (waiting : List (List (Option VcRequest))) (free : List (List Bool)) (first : VcAllocState)
+    (start here there : VcPass) (out channel : ℕ)
     → Reached first here (fold (vc_step waiting free out) start (range_with_len 0 channel))
     → cell free out channel false ≡ true
     → there ≡ offered waiting here out channel
@@ -57,28 +89,34 @@ pub channel_offered : (waiting : List (List (Option VcRequest))) (free : List (L
     → Reached first there (fold (vc_step waiting free out) start (range_with_len 0 (channel + 1)))
 channel_offered waiting free first start here there out channel r is_free is same_ports same_channels = record {
   is = is ∙ ap (λ p. offered waiting p out channel) r.is
-      ∙ sym (ap (λ b. cond b (offered waiting (fold (vc_step waiting free out) start (range_with_len 0 channel)) out channel) (fold (vc_step waiting free out) start (range_with_len 0 channel))) is_free)
+      ∙ sym (ap (λ b. cond b (offered waiting
+      (fold (vc_step waiting free out) start (range_with_len 0 channel)) out channel)
+      (fold (vc_step waiting free out) start (range_with_len 0 channel))) is_free)
       ∙ sym (fold-range_more (vc_step waiting free out) start channel);
   ports = same_ports ∙ r.ports;
   channels = same_channels ∙ r.channels;
 }
 
 -- the loop over channels: a held channel is passed over
-pub channel_passed : (waiting : List (List (Option VcRequest))) (free : List (List Bool)) (first : VcAllocState) (start here there : VcPass) (out channel : ℕ)
+pub channel_passed : (waiting : List (List (Option VcRequest))) (free : List (List Bool)) (first : VcAllocState)
+    (start here there : VcPass) (out channel : ℕ)
     → Reached first here (fold (vc_step waiting free out) start (range_with_len 0 channel))
     → cell free out channel false ≡ false
     → there ≡ here
     → Reached first there (fold (vc_step waiting free out) start (range_with_len 0 (channel + 1)))
 channel_passed waiting free first start here there out channel r is_held is = record {
   is = is ∙ r.is
-      ∙ sym (ap (λ b. cond b (offered waiting (fold (vc_step waiting free out) start (range_with_len 0 channel)) out channel) (fold (vc_step waiting free out) start (range_with_len 0 channel))) is_held)
+      ∙ sym (ap (λ b. cond b (offered waiting
+      (fold (vc_step waiting free out) start (range_with_len 0 channel)) out channel)
+      (fold (vc_step waiting free out) start (range_with_len 0 channel))) is_held)
       ∙ sym (fold-range_more (vc_step waiting free out) start channel);
   ports = ap (λ p. p.alloc.ports) is ∙ r.ports;
   channels = ap (λ p. p.alloc.channels) is ∙ r.channels;
 }
 
 -- the loop over ports
-pub port_passed : (waiting : List (List (Option VcRequest))) (free : List (List Bool)) (first : VcAllocState) (start here there : VcPass) (out : ℕ)
+pub port_passed : (waiting : List (List (Option VcRequest))) (free : List (List Bool)) (first : VcAllocState)
+    (start here there : VcPass) (out : ℕ)
     → Reached first here (fold (port_pass waiting free) start (range_with_len 0 out))
     → there ≡ port_pass waiting free here out
     → there.alloc.ports ≡ here.alloc.ports
@@ -93,7 +131,8 @@ port_passed waiting free first start here there out r is same_ports same_channel
 -- ---- where nobody asks
 
 -- an output channel that nobody asks for is offered in vain
-offered_unasked : (waiting : List (List (Option VcRequest))) (pass : VcPass) (out channel : ℕ) → IsVcAlloc pass.alloc.ports pass.alloc.channels pass.alloc.arbiters
+offered_unasked : (waiting : List (List (Option VcRequest))) (pass : VcPass) (out channel : ℕ)
+    → IsVcAlloc pass.alloc.ports pass.alloc.channels pass.alloc.arbiters
     → out < pass.alloc.ports → channel < pass.alloc.channels
     → ((p v : ℕ) → p < 7 → v < 8 → is_for (cell waiting p v None) out ≡ false)
     → offered waiting pass out channel ≡ pass
@@ -102,7 +141,8 @@ offered_unasked waiting pass out channel r lo lc none =
     let few = r.few_ports in
     let few' = r.few_channels in
     let a : ArbiterState = cell pass.alloc.arbiters out channel no_arbiter in
-    let asks : ℕ → Bool = λ line. is_requester waiting pass.grants out channel (line / pass.alloc.channels) (line % pass.alloc.channels) in
+    let asks : ℕ → Bool = λ line. is_requester waiting pass.grants out channel (line / pass.alloc.channels)
+    (line % pass.alloc.channels) in
     let wide : a.width ≡ pass.alloc.ports * pass.alloc.channels = r.width out channel (omega arith) (omega arith) in
     let low : a.pointer < pass.alloc.ports * pass.alloc.channels = r.pointer out channel (omega arith) (omega arith) in
     let nobody : winner a asks ≡ None =
@@ -110,15 +150,32 @@ offered_unasked waiting pass out channel r lo lc none =
     (λ line l.
     let place = line_port pass.alloc.ports pass.alloc.channels line r.some_channel (omega arith) in
     ap
-    (λ b. (b && allows (cell waiting (line / pass.alloc.channels) (line % pass.alloc.channels) None) channel) && is_none (cell pass.grants (line / pass.alloc.channels) (line % pass.alloc.channels) None))
-    (none (line / pass.alloc.channels) (line % pass.alloc.channels) (omega (arith, place.0)) (omega (arith, place.1)))) in
+    (λ b. (b && allows (cell waiting (line / pass.alloc.channels) (line % pass.alloc.channels) None) channel) && is_none
+    (cell pass.grants (line / pass.alloc.channels) (line % pass.alloc.channels) None))
+    (none (line / pass.alloc.channels) (line % pass.alloc.channels) (omega (arith, place.0))
+    (omega (arith, place.1)))) in
     ap
-    (λ line. record { alloc = record { ports = pass.alloc.ports; channels = pass.alloc.channels; arbiters = with_cell pass.alloc.arbiters out channel (after_pick a line) }; grants = with_grant pass.alloc.channels pass.grants channel line })
+    (λ line. record {
+      alloc = record {
+        ports = pass.alloc.ports;
+        channels = pass.alloc.channels;
+        arbiters = with_cell pass.alloc.arbiters out channel (after_pick a line);
+      };
+      grants = with_grant pass.alloc.channels pass.grants channel line;
+    })
     nobody
-    ∙ ap (λ arbiters. record { alloc = record { ports = pass.alloc.ports; channels = pass.alloc.channels; arbiters = arbiters }; grants = pass.grants }) (with_cell_same pass.alloc.arbiters out channel no_arbiter)
+    ∙ ap (λ arbiters. record {
+      alloc = record {
+        ports = pass.alloc.ports;
+        channels = pass.alloc.channels;
+        arbiters = arbiters;
+      };
+      grants = pass.grants;
+    }) (with_cell_same pass.alloc.arbiters out channel no_arbiter)
 
 -- an output port that nobody asks for is passed over
-pub port_pass_unasked : (waiting : List (List (Option VcRequest))) (free : List (List Bool)) (pass : VcPass) (out : ℕ) → IsVcAlloc pass.alloc.ports pass.alloc.channels pass.alloc.arbiters
+pub port_pass_unasked : (waiting : List (List (Option VcRequest))) (free : List (List Bool)) (pass : VcPass) (out : ℕ)
+    → IsVcAlloc pass.alloc.ports pass.alloc.channels pass.alloc.arbiters
     → out < pass.alloc.ports
     → ((p v : ℕ) → p < 7 → v < 8 → is_for (cell waiting p v None) out ≡ false)
     → port_pass waiting free pass out ≡ pass
@@ -126,20 +183,23 @@ unfolding port_pass
 port_pass_unasked waiting free pass out r lo none = go pass.alloc.channels (omega arith) where
   step : (channel : ℕ) → channel < pass.alloc.channels → vc_step waiting free out pass channel ≡ pass
   step channel lc = elim (cases_Bool (cell free out channel false)) [
-    | inl is_free ↦ ap (λ b. cond b (offered waiting pass out channel) pass) is_free ∙ offered_unasked waiting pass out channel r lo lc none
+    | inl is_free ↦ ap (λ b. cond b (offered waiting pass out channel) pass) is_free
+        ∙ offered_unasked waiting pass out channel r lo lc none
     | inr is_held ↦ ap (λ b. cond b (offered waiting pass out channel) pass) is_held
   ]
 
   go : (n : ℕ) → n ≤ pass.alloc.channels → fold (vc_step waiting free out) pass (range_with_len 0 n) ≡ pass
   go zero few = refl
-  go (suc n) few = fold-range_next (vc_step waiting free out) pass n ∙ ap (λ p. vc_step waiting free out p n) (go n (omega arith)) ∙ step n (omega arith)
+  go (suc n) few = fold-range_next (vc_step waiting free out) pass n
+      ∙ ap (λ p. vc_step waiting free out p n) (go n (omega arith)) ∙ step n (omega arith)
 
 pub none_where_not_some : {X : Type 0} (o : Option X) → is_some o ≡ false → o ≡ None
 none_where_not_some None e = refl
 none_where_not_some (Some x) e = absurd (cc)
 
 -- a pass in which nothing waits leaves all as it is
-pub vc_pass_unasked : (waiting : List (List (Option VcRequest))) (free : List (List Bool)) (pass : VcPass) → IsVcAlloc pass.alloc.ports pass.alloc.channels pass.alloc.arbiters
+pub vc_pass_unasked : (waiting : List (List (Option VcRequest))) (free : List (List Bool)) (pass : VcPass)
+    → IsVcAlloc pass.alloc.ports pass.alloc.channels pass.alloc.arbiters
     → ((p v : ℕ) → p < 7 → v < 8 → cell waiting p v None ≡ None)
     → vc_pass waiting free pass ≡ pass
 unfolding vc_pass

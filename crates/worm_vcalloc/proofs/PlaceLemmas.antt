@@ -1,5 +1,6 @@
 -- Lemmas on the places of a table whose cells pass a test.
-use Rattle.std.proofs.Common.{◌≡◌, ℕ, ◌+◌, ◌*◌, ◌/◌, ◌%◌, ◌^◌, ◌<◌, ◌≤◌, zero, suc, Bool, false, cond, ◌==◌, bit_or, List, Option, None, sym, ap, ◌∙◌, subst, arith, inl, inr, replicate}
+use Rattle.std.proofs.Common.{◌≡◌, ℕ, ◌+◌, ◌*◌, ◌/◌, ◌%◌, ◌^◌, ◌<◌, ◌≤◌, zero, suc, Bool, false, cond, ◌==◌, bit_or}
+use Rattle.std.proofs.Common.{List, Option, None, sym, ap, ◌∙◌, subst, arith, inl, inr, replicate}
 use Rattle.std.specs.Int.{bit_at}
 use Rattle.std.proofs.lemmas.Bool.{cases_eq, cases_Bool, eqb-true, eq-eqb}
 use Rattle.std.proofs.lemmas.Nat.{one_shl}
@@ -13,7 +14,8 @@ use Rattle.worm_vcalloc.proofs.SetLemmas.{has-zero}
 use Rattle.worm_vcalloc.proofs.TableLemmas.{cell-with_cell_same, cell-with_cell_other, cell-replicate}
 
 -- the places that pass, as lines that request
-places_lines : {X : Type 0} (test : Option X → Bool) (table : List (List (Option X))) (n : ℕ) → n ≤ 64 → LinesBelow (λ i. test (cell table (i / 8) (i % 8) None)) n (places_below test table n)
+places_lines : {X : Type 0} (test : Option X → Bool) (table : List (List (Option X))) (n : ℕ) → n ≤ 64
+    → LinesBelow (λ i. test (cell table (i / 8) (i % 8) None)) n (places_below test table n)
 unfolding places_below
 places_lines test table zero few = lines_none (λ i. test (cell table (i / 8) (i % 8) None))
 places_lines test table (suc n) few =
@@ -21,19 +23,24 @@ places_lines test table (suc n) few =
     let asks : ℕ → Bool = λ i. test (cell table (i / 8) (i % 8) None) in
     elim (cases_Bool (test (cell table (n / 8) (n % 8) None))) [
       | inl t ↦
-          subst (λ b. LinesBelow asks (suc n) (cond b (bit_or (places_below test table n) (2 ^ n)) (places_below test table n))) (sym t)
+          subst (λ b. LinesBelow asks (suc n)
+          (cond b (bit_or (places_below test table n) (2 ^ n)) (places_below test table n))) (sym t)
           (subst (λ m. LinesBelow asks m (bit_or (places_below test table n) (2 ^ n))) (omega arith)
-          (subst (λ bit. LinesBelow asks (n + 1) (bit_or (places_below test table n) bit)) (one_shl n 64 (omega arith)) (line_set asks n (places_below test table n) below (omega arith) t)))
+          (subst (λ bit. LinesBelow asks (n + 1) (bit_or (places_below test table n) bit)) (one_shl n 64 (omega arith))
+          (line_set asks n (places_below test table n) below (omega arith) t)))
       | inr f ↦
-          subst (λ b. LinesBelow asks (suc n) (cond b (bit_or (places_below test table n) (2 ^ n)) (places_below test table n))) (sym f)
-          (subst (λ m. LinesBelow asks m (places_below test table n)) (omega arith) (line_unset asks n (places_below test table n) below f))
+          subst (λ b. LinesBelow asks (suc n)
+          (cond b (bit_or (places_below test table n) (2 ^ n)) (places_below test table n))) (sym f)
+          (subst (λ m. LinesBelow asks m (places_below test table n)) (omega arith)
+          (line_unset asks n (places_below test table n) below f))
     ]
 
 pub places_small : {X : Type 0} (test : Option X → Bool) (table : List (List (Option X))) → places test table < 2 ^ 56
 places_small test table = (places_lines test table 56 (omega arith)).few
 
 -- a place is in the set where its cell passes
-pub has-places : {X : Type 0} (test : Option X → Bool) (table : List (List (Option X))) (p c : ℕ) → p < 7 → c < 8 → has (places test table) p c ≡ test (cell table p c None)
+pub has-places : {X : Type 0} (test : Option X → Bool) (table : List (List (Option X))) (p c : ℕ) → p < 7 → c < 8
+    → has (places test table) p c ≡ test (cell table p c None)
 has-places test table p c lp lc =
     ap (line_requests (places test table)) (omega arith)
     ∙ (places_lines test table 56 (omega arith)).lines (p * 8 + c) (omega arith)
@@ -55,12 +62,15 @@ places_only test table set small same =
     same_from_bits_below 56 set (places test table) small (places_small test table)
     (λ i l.
     let place : 8 * (i / 8) + i % 8 ≡ i = omega arith in
-    let here : has set (i / 8) (i % 8) ≡ has (places test table) (i / 8) (i % 8) = same (i / 8) (i % 8) (omega arith) (omega arith) ∙ sym (has-places test table (i / 8) (i % 8) (omega arith) (omega arith)) in
+    let here : has set (i / 8) (i % 8) ≡ has (places test table) (i / 8) (i % 8) =
+    same (i / 8) (i % 8) (omega arith) (omega arith)
+    ∙ sym (has-places test table (i / 8) (i % 8) (omega arith) (omega arith)) in
     same_bit (bit_at set i) (bit_at (places test table) i) (bit_at-lt set i) (bit_at-lt (places test table) i)
     (subst (λ k. (bit_at set k == 1) ≡ (bit_at (places test table) k == 1)) place here))
 
 -- a write of a cell changes the set at its place
-pub places_put : {X : Type 0} (test : Option X → Bool) (table : List (List (Option X))) (new port channel : ℕ) (x : Option X)
+pub places_put : {X : Type 0} (test : Option X
+    → Bool) (table : List (List (Option X))) (new port channel : ℕ) (x : Option X)
     → port < 7 → channel < 8 → IsTable table
     → IsPut (places test table) new port channel (test x) → new ≡ places test (with_cell table port channel x)
 places_put test table new port channel x lp lc shape put =
@@ -68,15 +78,20 @@ places_put test table new port channel x lp lc shape put =
     (λ p c l l'. elim (cases_eq p port) [
       | inl same ↦ elim (cases_eq c channel) [
         | inl same' ↦
-            ap (λ k. has new k c) same ∙ ap (λ k. has new port k) same' ∙ put.here ∙ ap test (sym (cell-with_cell_same table port channel x None shape lp lc))
-            ∙ ap (λ k. test (cell (with_cell table port channel x) port k None)) (sym same') ∙ ap (λ k. test (cell (with_cell table port channel x) k c None)) (sym same)
-        | inr other ↦ put.elsewhere p c l l' (λ _ e. other e) ∙ has-places test table p c l l' ∙ ap test (sym (cell-with_cell_other table port channel p c x None (λ _ e. other e)))
+            ap (λ k. has new k c) same ∙ ap (λ k. has new port k) same' ∙ put.here
+            ∙ ap test (sym (cell-with_cell_same table port channel x None shape lp lc))
+            ∙ ap (λ k. test (cell (with_cell table port channel x) port k None)) (sym same')
+            ∙ ap (λ k. test (cell (with_cell table port channel x) k c None)) (sym same)
+        | inr other ↦ put.elsewhere p c l l' (λ _ e. other e) ∙ has-places test table p c l l'
+            ∙ ap test (sym (cell-with_cell_other table port channel p c x None (λ _ e. other e)))
       ]
-      | inr other ↦ put.elsewhere p c l l' (λ e _. other e) ∙ has-places test table p c l l' ∙ ap test (sym (cell-with_cell_other table port channel p c x None (λ e _. other e)))
+      | inr other ↦ put.elsewhere p c l l' (λ e _. other e) ∙ has-places test table p c l l'
+          ∙ ap test (sym (cell-with_cell_other table port channel p c x None (λ e _. other e)))
     ])
 
 -- nothing stands in an empty table
-pub places_none : {X : Type 0} (test : Option X → Bool) → test None ≡ false → 0 ≡ places test (replicate 7 (replicate 8 None))
+pub places_none : {X : Type 0} (test : Option X → Bool) → test None ≡ false
+    → 0 ≡ places test (replicate 7 (replicate 8 None))
 places_none test none =
     places_only test (replicate 7 (replicate 8 None)) 0 (omega arith)
     (λ p c l l'. has-zero p c ∙ sym (ap test (cell-replicate 7 8 p c None) ∙ none))

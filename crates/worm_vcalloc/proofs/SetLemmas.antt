@@ -1,11 +1,15 @@
 -- Lemmas on sets of channels: what the operations on words do to their members.
-use Rattle.std.proofs.Common.{◌≡◌, ℕ, ◌+◌, ◌-◌, ◌*◌, ◌/◌, ◌%◌, ◌^◌, ◌<◌, ◌≤◌, Bool, true, false, refl, ◌==◌, not, ◌&&◌, ◌||◌, bit_and, bit_or, min, max, sym, ap, ◌∙◌, subst, arith, inl, inr}
+use Rattle.std.proofs.Common.{◌≡◌, ℕ, ◌+◌, ◌-◌, ◌*◌, ◌/◌, ◌%◌, ◌^◌, ◌<◌, ◌≤◌, Bool, true, false, refl, ◌==◌, not, ◌&&◌}
+use Rattle.std.proofs.Common.{◌||◌, bit_and, bit_or, min, max, sym, ap, ◌∙◌, subst, arith, inl, inr}
 use Rattle.std.specs.Int.{bit_at, bit_not, trailing_zeros, w64}
 use Rattle.std.specs.Int.Bits.{or_zero_r}
 use mir.Val.{bool_byte}
-use Rattle.std.proofs.lemmas.Bool.{cases_eq, cases_lt, eq-eqb, eqb-true, ne_eqb, and_from, and_parts, and_right, true≢false}
+use Rattle.std.proofs.lemmas.Bool.{cases_eq, cases_lt, eq-eqb, eqb-true, ne_eqb, and_from, and_parts, and_right}
+use Rattle.std.proofs.lemmas.Bool.{true≢false}
 use Rattle.std.proofs.lemmas.Nat.{one_shl, or_lt, and_le_l, shr-shr, shr_le, pow_below}
-use Rattle.std.proofs.lemmas.Nat.Bits.{bit_at_and, bit_at_or, bit_at_not, bit_at_ones, bit_at-lt, bit_at_set_same, bit_at_set_other, bit_at_clear_same, bit_at_clear_other, bit_at_above, bit_at-trailing_zeros}
+use Rattle.std.proofs.lemmas.Nat.Bits.{bit_at_and, bit_at_or, bit_at_not, bit_at_ones, bit_at-lt, bit_at_set_same}
+use Rattle.std.proofs.lemmas.Nat.Bits.{bit_at_set_other, bit_at_clear_same, bit_at_clear_other, bit_at_above}
+use Rattle.std.proofs.lemmas.Nat.Bits.{bit_at-trailing_zeros}
 use Rattle.std.proofs.Math.Pow.{pow_mono, shl_lt}
 use Rattle.worm_vcalloc.specs.Arbiter.{line_requests}
 use Rattle.worm_vcalloc.specs.ChannelSet.{has, IsPut, IsFirst, IsFirstPort, HasAll, IsFirstOutside}
@@ -59,23 +63,30 @@ has-zero p c = bit_unset 0 (8 * p + c) (bit_at_above 0 0 (8 * p + c) (omega arit
 pub has-empty : (set p c : ℕ) → (set == 0) ≡ true → has set p c ≡ false
 has-empty set p c e = ap (λ s. has s p c) (eqb-true set 0 e) ∙ has-zero p c
 
-pub put_in_fits : (bits port channel : ℕ) → bits < 2 ^ 56 → port < 7 → channel < 8 → bit_or bits (1 * 2 ^ (8 * port + channel) % 2 ^ 64) < 2 ^ 56
+pub put_in_fits : (bits port channel : ℕ) → bits < 2 ^ 56 → port < 7 → channel < 8
+    → bit_or bits (1 * 2 ^ (8 * port + channel) % 2 ^ 64) < 2 ^ 56
 put_in_fits bits port channel fits lp lc =
     let bit = one_shl (8 * port + channel) 64 (omega arith) in
     let low = pow_below (8 * port + channel) 56 (omega arith) in
     or_lt 56 bits (1 * 2 ^ (8 * port + channel) % 2 ^ 64) fits (omega arith)
 
-pub put_in : (bits port channel : ℕ) → bits < 2 ^ 56 → port < 7 → channel < 8 → IsPut bits (bit_or bits (1 * 2 ^ (8 * port + channel) % 2 ^ 64)) port channel true
+pub put_in : (bits port channel : ℕ) → bits < 2 ^ 56 → port < 7 → channel < 8
+    → IsPut bits (bit_or bits (1 * 2 ^ (8 * port + channel) % 2 ^ 64)) port channel true
 put_in bits port channel fits lp lc = record {
   here = bit_set _ _ (bit_at_set_same w64 bits (8 * port + channel) (omega arith));
-  elsewhere = λ p c _ l apart. ap (λ b. b == 1) (bit_at_set_other w64 bits (8 * port + channel) (omega arith) (8 * p + c) (λ e. apart (omega arith) (omega arith)));
+  elsewhere = λ p c _ l apart. ap (λ b. b == 1)
+      (bit_at_set_other w64 bits (8 * port + channel) (omega arith) (8 * p + c)
+      (λ e. apart (omega arith) (omega arith)));
   small = put_in_fits bits port channel fits lp lc;
 }
 
-pub put_out : (bits port channel : ℕ) → bits < 2 ^ 56 → port < 7 → channel < 8 → IsPut bits (bit_and bits (bit_not w64 (1 * 2 ^ (8 * port + channel) % 2 ^ 64))) port channel false
+pub put_out : (bits port channel : ℕ) → bits < 2 ^ 56 → port < 7 → channel < 8
+    → IsPut bits (bit_and bits (bit_not w64 (1 * 2 ^ (8 * port + channel) % 2 ^ 64))) port channel false
 put_out bits port channel fits lp lc = record {
   here = bit_unset _ _ (bit_at_clear_same w64 bits (8 * port + channel) (omega arith));
-  elsewhere = λ p c l l' apart. ap (λ b. b == 1) (bit_at_clear_other w64 bits (8 * port + channel) (omega arith) (8 * p + c) (omega arith) (λ e. apart (omega arith) (omega arith)));
+  elsewhere = λ p c l l' apart. ap (λ b. b == 1)
+      (bit_at_clear_other w64 bits (8 * port + channel) (omega arith) (8 * p + c) (omega arith)
+      (λ e. apart (omega arith) (omega arith)));
   small = let below = and_le_l bits (bit_not w64 (1 * 2 ^ (8 * port + channel) % 2 ^ 64)) in omega arith;
 }
 
@@ -86,15 +97,24 @@ written bits place comes = bit_or (bit_and bits (bit_not w64 (1 * 2 ^ place % 2 
 zero_times : (n : ℕ) → 0 * n ≡ 0
 zero_times n = omega arith
 
-pub put_as : (bits port channel : ℕ) (within : Bool) → bits < 2 ^ 56 → port < 7 → channel < 8 → IsPut bits (written bits (8 * port + channel) (bool_byte within)) port channel within
+pub put_as : (bits port channel : ℕ) (within : Bool) → bits < 2 ^ 56 → port < 7 → channel < 8
+    → IsPut bits (written bits (8 * port + channel) (bool_byte within)) port channel within
 put_as bits port channel true fits lp lc =
     let out = put_out bits port channel fits lp lc in
-    let both = put_in (bit_and bits (bit_not w64 (1 * 2 ^ (8 * port + channel) % 2 ^ 64))) port channel out.small lp lc in
-    record { here = both.here; elsewhere = λ p c l l' apart. both.elsewhere p c l l' apart ∙ out.elsewhere p c l l' apart; small = both.small }
+    let both = put_in (bit_and bits (bit_not w64 (1 * 2 ^ (8 * port + channel) % 2 ^ 64))) port channel out.small lp
+    lc in
+    record {
+      here = both.here;
+      elsewhere = λ p c l l' apart. both.elsewhere p c l l' apart
+          ∙ out.elsewhere p c l l' apart;
+      small = both.small;
+    }
 put_as bits port channel false fits lp lc =
-    let nothing : 0 * 2 ^ (8 * port + channel) % 2 ^ 64 ≡ 0 = ap (λ n. n % 2 ^ 64) (zero_times (2 ^ (8 * port + channel))) in
+    let nothing : 0 * 2 ^ (8 * port + channel) % 2 ^ 64 ≡ 0 =
+    ap (λ n. n % 2 ^ 64) (zero_times (2 ^ (8 * port + channel))) in
     subst (λ n. IsPut bits n port channel false)
-    (sym (ap (bit_or (bit_and bits (bit_not w64 (1 * 2 ^ (8 * port + channel) % 2 ^ 64)))) nothing ∙ or_zero_r (bit_and bits (bit_not w64 (1 * 2 ^ (8 * port + channel) % 2 ^ 64)))))
+    (sym (ap (bit_or (bit_and bits (bit_not w64 (1 * 2 ^ (8 * port + channel) % 2 ^ 64)))) nothing
+    ∙ or_zero_r (bit_and bits (bit_not w64 (1 * 2 ^ (8 * port + channel) % 2 ^ 64)))))
     (put_out bits port channel fits lp lc)
 
 -- ---- two sets
@@ -109,10 +129,12 @@ has_either a b p c =
     ap (λ x. x == 1) (bit_at_or a b (8 * p + c))
     ∙ either_set (bit_at a (8 * p + c)) (bit_at b (8 * p + c)) (bit_at-lt a (8 * p + c)) (bit_at-lt b (8 * p + c))
 
-pub has_first_alone : (a b p c : ℕ) → b < 2 ^ 64 → p < 7 → c < 8 → has (bit_and a (bit_not w64 b)) p c ≡ (has a p c && not (has b p c))
+pub has_first_alone : (a b p c : ℕ) → b < 2 ^ 64 → p < 7 → c < 8
+    → has (bit_and a (bit_not w64 b)) p c ≡ (has a p c && not (has b p c))
 has_first_alone a b p c fits lp lc =
     has_both a (bit_not w64 b) p c
-    ∙ ap (λ t. has a p c && t) (ap (λ x. x == 1) (bit_at_not w64 b (8 * p + c) fits (omega arith)) ∙ turned (bit_at b (8 * p + c)) (bit_at-lt b (8 * p + c)))
+    ∙ ap (λ t. has a p c && t) (ap (λ x. x == 1) (bit_at_not w64 b (8 * p + c) fits (omega arith))
+    ∙ turned (bit_at b (8 * p + c)) (bit_at-lt b (8 * p + c)))
 
 -- ---- the first channel
 
@@ -126,26 +148,31 @@ lowest_within bits some fits =
     ]
 
 pub first_taken : (bits : ℕ) → 0 < bits → bits < 2 ^ 56
-    → IsFirst bits (bit_and bits (bit_not w64 (1 * 2 ^ trailing_zeros w64 bits % 2 ^ 64))) (trailing_zeros w64 bits / 8) (trailing_zeros w64 bits % 8)
+    → IsFirst bits (bit_and bits (bit_not w64 (1 * 2 ^ trailing_zeros w64 bits % 2 ^ 64))) (trailing_zeros w64 bits / 8)
+    (trailing_zeros w64 bits % 8)
 first_taken bits some fits = record {
   port_in = let low = within in omega arith;
   channel_in = omega arith;
   was_in = ap (λ i. bit_at bits i == 1) same ∙ bit_set bits (trailing_zeros w64 bits) lowest.1;
   none_before = λ p c l before. bit_unset bits (8 * p + c) (lowest.2 (8 * p + c) (omega arith));
   taken =
-      subst (λ i. IsPut bits (bit_and bits (bit_not w64 (1 * 2 ^ i % 2 ^ 64))) (trailing_zeros w64 bits / 8) (trailing_zeros w64 bits % 8) false) same
-      (put_out bits (trailing_zeros w64 bits / 8) (trailing_zeros w64 bits % 8) fits (let low = within in omega arith) (omega arith));
+      subst (λ i. IsPut bits (bit_and bits (bit_not w64 (1 * 2 ^ i % 2 ^ 64))) (trailing_zeros w64 bits / 8)
+      (trailing_zeros w64 bits % 8) false) same
+      (put_out bits (trailing_zeros w64 bits / 8) (trailing_zeros w64 bits % 8) fits (let low = within in
+      omega arith) (omega arith));
   fewer =
       let below = and_le_l bits (bit_not w64 (1 * 2 ^ trailing_zeros w64 bits % 2 ^ 64)) in
       elim (cases_eq (bit_and bits (bit_not w64 (1 * 2 ^ trailing_zeros w64 bits % 2 ^ 64))) bits) [
-        | inl e ↦ let gone = bit_at_clear_same w64 bits (trailing_zeros w64 bits) lowest.0 in let kept = ap (λ n. bit_at n (trailing_zeros w64 bits)) e in absurd (omega (arith, lowest.1))
+        | inl e ↦ let gone = bit_at_clear_same w64 bits (trailing_zeros w64 bits) lowest.0 in let kept =
+            ap (λ n. bit_at n (trailing_zeros w64 bits)) e in absurd (omega (arith, lowest.1))
         | inr ne ↦ omega arith
       ];
 } where
   within : trailing_zeros w64 bits < 56
   within = lowest_within bits some fits
 
-  lowest : (trailing_zeros w64 bits < 64) × (bit_at bits (trailing_zeros w64 bits) ≡ 1) × ((i : ℕ) → i < trailing_zeros w64 bits → bit_at bits i ≡ 0)
+  lowest : (trailing_zeros w64 bits < 64) × (bit_at bits (trailing_zeros w64 bits) ≡ 1) × ((i : ℕ)
+      → i < trailing_zeros w64 bits → bit_at bits i ≡ 0)
   lowest = bit_at-trailing_zeros w64 bits some (omega arith)
 
   same : 8 * (trailing_zeros w64 bits / 8) + trailing_zeros w64 bits % 8 ≡ trailing_zeros w64 bits
@@ -164,29 +191,36 @@ port_mask port l =
 has-port_mask : (port p c : ℕ) → c < 8 → has (255 * 2 ^ (8 * port)) p c ≡ (p == port)
 has-port_mask port p c lc = elim (cases_eq p port) [
   | inl same ↦
-      bit_set _ _ (shifted_high 255 (8 * port) (8 * p + c) (omega arith) ∙ bit_at_ones 8 (8 * p + c - 8 * port) (omega arith))
+      bit_set _ _ (shifted_high 255 (8 * port) (8 * p + c) (omega arith)
+      ∙ bit_at_ones 8 (8 * p + c - 8 * port) (omega arith))
       ∙ sym (eq-eqb p port same)
   | inr other ↦
       bit_unset _ _ (elim (cases_lt p port) [
         | inl below ↦ shifted_low 255 (8 * port) (8 * p + c) (omega arith)
-        | inr above ↦ shifted_high 255 (8 * port) (8 * p + c) (omega arith) ∙ bit_at_above 255 8 (8 * p + c - 8 * port) (omega arith) (omega arith)
+        | inr above ↦ shifted_high 255 (8 * port) (8 * p + c) (omega arith)
+            ∙ bit_at_above 255 8 (8 * p + c - 8 * port) (omega arith) (omega arith)
       ])
       ∙ sym (ne_eqb p port other)
 ]
 
 pub port_taken : (bits : ℕ) → 0 < bits → bits < 2 ^ 56
-    → IsFirstPort bits (bit_and bits (bit_not w64 (255 * 2 ^ (8 * (trailing_zeros w64 bits / 8)) % 2 ^ 64))) (trailing_zeros w64 bits / 8)
+    → IsFirstPort bits (bit_and bits (bit_not w64 (255 * 2 ^ (8 * (trailing_zeros w64 bits / 8)) % 2 ^ 64)))
+    (trailing_zeros w64 bits / 8)
 port_taken bits some fits = record {
   port_in = port_in;
   some_in = (trailing_zeros w64 bits % 8, omega arith, here);
   none_before = λ p c l l'. bit_unset bits (8 * p + c) (lowest.2 (8 * p + c) (omega arith));
-  taken = λ c l. left port c port_in l ∙ and_right (has bits port c) (not (port == port)) (ap not (eq-eqb port port refl));
-  elsewhere = λ p c l l' other. left p c l l' ∙ ap (λ b. has bits p c && not b) (ne_eqb p port other) ∙ and_true (has bits p c);
+  taken = λ c l. left port c port_in l ∙ and_right (has bits port c) (not (port == port))
+      (ap not (eq-eqb port port refl));
+  elsewhere = λ p c l l' other. left p c l l' ∙ ap (λ b. has bits p c && not b) (ne_eqb p port other)
+      ∙ and_true (has bits p c);
   fewer =
       let below = and_le_l bits (bit_not w64 (255 * 2 ^ (8 * port) % 2 ^ 64)) in
       elim (cases_eq (bit_and bits (bit_not w64 (255 * 2 ^ (8 * port) % 2 ^ 64))) bits) [
         | inl e ↦
-            let gone = left port (trailing_zeros w64 bits % 8) port_in (omega arith) ∙ and_right (has bits port (trailing_zeros w64 bits % 8)) (not (port == port)) (ap not (eq-eqb port port refl)) in
+            let gone = left port (trailing_zeros w64 bits % 8) port_in (omega arith)
+            ∙ and_right (has bits port (trailing_zeros w64 bits % 8)) (not (port == port))
+            (ap not (eq-eqb port port refl)) in
             absurd (true≢false (sym here ∙ sym (ap (λ n. has n port (trailing_zeros w64 bits % 8)) e) ∙ gone))
         | inr ne ↦ omega arith
       ];
@@ -194,7 +228,8 @@ port_taken bits some fits = record {
   port : ℕ
   port = trailing_zeros w64 bits / 8
 
-  lowest : (trailing_zeros w64 bits < 64) × (bit_at bits (trailing_zeros w64 bits) ≡ 1) × ((i : ℕ) → i < trailing_zeros w64 bits → bit_at bits i ≡ 0)
+  lowest : (trailing_zeros w64 bits < 64) × (bit_at bits (trailing_zeros w64 bits) ≡ 1) × ((i : ℕ)
+      → i < trailing_zeros w64 bits → bit_at bits i ≡ 0)
   lowest = bit_at-trailing_zeros w64 bits some (omega arith)
 
   port_in : trailing_zeros w64 bits / 8 < 7
@@ -206,10 +241,13 @@ port_taken bits some fits = record {
   here : has bits (trailing_zeros w64 bits / 8) (trailing_zeros w64 bits % 8) ≡ true
   here = ap (λ i. bit_at bits i == 1) same ∙ bit_set bits (trailing_zeros w64 bits) lowest.1
 
-  left : (p c : ℕ) → p < 7 → c < 8 → has (bit_and bits (bit_not w64 (255 * 2 ^ (8 * (trailing_zeros w64 bits / 8)) % 2 ^ 64))) p c ≡ (has bits p c && not (p == (trailing_zeros w64 bits / 8)))
+  left : (p c : ℕ) → p < 7 → c < 8 → has
+      (bit_and bits (bit_not w64 (255 * 2 ^ (8 * (trailing_zeros w64 bits / 8)) % 2 ^ 64))) p c
+      ≡ (has bits p c && not (p == (trailing_zeros w64 bits / 8)))
   left p c l l' =
       ap (λ m. has (bit_and bits (bit_not w64 m)) p c) (port_mask (trailing_zeros w64 bits / 8) port_in)
-      ∙ has_first_alone bits (255 * 2 ^ (8 * (trailing_zeros w64 bits / 8))) p c (let e = port_mask (trailing_zeros w64 bits / 8) port_in in omega arith) l l'
+      ∙ has_first_alone bits (255 * 2 ^ (8 * (trailing_zeros w64 bits / 8))) p c
+      (let e = port_mask (trailing_zeros w64 bits / 8) port_in in omega arith) l l'
       ∙ ap (λ b. has bits p c && not b) (has-port_mask (trailing_zeros w64 bits / 8) p c l')
 
 -- ---- rows
@@ -222,7 +260,9 @@ row_lines bits port channels channel few l =
     ap (λ m. bit_at (bit_and (bits / 2 ^ (8 * port)) (m - 1)) channel == 1) ones
     ∙ ap (λ b. b == 1) (bit_at_and (bits / 2 ^ (8 * port)) (2 ^ channels - 1) channel)
     ∙ ap (λ y. min (bit_at (bits / 2 ^ (8 * port)) channel) y == 1) (bit_at_ones channels channel l)
-    ∙ ap (λ b. b == 1) (let one = bit_at-lt (bits / 2 ^ (8 * port)) channel in let e : min (bit_at (bits / 2 ^ (8 * port)) channel) 1 ≡ bit_at (bits / 2 ^ (8 * port)) channel = omega arith in e)
+    ∙ ap (λ b. b == 1) (let one = bit_at-lt (bits / 2 ^ (8 * port)) channel in
+    let e : min (bit_at (bits / 2 ^ (8 * port)) channel) 1
+    ≡ bit_at (bits / 2 ^ (8 * port)) channel = omega arith in e)
     ∙ ap (λ n. (n % 2) == 1) (shr-shr bits (8 * port) channel)
 
 -- ---- channels that are not in the set
@@ -231,13 +271,16 @@ row_lines bits port channels channel few l =
 abbrev outside_of : ℕ → ℕ → ℕ → ℕ
 outside_of bits port channels = bit_and channels (bit_not w64 (bits / 2 ^ (8 * port)))
 
-outside_has : (bits port channels c : ℕ) → bits < 2 ^ 56 → c < 64 → (bit_at (outside_of bits port channels) c == 1) ≡ ((bit_at channels c == 1) && not (has bits port c))
+outside_has : (bits port channels c : ℕ) → bits < 2 ^ 56 → c < 64
+    → (bit_at (outside_of bits port channels) c == 1) ≡ ((bit_at channels c == 1) && not (has bits port c))
 outside_has bits port channels c fits low =
     let less = shr_le bits (8 * port) in
     ap (λ x. x == 1) (bit_at_and channels (bit_not w64 (bits / 2 ^ (8 * port))) c)
-    ∙ both_set (bit_at channels c) (bit_at (bit_not w64 (bits / 2 ^ (8 * port))) c) (bit_at-lt channels c) (bit_at-lt (bit_not w64 (bits / 2 ^ (8 * port))) c)
+    ∙ both_set (bit_at channels c) (bit_at (bit_not w64 (bits / 2 ^ (8 * port))) c) (bit_at-lt channels c)
+    (bit_at-lt (bit_not w64 (bits / 2 ^ (8 * port))) c)
     ∙ ap (λ t. (bit_at channels c == 1) && t)
-    (ap (λ x. x == 1) (bit_at_not w64 (bits / 2 ^ (8 * port)) c (omega arith) low) ∙ turned (bit_at (bits / 2 ^ (8 * port)) c) (bit_at-lt (bits / 2 ^ (8 * port)) c)
+    (ap (λ x. x == 1) (bit_at_not w64 (bits / 2 ^ (8 * port)) c (omega arith) low)
+    ∙ turned (bit_at (bits / 2 ^ (8 * port)) c) (bit_at-lt (bits / 2 ^ (8 * port)) c)
     ∙ ap (λ n. not ((n % 2) == 1)) (shr-shr bits (8 * port) c))
 
 -- a channel of the byte
@@ -251,11 +294,13 @@ has_else : (a h : Bool) → a ≡ true → (a && not h) ≡ false → h ≡ true
 has_else a true is none = refl
 has_else a false is none = absurd (true≢false (sym (ap (λ t. t && true) is) ∙ none))
 
-pub all_inside : (bits port channels : ℕ) → bits < 2 ^ 56 → channels < 2 ^ 8 → outside_of bits port channels ≡ 0 → HasAll bits port channels
+pub all_inside : (bits port channels : ℕ) → bits < 2 ^ 56 → channels < 2 ^ 8 → outside_of bits port channels ≡ 0
+    → HasAll bits port channels
 all_inside bits port channels fits byte none = λ c is.
     let low = in_byte channels c byte is in
     has_else (bit_at channels c == 1) (has bits port c) is
-    (sym (outside_has bits port channels c fits (omega arith)) ∙ ap (λ n. bit_at n c == 1) none ∙ bit_unset 0 c (bit_at_above 0 0 c (omega arith) (omega arith)))
+    (sym (outside_has bits port channels c fits (omega arith)) ∙ ap (λ n. bit_at n c == 1) none
+    ∙ bit_unset 0 c (bit_at_above 0 0 c (omega arith) (omega arith)))
 
 pub first_out : (bits port channels : ℕ) → bits < 2 ^ 56 → channels < 2 ^ 8 → 0 < outside_of bits port channels
     → IsFirstOutside bits port channels (trailing_zeros w64 (outside_of bits port channels))
@@ -265,16 +310,20 @@ first_out bits port channels fits byte some = record {
   outside = not_true (has bits port first) both.1;
   all_before = λ c before is.
       has_else (bit_at channels c == 1) (has bits port c) is
-      (sym (outside_has bits port channels c fits (omega (arith, low))) ∙ bit_unset (outside_of bits port channels) c (lowest.2 c before));
+      (sym (outside_has bits port channels c fits (omega (arith, low)))
+      ∙ bit_unset (outside_of bits port channels) c (lowest.2 c before));
 } where
   first : ℕ
   first = trailing_zeros w64 (outside_of bits port channels)
 
-  lowest : (first < 64) × (bit_at (outside_of bits port channels) first ≡ 1) × ((i : ℕ) → i < first → bit_at (outside_of bits port channels) i ≡ 0)
-  lowest = let less = and_le_l channels (bit_not w64 (bits / 2 ^ (8 * port))) in bit_at-trailing_zeros w64 (outside_of bits port channels) some (omega arith)
+  lowest : (first < 64) × (bit_at (outside_of bits port channels) first ≡ 1) × ((i : ℕ) → i < first
+      → bit_at (outside_of bits port channels) i ≡ 0)
+  lowest = let less = and_le_l channels (bit_not w64 (bits / 2 ^ (8 * port))) in
+      bit_at-trailing_zeros w64 (outside_of bits port channels) some (omega arith)
 
   both : ((bit_at channels first == 1) ≡ true) × (not (has bits port first) ≡ true)
-  both = and_parts _ _ (sym (outside_has bits port channels first fits lowest.0) ∙ bit_set (outside_of bits port channels) first lowest.1)
+  both = and_parts _ _ (sym (outside_has bits port channels first fits lowest.0)
+      ∙ bit_set (outside_of bits port channels) first lowest.1)
 
   low : first < 8
   low = in_byte channels first byte both.0

@@ -1,5 +1,6 @@
 -- One pass of virtual-channel allocation (Dally and Towles, chapter 19).
-use Rattle.std.specs.Prelude.{◌≡◌, ℕ, ◌*◌, ◌/◌, ◌%◌, ◌<◌, ◌≤◌, ◌&&◌, Bool, false, if◌then◌else◌, List, Option, Some, None, is_none, IsTrue, fold, replicate}
+use Rattle.std.specs.Prelude.{◌≡◌, ℕ, ◌*◌, ◌/◌, ◌%◌, ◌<◌, ◌≤◌, ◌&&◌, Bool, false, if◌then◌else◌, List, Option, Some}
+use Rattle.std.specs.Prelude.{None, is_none, IsTrue, fold, replicate}
 use Rattle.std.specs.List.{range_with_len}
 use Rattle.worm_vcalloc.specs.declared.request.VcRequest.{VcRequest}
 use Rattle.worm_vcalloc.specs.VcRequest.{may_use}
@@ -61,10 +62,12 @@ unfoldable pub vc_pass : List (List (Option VcRequest)) → List (List Bool) →
 vc_pass waiting free pass = fold (port_pass waiting free) pass (range_with_len 0 pass.alloc.ports)
 
 -- one input channel alone may use free output channels, of which this one is the first
-pub record IsSoleRequest (waiting : List (List (Option VcRequest))) (free : List (List Bool)) (port vc out channel : ℕ) : Type 0 where
+pub record IsSoleRequest (waiting : List (List (Option VcRequest))) (free : List (List Bool))
+    (port vc out channel : ℕ) : Type 0 where
   pub asks : IsTrue (may_use (cell waiting port vc None) out channel)
   pub is_free : IsTrue (cell free out channel false)
-  pub sole : (o c p v : ℕ) → IsTrue (cell free o c false) → IsTrue (may_use (cell waiting p v None) o c) → (p ≡ port) × (v ≡ vc)
+  pub sole : (o c p v : ℕ) → IsTrue (cell free o c false) → IsTrue (may_use (cell waiting p v None) o c)
+      → (p ≡ port) × (v ≡ vc)
   pub first : (c : ℕ) → c < channel → IsTrue (cell free out c false) → may_use (cell waiting port vc None) out c ≡ false
 
 -- the grant of one input channel alone
@@ -81,18 +84,23 @@ pub record IsVcAlloc (ports channels : ℕ) (arbiters : List (List ArbiterState)
   pub pointer : (i j : ℕ) → i < 7 → j < 8 → (cell arbiters i j no_arbiter).pointer < ports * channels
 
 -- input channel (port, vc) was granted this channel of this output port
-pub record HasWon (waiting : List (List (Option VcRequest))) (grants : List (List (Option ℕ))) (port vc out channel : ℕ) : Type 0 where
+pub record HasWon (waiting : List (List (Option VcRequest))) (grants : List (List (Option ℕ)))
+    (port vc out channel : ℕ) : Type 0 where
   pub requested : IsTrue (may_use (cell waiting port vc None) out channel)
   pub granted : cell grants port vc None ≡ Some channel
 
 -- the grants of a pass match requests to free output channels
-pub record IsChannelMatching (ports channels : ℕ) (waiting : List (List (Option VcRequest))) (free : List (List Bool)) (grants : List (List (Option ℕ))) : Type 0 where
+pub record IsChannelMatching (ports channels : ℕ) (waiting : List (List (Option VcRequest))) (free : List (List Bool))
+    (grants : List (List (Option ℕ))) : Type 0 where
   -- each grant is a request, for a free channel of the port that is waited for
   pub requested : (port vc channel : ℕ) → cell grants port vc None ≡ Some channel
-      → (out : ℕ) × HasWon waiting grants port vc out channel × IsTrue (cell free out channel false) × (port < ports) × (vc < channels) × (out < ports) × (channel < channels)
+      → (out : ℕ) × HasWon waiting grants port vc out channel × IsTrue (cell free out channel false) × (port < ports)
+      × (vc < channels) × (out < ports) × (channel < channels)
   -- no output channel is granted twice
-  pub once : (port vc port' vc' out channel : ℕ) → HasWon waiting grants port vc out channel → HasWon waiting grants port' vc' out channel → (port ≡ port') × (vc ≡ vc')
+  pub once : (port vc port' vc' out channel : ℕ) → HasWon waiting grants port vc out channel
+      → HasWon waiting grants port' vc' out channel → (port ≡ port') × (vc ≡ vc')
   -- a free output channel that an ungranted input channel may use has a winner
   pub complete : (out channel port vc : ℕ) → out < ports → channel < channels → port < ports → vc < channels
-      → IsTrue (cell free out channel false) → IsTrue (may_use (cell waiting port vc None) out channel) → cell grants port vc None ≡ None
+      → IsTrue (cell free out channel false) → IsTrue (may_use (cell waiting port vc None) out channel)
+      → cell grants port vc None ≡ None
       → (port' : ℕ) × (vc' : ℕ) × HasWon waiting grants port' vc' out channel

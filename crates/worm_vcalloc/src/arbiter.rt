@@ -1,5 +1,6 @@
 ghost use Rattle.std.specs.Prelude.{◌≡◌, ◌^◌, ◌<◌, ◌≤◌, IfSome, MatchOption, Some};
-ghost use Rattle.worm_vcalloc.specs.Arbiter.{ArbiterState, winner, line_requests, after_pick, IsFirstRequester, NoRequester};
+ghost use Rattle.worm_vcalloc.specs.Arbiter.{ArbiterState, winner, line_requests, after_pick, IsFirstRequester};
+ghost use Rattle.worm_vcalloc.specs.Arbiter.{NoRequester};
 
 use std::marker::Model;
 
@@ -53,7 +54,8 @@ impl Arbiter {
     pub fn peek(&self, requests: u64) -> Option<u8>
         requires { requests < 2 ^ self.now.width }
         ensures winner { result ≡ winner self.now (line_requests requests) }
-        ensures first { MatchOption result (NoRequester self.now (line_requests requests)) (IsFirstRequester self.now (line_requests requests)) }
+        ensures first { MatchOption result (NoRequester self.now (line_requests requests))
+            (IsFirstRequester self.now (line_requests requests)) }
         ensures within { IfSome result (λ line. line < self.now.width) }
     {
         let ahead = requests >> self.pointer;

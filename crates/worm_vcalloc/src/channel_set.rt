@@ -64,7 +64,8 @@ impl ChannelSet {
 
     /// Takes out the first channel, by rising port and then channel; None where the set is empty.
     pub fn pop_first(&mut self) -> Option<(u8, u8)>
-        ensures { MatchOption result ((self.old ≡ 0) × (self.new ≡ 0)) (λ place. IsFirst self.old self.new place.0 place.1) }
+        ensures { MatchOption result ((self.old ≡ 0) × (self.new ≡ 0))
+            (λ place. IsFirst self.old self.new place.0 place.1) }
     {
         if self.bits == 0 {
             return None;
@@ -143,7 +144,8 @@ impl ChannelSet {
         requires ports { ports ≤ 7 }
         requires channels { channels ≤ 8 }
         ensures few { result < 2 ^ (ports * channels) }
-        ensures lines { (line : ℕ) → line < ports * channels → line_requests result line ≡ has self.now (line / channels) (line % channels) }
+        ensures lines { (line : ℕ) → line < ports * channels
+            → line_requests result line ≡ has self.now (line / channels) (line % channels) }
     {
         let mut lines = 0;
         for port in 0..ports {

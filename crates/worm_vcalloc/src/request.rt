@@ -54,7 +54,11 @@ impl Model for VcRequests {
 
     ghost invariant = { λ r. IsFiled r.table.rows r.waiting r.by_port };
 
-    ghost inverse = { λ v. record { table = record { rows = v }; waiting = places is_some v; by_port = filed_by_port v } };
+    ghost inverse = { λ v. record {
+      table = record { rows = v };
+      waiting = places is_some v;
+      by_port = filed_by_port v;
+    } };
 
     ghost inverse_ok = { λ a h i. record {
       table = a.table;
@@ -136,8 +140,10 @@ impl VcRequests {
 fn put_at(by_port: &mut [ChannelSet; 7], request: Option<VcRequest>, port: u8, vc: u8, within: bool)
     requires port { port < 7 }
     requires vc { vc < 8 }
-    ensures asked { (out : ℕ) → out < 7 → is_for request out ≡ true → IsPut (slice_index_or by_port.old out 0) (slice_index_or by_port.new out 0) port vc within }
-    ensures others { (out : ℕ) → out < 7 → is_for request out ≡ false → slice_index_or by_port.new out 0 ≡ slice_index_or by_port.old out 0 }
+    ensures asked { (out : ℕ) → out < 7 → is_for request out ≡ true
+        → IsPut (slice_index_or by_port.old out 0) (slice_index_or by_port.new out 0) port vc within }
+    ensures others { (out : ℕ) → out < 7 → is_for request out ≡ false
+        → slice_index_or by_port.new out 0 ≡ slice_index_or by_port.old out 0 }
 {
     if let Some(request) = request
         && request.out < 7

@@ -1,6 +1,8 @@
-ghost use Rattle.std.specs.Prelude.{◌≡◌, ℕ, ◌+◌, ◌*◌, ◌^◌, ◌<◌, ◌≤◌, ◌/◌, ◌%◌, IfSome, None, Bool, List, Option, length, replicate};
+ghost use Rattle.std.specs.Prelude.{◌≡◌, ℕ, ◌+◌, ◌*◌, ◌^◌, ◌<◌, ◌≤◌, ◌/◌, ◌%◌, IfSome, None, Bool, List, Option};
+ghost use Rattle.std.specs.Prelude.{length, replicate};
 ghost use Rattle.worm_vcalloc.specs.Arbiter.{ArbiterState, line_requests};
-ghost use Rattle.worm_vcalloc.specs.VcAlloc.{VcAllocState, VcPass, IsVcAlloc, IsChannelMatching, IsSoleRequest, sole_grant, is_requester, offered, port_pass, vc_pass};
+ghost use Rattle.worm_vcalloc.specs.VcAlloc.{VcAllocState, VcPass, IsVcAlloc, IsChannelMatching, IsSoleRequest};
+ghost use Rattle.worm_vcalloc.specs.VcAlloc.{sole_grant, is_requester, offered, port_pass, vc_pass};
 ghost use Rattle.worm_vcalloc.specs.declared.request.VcRequest.{VcRequest};
 
 use crate::arbiter::Arbiter;
@@ -51,7 +53,11 @@ impl VcAlloc {
         requires few_ports { ports ≤ 7 }
         requires some_channel { 0 < channels }
         requires few_channels { channels ≤ 8 }
-        ensures { result ≡ record { ports = ports; channels = channels; arbiters = replicate 7 (replicate 8 (record { width = ports * channels; pointer = 0 })) } }
+        ensures { result ≡ record {
+          ports = ports;
+          channels = channels;
+          arbiters = replicate 7 (replicate 8 (record { width = ports * channels; pointer = 0 }));
+        } }
     {
         VcAlloc {
             ports,
@@ -63,7 +69,11 @@ impl VcAlloc {
     /// One pass: each free output channel, by rising port and then channel, goes to the requester
     /// that its arbiter picks among the input channels that may use it and have no grant yet.
     pub fn grant(&mut self, waiting: &VcRequests, free: &FreeChannels) -> VcGrants
-        ensures pass { record { alloc = self.new; grants = result } ≡ vc_pass waiting.now free.now (record { alloc = self.old; grants = replicate 7 (replicate 8 None) }) }
+        ensures pass { record {
+          alloc = self.new;
+          grants = result;
+        } ≡ vc_pass waiting.now free.now
+            (record { alloc = self.old; grants = replicate 7 (replicate 8 None) }) }
         ensures matching { IsChannelMatching self.old.ports self.old.channels waiting.now free.now result }
         ensures ports { self.new.ports ≡ self.old.ports }
         ensures channels { self.new.channels ≡ self.old.channels }
@@ -79,15 +89,20 @@ impl VcAlloc {
         grants
     }
 
-    /// The same pass for a caller that knows that one input channel alone may use free output channels, of which this one is
-    /// the first: it goes to that input channel.
+    /// The same pass for a caller that knows that one input channel alone may use free output channels, of which this
+    /// one is the first: it goes to that input channel.
     pub fn grant_sole(&mut self, port: u8, vc: u8, out: u8, channel: u8)
         requires port { port < self.old.ports }
         requires vc { vc < self.old.channels }
         requires out { out < self.old.ports }
         requires channel { channel < self.old.channels }
-        ensures pass { (waiting : List (List (Option VcRequest))) → (free : List (List Bool)) → IsSoleRequest waiting free port vc out channel → record { alloc = self.new; grants = sole_grant port vc channel } ≡ vc_pass waiting free (record { alloc = self.old; grants = replicate 7 (replicate 8 None) }) }
-        ensures matching { (waiting : List (List (Option VcRequest))) → (free : List (List Bool)) → IsSoleRequest waiting free port vc out channel → IsChannelMatching self.old.ports self.old.channels waiting free (sole_grant port vc channel) }
+        ensures pass { (waiting : List (List (Option VcRequest))) → (free : List (List Bool))
+            → IsSoleRequest waiting free port vc out channel
+            → record { alloc = self.new; grants = sole_grant port vc channel }
+            ≡ vc_pass waiting free (record { alloc = self.old; grants = replicate 7 (replicate 8 None) }) }
+        ensures matching { (waiting : List (List (Option VcRequest))) → (free : List (List Bool))
+            → IsSoleRequest waiting free port vc out channel
+            → IsChannelMatching self.old.ports self.old.channels waiting free (sole_grant port vc channel) }
         ensures ports { self.new.ports ≡ self.old.ports }
         ensures channels { self.new.channels ≡ self.old.channels }
     {
@@ -104,7 +119,11 @@ impl VcAlloc {
         grants: &mut VcGrants,
     )
         requires { out < self.old.ports }
-        ensures pass { record { alloc = self.new; grants = grants.new } ≡ port_pass waiting.now free.now (record { alloc = self.old; grants = grants.old }) out }
+        ensures pass { record {
+          alloc = self.new;
+          grants = grants.new;
+        } ≡ port_pass waiting.now free.now
+            (record { alloc = self.old; grants = grants.old }) out }
         ensures ports { self.new.ports ≡ self.old.ports }
         ensures channels { self.new.channels ≡ self.old.channels }
     {
@@ -123,7 +142,11 @@ impl VcAlloc {
     fn offer(&mut self, out: u8, channel: u8, waiting: &VcRequests, grants: &mut VcGrants)
         requires out { out < self.old.ports }
         requires channel { channel < self.old.channels }
-        ensures pass { record { alloc = self.new; grants = grants.new } ≡ offered waiting.now (record { alloc = self.old; grants = grants.old }) out channel }
+        ensures pass { record {
+          alloc = self.new;
+          grants = grants.new;
+        } ≡ offered waiting.now
+            (record { alloc = self.old; grants = grants.old }) out channel }
         ensures ports { self.new.ports ≡ self.old.ports }
         ensures channels { self.new.channels ≡ self.old.channels }
     {
@@ -138,7 +161,9 @@ impl VcAlloc {
         requires out { out < self.now.ports }
         requires channel { channel < self.now.channels }
         ensures few { result < 2 ^ (self.now.ports * self.now.channels) }
-        ensures lines { (line : ℕ) → line < self.now.ports * self.now.channels → line_requests result line ≡ is_requester waiting.now grants.now out channel (line / self.now.channels) (line % self.now.channels) }
+        ensures lines { (line : ℕ) → line < self.now.ports * self.now.channels
+            → line_requests result line ≡ is_requester waiting.now grants.now out channel (line / self.now.channels)
+            (line % self.now.channels) }
     {
         let (ports, channels) = (self.ports, self.channels);
         let mut lines = 0;

@@ -2,3 +2,5 @@ pub mod PortSets
 pub mod Wired
 pub mod Arriving
 pub mod Strides
+pub mod Looking
+pub mod Apart

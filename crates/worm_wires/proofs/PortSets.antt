@@ -1,8 +1,10 @@
 -- Sets of ports: what a write of one port makes of them.
-use Rattle.std.proofs.Common.{◌≡◌, ℕ, ◌+◌, ◌-◌, ◌*◌, ◌/◌, ◌%◌, ◌^◌, ◌<◌, ◌≤◌, inl, inr, sym, true, false, ◌==◌, bit_and, bit_or, ap, ◌∙◌, arith}
+use Rattle.std.proofs.Common.{◌≡◌, ℕ, ◌+◌, ◌-◌, ◌*◌, ◌/◌, ◌%◌, ◌^◌, ◌<◌, ◌≤◌, inl, inr, sym, true, false, ◌==◌, bit_and}
+use Rattle.std.proofs.Common.{bit_or, ap, ◌∙◌, arith}
 use Rattle.std.specs.Int.{bit_at, bit_not, trailing_zeros, w8}
 use Rattle.std.proofs.lemmas.Bool.{cases_lt, eq-eqb, eqb-true, ne_eqb}
-use Rattle.std.proofs.lemmas.Nat.Bits.{bit_at_set_same, bit_at_set_other, bit_at_clear_same, bit_at_clear_other, bit_at_above, bit_at-zero, bit_at-trailing_zeros}
+use Rattle.std.proofs.lemmas.Nat.Bits.{bit_at_set_same, bit_at_set_other, bit_at_clear_same, bit_at_clear_other}
+use Rattle.std.proofs.lemmas.Nat.Bits.{bit_at_above, bit_at-zero, bit_at-trailing_zeros}
 use Rattle.std.proofs.lemmas.Nat.{shr-shr, shr_le}
 use Rattle.worm_wires.specs.Ports.{has, IsFirstFrom, IsPut}
 
@@ -22,7 +24,8 @@ put_in bits port within = record {
 pub put_out : (bits port : ℕ) → port < 6 → IsPut bits (bit_and bits (bit_not w8 (1 * 2 ^ port % 2 ^ 8))) port false
 put_out bits port within = record {
   here = bit_unset _ _ (bit_at_clear_same w8 bits port (omega arith));
-  elsewhere = λ p p_in apart. ap (λ b. b == 1) (bit_at_clear_other w8 bits port (omega arith) p (omega arith) (λ e. apart (omega arith)));
+  elsewhere = λ p p_in apart. ap (λ b. b == 1)
+      (bit_at_clear_other w8 bits port (omega arith) p (omega arith) (λ e. apart (omega arith)));
 }
 
 -- the first port from one on
@@ -33,9 +36,12 @@ shifted_bit bits from k = ap (λ n. n % 2) (shr-shr bits from k)
 pub none_from : (bits from : ℕ) → bits / 2 ^ from ≡ 0 → (p : ℕ) → from ≤ p → p < 8 → has bits p ≡ false
 none_from bits from none p above below =
     let place : from + (p - from) ≡ p = omega arith in
-    bit_unset bits p (ap (bit_at bits) (sym place) ∙ (sym (shifted_bit bits from (p - from)) ∙ (ap (λ n. bit_at n (p - from)) none ∙ bit_at-zero (p - from))))
+    bit_unset bits p (ap (bit_at bits) (sym place)
+    ∙ (sym (shifted_bit bits from (p - from)) ∙ (ap (λ n. bit_at n (p - from)) none ∙ bit_at-zero (p - from))))
 
-pub first_from : (bits from : ℕ) → bits < 2 ^ 8 → 0 < bits / 2 ^ from → bits / 2 ^ from < 2 ^ 8 → from + trailing_zeros w8 (bits / 2 ^ from) < 8 → IsFirstFrom bits from (from + trailing_zeros w8 (bits / 2 ^ from))
+pub first_from : (bits from : ℕ) → bits < 2 ^ 8 → 0 < bits / 2 ^ from → bits / 2 ^ from < 2 ^ 8
+    → from + trailing_zeros w8 (bits / 2 ^ from) < 8
+    → IsFirstFrom bits from (from + trailing_zeros w8 (bits / 2 ^ from))
 first_from bits from fits some small within =
     let lowest = bit_at-trailing_zeros w8 (bits / 2 ^ from) some small in
     record {
@@ -44,17 +50,20 @@ first_from bits from fits some small within =
       within = eq-eqb _ 1 (sym (shifted_bit bits from (trailing_zeros w8 (bits / 2 ^ from))) ∙ lowest.1);
       none_before = λ p above before.
           let place : from + (p - from) ≡ p = omega arith in
-          bit_unset bits p (ap (bit_at bits) (sym place) ∙ (sym (shifted_bit bits from (p - from)) ∙ lowest.2 (p - from) (omega arith)));
+          bit_unset bits p (ap (bit_at bits) (sym place)
+          ∙ (sym (shifted_bit bits from (p - from)) ∙ lowest.2 (p - from) (omega arith)));
     }
 
 -- the lowest bit of what is left is one of the set
-pub within_byte : (bits from : ℕ) → bits < 2 ^ 8 → 0 < bits / 2 ^ from → bits / 2 ^ from < 2 ^ 8 → from + trailing_zeros w8 (bits / 2 ^ from) < 8
+pub within_byte : (bits from : ℕ) → bits < 2 ^ 8 → 0 < bits / 2 ^ from → bits / 2 ^ from < 2 ^ 8
+    → from + trailing_zeros w8 (bits / 2 ^ from) < 8
 within_byte bits from fits some small =
     let lowest = bit_at-trailing_zeros w8 (bits / 2 ^ from) some small in
     elim (cases_lt (from + trailing_zeros w8 (bits / 2 ^ from)) 8) [
       | inl l ↦ l
       | inr g ↦
-          let above : bit_at bits (from + trailing_zeros w8 (bits / 2 ^ from)) ≡ 0 = bit_at_above bits 8 (from + trailing_zeros w8 (bits / 2 ^ from)) fits g in
+          let above : bit_at bits (from + trailing_zeros w8 (bits / 2 ^ from)) ≡ 0 =
+          bit_at_above bits 8 (from + trailing_zeros w8 (bits / 2 ^ from)) fits g in
           let one = sym (shifted_bit bits from (trailing_zeros w8 (bits / 2 ^ from))) ∙ lowest.1 in absurd (omega arith)
     ]
 

@@ -1,5 +1,6 @@
 -- What one step in a dimension adds to a node's number.
-use Rattle.std.proofs.Common.{ℕ, zero, suc, ◌≡◌, ◌+◌, ◌-◌, ◌*◌, ◌/◌, ◌%◌, ◌<◌, ◌≤◌, List, [], ◌∷◌, length, get_or, Bool, true, false}
+use Rattle.std.proofs.Common.{ℕ, zero, suc, ◌≡◌, ◌+◌, ◌-◌, ◌*◌, ◌/◌, ◌%◌, ◌<◌, ◌≤◌, List, [], ◌∷◌, length, get_or, Bool}
+use Rattle.std.proofs.Common.{true, false}
 use Rattle.std.proofs.Common.{Option, Some, None, IsSome, arith, refl, ap, sym, ◌∙◌}
 use Rattle.std.proofs.Math.Nat.{div-add-mod, zero-div, zero-mod}
 use Rattle.std.proofs.lemmas.Nat.{mul-le}
@@ -21,16 +22,19 @@ no_digit : (ks : List ℕ) (d : ℕ) → d < length ks → digit_of ks 0 d ≡ 0
 no_digit ks d h = digit_of_is ks 0 d h ∙ rw (zero-div (stride_of ks d), zero-mod (get_or ks d 0)) refl
 
 -- node 0 has a neighbour on the plus side of each dimension, as far as one step
-pub step_from_zero : (ks : List ℕ) (d port : ℕ) → IsRadices ks → d < length ks → port ≡ 2 * d + 1 → neighbour_of ks 0 port ≡ Some (stride_of ks d)
+pub step_from_zero : (ks : List ℕ) (d port : ℕ) → IsRadices ks → d < length ks → port ≡ 2 * d + 1
+    → neighbour_of ks 0 port ≡ Some (stride_of ks d)
 step_from_zero ks d port radices h same =
     let large = AreLarge-from_radices ks radices.radices in
     let odd : port % 2 ≡ 1 = omega (arith, same) in
     let dim : port / 2 ≡ d = omega (arith, same) in
     let below : port < 2 * length ks = omega (arith, same, h) in
-    let room : digit_of ks 0 (port / 2) + 1 < get_or ks (port / 2) 0 = rw dim (rw (no_digit ks d h) (omega (arith, large_at ks d large h))) in
+    let room : digit_of ks 0 (port / 2) + 1 < get_or ks (port / 2) 0 =
+    rw dim (rw (no_digit ks d h) (omega (arith, large_at ks d large h))) in
     let there = has_up ks 0 port (nodes_there ks large) below odd room in
     let far : 0 + stride_of ks (port / 2) ≡ stride_of ks d = rw dim (omega arith) in
-    neighbour_of-some ks 0 port (0 + stride_of ks (port / 2)) large (up ks 0 port large there odd) ∙ ap (λ (y : ℕ). Some y) far
+    neighbour_of-some ks 0 port (0 + stride_of ks (port / 2)) large (up ks 0 port large there odd)
+    ∙ ap (λ (y : ℕ). Some y) far
 
 neighbour_there : (ks : List ℕ) (x port : ℕ) → IsSome (neighbour_of ks x port) → has_neighbour ks x port ≡ true
 neighbour_there ks x port some = by_test (has_neighbour ks x port) refl
@@ -51,11 +55,14 @@ pub step_up : (ks : List ℕ) (x port : ℕ) → IsRadices ks → IsSome (neighb
     → (x + stride_of ks (port / 2) < 256) × (neighbour_of ks x port ≡ Some (x + stride_of ks (port / 2)))
 step_up ks x port radices some odd =
     let large = AreLarge-from_radices ks radices.radices in
-    let joins = up ks x port large (neighbour_there ks x port some) odd in
-    (omega (arith, joins.to_node, radices.few_nodes), neighbour_of-some ks x port (x + stride_of ks (port / 2)) large joins)
+    let joins = up ks x port large (neighbour_there ks x port some) odd in (
+      omega (arith, joins.to_node, radices.few_nodes),
+      neighbour_of-some ks x port (x + stride_of ks (port / 2)) large joins,
+    )
 
 -- what is kept of the dimension of a port that has a neighbour
-pub step_kept : (ks now strides : List ℕ) (x port i : ℕ) → AreStrides ks strides → ks ≡ now → IsRadices now → IsSome (neighbour_of now x port) → i ≡ port / 2
+pub step_kept : (ks now strides : List ℕ) (x port i : ℕ) → AreStrides ks strides → ks ≡ now → IsRadices now
+    → IsSome (neighbour_of now x port) → i ≡ port / 2
     → get_or strides i 0 ≡ stride_of now (port / 2)
 step_kept ks now strides x port i kept same radices some at =
     let large = AreLarge-from_radices now radices.radices in

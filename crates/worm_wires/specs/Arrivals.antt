@@ -1,6 +1,8 @@
--- The mesh ports of a node at which something may come in: a flit from the link into the port, or a credit from the link out
--- of it (Dally and Towles, chapter 13). A port that is not kept has nothing coming in; one that is kept may have nothing, but is there.
-use Rattle.std.specs.Prelude.{ℕ, ◌≡◌, ◌<◌, ◌*◌, false, true, length, List, [], slice_index_or, slice_set, Option, None, Some}
+-- The mesh ports of a node at which something may come in: a flit from the link into the port, or a credit from the
+-- link out of it (Dally and Towles, chapter 13). A port that is not kept has nothing coming in; one that is kept may
+-- have nothing, but is there.
+use Rattle.std.specs.Prelude.{ℕ, ◌≡◌, ◌<◌, ◌*◌, false, true, length, List, [], slice_index_or, slice_set, Option, None}
+use Rattle.std.specs.Prelude.{Some}
 use Rattle.worm_flit.specs.declared.Flit.{Flit}
 use Rattle.worm_mesh.specs.Address.{neighbour_of}
 use Rattle.worm_mesh.specs.Links.{links_before}

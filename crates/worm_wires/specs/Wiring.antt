@@ -20,7 +20,12 @@ into_from mesh p (Some y) = links_before mesh y (opposite_of p)
 -- the node beyond a port, the port by which that is entered, and the two numbers
 abbrev pub port_links : List ℕ → ℕ → ℕ → Option PortLinks
 port_links mesh x p =
-    option_map (λ y. record { beyond = y; entered = opposite_of p; out = links_before mesh x p; into = links_before mesh y (opposite_of p) }) (neighbour_of mesh x p)
+    option_map (λ y. record {
+      beyond = y;
+      entered = opposite_of p;
+      out = links_before mesh x p;
+      into = links_before mesh y (opposite_of p);
+    }) (neighbour_of mesh x p)
 
 -- what is kept of the number of a link, or of there being none: no link has the number 65,535
 abbrev pub kept_number : Option ℕ → ℕ

@@ -1,5 +1,6 @@
 ghost use Rattle.worm_wires.specs.Links.{empty_link};
-ghost use Rattle.std.specs.Prelude.{◌≡◌, [], ◌∷◌, ◌++◌, ◌<◌, length, drop, min, slice_get, Some, IfOk, ◌≤◌, IfNone, IsSome, option_to_list, vec_len, vec_capacity};
+ghost use Rattle.std.specs.Prelude.{◌≡◌, [], ◌∷◌, ◌++◌, ◌<◌, length, drop, min, slice_get, Some, IfOk, ◌≤◌, IfNone};
+ghost use Rattle.std.specs.Prelude.{IsSome, option_to_list, vec_len, vec_capacity};
 
 use std::alloc::{AllocError, Global};
 use std::marker::Model;
@@ -39,9 +40,14 @@ impl Model for LinkState {
 
     ghost Value = { LinkView };
 
-    ghost view = { λ l. record { flits = option_to_list l.front ++ l.flits.items; credits = option_to_list l.front_credit ++ l.credits.items; room = l.room } };
+    ghost view = { λ l. record {
+      flits = option_to_list l.front ++ l.flits.items;
+      credits = option_to_list l.front_credit ++ l.credits.items;
+      room = l.room;
+    } };
 
-    ghost invariant = { λ l. (IsFronted l.front l.has_more l.flits.items (vec_capacity l.flits) l.room) × (IsFronted l.front_credit l.has_more_credits l.credits.items (vec_capacity l.credits) l.room) };
+    ghost invariant = { λ l. (IsFronted l.front l.has_more l.flits.items (vec_capacity l.flits) l.room)
+        × (IsFronted l.front_credit l.has_more_credits l.credits.items (vec_capacity l.credits) l.room) };
 }
 
 /// Takes the first out of the list, if there is one.
@@ -237,7 +243,10 @@ impl LinkState {
     /// Exchanges the flits on the two links, and neither keeps more room than both had.
     pub fn swap_flits(&mut self, other: &mut LinkState)
         ensures this { self.new ≡ record self.old { flits = other.old.flits; room = min self.old.room other.old.room } }
-        ensures that { other.new ≡ record other.old { flits = self.old.flits; room = min self.old.room other.old.room } }
+        ensures that { other.new ≡ record other.old {
+          flits = self.old.flits;
+          room = min self.old.room other.old.room;
+        } }
     {
         keep_least(&mut self.room, &mut other.room);
         swap(&mut self.front, &mut other.front);
@@ -247,8 +256,14 @@ impl LinkState {
 
     /// Exchanges the credits on their way back over the two links, and neither keeps more room than both had.
     pub fn swap_credits(&mut self, other: &mut LinkState)
-        ensures this { self.new ≡ record self.old { credits = other.old.credits; room = min self.old.room other.old.room } }
-        ensures that { other.new ≡ record other.old { credits = self.old.credits; room = min self.old.room other.old.room } }
+        ensures this { self.new ≡ record self.old {
+          credits = other.old.credits;
+          room = min self.old.room other.old.room;
+        } }
+        ensures that { other.new ≡ record other.old {
+          credits = self.old.credits;
+          room = min self.old.room other.old.room;
+        } }
     {
         keep_least(&mut self.room, &mut other.room);
         swap(&mut self.front_credit, &mut other.front_credit);

@@ -1,10 +1,13 @@
-//! The links of a mesh with what is on them, and by node the ports at which something comes in, so that a turn goes past all others.
+//! The links of a mesh with what is on them, and by node the ports at which something comes in, so that a turn goes
+//! past all others.
 
-ghost use Rattle.std.specs.Prelude.{◌≡◌, ◌<◌, ◌≤◌, ◌*◌, ◌↔◌, ◌==◌, ◌++◌, ◌∷◌, [], ℕ, IfNone, IfSome, IsSome, IsTrue, Option, Some, false, true, drop, length, slice_get, slice_set};
+ghost use Rattle.std.specs.Prelude.{◌≡◌, ◌<◌, ◌≤◌, ◌*◌, ◌↔◌, ◌==◌, ◌++◌, ◌∷◌, [], ℕ, IfNone, IfSome, IsSome, IsTrue};
+ghost use Rattle.std.specs.Prelude.{Option, Some, false, true, drop, length, slice_get, slice_set};
 ghost use Rattle.worm_mesh.specs.Address.{IsMesh as IsRadices, neighbour_of};
 ghost use Rattle.worm_mesh.specs.Links.{link_count};
 ghost use Rattle.worm_wires.specs.Links.{LinkView};
-ghost use Rattle.worm_wires.specs.Arrivals.{KnowsArrivals, LinksView, credits_of, credits_to, flits_of, flits_to, number_into, number_out, state_at, with_state};
+ghost use Rattle.worm_wires.specs.Arrivals.{KnowsArrivals, LinksView, credits_of, credits_to, flits_of, flits_to};
+ghost use Rattle.worm_wires.specs.Arrivals.{number_into, number_out, state_at, with_state};
 ghost use Rattle.worm_wires.specs.Wiring.{port_links};
 
 use crate::LinkState;
@@ -216,7 +219,9 @@ impl Links {
         requires mesh_port { port < 6 }
         requires links { length self.old.states ≡ link_count self.old.mesh }
         requires linked { IsSome (neighbour_of self.old.mesh node port) }
-        ensures { self.new ≡ with_state self.old (number_into self.old node port) (record (state_at self.old (number_into self.old node port)) { flits = drop 1 (state_at self.old (number_into self.old node port)).flits }) }
+        ensures { self.new ≡ with_state self.old (number_into self.old node port)
+            (record (state_at self.old (number_into self.old node port))
+            { flits = drop 1 (state_at self.old (number_into self.old node port)).flits }) }
     {
         let link = &mut self.states[usize::from(number)];
         link.pop();
@@ -239,8 +244,11 @@ impl Links {
     pub fn push(&mut self, node: u8, port: u8, flit: Flit)
         requires links { length self.old.states ≡ link_count self.old.mesh }
         requires linked { IsSome (neighbour_of self.old.mesh node port) }
-        requires room { length (state_at self.old (number_out self.old node port)).flits < (state_at self.old (number_out self.old node port)).room }
-        ensures { self.new ≡ with_state self.old (number_out self.old node port) (record (state_at self.old (number_out self.old node port)) { flits = (state_at self.old (number_out self.old node port)).flits ++ flit ∷ [] }) }
+        requires room { length (state_at self.old (number_out self.old node port)).flits
+            < (state_at self.old (number_out self.old node port)).room }
+        ensures { self.new ≡ with_state self.old (number_out self.old node port)
+            (record (state_at self.old (number_out self.old node port))
+            { flits = (state_at self.old (number_out self.old node port)).flits ++ flit ∷ [] }) }
     {
         let links = self.wiring.links_beyond(node, port);
         let link = &mut self.states[usize::from(links.out)];
@@ -256,7 +264,9 @@ impl Links {
         requires mesh_port { port < 6 }
         requires links { length self.old.states ≡ link_count self.old.mesh }
         requires linked { IsSome (neighbour_of self.old.mesh node port) }
-        ensures { self.new ≡ with_state self.old (number_out self.old node port) (record (state_at self.old (number_out self.old node port)) { credits = drop 1 (state_at self.old (number_out self.old node port)).credits }) }
+        ensures { self.new ≡ with_state self.old (number_out self.old node port)
+            (record (state_at self.old (number_out self.old node port))
+            { credits = drop 1 (state_at self.old (number_out self.old node port)).credits }) }
     {
         let link = &mut self.states[usize::from(number)];
         link.pop_credit();
@@ -280,8 +290,11 @@ impl Links {
         requires mesh { IsRadices self.old.mesh }
         requires ports { Some links ≡ port_links self.old.mesh node port }
         requires links { length self.old.states ≡ link_count self.old.mesh }
-        requires room { length (state_at self.old (number_into self.old node port)).credits < (state_at self.old (number_into self.old node port)).room }
-        ensures { self.new ≡ with_state self.old (number_into self.old node port) (record (state_at self.old (number_into self.old node port)) { credits = (state_at self.old (number_into self.old node port)).credits ++ vc ∷ [] }) }
+        requires room { length (state_at self.old (number_into self.old node port)).credits
+            < (state_at self.old (number_into self.old node port)).room }
+        ensures { self.new ≡ with_state self.old (number_into self.old node port)
+            (record (state_at self.old (number_into self.old node port))
+            { credits = (state_at self.old (number_into self.old node port)).credits ++ vc ∷ [] }) }
     {
         let link = &mut self.states[usize::from(links.into)];
         link.push_credit(vc);

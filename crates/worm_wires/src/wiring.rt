@@ -3,7 +3,8 @@
 ghost use Rattle.std.specs.Prelude.{◌≡◌, ◌<◌, ◌≤◌, ◌*◌, ℕ, IfSome, IsSome, Some, length};
 ghost use Rattle.worm_mesh.specs.Address.{IsMesh as IsRadices, neighbour_of, node_count, stride_of};
 ghost use Rattle.worm_mesh.specs.Links.{link_count, links_before};
-ghost use Rattle.worm_wires.specs.Wiring.{AreLinksOf, AreStrides, in_link, into_from, kept_number, out_link, port_links};
+ghost use Rattle.worm_wires.specs.Wiring.{AreLinksOf, AreStrides, in_link, into_from, kept_number, out_link};
+ghost use Rattle.worm_wires.specs.Wiring.{port_links};
 
 use std::marker::Model;
 use worm_mesh::Mesh;
@@ -199,7 +200,8 @@ impl Wiring {
         // The numbers again, by themselves.
         ensures out { IfSome result (λ links. links.out ≡ links_before self.now node port) }
         ensures into { IfSome result (λ links. links.into ≡ into_from self.now port (neighbour_of self.now node port)) }
-        ensures bound { IfSome result (λ links. (links.out < link_count self.now) × (links.into < link_count self.now)) }
+        ensures bound { IfSome result (λ links. (links.out < link_count self.now)
+            × (links.into < link_count self.now)) }
         ensures mesh_ports { IfSome result (λ links. (port < 6) × (links.entered < 6)) }
     {
         let _nodes = self.mesh.nodes();

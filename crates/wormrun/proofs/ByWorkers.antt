@@ -1,5 +1,6 @@
 -- What the program answers where workers ran, and where they did not.
-use Rattle.std.proofs.Common.{◌≡◌, ◌≢◌, ◌⊎◌, ℕ, ◌+◌, ◌<◌, zero, suc, inl, inr, Bool, true, false, List, [], ◌∷◌, ◌++◌, length, Some, None, Option, Ok, Err, refl, arith, ap, sym, subst, ◌∙◌}
+use Rattle.std.proofs.Common.{◌≡◌, ◌≢◌, ◌⊎◌, ℕ, ◌+◌, ◌<◌, zero, suc, inl, inr, Bool, true, false, List, [], ◌∷◌, ◌++◌}
+use Rattle.std.proofs.Common.{length, Some, None, Option, Ok, Err, refl, arith, ap, sym, subst, ◌∙◌}
 use Rattle.std.specs.Prelude.{All, Result, MatchResult, if◌then◌else◌}
 use Rattle.std.specs.Io.KnownBytes.{Keeps}
 use Rattle.std.proofs.lemmas.List.Elements.{All-cons, All-nil}
@@ -29,7 +30,8 @@ use Rattle.worm_text.specs.Network.{Network}
 use Rattle.wormrun.specs.declared.fault.ProgramFault.{ProgramFault}
 use Rattle.wormrun.specs.declared.fault.ProgramFault.TheVariants as f
 use Rattle.wormrun.specs.Programs.{Stream, WritesFront, WritesReport}
-use Rattle.wormrun.specs.Together.{DrainsUnstopped, EndsTogether, FailsTogether, IsReportOf, NeverRan, PartTogether, RanTogether, RanWhole, ReportsTogether, lack_memory}
+use Rattle.wormrun.specs.Together.{DrainsUnstopped, EndsTogether, FailsTogether, IsReportOf, NeverRan, PartTogether}
+use Rattle.wormrun.specs.Together.{RanTogether, RanWhole, ReportsTogether, lack_memory}
 
 -- Stops
 
@@ -84,7 +86,8 @@ module _ (may : ℕ → ℕ → Type 0) (script : List Entry) (plan : RunPlan) (
       let runs = ran.runs in
       let none = ap (λ (l : List Stop). lack_memory l) (sym runs.stops) ∙ quiet.1 in
       let gate = by_gate 0 runs.endings
-      (λ i why below is. run_never_refuses may config.radices config.channels config.depth config.classes script plan opening
+      (λ i why below is. run_never_refuses may config.radices config.channels config.depth config.classes script plan
+      opening
       ran.end fresh fine runs i why (let all = runs.all in omega arith) is) none in
       record {
         ran = record {
@@ -93,7 +96,8 @@ module _ (may : ℕ → ℕ → Type 0) (script : List Entry) (plan : RunPlan) (
           later = ran.later;
           delivers = ran.delivers;
           stopped = ran.stopped;
-          drained = subst (λ (g : Option StepFault). DrainsUnstopped most ran.end.stops.items ran.end.net g closing) quiet.0 ran.drained;
+          drained = subst (λ (g : Option StepFault). DrainsUnstopped most ran.end.stops.items ran.end.net g closing)
+              quiet.0 ran.drained;
         };
         by_gate = subst (λ (l : List Stop). All (λ (s : Stop). s.why ≡ Gate) l) (sym runs.stops) gate;
       }
@@ -125,7 +129,8 @@ module _ (may : ℕ → ℕ → Type 0) (network traffic : List ℕ) (plan : Run
       fresh = base.fresh;
       closing = base.closing;
       table = base.table;
-      leads = ends_whole may base.script plan drain base.config base.opening base.closing base.table fault base.fresh fine writes.0 base.leads;
+      leads = ends_whole may base.script plan drain base.config base.opening base.closing base.table fault base.fresh
+          fine writes.0 base.leads;
       reported = base.reported;
     };
     written = writes.1;

@@ -17,10 +17,21 @@ product a (k ∷ radices) = product (a * k) radices ∙ mul_assoc a k (node_coun
 pub all_nodes : (radices : List ℕ) → nodes_of radices ≡ node_count radices
 all_nodes radices = product 1 radices ∙ one-mul (node_count radices)
 
-pub kept_config : (format : Format) (n : Network) (names : ℕ) → names ≡ length n.classes → Keeps format n → IsConfig n.radices n.channels n.depth names
+pub kept_config : (format : Format) (n : Network) (names : ℕ) → names ≡ length n.classes → Keeps format n
+    → IsConfig n.radices n.channels n.depth names
 kept_config format n names all kept = record {
-  mesh = record { some_dims = omega (arith, kept.mesh.dims.0); few_dims = kept.mesh.dims.1; radices = kept.mesh.each; few_nodes = omega (arith, kept.mesh.nodes, all_nodes n.radices) };
-  classes = record { some = omega (arith, kept.some, kept.classes.paired); few = omega (arith, kept.classes.count, kept.classes.paired); each = kept.classes.each; total = kept.classes.total };
+  mesh = record {
+    some_dims = omega (arith, kept.mesh.dims.0);
+    few_dims = kept.mesh.dims.1;
+    radices = kept.mesh.each;
+    few_nodes = omega (arith, kept.mesh.nodes, all_nodes n.radices);
+  };
+  classes = record {
+    some = omega (arith, kept.some, kept.classes.paired);
+    few = omega (arith, kept.classes.count, kept.classes.paired);
+    each = kept.classes.each;
+    total = kept.classes.total;
+  };
   least_depth = kept.depth.0;
   most_depth = kept.depth.1;
   all_named = all ∙ sym kept.classes.paired;

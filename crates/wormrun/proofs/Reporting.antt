@@ -9,24 +9,30 @@ use Rattle.worm_core.specs.Turns.{OneThreadRun}
 use Rattle.wormrun.specs.declared.fault.ProgramFault.{ProgramFault}
 use Rattle.wormrun.specs.declared.fault.ProgramFault.TheVariants as f
 use Rattle.wormrun.specs.declared.turns.Ending.{Ending}
-use Rattle.wormrun.specs.Programs.{Stream, IsReported, Reports, ReportsPart, whole_run, WritesFront, WritesReport, Fails}
+use Rattle.wormrun.specs.Programs.{Stream, IsReported, Reports, ReportsPart, whole_run, WritesFront, WritesReport}
+use Rattle.wormrun.specs.Programs.{Fails}
 
-part : (network traffic : List ℕ) (turns drain : ℕ) (ending : Ending) (out : Stream) (bytes : List ℕ) → IsReported network traffic turns drain ending bytes → WritesFront out bytes
+part : (network traffic : List ℕ) (turns drain : ℕ) (ending : Ending) (out : Stream) (bytes : List ℕ)
+    → IsReported network traffic turns drain ending bytes → WritesFront out bytes
     → ReportsPart network traffic turns drain out
-part network traffic turns drain ending out bytes reported front = record { ending = ending; bytes = bytes; reported = reported; written = front }
+part network traffic turns drain ending out bytes reported front =
+    record { ending = ending; bytes = bytes; reported = reported; written = front }
 
 -- what no fault ended was not stopped
 
-not_stopped : (script : List Entry) (turns drain : ℕ) (opening closing : NetState) (stopped : Option ℕ) (fault : Option StepFault)
+not_stopped : (script : List Entry) (turns drain : ℕ) (opening closing : NetState) (stopped : Option ℕ)
+    (fault : Option StepFault)
     → OneThreadRun script turns drain opening stopped fault closing → fault ≡ None → stopped ≡ None
 not_stopped script turns drain opening closing None fault run none = refl
 not_stopped script turns drain opening closing (Some t) fault run none =
     let clash = subst (λ (f : Option StepFault). IsSome f) none run.1 in absurd (cc)
 
-is_whole : (network traffic : List ℕ) (turns drain : ℕ) (ending : Ending) (bytes : List ℕ) → IsReported network traffic turns drain ending bytes → ending.fault ≡ None
+is_whole : (network traffic : List ℕ) (turns drain : ℕ) (ending : Ending) (bytes : List ℕ)
+    → IsReported network traffic turns drain ending bytes → ending.fault ≡ None
     → IsReported network traffic turns drain whole_run bytes
 is_whole network traffic turns drain ending bytes reported none =
-    let stopped = not_stopped reported.script turns drain reported.opening reported.closing ending.stopped ending.fault reported.run none in
+    let stopped = not_stopped reported.script turns drain reported.opening reported.closing ending.stopped ending.fault
+    reported.run none in
     let same : ending ≡ whole_run = λ t. record { stopped = stopped t; fault = none t } in
     subst (λ (e : Ending). IsReported network traffic turns drain e bytes) same reported
 
@@ -35,13 +41,22 @@ no_fault fault (inl none) no_want = none
 no_fault fault (inr want) no_want = absurd (no_want want)
 
 -- the run was ended by nothing but want of memory, and this was written of its report
-pub reported_so : (network traffic : List ℕ) (turns drain : ℕ) (ending : Ending) (out : Stream) (bytes : List ℕ) (result : Result (Unit {0}) ProgramFault)
-    → IsReported network traffic turns drain ending bytes → (ending.fault ≡ None) ⊎ (ending.fault ≡ Some NoRoom) → WritesReport out ending.fault result bytes
+pub reported_so : (network traffic : List ℕ) (turns drain : ℕ) (ending : Ending) (out : Stream) (bytes : List ℕ)
+    (result : Result (Unit {0}) ProgramFault)
+    → IsReported network traffic turns drain ending bytes → (ending.fault ≡ None) ⊎ (ending.fault ≡ Some NoRoom)
+    → WritesReport out ending.fault result bytes
     → MatchResult result (λ _. Reports network traffic turns drain out) (Fails network traffic turns drain out)
 reported_so network traffic turns drain ending out bytes (Ok done) reported quiet writes =
-    record { bytes = bytes; reported = is_whole network traffic turns drain ending bytes reported (no_fault ending.fault quiet writes.0); written = writes.1 }
-reported_so network traffic turns drain ending out bytes (Err f.NoMemory) reported quiet writes = inr (part network traffic turns drain ending out bytes reported writes)
-reported_so network traffic turns drain ending out bytes (Err f.Write) reported quiet writes = part network traffic turns drain ending out bytes reported writes
+    record {
+      bytes = bytes;
+      reported = is_whole network traffic turns drain ending bytes reported
+          (no_fault ending.fault quiet writes.0);
+      written = writes.1;
+    }
+reported_so network traffic turns drain ending out bytes (Err f.NoMemory) reported quiet writes =
+    inr (part network traffic turns drain ending out bytes reported writes)
+reported_so network traffic turns drain ending out bytes (Err f.Write) reported quiet writes =
+    part network traffic turns drain ending out bytes reported writes
 reported_so network traffic turns drain ending out bytes (Err (f.Network t)) reported quiet writes = absurd writes
 reported_so network traffic turns drain ending out bytes (Err (f.Traffic t)) reported quiet writes = absurd writes
 reported_so network traffic turns drain ending out bytes (Err f.ReadNetwork) reported quiet writes = absurd writes

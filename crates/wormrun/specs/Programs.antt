@@ -1,6 +1,7 @@
--- What the program makes of two texts on one thread: the report of the run of the script that the one says, on the network that
--- the other says.
-use Rattle.std.specs.Prelude.{ℕ, ◌≡◌, ◌≢◌, ◌-◌, ◌⊎◌, List, [], ◌∷◌, ◌++◌, length, take, drop, replicate, Option, None, Some, Result, Ok, Err}
+-- What the program makes of two texts on one thread: the report of the run of the script that the one says, on the
+-- network that the other says.
+use Rattle.std.specs.Prelude.{ℕ, ◌≡◌, ◌≢◌, ◌-◌, ◌⊎◌, List, [], ◌∷◌, ◌++◌, length, take, drop, replicate, Option, None}
+use Rattle.std.specs.Prelude.{Some, Result, Ok, Err}
 use Rattle.std.specs.Io.KnownBytes.{Keeps, Appends}
 use Rattle.worm_core.specs.declared.script.Entry.{Entry}
 use Rattle.worm_core.specs.declared.fault.StepFault.{StepFault}
@@ -28,7 +29,8 @@ use Rattle.wormrun.specs.Reading.{GaveText}
 
 -- the turns below this one had no fault, and this one had
 abbrev pub StopsAt : List Entry → ℕ → NetState → StepFault → NetState → Type 0
-StopsAt script turn old fault new = (mid : NetState) × Turns script turn old None mid × Turn (due turn script) mid (Some fault) new
+StopsAt script turn old fault new = (mid : NetState) × Turns script turn old None mid
+    × Turn (due turn script) mid (Some fault) new
 
 -- Texts
 
@@ -43,11 +45,13 @@ pub record SaysTraffic (config : Network) (bytes : List ℕ) (entries : List Sai
   pub keeps : AreEntries config [] entries
   pub spelled : bytes ≡ traffic_text config entries
 
--- one of the two texts is refused: the first fault of the network text, or, where that one is accepted, of the traffic text
+-- one of the two texts is refused: the first fault of the network text, or, where that one is accepted, of the traffic
+-- text
 abbrev pub IsRefusedAs : List ℕ → List ℕ → ProgramFault → Type 0
 IsRefusedAs network traffic (f.Network t) = (network_of network ≡ Err t) × IsFaultLine network t.line
 IsRefusedAs network traffic (f.Traffic t) =
-    (config : Network) × SaysNetwork network config × (traffic_of config traffic ≡ Err t) × IsTrafficFaultLine config traffic t.line
+    (config : Network) × SaysNetwork network config × (traffic_of config traffic ≡ Err t)
+    × IsTrafficFaultLine config traffic t.line
 IsRefusedAs network traffic f.ReadNetwork = ⊥
 IsRefusedAs network traffic f.ReadTraffic = ⊥
 IsRefusedAs network traffic f.NoMemory = ⊥
@@ -71,10 +75,16 @@ IsNotAccepted network traffic (f.NotStarted w) = ⊥
 -- what a report tells of a run beside its network
 abbrev pub summary_of : ℕ → ℕ → Ending → ℕ → Summary
 summary_of turns drain ending not_offered =
-    record { turns = turns; workers = 1; drain = drain; stops = ending.stopped ∷ replicate 15 None; not_offered = not_offered }
+    record {
+      turns = turns;
+      workers = 1;
+      drain = drain;
+      stops = ending.stopped ∷ replicate 15 None;
+      not_offered = not_offered;
+    }
 
--- Both texts are accepted, and these bytes are the report of the run of the script on the network, from nothing offered, that
--- ended thus.
+-- Both texts are accepted, and these bytes are the report of the run of the script on the network, from nothing
+-- offered, that ended thus.
 pub record IsReported (network traffic : List ℕ) (turns drain : ℕ) (ending : Ending) (bytes : List ℕ) : Type 0 where
   pub config : Network
   pub of_network : SaysNetwork network config
@@ -101,8 +111,8 @@ pub record WritesFront (out : Stream) (bytes : List ℕ) : Type 0 where
   pub parts : bytes ≡ front ++ rest
   pub written : Appends out.old out.new front
 
--- What a call wrote of the report of a run that ended with this fault, or with none. Want of memory in the run is told where the
--- report is out.
+-- What a call wrote of the report of a run that ended with this fault, or with none. Want of memory in the run is told
+-- where the report is out.
 abbrev pub WritesReport : Stream → Option StepFault → Result (Unit {0}) ProgramFault → List ℕ → Type 0
 WritesReport out fault (Ok _) bytes = (fault ≢ Some NoRoom) × Appends out.old out.new bytes
 WritesReport out fault (Err f.NoMemory) bytes = WritesFront out bytes
@@ -165,14 +175,19 @@ pub record FailsBoth (Holds : List ℕ → List ℕ → Type 0) (first second : 
 
 -- what a fault tells where two readers give the texts, by what it tells of two texts at hand
 abbrev pub FailsReading : (List ℕ → List ℕ → ProgramFault → Type 0) → Stream → Stream → Stream → ProgramFault → Type 0
-FailsReading Holds first second out f.Workers = FailsBoth (λ network traffic. Holds network traffic f.Workers) first second
-FailsReading Holds first second out (f.Network t) = FailsBoth (λ network traffic. Holds network traffic (f.Network t)) first second
-FailsReading Holds first second out (f.Traffic t) = FailsBoth (λ network traffic. Holds network traffic (f.Traffic t)) first second
+FailsReading Holds first second out f.Workers =
+    FailsBoth (λ network traffic. Holds network traffic f.Workers) first second
+FailsReading Holds first second out (f.Network t) =
+    FailsBoth (λ network traffic. Holds network traffic (f.Network t)) first second
+FailsReading Holds first second out (f.Traffic t) =
+    FailsBoth (λ network traffic. Holds network traffic (f.Traffic t)) first second
 FailsReading Holds first second out f.ReadNetwork = Keeps second.old second.new × Keeps out.old out.new
-FailsReading Holds first second out f.ReadTraffic = ((network : List ℕ) × GaveText first.old first.new network) × Keeps out.old out.new
+FailsReading Holds first second out f.ReadTraffic =
+    ((network : List ℕ) × GaveText first.old first.new network) × Keeps out.old out.new
 FailsReading Holds first second out f.NoMemory =
     Keeps out.old out.new ⊎ FailsBoth (λ network traffic. Holds network traffic f.NoMemory) first second
-FailsReading Holds first second out (f.NotStarted w) = FailsBoth (λ network traffic. Holds network traffic (f.NotStarted w)) first second
+FailsReading Holds first second out (f.NotStarted w) =
+    FailsBoth (λ network traffic. Holds network traffic (f.NotStarted w)) first second
 FailsReading Holds first second out f.Write = FailsBoth (λ network traffic. Holds network traffic f.Write) first second
 
 -- the same on one thread

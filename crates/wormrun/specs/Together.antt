@@ -1,5 +1,6 @@
 -- What the program makes of two texts by several workers: the report of a network that their run may give.
-use Rattle.std.specs.Prelude.{ℕ, ◌≡◌, ◌<◌, ◌≤◌, ◌-◌, ◌==◌, ◌⊎◌, Bool, true, false, if◌then◌else◌, List, [], ◌∷◌, ◌++◌, length}
+use Rattle.std.specs.Prelude.{ℕ, ◌≡◌, ◌<◌, ◌≤◌, ◌-◌, ◌==◌, ◌⊎◌, Bool, true, false, if◌then◌else◌, List, [], ◌∷◌, ◌++◌}
+use Rattle.std.specs.Prelude.{length}
 use Rattle.std.specs.Prelude.{slice_index_or, All, find, option_map, Option, None, Some}
 use Rattle.std.specs.List.{list_any}
 use Rattle.std.specs.Io.KnownBytes.{Keeps, Appends}
@@ -72,7 +73,8 @@ pub record NeverRan (opening closing : NetState) (table : List (Option ℕ)) (fa
   pub stopped : AreStopsOf [] table
   pub want : fault ≡ Some NoRoom
 
-abbrev pub EndsTogether : (ℕ → ℕ → Type 0) → List Entry → RunPlan → ℕ → NetState → NetState → List (Option ℕ) → Option StepFault → Type 0
+abbrev pub EndsTogether : (ℕ → ℕ → Type 0) → List Entry → RunPlan → ℕ → NetState → NetState → List (Option ℕ)
+    → Option StepFault → Type 0
 EndsTogether may script plan most opening closing table fault =
     RanTogether may script plan most opening closing table fault ⊎ NeverRan opening closing table fault
 
@@ -94,7 +96,8 @@ pub record AreAccepted (network traffic : List ℕ) (config : Network) (script :
   pub of_network : SaysNetwork network config
   pub of_traffic : SaysTraffic config traffic (said_of script)
 
--- Both texts are accepted, and these bytes are the report of a network to which workers with this script led from the empty one.
+-- Both texts are accepted, and these bytes are the report of a network to which workers with this script led from the
+-- empty one.
 pub record IsReportOf (Leads : List Entry → NetState → NetState → List (Option ℕ) → Type 0) (network traffic : List ℕ)
     (plan : RunPlan) (drain : ℕ) (bytes : List ℕ) : Type 0 where
   pub config : Network
@@ -135,8 +138,10 @@ pub record HasFewNodes (network traffic : List ℕ) (workers : ℕ) : Type 0 whe
 abbrev pub FailsTogether : (ℕ → ℕ → Type 0) → RunPlan → ℕ → Stream → List ℕ → List ℕ → ProgramFault → Type 0
 FailsTogether may plan drain out network traffic f.Workers =
     HasFewNodes network traffic plan.workers × Keeps out.old out.new
-FailsTogether may plan drain out network traffic (f.Network t) = IsRefusedAs network traffic (f.Network t) × Keeps out.old out.new
-FailsTogether may plan drain out network traffic (f.Traffic t) = IsRefusedAs network traffic (f.Traffic t) × Keeps out.old out.new
+FailsTogether may plan drain out network traffic (f.Network t) =
+    IsRefusedAs network traffic (f.Network t) × Keeps out.old out.new
+FailsTogether may plan drain out network traffic (f.Traffic t) =
+    IsRefusedAs network traffic (f.Traffic t) × Keeps out.old out.new
 FailsTogether may plan drain out network traffic f.ReadNetwork = ⊥
 FailsTogether may plan drain out network traffic f.ReadTraffic = ⊥
 FailsTogether may plan drain out network traffic f.NoMemory =
@@ -145,7 +150,8 @@ FailsTogether may plan drain out network traffic (f.NotStarted w) = (w < plan.wo
 FailsTogether may plan drain out network traffic f.Write = PartTogether may network traffic plan drain out
 
 -- both readers gave their texts, and the report of them was written
-pub record ReportsByWorkers (may : ℕ → ℕ → Type 0) (plan : RunPlan) (drain : ℕ) (first second out : Stream) : Type 0 where
+pub record ReportsByWorkers (may : ℕ → ℕ
+    → Type 0) (plan : RunPlan) (drain : ℕ) (first second out : Stream) : Type 0 where
   pub network : List ℕ
   pub traffic : List ℕ
   pub gave : GaveBoth first second network traffic

@@ -14,7 +14,9 @@ ghost use Rattle.worm_text.specs.ScriptView.{said_of};
 ghost use Rattle.worm_mesh.specs.Address.{node_count};
 ghost use Rattle.wormrun.specs.Ranges.{InRange, plan_of};
 ghost use Rattle.wormrun.specs.Together.{FailsByWorkers, FailsTogether, ReportsByWorkers, ReportsTogether};
-ghost use Rattle.wormrun.specs.Programs.{Fails, FailsAlone, FailsJoined, GaveBoth, IsNotAccepted, ReadsNot, Reports, ReportsAlone, ReportsJoined, SaysNetwork, SaysTraffic, WritesReport, stream, summary_of};
+ghost use Rattle.wormrun.specs.Programs.{Fails, FailsAlone, FailsJoined, GaveBoth, IsNotAccepted, ReadsNot, Reports};
+ghost use Rattle.wormrun.specs.Programs.{ReportsAlone, ReportsJoined, SaysNetwork, SaysTraffic, WritesReport, stream};
+ghost use Rattle.wormrun.specs.Programs.{summary_of};
 
 use crate::fault::ProgramFault;
 use crate::joined::network_end;
@@ -52,7 +54,8 @@ fn read_both<N: Read, F: Read>(
     network: &mut N,
     traffic: &mut F,
 ) -> Result<Texts, ProgramFault>
-    ensures ok { IfOk result (λ t. GaveBoth (stream (N.remaining network.old) (N.remaining network.new)) (stream (F.remaining traffic.old) (F.remaining traffic.new)) t.network.items t.traffic.items) }
+    ensures ok { IfOk result (λ t. GaveBoth (stream (N.remaining network.old) (N.remaining network.new))
+        (stream (F.remaining traffic.old) (F.remaining traffic.new)) t.network.items t.traffic.items) }
     ensures err { IfErr result
         (ReadsNot (stream (N.remaining network.old) (N.remaining network.new))
         (stream (F.remaining traffic.old) (F.remaining traffic.new))) }
@@ -94,7 +97,8 @@ fn accept(alloc: Global, network: &[u8], traffic: &[u8]) -> Result<Accepted, Pro
 /// The network that an accepted text says, with nothing offered; none where there is no memory for it.
 fn open(alloc: Global, config: &Config) -> Option<Net>
     requires { (format : Format) × KeepsRules format (view config.now) }
-    ensures { IfSome result (IsFresh config.now.radices.items config.now.channels.items config.now.depth (texts_of config.now.classes.items)) }
+    ensures { IfSome result (IsFresh config.now.radices.items config.now.channels.items config.now.depth
+        (texts_of config.now.classes.items)) }
 {
     match Net::new(alloc, config) {
         Ok(net) => Some(net),
@@ -126,7 +130,8 @@ fn summary_of(net: &Net, script: &Script, turns: u64, drain: u64, ending: &Endin
     }
 }
 
-/// Writes the report of a run that ended with this fault, if with any. Want of memory in the run is told after the report.
+/// Writes the report of a run that ended with this fault, if with any. Want of memory in the run is told after the
+/// report.
 pub fn report_run<W: Write>(
     alloc: Global,
     net: &Net,
@@ -134,7 +139,8 @@ pub fn report_run<W: Write>(
     fault: Option<StepFault>,
     out: &mut W,
 ) -> Result<(), ProgramFault>
-    ensures { WritesReport (stream (W.contents out.old) (W.contents out.new)) fault result (report (seen net.now) summary.now) }
+    ensures { WritesReport (stream (W.contents out.old) (W.contents out.new)) fault result
+        (report (seen net.now) summary.now) }
 {
     match write_report(alloc, net, summary, out) {
         Err(ReportFault::Write) => Err(ProgramFault::Write),
@@ -153,7 +159,9 @@ fn run_and_report<W: Write>(
     drain: u64,
     out: &mut W,
 ) -> Result<(), ProgramFault>
-    ensures { MatchResult result (λ _. Reports network.now traffic.now turns drain (stream (W.contents out.old) (W.contents out.new))) (Fails network.now traffic.now turns drain (stream (W.contents out.old) (W.contents out.new))) }
+    ensures { MatchResult result (λ _. Reports network.now traffic.now turns drain
+        (stream (W.contents out.old) (W.contents out.new)))
+        (Fails network.now traffic.now turns drain (stream (W.contents out.old) (W.contents out.new))) }
 {
     let accepted = accept(alloc, network, traffic)?;
     let Some(mut net) = open(alloc, &accepted.config) else {
@@ -166,9 +174,10 @@ fn run_and_report<W: Write>(
 
 /// Reads two texts to their end, the network first, runs them on this thread, and writes the report.
 ///
-/// `ReadNetwork` and `ReadTraffic` where a reader failed or gave more than 8,388,608 bytes; `Network` and `Traffic` where a text is
-/// refused; `Write` where the writer failed or took nothing, and `NoMemory` where memory ran out: a first part of the report may
-/// then be out, and all of it where memory ran out in a turn. With every other fault nothing was written.
+/// `ReadNetwork` and `ReadTraffic` where a reader failed or gave more than 8,388,608 bytes; `Network` and `Traffic`
+/// where a text is refused; `Write` where the writer failed or took nothing, and `NoMemory` where memory ran out: a
+/// first part of the report may then be out, and all of it where memory ran out in a turn. With every other fault
+/// nothing was written.
 pub fn run_alone<N: Read, F: Read, W: Write>(
     alloc: Global,
     network: &mut N,
@@ -177,8 +186,12 @@ pub fn run_alone<N: Read, F: Read, W: Write>(
     drain: u64,
     out: &mut W,
 ) -> Result<(), ProgramFault>
-    ensures ok { OnOk result (ReportsAlone turns drain (stream (N.remaining network.old) (N.remaining network.new)) (stream (F.remaining traffic.old) (F.remaining traffic.new)) (stream (W.contents out.old) (W.contents out.new))) }
-    ensures err { IfErr result (FailsAlone turns drain (stream (N.remaining network.old) (N.remaining network.new)) (stream (F.remaining traffic.old) (F.remaining traffic.new)) (stream (W.contents out.old) (W.contents out.new))) }
+    ensures ok { OnOk result (ReportsAlone turns drain (stream (N.remaining network.old) (N.remaining network.new))
+        (stream (F.remaining traffic.old) (F.remaining traffic.new))
+        (stream (W.contents out.old) (W.contents out.new))) }
+    ensures err { IfErr result (FailsAlone turns drain (stream (N.remaining network.old) (N.remaining network.new))
+        (stream (F.remaining traffic.old) (F.remaining traffic.new))
+        (stream (W.contents out.old) (W.contents out.new))) }
 {
     let texts = read_both(alloc, network, traffic)?;
     let network = texts.network.as_slice();
@@ -307,14 +320,17 @@ pub fn run_texts<R: Threads + Wait + Sync, N: Read, F: Read, G: Gate + Sync, W: 
 }
 
 /// Runs the two texts of one input for 100 turns with no drain: up to and with the first line `end` it is the
-/// network text, the rest is the traffic text. Faults as those of `run_alone`; an input that cannot be read is `ReadNetwork`.
+/// network text, the rest is the traffic text. Faults as those of `run_alone`; an input that cannot be read is
+/// `ReadNetwork`.
 pub fn run_joined<R: Read, W: Write>(
     alloc: Global,
     input: &mut R,
     out: &mut W,
 ) -> Result<(), ProgramFault>
-    ensures ok { OnOk result (ReportsJoined (stream (R.remaining input.old) (R.remaining input.new)) (stream (W.contents out.old) (W.contents out.new))) }
-    ensures err { IfErr result (FailsJoined (stream (R.remaining input.old) (R.remaining input.new)) (stream (W.contents out.old) (W.contents out.new))) }
+    ensures ok { OnOk result (ReportsJoined (stream (R.remaining input.old) (R.remaining input.new))
+        (stream (W.contents out.old) (W.contents out.new))) }
+    ensures err { IfErr result (FailsJoined (stream (R.remaining input.old) (R.remaining input.new))
+        (stream (W.contents out.old) (W.contents out.new))) }
 {
     let joined = match read_text(alloc, input) {
         Ok(text) => text,

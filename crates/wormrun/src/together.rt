@@ -86,7 +86,8 @@ pub fn run_together<R: Threads + Wait + Sync, G: Gate + Sync>(
     most: u64,
 ) -> Result<Together, usize>
     requires { HasWorkers net plan }
-    ensures ended { IfOk result (λ t. EndsTogether (G.may_stop gate.now) script.now plan most net t.net t.stops t.fault) }
+    ensures ended { IfOk result (λ t. EndsTogether
+        (G.may_stop gate.now) script.now plan most net t.net t.stops t.fault) }
     ensures refused { IfErr result (λ w. w < plan.workers) }
 {
     match run(rt, alloc, net, script, plan, gate) {

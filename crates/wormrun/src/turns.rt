@@ -26,7 +26,8 @@ struct Stop {
 
 /// The turns below a number with the script's entries, up to the first fault.
 fn take_turns(net: &mut Net, script: &Script, turns: u64) -> Option<Stop>
-    ensures { MatchOption result (Turns script.now turns net.old None net.new) (λ stop. (stop.turn < turns) × StopsAt script.now stop.turn net.old stop.fault net.new) }
+    ensures { MatchOption result (Turns script.now turns net.old None net.new)
+        (λ stop. (stop.turn < turns) × StopsAt script.now stop.turn net.old stop.fault net.new) }
 {
     for turn in 0..turns {
         if let Err(fault) = net.turn(turn, script) {

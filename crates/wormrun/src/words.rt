@@ -136,8 +136,8 @@ fn words_in<'a>(matches: &ArgMatches<'a>) -> Option<Words<'a>>
     })
 }
 
-/// Reads the words, the program's name first: `NETWORK TRAFFIC --turns T [--workers W] [--drain M]`, in any order. Turns and drain are
-/// 0 to 1,000,000, workers are 1 to 16; any other word or number is a fault of the words.
+/// Reads the words, the program's name first: `NETWORK TRAFFIC --turns T [--workers W] [--drain M]`, in any order.
+/// Turns and drain are 0 to 1,000,000, workers are 1 to 16; any other word or number is a fault of the words.
 pub fn read_words<'a>(alloc: Global, words: &'a [&'a str]) -> Result<Words<'a>, WordsFault>
     requires { 0 < length words.now }
     ensures ok { IfOk result (λ w. InRange w.options) }

@@ -1,5 +1,7 @@
 -- What texts name: one behind the other, and those without a tag.
-use Rattle.std.proofs.Common.{◌≡◌, ◌+◌, ◌*◌, ◌<◌, ◌/◌, ◌%◌, ℕ, zero, suc, List, [], ◌∷◌, ◌++◌, Bool, true, false, not, ◌&&◌, ◌==◌, nat_lt, cond, Result, Ok, Err, OnOk, map, take, length, get_or, flat_map, refl, sym, ap, subst, ◌∙◌, append_assoc, arith}
+use Rattle.std.proofs.Common.{◌≡◌, ◌+◌, ◌*◌, ◌<◌, ◌/◌, ◌%◌, ℕ, zero, suc, List, [], ◌∷◌, ◌++◌, Bool, true, false, not}
+use Rattle.std.proofs.Common.{◌&&◌, ◌==◌, nat_lt, cond, Result, Ok, Err, OnOk, map, take, length, get_or, flat_map}
+use Rattle.std.proofs.Common.{refl, sym, ap, subst, ◌∙◌, append_assoc, arith}
 use Rattle.std.specs.Prelude.{codes, decimal, string_bytes}
 use Rattle.std.specs.Fmt.{digits, digits_onto, digit_glyph}
 use Rattle.std.specs.List.{take_while}
@@ -44,7 +46,8 @@ module _ (k : ℕ) (differs : (d : ℕ) → (k == digit_glyph false d) ≡ false
   digits_lack (suc most) n acc h =
       let more = digit_glyph false (n % 10) ∷ acc in
       let added : lacks k (digit_glyph false (n % 10) ∷ acc) ≡ true = rw (differs (n % 10), h) refl in
-      either_lacks (n / 10 == 0) more (digits_onto most 10 false (n / 10) more) added (digits_lack most (n / 10) more added)
+      either_lacks (n / 10 == 0) more (digits_onto most 10 false (n / 10) more) added
+      (digits_lack most (n / 10) more added)
 
   decimal_lacks : (n : ℕ) → lacks k (decimal n) ≡ true
   unfolding digits
@@ -66,10 +69,12 @@ skip c cs e = rw e refl
 
 pub plain : (text : List ℕ) → lacks 60 text ≡ true → Names text []
 plain [] h rest = refl
-plain (c ∷ text) h rest = let e = lacks_head (60 == c) (lacks 60 text) h in skip c (text ++ rest) e.0 ∙ plain text e.1 rest
+plain (c ∷ text) h rest = let e = lacks_head (60 == c) (lacks 60 text) h in
+    skip c (text ++ rest) e.0 ∙ plain text e.1 rest
 
 pub both : (a b : List ℕ) (us vs : List (List ℕ)) → Names a us → Names b vs → Names (a ++ b) (us ++ vs)
-both a b us vs ha hb rest = ap names (append_assoc a b rest) ∙ ha (b ++ rest) ∙ ap (λ l. us ++ l) (hb rest) ∙ sym (append_assoc us vs (names rest))
+both a b us vs ha hb rest = ap names (append_assoc a b rest) ∙ ha (b ++ rest) ∙ ap (λ l. us ++ l) (hb rest)
+    ∙ sym (append_assoc us vs (names rest))
 
 pub word : (a b : List ℕ) (us : List (List ℕ)) → lacks 60 a ≡ true → Names b us → Names (a ++ b) us
 word a b us h hb = both a b [] us (plain a h) hb
@@ -82,7 +87,8 @@ line a h = both a (10 ∷ []) [] [] h (λ rest. refl)
 
 -- ---- what is added
 
-pub adds : {E : Type 0} (r : Result (Unit {0}) E) (old new : Svg) (text : List ℕ) (named : List (List ℕ)) → OnOk r (string_bytes new.text ≡ string_bytes old.text ++ text) → Names text named → OnOk r (Adds old new named)
+pub adds : {E : Type 0} (r : Result (Unit {0}) E) (old new : Svg) (text : List ℕ) (named : List (List ℕ))
+    → OnOk r (string_bytes new.text ≡ string_bytes old.text ++ text) → Names text named → OnOk r (Adds old new named)
 adds (Ok done) old new text named h says = record { text = text; added = h; says = says }
 adds (Err e) old new text named h says = tt
 
@@ -96,7 +102,8 @@ adds_both a b c us vs h k = record {
   says = both h.text k.text us vs h.says k.says;
 }
 
-pub adds_then : {E : Type 0} (r : Result (Unit {0}) E) (a b c : Svg) (us vs : List (List ℕ)) → Adds a b us → OnOk r (Adds b c vs) → OnOk r (Adds a c (us ++ vs))
+pub adds_then : {E : Type 0} (r : Result (Unit {0}) E) (a b c : Svg) (us vs : List (List ℕ)) → Adds a b us
+    → OnOk r (Adds b c vs) → OnOk r (Adds a c (us ++ vs))
 adds_then (Ok done) a b c us vs h k = adds_both a b c us vs h k
 adds_then (Err e) a b c us vs h k = tt
 
@@ -108,8 +115,10 @@ up_to_comma (c ∷ w) t h =
     let e = lacks_head (44 == c) (lacks 44 w) h in
     take_while-cons (λ c. not (44 == c)) c (w ++ 44 ∷ t) ∙ rw (e.0, up_to_comma w t e.1) refl
 
-module _ (k : ℕ) (differs : (d : ℕ) → (k == digit_glyph false d) ≡ false) (from : lacks k (codes "from ") ≡ true) (to : lacks k (codes " to ") ≡ true)
-    (class : lacks k (codes " class ") ≡ true) (packet : lacks k (codes " packet ") ≡ true) (flit : lacks k (codes " flit ") ≡ true) where
+module _ (k : ℕ) (differs : (d : ℕ) → (k == digit_glyph false d) ≡ false) (from : lacks k (codes "from ") ≡ true)
+    (to : lacks k (codes " to ") ≡ true)
+    (class : lacks k (codes " class ") ≡ true) (packet : lacks k (codes " packet ") ≡ true)
+    (flit : lacks k (codes " flit ") ≡ true) where
   name_lacks : (p : PacketId) (i : ℕ) → lacks k (name_of p i) ≡ true
   name_lacks p i =
       lacks_join k (codes "from ") _ from (number_lacks k differs p.lane.src _
@@ -133,7 +142,8 @@ titled t =
     ∙ ap (λ l. decimal lane.dst ++ (codes " class " ++ l)) (append_assoc (decimal lane.class) packet many
     ∙ ap (λ l. decimal lane.class ++ (codes " packet " ++ l)) (append_assoc (decimal p.number) flit many)))))
 
-pub title : (t : FlitTitle) → Names (codes "<g><title>" ++ (flit_title t ++ codes "</title>")) (name_of t.packet t.index ∷ [])
+pub title : (t : FlitTitle) → Names (codes "<g><title>" ++ (flit_title t ++ codes "</title>"))
+    (name_of t.packet t.index ∷ [])
 title t rest =
     let name = name_of t.packet t.index in
     let text = flit_title t in
@@ -142,40 +152,55 @@ title t rest =
     let taken : (text ++ codes "</title>") ++ rest ≡ name ++ (many ++ end) =
     append_assoc text (codes "</title>") rest ∙ ap (λ l. l ++ end) (titled t) ∙ append_assoc name many end in
     let named : take_while (λ c. not (44 == c)) ((text ++ codes "</title>") ++ rest) ≡ name =
-    ap (take_while (λ c. not (44 == c))) taken ∙ up_to_comma name ((codes " of 0 to " ++ decimal t.last) ++ end) (name_lacks 44 no_comma refl refl refl refl refl t.packet t.index) in
+    ap (take_while (λ c. not (44 == c))) taken
+    ∙ up_to_comma name ((codes " of 0 to " ++ decimal t.last) ++ end)
+    (name_lacks 44 no_comma refl refl refl refl refl t.packet t.index) in
     let tagless : lacks 60 text ≡ true =
-    subst (λ l. lacks 60 l ≡ true) (sym (titled t)) (lacks_join 60 name many (name_lacks 60 no_tag refl refl refl refl refl t.packet t.index) (decimal_lacks 60 no_tag t.last)) in
-    let others : names ((text ++ codes "</title>") ++ rest) ≡ names rest = word text (codes "</title>") [] tagless (λ rest. refl) rest in
+    subst (λ l. lacks 60 l ≡ true) (sym (titled t))
+    (lacks_join 60 name many (name_lacks 60 no_tag refl refl refl refl refl t.packet t.index)
+    (decimal_lacks 60 no_tag t.last)) in
+    let others : names ((text ++ codes "</title>") ++ rest) ≡ names rest =
+    word text (codes "</title>") [] tagless (λ rest. refl) rest in
     ap (λ l. l ∷ names ((text ++ codes "</title>") ++ rest)) named ∙ ap (λ l. name ∷ l) others
 
 -- ---- flits one by one, and channel by channel
 
-pub one_flit_more : (i : ℕ) (d : Flit) (flits : List Flit) (a b c : Svg) → i < length flits → Adds a b (map flit_name (take i flits)) → Adds b c (flit_name (get_or flits i d) ∷ [])
+pub one_flit_more : (i : ℕ) (d : Flit) (flits : List Flit) (a b c : Svg) → i < length flits
+    → Adds a b (map flit_name (take i flits)) → Adds b c (flit_name (get_or flits i d) ∷ [])
     → Adds a c (map flit_name (take (i + 1) flits))
 one_flit_more i d flits a b c lt h k =
-    subst (λ l. Adds a c l) (sym (ap (map flit_name) (take_more flits i d lt) ∙ map_push flit_name (take i flits) (get_or flits i d)))
+    subst (λ l. Adds a c l) (sym (ap (map flit_name) (take_more flits i d lt)
+    ∙ map_push flit_name (take i flits) (get_or flits i d)))
     (adds_both a b c (map flit_name (take i flits)) (flit_name (get_or flits i d) ∷ []) h k)
 
-pub one_part_more : {X : Type 0} (flits : X → List Flit) (i : ℕ) (d x : X) (xs : List X) (a b c : Svg) → i < length xs → x ≡ get_or xs i d → Adds a b (map flit_name (flat_map flits (take i xs)))
+pub one_part_more : {X : Type 0} (flits : X → List Flit) (i : ℕ) (d x : X) (xs : List X) (a b c : Svg) → i < length xs
+    → x ≡ get_or xs i d → Adds a b (map flit_name (flat_map flits (take i xs)))
     → Adds b c (map flit_name (flits x)) → Adds a c (map flit_name (flat_map flits (take (i + 1) xs)))
 one_part_more flits i d x xs a b c lt e h k =
     let more : flat_map flits (take (i + 1) xs) ≡ flat_map flits (take i xs) ++ flits x =
-    ap (flat_map flits) (take_more xs i d lt) ∙ sym (flat_map_more flits [] (take i xs) (get_or xs i d)) ∙ ap (λ y. flat_map flits (take i xs) ++ flits y) (sym e) in
-    subst (λ l. Adds a c l) (sym (ap (map flit_name) more ∙ map-append flit_name (flat_map flits (take i xs)) (flits x)))
+    ap (flat_map flits) (take_more xs i d lt) ∙ sym (flat_map_more flits [] (take i xs) (get_or xs i d))
+    ∙ ap (λ y. flat_map flits (take i xs) ++ flits y) (sym e) in
+    subst (λ l. Adds a c l) (sym (ap (map flit_name) more
+    ∙ map-append flit_name (flat_map flits (take i xs)) (flits x)))
     (adds_both a b c (map flit_name (flat_map flits (take i xs))) (map flit_name (flits x)) h k)
 
-pub one_channel : {E : Type 0} (r : Result (Unit {0}) E) (a b c d e f : Svg) (s : Station) (held coming : List Flit) → held ≡ s.held.items → coming ≡ s.coming.items → Adds a b [] → Adds b c []
-    → Adds c d (map flit_name held) → Adds d e (map flit_name coming) → OnOk r (Adds e f []) → OnOk r (Adds a f (map flit_name (station_flits s)))
+pub one_channel : {E : Type 0} (r : Result (Unit {0}) E) (a b c d e f : Svg) (s : Station) (held coming : List Flit)
+    → held ≡ s.held.items → coming ≡ s.coming.items → Adds a b [] → Adds b c []
+    → Adds c d (map flit_name held) → Adds d e (map flit_name coming) → OnOk r (Adds e f [])
+    → OnOk r (Adds a f (map flit_name (station_flits s)))
 one_channel r a b c d e f s held coming eh ec turned slots front behind closed =
     let us = map flit_name held in
     let vs = map flit_name coming in
     let all = adds_both a d e us vs (adds_both a c d [] us (adds_both a b c [] [] turned slots) front) behind in
     subst (λ l. OnOk r (Adds a f l))
-    (append-nil (us ++ vs) ∙ sym (map-append flit_name held coming) ∙ ap (map flit_name) (ap (λ l. l ++ coming) eh ∙ ap (λ l. s.held.items ++ l) ec))
+    (append-nil (us ++ vs) ∙ sym (map-append flit_name held coming)
+    ∙ ap (map flit_name) (ap (λ l. l ++ coming) eh ∙ ap (λ l. s.held.items ++ l) ec))
     (adds_then r a e f (us ++ vs) [] all closed)
 
-pub one_node : {E : Type 0} (r : Result (Unit {0}) E) (a b c d : Svg) (v : NodeView) (stations : List Station) → stations ≡ v.stations.items → Adds a b []
-    → Adds b c (map flit_name (flat_map station_flits stations)) → OnOk r (Adds c d []) → OnOk r (Adds a d (map flit_name (view_flits v)))
+pub one_node : {E : Type 0} (r : Result (Unit {0}) E) (a b c d : Svg) (v : NodeView) (stations : List Station)
+    → stations ≡ v.stations.items → Adds a b []
+    → Adds b c (map flit_name (flat_map station_flits stations)) → OnOk r (Adds c d [])
+    → OnOk r (Adds a d (map flit_name (view_flits v)))
 one_node r a b c d v stations e opened channels closed =
     let us = map flit_name (flat_map station_flits stations) in
     subst (λ l. OnOk r (Adds a d l)) (append-nil us ∙ ap (λ l. map flit_name (flat_map station_flits l)) e)
@@ -183,9 +208,17 @@ one_node r a b c d v stations e opened channels closed =
 
 -- ---- the whole
 
-pub pictures : (before part behind text : List ℕ) (flits : List Flit) (old new : Svg) → text ≡ (before ++ part) ++ behind → string_bytes old.text ≡ [] → part ≡ string_bytes new.text
+pub pictures : (before part behind text : List ℕ) (flits : List Flit) (old new : Svg)
+    → text ≡ (before ++ part) ++ behind → string_bytes old.text ≡ [] → part ≡ string_bytes new.text
     → Adds old new (map flit_name flits) → PicturesFlits text flits
 pictures before part behind text flits old new whole empty same h =
     let one : part ≡ h.text = same ∙ h.added ∙ ap (λ l. l ++ h.text) empty in
-    let read : names h.text ≡ map flit_name flits = ap names (sym (append-nil h.text)) ∙ h.says [] ∙ append-nil (map flit_name flits) in
-    record { before = before; part = part; behind = behind; whole = whole ∙ append_assoc before part behind; named = ap names one ∙ read }
+    let read : names h.text ≡ map flit_name flits =
+    ap names (sym (append-nil h.text)) ∙ h.says [] ∙ append-nil (map flit_name flits) in
+    record {
+      before = before;
+      part = part;
+      behind = behind;
+      whole = whole ∙ append_assoc before part behind;
+      named = ap names one ∙ read;
+    }

@@ -38,7 +38,8 @@ abbrev pub arrives_at : ℕ → Row → Bool
 arrives_at node (Delivered packet load) = packet.lane.dst == node
 arrives_at node _ = false
 
--- all channels of a node, each with those of these flits that are there; how many wait in its source, and how many arrived
+-- all channels of a node, each with those of these flits that are there; how many wait in its source, and how many
+-- arrived
 pub record IsView (s : Shape) (rows : List Row) (flits : List Flit) (v : NodeView) : Type 0 where
   pub spots : map (λ station. station.spot) v.stations.items ≡ spots_in v.node (2 * length s.mesh + 1) s.channels
   pub stations : All (IsStation (flits_at v.node flits)) v.stations.items

@@ -1,5 +1,6 @@
 -- The flits of a picture, read off its text.
-use Rattle.std.specs.Prelude.{ℕ, ◌≡◌, Bool, not, ◌==◌, if◌then◌else◌, List, [], ◌∷◌, ◌++◌, drop, map, codes, decimal, Option, Some, None, string_bytes, IsPermutation}
+use Rattle.std.specs.Prelude.{ℕ, ◌≡◌, Bool, not, ◌==◌, if◌then◌else◌, List, [], ◌∷◌, ◌++◌, drop, map, codes, decimal}
+use Rattle.std.specs.Prelude.{Option, Some, None, string_bytes, IsPermutation}
 use Rattle.std.specs.List.{starts_with, take_while, cons_option, list_all}
 use Rattle.worm_rows.specs.declared.rows.PacketId.{PacketId}
 use Rattle.worm_rows.specs.declared.rows.Row.{Row}

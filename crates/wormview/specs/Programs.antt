@@ -67,8 +67,10 @@ pub record FailsBoth (Holds : List ℕ → List ℕ → Type 0) (first second : 
 
 -- what a fault tells where two readers give the texts; the report is not read before the network is
 abbrev pub FailsToDraw : Stream → Stream → Stream → ViewFault → Type 0
-FailsToDraw first second out (f.Network t) = FailsBoth (λ network report. FailsTexts network report out (f.Network t)) first second
-FailsToDraw first second out (f.Report t) = FailsBoth (λ network report. FailsTexts network report out (f.Report t)) first second
+FailsToDraw first second out (f.Network t) =
+    FailsBoth (λ network report. FailsTexts network report out (f.Network t)) first second
+FailsToDraw first second out (f.Report t) =
+    FailsBoth (λ network report. FailsTexts network report out (f.Report t)) first second
 FailsToDraw first second out f.ReadNetwork = Keeps second.old second.new × Keeps out.old out.new
 FailsToDraw first second out f.ReadReport =
     ((network : List ℕ) × GaveText first.old first.new network) × Keeps out.old out.new

@@ -1,5 +1,6 @@
 -- What a report shows of a network, place by place.
-use Rattle.std.specs.Prelude.{ℕ, ◌&&◌, Bool, true, false, not, ◌==◌, nat_lt, if◌then◌else◌, List, ◌++◌, map, Option, Some, None}
+use Rattle.std.specs.Prelude.{ℕ, ◌&&◌, Bool, true, false, not, ◌==◌, nat_lt, if◌then◌else◌, List, ◌++◌, map, Option}
+use Rattle.std.specs.Prelude.{Some, None}
 use Rattle.std.specs.Option.{option_map}
 use Rattle.std.specs.List.{filter, filter_map}
 use Rattle.worm_mesh.specs.Address.{node_count, neighbour_of, opposite_of}

@@ -120,7 +120,8 @@ fn draw_texts<W: Write>(
     text: bool,
     out: &mut W,
 ) -> Result<(), ViewFault>
-    ensures ok { OnOk result (DrawsTexts text network.now report.now (stream (W.contents out.old) (W.contents out.new))) }
+    ensures ok { OnOk result (DrawsTexts text network.now report.now
+        (stream (W.contents out.old) (W.contents out.new))) }
     ensures err { IfErr result (FailsTexts network.now report.now (stream (W.contents out.old) (W.contents out.new))) }
 {
     let accepted = accept(alloc, network, report)?;

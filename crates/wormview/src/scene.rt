@@ -231,7 +231,8 @@ pub fn front_first(
     packets: &Packets,
     spot: Spot,
 ) -> Result<Vec<Flit>, AllocError>
-    ensures { IfOk result (λ sorted. (parted : List Parted) × (spec.flits_of parted ≡ spec.flits_on spot flits.now) × (sorted.items ≡ spec.in_order parted)) }
+    ensures { IfOk result (λ sorted. (parted : List Parted) × (spec.flits_of parted ≡ spec.flits_on spot flits.now)
+        × (sorted.items ≡ spec.in_order parted)) }
 {
     let here = flits_on(alloc, flits, spot)?;
     let parted = with_parts(alloc, here.as_slice(), packets)?;

@@ -9,8 +9,13 @@ use worm_text::{TextFault, Why};
 
 const NETWORK: &[u8] = b"wormnet 1\nradix 2\ndims 1\ndepth 2\nclass data\nend\n";
 
-const REPORT: &[u8] =
-    b"wormreport 1\nturns 1 workers 1 drain 0\nunderway 1 0 class 0 packet 0 flit 0 link 1 0 0\nunderway 1 0 class 0 packet 0 flit 1 buffer 1 2 0\nunderway 1 0 class 0 packet 1 flit 0 source\nnot offered 0\ntotal injected 3 delivered 0 underway 3\n";
+const REPORT: &[u8] = b"wormreport 1\n\
+      turns 1 workers 1 drain 0\n\
+      underway 1 0 class 0 packet 0 flit 0 link 1 0 0\n\
+      underway 1 0 class 0 packet 0 flit 1 buffer 1 2 0\n\
+      underway 1 0 class 0 packet 1 flit 0 source\n\
+      not offered 0\n\
+      total injected 3 delivered 0 underway 3\n";
 
 /// A reader that fails behind so many bytes.
 #[derive(Drop)]

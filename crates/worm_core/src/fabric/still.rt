@@ -17,8 +17,10 @@ impl Fabric {
     pub fn next_credit(&self, node: u8, from: u8) -> Option<u8>
         requires { from ≤ 6 }
         ensures mesh_port { IfSome result (λ port. (from ≤ port) × (port < 2 * length self.now.mesh) × (port < 6)) }
-        ensures before { IfSome result (λ port. (p : ℕ) → from ≤ p → p < port → IsSome (neighbour_of self.now.mesh node p) → front_credit self.now node p ≡ None) }
-        ensures none { IfNone result ((p : ℕ) → from ≤ p → IsSome (neighbour_of self.now.mesh node p) → front_credit self.now node p ≡ None) }
+        ensures before { IfSome result (λ port. (p : ℕ) → from ≤ p → p < port
+            → IsSome (neighbour_of self.now.mesh node p) → front_credit self.now node p ≡ None) }
+        ensures none { IfNone result ((p : ℕ) → from ≤ p → IsSome (neighbour_of self.now.mesh node p)
+            → front_credit self.now node p ≡ None) }
     {
         self.links.next_credit(node, from)
     }
@@ -27,8 +29,10 @@ impl Fabric {
     pub fn next_flit(&self, node: u8, from: u8) -> Option<u8>
         requires { from ≤ 6 }
         ensures mesh_port { IfSome result (λ port. (from ≤ port) × (port < 2 * length self.now.mesh) × (port < 6)) }
-        ensures before { IfSome result (λ port. (p : ℕ) → from ≤ p → p < port → IsSome (neighbour_of self.now.mesh node p) → front_into self.now node p ≡ None) }
-        ensures none { IfNone result ((p : ℕ) → from ≤ p → IsSome (neighbour_of self.now.mesh node p) → front_into self.now node p ≡ None) }
+        ensures before { IfSome result (λ port. (p : ℕ) → from ≤ p → p < port
+            → IsSome (neighbour_of self.now.mesh node p) → front_into self.now node p ≡ None) }
+        ensures none { IfNone result ((p : ℕ) → from ≤ p → IsSome (neighbour_of self.now.mesh node p)
+            → front_into self.now node p ≡ None) }
     {
         self.links.next_flit(node, from)
     }

@@ -50,8 +50,9 @@ fn takes_turn(
     Ok(got.as_slice() == arrived && one.as_slice() == first && other.as_slice() == second)
 }
 
-/// In the first turn both lanes' heads are ready at node 1 for its plus port: the arbiter stands at the lower input port,
-/// and then takes the two in turn. A flit moves over each link in the turn in which it is sent, as the nodes go by rising number.
+/// In the first turn both lanes' heads are ready at node 1 for its plus port: the arbiter stands at the lower input
+/// port, and then takes the two in turn. A flit moves over each link in the turn in which it is sent, as the nodes go
+/// by rising number.
 #[test]
 fn an_arbiter_serves_two_lanes_in_turn(rt: HostRuntime) -> Result<(), Fail> {
     let (mut net, script) = two_lanes(rt.alloc())?;
@@ -85,8 +86,8 @@ fn a_flit_against_the_order_waits_on_the_link(rt: HostRuntime) -> Result<(), Fai
     Ok(())
 }
 
-/// A refusal ends the turn: the entry before it was accepted, and nothing was fed. An entry of a node that is not there is
-/// never asked.
+/// A refusal ends the turn: the entry before it was accepted, and nothing was fed. An entry of a node that is not there
+/// is never asked.
 #[test]
 fn a_refused_entry_ends_the_turn(rt: HostRuntime) -> Result<(), Fail> {
     let mut net = Net::new(rt.alloc(), &config(&[2], 2, &[1]))?;

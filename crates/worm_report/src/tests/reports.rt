@@ -27,8 +27,12 @@ fn one_flit_arrived_and_one_waits_at_its_source(rt: HostRuntime) -> Result<(), F
     let mut net = network(rt.alloc(), &[2], 2, &[1])?;
     let script = script(rt.alloc(), packet(lane(0, 1, 0), &[17, 18])?)?;
     run(&mut net, &script, 1)?;
-    let wanted =
-        "wormreport 1\nturns 1 workers 1 drain 0\ndelivered 1 from 0 class 0 packet 0 flit 0 word 17\nunderway 0 1 class 0 packet 0 flit 1 source\nnot offered 0\ntotal injected 2 delivered 1 underway 1\n";
+    let wanted = "wormreport 1\n\
+         turns 1 workers 1 drain 0\n\
+         delivered 1 from 0 class 0 packet 0 flit 0 word 17\n\
+         underway 0 1 class 0 packet 0 flit 1 source\n\
+         not offered 0\n\
+         total injected 2 delivered 1 underway 1\n";
     reports(&rt, rt.alloc(), &net, &summary(1, 0), wanted);
     Ok(())
 }
@@ -38,8 +42,12 @@ fn the_flit_nearest_the_sink_comes_first(rt: HostRuntime) -> Result<(), Fail> {
     let mut net = network(rt.alloc(), &[2], 2, &[1])?;
     let script = script(rt.alloc(), packet(lane(1, 0, 0), &[17, 18])?)?;
     run(&mut net, &script, 1)?;
-    let wanted =
-        "wormreport 1\nturns 1 workers 1 drain 0\nunderway 1 0 class 0 packet 0 flit 0 link 1 0 0\nunderway 1 0 class 0 packet 0 flit 1 source\nnot offered 0\ntotal injected 2 delivered 0 underway 2\n";
+    let wanted = "wormreport 1\n\
+         turns 1 workers 1 drain 0\n\
+         underway 1 0 class 0 packet 0 flit 0 link 1 0 0\n\
+         underway 1 0 class 0 packet 0 flit 1 source\n\
+         not offered 0\n\
+         total injected 2 delivered 0 underway 2\n";
     reports(&rt, rt.alloc(), &net, &summary(1, 0), wanted);
     Ok(())
 }
@@ -51,13 +59,21 @@ fn a_mark_is_a_flit_without_a_word(rt: HostRuntime) -> Result<(), Fail> {
     script.push(mark(over))?;
     let mut net = network(rt.alloc(), &[2], 2, &[1])?;
     run(&mut net, &script, 1)?;
-    let wanted =
-        "wormreport 1\nturns 1 workers 1 drain 0\ndelivered 1 from 0 class 0 packet 0 flit 0 word 5\nunderway 0 1 class 0 packet 1 flit 0 source\nnot offered 0\ntotal injected 2 delivered 1 underway 1\n";
+    let wanted = "wormreport 1\n\
+         turns 1 workers 1 drain 0\n\
+         delivered 1 from 0 class 0 packet 0 flit 0 word 5\n\
+         underway 0 1 class 0 packet 1 flit 0 source\n\
+         not offered 0\n\
+         total injected 2 delivered 1 underway 1\n";
     reports(&rt, rt.alloc(), &net, &summary(1, 0), wanted);
     let mut net = network(rt.alloc(), &[2], 2, &[1])?;
     run(&mut net, &script, 2)?;
-    let wanted =
-        "wormreport 1\nturns 2 workers 1 drain 0\ndelivered 1 from 0 class 0 packet 0 flit 0 word 5\ndelivered 1 from 0 class 0 packet 1 close\nnot offered 0\ntotal injected 2 delivered 2 underway 0\n";
+    let wanted = "wormreport 1\n\
+         turns 2 workers 1 drain 0\n\
+         delivered 1 from 0 class 0 packet 0 flit 0 word 5\n\
+         delivered 1 from 0 class 0 packet 1 close\n\
+         not offered 0\n\
+         total injected 2 delivered 2 underway 0\n";
     reports(&rt, rt.alloc(), &net, &summary(2, 0), wanted);
     Ok(())
 }
@@ -68,8 +84,14 @@ fn what_arrived_is_listed_in_its_order(rt: HostRuntime) -> Result<(), Fail> {
     let mut script = script(rt.alloc(), packet(lane(0, 2, 0), &[1, 2])?)?;
     script.push(packet(lane(1, 2, 1), &[3, 4])?)?;
     run(&mut net, &script, 4)?;
-    let wanted =
-        "wormreport 1\nturns 4 workers 1 drain 0\ndelivered 2 from 0 class 0 packet 0 flit 0 word 1\ndelivered 2 from 1 class 1 packet 0 flit 0 word 3\ndelivered 2 from 0 class 0 packet 0 flit 1 word 2\ndelivered 2 from 1 class 1 packet 0 flit 1 word 4\nnot offered 0\ntotal injected 4 delivered 4 underway 0\n";
+    let wanted = "wormreport 1\n\
+         turns 4 workers 1 drain 0\n\
+         delivered 2 from 0 class 0 packet 0 flit 0 word 1\n\
+         delivered 2 from 1 class 1 packet 0 flit 0 word 3\n\
+         delivered 2 from 0 class 0 packet 0 flit 1 word 2\n\
+         delivered 2 from 1 class 1 packet 0 flit 1 word 4\n\
+         not offered 0\n\
+         total injected 4 delivered 4 underway 0\n";
     reports(&rt, rt.alloc(), &net, &summary(4, 0), wanted);
     Ok(())
 }
@@ -100,8 +122,15 @@ fn a_worm_stands_from_link_to_source(rt: HostRuntime) -> Result<(), Fail> {
         Step::Feed { node: 0, class: 0 },
     ];
     do_all(&rt, &mut net, &steps);
-    let wanted =
-        "wormreport 1\nturns 3 workers 2 drain 7\nstopped worker 1 turn 0\nunderway 0 1 class 0 packet 0 flit 0 link 0 1 0\nunderway 0 1 class 0 packet 0 flit 1 buffer 0 2 0\nunderway 0 1 class 0 packet 0 flit 2 source\nunderway 0 1 class 0 packet 0 flit 3 source\nnot offered 9\ntotal injected 4 delivered 0 underway 4\n";
+    let wanted = "wormreport 1\n\
+         turns 3 workers 2 drain 7\n\
+         stopped worker 1 turn 0\n\
+         underway 0 1 class 0 packet 0 flit 0 link 0 1 0\n\
+         underway 0 1 class 0 packet 0 flit 1 buffer 0 2 0\n\
+         underway 0 1 class 0 packet 0 flit 2 source\n\
+         underway 0 1 class 0 packet 0 flit 3 source\n\
+         not offered 9\n\
+         total injected 4 delivered 0 underway 4\n";
     let mut stops = [None; 16];
     stops[1] = Some(0);
     let summary = Summary {
@@ -183,8 +212,13 @@ fn a_packet_overtook_another(rt: HostRuntime) -> Result<(), Fail> {
         },
     ];
     do_all(&rt, &mut net, &steps);
-    let wanted =
-        "wormreport 1\nturns 0 workers 1 drain 0\ndelivered 1 from 0 class 0 packet 1 flit 0 word 3\nunderway 0 1 class 0 packet 0 flit 0 buffer 1 0 0\nunderway 0 1 class 0 packet 0 flit 1 buffer 1 0 0\nnot offered 0\ntotal injected 3 delivered 1 underway 2\n";
+    let wanted = "wormreport 1\n\
+         turns 0 workers 1 drain 0\n\
+         delivered 1 from 0 class 0 packet 1 flit 0 word 3\n\
+         underway 0 1 class 0 packet 0 flit 0 buffer 1 0 0\n\
+         underway 0 1 class 0 packet 0 flit 1 buffer 1 0 0\n\
+         not offered 0\n\
+         total injected 3 delivered 1 underway 2\n";
     reports(&rt, rt.alloc(), &net, &summary(0, 0), wanted);
     Ok(())
 }
@@ -199,8 +233,14 @@ fn lanes_come_by_source_then_destination_then_class(rt: HostRuntime) -> Result<(
         offer(lane(0, 1, 1), &[4])?,
     ];
     do_all(&rt, &mut net, &steps);
-    let wanted =
-        "wormreport 1\nturns 0 workers 1 drain 0\nunderway 0 1 class 1 packet 0 flit 0 source\nunderway 0 2 class 0 packet 0 flit 0 source\nunderway 0 2 class 1 packet 0 flit 0 source\nunderway 1 0 class 0 packet 0 flit 0 source\nnot offered 0\ntotal injected 4 delivered 0 underway 4\n";
+    let wanted = "wormreport 1\n\
+         turns 0 workers 1 drain 0\n\
+         underway 0 1 class 1 packet 0 flit 0 source\n\
+         underway 0 2 class 0 packet 0 flit 0 source\n\
+         underway 0 2 class 1 packet 0 flit 0 source\n\
+         underway 1 0 class 0 packet 0 flit 0 source\n\
+         not offered 0\n\
+         total injected 4 delivered 0 underway 4\n";
     reports(&rt, rt.alloc(), &net, &summary(0, 0), wanted);
     Ok(())
 }

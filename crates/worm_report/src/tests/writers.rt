@@ -9,8 +9,12 @@ use std::test::Fail;
 use worm_core::Net;
 
 /// One flit arrived, and one waits at its source.
-const TEXT: &[u8] =
-    b"wormreport 1\nturns 1 workers 1 drain 0\ndelivered 1 from 0 class 0 packet 0 flit 0 word 17\nunderway 0 1 class 0 packet 0 flit 1 source\nnot offered 0\ntotal injected 2 delivered 1 underway 1\n";
+const TEXT: &[u8] = b"wormreport 1\n\
+      turns 1 workers 1 drain 0\n\
+      delivered 1 from 0 class 0 packet 0 flit 0 word 17\n\
+      underway 0 1 class 0 packet 0 flit 1 source\n\
+      not offered 0\n\
+      total injected 2 delivered 1 underway 1\n";
 
 fn half_way(alloc: Global) -> Result<Net, Fail> {
     let mut net = network(alloc, &[2], 2, &[1])?;

@@ -10,18 +10,21 @@ returns-then-steps_by-clause-value c = grind (arith, common_steps)
 
 pub returns-then-steps_by-clause-exact : goal.returns-then-steps_by-clause-exact
 returns-then-steps_by-clause-exact c =
-    exact_from c.args.mesh.now (AreLarge-from_radices c.args.mesh.now c.dims-d-end.ensures.mesh.radices) _ c.args.node c.args.port c.args.src c.args.dst c.requires.src_in c.requires.dst_in (returns-then-steps_by-clause-value c)
+    exact_from c.args.mesh.now (AreLarge-from_radices c.args.mesh.now c.dims-d-end.ensures.mesh.radices) _ c.args.node
+    c.args.port c.args.src c.args.dst c.requires.src_in c.requires.dst_in (returns-then-steps_by-clause-value c)
 
 pub returns-else-steps_by-clause-value : goal.returns-else-steps_by-clause-value
 returns-else-steps_by-clause-value c = grind (arith, common_steps)
 
 pub returns-else-steps_by-clause-exact : goal.returns-else-steps_by-clause-exact
 returns-else-steps_by-clause-exact c =
-    exact_from c.args.mesh.now (AreLarge-from_radices c.args.mesh.now c.dims-d-end.ensures.mesh.radices) _ c.args.node c.args.port c.args.src c.args.dst c.requires.src_in c.requires.dst_in (returns-else-steps_by-clause-value c)
+    exact_from c.args.mesh.now (AreLarge-from_radices c.args.mesh.now c.dims-d-end.ensures.mesh.radices) _ c.args.node
+    c.args.port c.args.src c.args.dst c.requires.src_in c.requires.dst_in (returns-else-steps_by-clause-value c)
 
 pub returns-then-at-radix-clause-value : goal.returns-then-at-radix-clause-value
 returns-then-at-radix-clause-value c = grind (arith, common_steps)
 
 pub returns-then-at-radix-clause-exact : goal.returns-then-at-radix-clause-exact
 returns-then-at-radix-clause-exact c =
-    exact_from c.args.mesh.now (AreLarge-from_radices c.args.mesh.now c.dims-d-end.ensures.mesh.radices) _ c.args.node c.args.port c.args.src c.args.dst c.requires.src_in c.requires.dst_in (returns-then-at-radix-clause-value c)
+    exact_from c.args.mesh.now (AreLarge-from_radices c.args.mesh.now c.dims-d-end.ensures.mesh.radices) _ c.args.node
+    c.args.port c.args.src c.args.dst c.requires.src_in c.requires.dst_in (returns-then-at-radix-clause-value c)

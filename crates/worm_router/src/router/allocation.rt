@@ -7,7 +7,11 @@ ghost use Rattle.worm_vcalloc.specs.VcAlloc.{IsChannelMatching};
 ghost use Rattle.worm_swalloc.specs.SwAlloc.{IsSwitchMatching};
 ghost use Rattle.worm_router.specs.Router.{IsPlace, IsRouter, terminal, width, input_at, output_at, after_grant};
 ghost use Rattle.worm_router.specs.Tables.{PutsRow};
-ghost use Rattle.worm_router.specs.Allocation.{request_at, requests, is_free, free_channels, HasNoChoice, IsFirstChoice, IsHopeful, IsSoleHope, requests_among, IsAllocated, ready_at, ready_outs, GrantsNothing, GrantsWithin, written, channel_pass, after_allocate, with_port_grants, with_grants, switch_grants, after_choose};
+ghost use Rattle.worm_router.specs.Allocation.{request_at, requests, is_free, free_channels, HasNoChoice};
+ghost use Rattle.worm_router.specs.Allocation.{IsFirstChoice, IsHopeful, IsSoleHope, requests_among, IsAllocated};
+ghost use Rattle.worm_router.specs.Allocation.{ready_at, ready_outs, GrantsNothing, GrantsWithin, written};
+ghost use Rattle.worm_router.specs.Allocation.{channel_pass, after_allocate, with_port_grants, with_grants};
+ghost use Rattle.worm_router.specs.Allocation.{switch_grants, after_choose};
 ghost use Rattle.worm_router.specs.Allocation.{AreHeld, IsSameSize};
 
 use crate::router::Router;
@@ -44,7 +48,8 @@ impl Router {
     /// The first channel that is free for this input channel, with its output port.
     fn first_choice(&self, port: u8, vc: u8) -> Option<(u8, u8)>
         requires { IsPlace self.now port vc }
-        ensures { MatchOption result (HasNoChoice self.now port vc) (λ choice. IsFirstChoice self.now port vc choice.0 choice.1) }
+        ensures { MatchOption result (HasNoChoice self.now port vc)
+            (λ choice. IsFirstChoice self.now port vc choice.0 choice.1) }
     {
         let request = self.request(port, vc)?;
         let channel = self.busy.held.first_outside(request.out, request.allowed)?;
@@ -157,8 +162,8 @@ impl Router {
         self.busy.in_vain = true;
     }
 
-    /// The pass where output channels are free for one input channel alone: it gets the first of them, and then no other has
-    /// any.
+    /// The pass where output channels are free for one input channel alone: it gets the first of them, and then no
+    /// other has any.
     fn grant_sole(&mut self, port: u8, vc: u8) -> VcGrants
         requires place { IsPlace self.old port vc }
         requires sole { IsSoleHope self.old port vc }
@@ -195,7 +200,8 @@ impl Router {
         ensures grants { result ≡ (channel_pass self.old).grants }
         ensures after { self.new ≡ after_allocate self.old }
         ensures same { IsSameSize self.old self.new }
-        ensures matching { IsChannelMatching (terminal self.old + 1) (width self.old) (requests self.old) (free_channels self.old) result }
+        ensures matching { IsChannelMatching (terminal self.old + 1) (width self.old) (requests self.old)
+            (free_channels self.old) result }
         ensures held { AreHeld self.old self.new result }
     {
         if self.grants_nothing() {

@@ -2,7 +2,8 @@
 
 ghost use Rattle.std.specs.Prelude.{◌≡◌, ◌==◌, ◌&&◌, ◌||◌, ◌<◌, nat_lt, is_some, MatchOption};
 ghost use Rattle.worm_records.specs.declared.InRecord.TheVariants.{Active};
-ghost use Rattle.worm_router.specs.Router.{IsPlace, StateFits, terminal, width, input_at, leaving, after_gave, after_credit};
+ghost use Rattle.worm_router.specs.Router.{IsPlace, StateFits, terminal, width, input_at, leaving, after_gave};
+ghost use Rattle.worm_router.specs.Router.{after_credit};
 ghost use Rattle.worm_router.specs.Busy.{IsWoken, NoneWoken, is_of, is_occupied, could_send};
 
 use crate::router::Router;
@@ -36,7 +37,8 @@ impl Router {
     pub(super) fn sends_by(&self, port: u8, vc: u8, out: u8, out_vc: u8) -> bool
         requires place { IsPlace self.now port vc }
         requires out_place { IsPlace self.now out out_vc }
-        ensures { result ≡ (could_send self.now port (Active out out_vc) (input_at self.now port vc).owed && is_occupied (input_at self.now port vc)) }
+        ensures { result ≡ (could_send self.now port (Active out out_vc) (input_at self.now port vc).owed && is_occupied
+            (input_at self.now port vc)) }
     {
         let channel = &self.inputs[self.line(port, vc)];
         self.could_send(port, InRecord::Active { out, out_vc }, channel.owed())
@@ -56,7 +58,9 @@ impl Router {
     /// Whether an input channel waits for nothing but a credit at this output channel, which it holds.
     fn is_due(&self, port: u8, vc: u8, out: u8, out_vc: u8) -> bool
         requires { IsPlace self.now port vc }
-        ensures { result ≡ ((is_of (input_at self.now port vc).state out out_vc && (port == terminal self.now || nat_lt (input_at self.now port vc).owed self.now.depth)) && is_occupied (input_at self.now port vc)) }
+        ensures { result ≡ ((is_of (input_at self.now port vc).state out out_vc &&
+            (port == terminal self.now || nat_lt (input_at self.now port vc).owed self.now.depth)) && is_occupied
+            (input_at self.now port vc)) }
     {
         let channel = &self.inputs[self.line(port, vc)];
         let is_of = match channel.state() {
@@ -69,7 +73,8 @@ impl Router {
     /// The input channel that may send as soon as this output channel has one credit more, and may not now.
     pub(super) fn waits_for_credit(&self, out: u8, vc: u8) -> Option<(u8, u8)>
         requires { IsPlace self.now out vc }
-        ensures { MatchOption result (NoneWoken self.now (after_credit self.now out vc)) (λ place. IsWoken self.now (after_credit self.now out vc) place.0 place.1) }
+        ensures { MatchOption result (NoneWoken self.now (after_credit self.now out vc))
+            (λ place. IsWoken self.now (after_credit self.now out vc) place.0 place.1) }
     {
         let output = self.outputs[self.line(out, vc)];
         if output.credits > 0 {

@@ -7,8 +7,8 @@ ghost use Rattle.worm_router.specs.Rest.{RoutesNothing, SendsNothing, OwesNothin
 use crate::router::Router;
 
 impl Router {
-    /// Whether a turn would leave the router as it is, as long as no flit and no credit comes. One-sided: what is at rest may
-    /// not be told so.
+    /// Whether a turn would leave the router as it is, as long as no flit and no credit comes. One-sided: what is at
+    /// rest may not be told so.
     pub fn is_at_rest(&self) -> bool
         ensures { IsTrue result → IsAtRest self.now }
     {

@@ -64,7 +64,8 @@ impl Router {
         requires ready { IsReadySet self.now ready.now }
         requires none { asked.old ≡ replicate 7 None }
         ensures named { asked.new ≡ all_named self.now.switch_alloc (ready_outs self.now) }
-        ensures sound { IsSwAlloc self.now.switch_alloc.ports self.now.switch_alloc.channels self.now.switch_alloc.inputs self.now.switch_alloc.outputs }
+        ensures sound { IsSwAlloc self.now.switch_alloc.ports self.now.switch_alloc.channels
+            self.now.switch_alloc.inputs self.now.switch_alloc.outputs }
     {
         self.switch_alloc.is_sound();
         let mut left = *ready;

@@ -8,8 +8,13 @@ use worm_text::{TextFault, Why, read_network};
 
 const NETWORK: &[u8] = b"wormnet 1\nradix 2\ndims 1\ndepth 2\nclass data\nend\n";
 
-const REPORT: &[u8] =
-    b"wormreport 1\nturns 1 workers 1 drain 0\ndelivered 0 from 1 class 0 packet 0 flit 0 word 17\nunderway 1 0 class 0 packet 0 flit 1 link 1 0 0\nunderway 1 0 class 0 packet 1 flit 0 source\nnot offered 0\ntotal injected 3 delivered 1 underway 2\n";
+const REPORT: &[u8] = b"wormreport 1\n\
+      turns 1 workers 1 drain 0\n\
+      delivered 0 from 1 class 0 packet 0 flit 0 word 17\n\
+      underway 1 0 class 0 packet 0 flit 1 link 1 0 0\n\
+      underway 1 0 class 0 packet 1 flit 0 source\n\
+      not offered 0\n\
+      total injected 3 delivered 1 underway 2\n";
 
 fn fault_of(alloc: Global, text: &[u8]) -> Option<TextFault> {
     let config = read_network(NETWORK).ok()?;

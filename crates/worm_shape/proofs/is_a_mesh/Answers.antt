@@ -7,4 +7,7 @@ pub returns-clause-mesh : goal.returns-clause-mesh
 returns-clause-mesh c = λ ks counts depth mesh classes. shape_is_mesh ks counts depth mesh classes
 
 pub returns-clause-owned : goal.returns-clause-owned
-returns-clause-owned c = λ ks counts depth class channel. (λ h. owns-from_owner counts class channel h.0 h.1, λ h. owned_by counts class channel h)
+returns-clause-owned c = λ ks counts depth class channel. (
+  λ h. owns-from_owner counts class channel h.0 h.1,
+  λ h. owned_by counts class channel h,
+)

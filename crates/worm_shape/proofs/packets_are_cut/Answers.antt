@@ -3,7 +3,9 @@ use Rattle.worm_shape.proofs.PastPlaces.{open_is_active}
 use Rattle.worm_shape.proofs.packets_are_cut.Goals as goal
 
 pub returns-clause-list : goal.returns-clause-list
-returns-clause-list c = λ ks counts depth net mesh classes sound hold. packets_are_cut ks counts depth mesh net classes sound hold
+returns-clause-list c = λ ks counts depth net mesh classes sound hold.
+    packets_are_cut ks counts depth mesh net classes sound hold
 
 pub returns-clause-one : goal.returns-clause-one
-returns-clause-one c = λ ks counts depth net mesh classes sound hold. open_is_active ks counts depth mesh classes net sound hold
+returns-clause-one c = λ ks counts depth net mesh classes sound hold.
+    open_is_active ks counts depth mesh classes net sound hold

@@ -3,4 +3,5 @@ use Rattle.worm_shape.proofs.Leaving.{crosses_leaves}
 use Rattle.worm_shape.proofs.test_is_exact.Goals as goal
 
 pub returns : goal.returns
-returns c = λ ks counts depth lane mesh there x port. crosses_leaves ks counts depth (AreLarge-from_radices ks mesh.radices) lane there x port
+returns c = λ ks counts depth lane mesh there x port. crosses_leaves ks counts depth
+    (AreLarge-from_radices ks mesh.radices) lane there x port

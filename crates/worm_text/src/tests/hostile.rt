@@ -1,4 +1,5 @@
-//! Each byte of a text replaced by each other one: what is still accepted is the text of what was read, written here from the rules.
+//! Each byte of a text replaced by each other one: what is still accepted is the text of what was read, written here
+//! from the rules.
 
 use crate::{read_network, read_traffic};
 use std::alloc::Global;

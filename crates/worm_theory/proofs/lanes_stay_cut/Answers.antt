@@ -4,7 +4,10 @@ use Rattle.worm_theory.proofs.Stamps.{accepted_once, cut_once}
 use Rattle.worm_theory.proofs.lanes_stay_cut.Goals as goal
 
 pub returns-clause-step : goal.returns-clause-step
-returns-clause-step c = λ s mesh net step there enabled kept. (step_sound s mesh net step there enabled kept.0, step_cut s mesh net step there kept.0 kept.1)
+returns-clause-step c = λ s mesh net step there enabled kept. (
+  step_sound s mesh net step there enabled kept.0,
+  step_cut s mesh net step there kept.0 kept.1,
+)
 
 pub returns-clause-steps : goal.returns-clause-steps
 returns-clause-steps c = λ s mesh steps old new lead kept. steps_keep s mesh steps old new lead kept.0 kept.1

@@ -4,10 +4,12 @@ use Rattle.worm_theory.proofs.OpenRecords.{open_record, free_record, never_two}
 use Rattle.worm_theory.proofs.records_fit_open_packets.Goals as goal
 
 pub returns-clause-one : goal.returns-clause-one
-returns-clause-one c = λ s net mesh sound hold lane k there x p at opened. open_once s mesh lane there k net sound hold x p at opened
+returns-clause-one c = λ s net mesh sound hold lane k there x p at opened.
+    open_once s mesh lane there k net sound hold x p at opened
 
 pub returns-clause-within : goal.returns-clause-within
-returns-clause-within c = λ s net mesh sound hold lane k there x p v at on. within_open s mesh lane there k net sound hold x p v at (on.flit, on.last, on.own_lane, on.own_packet)
+returns-clause-within c = λ s net mesh sound hold lane k there x p v at on.
+    within_open s mesh lane there k net sound hold x p v at (on.flit, on.last, on.own_lane, on.own_packet)
 
 pub returns-clause-opened : goal.returns-clause-opened
 returns-clause-opened c = λ s net mesh sound hold. open_record s mesh net sound hold

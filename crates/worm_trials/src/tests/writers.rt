@@ -16,16 +16,31 @@ const SHALLOW: &[u8] = b"wormnet 1\nradix 2\ndims 1\ndepth 1\nclass data\nend\n"
 const FOUR_WORDS: &[u8] = b"wormtraffic 1\nsend 0 0 1 data 1 2 3 4\nend\n";
 
 /// The word arrived, and the mark waits.
-const MARK_WAITS: &str =
-    "wormreport 1\nturns 1 workers 1 drain 0\ndelivered 1 from 0 class 0 packet 0 flit 0 word 5\nunderway 0 1 class 0 packet 1 flit 0 source\nnot offered 0\ntotal injected 2 delivered 1 underway 1\n";
+const MARK_WAITS: &str = "wormreport 1\n\
+     turns 1 workers 1 drain 0\n\
+     delivered 1 from 0 class 0 packet 0 flit 0 word 5\n\
+     underway 0 1 class 0 packet 1 flit 0 source\n\
+     not offered 0\n\
+     total injected 2 delivered 1 underway 1\n";
 
 /// Both arrived.
-const MARK_ARRIVED: &str =
-    "wormreport 1\nturns 2 workers 1 drain 0\ndelivered 1 from 0 class 0 packet 0 flit 0 word 5\ndelivered 1 from 0 class 0 packet 1 close\nnot offered 0\ntotal injected 2 delivered 2 underway 0\n";
+const MARK_ARRIVED: &str = "wormreport 1\n\
+     turns 2 workers 1 drain 0\n\
+     delivered 1 from 0 class 0 packet 0 flit 0 word 5\n\
+     delivered 1 from 0 class 0 packet 1 close\n\
+     not offered 0\n\
+     total injected 2 delivered 2 underway 0\n";
 
 /// Two of four words arrived before the second worker was stopped.
-const STOPPED: &str =
-    "wormreport 1\nturns 10 workers 2 drain 0\nstopped worker 1 turn 2\ndelivered 1 from 0 class 0 packet 0 flit 0 word 1\ndelivered 1 from 0 class 0 packet 0 flit 1 word 2\nunderway 0 1 class 0 packet 0 flit 2 source\nunderway 0 1 class 0 packet 0 flit 3 source\nnot offered 0\ntotal injected 4 delivered 2 underway 2\n";
+const STOPPED: &str = "wormreport 1\n\
+     turns 10 workers 2 drain 0\n\
+     stopped worker 1 turn 2\n\
+     delivered 1 from 0 class 0 packet 0 flit 0 word 1\n\
+     delivered 1 from 0 class 0 packet 0 flit 1 word 2\n\
+     underway 0 1 class 0 packet 0 flit 2 source\n\
+     underway 0 1 class 0 packet 0 flit 3 source\n\
+     not offered 0\n\
+     total injected 4 delivered 2 underway 2\n";
 
 /// Takes 1, 2, 3, .. bytes in its calls, and fails once it has taken so many.
 #[derive(Drop)]

@@ -77,8 +77,12 @@ fn traffic_that_fails_in_mid_stream(rt: HostRuntime) -> Result<(), Fail> {
 
 #[test]
 fn readers_of_a_byte_a_call_are_read_to_their_end(rt: HostRuntime) {
-    let wanted =
-        b"wormreport 1\nturns 2 workers 1 drain 0\ndelivered 1 from 0 class 0 packet 0 flit 0 word 17\ndelivered 1 from 0 class 0 packet 0 flit 1 word 18\nnot offered 0\ntotal injected 2 delivered 2 underway 0\n";
+    let wanted = b"wormreport 1\n\
+          turns 2 workers 1 drain 0\n\
+          delivered 1 from 0 class 0 packet 0 flit 0 word 17\n\
+          delivered 1 from 0 class 0 packet 0 flit 1 word 18\n\
+          not offered 0\n\
+          total injected 2 delivered 2 underway 0\n";
     let mut network = Sipped::new(TWO_NODES, 0);
     let mut traffic = Sipped::new(TWO_WORDS, 0);
     let mut out = Vec::new(rt.alloc());
@@ -116,8 +120,11 @@ fn want_of_memory_in_a_turn(rt: HostRuntime) -> Result<(), Fail> {
         stops,
         not_offered: 2,
     };
-    let wanted =
-        b"wormreport 1\nturns 9 workers 1 drain 0\nstopped worker 0 turn 3\nnot offered 2\ntotal injected 0 delivered 0 underway 0\n";
+    let wanted = b"wormreport 1\n\
+          turns 9 workers 1 drain 0\n\
+          stopped worker 0 turn 3\n\
+          not offered 2\n\
+          total injected 0 delivered 0 underway 0\n";
     for (fault, answer) in [
         (None, Ok(())),
         (Some(StepFault::NoMemory), Err(ProgramFault::NoMemory)),

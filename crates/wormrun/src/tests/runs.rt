@@ -102,7 +102,12 @@ fn the_first_flit_arrives_in_the_first_turn(rt: HostRuntime) {
         TWO_NODES,
         TWO_WORDS,
         (1, 0),
-        "wormreport 1\nturns 1 workers 1 drain 0\ndelivered 1 from 0 class 0 packet 0 flit 0 word 17\nunderway 0 1 class 0 packet 0 flit 1 source\nnot offered 0\ntotal injected 2 delivered 1 underway 1\n",
+        "wormreport 1\n\
+         turns 1 workers 1 drain 0\n\
+         delivered 1 from 0 class 0 packet 0 flit 0 word 17\n\
+         underway 0 1 class 0 packet 0 flit 1 source\n\
+         not offered 0\n\
+         total injected 2 delivered 1 underway 1\n",
     );
     reports(
         &rt,
@@ -110,7 +115,12 @@ fn the_first_flit_arrives_in_the_first_turn(rt: HostRuntime) {
         TWO_NODES,
         TWO_WORDS,
         (1, 5),
-        "wormreport 1\nturns 1 workers 1 drain 5\ndelivered 1 from 0 class 0 packet 0 flit 0 word 17\ndelivered 1 from 0 class 0 packet 0 flit 1 word 18\nnot offered 0\ntotal injected 2 delivered 2 underway 0\n",
+        "wormreport 1\n\
+         turns 1 workers 1 drain 5\n\
+         delivered 1 from 0 class 0 packet 0 flit 0 word 17\n\
+         delivered 1 from 0 class 0 packet 0 flit 1 word 18\n\
+         not offered 0\n\
+         total injected 2 delivered 2 underway 0\n",
     );
 }
 
@@ -122,7 +132,12 @@ fn a_flit_waits_on_the_link_for_a_lower_node(rt: HostRuntime) {
         TWO_NODES,
         b"wormtraffic 1\nsend 0 1 0 data 17 18\nend\n",
         (1, 0),
-        "wormreport 1\nturns 1 workers 1 drain 0\nunderway 1 0 class 0 packet 0 flit 0 link 1 0 0\nunderway 1 0 class 0 packet 0 flit 1 source\nnot offered 0\ntotal injected 2 delivered 0 underway 2\n",
+        "wormreport 1\n\
+         turns 1 workers 1 drain 0\n\
+         underway 1 0 class 0 packet 0 flit 0 link 1 0 0\n\
+         underway 1 0 class 0 packet 0 flit 1 source\n\
+         not offered 0\n\
+         total injected 2 delivered 0 underway 2\n",
     );
 }
 
@@ -134,7 +149,14 @@ fn four_words_pass_buffers_of_one_flit(rt: HostRuntime) {
         SHALLOW,
         b"wormtraffic 1\nsend 0 0 1 data 1 2 3 4\nend\n",
         (4, 0),
-        "wormreport 1\nturns 4 workers 1 drain 0\ndelivered 1 from 0 class 0 packet 0 flit 0 word 1\ndelivered 1 from 0 class 0 packet 0 flit 1 word 2\ndelivered 1 from 0 class 0 packet 0 flit 2 word 3\ndelivered 1 from 0 class 0 packet 0 flit 3 word 4\nnot offered 0\ntotal injected 4 delivered 4 underway 0\n",
+        "wormreport 1\n\
+         turns 4 workers 1 drain 0\n\
+         delivered 1 from 0 class 0 packet 0 flit 0 word 1\n\
+         delivered 1 from 0 class 0 packet 0 flit 1 word 2\n\
+         delivered 1 from 0 class 0 packet 0 flit 2 word 3\n\
+         delivered 1 from 0 class 0 packet 0 flit 3 word 4\n\
+         not offered 0\n\
+         total injected 4 delivered 4 underway 0\n",
     );
 }
 
@@ -146,7 +168,11 @@ fn a_packet_for_its_own_node_arrives(rt: HostRuntime) {
         TWO_NODES,
         b"wormtraffic 1\nsend 0 1 1 data 5\nend\n",
         (1, 0),
-        "wormreport 1\nturns 1 workers 1 drain 0\ndelivered 1 from 1 class 0 packet 0 flit 0 word 5\nnot offered 0\ntotal injected 1 delivered 1 underway 0\n",
+        "wormreport 1\n\
+         turns 1 workers 1 drain 0\n\
+         delivered 1 from 1 class 0 packet 0 flit 0 word 5\n\
+         not offered 0\n\
+         total injected 1 delivered 1 underway 0\n",
     );
 }
 

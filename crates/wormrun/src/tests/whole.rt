@@ -17,11 +17,19 @@ const FILES: &[(&str, &[u8])] = &[("n", TWO_NODES), ("t", TWO_WORDS), ("x", b"x\
 const JOINED: &[u8] =
     b"wormnet 1\nradix 2\ndims 1\ndepth 2\nclass data\nend\nwormtraffic 1\nsend 0 0 1 data 17 18\nend\n";
 
-const ONE_TURN: &str =
-    "wormreport 1\nturns 1 workers 1 drain 0\ndelivered 1 from 0 class 0 packet 0 flit 0 word 17\nunderway 0 1 class 0 packet 0 flit 1 source\nnot offered 0\ntotal injected 2 delivered 1 underway 1\n";
+const ONE_TURN: &str = "wormreport 1\n\
+     turns 1 workers 1 drain 0\n\
+     delivered 1 from 0 class 0 packet 0 flit 0 word 17\n\
+     underway 0 1 class 0 packet 0 flit 1 source\n\
+     not offered 0\n\
+     total injected 2 delivered 1 underway 1\n";
 
-const A_HUNDRED_TURNS: &str =
-    "wormreport 1\nturns 100 workers 1 drain 0\ndelivered 1 from 0 class 0 packet 0 flit 0 word 17\ndelivered 1 from 0 class 0 packet 0 flit 1 word 18\nnot offered 0\ntotal injected 2 delivered 2 underway 0\n";
+const A_HUNDRED_TURNS: &str = "wormreport 1\n\
+     turns 100 workers 1 drain 0\n\
+     delivered 1 from 0 class 0 packet 0 flit 0 word 17\n\
+     delivered 1 from 0 class 0 packet 0 flit 1 word 18\n\
+     not offered 0\n\
+     total injected 2 delivered 2 underway 0\n";
 
 /// What was kept is this text.
 fn kept(rt: &impl Abort, kept: &RefCell<Vec<u8>>, wanted: &str) {
@@ -57,8 +65,12 @@ fn two_files_are_run(rt: HostRuntime) {
     ends(&rt, rt.alloc(), words, 0, "n\nt\n", A_HUNDRED_TURNS, "");
 }
 
-const TWO_WORKERS: &str =
-    "wormreport 1\nturns 1 workers 2 drain 1000\ndelivered 1 from 0 class 0 packet 0 flit 0 word 17\ndelivered 1 from 0 class 0 packet 0 flit 1 word 18\nnot offered 0\ntotal injected 2 delivered 2 underway 0\n";
+const TWO_WORKERS: &str = "wormreport 1\n\
+     turns 1 workers 2 drain 1000\n\
+     delivered 1 from 0 class 0 packet 0 flit 0 word 17\n\
+     delivered 1 from 0 class 0 packet 0 flit 1 word 18\n\
+     not offered 0\n\
+     total injected 2 delivered 2 underway 0\n";
 
 #[test]
 fn two_workers_run_two_files(rt: HostRuntime) {

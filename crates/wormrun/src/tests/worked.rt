@@ -20,7 +20,14 @@ fn two_sources_share_a_channel_packet_by_packet(rt: HostRuntime) {
         b"wormnet 1\nradix 3\ndims 1\ndepth 2\nclass data\nend\n",
         b"wormtraffic 1\nsend 0 0 2 data 1 2\nsend 0 1 2 data 3 4\nend\n",
         (4, 0),
-        "wormreport 1\nturns 4 workers 1 drain 0\ndelivered 2 from 0 class 0 packet 0 flit 0 word 1\ndelivered 2 from 0 class 0 packet 0 flit 1 word 2\ndelivered 2 from 1 class 0 packet 0 flit 0 word 3\ndelivered 2 from 1 class 0 packet 0 flit 1 word 4\nnot offered 0\ntotal injected 4 delivered 4 underway 0\n",
+        "wormreport 1\n\
+         turns 4 workers 1 drain 0\n\
+         delivered 2 from 0 class 0 packet 0 flit 0 word 1\n\
+         delivered 2 from 0 class 0 packet 0 flit 1 word 2\n\
+         delivered 2 from 1 class 0 packet 0 flit 0 word 3\n\
+         delivered 2 from 1 class 0 packet 0 flit 1 word 4\n\
+         not offered 0\n\
+         total injected 4 delivered 4 underway 0\n",
     );
 }
 
@@ -32,7 +39,14 @@ fn two_classes_share_a_link_flit_by_flit(rt: HostRuntime) {
         b"wormnet 1\nradix 3\ndims 1\ndepth 2\nclass a\nclass b\nend\n",
         b"wormtraffic 1\nsend 0 0 2 a 1 2\nsend 0 1 2 b 3 4\nend\n",
         (4, 0),
-        "wormreport 1\nturns 4 workers 1 drain 0\ndelivered 2 from 0 class 0 packet 0 flit 0 word 1\ndelivered 2 from 1 class 1 packet 0 flit 0 word 3\ndelivered 2 from 0 class 0 packet 0 flit 1 word 2\ndelivered 2 from 1 class 1 packet 0 flit 1 word 4\nnot offered 0\ntotal injected 4 delivered 4 underway 0\n",
+        "wormreport 1\n\
+         turns 4 workers 1 drain 0\n\
+         delivered 2 from 0 class 0 packet 0 flit 0 word 1\n\
+         delivered 2 from 1 class 1 packet 0 flit 0 word 3\n\
+         delivered 2 from 0 class 0 packet 0 flit 1 word 2\n\
+         delivered 2 from 1 class 1 packet 0 flit 1 word 4\n\
+         not offered 0\n\
+         total injected 4 delivered 4 underway 0\n",
     );
 }
 
@@ -45,7 +59,12 @@ fn a_close_mark_arrives_last(rt: HostRuntime) {
         TWO_NODES,
         traffic,
         (1, 0),
-        "wormreport 1\nturns 1 workers 1 drain 0\ndelivered 1 from 0 class 0 packet 0 flit 0 word 5\nunderway 0 1 class 0 packet 1 flit 0 source\nnot offered 0\ntotal injected 2 delivered 1 underway 1\n",
+        "wormreport 1\n\
+         turns 1 workers 1 drain 0\n\
+         delivered 1 from 0 class 0 packet 0 flit 0 word 5\n\
+         underway 0 1 class 0 packet 1 flit 0 source\n\
+         not offered 0\n\
+         total injected 2 delivered 1 underway 1\n",
     );
     reports(
         &rt,
@@ -53,7 +72,12 @@ fn a_close_mark_arrives_last(rt: HostRuntime) {
         TWO_NODES,
         traffic,
         (2, 0),
-        "wormreport 1\nturns 2 workers 1 drain 0\ndelivered 1 from 0 class 0 packet 0 flit 0 word 5\ndelivered 1 from 0 class 0 packet 1 close\nnot offered 0\ntotal injected 2 delivered 2 underway 0\n",
+        "wormreport 1\n\
+         turns 2 workers 1 drain 0\n\
+         delivered 1 from 0 class 0 packet 0 flit 0 word 5\n\
+         delivered 1 from 0 class 0 packet 1 close\n\
+         not offered 0\n\
+         total injected 2 delivered 2 underway 0\n",
     );
 }
 
@@ -65,7 +89,13 @@ fn packets_of_a_class_with_two_channels_arrive(rt: HostRuntime) -> Result<(), Fa
         TWO_CHANNELS,
         b"wormtraffic 1\nsend 0 0 1 data 1 2\nsend 0 0 1 data 3\nend\n",
         (3, 0),
-        "wormreport 1\nturns 3 workers 1 drain 0\ndelivered 1 from 0 class 0 packet 0 flit 0 word 1\ndelivered 1 from 0 class 0 packet 0 flit 1 word 2\ndelivered 1 from 0 class 0 packet 1 flit 0 word 3\nnot offered 0\ntotal injected 3 delivered 3 underway 0\n",
+        "wormreport 1\n\
+         turns 3 workers 1 drain 0\n\
+         delivered 1 from 0 class 0 packet 0 flit 0 word 1\n\
+         delivered 1 from 0 class 0 packet 0 flit 1 word 2\n\
+         delivered 1 from 0 class 0 packet 1 flit 0 word 3\n\
+         not offered 0\n\
+         total injected 3 delivered 3 underway 0\n",
     );
     is_refused(
         &rt,
@@ -85,7 +115,11 @@ fn dimensions_have_radices_of_their_own(rt: HostRuntime) {
         THREE_BY_TWO,
         b"wormtraffic 1\nsend 0 0 5 data 9\nend\n",
         (1, 0),
-        "wormreport 1\nturns 1 workers 1 drain 0\ndelivered 5 from 0 class 0 packet 0 flit 0 word 9\nnot offered 0\ntotal injected 1 delivered 1 underway 0\n",
+        "wormreport 1\n\
+         turns 1 workers 1 drain 0\n\
+         delivered 5 from 0 class 0 packet 0 flit 0 word 9\n\
+         not offered 0\n\
+         total injected 1 delivered 1 underway 0\n",
     );
     reports(
         &rt,
@@ -93,7 +127,11 @@ fn dimensions_have_radices_of_their_own(rt: HostRuntime) {
         THREE_BY_TWO,
         b"wormtraffic 1\nsend 0 5 0 data 9\nend\n",
         (1, 0),
-        "wormreport 1\nturns 1 workers 1 drain 0\nunderway 5 0 class 0 packet 0 flit 0 link 5 0 0\nnot offered 0\ntotal injected 1 delivered 0 underway 1\n",
+        "wormreport 1\n\
+         turns 1 workers 1 drain 0\n\
+         underway 5 0 class 0 packet 0 flit 0 link 5 0 0\n\
+         not offered 0\n\
+         total injected 1 delivered 0 underway 1\n",
     );
 }
 
@@ -107,7 +145,13 @@ fn a_joined_input_runs_a_hundred_turns(rt: HostRuntime) -> Result<(), Fail> {
     assert!(&rt; ran.is_ok());
     assert_eq!(&rt;
         out.as_slice(),
-        b"wormreport 1\nturns 100 workers 1 drain 0\ndelivered 1 from 0 class 0 packet 0 flit 0 word 17\ndelivered 1 from 0 class 0 packet 0 flit 1 word 18\nnot offered 0\ntotal injected 2 delivered 2 underway 0\n".as_slice()
+        b"wormreport 1\n\
+          turns 100 workers 1 drain 0\n\
+          delivered 1 from 0 class 0 packet 0 flit 0 word 17\n\
+          delivered 1 from 0 class 0 packet 0 flit 1 word 18\n\
+          not offered 0\n\
+          total injected 2 delivered 2 underway 0\n"
+            .as_slice()
     );
     Ok(())
 }

@@ -99,7 +99,12 @@ const HALF_WAY: Worked = Worked {
     texts: (TWO_NODES, TWO_WORDS),
     turns: 1,
     workers: 1,
-    report: "wormreport 1\nturns 1 workers 1 drain 0\ndelivered 1 from 0 class 0 packet 0 flit 0 word 17\nunderway 0 1 class 0 packet 0 flit 1 source\nnot offered 0\ntotal injected 2 delivered 1 underway 1\n",
+    report: "wormreport 1\n\
+     turns 1 workers 1 drain 0\n\
+     delivered 1 from 0 class 0 packet 0 flit 0 word 17\n\
+     underway 0 1 class 0 packet 0 flit 1 source\n\
+     not offered 0\n\
+     total injected 2 delivered 1 underway 1\n",
 };
 
 /// A word and the mark behind it arrived.
@@ -110,7 +115,12 @@ const CLOSED: Worked = Worked {
     ),
     turns: 2,
     workers: 1,
-    report: "wormreport 1\nturns 2 workers 1 drain 0\ndelivered 1 from 0 class 0 packet 0 flit 0 word 5\ndelivered 1 from 0 class 0 packet 1 close\nnot offered 0\ntotal injected 2 delivered 2 underway 0\n",
+    report: "wormreport 1\n\
+     turns 2 workers 1 drain 0\n\
+     delivered 1 from 0 class 0 packet 0 flit 0 word 5\n\
+     delivered 1 from 0 class 0 packet 1 close\n\
+     not offered 0\n\
+     total injected 2 delivered 2 underway 0\n",
 };
 
 /// Worker 0 sends a word in its first turn, and the next fills the buffer that its source feeds. Worker 1 delivers the
@@ -119,7 +129,15 @@ const STOPPED: Worked = Worked {
     texts: (SHALLOW, b"wormtraffic 1\nsend 0 0 1 data 1 2 3 4\nend\n"),
     turns: 10,
     workers: 2,
-    report: "wormreport 1\nturns 10 workers 2 drain 0\nstopped worker 1 turn 2\ndelivered 1 from 0 class 0 packet 0 flit 0 word 1\nunderway 0 1 class 0 packet 0 flit 1 link 0 1 0\nunderway 0 1 class 0 packet 0 flit 2 source\nunderway 0 1 class 0 packet 0 flit 3 source\nnot offered 0\ntotal injected 4 delivered 1 underway 3\n",
+    report: "wormreport 1\n\
+     turns 10 workers 2 drain 0\n\
+     stopped worker 1 turn 2\n\
+     delivered 1 from 0 class 0 packet 0 flit 0 word 1\n\
+     underway 0 1 class 0 packet 0 flit 1 link 0 1 0\n\
+     underway 0 1 class 0 packet 0 flit 2 source\n\
+     underway 0 1 class 0 packet 0 flit 3 source\n\
+     not offered 0\n\
+     total injected 4 delivered 1 underway 3\n",
 };
 
 /// What the run answers to a writer, and what the writer has taken.

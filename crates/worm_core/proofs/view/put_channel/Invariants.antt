@@ -7,7 +7,8 @@ use Rattle.worm_core.proofs.view.put_channel.Given as goal
 
 abbrev pub invariant-loop-flit : goal.invariant-loop-flit
 invariant-loop-flit l =
-    l.held.items ≡ l.initial.held.items ++ at_place (Buffer l.node l.port l.vc) (of_lane l.lane (take l.i (input_at l.router l.port l.vc).buffer))
+    l.held.items ≡ l.initial.held.items ++ at_place (Buffer l.node l.port l.vc)
+    (of_lane l.lane (take l.i (input_at l.router l.port l.vc).buffer))
 
 abbrev pub decreases-loop-flit : goal.decreases-loop-flit
 decreases-loop-flit l = length (input_at l.router l.port l.vc).buffer - l.i

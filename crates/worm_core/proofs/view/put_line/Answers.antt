@@ -13,7 +13,12 @@ loop-i-preserved c =
     let lane = c.args.lane in
     let flit = c.flit-flit.result in
     elim c.if-flit-vc.branch [
-      | then-flit-vc+in_ok-put w ↦ rw w.held-is (added c.args.held.now.items c.loop-i.held.items (at_place place (of_lane lane (flit ∷ []))) (at_place place (of_lane lane (on_channel c.args.vc (take c.loop-i.i flits)))) _ _
-          w.in_ok-put.ensures c.loop-i.invariant (line-more place lane c.args.vc flits c.loop-i.i flit c.flit-flit.ensures w.if-flit-vc.true))
-      | else-flit-vc w ↦ rw w.held-is (c.loop-i.invariant ∙ ap (λ hs. c.args.held.now.items ++ hs) (sym (line-same place lane c.args.vc flits c.loop-i.i flit c.flit-flit.ensures w.if-flit-vc.false)))
+      | then-flit-vc+in_ok-put w ↦ rw w.held-is
+          (added c.args.held.now.items c.loop-i.held.items (at_place place (of_lane lane (flit ∷ [])))
+          (at_place place (of_lane lane (on_channel c.args.vc (take c.loop-i.i flits)))) _ _
+          w.in_ok-put.ensures c.loop-i.invariant
+          (line-more place lane c.args.vc flits c.loop-i.i flit c.flit-flit.ensures w.if-flit-vc.true))
+      | else-flit-vc w ↦ rw w.held-is (c.loop-i.invariant
+          ∙ ap (λ hs. c.args.held.now.items ++ hs)
+          (sym (line-same place lane c.args.vc flits c.loop-i.i flit c.flit-flit.ensures w.if-flit-vc.false)))
     ]

@@ -6,4 +6,5 @@ use Rattle.worm_core.proofs.view.put_line.Given as goal
 
 abbrev pub invariant-loop-i : goal.invariant-loop-i
 invariant-loop-i l =
-    l.held.items ≡ l.initial.held.items ++ at_place (Link l.node l.port l.vc) (of_lane l.lane (on_channel l.vc (take l.i l.link.flits)))
+    l.held.items ≡ l.initial.held.items ++ at_place (Link l.node l.port l.vc)
+    (of_lane l.lane (on_channel l.vc (take l.i l.link.flits)))

@@ -10,5 +10,15 @@ returns-clause-word c = cc
 pub returns-clause-back : goal.returns-clause-back
 returns-clause-back c =
     let f = c.args.flit in
-    let fits : IsFlit f = record { src = omega arith; dst = omega arith; class = omega arith; packet = omega arith; index = omega arith; vc = omega arith; word = omega arith } in
-    (ap is_word (returns-clause-word c) ∙ is_word-word_of f fits, ap flit_of (returns-clause-word c) ∙ flit_of-word_of f fits)
+    let fits : IsFlit f = record {
+      src = omega arith;
+      dst = omega arith;
+      class = omega arith;
+      packet = omega arith;
+      index = omega arith;
+      vc = omega arith;
+      word = omega arith;
+    } in (
+      ap is_word (returns-clause-word c) ∙ is_word-word_of f fits,
+      ap flit_of (returns-clause-word c) ∙ flit_of-word_of f fits,
+    )

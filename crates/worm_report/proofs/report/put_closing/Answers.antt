@@ -5,7 +5,9 @@ use Rattle.worm_report.proofs.Written.{rows_then, same_rows, rows_stop}
 use Rattle.worm_report.proofs.report.put_closing.Goals as goal
 
 pub returns : goal.returns
-returns g c = rows_then (NotOffered c.args.summary.now.not_offered ∷ []) (Total (seen c.args.net.now).injected (seen c.args.net.now).arrived ∷ []) c.in_ok-put_row.ensures (same_rows _ _ (cc (c.totals-totals.ensures.injected, c.totals-totals.ensures.delivered)) c.put_row-2.ensures)
+returns g c = rows_then (NotOffered c.args.summary.now.not_offered ∷ [])
+    (Total (seen c.args.net.now).injected (seen c.args.net.now).arrived ∷ []) c.in_ok-put_row.ensures
+    (same_rows _ _ (cc (c.totals-totals.ensures.injected, c.totals-totals.ensures.delivered)) c.put_row-2.ensures)
 
 pub returns-in_err-put_row : goal.returns-in_err-put_row
 returns-in_err-put_row g c =

@@ -4,7 +4,8 @@ use Rattle.worm_report.proofs.Written.{rows_then, rows_stop}
 use Rattle.worm_report.proofs.report.put_options.Goals as goal
 
 pub returns : goal.returns
-returns g c = rows_then (Header ∷ []) (Options c.args.summary.now.turns c.args.summary.now.workers c.args.summary.now.drain ∷ []) c.in_ok-put_row.ensures c.put_row-2.ensures
+returns g c = rows_then (Header ∷ []) (Options c.args.summary.now.turns c.args.summary.now.workers
+    c.args.summary.now.drain ∷ []) c.in_ok-put_row.ensures c.put_row-2.ensures
 
 pub returns-in_err-put_row : goal.returns-in_err-put_row
 returns-in_err-put_row g c =

@@ -6,4 +6,5 @@ abbrev pub decreases-loop-rest : goal.decreases-loop-rest
 decreases-loop-rest g l = length l.rest
 
 abbrev pub invariant-loop-rest : goal.invariant-loop-rest
-invariant-loop-rest g l = (front : List ℕ) × (l.bytes ≡ front ++ l.rest) × Appends (g.W.Write.contents l.fn.out) (g.W.Write.contents l.out) front
+invariant-loop-rest g l = (front : List ℕ) × (l.bytes ≡ front ++ l.rest)
+    × Appends (g.W.Write.contents l.fn.out) (g.W.Write.contents l.out) front

@@ -11,12 +11,14 @@ returns-clause-found c = found c.args.shape.now c.args.bytes.now (λ v. v.items)
 
 pub returns-clause-only : goal.returns-clause-only
 returns-clause-only c = λ rows keeps e.
-    subst (λ answer. AnswersOrFull (λ v. v.items) (RanOut c.args.shape.now c.args.bytes.now) c.read_rows.result answer) (ap (report_of c.args.shape.now) e ∙ reads_report c.args.shape.now rows keeps) c.read_rows.ensures
+    subst (λ answer. AnswersOrFull (λ v. v.items) (RanOut c.args.shape.now c.args.bytes.now) c.read_rows.result answer)
+    (ap (report_of c.args.shape.now) e ∙ reads_report c.args.shape.now rows keeps) c.read_rows.ensures
 
 pub returns-clause-written : goal.returns-clause-written
 returns-clause-written c = λ rows summed keeps e.
     subst (λ answer. AnswersOrFull (λ v. v.items) (RanOut c.args.shape.now c.args.bytes.now) c.read_rows.result answer)
-    (ap (report_of c.args.shape.now) (e ∙ same_text rows summed) ∙ reads_report c.args.shape.now (map row_of rows) keeps) c.read_rows.ensures
+    (ap (report_of c.args.shape.now) (e ∙ same_text rows summed)
+    ∙ reads_report c.args.shape.now (map row_of rows) keeps) c.read_rows.ensures
 
 pub returns-clause-line : goal.returns-clause-line
 returns-clause-line c = faulty c.args.shape.now c.args.bytes.now (λ v. v.items) c.read_rows.result c.read_rows.ensures

@@ -12,7 +12,8 @@ returns-clause-worked g t c =
     let told = c.in_ok-child.ensures in
     let others = c.start.new.parts.items in
     let back : (worked : Worked) × (c.collect.new.done.items ≡ c.run_parts.new.done.items ++ worked ∷ [])
-    × WorkedAs (g.G.Gate.may_stop promise.gate.now) promise.script.now promise.turns promise.worker promise.part.value worked
+    × WorkedAs (g.G.Gate.may_stop promise.gate.now) promise.script.now promise.turns promise.worker promise.part.value
+    worked
     = c.collect.ensures.worked in
     let kept : WorkedAs may script c.args.turns promise.worker promise.part.value back.0
     = rw (told.gate, told.script, told.turns) at back.2 in

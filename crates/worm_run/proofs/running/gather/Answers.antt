@@ -14,12 +14,14 @@ loop-worked-preserved c =
     let w = c.in-Some.worked in
     let more : length (so_far ++ w ∷ []) ≡ length so_far + 1 = length-append so_far (w ∷ []) in
     let count : length (map ending_of so_far) ≡ length so_far = length-map so_far ending_of in
-    let endings : map ending_of (so_far ++ w ∷ []) ≡ map ending_of so_far ++ ending_of w ∷ [] = map_push ending_of so_far w in
+    let endings : map ending_of (so_far ++ w ∷ []) ≡ map ending_of so_far ++ ending_of w ∷ [] =
+    map_push ending_of so_far w in
     record {
       count = ap (λ n. n + 1) inv.count ∙ sym more;
       all = append_assoc so_far (w ∷ []) (into_iter_items c.next.new.self)
           ∙ (ap (λ l. so_far ++ l) (sym c.in-Some.ensures.steps.0) ∙ inv.all);
-      parts = c.put.ensures.items ∙ (ap (λ l. l ++ w.part ∷ []) inv.parts ∙ sym (map_push (λ (v : Worked). v.part) so_far w));
+      parts = c.put.ensures.items ∙ (ap (λ l. l ++ w.part ∷ []) inv.parts
+          ∙ sym (map_push (λ (v : Worked). v.part) so_far w));
       ended = c.put-in-loop-worked.ensures.items
           ∙ (ap (λ l. l ++ w.ended ∷ []) inv.ended ∙ sym (map_push (λ (v : Worked). v.ended) so_far w));
       stops = c.put_stop.ensures.items

@@ -21,7 +21,8 @@ returns-in-Ok-run_all-clause-runs g c =
     let net = c.join-net.result in
     let has : HasWorkers c.args.net c.args.plan
     = record { some = omega arith; few = omega arith; with_nodes = omega (arith, c.nodes.ensures.value) } in
-    runs_to may c.args.script.now c.args.plan c.args.net (record { net = net; stops = ran.stops; ended = ran.ended }) has
+    runs_to may c.args.script.now c.args.plan c.args.net
+    (record { net = net; stops = ran.stops; ended = ran.ended }) has
     (run_of may c.args.script.now c.args.plan c.args.net net c.in-Ok-split.parts.items ran c.in-Ok-split.ensures.parts
     c.in-Ok-run_all.ensures.ran c.join-net.ensures.joined)
 

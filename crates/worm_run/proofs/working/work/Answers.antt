@@ -18,7 +18,8 @@ stopped_by-requires g c =
 pub returns-in-Err : goal.returns-in-Err
 returns-in-Err g c =
     let told = c.in-Err.ensures in
-    stopped_at (g.G.Gate.may_stop c.args.gate.now) c.args.script.now c.args.turns c.args.worker c.loop-turn.turn c.args.part
+    stopped_at (g.G.Gate.may_stop c.args.gate.now) c.args.script.now c.args.turns c.args.worker c.loop-turn.turn
+    c.args.part
     c.loop-turn.part c.turn.new.self c.in-Err.fault c.stopped_by.result (omega arith) c.stopped_by.ensures
     c.loop-turn.invariant record {
       exact = told.exact;

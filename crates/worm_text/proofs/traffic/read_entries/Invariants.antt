@@ -12,7 +12,8 @@ decreases-loop-front l = length l.rest
 
 abbrev pub invariant-loop-front : goal.invariant-loop-front
 invariant-loop-front l = record {
-  read : read_entries (view l.config) (map entry_view l.script) l.line (cut newline l.rest) ≡ read_entries (view l.config) [] 2 (cut newline l.fn.rest);
+  read : read_entries (view l.config) (map entry_view l.script) l.line (cut newline l.rest)
+      ≡ read_entries (view l.config) [] 2 (cut newline l.fn.rest);
   last : l.last ≡ last_turn (map entry_view l.script);
   closed : (lane : Lane) → contains lane_cmp l.closed.lanes lane ≡ is_closed (map entry_view l.script) lane;
   count : l.line ≡ length l.script + 2;

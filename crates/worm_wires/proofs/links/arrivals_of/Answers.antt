@@ -17,14 +17,21 @@ pub loop-port-preserved : goal.loop-port-preserved
 loop-port-preserved c =
     let inv = c.loop-port.invariant in
     record {
-      flits = ports_more c.loop-port.flits c.put.new.self c.loop-port.port c.has_flits.result (λ p. flits_of c.args.states.now (in_link c.args.wiring.now c.args.node p) ≡ [])
+      flits = ports_more c.loop-port.flits c.put.new.self c.loop-port.port c.has_flits.result
+          (λ p. flits_of c.args.states.now (in_link c.args.wiring.now c.args.node p) ≡ [])
           c.put.ensures c.loop-port-test.true (rw c.link_into.ensures.value at c.has_flits.ensures.none) inv.flits;
-      credits = ports_more c.loop-port.credits c.put-in-loop-port.new.self c.loop-port.port c.has_credits.result (λ p. credits_of c.args.states.now (out_link c.args.wiring.now c.args.node p) ≡ [])
-          c.put-in-loop-port.ensures c.loop-port-test.true (rw c.link_out.ensures.value at c.has_credits.ensures.none) inv.credits;
-      flit_ports = within_more c.loop-port.flits c.put.new.self c.loop-port.port c.has_flits.result (2 * length c.args.wiring.now) c.put.ensures
-          (λ on. in_there c.args.wiring.now c.args.node c.loop-port.port (rw c.link_into.ensures.value at (c.has_flits.ensures.there on))) inv.flit_ports;
-      credit_ports = within_more c.loop-port.credits c.put-in-loop-port.new.self c.loop-port.port c.has_credits.result (2 * length c.args.wiring.now) c.put-in-loop-port.ensures
-          (λ on. out_there c.args.wiring.now c.args.node c.loop-port.port (rw c.link_out.ensures.value at (c.has_credits.ensures.there on))) inv.credit_ports;
+      credits = ports_more c.loop-port.credits c.put-in-loop-port.new.self c.loop-port.port c.has_credits.result
+          (λ p. credits_of c.args.states.now (out_link c.args.wiring.now c.args.node p) ≡ [])
+          c.put-in-loop-port.ensures c.loop-port-test.true
+          (rw c.link_out.ensures.value at c.has_credits.ensures.none) inv.credits;
+      flit_ports = within_more c.loop-port.flits c.put.new.self c.loop-port.port c.has_flits.result
+          (2 * length c.args.wiring.now) c.put.ensures
+          (λ on. in_there c.args.wiring.now c.args.node c.loop-port.port
+          (rw c.link_into.ensures.value at (c.has_flits.ensures.there on))) inv.flit_ports;
+      credit_ports = within_more c.loop-port.credits c.put-in-loop-port.new.self c.loop-port.port c.has_credits.result
+          (2 * length c.args.wiring.now) c.put-in-loop-port.ensures
+          (λ on. out_there c.args.wiring.now c.args.node c.loop-port.port
+          (rw c.link_out.ensures.value at (c.has_credits.ensures.there on))) inv.credit_ports;
     }
 
 pub returns : goal.returns

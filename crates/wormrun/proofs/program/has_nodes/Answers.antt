@@ -10,4 +10,5 @@ unreachable-requires c =
     let names = c.args.config.now.classes.items in
     let config = kept_config c.requires.0 (view c.args.config.now) _ (sym (length-map names _)) c.requires.1 in
     let same : c.as_slice.result.now ≡ c.args.config.now.radices.items = search rules in
-    not_fault c.as_slice.result.now c.in-Err.field-0 (subst (λ (l : List ℕ). IsMesh l) (sym same) config.mesh) c.in-Err.ensures
+    not_fault c.as_slice.result.now c.in-Err.field-0
+    (subst (λ (l : List ℕ). IsMesh l) (sym same) config.mesh) c.in-Err.ensures

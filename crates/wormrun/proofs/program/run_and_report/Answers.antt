@@ -24,7 +24,12 @@ returns g c =
       run = c.run_script-ending.ensures;
       reported = ap (report (seen c.run_script-ending.new.net)) c.summary_of-summary.ensures;
     })
-    (never_refused c.in_ok-accepted.accepted.config.radices.items c.in_ok-accepted.accepted.config.channels.items c.in_ok-accepted.accepted.script
-    (accepted_script c.in_ok-accepted.ensures.network.format (view c.in_ok-accepted.accepted.config) c.in_ok-accepted.accepted.script c.in_ok-accepted.ensures.network.keeps c.in_ok-accepted.ensures.traffic.keeps c.in_ok-accepted.ensures.in_order)
-    c.in_ok-accepted.accepted.config.depth _ c.in-Some.net c.run_script-ending.new.net c.in-Some.ensures c.args.turns c.args.drain c.run_script-ending.result.stopped c.run_script-ending.result.fault c.run_script-ending.ensures)
+    (never_refused c.in_ok-accepted.accepted.config.radices.items c.in_ok-accepted.accepted.config.channels.items
+    c.in_ok-accepted.accepted.script
+    (accepted_script c.in_ok-accepted.ensures.network.format
+    (view c.in_ok-accepted.accepted.config) c.in_ok-accepted.accepted.script
+    c.in_ok-accepted.ensures.network.keeps c.in_ok-accepted.ensures.traffic.keeps
+    c.in_ok-accepted.ensures.in_order)
+    c.in_ok-accepted.accepted.config.depth _ c.in-Some.net c.run_script-ending.new.net c.in-Some.ensures c.args.turns
+    c.args.drain c.run_script-ending.result.stopped c.run_script-ending.result.fault c.run_script-ending.ensures)
     c.report_run.ensures

@@ -32,5 +32,6 @@ returns g c =
       leads = c.in-Ok.ensures.ended;
       reported = ap (λ n. told (summary_with (plan_of options) options.drain ended.stops n)) c.not_offered.ensures;
     })
-    (accepted_script said.network.format (view accepted.config) accepted.script said.network.keeps said.traffic.keeps said.in_order)
+    (accepted_script said.network.format (view accepted.config) accepted.script said.network.keeps said.traffic.keeps
+    said.in_order)
     c.report_run.result c.report_run.ensures

@@ -4,4 +4,5 @@ use Rattle.wormrun.proofs.reading.read_text.Given as goal
 
 abbrev pub invariant-loop : goal.invariant-loop
 invariant-loop g l =
-    Consumes (g.R.Read.remaining l.initial.reader) (g.R.Read.remaining l.reader) l.text.items × (vec_len l.text ≤ 8388608)
+    Consumes (g.R.Read.remaining l.initial.reader) (g.R.Read.remaining l.reader) l.text.items
+    × (vec_len l.text ≤ 8388608)

@@ -12,8 +12,10 @@ returns-in-Ok-clause-ended g c =
       runs = told.runs;
       later = told.later;
       delivers = told.delivers;
-      stopped = subst (λ (l : List Stop). AreStopsOf l c.stops_by_worker.result) c.as_slice-in-Ok.ensures.value c.stops_by_worker.ensures;
+      stopped = subst (λ (l : List Stop). AreStopsOf l c.stops_by_worker.result) c.as_slice-in-Ok.ensures.value
+          c.stops_by_worker.ensures;
       drained = subst
-          (λ (l : List Stop). DrainsUnstopped c.args.most l end.net c.drain_unstopped-fault.result c.drain_unstopped-fault.new.net)
+          (λ (l : List Stop). DrainsUnstopped c.args.most l end.net c.drain_unstopped-fault.result
+          c.drain_unstopped-fault.new.net)
           c.as_slice.ensures.value c.drain_unstopped-fault.ensures;
     })

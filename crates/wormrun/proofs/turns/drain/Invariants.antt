@@ -6,4 +6,5 @@ use Rattle.wormrun.proofs.turns.drain.Given as goal
 
 abbrev pub invariant-loop-turn : goal.invariant-loop-turn
 invariant-loop-turn l =
-    (fault : Option StepFault) (new : NetState) → Drains (l.most - l.turn) l.net fault new → Drains l.most l.initial.net fault new
+    (fault : Option StepFault) (new : NetState) → Drains (l.most - l.turn) l.net fault new
+    → Drains l.most l.initial.net fault new

@@ -3,4 +3,5 @@ use Rattle.worm_core.proofs.Passages.{turns_more}
 use Rattle.wormrun.proofs.turns.take_turns.Goals as goal
 
 pub loop-turn-preserved : goal.loop-turn-preserved
-loop-turn-preserved c = turns_more c.args.script.now c.loop-turn.turn c.args.net.now c.loop-turn.net c.turn.new.self None c.loop-turn.invariant c.in_default.ensures.exact
+loop-turn-preserved c = turns_more c.args.script.now c.loop-turn.turn c.args.net.now c.loop-turn.net c.turn.new.self
+    None c.loop-turn.invariant c.in_default.ensures.exact

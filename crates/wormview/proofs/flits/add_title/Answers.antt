@@ -6,4 +6,5 @@ use Rattle.wormview.proofs.flits.add_title.Goals as goal
 pub returns : goal.returns
 returns c =
     let t = c.args.title in
-    adds c.write.result c.args.svg.now (record { text = c.write.new.self }) _ (name_of t.packet t.index ∷ []) c.write.ensures.bytes (title t)
+    adds c.write.result c.args.svg.now (record { text = c.write.new.self }) _
+    (name_of t.packet t.index ∷ []) c.write.ensures.bytes (title t)

@@ -7,5 +7,6 @@ returns-clause-err g c =
     failed_reading (stream (g.N.Read.remaining c.args.network.now) (g.N.Read.remaining c.read_both.new.network))
     (stream (g.R.Read.remaining c.args.report.now) (g.R.Read.remaining c.read_both.new.report))
     (stream (g.W.Write.contents c.args.out.now) (g.W.Write.contents c.draw_texts.new.out))
-    c.in_ok-texts.texts.network.items c.in_ok-texts.texts.report.items c.as_slice-network.result.now c.as_slice-report.result.now c.draw_texts.result
+    c.in_ok-texts.texts.network.items c.in_ok-texts.texts.report.items c.as_slice-network.result.now
+    c.as_slice-report.result.now c.draw_texts.result
     c.in_ok-texts.ensures.ok c.as_slice-network.ensures.value c.as_slice-report.ensures.value c.draw_texts.ensures.err

@@ -4,4 +4,5 @@ use Rattle.wormview.proofs.reading.read_text.Given as goal
 
 abbrev pub invariant-loop : goal.invariant-loop
 invariant-loop g l =
-    Consumes (g.R.Read.remaining l.initial.reader) (g.R.Read.remaining l.reader) l.text.items × (vec_len l.text ≤ 67108864)
+    Consumes (g.R.Read.remaining l.initial.reader) (g.R.Read.remaining l.reader) l.text.items
+    × (vec_len l.text ≤ 67108864)

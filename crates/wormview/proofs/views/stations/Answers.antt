@@ -10,6 +10,8 @@ loop-spot-preserved c =
     let station = c.in_ok-station_at.field-0 in
     let within : c.loop-spot.spot-index < length c.args.spots.now = search rules in
     record {
-      spots = one_station_more c.loop-spot.spot-index _ c.args.spots.now stations c.push.new.self.items station c.in_ok-push.ensures.items c.loop-spot.invariant.spots within c.in_ok-station_at.ensures.spot;
-      each = rw c.in_ok-push.ensures.items (All-push (IsStation c.args.flits.now) stations station c.loop-spot.invariant.each c.in_ok-station_at.ensures.flits);
+      spots = one_station_more c.loop-spot.spot-index _ c.args.spots.now stations c.push.new.self.items station
+          c.in_ok-push.ensures.items c.loop-spot.invariant.spots within c.in_ok-station_at.ensures.spot;
+      each = rw c.in_ok-push.ensures.items (All-push
+          (IsStation c.args.flits.now) stations station c.loop-spot.invariant.each c.in_ok-station_at.ensures.flits);
     }

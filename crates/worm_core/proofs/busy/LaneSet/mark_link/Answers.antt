@@ -6,8 +6,10 @@ use Rattle.worm_core.proofs.busy.LaneSet.mark_link.Goals as goal
 
 pub loop-i-preserved : goal.loop-i-preserved
 loop-i-preserved c = record {
-  kept = keeps_more c.args.self.now c.loop-i.self c.mark.new.self c.flit.result.lane c.loop-i.invariant.kept c.mark.ensures;
-  marked = marked_more c.loop-i.self c.mark.new.self c.args.link.now.flits c.loop-i.i c.flit.result c.flit.ensures c.mark.ensures c.loop-i.invariant.marked;
+  kept = keeps_more c.args.self.now c.loop-i.self c.mark.new.self c.flit.result.lane c.loop-i.invariant.kept
+      c.mark.ensures;
+  marked = marked_more c.loop-i.self c.mark.new.self c.args.link.now.flits c.loop-i.i c.flit.result c.flit.ensures
+      c.mark.ensures c.loop-i.invariant.marked;
 }
 
 pub returns-clause-marked : goal.returns-clause-marked

@@ -13,7 +13,8 @@ returns-in_default t c =
     let s = c.args.self.now in
     let l = AreLarge-from_radices s.mesh c.requires.framed.radices.radices in
     let none = past_arrived s.mesh l c.args.lane.dst c.requires.dst c.args.node c.in_default.ensures in
-    sym (append-nil c.args.held.now.items) ∙ ap (λ ps. c.args.held.now.items ++ flat_map (held_at s c.args.lane) ps) (sym none)
+    sym (append-nil c.args.held.now.items)
+    ∙ ap (λ ps. c.args.held.now.items ++ flat_map (held_at s c.args.lane) ps) (sym none)
 
 pub put_past-requires : goal.put_past-requires
 put_past-requires t c =
@@ -27,7 +28,8 @@ pub put_lines-requires-clause-linked : goal.put_lines-requires-clause-linked
 put_lines-requires-clause-linked t c =
     let s = c.args.self.now in
     let next = c.in-Some.ensures in
-    has_neighbour-from_Joins s.mesh c.args.node c.in-Some.link.out_port c.in-Some.link.to (AreLarge-from_radices s.mesh c.requires.framed.radices.radices) next.joined
+    has_neighbour-from_Joins s.mesh c.args.node c.in-Some.link.out_port c.in-Some.link.to
+    (AreLarge-from_radices s.mesh c.requires.framed.radices.radices) next.joined
 
 pub returns : goal.returns
 returns t c =
@@ -36,5 +38,7 @@ returns t c =
     let l = AreLarge-from_radices s.mesh c.requires.framed.radices.radices in
     let link = c.in-Some.link in
     let next = c.in-Some.ensures in
-    past_held (held_at s lane) c.args.held.now.items _ _ _ _ (places_past s.mesh link.to lane.dst) (Buffer link.to link.in_port) (Link c.args.node link.out_port) _
-    c.in_ok-put_past.ensures c.in_ok-put_buffers.ensures c.in_ok-put_lines.ensures refl (past_next s.mesh l lane.dst c.requires.dst c.args.node c.requires.node link next)
+    past_held (held_at s lane) c.args.held.now.items _ _ _ _ (places_past s.mesh link.to lane.dst)
+    (Buffer link.to link.in_port) (Link c.args.node link.out_port) _
+    c.in_ok-put_past.ensures c.in_ok-put_buffers.ensures c.in_ok-put_lines.ensures refl
+    (past_next s.mesh l lane.dst c.requires.dst c.args.node c.requires.node link next)

@@ -5,4 +5,6 @@ use Rattle.worm_core.proofs.fabric.Fabric.busy.Goals as goal
 pub returns : goal.returns
 returns c =
     let s = c.args.self.now in
-    complete s c.requires c.mark_links.new.set (still_nodes s c.mark_nodes.new.set c.mark_links.new.set (node_count s.mesh) c.mark_links.ensures.kept c.mark_nodes.ensures.marked) c.mark_links.ensures.marked
+    complete s c.requires c.mark_links.new.set
+    (still_nodes s c.mark_nodes.new.set c.mark_links.new.set
+    (node_count s.mesh) c.mark_links.ensures.kept c.mark_nodes.ensures.marked) c.mark_links.ensures.marked

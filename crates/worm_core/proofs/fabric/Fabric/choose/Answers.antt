@@ -19,21 +19,29 @@ node_here c =
 -- the node's router, as its lists have it
 here : (c : goal.After-channels) → c.router_mut.result.now ≡ router_at c.args.self.now c.args.node
 here c =
-    c.router_mut.ensures.value ∙ ap (λ (t : NetState). (nth_node t.nodes c.args.node).router) c.self.view_is ∙ ap (λ (n : Node). n.router) (node_here c)
+    c.router_mut.ensures.value ∙ ap (λ (t : NetState). (nth_node t.nodes c.args.node).router) c.self.view_is
+    ∙ ap (λ (n : Node). n.router) (node_here c)
 
 pub returns-clause-after : goal.returns-clause-after
 unfolding chosen_router
 returns-clause-after c =
     let s : NetState = c.args.self.now in
     let x = c.args.node in
-    ap (λ (t : NetState). record t { nodes = slice_set t.nodes x (record (nth_node t.nodes x) { router = c.choose.new.self }) }) c.self.view_is
-    ∙ ap (λ (n : Node). record s { nodes = slice_set s.nodes x (record n { router = c.choose.new.self }) }) (node_here c)
-    ∙ ap (λ (r : RouterState). with_router s x r) (c.choose.ensures.after ∙ ap (λ (r : RouterState). chosen_router r) (here c))
+    ap (λ (t : NetState). record t {
+      nodes = slice_set t.nodes x
+          (record (nth_node t.nodes x) { router = c.choose.new.self });
+    }) c.self.view_is
+    ∙ ap (λ (n : Node). record s { nodes = slice_set s.nodes x (record n { router = c.choose.new.self }) })
+    (node_here c)
+    ∙ ap (λ (r : RouterState). with_router s x r)
+    (c.choose.ensures.after ∙ ap (λ (r : RouterState). chosen_router r) (here c))
 
 pub returns-clause-ready : goal.returns-clause-ready
 returns-clause-ready c =
     subst (λ (r : RouterState). AreReady r (switch_grants r)) (here c)
     (record {
       each = λ p g granted.
-          named_ready c.router_mut.result.now p g.vc g.out (c.choose.ensures.matching.requested p g (ap (λ (gs : List (Option SwGrant)). slice_index_or gs p None) c.choose.ensures.grants ∙ granted)).0;
+          named_ready c.router_mut.result.now p g.vc g.out
+          (c.choose.ensures.matching.requested p g
+          (ap (λ (gs : List (Option SwGrant)). slice_index_or gs p None) c.choose.ensures.grants ∙ granted)).0;
     })

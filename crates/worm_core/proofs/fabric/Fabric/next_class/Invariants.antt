@@ -9,5 +9,7 @@ use Rattle.worm_core.proofs.fabric.Fabric.next_class.Given as goal
 abbrev pub invariant-loop-class : goal.invariant-loop-class
 invariant-loop-class l = record {
   above : l.from ≤ l.class;
-  passed : (k : ℕ) → l.from ≤ k → k < l.class → can_enter (router_at l.self l.node) (terminal (router_at l.self l.node)) (front_of (source_at l.self l.node) k) ≡ false;
+  passed : (k : ℕ) → l.from ≤ k → k < l.class
+      → can_enter (router_at l.self l.node) (terminal (router_at l.self l.node)) (front_of (source_at l.self l.node) k)
+      ≡ false;
 }

@@ -13,8 +13,10 @@ use Rattle.worm_core.proofs.fabric.Fabric.put_buffers.Goals as goal
 pub put_channel-requires : goal.put_channel-requires
 put_channel-requires c =
     let s = c.args.self.now in
-    let within : c.loop-vc.vc < sum s.channels = omega (arith, class_within s.channels c.args.lane.class c.requires.class, c.channels_of-channels.ensures.end) in
-    let place = framed_place s c.args.node c.args.port c.loop-vc.vc c.requires.framed c.requires.node c.requires.port within in
+    let within : c.loop-vc.vc < sum s.channels =
+    omega (arith, class_within s.channels c.args.lane.class c.requires.class, c.channels_of-channels.ensures.end) in
+    let place = framed_place s c.args.node c.args.port c.loop-vc.vc c.requires.framed c.requires.node c.requires.port
+    within in
     subst (λ (n : Node). IsPlace n.router c.args.port c.loop-vc.vc) (sym c.node.ensures) place.place
 
 pub loop-vc-preserved : goal.loop-vc-preserved
@@ -24,8 +26,15 @@ loop-vc-preserved c =
     let vc = c.loop-vc.vc in
     let start = c.channels_of-channels.result.start in
     let held = buffer_held s lane c.args.node c.args.port in
-    let within : vc < sum s.channels = omega (arith, class_within s.channels lane.class c.requires.class, c.channels_of-channels.ensures.end) in
+    let within : vc < sum s.channels = omega (
+      arith,
+      class_within s.channels lane.class c.requires.class,
+      c.channels_of-channels.ensures.end,
+    ) in
     let place = framed_place s c.args.node c.args.port vc c.requires.framed c.requires.node c.requires.port within in
-    let read = ap (λ (n : Node). at_place (Buffer c.args.node c.args.port vc) (of_lane lane (input_at n.router c.args.port vc).buffer)) c.node.ensures ∙ sym (buffer_read s lane c.args.node c.args.port vc place) in
+    let read = ap (λ (n : Node). at_place (Buffer c.args.node c.args.port vc)
+    (of_lane lane (input_at n.router c.args.port vc).buffer)) c.node.ensures
+    ∙ sym (buffer_read s lane c.args.node c.args.port vc place) in
     added c.args.held.now.items c.loop-vc.held.items (held vc) (flat_map held (range_with_len start (vc - start))) _ _
-    (c.in_ok-put_channel.ensures ∙ ap (λ hs. c.loop-vc.held.items ++ hs) read) c.loop-vc.invariant (channel-more held start vc c.loop-vc.auto.vc)
+    (c.in_ok-put_channel.ensures ∙ ap (λ hs. c.loop-vc.held.items ++ hs) read) c.loop-vc.invariant
+    (channel-more held start vc c.loop-vc.auto.vc)

@@ -6,4 +6,5 @@ use Rattle.worm_core.proofs.fabric.Fabric.put_buffers.Given as goal
 
 abbrev pub invariant-loop-vc : goal.invariant-loop-vc
 invariant-loop-vc l =
-    l.held.items ≡ l.initial.held.items ++ flat_map (buffer_held l.self l.lane l.node l.port) (range_with_len l.initial.vc (l.vc - l.initial.vc))
+    l.held.items ≡ l.initial.held.items ++ flat_map (buffer_held l.self l.lane l.node l.port)
+    (range_with_len l.initial.vc (l.vc - l.initial.vc))

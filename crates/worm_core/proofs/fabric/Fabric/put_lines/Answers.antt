@@ -12,6 +12,8 @@ loop-vc-preserved c =
     let held = link_held s c.args.lane c.args.node c.args.port in
     let start = c.channels_of-channels.result.start in
     let vc = c.loop-vc.vc in
-    let read = link_read s c.args.lane c.args.node c.args.port vc c.link_from-link.result.now c.requires.linked c.link_from-link.ensures in
+    let read = link_read s c.args.lane c.args.node c.args.port vc c.link_from-link.result.now c.requires.linked
+    c.link_from-link.ensures in
     added c.args.held.now.items c.loop-vc.held.items (held vc) (flat_map held (range_with_len start (vc - start))) _ _
-    (c.in_ok-put_line.ensures ∙ ap (λ hs. c.loop-vc.held.items ++ hs) read) c.loop-vc.invariant (channel-more held start vc c.loop-vc.auto.vc)
+    (c.in_ok-put_line.ensures ∙ ap (λ hs. c.loop-vc.held.items ++ hs) read) c.loop-vc.invariant
+    (channel-more held start vc c.loop-vc.auto.vc)

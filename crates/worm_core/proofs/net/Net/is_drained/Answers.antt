@@ -7,4 +7,5 @@ use Rattle.worm_core.proofs.net.Net.is_drained.Goals as goal
 pub returns-in-Some : goal.returns-in-Some
 returns-in-Some c =
     none_under_way c.args.self.now c.in-Some.under_way c.fabric.ensures.sound
-    (subst (λ (s : NetState). accepted_in s.nodes ≡ taken_in s.nodes + c.in-Some.under_way) c.fabric.ensures.same c.in-Some.ensures)
+    (subst (λ (s : NetState). accepted_in s.nodes ≡ taken_in s.nodes + c.in-Some.under_way) c.fabric.ensures.same
+    c.in-Some.ensures)

@@ -19,10 +19,12 @@ returns c =
           let waiting = c.waiting.ensures.inside p v p_in v_in in
           let active = c.active.ensures.inside p v p_in v_in in
           routes_none (input_at r p v)
-          (sym ((λ t. ((occupied t) && not (waiting t)) && not (active t))) ∙ (ap (λ (b : Bool). b && not (has c.active.result p v)) (sym over) ∙ (sym left ∙ none)));
+          (sym ((λ t. ((occupied t) && not (waiting t)) && not (active t)))
+          ∙ (ap (λ (b : Bool). b && not (has c.active.result p v)) (sym over) ∙ (sym left ∙ none)));
       places = λ p v p_few v_few some.
           let left = c.difference-2.ensures p v p_few v_few in
           let over = c.difference.ensures p v p_few v_few in
           c.occupied.ensures.outside p v p_few v_few
-          (both (has c.occupied.result p v) (has c.waiting.result p v) (has c.active.result p v) (ap (λ (b : Bool). b && not (has c.active.result p v)) (sym over) ∙ (sym left ∙ some)));
+          (both (has c.occupied.result p v) (has c.waiting.result p v) (has c.active.result p v)
+          (ap (λ (b : Bool). b && not (has c.active.result p v)) (sym over) ∙ (sym left ∙ some)));
     }

@@ -3,4 +3,8 @@ use Rattle.worm_swalloc.proofs.SwLemmas.{get_or-replicate_same}
 use Rattle.worm_core.proofs.nodes.Nodes.new.Goals as goal
 
 pub invariant_of-result : goal.invariant_of-result
-invariant_of-result c = (λ x there kept. let no : false ≡ true = sym (get_or-replicate_same 256 x false) ∙ kept in absurd (cc), tt)
+invariant_of-result c = (
+  λ x there kept. let no : false ≡ true = sym (get_or-replicate_same 256 x false) ∙ kept in
+      absurd (cc),
+  tt,
+)

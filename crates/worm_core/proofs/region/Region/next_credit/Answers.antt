@@ -5,7 +5,7 @@ use Rattle.worm_theory.specs.Steps.{TakeCredit}
 use Rattle.worm_core.specs.State.{NetState}
 use Rattle.worm_core.specs.Moves.{front_credit}
 use Rattle.worm_core.specs.Replies.{Attempts}
-use Rattle.worm_wires.proofs.Arriving.{none_past, some_before}
+use Rattle.worm_wires.proofs.Looking.{none_past, some_before}
 use Rattle.worm_core.proofs.Resting.{credit_still}
 use Rattle.worm_core.proofs.region.Region.next_credit.Goals as goal
 

@@ -5,7 +5,7 @@ use Rattle.worm_theory.specs.Steps.{Take}
 use Rattle.worm_core.specs.State.{NetState}
 use Rattle.worm_core.specs.Moves.{front_into}
 use Rattle.worm_core.specs.Replies.{Attempts}
-use Rattle.worm_wires.proofs.Arriving.{none_past, some_before}
+use Rattle.worm_wires.proofs.Looking.{none_past, some_before}
 use Rattle.worm_core.proofs.Resting.{flit_still}
 use Rattle.worm_core.proofs.region.Region.next_flit.Goals as goal
 

@@ -10,12 +10,14 @@ loop-out_port-preserved c =
     let reached = c.loop-out_port.invariant.1 in
     elim c.match-neighbour.branch [
       | in-Some+else-before-number w ↦
-          let more = links_before-some c.args.self.now c.args.from c.loop-out_port.out_port w.in-Some.to (sym c.neighbour.ensures.value ∙ w.in-Some.is) in
+          let more = links_before-some c.args.self.now c.args.from c.loop-out_port.out_port w.in-Some.to
+          (sym c.neighbour.ensures.value ∙ w.in-Some.is) in
           let apart = w.if-before-number.false in
           let one = w.before-is in
           (omega (arith, more), omega arith)
       | in_default w ↦
-          let same = links_before-none c.args.self.now c.args.from c.loop-out_port.out_port (sym c.neighbour.ensures.value ∙ w.in_default.is) in
+          let same = links_before-none c.args.self.now c.args.from c.loop-out_port.out_port
+          (sym c.neighbour.ensures.value ∙ w.in_default.is) in
           let one = w.before-is in
           (omega (arith, same), omega arith)
     ]

@@ -6,7 +6,10 @@ use Rattle.worm_mesh.proofs.mesh.Mesh.links_below_node.Goals as goal
 pub returns-clause-value : goal.returns-clause-value
 returns-clause-value c =
     let view : take c.self.inside.dims c.self.inside.radices ≡ c.args.self.now = c.self.view_is in
-    c.link_counts.ensures.below ∙ rw (c.from.ensures, view) (sym (sum_by_degrees c.args.self.now c.args.node c.requires))
+    c.link_counts.ensures.below ∙ rw (
+      c.from.ensures,
+      view,
+    ) (sym (sum_by_degrees c.args.self.now c.args.node c.requires))
 
 pub returns-clause-few : goal.returns-clause-few
 returns-clause-few c =

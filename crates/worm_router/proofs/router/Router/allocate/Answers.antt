@@ -1,39 +1,54 @@
 use Rattle.std.proofs.Common.{refl, sym, ◌∙◌}
-use Rattle.worm_router.proofs.Hopeful.{none_hopeful, sole_hope, vain_allocated}
+use Rattle.worm_router.proofs.Hopeful.{none_hopeful, sole_hope}
+use Rattle.worm_router.proofs.SoleHope.{vain_allocated}
 use Rattle.worm_router.proofs.Granting.{none_held, pass_held}
 use Rattle.worm_router.proofs.router.Router.allocate.Goals as goal
 
 pub returns-then-grants_nothing-clause-grants : goal.returns-then-grants_nothing-clause-grants
-returns-then-grants_nothing-clause-grants c = (vain_allocated c.args.self.now c.args.self.now c.new.result (c.grants_nothing.ensures c.if-grants_nothing.true) refl c.new.ensures).grants_are
+returns-then-grants_nothing-clause-grants c =
+    (vain_allocated c.args.self.now c.args.self.now c.new.result
+    (c.grants_nothing.ensures c.if-grants_nothing.true) refl c.new.ensures).grants_are
 
 pub returns-then-grants_nothing-clause-after : goal.returns-then-grants_nothing-clause-after
-returns-then-grants_nothing-clause-after c = (vain_allocated c.args.self.now c.args.self.now c.new.result (c.grants_nothing.ensures c.if-grants_nothing.true) refl c.new.ensures).after
+returns-then-grants_nothing-clause-after c =
+    (vain_allocated c.args.self.now c.args.self.now c.new.result
+    (c.grants_nothing.ensures c.if-grants_nothing.true) refl c.new.ensures).after
 
 pub returns-then-grants_nothing-clause-matching : goal.returns-then-grants_nothing-clause-matching
-returns-then-grants_nothing-clause-matching c = (vain_allocated c.args.self.now c.args.self.now c.new.result (c.grants_nothing.ensures c.if-grants_nothing.true) refl c.new.ensures).matching
+returns-then-grants_nothing-clause-matching c =
+    (vain_allocated c.args.self.now c.args.self.now c.new.result
+    (c.grants_nothing.ensures c.if-grants_nothing.true) refl c.new.ensures).matching
 
 pub file_in_vain-requires : goal.file_in_vain-requires
-file_in_vain-requires c = none_hopeful c.args.self.now c.hopeful-hopeful.result c.hopeful-hopeful.ensures.sound c.hopeful-hopeful.ensures.hopeful c.in-None.ensures.0
+file_in_vain-requires c = none_hopeful c.args.self.now c.hopeful-hopeful.result c.hopeful-hopeful.ensures.sound
+    c.hopeful-hopeful.ensures.hopeful c.in-None.ensures.0
 
 pub grant_sole-requires-clause-sole : goal.grant_sole-requires-clause-sole
 grant_sole-requires-clause-sole c =
-    sole_hope c.args.self.now c.hopeful-hopeful.result c.pop_first.new.self c.in-Some.port c.in-Some.vc c.hopeful-hopeful.ensures.few_ports c.hopeful-hopeful.ensures.few_channels c.hopeful-hopeful.ensures.hopeful
+    sole_hope c.args.self.now c.hopeful-hopeful.result c.pop_first.new.self c.in-Some.port c.in-Some.vc
+    c.hopeful-hopeful.ensures.few_ports c.hopeful-hopeful.ensures.few_channels c.hopeful-hopeful.ensures.hopeful
     c.in-Some.ensures (sym c.is_empty.ensures ∙ c.if-is_empty.true)
 
 pub returns-in-None-clause-grants : goal.returns-in-None-clause-grants
 returns-in-None-clause-grants c =
-    let none = none_hopeful c.args.self.now c.hopeful-hopeful.result c.hopeful-hopeful.ensures.sound c.hopeful-hopeful.ensures.hopeful c.in-None.ensures.0 in
-    (vain_allocated c.args.self.now c.file_in_vain.new.self c.new-in-None.result none c.file_in_vain.ensures c.new-in-None.ensures).grants_are
+    let none = none_hopeful c.args.self.now c.hopeful-hopeful.result c.hopeful-hopeful.ensures.sound
+    c.hopeful-hopeful.ensures.hopeful c.in-None.ensures.0 in
+    (vain_allocated c.args.self.now c.file_in_vain.new.self c.new-in-None.result none c.file_in_vain.ensures
+    c.new-in-None.ensures).grants_are
 
 pub returns-in-None-clause-after : goal.returns-in-None-clause-after
 returns-in-None-clause-after c =
-    let none = none_hopeful c.args.self.now c.hopeful-hopeful.result c.hopeful-hopeful.ensures.sound c.hopeful-hopeful.ensures.hopeful c.in-None.ensures.0 in
-    (vain_allocated c.args.self.now c.file_in_vain.new.self c.new-in-None.result none c.file_in_vain.ensures c.new-in-None.ensures).after
+    let none = none_hopeful c.args.self.now c.hopeful-hopeful.result c.hopeful-hopeful.ensures.sound
+    c.hopeful-hopeful.ensures.hopeful c.in-None.ensures.0 in
+    (vain_allocated c.args.self.now c.file_in_vain.new.self c.new-in-None.result none c.file_in_vain.ensures
+    c.new-in-None.ensures).after
 
 pub returns-in-None-clause-matching : goal.returns-in-None-clause-matching
 returns-in-None-clause-matching c =
-    let none = none_hopeful c.args.self.now c.hopeful-hopeful.result c.hopeful-hopeful.ensures.sound c.hopeful-hopeful.ensures.hopeful c.in-None.ensures.0 in
-    (vain_allocated c.args.self.now c.file_in_vain.new.self c.new-in-None.result none c.file_in_vain.ensures c.new-in-None.ensures).matching
+    let none = none_hopeful c.args.self.now c.hopeful-hopeful.result c.hopeful-hopeful.ensures.sound
+    c.hopeful-hopeful.ensures.hopeful c.in-None.ensures.0 in
+    (vain_allocated c.args.self.now c.file_in_vain.new.self c.new-in-None.result none c.file_in_vain.ensures
+    c.new-in-None.ensures).matching
 
 pub returns-then-grants_nothing-clause-held : goal.returns-then-grants_nothing-clause-held
 returns-then-grants_nothing-clause-held c = none_held c.args.self.now c.args.self.now c.new.result c.new.ensures

@@ -14,8 +14,10 @@ use Rattle.worm_router.proofs.router.Router.credit.Goals as goal
 
 pub invariant_of-self : goal.invariant_of-self
 invariant_of-self c =
-    let at : RouterState = router_state c.self.inside.mesh c.self.inside.node c.self.inside.classes c.self.inside.depth c.self.inside.inputs.items c.self.inside.outputs.items c.self.inside.channel_alloc c.self.inside.switch_alloc in
-    let output = output_of _ c.args.self.now c.args.out_port c.args.vc c.line-o.result c.index_mut-output.result.now c.self.view_is c.requires c.line-o.ensures.value c.line-o.ensures.in_outputs c.index_mut-output.ensures.value in
+    let at : RouterState = router_state c.self.inside.mesh c.self.inside.node c.self.inside.classes c.self.inside.depth
+    c.self.inside.inputs.items c.self.inside.outputs.items c.self.inside.channel_alloc c.self.inside.switch_alloc in
+    let output = output_of _ c.args.self.now c.args.out_port c.args.vc c.line-o.result c.index_mut-output.result.now
+    c.self.view_is c.requires c.line-o.ensures.value c.line-o.ensures.in_outputs c.index_mut-output.ensures.value in
     let within : c.line-o.result < length c.self.inside.outputs.items = output.within in
     record {
       router = record {
@@ -26,22 +28,37 @@ invariant_of-self c =
           all_outputs = grind (arith, common_steps);
           inputs_sound = c.self.invariant.router.lists.inputs_sound;
           credits_fit = grind (arith, elements);
-          terminal_full = full_after c.self.inside.outputs.items (2 * length c.self.inside.mesh) (sum c.self.inside.classes) c.self.inside.depth c.line-o.result c.add_credit.new.self (free_output c.self.inside.depth) within c.self.invariant.router.lists.terminal_full
-              (λ vc below same. absurd (let full = full_before c.self.inside.outputs.items _ _ _ _ _ within c.index.ensures same (c.self.invariant.router.lists.terminal_full vc below) in c.if-index-depth.false full));
+          terminal_full = full_after c.self.inside.outputs.items (2 * length c.self.inside.mesh)
+              (sum c.self.inside.classes) c.self.inside.depth c.line-o.result c.add_credit.new.self
+              (free_output c.self.inside.depth) within c.self.invariant.router.lists.terminal_full
+              (λ vc below same. absurd (let full = full_before c.self.inside.outputs.items _ _ _ _ _ within
+              c.index.ensures same (c.self.invariant.router.lists.terminal_full vc below) in
+              c.if-index-depth.false full));
         };
         allocators = c.self.invariant.router.allocators;
       };
       arbiters = c.self.invariant.arbiters;
-      busy = busy_as _ _ _ _ _ _ c.self.invariant.busy (ap (λ (b : BusyChannels). b.occupied) c.file_credit.ensures.others) (ap (λ (b : BusyChannels). b.waiting) c.file_credit.ensures.others)
-          (ap (λ (b : BusyChannels). b.active) c.file_credit.ensures.others) (ap (λ (b : BusyChannels). b.owing) c.file_credit.ensures.others);
-      in_vain = λ yes. vain_out _ _ _ _ _ _ output (ap (λ (u : OutRecord). u.holder) c.add_credit.ensures) (c.self.invariant.in_vain (sym (ap (λ (b : BusyChannels). b.in_vain) c.file_credit.ensures.others) ∙ yes));
-      holders = holders_out _ _ _ _ _ _ output (ap (λ (u : OutRecord). u.holder) c.add_credit.ensures) c.self.invariant.holders;
-      held = held_kept _ _ _ _ _ _ _ _ output (ap (λ (u : OutRecord). u.holder) c.add_credit.ensures) (ap (λ (b : BusyChannels). b.held) c.file_credit.ensures.others) c.self.invariant.held;
+      busy = busy_as _ _ _ _ _ _ c.self.invariant.busy
+          (ap (λ (b : BusyChannels). b.occupied) c.file_credit.ensures.others)
+          (ap (λ (b : BusyChannels). b.waiting) c.file_credit.ensures.others)
+          (ap (λ (b : BusyChannels). b.active) c.file_credit.ensures.others)
+          (ap (λ (b : BusyChannels). b.owing) c.file_credit.ensures.others);
+      in_vain = λ yes. vain_out _ _ _ _ _ _ output (ap (λ (u : OutRecord). u.holder) c.add_credit.ensures)
+          (c.self.invariant.in_vain (sym (ap (λ (b : BusyChannels). b.in_vain) c.file_credit.ensures.others) ∙ yes));
+      holders = holders_out _ _ _ _ _ _ output
+          (ap (λ (u : OutRecord). u.holder) c.add_credit.ensures) c.self.invariant.holders;
+      held = held_kept _ _ _ _ _ _ _ _ output (ap (λ (u : OutRecord). u.holder) c.add_credit.ensures)
+          (ap (λ (b : BusyChannels). b.held) c.file_credit.ensures.others) c.self.invariant.held;
       classes = c.self.invariant.classes;
-      ready = ready_credit at _ _ _ c.waits_for_credit-woken.result refl refl c.self.invariant.busy.few_ports c.self.invariant.busy.few_channels (credit_as _ c.args.self.now _ _ _ _ _ c.waits_for_credit-woken.result c.self.view_is output c.add_credit.ensures c.waits_for_credit-woken.ensures) c.file_credit.ensures.ready c.self.invariant.ready;
+      ready = ready_credit at _ _ _ c.waits_for_credit-woken.result refl refl c.self.invariant.busy.few_ports
+          c.self.invariant.busy.few_channels (credit_as _ c.args.self.now _ _ _ _ _ c.waits_for_credit-woken.result
+          c.self.view_is output c.add_credit.ensures c.waits_for_credit-woken.ensures) c.file_credit.ensures.ready
+          c.self.invariant.ready;
     }
 
 pub file_credit-requires : goal.file_credit-requires
 file_credit-requires c =
-    woken_fits c.args.self.now (after_credit c.args.self.now c.args.out_port c.args.vc) c.waits_for_credit-woken.result (subst (λ (r : RouterState). terminal r ≤ 6) c.self.view_is c.self.invariant.busy.few_ports)
-    (subst (λ (r : RouterState). width r ≤ 8) c.self.view_is c.self.invariant.busy.few_channels) c.waits_for_credit-woken.ensures
+    woken_fits c.args.self.now (after_credit c.args.self.now c.args.out_port c.args.vc) c.waits_for_credit-woken.result
+    (subst (λ (r : RouterState). terminal r ≤ 6) c.self.view_is c.self.invariant.busy.few_ports)
+    (subst (λ (r : RouterState). width r ≤ 8) c.self.view_is c.self.invariant.busy.few_channels)
+    c.waits_for_credit-woken.ensures

@@ -15,16 +15,30 @@ use Rattle.worm_router.proofs.router.Router.gave.Goals.{then-owes_all, else-owes
 
 pub invariant_of-self : goal.invariant_of-self
 invariant_of-self c =
-    let at : RouterState = router_state c.self.inside.mesh c.self.inside.node c.self.inside.classes c.self.inside.depth c.self.inside.inputs.items c.self.inside.outputs.items c.self.inside.channel_alloc c.self.inside.switch_alloc in
-    let input = input_of _ c.args.self.now c.args.port c.args.vc c.line-i.result c.index_mut-channel.result.now c.self.view_is c.requires.place c.line-i.ensures.value c.line-i.ensures.in_inputs c.index_mut-channel.ensures.value in
-    let had = read_sound _ _ _ _ _ c.index_mut-channel.result.now c.index_mut-channel.ensures.value input.within c.self.invariant.router.lists.inputs_sound in
-    let here = input_read _ c.args.self.now c.args.port c.args.vc c.line-i.result c.index_mut-channel.result.now c.self.view_is c.index_mut-channel.ensures.value c.line-i.ensures.value c.line-i.ensures.in_inputs in
-    let read = input_of _ c.args.self.now c.args.port c.args.vc c.line-i.result c.index.result.now c.self.view_is c.requires.place c.line-i.ensures.value c.line-i.ensures.in_inputs c.index.ensures in
-    let owed_some : 0 < c.index_mut-channel.result.now.owed = subst (λ (x : ChannelState). 0 < x.owed) (sym here) c.requires.owed in
-    let wakes : (c.if-owes_all.woken || ready_by at c.args.port c.index_mut-channel.result.now) ≡ ready_by at c.args.port c.give.new.self =
-    gave_wakes at c.args.self.now c.args.port c.args.vc c.line-i.result c.index_mut-channel.result.now c.give.new.self c.if-owes_all.woken c.self.view_is input c.give.ensures (omega (arith, owed_some)) had.owed_fits (elim c.if-owes_all.branch [
+    let at : RouterState = router_state c.self.inside.mesh c.self.inside.node c.self.inside.classes c.self.inside.depth
+    c.self.inside.inputs.items c.self.inside.outputs.items c.self.inside.channel_alloc c.self.inside.switch_alloc in
+    let input = input_of _ c.args.self.now c.args.port c.args.vc c.line-i.result c.index_mut-channel.result.now
+    c.self.view_is c.requires.place c.line-i.ensures.value c.line-i.ensures.in_inputs
+    c.index_mut-channel.ensures.value in
+    let had = read_sound _ _ _ _ _ c.index_mut-channel.result.now c.index_mut-channel.ensures.value input.within
+    c.self.invariant.router.lists.inputs_sound in
+    let here = input_read _ c.args.self.now c.args.port c.args.vc c.line-i.result c.index_mut-channel.result.now
+    c.self.view_is c.index_mut-channel.ensures.value c.line-i.ensures.value c.line-i.ensures.in_inputs in
+    let read = input_of _ c.args.self.now c.args.port c.args.vc c.line-i.result c.index.result.now c.self.view_is
+    c.requires.place c.line-i.ensures.value c.line-i.ensures.in_inputs c.index.ensures in
+    let owed_some : 0 < c.index_mut-channel.result.now.owed =
+    subst (λ (x : ChannelState). 0 < x.owed) (sym here) c.requires.owed in
+    let wakes : (c.if-owes_all.woken || ready_by at c.args.port c.index_mut-channel.result.now)
+    ≡ ready_by at c.args.port c.give.new.self =
+    gave_wakes at c.args.self.now c.args.port c.args.vc c.line-i.result c.index_mut-channel.result.now c.give.new.self
+    c.if-owes_all.woken c.self.view_is input c.give.ensures (omega (arith, owed_some)) had.owed_fits
+    (elim c.if-owes_all.branch [
       | then-owes_all w ↦ inl (w.woken-is ∙ w.waits_to_owe_less-woken.ensures)
-      | else-owes_all w ↦ inr (w.woken-is ∙ ne_eqb _ _ w.if-owes_all.false, λ full. w.if-owes_all.false (c.owed.ensures ∙ ap (λ (x : ChannelState). x.owed) (read.was ∙ sym input.was) ∙ full))
+      | else-owes_all w ↦ inr (
+        w.woken-is ∙ ne_eqb _ _ w.if-owes_all.false,
+        λ full. w.if-owes_all.false (c.owed.ensures ∙ ap (λ (x : ChannelState). x.owed) (read.was ∙ sym input.was)
+            ∙ full),
+      )
     ]) in
     record {
       router = record {
@@ -37,10 +51,13 @@ invariant_of-self c =
           (inr (ap (λ (b : BusyChannels). b.waiting) c.file_given.ensures.others, ap is_waiting c.give.ensures))
           (inr (ap (λ (b : BusyChannels). b.active) c.file_given.ensures.others, ap is_active c.give.ensures))
           (inl c.file_given.ensures.owing);
-      in_vain = λ yes. vain_as _ _ _ _ _ _ input (ap (λ (x : ChannelState). x.state) c.give.ensures) (ap (λ (x : ChannelState). x.buffer) c.give.ensures)
+      in_vain = λ yes. vain_as _ _ _ _ _ _ input (ap (λ (x : ChannelState). x.state) c.give.ensures)
+          (ap (λ (x : ChannelState). x.buffer) c.give.ensures)
           (c.self.invariant.in_vain (sym (ap (λ (b : BusyChannels). b.in_vain) c.file_given.ensures.others) ∙ yes));
-      holders = holders_in _ _ _ _ _ _ input (λ o k holds. sym (ap (λ (x : ChannelState). x.state) c.give.ensures) ∙ holds) c.self.invariant.holders;
+      holders = holders_in _ _ _ _ _ _ input
+          (λ o k holds. sym (ap (λ (x : ChannelState). x.state) c.give.ensures) ∙ holds) c.self.invariant.holders;
       held = held_as _ _ _ _ _ _ c.self.invariant.held (ap (λ (b : BusyChannels). b.held) c.file_given.ensures.others);
       classes = c.self.invariant.classes;
-      ready = ready_given _ _ _ _ _ _ _ _ c.if-owes_all.woken input c.self.invariant.busy.few_ports c.self.invariant.busy.few_channels wakes c.file_given.ensures.ready c.self.invariant.ready;
+      ready = ready_given _ _ _ _ _ _ _ _ c.if-owes_all.woken input c.self.invariant.busy.few_ports
+          c.self.invariant.busy.few_channels wakes c.file_given.ensures.ready c.self.invariant.ready;
     }

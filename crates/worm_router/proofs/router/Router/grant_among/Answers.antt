@@ -6,7 +6,8 @@ use Rattle.worm_router.proofs.router.Router.grant_among.Goals as goal
 
 pub returns : goal.returns
 returns c =
-    let whole = pass_is _ c.args.self.now c.args.hopeful _ _ _ c.grant-grants.result c.self.view_is c.requires c.requests-asked.ensures c.free_channels-free.ensures c.grant-grants.ensures.pass in
+    let whole = pass_is _ c.args.self.now c.args.hopeful _ _ _ c.grant-grants.result c.self.view_is c.requires
+    c.requests-asked.ensures c.free_channels-free.ensures c.grant-grants.ensures.pass in
     record {
       grants_are = ap (λ (p : VcPass). p.grants) whole;
       after = c.write.ensures.after ∙ written_is _ c.args.self.now _ _ c.self.view_is whole;

@@ -1,4 +1,5 @@
-use Rattle.std.proofs.Common.{◌&&◌, is_some, ◌<◌, ◌*◌, ◌∙◌, ap, sym, subst, inl, inr, true, false, ◌≡◌, sum, length, arith}
+use Rattle.std.proofs.Common.{◌&&◌, is_some, ◌<◌, ◌*◌, ◌∙◌, ap, sym, subst, inl, inr, true, false, ◌≡◌, sum, length}
+use Rattle.std.proofs.Common.{arith}
 use Rattle.std.proofs.lemmas.Grind.{common_steps, elements}
 use Rattle.worm_records.specs.declared.InRecord.TheVariants.{Active}
 use Rattle.worm_records.specs.declared.OutRecord.{OutRecord}
@@ -16,17 +17,30 @@ use Rattle.worm_router.proofs.router.Router.hold.Goals as goal
 
 pub invariant_of-self : goal.invariant_of-self
 invariant_of-self c =
-    let at : RouterState = router_state c.self.inside.mesh c.self.inside.node c.self.inside.classes c.self.inside.depth c.self.inside.inputs.items c.self.inside.outputs.items c.self.inside.channel_alloc c.self.inside.switch_alloc in
+    let at : RouterState = router_state c.self.inside.mesh c.self.inside.node c.self.inside.classes c.self.inside.depth
+    c.self.inside.inputs.items c.self.inside.outputs.items c.self.inside.channel_alloc c.self.inside.switch_alloc in
     let within : c.line-o.result < length c.self.inside.outputs.items = grind (arith, common_steps) in
-    let input = input_of _ c.args.self.now c.args.port c.args.vc c.line-i.result c.index_mut-channel.result.now c.self.view_is c.requires.place c.line-i.ensures.value c.line-i.ensures.in_inputs c.index_mut-channel.ensures.value in
-    let output = output_of _ c.args.self.now c.args.out c.args.out_vc c.line-o.result c.index_mut-output.result.now c.self.view_is c.requires.out_place c.line-o.ensures.value c.line-o.ensures.in_outputs c.index_mut-output.ensures.value in
-    let read = output_read _ c.args.self.now c.args.out c.args.out_vc c.line-o.result c.index_mut-output.result.now c.self.view_is c.index_mut-output.ensures.value c.line-o.ensures.value c.line-o.ensures.in_outputs in
-    let here = input_read _ c.args.self.now c.args.port c.args.vc c.line-i.result c.index_mut-channel.result.now c.self.view_is c.index_mut-channel.ensures.value c.line-i.ensures.value c.line-i.ensures.in_inputs in
-    let sends : c.sends_by-sends.result ≡ (could_send at c.args.port (Active c.args.out c.args.out_vc) c.index_mut-channel.result.now.owed && is_occupied c.index_mut-channel.result.now) =
+    let input = input_of _ c.args.self.now c.args.port c.args.vc c.line-i.result c.index_mut-channel.result.now
+    c.self.view_is c.requires.place c.line-i.ensures.value c.line-i.ensures.in_inputs
+    c.index_mut-channel.ensures.value in
+    let output = output_of _ c.args.self.now c.args.out c.args.out_vc c.line-o.result c.index_mut-output.result.now
+    c.self.view_is c.requires.out_place c.line-o.ensures.value c.line-o.ensures.in_outputs
+    c.index_mut-output.ensures.value in
+    let read = output_read _ c.args.self.now c.args.out c.args.out_vc c.line-o.result c.index_mut-output.result.now
+    c.self.view_is c.index_mut-output.ensures.value c.line-o.ensures.value c.line-o.ensures.in_outputs in
+    let here = input_read _ c.args.self.now c.args.port c.args.vc c.line-i.result c.index_mut-channel.result.now
+    c.self.view_is c.index_mut-channel.ensures.value c.line-i.ensures.value c.line-i.ensures.in_inputs in
+    let sends : c.sends_by-sends.result ≡ (could_send at c.args.port
+    (Active c.args.out c.args.out_vc) c.index_mut-channel.result.now.owed && is_occupied
+    c.index_mut-channel.result.now) =
     c.sends_by-sends.ensures
-    ∙ sym (ap (λ (x : ChannelState). could_send c.args.self.now c.args.port (Active c.args.out c.args.out_vc) x.owed && is_occupied x) here)
-    ∙ sym (ap (λ (r : RouterState). could_send r c.args.port (Active c.args.out c.args.out_vc) c.index_mut-channel.result.now.owed && is_occupied c.index_mut-channel.result.now) c.self.view_is) in
-    let put = subst (IsPut c.self.inside.busy.ready c.file_active.new.self.ready c.args.port c.args.vc) sends c.file_active.ensures.ready in
+    ∙ sym (ap (λ (x : ChannelState). could_send c.args.self.now c.args.port
+    (Active c.args.out c.args.out_vc) x.owed && is_occupied x) here)
+    ∙ sym (ap (λ (r : RouterState). could_send r c.args.port
+    (Active c.args.out c.args.out_vc) c.index_mut-channel.result.now.owed && is_occupied
+    c.index_mut-channel.result.now) c.self.view_is) in
+    let put = subst (IsPut c.self.inside.busy.ready c.file_active.new.self.ready c.args.port c.args.vc) sends
+    c.file_active.ensures.ready in
     record {
       router = record {
         lists = record {
@@ -36,20 +50,33 @@ invariant_of-self c =
           all_outputs = grind (arith, common_steps);
           inputs_sound = grind (arith, elements);
           credits_fit = grind (arith, elements);
-          terminal_full = full_after c.self.inside.outputs.items (2 * length c.self.inside.mesh) (sum c.self.inside.classes) c.self.inside.depth c.line-o.result c.grant.new.self (free_output c.self.inside.depth) within c.self.invariant.router.lists.terminal_full
-              (λ vc below same. ap (λ (v : OutRecord). v.credits) c.grant.ensures ∙ full_before c.self.inside.outputs.items _ _ _ _ _ within c.index_mut-output.ensures.value same (c.self.invariant.router.lists.terminal_full vc below));
+          terminal_full = full_after c.self.inside.outputs.items (2 * length c.self.inside.mesh)
+              (sum c.self.inside.classes) c.self.inside.depth c.line-o.result c.grant.new.self
+              (free_output c.self.inside.depth) within c.self.invariant.router.lists.terminal_full
+              (λ vc below same. ap (λ (v : OutRecord). v.credits) c.grant.ensures
+              ∙ full_before c.self.inside.outputs.items _ _ _ _ _ within c.index_mut-output.ensures.value same
+              (c.self.invariant.router.lists.terminal_full vc below));
         };
         allocators = c.self.invariant.router.allocators;
       };
       arbiters = c.self.invariant.arbiters;
       busy = busy_filed _ _ _ _ _ _ _ _ input c.self.invariant.busy
           (inr (ap (λ (b : BusyChannels). b.occupied) c.file_active.ensures.others, ap is_occupied c.set_state.ensures))
-          (inl (filed _ _ _ _ _ (subst (IsPut _ _ _ _) (sym (ap is_waiting c.set_state.ensures)) c.file_active.ensures.waiting)))
-          (inl (filed _ _ _ _ _ (subst (IsPut _ _ _ _) (sym (ap is_active c.set_state.ensures)) c.file_active.ensures.active)))
+          (inl (filed _ _ _ _ _ (subst (IsPut _ _ _ _)
+          (sym (ap is_waiting c.set_state.ensures)) c.file_active.ensures.waiting)))
+          (inl (filed _ _ _ _ _ (subst (IsPut _ _ _ _)
+          (sym (ap is_active c.set_state.ensures)) c.file_active.ensures.active)))
           (inr (ap (λ (b : BusyChannels). b.owing) c.file_active.ensures.others, ap owes c.set_state.ensures));
-      in_vain = λ yes. let no : true ≡ false = sym yes ∙ ap (λ (b : BusyChannels). b.in_vain) c.file_active.ensures.others in absurd (cc);
-      holders = holders_held _ _ _ _ _ _ _ _ _ _ _ input output (ap (λ (x : ChannelState). x.state) c.set_state.ensures) (ap (λ (v : OutRecord). v.holder) read ∙ c.requires.free) (ap (λ (v : OutRecord). v.holder) c.grant.ensures) c.self.invariant.holders;
-      held = held_filed _ _ _ _ _ _ _ _ true output c.self.invariant.busy.few_ports c.self.invariant.busy.few_channels (filed _ _ _ _ _ c.file_active.ensures.held) (ap (λ (v : OutRecord). is_some v.holder) c.grant.ensures) c.self.invariant.held;
+      in_vain = λ yes. let no : true ≡ false =
+          sym yes ∙ ap (λ (b : BusyChannels). b.in_vain) c.file_active.ensures.others in absurd (cc);
+      holders = holders_held _ _ _ _ _ _ _ _ _ _ _ input output (ap (λ (x : ChannelState). x.state) c.set_state.ensures)
+          (ap (λ (v : OutRecord). v.holder) read ∙ c.requires.free)
+          (ap (λ (v : OutRecord). v.holder) c.grant.ensures) c.self.invariant.holders;
+      held = held_filed _ _ _ _ _ _ _ _ true output c.self.invariant.busy.few_ports c.self.invariant.busy.few_channels
+          (filed _ _ _ _ _ c.file_active.ensures.held)
+          (ap (λ (v : OutRecord). is_some v.holder) c.grant.ensures) c.self.invariant.held;
       classes = c.self.invariant.classes;
-      ready = ready_held _ _ _ _ _ _ _ _ _ _ _ _ _ input output c.self.invariant.busy.few_ports c.self.invariant.busy.few_channels c.set_state.ensures put (ap (λ (v : OutRecord). v.credits) c.grant.ensures) c.self.invariant.ready;
+      ready = ready_held _ _ _ _ _ _ _ _ _ _ _ _ _ input output c.self.invariant.busy.few_ports
+          c.self.invariant.busy.few_channels c.set_state.ensures put
+          (ap (λ (v : OutRecord). v.credits) c.grant.ensures) c.self.invariant.ready;
     }

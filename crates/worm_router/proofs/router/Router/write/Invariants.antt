@@ -5,4 +5,5 @@ use Rattle.worm_router.proofs.GrantsWritten.{HasWritten}
 use Rattle.worm_router.proofs.router.Router.write.Given as goal
 
 abbrev pub invariant-loop-port : goal.invariant-loop-port
-invariant-loop-port l = HasWritten l.initial.self l.self (fold (with_port_grants l.grants) l.initial.self (range_with_len 0 l.port))
+invariant-loop-port l = HasWritten l.initial.self l.self
+    (fold (with_port_grants l.grants) l.initial.self (range_with_len 0 l.port))

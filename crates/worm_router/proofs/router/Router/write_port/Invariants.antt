@@ -6,4 +6,5 @@ use Rattle.worm_router.proofs.GrantsWritten.{HasWritten}
 use Rattle.worm_router.proofs.router.Router.write_port.Given as goal
 
 abbrev pub invariant-loop-vc : goal.invariant-loop-vc
-invariant-loop-vc l = HasWritten l.initial.self l.self (fold (λ s vc. written s l.port vc (cell l.grants l.port vc None)) l.initial.self (range_with_len 0 l.vc))
+invariant-loop-vc l = HasWritten l.initial.self l.self
+    (fold (λ s vc. written s l.port vc (cell l.grants l.port vc None)) l.initial.self (range_with_len 0 l.vc))

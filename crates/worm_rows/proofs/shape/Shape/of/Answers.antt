@@ -18,7 +18,12 @@ all_nodes radices = product 1 radices ∙ one-mul (node_count radices)
 
 kept_mesh : (format : Format) (n : Network) → Keeps format n → IsMesh n.radices
 kept_mesh format n kept =
-    record { some_dims = omega (arith, kept.mesh.dims.0); few_dims = kept.mesh.dims.1; radices = kept.mesh.each; few_nodes = omega (arith, kept.mesh.nodes, all_nodes n.radices) }
+    record {
+      some_dims = omega (arith, kept.mesh.dims.0);
+      few_dims = kept.mesh.dims.1;
+      radices = kept.mesh.each;
+      few_nodes = omega (arith, kept.mesh.nodes, all_nodes n.radices);
+    }
 
 no_fault : (ks : List ℕ) (fault : MeshFault) → IsMesh ks → IsFault ks fault → ⊥
 no_fault ks Radix m h = h m.radices
@@ -27,4 +32,6 @@ no_fault ks TooManyNodes m h = omega (arith, h.3, m.few_nodes)
 
 pub unreachable-requires : goal.unreachable-requires
 unreachable-requires c =
-    no_fault c.args.config.now.radices.items c.in-Err.field-0 (kept_mesh c.requires.0 (view c.args.config.now) c.requires.1) (subst (λ ks. IsFault ks c.in-Err.field-0) c.as_slice.ensures.value c.in-Err.ensures)
+    no_fault c.args.config.now.radices.items c.in-Err.field-0
+    (kept_mesh c.requires.0 (view c.args.config.now) c.requires.1)
+    (subst (λ ks. IsFault ks c.in-Err.field-0) c.as_slice.ensures.value c.in-Err.ensures)

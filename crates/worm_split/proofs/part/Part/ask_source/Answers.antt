@@ -12,5 +12,8 @@ invariant_of-self c =
     let i = c.self.inside in
     let p : PartState = part_state i.region i.ends.items i.opening.value i.lines.value.items in
     let here : owned p.net c.args.node ≡ true = (λ t. owned (c.self.view_is t).net c.args.node) ∙ c.requires.own in
-    let kept = keeps_asked p c.self.invariant.0 c.args.node here c.args.entries.now p.net c.ask_source.new.self (result_err c.ask_source.result) (inside_now p c.self.invariant.0) c.ask_source.ensures.does.exact in
-    (part_with_net p c.self.invariant.0 c.ask_source.new.self kept.0 kept.1, subst (λ (w : Own). IsKept i.opening.value w i.kept) (sym kept.1.own) c.self.invariant.1)
+    let kept = keeps_asked p c.self.invariant.0 c.args.node here c.args.entries.now p.net c.ask_source.new.self
+    (result_err c.ask_source.result) (inside_now p c.self.invariant.0) c.ask_source.ensures.does.exact in (
+      part_with_net p c.self.invariant.0 c.ask_source.new.self kept.0 kept.1,
+      subst (λ (w : Own). IsKept i.opening.value w i.kept) (sym kept.1.own) c.self.invariant.1,
+    )

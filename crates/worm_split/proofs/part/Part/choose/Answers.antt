@@ -12,9 +12,15 @@ pub invariant_of-self : goal.invariant_of-self
 invariant_of-self c =
     let i = c.self.inside in
     let p : PartState = part_state i.region i.ends.items i.opening.value i.lines.value.items in
-    let there : c.args.node < node_count p.net.mesh = subst (λ (q : PartState). c.args.node < node_count q.net.mesh) (sym c.self.view_is) c.requires.node in
-    let kept = inside_chosen p c.self.invariant.0 c.args.node c.is_workable.ensures there in
-    (part_with_net p c.self.invariant.0 c.choose.new.self (subst (λ (n : NetState). IsInside p c.self.invariant.0 n) (sym c.choose.ensures.after) kept) c.choose.ensures.reaches.config, subst (λ (w : Own). IsKept i.opening.value w i.kept) (sym c.choose.ensures.reaches.config.own) c.self.invariant.1)
+    let there : c.args.node < node_count p.net.mesh =
+    subst (λ (q : PartState). c.args.node < node_count q.net.mesh) (sym c.self.view_is) c.requires.node in
+    let kept = inside_chosen p c.self.invariant.0 c.args.node c.is_workable.ensures there in (
+      part_with_net p c.self.invariant.0 c.choose.new.self
+          (subst (λ (n : NetState). IsInside p c.self.invariant.0 n) (sym c.choose.ensures.after) kept)
+          c.choose.ensures.reaches.config,
+      subst (λ (w : Own). IsKept i.opening.value w i.kept)
+          (sym c.choose.ensures.reaches.config.own) c.self.invariant.1,
+    )
 
 pub returns-clause-granted : goal.returns-clause-granted
 returns-clause-granted c = rw (← c.self.view_is) c.choose.ensures.granted
@@ -24,4 +30,5 @@ returns-clause-there c = rw (← c.self.view_is) c.choose.ensures.there
 
 pub returns-clause-ports : goal.returns-clause-ports
 returns-clause-ports c =
-    rw (← c.self.view_is) (λ p g at. port_below c.self.inside.region c.args.node p c.is_workable.ensures.framed (c.choose.ensures.there p g at).1)
+    rw (← c.self.view_is) (λ p g at. port_below c.self.inside.region c.args.node p c.is_workable.ensures.framed
+    (c.choose.ensures.there p g at).1)

@@ -10,7 +10,8 @@ pub index-requires : goal.index-requires
 index-requires c =
     let i = c.self.inside in
     let few : c.in-Some.links.into < length i.ends.items
-    = into_end_bound (part_state i.region i.ends.items i.opening.value i.lines.value.items) c.self.invariant.0 c.is_workable.ensures.framed c.args.node c.args.port c.in-Some.links (sym c.in-Some.is ∙ c.links_at.ensures) in
+    = into_end_bound (part_state i.region i.ends.items i.opening.value i.lines.value.items) c.self.invariant.0
+    c.is_workable.ensures.framed c.args.node c.args.port c.in-Some.links (sym c.in-Some.is ∙ c.links_at.ensures) in
     omega (arith, few, c.from.ensures)
 
 pub returns : goal.returns
@@ -19,6 +20,8 @@ returns c =
     let p : PartState = part_state i.region i.ends.items i.opening.value i.lines.value.items in
     let at = sym c.in-Some.is ∙ c.links_at.ensures in
     let framed = c.is_workable.ensures.framed in
-    let looked = into_looked_up p c.self.invariant.0 framed c.args.node c.args.port c.in-Some.links at c.from.result c.index.result.now c.from.ensures c.index.ensures in
+    let looked = into_looked_up p c.self.invariant.0 framed c.args.node c.args.port c.in-Some.links at c.from.result
+    c.index.result.now c.from.ensures c.index.ensures in
     let is = c.is_entering.ensures ∙ ap enters_by looked in
-    rw (← c.self.view_is) (comes_means p c.args.node c.args.port c.in-Some.links.beyond c.is_entering.result (linked p c.self.invariant.0 framed c.args.node c.args.port c.in-Some.links at) is)
+    rw (← c.self.view_is) (comes_means p c.args.node c.args.port c.in-Some.links.beyond c.is_entering.result
+    (linked p c.self.invariant.0 framed c.args.node c.args.port c.in-Some.links at) is)

@@ -9,5 +9,7 @@ pub returns-else-comes-clause-gives : goal.returns-else-comes-clause-gives
 returns-else-comes-clause-gives g c =
     let old = c.args.self.now in
     let new = c.give_within.new.self in
-    subst (λ (o : Option ℕ). EachOf (Gives c.args.node c.args.port) (option_to_list o) old None new) c.in-Some.ensures.lowest
-    (of_one (Gives c.args.node c.args.port) c.in-Some.vc old new None (inr (λ comes. (let clash = c.if-comes.ensures.1 comes in absurd (cc)), c.give_within.ensures.gives)))
+    subst (λ (o : Option ℕ). EachOf (Gives c.args.node c.args.port) (option_to_list o) old None new)
+    c.in-Some.ensures.lowest
+    (of_one (Gives c.args.node c.args.port) c.in-Some.vc old new None
+    (inr (λ comes. (let clash = c.if-comes.ensures.1 comes in absurd (cc)), c.give_within.ensures.gives)))

@@ -5,7 +5,8 @@ use Rattle.worm_core.specs.declared.own.Own.{Own}
 use Rattle.worm_split.specs.Apart.{IsKept}
 use Rattle.worm_split.specs.PartState.{PartState, IsPart, IsSamePart, part_state}
 use Rattle.worm_split.specs.PartTurns.{ComesBy, GivesAcross}
-use Rattle.worm_split.proofs.Going.{into_looked_up, entering_by, owner_elsewhere, may_give, gave_it, owes_still, giving_there}
+use Rattle.worm_split.proofs.Going.{into_looked_up, entering_by, owner_elsewhere, may_give, gave_it, owes_still}
+use Rattle.worm_split.proofs.Going.{giving_there}
 use Rattle.worm_split.proofs.Pulls.{into_end_bound}
 use Rattle.worm_split.proofs.part.Part.give_across.Goals as goal
 use Rattle.worm_split.proofs.part.Part.give_across.Given as given
@@ -14,7 +15,8 @@ pub index_mut-requires : goal.index_mut-requires
 index_mut-requires g c =
     let i = c.self.inside in
     let few : c.in-Some.links.into < length i.ends.items
-    = into_end_bound (part_state i.region i.ends.items i.opening.value i.lines.value.items) c.self.invariant.0 c.is_workable.ensures.framed c.args.node c.args.port c.in-Some.links (sym c.in-Some.is ∙ c.links_at.ensures) in
+    = into_end_bound (part_state i.region i.ends.items i.opening.value i.lines.value.items) c.self.invariant.0
+    c.is_workable.ensures.framed c.args.node c.args.port c.in-Some.links (sym c.in-Some.is ∙ c.links_at.ensures) in
     omega (arith, few, c.from.ensures)
 
 pub push_credit-requires : goal.push_credit-requires
@@ -24,10 +26,13 @@ push_credit-requires g c =
     let back = sym c.self.view_is in
     let at = sym c.in-Some.is ∙ c.links_at.ensures in
     let framed = c.is_workable.ensures.framed in
-    let comes = entering_by p c.self.invariant.0 framed c.args.node c.args.port c.in-Some.links at (subst (λ (q : PartState). ComesBy q c.args.node c.args.port) back c.requires.comes) in
-    let now = into_looked_up p c.self.invariant.0 framed c.args.node c.args.port c.in-Some.links at c.from.result c.index_mut.result.now c.from.ensures c.index_mut.ensures.value in
+    let comes = entering_by p c.self.invariant.0 framed c.args.node c.args.port c.in-Some.links at
+    (subst (λ (q : PartState). ComesBy q c.args.node c.args.port) back c.requires.comes) in
+    let now = into_looked_up p c.self.invariant.0 framed c.args.node c.args.port c.in-Some.links at c.from.result
+    c.index_mut.result.now c.from.ensures c.index_mut.ensures.value in
     let channel = subst (λ (q : PartState). c.args.vc < sum q.net.channels) back c.requires.channel in
-    may_give p c.self.invariant.0 framed c.args.node c.args.port c.in-Some.links at comes.0 comes.1 comes.2 c.args.vc c.index_mut.result.now channel now
+    may_give p c.self.invariant.0 framed c.args.node c.args.port c.in-Some.links at comes.0 comes.1 comes.2 c.args.vc
+    c.index_mut.result.now channel now
 
 pub gave-requires-clause-there : goal.gave-requires-clause-there
 gave-requires-clause-there g c =
@@ -36,7 +41,8 @@ gave-requires-clause-there g c =
     let back = sym c.self.view_is in
     let at = sym c.in-Some.is ∙ c.links_at.ensures in
     let framed = c.is_workable.ensures.framed in
-    let comes = entering_by p c.self.invariant.0 framed c.args.node c.args.port c.in-Some.links at (subst (λ (q : PartState). ComesBy q c.args.node c.args.port) back c.requires.comes) in
+    let comes = entering_by p c.self.invariant.0 framed c.args.node c.args.port c.in-Some.links at
+    (subst (λ (q : PartState). ComesBy q c.args.node c.args.port) back c.requires.comes) in
     let node = subst (λ (q : PartState). c.args.node < node_count q.net.mesh) back c.requires.node in
     let channel = subst (λ (q : PartState). c.args.vc < sum q.net.channels) back c.requires.channel in
     giving_there p c.self.invariant.0 framed c.args.node c.args.port c.in-Some.links at c.args.vc node channel
@@ -48,7 +54,8 @@ gave-requires-clause-crosses g c =
     let back = sym c.self.view_is in
     let at = sym c.in-Some.is ∙ c.links_at.ensures in
     let framed = c.is_workable.ensures.framed in
-    let comes = entering_by p c.self.invariant.0 framed c.args.node c.args.port c.in-Some.links at (subst (λ (q : PartState). ComesBy q c.args.node c.args.port) back c.requires.comes) in
+    let comes = entering_by p c.self.invariant.0 framed c.args.node c.args.port c.in-Some.links at
+    (subst (λ (q : PartState). ComesBy q c.args.node c.args.port) back c.requires.comes) in
     owner_elsewhere p c.self.invariant.0 framed c.args.node c.args.port c.in-Some.links at comes.0 comes.1 comes.2
 
 landing : (g : given.Over) (c : goal.After-gave g)
@@ -62,18 +69,25 @@ landing g c =
     let back = sym c.self.view_is in
     let at = sym c.in-Some.is ∙ c.links_at.ensures in
     let framed = c.is_workable.ensures.framed in
-    let comes = entering_by p c.self.invariant.0 framed c.args.node c.args.port c.in-Some.links at (subst (λ (q : PartState). ComesBy q c.args.node c.args.port) back c.requires.comes) in
+    let comes = entering_by p c.self.invariant.0 framed c.args.node c.args.port c.in-Some.links at
+    (subst (λ (q : PartState). ComesBy q c.args.node c.args.port) back c.requires.comes) in
     let node = subst (λ (q : PartState). c.args.node < node_count q.net.mesh) back c.requires.node in
     let channel = subst (λ (q : PartState). c.args.vc < sum q.net.channels) back c.requires.channel in
-    let there = giving_there p c.self.invariant.0 framed c.args.node c.args.port c.in-Some.links at c.args.vc node channel in
-    let now = into_looked_up p c.self.invariant.0 framed c.args.node c.args.port c.in-Some.links at c.from.result c.index_mut.result.now c.from.ensures c.index_mut.ensures.value in
-    gave_it p c.self.invariant.0 framed c.args.node c.args.port c.in-Some.links at comes.0 comes.1 comes.2 c.args.vc c.from.result c.index_mut.result.now c.push_credit.new.end c.gave.new.self
+    let there = giving_there p c.self.invariant.0 framed c.args.node c.args.port c.in-Some.links at c.args.vc node
+    channel in
+    let now = into_looked_up p c.self.invariant.0 framed c.args.node c.args.port c.in-Some.links at c.from.result
+    c.index_mut.result.now c.from.ensures c.index_mut.ensures.value in
+    gave_it p c.self.invariant.0 framed c.args.node c.args.port c.in-Some.links at comes.0 comes.1 comes.2 c.args.vc
+    c.from.result c.index_mut.result.now c.push_credit.new.end c.gave.new.self
     there c.from.ensures now c.if-push_credit.ensures c.gave.ensures
 
 pub invariant_of-self : goal.invariant_of-self
 invariant_of-self g c =
-    let i = c.self.inside in
-    ((landing g c).0, subst (λ (w : Own). IsKept i.opening.value w i.kept) (sym (landing g c).2.config.own) c.self.invariant.1)
+    let i = c.self.inside in (
+      (landing g c).0,
+      subst (λ (w : Own). IsKept i.opening.value w i.kept)
+          (sym (landing g c).2.config.own) c.self.invariant.1,
+    )
 
 pub returns-then-push_credit-clause-gives : goal.returns-then-push_credit-clause-gives
 returns-then-push_credit-clause-gives g c = rw (← c.self.view_is) (landing g c).1
@@ -85,8 +99,10 @@ invariant_of-self-else-push_credit g c =
     let back = sym c.self.view_is in
     let at = sym c.in-Some.is ∙ c.links_at.ensures in
     let framed = c.is_workable.ensures.framed in
-    let comes = entering_by p c.self.invariant.0 framed c.args.node c.args.port c.in-Some.links at (subst (λ (q : PartState). ComesBy q c.args.node c.args.port) back c.requires.comes) in
-    let still = owes_still p c.self.invariant.0 framed c.args.node c.args.port c.in-Some.links at comes.0 comes.1 comes.2 c.args.vc c.from.result c.index_mut.result.now c.push_credit.new.end
+    let comes = entering_by p c.self.invariant.0 framed c.args.node c.args.port c.in-Some.links at
+    (subst (λ (q : PartState). ComesBy q c.args.node c.args.port) back c.requires.comes) in
+    let still = owes_still p c.self.invariant.0 framed c.args.node c.args.port c.in-Some.links at comes.0 comes.1
+    comes.2 c.args.vc c.from.result c.index_mut.result.now c.push_credit.new.end
     c.from.ensures c.index_mut.ensures.value c.if-push_credit.ensures in
     (subst IsPart (sym still.0) c.self.invariant.0, c.self.invariant.1)
 
@@ -97,7 +113,9 @@ returns-else-push_credit-clause-gives g c =
     let back = sym c.self.view_is in
     let at = sym c.in-Some.is ∙ c.links_at.ensures in
     let framed = c.is_workable.ensures.framed in
-    let comes = entering_by p c.self.invariant.0 framed c.args.node c.args.port c.in-Some.links at (subst (λ (q : PartState). ComesBy q c.args.node c.args.port) back c.requires.comes) in
-    let still = owes_still p c.self.invariant.0 framed c.args.node c.args.port c.in-Some.links at comes.0 comes.1 comes.2 c.args.vc c.from.result c.index_mut.result.now c.push_credit.new.end
+    let comes = entering_by p c.self.invariant.0 framed c.args.node c.args.port c.in-Some.links at
+    (subst (λ (q : PartState). ComesBy q c.args.node c.args.port) back c.requires.comes) in
+    let still = owes_still p c.self.invariant.0 framed c.args.node c.args.port c.in-Some.links at comes.0 comes.1
+    comes.2 c.args.vc c.from.result c.index_mut.result.now c.push_credit.new.end
     c.from.ensures c.index_mut.ensures.value c.if-push_credit.ensures in
     rw (← c.self.view_is) still.1

@@ -7,13 +7,16 @@ use Rattle.worm_split.proofs.PartLoops.{of_more, same_on}
 use Rattle.worm_split.proofs.part.Part.give_credits.Goals as goal
 
 pub give-requires-clause-node : goal.give-requires-clause-node
-give-requires-clause-node g c = subst (λ (ks : List ℕ). c.args.node < node_count ks) (sym c.loop-port.invariant.same.config.mesh) c.requires.node
+give-requires-clause-node g c = subst (λ (ks : List ℕ). c.args.node < node_count ks)
+    (sym c.loop-port.invariant.same.config.mesh) c.requires.node
 
 pub give-requires-clause-own : goal.give-requires-clause-own
-give-requires-clause-own g c = subst (λ (w : Own). owned_by w c.args.node ≡ true) (sym c.loop-port.invariant.same.config.own) c.requires.own
+give-requires-clause-own g c = subst (λ (w : Own). owned_by w c.args.node ≡ true)
+    (sym c.loop-port.invariant.same.config.own) c.requires.own
 
 pub loop-port-preserved : goal.loop-port-preserved
 loop-port-preserved g c = record {
-  given = of_more (GivesCredit c.args.node) c.loop-port.port c.args.self.now c.loop-port.self c.give.new.self c.loop-port.invariant.given c.give.ensures.gives;
+  given = of_more (GivesCredit c.args.node) c.loop-port.port c.args.self.now c.loop-port.self c.give.new.self
+      c.loop-port.invariant.given c.give.ensures.gives;
   same = same_on c.args.self.now c.loop-port.self c.give.new.self c.loop-port.invariant.same c.give.ensures.same;
 }

@@ -28,7 +28,8 @@ returns-clause-turn g c =
 
 pub returns-in_err-send_granted-clause-turn : goal.returns-in_err-send_granted-clause-turn
 returns-in_err-send_granted-clause-turn g c =
-    let p = err_from_is_err_and c.from_residual-in_err-send_granted.result c.from_residual-in_err-send_granted.ensures.1 in
+    let p = err_from_is_err_and c.from_residual-in_err-send_granted.result
+    c.from_residual-in_err-send_granted.ensures.1 in
     rw (p.1, p.2)
     (inr (
       c.ask_source.new.self,

@@ -17,9 +17,11 @@ loop-node-preserved g c =
     let new = c.own_turn.new.self in
     let entries = c.args.entries.now in
     let same = c.loop-node.invariant.same in
-    let turned = subst (λ (w : Own). EachOf (NodeTurn entries) (filter (owned_by w) (c.loop-node.node ∷ [])) b None new) same.config.own c.in_ok-own_turn.ensures.turn in
+    let turned = subst (λ (w : Own). EachOf (NodeTurn entries) (filter (owned_by w) (c.loop-node.node ∷ [])) b None new)
+    same.config.own c.in_ok-own_turn.ensures.turn in
     record {
-      turned = of_next (owned a.net) (NodeTurn entries) c.loop-node.node a b new None c.loop-node.invariant.turned turned;
+      turned = of_next (owned a.net) (NodeTurn entries) c.loop-node.node a b new None c.loop-node.invariant.turned
+          turned;
       same = same_on a b new same c.in_ok-own_turn.ensures.same;
     }
 
@@ -32,8 +34,11 @@ returns-in_err-own_turn-clause-turn g c =
     let entries = c.args.entries.now in
     let same = c.loop-node.invariant.same in
     let fault = c.in_err-own_turn.field-0.0 in
-    let turned = subst (λ (w : Own). EachOf (NodeTurn entries) (filter (owned_by w) (c.loop-node.node ∷ [])) b (Some fault) new) same.config.own c.in_err-own_turn.ensures.turn in
-    let count : c.nodes-node-end.result ≡ node_count a.net.mesh = c.nodes-node-end.ensures.value ∙ (λ t. node_count (c.self.view_is t).net.mesh) in
+    let turned = subst (λ (w : Own). EachOf (NodeTurn entries) (filter (owned_by w) (c.loop-node.node ∷ [])) b
+    (Some fault) new) same.config.own c.in_err-own_turn.ensures.turn in
+    let count : c.nodes-node-end.result ≡ node_count a.net.mesh =
+    c.nodes-node-end.ensures.value ∙ (λ t. node_count (c.self.view_is t).net.mesh) in
     let below : c.loop-node.node < node_count a.net.mesh = omega (arith, count) in
-    let done = of_ending (owned a.net) (NodeTurn entries) c.loop-node.node a b new (node_count a.net.mesh) fault below c.loop-node.invariant.turned turned in
+    let done = of_ending (owned a.net) (NodeTurn entries) c.loop-node.node a b new
+    (node_count a.net.mesh) fault below c.loop-node.invariant.turned turned in
     rw (p.1, p.2) done

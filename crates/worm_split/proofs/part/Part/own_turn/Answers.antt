@@ -11,5 +11,7 @@ returns-clause-turn g c =
     let old = c.args.self.now in
     let mine : owned old.net c.args.node ≡ true = sym c.if-not-owns.ensures in
     let one : filter (owned old.net) (c.args.node ∷ []) ≡ c.args.node ∷ [] = rw mine refl in
-    subst (λ (ns : List ℕ). EachOf (NodeTurn c.args.entries.now) ns old (result_err c.node_turn.result) c.node_turn.new.self) (sym one)
-    (of_one (NodeTurn c.args.entries.now) c.args.node old c.node_turn.new.self (result_err c.node_turn.result) c.node_turn.ensures.turn)
+    subst (λ (ns : List ℕ). EachOf (NodeTurn c.args.entries.now) ns old
+    (result_err c.node_turn.result) c.node_turn.new.self) (sym one)
+    (of_one (NodeTurn c.args.entries.now) c.args.node old c.node_turn.new.self
+    (result_err c.node_turn.result) c.node_turn.ensures.turn)

@@ -14,28 +14,36 @@ use Rattle.worm_split.proofs.part.Part.pull_credit.Goals as goal
 pub has_credits-requires-clause-node : goal.has_credits-requires-clause-node
 has_credits-requires-clause-node g c =
     let i = c.self.inside in
-    beyond_in (part_state i.region i.ends.items i.opening.value i.lines.value.items) c.self.invariant.0 c.is_workable.ensures.framed c.args.node c.args.port c.in-Some.links (sym c.in-Some.is ∙ c.links_at.ensures)
+    beyond_in (part_state i.region i.ends.items i.opening.value i.lines.value.items) c.self.invariant.0
+    c.is_workable.ensures.framed c.args.node c.args.port c.in-Some.links (sym c.in-Some.is ∙ c.links_at.ensures)
 
 pub has_credits-requires-clause-linked : goal.has_credits-requires-clause-linked
 has_credits-requires-clause-linked g c =
     let i = c.self.inside in
-    back_is_some (part_state i.region i.ends.items i.opening.value i.lines.value.items) c.self.invariant.0 c.is_workable.ensures.framed c.args.node c.args.port c.in-Some.links (sym c.in-Some.is ∙ c.links_at.ensures)
+    back_is_some (part_state i.region i.ends.items i.opening.value i.lines.value.items) c.self.invariant.0
+    c.is_workable.ensures.framed c.args.node c.args.port c.in-Some.links (sym c.in-Some.is ∙ c.links_at.ensures)
 
 pub index_mut-requires : goal.index_mut-requires
 index_mut-requires g c =
     let i = c.self.inside in
     let bound : c.in-Some.links.out < length i.ends.items
-    = out_end_bound (part_state i.region i.ends.items i.opening.value i.lines.value.items) c.self.invariant.0 c.is_workable.ensures.framed c.args.node c.args.port c.in-Some.links (sym c.in-Some.is ∙ c.links_at.ensures) in
+    = out_end_bound (part_state i.region i.ends.items i.opening.value i.lines.value.items) c.self.invariant.0
+    c.is_workable.ensures.framed c.args.node c.args.port c.in-Some.links (sym c.in-Some.is ∙ c.links_at.ensures) in
     omega (arith, bound, c.from.ensures)
 
 in_hand : (g : given.Over) (c : goal.After-arrive_credit-arg-1 g)
-    → let i = c.self.inside in CreditInHand (part_state i.region i.ends.items i.opening.value i.lines.value.items) c.args.node c.args.port c.in-Some-pop_credit.vc c.in-Some.links c.pop_credit.new.end
+    → let i = c.self.inside in CreditInHand
+    (part_state i.region i.ends.items i.opening.value i.lines.value.items) c.args.node c.args.port
+    c.in-Some-pop_credit.vc c.in-Some.links c.pop_credit.new.end
 in_hand g c =
     let i = c.self.inside in
     let p : PartState = part_state i.region i.ends.items i.opening.value i.lines.value.items in
-    let at : ◌≡◌ {A = Option PortLinks} (Some c.in-Some.links) (port_links p.net.mesh c.args.node c.args.port) = sym c.in-Some.is ∙ c.links_at.ensures in
+    let at : ◌≡◌ {A = Option PortLinks} (Some c.in-Some.links) (port_links p.net.mesh c.args.node c.args.port) =
+    sym c.in-Some.is ∙ c.links_at.ensures in
     let framed = c.is_workable.ensures.framed in
-    let hand = credit_taken p c.self.invariant.0 framed c.args.node c.args.port c.in-Some.links at c.in-Some-pop_credit.vc c.from.result c.index_mut.result.now c.pop_credit.new.end c.from.ensures c.index_mut.ensures.value
+    let hand = credit_taken p c.self.invariant.0 framed c.args.node c.args.port c.in-Some.links at
+    c.in-Some-pop_credit.vc c.from.result c.index_mut.result.now c.pop_credit.new.end c.from.ensures
+    c.index_mut.ensures.value
     (c.has_credits.ensures.0 c.if-has_credits.false) c.in-Some-pop_credit.ensures.some in
     hand
 
@@ -62,11 +70,15 @@ put : (g : given.Over) (c : goal.After-arrive_credit g)
 put g c =
     let i = c.self.inside in
     let p : PartState = part_state i.region i.ends.items i.opening.value i.lines.value.items in
-    let at : ◌≡◌ {A = Option PortLinks} (Some c.in-Some.links) (port_links p.net.mesh c.args.node c.args.port) = sym c.in-Some.is ∙ c.links_at.ensures in
+    let at : ◌≡◌ {A = Option PortLinks} (Some c.in-Some.links) (port_links p.net.mesh c.args.node c.args.port) =
+    sym c.in-Some.is ∙ c.links_at.ensures in
     let framed = c.is_workable.ensures.framed in
-    let hand = credit_taken p c.self.invariant.0 framed c.args.node c.args.port c.in-Some.links at c.in-Some-pop_credit.vc c.from.result c.index_mut.result.now c.pop_credit.new.end c.from.ensures c.index_mut.ensures.value
+    let hand = credit_taken p c.self.invariant.0 framed c.args.node c.args.port c.in-Some.links at
+    c.in-Some-pop_credit.vc c.from.result c.index_mut.result.now c.pop_credit.new.end c.from.ensures
+    c.index_mut.ensures.value
     (c.has_credits.ensures.0 c.if-has_credits.false) c.in-Some-pop_credit.ensures.some in
-    credit_put p c.self.invariant.0 framed c.args.node c.args.port c.in-Some.links at c.in-Some-pop_credit.vc c.from.result c.pop_credit.new.end c.arrive_credit.new.self c.from.ensures hand c.arrive_credit.ensures
+    credit_put p c.self.invariant.0 framed c.args.node c.args.port c.in-Some.links at c.in-Some-pop_credit.vc
+    c.from.result c.pop_credit.new.end c.arrive_credit.new.self c.from.ensures hand c.arrive_credit.ensures
 
 pub invariant_of-self-2 : goal.invariant_of-self-2
 invariant_of-self-2 g c =

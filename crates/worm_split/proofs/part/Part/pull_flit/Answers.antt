@@ -14,23 +14,29 @@ use Rattle.worm_split.proofs.part.Part.pull_flit.Goals as goal
 pub has_flits-requires : goal.has_flits-requires
 has_flits-requires g c =
     let i = c.self.inside in
-    back_is_some (part_state i.region i.ends.items i.opening.value i.lines.value.items) c.self.invariant.0 c.is_workable.ensures.framed c.args.node c.args.port c.in-Some.links (sym c.in-Some.is ∙ c.links_at.ensures)
+    back_is_some (part_state i.region i.ends.items i.opening.value i.lines.value.items) c.self.invariant.0
+    c.is_workable.ensures.framed c.args.node c.args.port c.in-Some.links (sym c.in-Some.is ∙ c.links_at.ensures)
 
 pub index_mut-requires : goal.index_mut-requires
 index_mut-requires g c =
     let i = c.self.inside in
     let bound : c.in-Some.links.into < length i.ends.items
-    = into_end_bound (part_state i.region i.ends.items i.opening.value i.lines.value.items) c.self.invariant.0 c.is_workable.ensures.framed c.args.node c.args.port c.in-Some.links (sym c.in-Some.is ∙ c.links_at.ensures) in
+    = into_end_bound (part_state i.region i.ends.items i.opening.value i.lines.value.items) c.self.invariant.0
+    c.is_workable.ensures.framed c.args.node c.args.port c.in-Some.links (sym c.in-Some.is ∙ c.links_at.ensures) in
     omega (arith, bound, c.from.ensures)
 
 in_hand : (g : given.Over) (c : goal.After-arrive-arg-1 g)
-    → let i = c.self.inside in FlitInHand (part_state i.region i.ends.items i.opening.value i.lines.value.items) c.args.node c.args.port c.in-Some-pop_flit.flit c.in-Some.links c.pop_flit.new.end
+    → let i = c.self.inside in FlitInHand
+    (part_state i.region i.ends.items i.opening.value i.lines.value.items) c.args.node c.args.port
+    c.in-Some-pop_flit.flit c.in-Some.links c.pop_flit.new.end
 in_hand g c =
     let i = c.self.inside in
     let p : PartState = part_state i.region i.ends.items i.opening.value i.lines.value.items in
-    let at : ◌≡◌ {A = Option PortLinks} (Some c.in-Some.links) (port_links p.net.mesh c.args.node c.args.port) = sym c.in-Some.is ∙ c.links_at.ensures in
+    let at : ◌≡◌ {A = Option PortLinks} (Some c.in-Some.links) (port_links p.net.mesh c.args.node c.args.port) =
+    sym c.in-Some.is ∙ c.links_at.ensures in
     let framed = c.is_workable.ensures.framed in
-    let hand = flit_off p c.self.invariant.0 framed c.args.node c.args.port c.in-Some.links at c.in-Some-pop_flit.flit c.from.result c.index_mut.result.now c.pop_flit.new.end c.from.ensures c.index_mut.ensures.value
+    let hand = flit_off p c.self.invariant.0 framed c.args.node c.args.port c.in-Some.links at c.in-Some-pop_flit.flit
+    c.from.result c.index_mut.result.now c.pop_flit.new.end c.from.ensures c.index_mut.ensures.value
     (c.has_flits.ensures.0 c.if-has_flits.false) c.in-Some-pop_flit.ensures.some in
     hand
 
@@ -57,11 +63,14 @@ put : (g : given.Over) (c : goal.After-arrive g)
 put g c =
     let i = c.self.inside in
     let p : PartState = part_state i.region i.ends.items i.opening.value i.lines.value.items in
-    let at : ◌≡◌ {A = Option PortLinks} (Some c.in-Some.links) (port_links p.net.mesh c.args.node c.args.port) = sym c.in-Some.is ∙ c.links_at.ensures in
+    let at : ◌≡◌ {A = Option PortLinks} (Some c.in-Some.links) (port_links p.net.mesh c.args.node c.args.port) =
+    sym c.in-Some.is ∙ c.links_at.ensures in
     let framed = c.is_workable.ensures.framed in
-    let hand = flit_off p c.self.invariant.0 framed c.args.node c.args.port c.in-Some.links at c.in-Some-pop_flit.flit c.from.result c.index_mut.result.now c.pop_flit.new.end c.from.ensures c.index_mut.ensures.value
+    let hand = flit_off p c.self.invariant.0 framed c.args.node c.args.port c.in-Some.links at c.in-Some-pop_flit.flit
+    c.from.result c.index_mut.result.now c.pop_flit.new.end c.from.ensures c.index_mut.ensures.value
     (c.has_flits.ensures.0 c.if-has_flits.false) c.in-Some-pop_flit.ensures.some in
-    flit_put p c.self.invariant.0 framed c.args.node c.args.port c.in-Some.links at c.in-Some-pop_flit.flit c.from.result c.pop_flit.new.end c.arrive.new.self c.from.ensures hand c.arrive.ensures
+    flit_put p c.self.invariant.0 framed c.args.node c.args.port c.in-Some.links at c.in-Some-pop_flit.flit
+    c.from.result c.pop_flit.new.end c.arrive.new.self c.from.ensures hand c.arrive.ensures
 
 pub invariant_of-self-2 : goal.invariant_of-self-2
 invariant_of-self-2 g c =

@@ -20,10 +20,14 @@ push_flit-requires g c =
     let at = sym c.in-Some.is ∙ c.links_at.ensures in
     let framed = c.is_workable.ensures.framed in
     let leaves = subst (λ (q : PartState). LeavesBy q c.args.node c.args.out) back c.requires.leaves in
-    let there = subst (λ (q : PartState). IsThere (shape q.net) (Send c.args.node c.args.port c.args.vc)) back c.requires.there in
-    let ready = subst (λ (q : PartState). leaving (router_at q.net c.args.node) c.args.port c.args.vc ≡ Some (c.args.out, c.args.flit)) back c.requires.ready in
-    let now = out_looked_up p c.self.invariant.0 framed c.args.node c.args.out c.in-Some.links at c.from.result c.index_mut.result.now c.from.ensures c.index_mut.ensures.value in
-    may_go p c.self.invariant.0 framed c.args.node c.args.out c.in-Some.links at leaves.0 leaves.1 leaves.2 c.args.port c.args.vc c.args.flit there ready c.index_mut.result.now now
+    let there = subst (λ (q : PartState). IsThere (shape q.net) (Send c.args.node c.args.port c.args.vc)) back
+    c.requires.there in
+    let ready = subst (λ (q : PartState). leaving (router_at q.net c.args.node) c.args.port c.args.vc
+    ≡ Some (c.args.out, c.args.flit)) back c.requires.ready in
+    let now = out_looked_up p c.self.invariant.0 framed c.args.node c.args.out c.in-Some.links at c.from.result
+    c.index_mut.result.now c.from.ensures c.index_mut.ensures.value in
+    may_go p c.self.invariant.0 framed c.args.node c.args.out c.in-Some.links at leaves.0 leaves.1 leaves.2 c.args.port
+    c.args.vc c.args.flit there ready c.index_mut.result.now now
 
 pub let_out-requires-clause-crosses : goal.let_out-requires-clause-crosses
 let_out-requires-clause-crosses g c =
@@ -31,7 +35,8 @@ let_out-requires-clause-crosses g c =
     let p : PartState = part_state i.region i.ends.items i.opening.value i.lines.value.items in
     let at = sym c.in-Some.is ∙ c.links_at.ensures in
     let leaves = subst (λ (q : PartState). LeavesBy q c.args.node c.args.out) (sym c.self.view_is) c.requires.leaves in
-    ends_elsewhere p c.self.invariant.0 c.is_workable.ensures.framed c.args.node c.args.out c.in-Some.links at leaves.0 leaves.1 leaves.2
+    ends_elsewhere p c.self.invariant.0 c.is_workable.ensures.framed c.args.node c.args.out c.in-Some.links at leaves.0
+    leaves.1 leaves.2
 
 landing : (g : given.Over) (c : goal.After-let_out g)
     → let i = c.self.inside in
@@ -45,16 +50,24 @@ landing g c =
     let at = sym c.in-Some.is ∙ c.links_at.ensures in
     let framed = c.is_workable.ensures.framed in
     let leaves = subst (λ (q : PartState). LeavesBy q c.args.node c.args.out) back c.requires.leaves in
-    let there = subst (λ (q : PartState). IsThere (shape q.net) (Send c.args.node c.args.port c.args.vc)) back c.requires.there in
-    let ready = subst (λ (q : PartState). leaving (router_at q.net c.args.node) c.args.port c.args.vc ≡ Some (c.args.out, c.args.flit)) back c.requires.ready in
-    let now = out_looked_up p c.self.invariant.0 framed c.args.node c.args.out c.in-Some.links at c.from.result c.index_mut.result.now c.from.ensures c.index_mut.ensures.value in
-    went p c.self.invariant.0 framed c.args.node c.args.out c.in-Some.links at leaves.0 leaves.1 leaves.2 c.args.port c.args.vc c.args.flit there ready
-    c.from.result c.index_mut.result.now c.push_flit.new.end c.let_out.new.self c.from.ensures now c.if-push_flit.ensures c.let_out.ensures
+    let there = subst (λ (q : PartState). IsThere (shape q.net) (Send c.args.node c.args.port c.args.vc)) back
+    c.requires.there in
+    let ready = subst (λ (q : PartState). leaving (router_at q.net c.args.node) c.args.port c.args.vc
+    ≡ Some (c.args.out, c.args.flit)) back c.requires.ready in
+    let now = out_looked_up p c.self.invariant.0 framed c.args.node c.args.out c.in-Some.links at c.from.result
+    c.index_mut.result.now c.from.ensures c.index_mut.ensures.value in
+    went p c.self.invariant.0 framed c.args.node c.args.out c.in-Some.links at leaves.0 leaves.1 leaves.2 c.args.port
+    c.args.vc c.args.flit there ready
+    c.from.result c.index_mut.result.now c.push_flit.new.end c.let_out.new.self c.from.ensures now
+    c.if-push_flit.ensures c.let_out.ensures
 
 pub invariant_of-self : goal.invariant_of-self
 invariant_of-self g c =
-    let i = c.self.inside in
-    ((landing g c).0, subst (λ (w : Own). IsKept i.opening.value w i.kept) (sym (landing g c).2.config.own) c.self.invariant.1)
+    let i = c.self.inside in (
+      (landing g c).0,
+      subst (λ (w : Own). IsKept i.opening.value w i.kept)
+          (sym (landing g c).2.config.own) c.self.invariant.1,
+    )
 
 pub returns-then-push_flit-clause-sends : goal.returns-then-push_flit-clause-sends
 returns-then-push_flit-clause-sends g c = rw (← c.self.view_is) (landing g c).1
@@ -67,10 +80,14 @@ invariant_of-self-else-push_flit g c =
     let at = sym c.in-Some.is ∙ c.links_at.ensures in
     let framed = c.is_workable.ensures.framed in
     let leaves = subst (λ (q : PartState). LeavesBy q c.args.node c.args.out) back c.requires.leaves in
-    let there = subst (λ (q : PartState). IsThere (shape q.net) (Send c.args.node c.args.port c.args.vc)) back c.requires.there in
-    let ready = subst (λ (q : PartState). leaving (router_at q.net c.args.node) c.args.port c.args.vc ≡ Some (c.args.out, c.args.flit)) back c.requires.ready in
-    let stays = stayed p c.self.invariant.0 framed c.args.node c.args.out c.in-Some.links at leaves.0 leaves.1 leaves.2 c.args.port c.args.vc c.args.flit there ready
-    c.from.result c.index_mut.result.now c.push_flit.new.end c.from.ensures c.index_mut.ensures.value c.if-push_flit.ensures in
+    let there = subst (λ (q : PartState). IsThere (shape q.net) (Send c.args.node c.args.port c.args.vc)) back
+    c.requires.there in
+    let ready = subst (λ (q : PartState). leaving (router_at q.net c.args.node) c.args.port c.args.vc
+    ≡ Some (c.args.out, c.args.flit)) back c.requires.ready in
+    let stays = stayed p c.self.invariant.0 framed c.args.node c.args.out c.in-Some.links at leaves.0 leaves.1 leaves.2
+    c.args.port c.args.vc c.args.flit there ready
+    c.from.result c.index_mut.result.now c.push_flit.new.end c.from.ensures c.index_mut.ensures.value
+    c.if-push_flit.ensures in
     (subst IsPart (sym stays.0) c.self.invariant.0, c.self.invariant.1)
 
 pub returns-else-push_flit-clause-sends : goal.returns-else-push_flit-clause-sends
@@ -81,8 +98,12 @@ returns-else-push_flit-clause-sends g c =
     let at = sym c.in-Some.is ∙ c.links_at.ensures in
     let framed = c.is_workable.ensures.framed in
     let leaves = subst (λ (q : PartState). LeavesBy q c.args.node c.args.out) back c.requires.leaves in
-    let there = subst (λ (q : PartState). IsThere (shape q.net) (Send c.args.node c.args.port c.args.vc)) back c.requires.there in
-    let ready = subst (λ (q : PartState). leaving (router_at q.net c.args.node) c.args.port c.args.vc ≡ Some (c.args.out, c.args.flit)) back c.requires.ready in
-    let stays = stayed p c.self.invariant.0 framed c.args.node c.args.out c.in-Some.links at leaves.0 leaves.1 leaves.2 c.args.port c.args.vc c.args.flit there ready
-    c.from.result c.index_mut.result.now c.push_flit.new.end c.from.ensures c.index_mut.ensures.value c.if-push_flit.ensures in
+    let there = subst (λ (q : PartState). IsThere (shape q.net) (Send c.args.node c.args.port c.args.vc)) back
+    c.requires.there in
+    let ready = subst (λ (q : PartState). leaving (router_at q.net c.args.node) c.args.port c.args.vc
+    ≡ Some (c.args.out, c.args.flit)) back c.requires.ready in
+    let stays = stayed p c.self.invariant.0 framed c.args.node c.args.out c.in-Some.links at leaves.0 leaves.1 leaves.2
+    c.args.port c.args.vc c.args.flit there ready
+    c.from.result c.index_mut.result.now c.push_flit.new.end c.from.ensures c.index_mut.ensures.value
+    c.if-push_flit.ensures in
     rw (← c.self.view_is) stays.1

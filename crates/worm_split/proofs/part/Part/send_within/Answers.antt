@@ -15,14 +15,20 @@ send_there-requires-clause-within c =
     let i = c.self.inside in
     let p : PartState = part_state i.region i.ends.items i.opening.value i.lines.value.items in
     let here : owned p.net c.args.node ≡ true = (λ t. owned (c.self.view_is t).net c.args.node) ∙ c.requires.own in
-    let stays = subst (λ (q : PartState). StaysWithin q c.args.node (leaving (router_at q.net c.args.node) c.args.port c.args.vc)) (sym c.self.view_is) c.requires.stays in
-    sends_within p c.self.invariant.0 c.args.node here (leaving (router_at p.net c.args.node) c.args.port c.args.vc) stays
+    let stays = subst (λ (q : PartState). StaysWithin q c.args.node
+    (leaving (router_at q.net c.args.node) c.args.port c.args.vc)) (sym c.self.view_is) c.requires.stays in
+    sends_within p c.self.invariant.0 c.args.node here
+    (leaving (router_at p.net c.args.node) c.args.port c.args.vc) stays
 
 pub invariant_of-self : goal.invariant_of-self
 invariant_of-self c =
     let i = c.self.inside in
     let p : PartState = part_state i.region i.ends.items i.opening.value i.lines.value.items in
     let here : owned p.net c.args.node ≡ true = (λ t. owned (c.self.view_is t).net c.args.node) ∙ c.requires.own in
-    let stays = subst (λ (q : PartState). StaysWithin q c.args.node (leaving (router_at q.net c.args.node) c.args.port c.args.vc)) (sym c.self.view_is) c.requires.stays in
-    let made = sent_within p c.self.invariant.0 c.args.node here c.args.port c.args.vc c.send_there.new.self c.is_workable.ensures.framed c.send_there.result stays c.send_there.ensures in
-    (part_with_net p c.self.invariant.0 c.send_there.new.self made.0 made.1, subst (λ (w : Own). IsKept i.opening.value w i.kept) (sym made.1.own) c.self.invariant.1)
+    let stays = subst (λ (q : PartState). StaysWithin q c.args.node
+    (leaving (router_at q.net c.args.node) c.args.port c.args.vc)) (sym c.self.view_is) c.requires.stays in
+    let made = sent_within p c.self.invariant.0 c.args.node here c.args.port c.args.vc c.send_there.new.self
+    c.is_workable.ensures.framed c.send_there.result stays c.send_there.ensures in (
+      part_with_net p c.self.invariant.0 c.send_there.new.self made.0 made.1,
+      subst (λ (w : Own). IsKept i.opening.value w i.kept) (sym made.1.own) c.self.invariant.1,
+    )

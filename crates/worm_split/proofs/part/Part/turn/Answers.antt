@@ -29,15 +29,18 @@ module _ (g : given.Over) (c : goal.After-node_turns g) where
 
 pub returns-clause-sources : goal.returns-clause-sources
 returns-clause-sources g c =
-    let turned = subst (λ (es : List Entry). Turn es (old g c) (fault g c) c.node_turns.new.self) c.due-entries.ensures c.node_turns.ensures.turn in
+    let turned = subst (λ (es : List Entry). Turn es (old g c) (fault g c) c.node_turns.new.self) c.due-entries.ensures
+    c.node_turns.ensures.turn in
     turn-sources (old g c) (entries g c) (fault g c) c.node_turns.new.self (framed g c) (words g c) turned
 
 pub returns-clause-sinks : goal.returns-clause-sinks
 returns-clause-sinks g c =
-    let turned = subst (λ (es : List Entry). Turn es (old g c) (fault g c) c.node_turns.new.self) c.due-entries.ensures c.node_turns.ensures.turn in
+    let turned = subst (λ (es : List Entry). Turn es (old g c) (fault g c) c.node_turns.new.self) c.due-entries.ensures
+    c.node_turns.ensures.turn in
     turn-sinks (old g c) (entries g c) (fault g c) c.node_turns.new.self (framed g c) (words g c) turned
 
 pub returns-clause-refused : goal.returns-clause-refused
 returns-clause-refused g c =
-    let turned = subst (λ (es : List Entry). Turn es (old g c) (fault g c) c.node_turns.new.self) c.due-entries.ensures c.node_turns.ensures.turn in
+    let turned = subst (λ (es : List Entry). Turn es (old g c) (fault g c) c.node_turns.new.self) c.due-entries.ensures
+    c.node_turns.ensures.turn in
     turn-refused (old g c) (entries g c) (fault g c) c.node_turns.new.self (framed g c) (words g c) turned

@@ -7,19 +7,35 @@ loop-port-init c = asked_start c.args.self.now c.args.ready.now c.keys-left.resu
 
 pub ask-requires-clause-none : goal.ask-requires-clause-none
 ask-requires-clause-none c =
-    not_asked c.args.self.now c.args.ready.now c.keys-left.result c.loop-port.left c.pop_port.new.self c.in-Some.port c.loop-port.asked c.loop-port.invariant c.in-Some.ensures
+    not_asked c.args.self.now c.args.ready.now c.keys-left.result c.loop-port.left c.pop_port.new.self c.in-Some.port
+    c.loop-port.asked c.loop-port.invariant c.in-Some.ensures
 
 pub loop-port-preserved-then-port-ports : goal.loop-port-preserved-then-port-ports
 loop-port-preserved-then-port-ports c =
-    let s : SwAllocState = record { ports = c.self.inside.ports; channels = c.self.inside.channels; inputs = c.self.inside.inputs; outputs = c.self.inside.outputs } in
-    let b : AskedBelow s c.args.ready.now c.keys-left.result c.loop-port.left c.loop-port.asked = rw (← c.self.view_is) at c.loop-port.invariant in
+    let s : SwAllocState = record {
+      ports = c.self.inside.ports;
+      channels = c.self.inside.channels;
+      inputs = c.self.inside.inputs;
+      outputs = c.self.inside.outputs;
+    } in
+    let b : AskedBelow s c.args.ready.now c.keys-left.result c.loop-port.left c.loop-port.asked =
+    rw (← c.self.view_is) at c.loop-port.invariant in
     rw (← c.self.view_is)
-    (asked_more s c.args.ready.now c.keys-left.result c.loop-port.left c.pop_port.new.self c.in-Some.port c.loop-port.asked c.ask.new.asked
-    c.self.invariant c.keys-left.ensures b c.in-Some.ensures c.if-port-ports.true (rw (← c.self.view_is) at c.ask.ensures))
+    (asked_more s c.args.ready.now c.keys-left.result c.loop-port.left c.pop_port.new.self c.in-Some.port
+    c.loop-port.asked c.ask.new.asked
+    c.self.invariant c.keys-left.ensures b c.in-Some.ensures c.if-port-ports.true
+    (rw (← c.self.view_is) at c.ask.ensures))
 
 pub returns-clause-named : goal.returns-clause-named
 returns-clause-named c =
-    let s : SwAllocState = record { ports = c.self.inside.ports; channels = c.self.inside.channels; inputs = c.self.inside.inputs; outputs = c.self.inside.outputs } in
-    let b : AskedBelow s c.args.ready.now c.keys-left.result c.loop-port.left c.loop-port.asked = rw (← c.self.view_is) at c.loop-port.invariant in
+    let s : SwAllocState = record {
+      ports = c.self.inside.ports;
+      channels = c.self.inside.channels;
+      inputs = c.self.inside.inputs;
+      outputs = c.self.inside.outputs;
+    } in
+    let b : AskedBelow s c.args.ready.now c.keys-left.result c.loop-port.left c.loop-port.asked =
+    rw (← c.self.view_is) at c.loop-port.invariant in
     rw (← c.self.view_is)
-    (asked_all s c.args.ready.now c.keys-left.result c.loop-port.left c.loop-port.asked c.self.invariant c.keys-left.ensures b c.in_default.ensures.0)
+    (asked_all s c.args.ready.now c.keys-left.result c.loop-port.left c.loop-port.asked c.self.invariant
+    c.keys-left.ensures b c.in_default.ensures.0)

@@ -9,37 +9,66 @@ use Rattle.worm_swalloc.proofs.sw_alloc.SwAlloc.grant.Goals as goal
 
 -- where no channel is ready
 nothing_ready : (c : goal.After-new) (p v : ℕ) → p < 7 → v < 8 → cell c.args.ready.now p v None ≡ None
-nothing_ready c p v lp lv = none_where_not_some (cell c.args.ready.now p v None) (sym (c.keys.ensures p v lp lv) ∙ has-empty c.keys.result p v (sym c.is_empty.ensures ∙ c.if-is_empty.true))
+nothing_ready c p v lp lv = none_where_not_some (cell c.args.ready.now p v None)
+    (sym (c.keys.ensures p v lp lv) ∙ has-empty c.keys.result p v (sym c.is_empty.ensures ∙ c.if-is_empty.true))
 
 pub returns-then-is_empty-clause-grants : goal.returns-then-is_empty-clause-grants
 returns-then-is_empty-clause-grants c =
-    let s : SwAllocState = record { ports = c.self.inside.ports; channels = c.self.inside.channels; inputs = c.self.inside.inputs; outputs = c.self.inside.outputs } in
+    let s : SwAllocState = record {
+      ports = c.self.inside.ports;
+      channels = c.self.inside.channels;
+      inputs = c.self.inside.inputs;
+      outputs = c.self.inside.outputs;
+    } in
     rw (← c.self.view_is) (c.new.ensures ∙ sym (sw_grants_none s c.args.ready.now c.self.invariant (nothing_ready c)))
 
 pub returns-then-is_empty-clause-after : goal.returns-then-is_empty-clause-after
 returns-then-is_empty-clause-after c =
-    let s : SwAllocState = record { ports = c.self.inside.ports; channels = c.self.inside.channels; inputs = c.self.inside.inputs; outputs = c.self.inside.outputs } in
+    let s : SwAllocState = record {
+      ports = c.self.inside.ports;
+      channels = c.self.inside.channels;
+      inputs = c.self.inside.inputs;
+      outputs = c.self.inside.outputs;
+    } in
     let few = c.self.invariant.few_ports in
-    rw (← c.self.view_is) (sym (sw_after_none s c.args.ready.now c.self.invariant (omega arith) (omega arith) (nothing_ready c)))
+    rw (← c.self.view_is) (sym (sw_after_none s c.args.ready.now c.self.invariant (omega arith) (omega arith)
+    (nothing_ready c)))
 
 pub returns-then-is_empty-clause-matching : goal.returns-then-is_empty-clause-matching
 returns-then-is_empty-clause-matching c =
-    let s : SwAllocState = record { ports = c.self.inside.ports; channels = c.self.inside.channels; inputs = c.self.inside.inputs; outputs = c.self.inside.outputs } in
-    rw (← c.self.view_is) (subst (IsSwitchMatching s c.args.ready.now) (sw_grants_none s c.args.ready.now c.self.invariant (nothing_ready c) ∙ sym c.new.ensures) (matching s c.args.ready.now c.self.invariant))
+    let s : SwAllocState = record {
+      ports = c.self.inside.ports;
+      channels = c.self.inside.channels;
+      inputs = c.self.inside.inputs;
+      outputs = c.self.inside.outputs;
+    } in
+    rw (← c.self.view_is) (subst (IsSwitchMatching s c.args.ready.now)
+    (sw_grants_none s c.args.ready.now c.self.invariant (nothing_ready c) ∙ sym c.new.ensures)
+    (matching s c.args.ready.now c.self.invariant))
 
 pub grant_named-requires : goal.grant_named-requires
-grant_named-requires c = named_within c.args.self.now c.args.ready.now c.gather.new.asked c.gather.ensures.ready c.gather.ensures.named
+grant_named-requires c = named_within c.args.self.now c.args.ready.now c.gather.new.asked c.gather.ensures.ready
+    c.gather.ensures.named
 
 pub returns-clause-after : goal.returns-clause-after
 returns-clause-after c =
-    let s : SwAllocState = record { ports = c.self.inside.ports; channels = c.self.inside.channels; inputs = c.self.inside.inputs; outputs = c.self.inside.outputs } in
+    let s : SwAllocState = record {
+      ports = c.self.inside.ports;
+      channels = c.self.inside.channels;
+      inputs = c.self.inside.inputs;
+      outputs = c.self.inside.outputs;
+    } in
     let few = c.self.invariant.few_ports in
     let is : c.grant_named.result ≡ sw_grants c.args.self.now c.args.ready.now =
-    c.grant_named.ensures.grants ∙ ap (λ r. with_front c.args.self.now.ports (granted c.args.self.now r c.args.self.now.ports) (replicate 7 None)) c.gather.ensures.named in
-    pass_is c.args.self.now c.grant_named.new.self c.args.ready.now c.gather.new.asked c.grant_named.result (rw (← c.self.view_is) (omega arith)) c.gather.ensures.named is c.grant_named.ensures.after
+    c.grant_named.ensures.grants ∙ ap (λ r. with_front c.args.self.now.ports
+    (granted c.args.self.now r c.args.self.now.ports) (replicate 7 None)) c.gather.ensures.named in
+    pass_is c.args.self.now c.grant_named.new.self c.args.ready.now c.gather.new.asked c.grant_named.result
+    (rw (← c.self.view_is) (omega arith)) c.gather.ensures.named is c.grant_named.ensures.after
 
 pub returns-clause-matching : goal.returns-clause-matching
 returns-clause-matching c =
     let is : c.grant_named.result ≡ sw_grants c.args.self.now c.args.ready.now =
-    c.grant_named.ensures.grants ∙ ap (λ r. with_front c.args.self.now.ports (granted c.args.self.now r c.args.self.now.ports) (replicate 7 None)) c.gather.ensures.named in
-    subst (IsSwitchMatching c.args.self.now c.args.ready.now) (sym is) (matching c.args.self.now c.args.ready.now c.gather.ensures.ready)
+    c.grant_named.ensures.grants ∙ ap (λ r. with_front c.args.self.now.ports
+    (granted c.args.self.now r c.args.self.now.ports) (replicate 7 None)) c.gather.ensures.named in
+    subst (IsSwitchMatching c.args.self.now c.args.ready.now) (sym is)
+    (matching c.args.self.now c.args.ready.now c.gather.ensures.ready)

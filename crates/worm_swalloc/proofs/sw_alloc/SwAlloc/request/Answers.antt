@@ -5,19 +5,33 @@ use Rattle.worm_swalloc.proofs.sw_alloc.SwAlloc.request.Goals as goal
 
 pub returns-in_err-vc : goal.returns-in_err-vc
 returns-in_err-vc c =
-    let s : SwAllocState = record { ports = c.self.inside.ports; channels = c.self.inside.channels; inputs = c.self.inside.inputs; outputs = c.self.inside.outputs } in
+    let s : SwAllocState = record {
+      ports = c.self.inside.ports;
+      channels = c.self.inside.channels;
+      inputs = c.self.inside.inputs;
+      outputs = c.self.inside.outputs;
+    } in
     let port_in : c.args.port < c.self.inside.ports = rw (← c.self.view_is) at c.requires in
     let few = c.self.invariant.few_ports in
     rw (← c.self.view_is)
     (c.from_residual.ensures ∙ ap (request_of (slice_index_or c.args.ready.now c.args.port []))
-    (named_is s c.args.ready.now c.args.port c.ready_lines-lines.result None c.self.invariant port_in c.ready_lines-lines.ensures.lines (rw (← c.self.view_is) at c.in_err-vc.ensures.named)))
+    (named_is s c.args.ready.now c.args.port c.ready_lines-lines.result None c.self.invariant port_in
+    c.ready_lines-lines.ensures.lines (rw (← c.self.view_is) at c.in_err-vc.ensures.named)))
 
 pub returns : goal.returns
 returns c =
-    let s : SwAllocState = record { ports = c.self.inside.ports; channels = c.self.inside.channels; inputs = c.self.inside.inputs; outputs = c.self.inside.outputs } in
+    let s : SwAllocState = record {
+      ports = c.self.inside.ports;
+      channels = c.self.inside.channels;
+      inputs = c.self.inside.inputs;
+      outputs = c.self.inside.outputs;
+    } in
     let port_in : c.args.port < c.self.inside.ports = rw (← c.self.view_is) at c.requires in
     let few = c.self.invariant.few_ports in
-    let made : c.map.result ≡ request_of (slice_index_or c.args.ready.now c.args.port []) (Some c.in_ok-vc.vc) = search rules in
+    let made : c.map.result ≡ request_of (slice_index_or c.args.ready.now c.args.port []) (Some c.in_ok-vc.vc) =
+    search rules in
     rw (← c.self.view_is)
     (made ∙ ap (request_of (slice_index_or c.args.ready.now c.args.port []))
-    (named_is s c.args.ready.now c.args.port c.ready_lines-lines.result (Some c.in_ok-vc.vc) c.self.invariant port_in c.ready_lines-lines.ensures.lines (rw (← c.self.view_is) at c.in_ok-vc.ensures.named)))
+    (named_is s c.args.ready.now c.args.port c.ready_lines-lines.result
+    (Some c.in_ok-vc.vc) c.self.invariant port_in c.ready_lines-lines.ensures.lines
+    (rw (← c.self.view_is) at c.in_ok-vc.ensures.named)))

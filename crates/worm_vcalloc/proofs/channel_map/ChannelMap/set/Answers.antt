@@ -7,6 +7,7 @@ pub invariant_of-self : goal.invariant_of-self
 invariant_of-self c = record {
   shape = IsTable-with_cell c.self.inside.numbers.rows c.args.port c.args.channel c.args.number c.self.invariant.shape;
   all =
-      places_put is_some c.self.inside.numbers.rows c.put.new.self c.args.port c.args.channel c.args.number c.requires.port c.requires.channel c.self.invariant.shape
+      places_put is_some c.self.inside.numbers.rows c.put.new.self c.args.port c.args.channel c.args.number
+      c.requires.port c.requires.channel c.self.invariant.shape
       (rw (← c.self.invariant.all, ← c.is_some.ensures) c.put.ensures);
 }

@@ -4,4 +4,5 @@ use Rattle.worm_vcalloc.proofs.PlaceLemmas.{has-places}
 use Rattle.worm_vcalloc.proofs.request.VcRequests.waiting.Goals as goal
 
 pub returns : goal.returns
-returns c = λ p v lp lv. rw (← c.self.view_is) (ap (λ s. has s p v) c.self.invariant.all ∙ has-places is_some c.self.inside.table.rows p v lp lv)
+returns c = λ p v lp lv. rw (← c.self.view_is)
+    (ap (λ s. has s p v) c.self.invariant.all ∙ has-places is_some c.self.inside.table.rows p v lp lv)

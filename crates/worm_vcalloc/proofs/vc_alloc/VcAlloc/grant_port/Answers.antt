@@ -8,11 +8,17 @@ use Rattle.worm_vcalloc.proofs.vc_alloc.VcAlloc.grant_port.Goals.{then-free-out,
 
 pub returns-then-is_empty-clause-pass : goal.returns-then-is_empty-clause-pass
 returns-then-is_empty-clause-pass c =
-    let s : VcAllocState = record { ports = c.self.inside.ports; channels = c.self.inside.channels; arbiters = c.self.inside.arbiters } in
+    let s : VcAllocState = record {
+      ports = c.self.inside.ports;
+      channels = c.self.inside.channels;
+      arbiters = c.self.inside.arbiters;
+    } in
     let out_in : c.args.out < c.self.inside.ports = rw (← c.self.view_is) at c.requires in
     rw (← c.self.view_is)
-    (sym (port_pass_unasked c.args.waiting.now c.args.free.now (record { alloc = s; grants = c.args.grants.now }) c.args.out c.self.invariant out_in
-    (λ p v lp lv. sym (c.asking_port.ensures p v lp lv) ∙ has-empty c.asking_port.result p v (sym c.is_empty.ensures ∙ c.if-is_empty.true))))
+    (sym (port_pass_unasked c.args.waiting.now c.args.free.now
+    (record { alloc = s; grants = c.args.grants.now }) c.args.out c.self.invariant out_in
+    (λ p v lp lv. sym (c.asking_port.ensures p v lp lv)
+    ∙ has-empty c.asking_port.result p v (sym c.is_empty.ensures ∙ c.if-is_empty.true))))
 
 pub loop-channel-preserved : goal.loop-channel-preserved
 loop-channel-preserved c =
@@ -22,10 +28,14 @@ loop-channel-preserved c =
     elim c.if-free-out.branch [
       | then-free-out w ↦
           let is : there ≡ record { alloc = w.offer.new.self; grants = w.offer.new.grants } = cc in
-          channel_offered c.args.waiting.now c.args.free.now c.args.self.now start here there c.args.out c.loop-channel.channel
-          c.loop-channel.invariant w.if-free-out.true (is ∙ w.offer.ensures.pass) (ap (λ p. p.alloc.ports) is ∙ w.offer.ensures.ports) (ap (λ p. p.alloc.channels) is ∙ w.offer.ensures.channels)
+          channel_offered c.args.waiting.now c.args.free.now c.args.self.now start here there c.args.out
+          c.loop-channel.channel
+          c.loop-channel.invariant w.if-free-out.true (is ∙ w.offer.ensures.pass)
+          (ap (λ p. p.alloc.ports) is ∙ w.offer.ensures.ports)
+          (ap (λ p. p.alloc.channels) is ∙ w.offer.ensures.channels)
       | else-free-out w ↦
-          channel_passed c.args.waiting.now c.args.free.now c.args.self.now start here there c.args.out c.loop-channel.channel
+          channel_passed c.args.waiting.now c.args.free.now c.args.self.now start here there c.args.out
+          c.loop-channel.channel
           c.loop-channel.invariant w.if-free-out.false (cc)
     ]
 
@@ -34,4 +44,6 @@ unfolding port_pass
 returns-clause-pass c =
     let last : c.loop-channel.channel ≡ c.self.inside.channels = omega arith in
     c.loop-channel.invariant.is
-    ∙ ap (λ n. fold (vc_step c.args.waiting.now c.args.free.now c.args.out) (record { alloc = c.args.self.now; grants = c.args.grants.now }) (range_with_len 0 n)) (last ∙ ap (λ s. s.channels) c.self.view_is)
+    ∙ ap (λ n. fold (vc_step c.args.waiting.now c.args.free.now c.args.out)
+    (record { alloc = c.args.self.now; grants = c.args.grants.now }) (range_with_len 0 n))
+    (last ∙ ap (λ s. s.channels) c.self.view_is)

@@ -9,22 +9,44 @@ use Rattle.worm_vcalloc.proofs.vc_alloc.VcAlloc.offer.Goals.{in-Some, in_default
 
 pub returns-clause-pass : goal.returns-clause-pass
 returns-clause-pass c =
-    let s : VcAllocState = record { ports = c.self.inside.ports; channels = c.self.inside.channels; arbiters = c.self.inside.arbiters } in
+    let s : VcAllocState = record {
+      ports = c.self.inside.ports;
+      channels = c.self.inside.channels;
+      arbiters = c.self.inside.arbiters;
+    } in
     let out_in : c.args.out < c.self.inside.ports = rw (← c.self.view_is) at c.requires.out in
     let channel_in : c.args.channel < c.self.inside.channels = rw (← c.self.view_is) at c.requires.channel in
     let long : c.args.channel < length (slice_index_or c.self.inside.arbiters c.args.out []) = omega arith in
-    let a : ArbiterState = slice_index_or (slice_index_or c.self.inside.arbiters c.args.out []) c.args.channel c.index-self-out.result in
-    let here : cell s.arbiters c.args.out c.args.channel no_arbiter ≡ a = get_or_default _ c.args.channel no_arbiter c.index-self-out.result long in
-    let wide : a.width ≡ c.self.inside.ports * c.self.inside.channels = rw here at (c.self.invariant.width c.args.out c.args.channel (omega arith) (omega arith)) in
-    let low : a.pointer < c.self.inside.ports * c.self.inside.channels = rw here at (c.self.invariant.pointer c.args.out c.args.channel (omega arith) (omega arith)) in
-    let lines : (i : ℕ) → i < c.self.inside.ports * c.self.inside.channels → line_requests c.requests_for-requests.result i ≡ is_requester c.args.waiting.now c.args.grants.now c.args.out c.args.channel (i / c.self.inside.channels) (i % c.self.inside.channels)
+    let a : ArbiterState = slice_index_or
+    (slice_index_or c.self.inside.arbiters c.args.out []) c.args.channel c.index-self-out.result in
+    let here : cell s.arbiters c.args.out c.args.channel no_arbiter ≡ a =
+    get_or_default _ c.args.channel no_arbiter c.index-self-out.result long in
+    let wide : a.width ≡ c.self.inside.ports * c.self.inside.channels =
+    rw here at (c.self.invariant.width c.args.out c.args.channel (omega arith) (omega arith)) in
+    let low : a.pointer < c.self.inside.ports * c.self.inside.channels =
+    rw here at (c.self.invariant.pointer c.args.out c.args.channel (omega arith) (omega arith)) in
+    let lines : (i : ℕ) → i < c.self.inside.ports * c.self.inside.channels
+    → line_requests c.requests_for-requests.result i
+    ≡ is_requester c.args.waiting.now c.args.grants.now c.args.out c.args.channel (i / c.self.inside.channels)
+    (i % c.self.inside.channels)
     = rw (← c.self.view_is) at c.requests_for-requests.ensures.lines in
-    let granted : c.match-pick.grants ≡ with_grant c.self.inside.channels c.args.grants.now c.args.channel c.pick.result =
+    let granted : c.match-pick.grants ≡ with_grant c.self.inside.channels c.args.grants.now c.args.channel
+    c.pick.result =
     elim c.match-pick.branch [
-      | in-Some w ↦ w.grants-is ∙ w.set.ensures ∙ ap (with_grant c.self.inside.channels c.args.grants.now c.args.channel) (sym w.in-Some.is)
-      | in_default w ↦ w.grants-is ∙ ap (with_grant c.self.inside.channels c.args.grants.now c.args.channel) (sym w.in_default.is)
+      | in-Some w ↦ w.grants-is ∙ w.set.ensures
+          ∙ ap (with_grant c.self.inside.channels c.args.grants.now c.args.channel) (sym w.in-Some.is)
+      | in_default w ↦ w.grants-is ∙ ap (with_grant c.self.inside.channels c.args.grants.now c.args.channel)
+          (sym w.in_default.is)
     ] in
     rw (← c.self.view_is)
-    (ap (λ g. record { alloc = record { ports = s.ports; channels = s.channels; arbiters = with_cell s.arbiters c.args.out c.args.channel c.pick.new.self }; grants = g }) granted
-    ∙ offer_is c.args.waiting.now c.args.grants.now s c.args.out c.args.channel c.requests_for-requests.result a c.pick.new.self c.pick.result
+    (ap (λ g. record {
+      alloc = record {
+        ports = s.ports;
+        channels = s.channels;
+        arbiters = with_cell s.arbiters c.args.out c.args.channel c.pick.new.self;
+      };
+      grants = g;
+    }) granted
+    ∙ offer_is c.args.waiting.now c.args.grants.now s c.args.out c.args.channel c.requests_for-requests.result a
+    c.pick.new.self c.pick.result
     here (omega arith) (λ i l. lines i (omega arith)) c.pick.ensures.winner c.pick.ensures.pointer)

@@ -3,30 +3,40 @@ use Rattle.worm_vcalloc.specs.Table.{cell}
 use Rattle.worm_vcalloc.specs.VcRequest.{allows}
 use Rattle.worm_vcalloc.proofs.GatherLemmas.{gather_start, gather_more, gather_other, gather_all}
 use Rattle.worm_vcalloc.proofs.vc_alloc.VcAlloc.requests_for.Goals as goal
-use Rattle.worm_vcalloc.proofs.vc_alloc.VcAlloc.requests_for.Goals.{else-port-ports-via-then-port-ports+then-vc-channels+else-takes, else-port-ports-via-then-port-ports+else-vc-channels, else-port-ports-via-else-port-ports}
+use Rattle.worm_vcalloc.proofs.vc_alloc.VcAlloc.requests_for.Goals.{else-port-ports-via-then-port-ports+then-vc-channels+else-takes}
+use Rattle.worm_vcalloc.proofs.vc_alloc.VcAlloc.requests_for.Goals.{else-port-ports-via-then-port-ports+else-vc-channels}
+use Rattle.worm_vcalloc.proofs.vc_alloc.VcAlloc.requests_for.Goals.{else-port-ports-via-else-port-ports}
 
 pub loop-port-init : goal.loop-port-init
 loop-port-init c =
-    gather_start c.args.waiting.now c.args.grants.now c.args.out c.args.channel c.self.inside.ports c.self.inside.channels c.asking_port.result c.keys.result c.difference-left.result
-    c.self.invariant.few_ports c.self.invariant.few_channels c.asking_port.ensures c.keys.ensures c.difference-left.ensures
+    gather_start c.args.waiting.now c.args.grants.now c.args.out c.args.channel c.self.inside.ports
+    c.self.inside.channels c.asking_port.result c.keys.result c.difference-left.result
+    c.self.invariant.few_ports c.self.invariant.few_channels c.asking_port.ensures c.keys.ensures
+    c.difference-left.ensures
 
 pub loop-port-preserved-then-takes : goal.loop-port-preserved-then-takes
 loop-port-preserved-then-takes c =
-    gather_more c.args.waiting.now c.args.grants.now c.args.out c.args.channel c.self.inside.ports c.self.inside.channels c.loop-port.left c.pop_first.new.self c.loop-port.lines _ c.in-Some.port c.in-Some.vc
-    c.self.invariant.few_ports c.self.invariant.few_channels c.loop-port.invariant c.in-Some.ensures c.if-port-ports.true c.if-vc-channels.true (sym c.takes.ensures ∙ c.if-takes.true) refl
+    gather_more c.args.waiting.now c.args.grants.now c.args.out c.args.channel c.self.inside.ports
+    c.self.inside.channels c.loop-port.left c.pop_first.new.self c.loop-port.lines _ c.in-Some.port c.in-Some.vc
+    c.self.invariant.few_ports c.self.invariant.few_channels c.loop-port.invariant c.in-Some.ensures
+    c.if-port-ports.true c.if-vc-channels.true (sym c.takes.ensures ∙ c.if-takes.true) refl
 
 pub loop-port-preserved : goal.loop-port-preserved
 loop-port-preserved c =
-    let refused : c.in-Some.port < c.self.inside.ports → c.in-Some.vc < c.self.inside.channels → allows (cell c.args.waiting.now c.in-Some.port c.in-Some.vc None) c.args.channel ≡ false =
+    let refused : c.in-Some.port < c.self.inside.ports → c.in-Some.vc < c.self.inside.channels
+    → allows (cell c.args.waiting.now c.in-Some.port c.in-Some.vc None) c.args.channel ≡ false =
     λ lp lv. elim c.else-port-ports.branch [
       | else-port-ports-via-then-port-ports+then-vc-channels+else-takes w ↦ sym w.takes.ensures ∙ w.if-takes.false
       | else-port-ports-via-then-port-ports+else-vc-channels w ↦ absurd (omega (arith, lv, w.if-vc-channels.false))
       | else-port-ports-via-else-port-ports w ↦ absurd (omega (arith, lp, w.if-port-ports.false))
     ] in
-    gather_other c.args.waiting.now c.args.grants.now c.args.out c.args.channel c.self.inside.ports c.self.inside.channels c.loop-port.left c.pop_first.new.self c.loop-port.lines c.loop-port.lines c.in-Some.port c.in-Some.vc
+    gather_other c.args.waiting.now c.args.grants.now c.args.out c.args.channel c.self.inside.ports
+    c.self.inside.channels c.loop-port.left c.pop_first.new.self c.loop-port.lines c.loop-port.lines c.in-Some.port
+    c.in-Some.vc
     c.self.invariant.few_ports c.self.invariant.few_channels c.loop-port.invariant c.in-Some.ensures refused refl
 
 pub returns-clause-lines : goal.returns-clause-lines
 returns-clause-lines c = rw (← c.self.view_is)
-    (gather_all c.args.waiting.now c.args.grants.now c.args.out c.args.channel c.self.inside.ports c.self.inside.channels c.loop-port.left c.loop-port.lines
+    (gather_all c.args.waiting.now c.args.grants.now c.args.out c.args.channel c.self.inside.ports
+    c.self.inside.channels c.loop-port.left c.loop-port.lines
     c.self.invariant.some_channel c.loop-port.invariant c.in_default.ensures.0)

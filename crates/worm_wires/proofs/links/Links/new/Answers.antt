@@ -7,8 +7,15 @@ use Rattle.worm_wires.proofs.links.Links.new.Goals as goal
 pub loop-node-preserved : goal.loop-node-preserved
 loop-node-preserved c =
     let inv = c.loop-node.invariant in
-    let one = subst (λ (states : List LinkView). KnowsArrivals (record { mesh = c.new-wiring.result; states = states }) c.loop-node.node c.arrivals_of.result) c.as_slice.ensures.value c.arrivals_of.ensures in
+    let one = subst (λ (states : List LinkView). KnowsArrivals
+    (record { mesh = c.new-wiring.result; states = states }) c.loop-node.node c.arrivals_of.result)
+    c.as_slice.ensures.value c.arrivals_of.ensures in
     record {
       all = rw length-set inv.all;
-      known = rw c.from.ensures (nodes_more (record { mesh = c.new-wiring.result; states = c.args.states.items }) c.loop-node.arrivals c.loop-node.node c.arrivals_of.result (omega (arith, inv.all)) one inv.known);
+      known = rw c.from.ensures (nodes_more
+          (record {
+            mesh = c.new-wiring.result;
+            states = c.args.states.items;
+          }) c.loop-node.arrivals c.loop-node.node c.arrivals_of.result
+          (omega (arith, inv.all)) one inv.known);
     }

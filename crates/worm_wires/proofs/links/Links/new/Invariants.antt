@@ -5,5 +5,6 @@ use Rattle.worm_wires.proofs.links.Links.new.Given as goal
 abbrev pub invariant-loop-node : goal.invariant-loop-node
 invariant-loop-node l = record {
   all : length l.arrivals ≡ 256;
-  known : (x : ℕ) → x < l.node → KnowsArrivals (record { mesh = l.wiring; states = l.states.items }) x (get_or l.arrivals x no_arrivals);
+  known : (x : ℕ) → x < l.node → KnowsArrivals (record { mesh = l.wiring; states = l.states.items }) x
+      (get_or l.arrivals x no_arrivals);
 }

@@ -12,5 +12,7 @@ returns c =
     let fits : c.self.inside.bits < 2 ^ 8 = omega arith in
     let some : 0 < c.self.inside.bits / 2 ^ c.args.from = let none = c.if-rest-eq0.false in omega arith in
     let small = shifted_small c.self.inside.bits c.args.from fits in
-    subst (λ (bits : ℕ). IsFirstFrom bits c.args.from (c.args.from + trailing_zeros w8 (c.self.inside.bits / 2 ^ c.args.from))) c.self.view_is
-    (first_from c.self.inside.bits c.args.from fits some small (within_byte c.self.inside.bits c.args.from fits some small))
+    subst (λ (bits : ℕ). IsFirstFrom bits c.args.from
+    (c.args.from + trailing_zeros w8 (c.self.inside.bits / 2 ^ c.args.from))) c.self.view_is
+    (first_from c.self.inside.bits c.args.from fits some small
+    (within_byte c.self.inside.bits c.args.from fits some small))

@@ -7,5 +7,6 @@ loop-node-preserved c =
     let inv = c.loop-node.invariant in
     record {
       all = rw length-set inv.all;
-      wired = rw c.from.ensures (wired_more c.args.mesh c.loop-node.nodes c.loop-node.node c.links_of.result (omega (arith, inv.all)) c.links_of.ensures inv.wired);
+      wired = rw c.from.ensures (wired_more c.args.mesh c.loop-node.nodes c.loop-node.node c.links_of.result
+          (omega (arith, inv.all)) c.links_of.ensures inv.wired);
     }

@@ -8,4 +8,5 @@ loop-station-preserved c =
     let station = c.station-item.result in
     let within : c.loop-station.station-index < length c.args.stations.now = search rules in
     let same : station ≡ get_or c.args.stations.now c.loop-station.station-index station = search rules in
-    one_part_more station_flits c.loop-station.station-index station station c.args.stations.now c.args.svg.now c.loop-station.svg c.add_channel.new.svg within same c.loop-station.invariant c.in_ok-add_channel.ensures
+    one_part_more station_flits c.loop-station.station-index station station c.args.stations.now c.args.svg.now
+    c.loop-station.svg c.add_channel.new.svg within same c.loop-station.invariant c.in_ok-add_channel.ensures
