@@ -36,7 +36,7 @@ impl Router {
         self.grants_nothing()
     }
 
-    /// Whether no channel may send.
+    /// True only where no channel may send: a pass of the switch allocator then grants nothing and changes nothing.
     pub fn sends_nothing(&self) -> bool
         ensures nothing { IsTrue result → SendsNothing self.now }
         ensures chooses { IsTrue result → after_choose self.now ≡ self.now }
