@@ -92,6 +92,7 @@ module _ (may : ℕ → ℕ → Type 0) (script : List Entry) (plan : RunPlan) (
       record {
         ran = record {
           end = ran.end;
+          exact = ran.exact;
           runs = runs;
           later = ran.later;
           delivers = ran.delivers;

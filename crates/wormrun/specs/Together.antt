@@ -19,7 +19,7 @@ use Rattle.worm_run.specs.declared.plan.RunPlan.{RunPlan}
 use Rattle.worm_run.specs.declared.plan.Stop.{Stop}
 use Rattle.worm_run.specs.declared.plan.StopWhy.{StopWhy}
 use Rattle.worm_run.specs.declared.plan.StopWhy.TheVariants.{Gate, NoMemory, Refused}
-use Rattle.worm_run.specs.Runs.{RunsTo}
+use Rattle.worm_run.specs.Runs.{IsRunOf, RunsTo}
 use Rattle.worm_text.specs.Network.{Network}
 use Rattle.worm_text.specs.ScriptView.{said_of}
 use Rattle.worm_report.specs.declared.summary.Summary.{Summary}
@@ -57,10 +57,12 @@ DrainsUnstopped most [] old fault new = Drains most old fault new
 DrainsUnstopped most (s ∷ stops) old fault new =
     (fault ≡ (if lack_memory (s ∷ stops) then Some NoRoom else None)) × (new ≡ old)
 
--- The workers ran: what a run may give, of which the headline holds, and then the drain where nobody was stopped.
+-- The workers ran: each took its turns on its part, which is what a run may give and of which the headline holds; and then
+-- the drain where nobody was stopped.
 pub record RanTogether (may : ℕ → ℕ → Type 0) (script : List Entry) (plan : RunPlan) (most : ℕ)
     (opening closing : NetState) (table : List (Option ℕ)) (fault : Option StepFault) : Type 0 where
   pub end : RunEnd
+  pub exact : IsRunOf may script plan opening end
   pub runs : RunsTo may script plan opening end
   pub later : IsLaterThan opening end.net
   pub delivers : DeliversInOrder end.net
@@ -134,6 +136,13 @@ pub record HasFewNodes (network traffic : List ℕ) (workers : ℕ) : Type 0 whe
   pub accepted : AreAccepted network traffic config script
   pub few : node_count config.radices < workers
 
+-- both texts are accepted, and there are nodes enough for the workers
+pub record HasNodes (network traffic : List ℕ) (workers : ℕ) : Type 0 where
+  pub config : Network
+  pub script : List Entry
+  pub accepted : AreAccepted network traffic config script
+  pub enough : workers ≤ node_count config.radices
+
 -- what a fault tells of two texts at hand
 abbrev pub FailsTogether : (ℕ → ℕ → Type 0) → RunPlan → ℕ → Stream → List ℕ → List ℕ → ProgramFault → Type 0
 FailsTogether may plan drain out network traffic f.Workers =
@@ -146,7 +155,8 @@ FailsTogether may plan drain out network traffic f.ReadNetwork = ⊥
 FailsTogether may plan drain out network traffic f.ReadTraffic = ⊥
 FailsTogether may plan drain out network traffic f.NoMemory =
     Keeps out.old out.new ⊎ PartTogether may network traffic plan drain out
-FailsTogether may plan drain out network traffic (f.NotStarted w) = (w < plan.workers) × Keeps out.old out.new
+FailsTogether may plan drain out network traffic (f.NotStarted w) =
+    (w < plan.workers) × HasNodes network traffic plan.workers × Keeps out.old out.new
 FailsTogether may plan drain out network traffic f.Write = PartTogether may network traffic plan drain out
 
 -- both readers gave their texts, and the report of them was written

@@ -9,6 +9,7 @@ returns-in-Ok-clause-ended g c =
     let told = c.in-Ok.ensures in
     inl (record {
       end = end;
+      exact = told.exact;
       runs = told.runs;
       later = told.later;
       delivers = told.delivers;
