@@ -153,6 +153,16 @@ fn texts_that_are_refused(rt: HostRuntime) {
 }
 
 #[test]
+fn texts_that_are_refused_for_two_workers(rt: HostRuntime) {
+    let words: &[&[u8]] = &[b"wormrun", b"x", b"t", b"--turns", b"1", b"--workers", b"2"];
+    let said = "wormrun: network line 1: header\n";
+    ends(&rt, rt.alloc(), words, 3, "x\nt\n", "", said);
+    let words: &[&[u8]] = &[b"wormrun", b"n", b"x", b"--turns", b"1", b"--workers", b"2"];
+    let said = "wormrun: traffic line 1: header\n";
+    ends(&rt, rt.alloc(), words, 4, "n\nx\n", "", said);
+}
+
+#[test]
 fn a_word_that_is_no_text(rt: HostRuntime) {
     let said = "wormrun: a word is not UTF-8\n";
     let words: &[&[u8]] = &[b"wormrun", b"n", b"\xff", b"--turns", b"1"];
