@@ -166,6 +166,8 @@ def judge(run, status, report, errors):
     demand(head == ["wormreport 1", f"turns {run.turns} workers {run.workers} drain {run.drain}"], f"first lines {head}")
     sinks = [lane[1] for lane, _ in delivered]
     demand(sinks == sorted(sinks), "rows delivered not by rising node")
+    most = max(Counter(sinks).values(), default=0)
+    demand(most <= run.turns + run.drain, f"{most} flits delivered to one node, more than a flit a turn")
     judge_lanes(run, delivered, underway)
     judge_places(run.network, underway)
     later = sum(entry.turn >= run.turns for entry in run.entries)

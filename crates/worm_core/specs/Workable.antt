@@ -49,7 +49,7 @@ CreditsFit s net = (x o y c : ℕ) → s.neighbour x o ≡ Some y → c < s.chan
 abbrev pub EndsWithin : Shape → (ℕ → Bool) → ℕ → ℕ → Type 0
 EndsWithin s own x o = (y : ℕ) → s.neighbour x o ≡ Some y → (own x ≡ true) × (own y ≡ true)
 
--- the node at the other end of a link is elsewhere
+-- the node at the other end of a port's link, if it has one, is elsewhere
 abbrev pub EndsElsewhere : Shape → (ℕ → Bool) → ℕ → ℕ → Type 0
 EndsElsewhere s own x o = (y : ℕ) → s.neighbour x o ≡ Some y → own y ≡ false
 

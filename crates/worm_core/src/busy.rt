@@ -203,9 +203,9 @@ impl Fabric {
 }
 
 impl Net {
-    /// Lanes among which are all that have something under way; for any other [`Net::lane_view`] has nothing under way.
-    /// It takes one pass over the network, and memory once. A lane may be in the set with nothing under way. `NoMemory`
-    /// where there is none for the set.
+    /// Lanes among which are all that have something under way; for any other [`Net::lane_view`] has nothing under
+    /// way. It takes one pass over the network. A lane may be in the set with nothing under way. `NoMemory` where
+    /// there is none for the set.
     pub fn busy(&self, alloc: Global) -> Result<LaneSet, NoMemory>
         ensures { IfOk result (IsComplete self.now) }
     {

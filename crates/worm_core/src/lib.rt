@@ -1,11 +1,11 @@
 //! The network as one value: nodes and links by number, on a k-ary n-mesh with wormhole switching and credits
 //! (Dally and Towles, chapters 5, 13 and 16), its steps and runs of them.
 //!
-//! One idea carries the crate: a network's lists stand for functions of places (`network_of`), and each step writes at
-//! one place of the lists what the theory's step writes at one place of the functions. So the theory's laws are the
-//! invariant of the type: no call can make or keep a network that is not sound. `Fabric` has the lists and no
-//! invariant. `Region` has what a move needs of them, and tests whether a step's place is there; a worker's part of a
-//! network is one. `Net` has a region of all nodes, and all that holds of a network.
+//! One idea carries the crate: a network's lists stand for functions of places (`network_of`), and each step writes,
+//! at one node or at the two ends of one link, what the theory's step writes at one place of each function. So the
+//! theory's laws are the invariant of the type: no call can make or keep a network that is not sound. `Fabric` has
+//! the lists and no invariant. `Region` has what a move needs of them, and tests whether a step's place is there; a
+//! worker's part of a network is one. `Net` has a region of all nodes, and all that holds of a network.
 //!
 //! Nothing is said of time, nor that anything is ever delivered.
 #![tactic(auto)]

@@ -49,8 +49,8 @@ pub struct RunSoFar {
 }
 
 impl Net {
-    /// An empty network. `BadConfig` where a number of the configuration is out of its range, else `NoMemory` where
-    /// there is none for the nodes, their buffers and the links.
+    /// An empty network. `BadConfig` where a number of the configuration is out of its range or not every class has
+    /// its one name, else `NoMemory` where there is none for the nodes, their buffers and the links.
     pub fn new(alloc: Global, config: &Config) -> Result<Net, NetFault>
         ensures fresh { IfOk result (λ n. IsFresh config.now.radices.items config.now.channels.items config.now.depth
             (texts_of config.now.classes.items) n) }
@@ -216,7 +216,8 @@ impl Net {
     }
 
     /// Takes the steps one after another, up to the first fault; the steps before it stand. After any such run what
-    /// was delivered of a lane, followed by what is under way, is what was injected, and nothing follows a close mark.
+    /// was delivered of a lane whose class owns one channel, followed by what is under way, is what was injected; of
+    /// other classes that holds packet by packet; and nothing follows a close mark.
     pub fn run(&mut self, steps: &[Step]) -> RunSoFar
         ensures answered { AreAnswered self.old (take result.done steps.now) self.new }
         ensures stopped { StopsBehind result.done steps.now result.fault self.new }

@@ -31,8 +31,8 @@ use worm_vcalloc::ChannelSet;
 use worm_wires::PortLinks;
 
 /// The nodes and links of a network, some nodes or all owned by whoever has it: what a move of a node needs holds of
-/// it, and each move keeps that. Of the nodes that are not owned it has others in their places, which are not moved;
-/// of a link that comes from one of them what was taken off its queue and is in no buffer.
+/// it, and each move keeps that. Of the nodes that are not owned it has others in their places, which whoever has it
+/// leaves alone; of a link that comes from one of them what was taken off its queue and is in no buffer.
 #[derive(Drop)]
 pub struct Region {
     fabric: Fabric,
@@ -141,7 +141,8 @@ impl Region {
         self.fabric.choose(node)
     }
 
-    /// Whether no channel of the node may send; then nothing is granted, and nothing sent.
+    /// Whether no channel of the node may send; then nothing is granted, and nothing sent. Where none may this may
+    /// not be found.
     pub(crate) fn sends_nothing(&self, node: u8) -> bool
         requires { node < node_count self.now.mesh }
         ensures { IsTrue result → SendsGrantedBy Attempts node self.now None self.now }
@@ -183,8 +184,8 @@ impl Region {
         self.fabric.next_flit(node, from)
     }
 
-    /// The first class from this one on of which the node can feed a flit; before it there is none to feed, and where
-    /// there is none, past it.
+    /// A class from this one on of which the node may feed a flit; before it there is none to feed, and where there
+    /// is none, past it. Where none can be fed this may not be found.
     pub(crate) fn next_class(&self, node: u8, from: u8) -> Option<u8>
         requires { node < node_count self.now.mesh }
         ensures class { IfSome result (λ class. (from ≤ class) × (class < length self.now.channels) × (class < 4)) }
@@ -214,7 +215,8 @@ impl Region {
         self.fabric.owed(node, port)
     }
 
-    /// Whether the node is at rest, so that its turn goes past all but what its source is asked.
+    /// Whether the node is at rest, so that its turn goes past all but what its source is asked. Where it is at rest
+    /// this may not be found.
     pub fn rests(&mut self, node: u8) -> bool
         requires { node < node_count self.old.mesh }
         ensures comes { IsTrue result → ComesInBy Attempts node self.old None self.old }
@@ -289,7 +291,7 @@ impl Region {
         self.send_there(node, port, vc)
     }
 
-    /// The same where the place is there. What leaves over a link stays among the nodes that are owned.
+    /// A Send where the place is there. What leaves over a link stays among the nodes that are owned.
     pub fn send_there(&mut self, node: u8, port: u8, vc: u8) -> Result<Moved, StepFault>
         requires there { IsThere (shape self.old) (Event.Send node port vc) }
         requires within { IfSome (leaving (router_at self.old node) port vc)
@@ -321,7 +323,7 @@ impl Region {
         self.give_owed(node, port, vc)
     }
 
-    /// The same where the node and the channel are there, and the channel of the port owes a credit.
+    /// A GiveCredit where the node and the channel are there, and the channel of the port owes a credit.
     pub fn give_owed(&mut self, node: u8, port: u8, vc: u8) -> Result<Moved, StepFault>
         requires channel { vc < sum self.old.channels }
         requires owed { 0 < (input_at (router_at self.old node) port vc).owed }

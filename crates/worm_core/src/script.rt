@@ -44,7 +44,7 @@ pub enum ScriptFault {
     NoMemory,
 }
 
-/// Entries in the order in which sources are asked; their turns never fall.
+/// Entries in the order of the text, whose turns never fall; turn by turn each source is asked its own in this order.
 #[derive(Debug, Drop)]
 pub struct Script {
     entries: Vec<Entry>,

@@ -269,8 +269,8 @@ fn put_report<W: Write>(
 }
 
 /// Writes the report of a network and of the run that led to it. `Write` where the writer failed or took nothing,
-/// `NoMemory` where there was no memory for a page, for a line or for the view of a lane; a first part of the report
-/// has then gone out.
+/// `NoMemory` where there was no memory for a page, for a line, for the set of busy lanes or for the view of a lane;
+/// a first part of the report has then gone out.
 pub fn write_report<W: Write>(
     alloc: Global,
     net: &Net,

@@ -20,6 +20,6 @@ pub struct Summary {
 pub enum ReportFault {
     /// The writer failed, or took nothing.
     Write = 1,
-    /// There was no memory for a line, or for the view of a lane.
+    /// There was no memory for a page, for a line, for the set of busy lanes or for the view of a lane.
     NoMemory,
 }

@@ -10,8 +10,8 @@ use std::mem::swap;
 use worm_core::{Config, LinkState, Node, Own};
 use worm_mesh::LinkEnds;
 
-/// A network taken apart, as the last worker keeps it till its parts are joined. In the place of each node that a
-/// worker has stands a fresh one, and on the links is nothing.
+/// A network taken apart, as the last worker keeps it till its parts are joined. What stands in the place of a node
+/// that a worker has, or on the links, is not looked at.
 #[derive(Drop)]
 pub struct Kept {
     /// What the network was made from.

@@ -9,8 +9,7 @@ use worm_core::{Net, Region};
 /// What one worker has of a network that was split.
 #[derive(Drop)]
 pub struct Part {
-    /// The network of its nodes. In the place of each node of another worker stands a fresh one, which is never
-    /// looked at.
+    /// The network of its nodes. In the place of each node of another worker stands one that is not looked at.
     pub(crate) region: Region,
     /// Its ends by link number.
     pub(crate) ends: Vec<End>,

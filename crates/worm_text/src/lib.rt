@@ -1,10 +1,10 @@
 //! The texts that a run begins from, read from bytes: a network of the mesh (Dally and Towles, chapters 5 and 13), in
 //! two formats, and the traffic that its sources are to offer.
 //!
-//! A text is lines, each ended by a line feed; a line is fields, parted by single spaces. What is said has one text, so
-//! a text is accepted exactly where it is the text of what is answered. Else the answer is the first fault, fields
-//! taken from the left, and its line: one more than the longest run of finished lines with which some accepted text
-//! begins.
+//! A text is lines, each ended by a line feed; a line is fields, parted by single spaces. What is said has one text,
+//! so a text is accepted exactly where it is the text of what is answered. Else, but for want of memory, the answer
+//! is the first fault, fields taken from the left, and its line: one more than the longest run of finished lines with
+//! which some accepted text begins.
 //!
 //! One idea carries the crate: it says twice what a text is, and proves that both say the same. `specs/Network` and
 //! `specs/TrafficText` write the text of a value; `specs/Stages` and `specs/Traffic` judge one line after another, as

@@ -1,13 +1,14 @@
 //! The theory of a wormhole network with credit-based virtual channels (Dally and Towles, chapters 12, 13 and 16):
 //! what a network is, what its nine steps do, and what they keep whatever list of them is taken.
 //!
-//! A network is a record of functions of places (node, port, channel), so a step changes one place and a lookup after
-//! it is one test. One idea carries the rest: a channel stands between two packets, or within one whose last flit so
-//! far is known, and a buffer followed by what its link holds of the channel leads from where the buffer's reader
-//! stands to where the link's writer stands. `Sound` says this and all else that each step keeps, place by place.
+//! A network is a record of functions of places (node, port, channel); a step changes each at one place at most, at
+//! one node or at the two ends of one link, and a lookup after it is one test. One idea carries the rest: a channel
+//! stands between two packets, or within one whose last flit so far is known, and a buffer followed by what its link
+//! holds of the channel leads from where the buffer's reader stands to where the link's writer stands. `Sound` says
+//! this and all else that each step keeps, place by place.
 //!
 //! There is no code here but functions with empty bodies, whose contracts are the theorems; crates above use the
-//! lemmas behind them. What a mesh is, is asked by seven laws (`IsMesh`); arbiters, memory and time are not known here.
+//! lemmas behind them. What a mesh is, is asked by six laws (`IsMesh`); arbiters, memory and time are not known here.
 #![tactic(auto)]
 
 ghost use Rattle.std.specs.Prelude.{◌≡◌, ℕ, List, Some, None, ◌++◌};

@@ -136,7 +136,7 @@ impl Links {
         &self.states[usize::from(number)]
     }
 
-    /// Whether nothing comes in at the node.
+    /// Whether nothing comes in at the node. Where nothing does this may not be found.
     pub fn is_quiet(&self, node: u8) -> bool
         ensures flits { IsTrue result → (p : ℕ) → flits_to self.now node p ≡ [] }
         ensures credits { IsTrue result → (o : ℕ) → credits_to self.now node o ≡ [] }

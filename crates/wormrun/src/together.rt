@@ -19,7 +19,7 @@ pub struct Together {
     pub net: Net,
     /// At place w the turn in which worker w was stopped, if it was.
     pub stops: [Option<u64>; 16],
-    /// Want of memory of a worker, or the fault that ended the drain early.
+    /// Want of memory, of a worker or for the parts, or the fault that ended the drain early.
     pub fault: Option<StepFault>,
 }
 

@@ -21,7 +21,8 @@ spots_at node channels port = map (λ vc. spot_at false node port vc) (range_wit
 abbrev pub spots_in : ℕ → ℕ → ℕ → List Spot
 spots_in node ports channels = flat_map (spots_at node channels) (range_with_len 0 ports)
 
--- these flits, and what went on is in front of what is to come
+-- these flits, each said to be of a rear, a whole packet or a front, and rears are in front of wholes and these of
+-- fronts
 abbrev pub AreFrontFirst : List Flit → List Flit → Type 0
 AreFrontFirst flits sorted = (parted : List Parted) × (flits_of parted ≡ flits) × (sorted ≡ in_order parted)
 

@@ -3,10 +3,11 @@
 //! The picture is SVG; with `--text` it is a map for a terminal. A fault is one line on the standard error and a
 //! status.
 //!
-//! That the report is read as what it says is proved (`worm_rows`); which flits are shown at which node, in its buffers
-//! and on the links to it, the front first (`views`); what hovering over a flit says (`titles`); that a part of the
-//! picture's text has just these flits, one by one (`picture`); and what each fault tells (`program`). Not proved is
-//! how they look and where they stand, what else is drawn, and the text of the map.
+//! That the report is read as what it says is proved (`worm_rows`); which flits are shown at which node, in its
+//! buffers and on the links to it, in three groups (`views`; which flit is in which is not proved); what hovering
+//! over a flit says (`titles`); that a part of the picture's text has just these flits, one by one (`picture`); and
+//! what each fault tells (`program`). Not proved is how they look and where they stand, what else is drawn, and the
+//! text of the map.
 #![tactic(auto)]
 
 ghost use Rattle.std.specs.Prelude.{◌≡◌};
