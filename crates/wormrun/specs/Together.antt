@@ -57,8 +57,8 @@ DrainsUnstopped most [] old fault new = Drains most old fault new
 DrainsUnstopped most (s ∷ stops) old fault new =
     (fault ≡ (if lack_memory (s ∷ stops) then Some NoRoom else None)) × (new ≡ old)
 
--- The workers ran: each took its turns on its part, which is what a run may give and of which the headline holds; and then
--- the drain where nobody was stopped.
+-- The workers ran: each took its turns on its part, which is what a run may give and of which the headline holds; and
+-- then the drain where nobody was stopped.
 pub record RanTogether (may : ℕ → ℕ → Type 0) (script : List Entry) (plan : RunPlan) (most : ℕ)
     (opening closing : NetState) (table : List (Option ℕ)) (fault : Option StepFault) : Type 0 where
   pub end : RunEnd
