@@ -14,7 +14,7 @@ use Rattle.worm_theory.specs.Steps.{Send, IsThere}
 use Rattle.worm_core.specs.State.{NetState, IsSameConfig, router_at, shape}
 use Rattle.worm_core.specs.Workable.{IsWorkable}
 use Rattle.worm_core.specs.Replies.{Attempts, Replies}
-use Rattle.worm_core.specs.Turns.{Each, Does, fault_of, granted_send}
+use Rattle.worm_core.specs.Turns.{AreThere, Each, Does, fault_of, granted_send}
 use Rattle.worm_core.specs.declared.step.Moved.{Moved}
 use Rattle.worm_core.specs.declared.fault.StepFault.{StepFault}
 use Rattle.worm_core.proofs.Allocating.{there_still}
@@ -179,19 +179,19 @@ send_port s x p v net there =
     let port_in = place.place.port_in in
     omega arith
 
--- a channel that comes out is there to send
-pub sent_there : (s : NetState) (x all left left' port vc : ℕ) (a b : NetState) → IsWorkable s → IsSameConfig s a →
-    AreGranted (switch_grants (router_at s x)) all
-    → ((p : ℕ) (g : SwGrant) → slice_index_or (switch_grants (router_at s x)) p None ≡ Some g →
-    IsThere (shape s) (Send x p g.vc))
-    → Sent x (switch_grants (router_at s x)) all left a b → IsFirst left left' port vc →
+-- a channel that comes out is of the set, and there to send
+sent_of : (x : ℕ) (grants : List (Option SwGrant)) (all left left' port vc : ℕ) (a b : NetState) →
+    AreGranted grants all → Sent x grants all left a b → IsFirst left left' port vc → has all port vc ≡ true
+sent_of x grants all left left' port vc a b are sent first =
+    let from =
+    walked_from all left left' sent.next 7 port sent.walked
+    (first_port grants all left left' sent.next port vc are sent.walked first) in
+    sym (sent.walked.kept port vc from first.port_in first.channel_in) ∙ first.was_in
+
+pub sent_there : (x : ℕ) (grants : List (Option SwGrant)) (all left left' port vc : ℕ) (a b : NetState) →
+    IsWorkable a → AreGranted grants all → AreThere a x all → Sent x grants all left a b → IsFirst left left' port vc →
     IsThere (shape b) (Send x port vc) × (port ≤ 2 * length a.mesh)
-sent_there s x all left left' port vc a b net config are there sent first =
-    let grant = sent_in x (switch_grants (router_at s x)) all left left' port vc a b are sent first in
-    let at : IsThere (shape s) (Send x port vc) =
-    subst (λ (v : ℕ). IsThere (shape s) (Send x port v)) grant.2 (there port grant.0 grant.1) in
-    let port_in = send_port s x port vc net at in
-    let mesh = ap (λ (m : List ℕ). length m) config.mesh in (
-      there_still a b x port vc sent.passed.reaches.config (there_still s a x port vc config at),
-      omega (arith, port_in, mesh),
-    )
+sent_there x grants all left left' port vc a b net are there sent first =
+    let at : IsThere (shape a) (Send x port vc) =
+    there port vc first.port_in first.channel_in (sent_of x grants all left left' port vc a b are sent first) in
+    (there_still a b x port vc sent.passed.reaches.config at, send_port a x port vc net at)

@@ -11,14 +11,16 @@ use Rattle.std.specs.Option.{option_to_list}
 use Rattle.worm_flit.specs.declared.Lane.{Lane}
 use Rattle.worm_router.specs.Router.{RouterState, width, input_at}
 use Rattle.worm_router.specs.Allocation.{after_allocate, switch_grants}
+use Rattle.worm_swalloc.specs.SwAlloc.{AreGranted}
 use Rattle.worm_swalloc.specs.declared.grant.SwGrant.{SwGrant}
 use Rattle.worm_theory.specs.Steps.{Step, Send, GiveCredit}
 use Rattle.worm_core.specs.Script.{begun_at, lane_of}
 use Rattle.worm_core.specs.State.{NetState, router_at, with_router}
 use Rattle.worm_core.specs.Moves.{chosen_router}
 use Rattle.worm_core.specs.Replies.{Attempts, Replies}
-use Rattle.worm_core.specs.Turns.{Each, Does, Reaches, ReachesAt, Allocates, all_ports, ask, fault_of, granted_send}
-use Rattle.worm_core.specs.Turns.{lowest_owed, AsksSourceBy, GivesCreditBy, SendsGrantedBy}
+use Rattle.worm_core.specs.Turns.{Each, Does, Passage, Reaches, ReachesAt, Allocates, ask, fault_of, granted_send}
+use Rattle.worm_core.specs.Turns.{lowest_owed, ◌and_then◌, AsksSourceBy, ComesInBy, GivesCreditBy, GivesCreditsBy}
+use Rattle.worm_core.specs.Turns.{AreGrants, Chooses, NodePassesBy, PreparesBy, SendsBy, SendsGrantedBy}
 use Rattle.worm_core.specs.declared.script.Entry.{Entry}
 use Rattle.worm_core.specs.declared.step.Moved.{Moved}
 use Rattle.worm_core.specs.declared.fault.StepFault.{StepFault}
@@ -156,24 +158,50 @@ sends_none grants x p a is =
     subst (λ (o : Option SwGrant). Does (Each Attempts (option_to_list (option_map (λ g. Send x p g.vc) o))) a None a)
     (sym is) (does_nothing a)
 
-pub sends_all : (grants : List (Option SwGrant)) (x n : ℕ) (a b c : NetState) (fault : Option StepFault) →
-    grants ≡ switch_grants (router_at a x) → b ≡ with_router a x (chosen_router (router_at a x)) → Reaches a b →
-    2 * length a.mesh + 1 ≡ n
-    → Does (Each (λ p. Each Attempts (granted_send grants x p)) (range_with_len 0 n)) b fault c →
-    Does (SendsGrantedBy Attempts x) a fault c
-sends_all grants x n a b c fault is chosen reaches ports done =
-    let sent : Each Attempts (flat_map (granted_send grants x) (range_with_len 0 n)) b fault c =
-    each_flat Attempts (granted_send grants x) (range_with_len 0 n) b c fault done.exact in
-    record {
-      exact =
-          subst (λ (s : NetState). Each Attempts
-          (flat_map (granted_send (switch_grants (router_at a x)) x) (all_ports a)) s fault c) chosen
-          (subst (λ (g : List (Option SwGrant)). Each Attempts (flat_map (granted_send g x) (all_ports a)) b fault c)
-          is
-          (subst (λ (m : ℕ). Each Attempts (flat_map (granted_send grants x) (range_with_len 0 m)) b fault c)
-          (sym ports) sent));
-      reaches = joined a b c reaches done.reaches;
-    }
+pub sends_all : (grants : List (Option SwGrant)) (x : ℕ) (a b : NetState) (fault : Option StepFault) →
+    Does (Each (λ p. Each Attempts (granted_send grants x p)) (range_with_len 0 (2 * length a.mesh + 1))) a fault b →
+    Does (SendsBy Attempts grants x) a fault b
+sends_all grants x a b fault done = record {
+  exact = each_flat Attempts (granted_send grants x) (range_with_len 0 (2 * length a.mesh + 1)) a b fault done.exact;
+  reaches = done.reaches;
+}
+
+-- what was prepared, and then what follows the pass of the switch allocator
+prepared : (x granted : ℕ) (P : Passage) (a b c : NetState) (fault : Option StepFault) →
+    PreparesBy Attempts x granted a b
+    → ((allocated : NetState) → Chooses x granted allocated b → P allocated fault c) →
+    (ComesInBy Attempts x and_then Allocates x and_then P) a fault c
+prepared x granted P a b c fault done then = elim done.comes [
+  | inl ended ↦ absurd (cc)
+  | inr on ↦ inr (on.0, on.1, inr (done.allocated, on.2, then done.allocated done.chooses))
+]
+
+sends_chosen : (x granted : ℕ) (a b c : NetState) (fault : Option StepFault) → Chooses x granted a b →
+    ((grants : List (Option SwGrant)) → AreGranted grants granted → Does (SendsBy Attempts grants x) b fault c) →
+    SendsGrantedBy Attempts x a fault c
+sends_chosen x granted a b c fault chosen sent =
+    subst (λ (s : NetState). SendsBy Attempts (switch_grants (router_at a x)) x s fault c) chosen.1
+    (sent (switch_grants (router_at a x)) chosen.0).exact
+
+pub passes_cut : (x granted : ℕ) (a b c : NetState) (fault : StepFault) → PreparesBy Attempts x granted a b →
+    Reaches a b → AreGrants granted
+    → ((grants : List (Option SwGrant)) → AreGranted grants granted → Does (SendsBy Attempts grants x) b (Some fault) c)
+    → Does (NodePassesBy Attempts x) a (Some fault) c
+passes_cut x granted a b c fault done reaches some sent = record {
+  exact = prepared x granted (SendsGrantedBy Attempts x and_then GivesCreditsBy Attempts x) a b c (Some fault) done
+      (λ allocated chosen. inl (refl, sends_chosen x granted allocated b c (Some fault) chosen sent));
+  reaches = joined a b c reaches (sent some.0 some.1).reaches;
+}
+
+pub passes_all : (x granted : ℕ) (a b c d : NetState) → PreparesBy Attempts x granted a b →
+    Reaches a b → AreGrants granted
+    → ((grants : List (Option SwGrant)) → AreGranted grants granted → Does (SendsBy Attempts grants x) b None c)
+    → Does (GivesCreditsBy Attempts x) c None d → Does (NodePassesBy Attempts x) a None d
+passes_all x granted a b c d done reaches some sent given = record {
+  exact = prepared x granted (SendsGrantedBy Attempts x and_then GivesCreditsBy Attempts x) a b d None done
+      (λ allocated chosen. inr (c, sends_chosen x granted allocated b c None chosen sent, given.exact));
+  reaches = joined a c d (joined a b c reaches (sent some.0 some.1).reaches) given.reaches;
+}
 
 -- the first number of a range that passes a test
 

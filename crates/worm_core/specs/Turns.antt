@@ -1,15 +1,18 @@
 -- The turn of a node, the turns of all nodes, and the run on one thread: which step is tried in which order, and where
 -- the allocators pass between them (Dally and Towles, chapters 16, 18 and 19).
 use Rattle.std.specs.Prelude.{ℕ, zero, suc, ◌≡◌, ◌+◌, ◌*◌, ◌<◌, ◌==◌, nat_lt, ◌⊎◌, List, [], ◌∷◌, length, sum, map}
+use Rattle.std.specs.Prelude.{true}
+use Rattle.worm_vcalloc.specs.ChannelSet.{has}
 use Rattle.std.specs.Prelude.{All, slice_index_or, Option, Some, None, IsSome, option_map, Result, Ok, Err, MatchBool}
 use Rattle.std.specs.List.{range_with_len, flat_map, find}
 use Rattle.std.specs.Option.{option_to_list}
 use Rattle.worm_mesh.specs.Address.{node_count}
 use Rattle.worm_router.specs.Router.{RouterState, width, input_at}
 use Rattle.worm_router.specs.Allocation.{after_allocate, switch_grants}
+use Rattle.worm_swalloc.specs.SwAlloc.{AreGranted}
 use Rattle.worm_swalloc.specs.declared.grant.SwGrant.{SwGrant}
 use Rattle.worm_theory.specs.Steps.{Step, Offer, CloseLane, Feed, Route, Grant, Send, Take, GiveCredit, TakeCredit}
-use Rattle.worm_theory.specs.Steps.{StepsLead}
+use Rattle.worm_theory.specs.Steps.{IsThere, StepsLead}
 use Rattle.worm_core.specs.State.{NetState, IsSameConfig, shape, network_of, router_at, with_router}
 use Rattle.worm_core.specs.Moves.{chosen_router}
 use Rattle.worm_core.specs.Answers.{Answers}
@@ -108,15 +111,31 @@ RoutesChannelsBy T x = ForEach all_ports (RoutesPortBy T x)
 abbrev pub Allocates : ℕ → Passage
 Allocates x old fault new = (fault ≡ None) × (new ≡ with_router old x (after_allocate (router_at old x)))
 
+-- one pass of the switch allocator, which grants these channels
+abbrev pub Chooses : ℕ → ℕ → NetState → NetState → Type 0
+Chooses x granted old new =
+    AreGranted (switch_grants (router_at old x)) granted × (new ≡ with_router old x (chosen_router (router_at old x)))
+
 -- what a pass of the switch allocator granted to an input port, as a step
 abbrev pub granted_send : List (Option SwGrant) → ℕ → ℕ → List Step
 granted_send grants x p = option_to_list (option_map (λ g. Send x p g.vc) (slice_index_or grants p None))
 
--- one pass of the switch allocator, and then the Sends that it granted, by input port
+-- the Sends that were granted, by input port
+abbrev pub SendsBy : (Step → Passage) → List (Option SwGrant) → ℕ → Passage
+SendsBy T grants x old fault new = Each T (flat_map (granted_send grants x) (all_ports old)) old fault new
+
+-- a set of channels that a pass may have granted, at most one of each port
+abbrev pub AreGrants : ℕ → Type 0
+AreGrants set = (grants : List (Option SwGrant)) × AreGranted grants set
+
+-- each channel of the set is there for the node to send from
+abbrev pub AreThere : NetState → ℕ → ℕ → Type 0
+AreThere s x set = (p v : ℕ) → p < 7 → v < 8 → has set p v ≡ true → IsThere (shape s) (Send x p v)
+
+-- one pass of the switch allocator, and then the Sends that it granted
 abbrev pub SendsGrantedBy : (Step → Passage) → ℕ → Passage
 SendsGrantedBy T x old fault new =
-    Each T (flat_map (granted_send (switch_grants (router_at old x)) x) (all_ports old))
-    (with_router old x (chosen_router (router_at old x))) fault new
+    SendsBy T (switch_grants (router_at old x)) x (with_router old x (chosen_router (router_at old x))) fault new
 
 -- the lowest channel of a port that owes a credit
 abbrev pub lowest_owed : RouterState → ℕ → Option ℕ
@@ -132,6 +151,13 @@ GivesCreditsBy T x = ForEach mesh_ports (GivesCreditBy T x)
 -- what comes in is taken, and what came in is routed
 abbrev pub ComesInBy : (Step → Passage) → ℕ → Passage
 ComesInBy T x = TakesCreditsBy T x and_then TakesFlitsBy T x and_then FeedsClassesBy T x and_then RoutesChannelsBy T x
+
+-- what a node does in a turn before anything leaves it: what comes in is taken and routed, and both allocators pass, the
+-- switch allocator granting these channels
+pub record PreparesBy (T : Step → Passage) (x granted : ℕ) (old new : NetState) : Type 0 where
+  pub allocated : NetState
+  pub comes : (ComesInBy T x and_then Allocates x) old None allocated
+  pub chooses : Chooses x granted allocated new
 
 -- what a node does in a turn once its source was asked
 abbrev pub NodePassesBy : (Step → Passage) → ℕ → Passage

@@ -1,10 +1,8 @@
 //! The lists of a network with what its moves need of them, and the moves: small steps, each of which keeps that.
 
-ghost use Rattle.std.specs.Prelude.{None, Some, slice_index_or, ◌≡◌, ◌≤◌, ◌<◌, ◌*◌, ℕ, Result, IsTrue, IfNone, Ok};
+ghost use Rattle.std.specs.Prelude.{None, Some, ◌≡◌, ◌≤◌, ◌<◌, ◌*◌, ℕ, Result, IsTrue, IfNone, Ok};
 ghost use Rattle.std.specs.Prelude.{sum, length, IfSome};
 ghost use Rattle.worm_theory.specs.Steps.{IsThere, Step as Event};
-ghost use Rattle.worm_swalloc.specs.SwAlloc.{AreGranted};
-ghost use Rattle.worm_swalloc.specs.declared.grant.SwGrant.{SwGrant};
 ghost use Rattle.worm_core.specs.Runs.{event_of};
 ghost use Rattle.worm_core.specs.Replies.{Attempts, Replies};
 ghost use Rattle.worm_core.specs.Answers.{accepted_of, moved_of};
@@ -12,12 +10,12 @@ ghost use Rattle.worm_core.specs.State.{shape, router_at, with_router};
 ghost use Rattle.worm_core.specs.Owned.{sole};
 ghost use Rattle.worm_wires.specs.Wiring.{port_links};
 ghost use Rattle.worm_core.specs.Workable.{EndsWithin, IsWorkable, owned};
-ghost use Rattle.worm_core.specs.Turns.{ComesInBy, ReachesAt, NodePassesBy, SendsGrantedBy, lowest_owed};
+ghost use Rattle.worm_core.specs.Turns.{AreThere, Chooses, ComesInBy, ReachesAt, NodePassesBy, lowest_owed};
 ghost use Rattle.worm_mesh.specs.Address.{node_count};
 ghost use Rattle.worm_router.specs.Router.{input_at, leaving, width};
 ghost use Rattle.worm_router.specs.Rest.{IsAtRest};
-ghost use Rattle.worm_router.specs.Allocation.{after_allocate, switch_grants};
-ghost use Rattle.worm_core.specs.Moves.{AreOwing, RoutesWithin, chosen_router};
+ghost use Rattle.worm_router.specs.Allocation.{after_allocate};
+ghost use Rattle.worm_core.specs.Moves.{AreOwing, RoutesWithin};
 
 mod edges;
 mod parts;
@@ -120,7 +118,7 @@ impl Region {
     }
 
     /// One pass of the node's channel allocator, its grants written into the records.
-    pub fn allocate(&mut self, node: u8)
+    pub(crate) fn allocate(&mut self, node: u8)
         requires { node < node_count self.old.mesh }
         ensures after { self.new ≡ with_router self.old node (after_allocate (router_at self.old node)) }
         ensures reaches { ReachesAt node self.old self.new }
@@ -129,23 +127,20 @@ impl Region {
     }
 
     /// One pass of the node's switch allocator: the channels that it grants.
-    pub fn choose(&mut self, node: u8) -> ChannelSet
+    pub(crate) fn choose(&mut self, node: u8) -> ChannelSet
         requires { node < node_count self.old.mesh }
-        ensures granted { AreGranted (switch_grants (router_at self.old node)) result }
-        ensures after { self.new ≡ with_router self.old node (chosen_router (router_at self.old node)) }
-        ensures there { (p : ℕ) (g : SwGrant) →
-            slice_index_or (switch_grants (router_at self.old node)) p None ≡ Some g →
-            IsThere (shape self.old) (Event.Send node p g.vc) }
+        ensures chooses { Chooses node result self.old self.new }
+        ensures there { AreThere self.new node result }
         ensures reaches { ReachesAt node self.old self.new }
     {
         self.fabric.choose(node)
     }
 
-    /// Whether no channel of the node may send; then nothing is granted, and nothing sent. Where none may this may
-    /// not be found.
+    /// Whether no channel of the node may send; then a pass of the switch allocator grants nothing. Where none may this
+    /// may not be found.
     pub(crate) fn sends_nothing(&self, node: u8) -> bool
         requires { node < node_count self.now.mesh }
-        ensures { IsTrue result → SendsGrantedBy Attempts node self.now None self.now }
+        ensures { IsTrue result → Chooses node 0 self.now self.now }
     {
         self.fabric.sends_nothing(node)
     }

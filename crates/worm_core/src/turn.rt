@@ -1,6 +1,6 @@
 //! The turn of a node, and the turns of all nodes in rising number.
 
-ghost use Rattle.std.specs.Prelude.{ℕ, List, [], ◌≡◌, ◌<◌, ◌≤◌, ◌*◌, None, Some, true, false, length, sum};
+ghost use Rattle.std.specs.Prelude.{ℕ, List, [], ◌≡◌, ◌<◌, ◌≤◌, ◌*◌, Option, None, Some, true, false, length, sum};
 ghost use Rattle.std.specs.Result.{result_err};
 ghost use Rattle.worm_mesh.specs.Address.{node_count};
 ghost use Rattle.worm_core.specs.Replies.{Attempts, Replies};
@@ -9,15 +9,19 @@ ghost use Rattle.worm_core.specs.Owned.{sole};
 ghost use Rattle.worm_core.specs.Workable.{IsWorkable};
 ghost use Rattle.worm_core.specs.declared.script.Entry.{Entry};
 ghost use Rattle.worm_router.specs.Router.{input_at, width};
+ghost use Rattle.worm_swalloc.specs.SwAlloc.{AreGranted};
+ghost use Rattle.worm_swalloc.specs.declared.grant.SwGrant.{SwGrant};
 ghost use Rattle.worm_core.specs.State.{router_at};
 ghost use Rattle.worm_theory.specs.Steps.{Route};
 ghost use Rattle.worm_core.specs.Moves.{OwesTheSame, RoutesTheSame};
 ghost use Rattle.worm_core.specs.Turns.{Does, ForEach, ReachesAt, all_nodes, ask, fault_of, lowest_owed, AsksSourceBy};
 ghost use Rattle.worm_core.specs.Turns.{ComesInBy, FeedsClassesBy, GivesCreditBy, GivesCreditsBy, NodePassesBy};
-ghost use Rattle.worm_core.specs.Turns.{NodeTurnBy, RoutesChannelsBy, SendsGrantedBy, TakesCreditsBy, TakesFlitsBy};
+ghost use Rattle.worm_core.specs.Turns.{NodeTurnBy, RoutesChannelsBy, SendsBy, TakesCreditsBy, TakesFlitsBy};
+ghost use Rattle.worm_core.specs.Turns.{AreGrants, AreThere, PreparesBy};
 
 use crate::region::Region;
 use crate::{Act, Entry, Moved, StepFault};
+use worm_vcalloc::ChannelSet;
 
 /// What the answer to a step is to the turn that tried it: a step that is not there, or not enabled, is passed over.
 pub fn tried(answer: Result<Moved, StepFault>) -> Result<(), StepFault>
@@ -138,18 +142,17 @@ impl Region {
         }
     }
 
-    /// Lets each channel that a pass of the switch allocator grants send, ports rising, up to the first fault.
-    fn send_granted(&mut self, node: u8) -> Result<(), StepFault>
-        requires node { node < node_count self.old.mesh }
+    /// Lets each of these channels, which the switch allocator granted, send, ports rising, up to the first fault.
+    fn send_granted(&mut self, node: u8, granted: ChannelSet) -> Result<(), StepFault>
+        requires granted { AreGrants granted }
+        requires there { AreThere self.old node granted }
         requires whole { self.old.own ≡ sole }
-        ensures { Does (SendsGrantedBy Attempts node) self.old (result_err result) self.new }
+        ensures { (grants : List (Option SwGrant)) → AreGranted grants granted →
+            Does (SendsBy Attempts grants node) self.old (result_err result) self.new }
     {
-        if self.sends_nothing(node) {
-            return Ok(());
-        }
         self.is_workable();
-        let mut granted = self.choose(node);
-        while let Some((port, vc)) = granted.pop_first() {
+        let mut left = granted;
+        while let Some((port, vc)) = left.pop_first() {
             tried(self.send_there(node, port, vc))?;
         }
         Ok(())
@@ -195,7 +198,7 @@ impl Region {
 
     /// Takes what comes in at the node, credits and then flits, feeds a flit of each class, and routes each channel
     /// that lacks a route.
-    pub fn come_in(&mut self, node: u8)
+    fn come_in(&mut self, node: u8)
         requires { node < node_count self.old.mesh }
         ensures does { Does (ComesInBy Attempts node) self.old None self.new }
         ensures at_node { ReachesAt node self.old self.new }
@@ -204,6 +207,22 @@ impl Region {
         self.take_flits(node);
         self.feed_classes(node);
         self.route_channels(node);
+    }
+
+    /// All that the node does in a turn before anything leaves it, once its source was asked: what comes in is taken,
+    /// fed and routed, and both allocators pass. The channels that may send are those granted.
+    pub fn prepare(&mut self, node: u8) -> ChannelSet
+        requires { node < node_count self.old.mesh }
+        ensures prepares { PreparesBy Attempts node result self.old self.new }
+        ensures there { AreThere self.new node result }
+        ensures at_node { ReachesAt node self.old self.new }
+    {
+        self.come_in(node);
+        self.allocate(node);
+        if self.sends_nothing(node) {
+            return ChannelSet::new();
+        }
+        self.choose(node)
     }
 
     /// What a node does in a turn once its source was asked.
@@ -215,9 +234,8 @@ impl Region {
         if self.rests(node) {
             return Ok(());
         }
-        self.come_in(node);
-        self.allocate(node);
-        self.send_granted(node)?;
+        let granted = self.prepare(node);
+        self.send_granted(node, granted)?;
         self.give_credits(node);
         Ok(())
     }

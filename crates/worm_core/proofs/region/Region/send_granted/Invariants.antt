@@ -6,8 +6,8 @@ use Rattle.worm_core.proofs.region.Region.send_granted.Given as goal
 
 abbrev pub invariant-loop-port : goal.invariant-loop-port
 invariant-loop-port l =
-    (grants : List (Option SwGrant)) → AreGranted grants l.initial.granted →
-    Sent l.node grants l.initial.granted l.granted l.initial.self l.self
+    (grants : List (Option SwGrant)) → AreGranted grants l.initial.left →
+    Sent l.node grants l.initial.left l.left l.initial.self l.self
 
 abbrev pub decreases-loop-port : goal.decreases-loop-port
-decreases-loop-port l = l.granted
+decreases-loop-port l = l.left
