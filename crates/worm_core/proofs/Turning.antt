@@ -20,7 +20,8 @@ use Rattle.worm_core.specs.Moves.{chosen_router}
 use Rattle.worm_core.specs.Replies.{Attempts, Replies}
 use Rattle.worm_core.specs.Turns.{Each, Does, Passage, Reaches, ReachesAt, Allocates, ask, fault_of, granted_send}
 use Rattle.worm_core.specs.Turns.{lowest_owed, ◌and_then◌, AsksSourceBy, ComesInBy, GivesCreditBy, GivesCreditsBy}
-use Rattle.worm_core.specs.Turns.{AreGrants, Chooses, NodePassesBy, PreparesBy, SendsBy, SendsGrantedBy}
+use Rattle.worm_core.specs.Turns.{AreGrants, Chooses, NodePassesBy, SendsBy, SendsGrantedBy}
+use Rattle.worm_core.specs.Prepared.{Prepares, allocated_at}
 use Rattle.worm_core.specs.declared.script.Entry.{Entry}
 use Rattle.worm_core.specs.declared.step.Moved.{Moved}
 use Rattle.worm_core.specs.declared.fault.StepFault.{StepFault}
@@ -168,13 +169,11 @@ sends_all grants x a b fault done = record {
 
 -- what was prepared, and then what follows the pass of the switch allocator
 prepared : (x granted : ℕ) (P : Passage) (a b c : NetState) (fault : Option StepFault) →
-    PreparesBy Attempts x granted a b
-    → ((allocated : NetState) → Chooses x granted allocated b → P allocated fault c) →
+    Prepares x granted a b → ((s : NetState) → Chooses x granted s b → P s fault c) →
     (ComesInBy Attempts x and_then Allocates x and_then P) a fault c
-prepared x granted P a b c fault done then = elim done.comes [
-  | inl ended ↦ absurd (cc)
-  | inr on ↦ inr (on.0, on.1, inr (done.allocated, on.2, then done.allocated done.chooses))
-]
+prepared x granted P a b c fault done then =
+    let s = allocated_at x done.came in
+    inr (done.came, done.comes, inr (s, (refl, refl), then s done.chooses))
 
 sends_chosen : (x granted : ℕ) (a b c : NetState) (fault : Option StepFault) → Chooses x granted a b →
     ((grants : List (Option SwGrant)) → AreGranted grants granted → Does (SendsBy Attempts grants x) b fault c) →
@@ -183,23 +182,23 @@ sends_chosen x granted a b c fault chosen sent =
     subst (λ (s : NetState). SendsBy Attempts (switch_grants (router_at a x)) x s fault c) chosen.1
     (sent (switch_grants (router_at a x)) chosen.0).exact
 
-pub passes_cut : (x granted : ℕ) (a b c : NetState) (fault : StepFault) → PreparesBy Attempts x granted a b →
-    Reaches a b → AreGrants granted
+pub passes_cut : (x granted : ℕ) (a b c : NetState) (fault : StepFault) → Prepares x granted a b → Reaches a b →
+    AreGrants granted
     → ((grants : List (Option SwGrant)) → AreGranted grants granted → Does (SendsBy Attempts grants x) b (Some fault) c)
     → Does (NodePassesBy Attempts x) a (Some fault) c
 passes_cut x granted a b c fault done reaches some sent = record {
   exact = prepared x granted (SendsGrantedBy Attempts x and_then GivesCreditsBy Attempts x) a b c (Some fault) done
-      (λ allocated chosen. inl (refl, sends_chosen x granted allocated b c (Some fault) chosen sent));
+      (λ s chosen. inl (refl, sends_chosen x granted s b c (Some fault) chosen sent));
   reaches = joined a b c reaches (sent some.0 some.1).reaches;
 }
 
-pub passes_all : (x granted : ℕ) (a b c d : NetState) → PreparesBy Attempts x granted a b →
-    Reaches a b → AreGrants granted
+pub passes_all : (x granted : ℕ) (a b c d : NetState) → Prepares x granted a b → Reaches a b →
+    AreGrants granted
     → ((grants : List (Option SwGrant)) → AreGranted grants granted → Does (SendsBy Attempts grants x) b None c)
     → Does (GivesCreditsBy Attempts x) c None d → Does (NodePassesBy Attempts x) a None d
 passes_all x granted a b c d done reaches some sent given = record {
   exact = prepared x granted (SendsGrantedBy Attempts x and_then GivesCreditsBy Attempts x) a b d None done
-      (λ allocated chosen. inr (c, sends_chosen x granted allocated b c None chosen sent, given.exact));
+      (λ s chosen. inr (c, sends_chosen x granted s b c None chosen sent, given.exact));
   reaches = joined a c d (joined a b c reaches (sent some.0 some.1).reaches) given.reaches;
 }
 

@@ -13,6 +13,7 @@ pub mod Headline
 pub mod NewNet
 pub mod Turns
 pub mod Replies
+pub mod Prepared
 pub mod Totals
 pub mod LaneView
 pub mod LaneSet

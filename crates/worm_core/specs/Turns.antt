@@ -152,13 +152,6 @@ GivesCreditsBy T x = ForEach mesh_ports (GivesCreditBy T x)
 abbrev pub ComesInBy : (Step → Passage) → ℕ → Passage
 ComesInBy T x = TakesCreditsBy T x and_then TakesFlitsBy T x and_then FeedsClassesBy T x and_then RoutesChannelsBy T x
 
--- what a node does in a turn before anything leaves it: what comes in is taken and routed, and both allocators pass, the
--- switch allocator granting these channels
-pub record PreparesBy (T : Step → Passage) (x granted : ℕ) (old new : NetState) : Type 0 where
-  pub allocated : NetState
-  pub comes : (ComesInBy T x and_then Allocates x) old None allocated
-  pub chooses : Chooses x granted allocated new
-
 -- what a node does in a turn once its source was asked
 abbrev pub NodePassesBy : (Step → Passage) → ℕ → Passage
 NodePassesBy T x = ComesInBy T x and_then Allocates x and_then SendsGrantedBy T x and_then GivesCreditsBy T x

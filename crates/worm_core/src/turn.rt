@@ -17,7 +17,8 @@ ghost use Rattle.worm_core.specs.Moves.{OwesTheSame, RoutesTheSame};
 ghost use Rattle.worm_core.specs.Turns.{Does, ForEach, ReachesAt, all_nodes, ask, fault_of, lowest_owed, AsksSourceBy};
 ghost use Rattle.worm_core.specs.Turns.{ComesInBy, FeedsClassesBy, GivesCreditBy, GivesCreditsBy, NodePassesBy};
 ghost use Rattle.worm_core.specs.Turns.{NodeTurnBy, RoutesChannelsBy, SendsBy, TakesCreditsBy, TakesFlitsBy};
-ghost use Rattle.worm_core.specs.Turns.{AreGrants, AreThere, PreparesBy};
+ghost use Rattle.worm_core.specs.Turns.{AreGrants, AreThere};
+ghost use Rattle.worm_core.specs.Prepared.{Prepares};
 
 use crate::region::Region;
 use crate::{Act, Entry, Moved, StepFault};
@@ -213,12 +214,15 @@ impl Region {
     /// fed and routed, and both allocators pass. The channels that may send are those granted.
     pub fn prepare(&mut self, node: u8) -> ChannelSet
         requires { node < node_count self.old.mesh }
-        ensures prepares { PreparesBy Attempts node result self.old self.new }
+        ensures prepares { Prepares node result self.old self.new }
         ensures there { AreThere self.new node result }
         ensures at_node { ReachesAt node self.old self.new }
     {
+        // What holds of each region is told of those between, too, for whoever keeps more of them than this.
         self.come_in(node);
+        self.is_workable();
         self.allocate(node);
+        self.is_workable();
         if self.sends_nothing(node) {
             return ChannelSet::new();
         }

@@ -3,6 +3,7 @@ use Rattle.worm_mesh.specs.Address.{node_count}
 use Rattle.std.proofs.lemmas.Result.{err_from_is_err_and}
 use Rattle.worm_core.specs.Owned.{sole}
 use Rattle.worm_core.specs.State.{router_at}
+use Rattle.worm_core.specs.Prepared.{allocated_at}
 use Rattle.worm_router.specs.Allocation.{switch_grants}
 use Rattle.worm_core.proofs.Passages.{does_nothing}
 use Rattle.worm_core.proofs.Turning.{passes_all, passes_cut}
@@ -18,7 +19,7 @@ returns-then-rests c =
 pub send_granted-requires-clause-granted : goal.send_granted-requires-clause-granted
 send_granted-requires-clause-granted c =
     let done = c.prepare-granted.ensures.prepares in
-    (switch_grants (router_at done.allocated c.args.node), done.chooses.0)
+    (switch_grants (router_at (allocated_at c.args.node done.came) c.args.node), done.chooses.0)
 
 pub send_granted-requires-clause-whole : goal.send_granted-requires-clause-whole
 send_granted-requires-clause-whole c =
@@ -28,7 +29,7 @@ send_granted-requires-clause-whole c =
 pub give_credits-requires-clause-node : goal.give_credits-requires-clause-node
 give_credits-requires-clause-node c =
     let done = c.prepare-granted.ensures.prepares in
-    let sent = c.in_ok-send_granted.ensures (switch_grants (router_at done.allocated c.args.node)) done.chooses.0 in
+    let sent = c.in_ok-send_granted.ensures (switch_grants (router_at (allocated_at c.args.node done.came) c.args.node)) done.chooses.0 in
     let rested : c.args.node < node_count c.rests.new.self.mesh = rw c.rests.ensures.same c.requires.node in
     subst (λ (mesh : List ℕ). c.args.node < node_count mesh)
     (sym (sent.reaches.config.mesh ∙ c.prepare-granted.ensures.at_node.config.mesh)) rested
@@ -39,7 +40,7 @@ give_credits-requires-clause-whole c =
     let rested : c.rests.new.self.own ≡ sole = rw c.rests.ensures.same c.requires.whole in
     let prepared =
     whole_after c.rests.new.self c.prepare-granted.new.self c.prepare-granted.ensures.at_node.config rested in
-    let sent = c.in_ok-send_granted.ensures (switch_grants (router_at done.allocated c.args.node)) done.chooses.0 in
+    let sent = c.in_ok-send_granted.ensures (switch_grants (router_at (allocated_at c.args.node done.came) c.args.node)) done.chooses.0 in
     whole_after c.prepare-granted.new.self c.send_granted.new.self sent.reaches.config prepared
 
 pub returns-in_err-send_granted : goal.returns-in_err-send_granted
@@ -50,7 +51,7 @@ returns-in_err-send_granted c =
     rw (p.1, p.2, ← c.rests.ensures.same) (passes_cut x c.prepare-granted.result c.rests.new.self c.prepare-granted.new.self
     c.send_granted.new.self c.in_err-send_granted.field-0.0 done
     (anywhere x c.rests.new.self c.prepare-granted.new.self c.prepare-granted.ensures.at_node)
-    (switch_grants (router_at done.allocated x), done.chooses.0) c.in_err-send_granted.ensures)
+    (switch_grants (router_at (allocated_at x done.came) x), done.chooses.0) c.in_err-send_granted.ensures)
 
 pub returns : goal.returns
 returns c =
@@ -59,4 +60,4 @@ returns c =
     rw (← c.rests.ensures.same) (passes_all x c.prepare-granted.result c.rests.new.self c.prepare-granted.new.self
     c.send_granted.new.self c.give_credits.new.self done
     (anywhere x c.rests.new.self c.prepare-granted.new.self c.prepare-granted.ensures.at_node)
-    (switch_grants (router_at done.allocated x), done.chooses.0) c.in_ok-send_granted.ensures c.give_credits.ensures)
+    (switch_grants (router_at (allocated_at x done.came) x), done.chooses.0) c.in_ok-send_granted.ensures c.give_credits.ensures)

@@ -1,13 +1,20 @@
-use Rattle.std.proofs.Common.{inr, refl}
+use Rattle.std.proofs.Common.{subst, sym}
+use Rattle.worm_core.specs.State.{NetState}
+use Rattle.worm_core.specs.Prepared.{Prepares}
+use Rattle.worm_core.specs.Turns.{Chooses}
+use Rattle.worm_core.specs.Workable.{IsWorkable}
 use Rattle.worm_core.proofs.Resting.{none_there}
 use Rattle.worm_core.proofs.StepsAt.{joined_at}
 use Rattle.worm_core.proofs.region.Region.prepare.Goals as goal
 
 pub returns-then-sends_nothing-clause-prepares : goal.returns-then-sends_nothing-clause-prepares
 returns-then-sends_nothing-clause-prepares c = rw c.new.ensures (record {
-  allocated = c.allocate.new.self;
-  comes = inr (c.come_in.new.self, c.come_in.ensures.does.exact, (refl, c.allocate.ensures.after));
-  chooses = c.sends_nothing.ensures c.if-sends_nothing.true;
+  came = c.come_in.new.self;
+  comes = c.come_in.ensures.does.exact;
+  chooses = subst (λ (s : NetState). Chooses c.args.node 0 s c.allocate.new.self) c.allocate.ensures.after
+      (c.sends_nothing.ensures c.if-sends_nothing.true);
+  workable = c.is_workable.ensures;
+  still_workable = subst IsWorkable c.allocate.ensures.after c.is_workable-2.ensures;
 })
 
 pub returns-then-sends_nothing-clause-there : goal.returns-then-sends_nothing-clause-there
@@ -20,9 +27,12 @@ returns-then-sends_nothing-clause-at_node c =
 
 pub returns-clause-prepares : goal.returns-clause-prepares
 returns-clause-prepares c = record {
-  allocated = c.allocate.new.self;
-  comes = inr (c.come_in.new.self, c.come_in.ensures.does.exact, (refl, c.allocate.ensures.after));
-  chooses = c.choose.ensures.chooses;
+  came = c.come_in.new.self;
+  comes = c.come_in.ensures.does.exact;
+  chooses = subst (λ (s : NetState). Chooses c.args.node c.choose.result s c.choose.new.self) c.allocate.ensures.after
+      c.choose.ensures.chooses;
+  workable = c.is_workable.ensures;
+  still_workable = subst IsWorkable c.allocate.ensures.after c.is_workable-2.ensures;
 }
 
 pub returns-clause-at_node : goal.returns-clause-at_node
