@@ -87,6 +87,14 @@ first_port grants all left left' n port vc are walked first =
       fewer = first.fewer;
     }
 
+-- and is one of the set
+pub was_granted : (grants : List (Option SwGrant)) (all left left' n port vc : ℕ) → AreGranted grants all →
+    IsWalked all left n 7 → IsFirst left left' port vc → has all port vc ≡ true
+was_granted grants all left left' n port vc are walked first =
+    let from =
+    walked_from all left left' n 7 port walked (first_port grants all left left' n port vc are walked first) in
+    sym (walked.kept port vc from first.port_in first.channel_in) ∙ first.was_in
+
 pub sent_start : (x : ℕ) (grants : List (Option SwGrant)) (all : ℕ) (a : NetState) → 2 * length a.mesh + 1 ≤ 7 →
     Does (Each (λ p. Each Attempts (granted_send grants x p)) (range_with_len 0 0)) a None a →
     Sent x grants all all a a
@@ -98,11 +106,8 @@ pub sent_in : (x : ℕ) (grants : List (Option SwGrant)) (all left left' port vc
     AreGranted grants all → Sent x grants all left a b → IsFirst left left' port vc
     → (g : SwGrant) × (slice_index_or grants port None ≡ Some g) × (g.vc ≡ vc)
 sent_in x grants all left left' port vc a b are sent first =
-    let from =
-    walked_from all left left' sent.next 7 port sent.walked
-    (first_port grants all left left' sent.next port vc are sent.walked first) in
     granted_one grants all port vc are first.port_in first.channel_in
-    (sym (sent.walked.kept port vc from first.port_in first.channel_in) ∙ first.was_in)
+    (was_granted grants all left left' sent.next port vc are sent.walked first)
 
 -- the ports before it have no grant
 sent_to : (x : ℕ) (grants : List (Option SwGrant)) (all left left' port vc : ℕ) (a b : NetState) →
@@ -171,7 +176,7 @@ sent_all x grants all left a b are sent e =
     omega arith) v_in))).exact)
 
 -- a Send that is there is by a port of the node
-pub send_port : (s : NetState) (x p v : ℕ) → IsWorkable s → IsThere (shape s) (Send x p v) → p ≤ 2 * length s.mesh
+send_port : (s : NetState) (x p v : ℕ) → IsWorkable s → IsThere (shape s) (Send x p v) → p ≤ 2 * length s.mesh
 send_port s x p v net there =
     let place = net_place s x p v net.framed there.0 there.1 there.2 in
     let node = net.framed.each_node x place.node_in in
@@ -179,19 +184,18 @@ send_port s x p v net there =
     let port_in = place.place.port_in in
     omega arith
 
--- a channel that comes out is of the set, and there to send
-sent_of : (x : ℕ) (grants : List (Option SwGrant)) (all left left' port vc : ℕ) (a b : NetState) →
-    AreGranted grants all → Sent x grants all left a b → IsFirst left left' port vc → has all port vc ≡ true
-sent_of x grants all left left' port vc a b are sent first =
-    let from =
-    walked_from all left left' sent.next 7 port sent.walked
-    (first_port grants all left left' sent.next port vc are sent.walked first) in
-    sym (sent.walked.kept port vc from first.port_in first.channel_in) ∙ first.was_in
+pub walked_there : (x : ℕ) (grants : List (Option SwGrant)) (all left left' n port vc : ℕ) (a : NetState) →
+    IsWorkable a → AreGranted grants all → AreThere a x all → IsWalked all left n 7 → IsFirst left left' port vc →
+    IsThere (shape a) (Send x port vc) × (port ≤ 2 * length a.mesh)
+walked_there x grants all left left' n port vc a net are there walked first =
+    let at : IsThere (shape a) (Send x port vc) =
+    there port vc first.port_in first.channel_in (was_granted grants all left left' n port vc are walked first) in
+    (at, send_port a x port vc net at)
 
+-- a channel that comes out is there to send
 pub sent_there : (x : ℕ) (grants : List (Option SwGrant)) (all left left' port vc : ℕ) (a b : NetState) →
     IsWorkable a → AreGranted grants all → AreThere a x all → Sent x grants all left a b → IsFirst left left' port vc →
     IsThere (shape b) (Send x port vc) × (port ≤ 2 * length a.mesh)
 sent_there x grants all left left' port vc a b net are there sent first =
-    let at : IsThere (shape a) (Send x port vc) =
-    there port vc first.port_in first.channel_in (sent_of x grants all left left' port vc a b are sent first) in
-    (there_still a b x port vc sent.passed.reaches.config at, send_port a x port vc net at)
+    let at = walked_there x grants all left left' sent.next port vc a net are there sent.walked first in
+    (there_still a b x port vc sent.passed.reaches.config at.0, at.1)

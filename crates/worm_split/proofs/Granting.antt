@@ -1,6 +1,6 @@
 -- What a pass of the switch allocator granted is sent, ports rising: one channel at a time comes out of the set of
 -- those granted.
-use Rattle.std.proofs.Common.{◌≡◌, ℕ, ◌+◌, ◌*◌, ◌<◌, ◌≤◌, List, [], length, Option, Some, None, refl, arith, ap, sym}
+use Rattle.std.proofs.Common.{◌≡◌, ℕ, ◌+◌, ◌*◌, ◌<◌, ◌≤◌, inr, List, [], length, Option, Some, None, refl, arith, ap, sym}
 use Rattle.std.proofs.Common.{subst, ◌∙◌, slice_index_or}
 use Rattle.std.specs.List.{range_with_len}
 use Rattle.std.specs.Option.{option_to_list}
@@ -8,13 +8,19 @@ use Rattle.worm_vcalloc.specs.ChannelSet.{IsFirst}
 use Rattle.worm_swalloc.specs.declared.grant.SwGrant.{SwGrant}
 use Rattle.worm_swalloc.specs.SwAlloc.{AreGranted}
 use Rattle.worm_swalloc.proofs.WalkLemmas.{IsWalked, walked_start, walked_from, walked_over, walked_more, walked_all}
+use Rattle.worm_theory.specs.Steps.{Send, IsThere}
 use Rattle.worm_router.specs.Allocation.{switch_grants}
-use Rattle.worm_core.specs.State.{router_at, with_router}
 use Rattle.worm_core.specs.Moves.{chosen_router}
+use Rattle.worm_core.specs.Prepared.{Prepares, allocated_at}
+use Rattle.worm_core.specs.Replies.{Attempts}
+use Rattle.worm_core.specs.State.{NetState, router_at, shape, with_router}
+use Rattle.worm_core.specs.Turns.{Allocates, AreThere, Chooses, ComesInBy}
+use Rattle.worm_core.specs.Workable.{IsWorkable}
 use Rattle.worm_core.specs.declared.fault.StepFault.{StepFault}
-use Rattle.worm_core.proofs.Sending.{granted_one, granted_none, first_port}
+use Rattle.worm_core.proofs.Allocating.{there_still}
+use Rattle.worm_core.proofs.Sending.{granted_one, granted_none, first_port, walked_there, was_granted}
 use Rattle.worm_split.specs.PartState.{PartState, IsSamePart}
-use Rattle.worm_split.specs.PartTurns.{EachOf, Sends, SendsGrant, SendsGranted}
+use Rattle.worm_split.specs.PartTurns.{EachOf, PartPassage, Sends, SendsGrant, SendsGranted, SendsGrants, Within, ◌then◌}
 use Rattle.worm_split.proofs.PartLoops.{of_more, of_end, of_one, of_rest, same_on, same_still}
 
 -- how far the ports have come
@@ -49,13 +55,19 @@ module _ (x : ℕ) (grants : List (Option SwGrant)) (all : ℕ) (are : AreGrante
       subst (λ (o : Option SwGrant). EachOf (λ (h : SwGrant). Sends x p h.vc) (option_to_list o) b fault c) (sym e) one
 
   -- a channel that comes out was granted, by a port of the node
-  pub sent_in : (left left2 port vc : ℕ) (a b : PartState) → Sent x grants all left a b → IsFirst left left2 port vc
+  sent_in : (left left2 port vc : ℕ) (a b : PartState) → Sent x grants all left a b → IsFirst left left2 port vc
       → (g : SwGrant) × (slice_index_or grants port None ≡ Some g) × (g.vc ≡ vc)
   sent_in left left2 port vc a b sent first =
-      let from = walked_from all left left2 sent.next 7 port sent.walked
-      (first_port grants all left left2 sent.next port vc are sent.walked first) in
       granted_one grants all port vc are first.port_in first.channel_in
-      (sym (sent.walked.kept port vc from first.port_in first.channel_in) ∙ first.was_in)
+      (was_granted grants all left left2 sent.next port vc are sent.walked first)
+
+  -- and is there to send
+  pub sent_there : (left left2 port vc : ℕ) (a b : PartState) → IsWorkable a.net → AreThere a.net x all
+      → Sent x grants all left a b → IsFirst left left2 port vc
+      → IsThere (shape b.net) (Send x port vc) × (port ≤ 2 * length a.net.mesh)
+  sent_there left left2 port vc a b net there sent first =
+      let at = walked_there x grants all left left2 sent.next port vc a.net net are there sent.walked first in
+      (there_still a.net b.net x port vc sent.same.config at.0, at.1)
 
   -- the ports before it have no grant
   sent_to : (left left2 port vc : ℕ) (a b : PartState) → Sent x grants all left a b → IsFirst left left2 port vc
@@ -103,10 +115,24 @@ module _ (x : ℕ) (grants : List (Option SwGrant)) (all : ℕ) (are : AreGrante
       (λ i above below. none_sent i b (granted_none grants all i are (omega arith)
       (λ v v_in. walked_all all left sent.next 7 i v sent.walked e above (omega arith) v_in)))
 
--- which is what the node sends of what was granted
-pub all_sent : (x : ℕ) (p a b : PartState) (fault : Option StepFault)
-    → a ≡ record p { net = with_router p.net x (chosen_router (router_at p.net x)) }
-    → EachOf (SendsGrant (switch_grants (router_at p.net x)) x) (range_with_len 0 (2 * length a.net.mesh + 1)) a fault b
-    → SendsGranted x p fault b
-all_sent x p a b fault e sent = subst (λ (q : PartState). EachOf (SendsGrant (switch_grants (router_at p.net x)) x)
-    (range_with_len 0 (2 * length q.net.mesh + 1)) q fault b) e sent
+-- what was prepared, and then what follows the pass of the switch allocator
+pub prepared : (x granted : ℕ) (P : PartPassage) (a b c : PartState) (fault : Option StepFault)
+    → Prepares x granted a.net b.net → ((s : NetState) → Chooses x granted s b.net → P (record a { net = s }) fault c)
+    → (Within (ComesInBy Attempts x) then Within (Allocates x) then P) a fault c
+prepared x granted P a b c fault done follows =
+    let s = allocated_at x done.came in
+    inr (
+      record a { net = done.came },
+      (done.comes, refl),
+      inr (record a { net = s }, ((refl, refl), refl), follows s done.chooses),
+    )
+
+pub sent_chosen : (x granted : ℕ) (a b c : PartState) (fault : Option StepFault) (s : NetState)
+    → b ≡ record a { net = b.net } → Chooses x granted s b.net
+    → ((grants : List (Option SwGrant)) → AreGranted grants granted → SendsGrants grants x b fault c)
+    → SendsGranted x (record a { net = s }) fault c
+sent_chosen x granted a b c fault s within chosen sent =
+    let grants = switch_grants (router_at s x) in
+    let is : b ≡ record a { net = with_router s x (chosen_router (router_at s x)) } =
+    within ∙ ap (λ (net : NetState). record a { net = net }) chosen.1 in
+    subst (λ (q : PartState). SendsGrants grants x q fault c) is (sent grants chosen.0)

@@ -15,6 +15,7 @@ use Rattle.worm_theory.proofs.Places.{bool_cases}
 use Rattle.worm_core.specs.Shape.{net_shape}
 use Rattle.worm_core.specs.State.{NetState, IsSameConfig, shape, network_of, router_at, with_router}
 use Rattle.worm_core.specs.Moves.{chosen_router}
+use Rattle.worm_core.specs.Prepared.{Prepares, allocated_at}
 use Rattle.worm_core.specs.Replies.{Attempts, Replies}
 use Rattle.worm_core.specs.Turns.{Passage, Allocates, ◌and_then◌, AsksSourceBy, ComesInBy, TakesCreditsBy, TakesFlitsBy}
 use Rattle.worm_core.specs.Turns.{FeedsClassesBy, RoutesChannelsBy}
@@ -79,15 +80,15 @@ module _ (p : PartState) (part : IsPart p) where
       }
 
   -- after a pass of a node's switch allocator, which moves its pointers alone
-  pub inside_chosen : (x : ℕ) → IsWorkable p.net → x < node_count p.net.mesh
-      → IsInside (with_router p.net x (chosen_router (router_at p.net x)))
-  inside_chosen x workable x_in =
+  inside_chosen : (x : ℕ) (net : NetState) → IsWorkable net → x < node_count net.mesh → IsInside net
+      → IsInside (with_router net x (chosen_router (router_at net x)))
+  inside_chosen x net workable x_in inside =
       let all = workable.framed.all_nodes in
-      let same = chosen_apart p.net x (omega arith) in
+      let same = chosen_apart net x (omega arith) in
       record {
-        same_shape = part_shape p part;
+        same_shape = inside.same_shape;
         holds = subst (λ (n : Network). HasPart (shape p.opening) (network_of p.opening) (owns p) (seen_by (end_of p) n)
-            (taken_by p) (returned_to p)) (sym same) part.holds;
+            (taken_by p) (returned_to p)) (sym same) inside.holds;
       }
 
   -- At one of its nodes
@@ -136,7 +137,7 @@ module _ (p : PartState) (part : IsPart p) where
         (end_of p) (taken_by p) (returned_to p) x here in_sees out_sees entries
 
     -- what comes in
-    pub keeps_coming : KeepsIt (ComesInBy Attempts x)
+    keeps_coming : KeepsIt (ComesInBy Attempts x)
     keeps_coming =
         let s = shape p.opening in
         let mesh = mesh_of_part p part in
@@ -163,8 +164,19 @@ module _ (p : PartState) (part : IsPart p) where
       };
     }
 
-    pub keeps_allocating : (net : NetState) → IsWorkable net → x < node_count net.mesh → IsInside net
+    keeps_allocating : (net : NetState) → IsWorkable net → x < node_count net.mesh → IsInside net
         → IsInside (with_router net x (after_allocate (router_at net x)))
     keeps_allocating net workable x_in inside =
         let all = workable.framed.all_nodes in
         (allocated_keeps IsInside net x kept_by_grants workable (omega arith) inside).1
+
+    -- what is prepared
+    pub inside_prepared : (granted : ℕ) (net new : NetState) → x < node_count net.mesh → IsInside net
+        → Prepares x granted net new → IsInside new
+    inside_prepared granted net new x_in inside done =
+        let came = keeps_coming net done.came None inside done.comes in
+        let came_in : x < node_count done.came.mesh =
+        subst (λ (mesh : List ℕ). x < node_count mesh) (sym came.1.mesh) x_in in
+        let allocated = keeps_allocating done.came done.workable came_in came.0 in
+        subst IsInside (sym done.chooses.1)
+        (inside_chosen x (allocated_at x done.came) done.still_workable came_in allocated)

@@ -159,10 +159,13 @@ PullsFlits x old fault new = EachOf (PullsFlit x) (mesh_ports old.net) old fault
 abbrev pub SendsGrant : List (Option SwGrant) → ℕ → ℕ → PartPassage
 SendsGrant grants x p = EachOf (λ (g : SwGrant). Sends x p g.vc) (option_to_list (slice_index_or grants p None))
 
+abbrev pub SendsGrants : List (Option SwGrant) → ℕ → PartPassage
+SendsGrants grants x old fault new = EachOf (SendsGrant grants x) (all_ports old.net) old fault new
+
 -- one pass of the switch allocator, and then what it granted is sent, by input port
 abbrev pub SendsGranted : ℕ → PartPassage
 SendsGranted x old fault new =
-    EachOf (SendsGrant (switch_grants (router_at old.net x)) x) (all_ports old.net)
+    SendsGrants (switch_grants (router_at old.net x)) x
     (record old { net = with_router old.net x (chosen_router (router_at old.net x)) }) fault new
 
 -- a credit of the lowest channel that owes one is given to each link into the node

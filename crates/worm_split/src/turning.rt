@@ -1,24 +1,23 @@
 //! What a part does in a turn of one of its nodes.
 
 ghost use Rattle.std.specs.Prelude.{◌≡◌, ◌<◌, ◌≤◌, ◌+◌, ◌*◌, ◌↔◌, ◌∷◌, [], ℕ, filter, true, None, Some, IfSome, IsTrue};
-ghost use Rattle.std.specs.Prelude.{length, slice_index_or, sum};
+ghost use Rattle.std.specs.Prelude.{List, Option, length, sum};
 ghost use Rattle.std.specs.Result.{result_err};
 ghost use Rattle.worm_mesh.specs.Address.{node_count};
 ghost use Rattle.worm_core.specs.Replies.{Attempts};
 ghost use Rattle.worm_core.specs.Script.{due};
-ghost use Rattle.worm_core.specs.Turns.{Allocates, AsksSourceBy, ComesInBy, lowest_owed};
+ghost use Rattle.worm_core.specs.Prepared.{Prepares};
+ghost use Rattle.worm_core.specs.Turns.{AreGrants, AreThere, AsksSourceBy, lowest_owed};
 ghost use Rattle.worm_core.specs.Workable.{owned};
 ghost use Rattle.worm_split.specs.Effects.{HasWords, HaveWords, IsRefused, SinksTakeOne, SourcesTake};
 ghost use Rattle.worm_split.specs.PartState.{IsSamePart};
-ghost use Rattle.worm_core.specs.Moves.{chosen_router};
-ghost use Rattle.worm_core.specs.State.{router_at, shape, with_router};
-ghost use Rattle.worm_router.specs.Allocation.{switch_grants};
+ghost use Rattle.worm_core.specs.State.{router_at, shape};
 ghost use Rattle.worm_swalloc.specs.SwAlloc.{AreGranted};
 ghost use Rattle.worm_swalloc.specs.declared.grant.SwGrant.{SwGrant};
 ghost use Rattle.worm_router.specs.Router.{input_at, leaving};
 ghost use Rattle.worm_theory.specs.Steps.{IsThere, Step as Event};
 ghost use Rattle.worm_split.specs.PartTurns.{ComesBy, EachOf, GivesAcross, GivesCredit, GivesCredits, LeavesBy};
-ghost use Rattle.worm_split.specs.PartTurns.{NodeTurn, Sends, SendsAcross, SendsGranted, StaysWithin, Turn};
+ghost use Rattle.worm_split.specs.PartTurns.{NodeTurn, Sends, SendsAcross, SendsGrants, StaysWithin, Turn};
 ghost use Rattle.worm_split.specs.PartTurns.{PullsCredit, PullsCredits, PullsFlit, PullsFlits, Within};
 
 use crate::ends::{is_entering, is_leaving, pop_credit, pop_flit, push_credit, push_flit};
@@ -105,25 +104,16 @@ impl Part {
         self.region.ask_source(node, entries)
     }
 
-    /// Takes what comes in at the node by its links, feeds its classes, and routes its channels.
-    fn come_in(&mut self, node: u8)
+    /// All that the node does before anything leaves it, as in a whole network: the channels that may send.
+    fn prepare(&mut self, node: u8) -> ChannelSet
         requires node { node < node_count self.old.net.mesh }
         requires own { owned self.old.net node ≡ true }
+        ensures prepares { Prepares node result self.old.net self.new.net }
+        ensures within { self.new ≡ record self.old { net = self.new.net } }
+        ensures there { AreThere self.new.net node result }
         ensures same { IsSamePart self.old self.new }
-        ensures comes { Within (ComesInBy Attempts node) self.old None self.new }
     {
-        self.region.come_in(node);
-    }
-
-    /// One pass of the node's channel allocator.
-    fn allocate(&mut self, node: u8)
-        requires node { node < node_count self.old.net.mesh }
-        requires own { owned self.old.net node ≡ true }
-        ensures same { IsSamePart self.old self.new }
-        ensures allocates { Within (Allocates node) self.old None self.new }
-    {
-        self.region.is_workable();
-        self.region.allocate(node);
+        self.region.prepare(node)
     }
 
     /// The ready flit leaves over the link of this number, which leads to another worker's node, if its push lands.
@@ -184,35 +174,23 @@ impl Part {
         }
     }
 
-    /// One pass of the node's switch allocator: the channels that it grants.
-    fn choose(&mut self, node: u8) -> ChannelSet
-        requires node { node < node_count self.old.net.mesh }
+    /// Lets each of these channels, which the switch allocator granted, send, ports rising, up to the first fault.
+    fn send_granted<R: Wait>(
+        &mut self,
+        rt: &R,
+        node: u8,
+        granted: ChannelSet,
+    ) -> Result<(), StepFault>
+        requires granted { AreGrants granted }
+        requires there { AreThere self.old.net node granted }
         requires own { owned self.old.net node ≡ true }
-        ensures granted { AreGranted (switch_grants (router_at self.old.net node)) result }
-        ensures after { self.new ≡ record self.old
-            { net = with_router self.old.net node (chosen_router (router_at self.old.net node)) } }
-        ensures there { (p : ℕ) (g : SwGrant)
-            → slice_index_or (switch_grants (router_at self.old.net node)) p None ≡ Some g
-            → IsThere (shape self.old.net) (Event.Send node p g.vc) }
-        ensures ports { (p : ℕ) (g : SwGrant)
-            → slice_index_or (switch_grants (router_at self.old.net node)) p None ≡ Some g
-            → p ≤ 2 * length self.old.net.mesh }
-        ensures few { 2 * length self.old.net.mesh + 1 ≤ 7 }
+        ensures sends { (grants : List (Option SwGrant)) → AreGranted grants granted →
+            SendsGrants grants node self.old (result_err result) self.new }
         ensures same { IsSamePart self.old self.new }
     {
         self.region.is_workable();
-        self.region.choose(node)
-    }
-
-    /// Lets each channel that a pass of the switch allocator grants send, ports rising, up to the first fault.
-    fn send_granted<R: Wait>(&mut self, rt: &R, node: u8) -> Result<(), StepFault>
-        requires node { node < node_count self.old.net.mesh }
-        requires own { owned self.old.net node ≡ true }
-        ensures sends { SendsGranted node self.old (result_err result) self.new }
-        ensures same { IsSamePart self.old self.new }
-    {
-        let mut granted = self.choose(node);
-        while let Some((port, vc)) = granted.pop_first() {
+        let mut left = granted;
+        while let Some((port, vc)) = left.pop_first() {
             self.send(rt, node, port, vc)?;
         }
         Ok(())
@@ -312,9 +290,8 @@ impl Part {
         self.ask_source(node, entries)?;
         self.pull_credits(rt, node);
         self.pull_flits(rt, node);
-        self.come_in(node);
-        self.allocate(node);
-        self.send_granted(rt, node)?;
+        let granted = self.prepare(node);
+        self.send_granted(rt, node, granted)?;
         self.give_credits(rt, node);
         Ok(())
     }

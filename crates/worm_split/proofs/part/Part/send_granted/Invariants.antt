@@ -5,8 +5,8 @@ use Rattle.worm_split.proofs.Granting.{Sent}
 use Rattle.worm_split.proofs.part.Part.send_granted.Given as goal
 
 abbrev pub invariant-loop-port : goal.invariant-loop-port
-invariant-loop-port g l = (grants : List (Option SwGrant)) → AreGranted grants l.initial.granted
-    → Sent l.node grants l.initial.granted l.granted l.initial.self l.self
+invariant-loop-port g l = (grants : List (Option SwGrant)) → AreGranted grants l.initial.left
+    → Sent l.node grants l.initial.left l.left l.initial.self l.self
 
 abbrev pub decreases-loop-port : goal.decreases-loop-port
-decreases-loop-port g l = l.granted
+decreases-loop-port g l = l.left

@@ -1,12 +1,11 @@
 use Rattle.std.proofs.Common.{◌≡◌, ◌<◌, true, sym, subst, ◌∙◌}
 use Rattle.worm_mesh.specs.Address.{node_count}
-use Rattle.worm_core.specs.State.{NetState}
 use Rattle.worm_core.specs.Workable.{owned}
 use Rattle.worm_core.specs.declared.own.Own.{Own}
 use Rattle.worm_split.specs.Apart.{IsKept}
 use Rattle.worm_split.specs.PartState.{PartState, part_state}
-use Rattle.worm_split.proofs.Inside.{IsInside, inside_now, keeps_allocating, part_with_net}
-use Rattle.worm_split.proofs.part.Part.allocate.Goals as goal
+use Rattle.worm_split.proofs.Inside.{inside_now, inside_prepared, part_with_net}
+use Rattle.worm_split.proofs.part.Part.prepare.Goals as goal
 
 pub invariant_of-self : goal.invariant_of-self
 invariant_of-self c =
@@ -15,11 +14,9 @@ invariant_of-self c =
     let here : owned p.net c.args.node ≡ true = (λ t. owned (c.self.view_is t).net c.args.node) ∙ c.requires.own in
     let there : c.args.node < node_count p.net.mesh =
     subst (λ (q : PartState). c.args.node < node_count q.net.mesh) (sym c.self.view_is) c.requires.node in
-    let kept = keeps_allocating p c.self.invariant.0 c.args.node here p.net c.is_workable.ensures there
-    (inside_now p c.self.invariant.0) in (
-      part_with_net p c.self.invariant.0 c.allocate.new.self
-          (subst (λ (n : NetState). IsInside p c.self.invariant.0 n) (sym c.allocate.ensures.after) kept)
-          c.allocate.ensures.reaches.config,
-      subst (λ (w : Own). IsKept i.opening.value w i.kept)
-          (sym c.allocate.ensures.reaches.config.own) c.self.invariant.1,
+    let kept = inside_prepared p c.self.invariant.0 c.args.node here c.prepare.result p.net c.prepare.new.self there
+    (inside_now p c.self.invariant.0) c.prepare.ensures.prepares in (
+      part_with_net p c.self.invariant.0 c.prepare.new.self kept c.prepare.ensures.at_node.config,
+      subst (λ (w : Own). IsKept i.opening.value w i.kept) (sym c.prepare.ensures.at_node.config.own)
+          c.self.invariant.1,
     )
