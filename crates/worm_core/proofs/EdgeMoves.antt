@@ -18,7 +18,7 @@ use Rattle.worm_core.specs.Shape.{net_shape}
 use Rattle.worm_core.specs.State.{NetState, IsNetPlace, shape, network_of, router_at, with_router, link_at}
 use Rattle.worm_wires.specs.Links.{LinkView}
 use Rattle.worm_core.specs.State.{with_link}
-use Rattle.worm_core.specs.Workable.{EndsElsewhere, IsWorkableBy, IsSent, Works}
+use Rattle.worm_core.specs.Workable.{IsWorkableBy, IsSent, Works}
 use Rattle.worm_core.specs.Moves.{link_out}
 use Rattle.worm_wires.specs.Wiring.{into_from}
 use Rattle.worm_core.specs.Edges.{Arrives, ComesBack, LetsOut, LetsGive, after_arriving, after_credit_back}
@@ -30,7 +30,7 @@ use Rattle.worm_core.proofs.LinkBridge.{link_bridge, link_framed, out_there, cre
 use Rattle.worm_core.proofs.SendBridge.{active_leads, sent_bridge}
 use Rattle.worm_core.proofs.SendStep.{may_leave, may_send, c_within, enabled_by, to_after}
 use Rattle.worm_core.proofs.There.{buffer_there, owed_there, record_there}
-use Rattle.worm_core.proofs.OwnEdges.{let_out_works, arrive_works, back_works, gave_works}
+use Rattle.worm_core.proofs.OwnEdges.{AreElsewhere, let_out_works, arrive_works, back_works, gave_works}
 
 -- a flit that comes onto a link
 pub arrived : (s : NetState) (x o : ℕ) (f : Flit) → {own : ℕ → Bool} → IsWorkableBy own s → own x ≡ false →
@@ -119,7 +119,7 @@ credited s x p v {own} net elsewhere linked channel = by_link (neighbour_of s.me
       )
 
 -- a credit that goes elsewhere
-pub gave_away : (s : NetState) (x p v : ℕ) → {own : ℕ → Bool} → IsWorkableBy own s → EndsElsewhere (shape s) own x p →
+pub gave_away : (s : NetState) (x p v : ℕ) → {own : ℕ → Bool} → IsWorkableBy own s → AreElsewhere (shape s) own x p →
     IsThere (shape s) (GiveCredit x p v) → 0 < (input_at (router_at s x) p v).owed
     → IsWorkableBy own (with_router s x (after_gave (router_at s x) p v)) ×
     LetsGive s x p v (with_router s x (after_gave (router_at s x) p v))
@@ -160,7 +160,7 @@ Leaves own s x p v =
     LetsOut s x p v (with_router s x (after_send (router_at s x) p v))
 
 left : (s : NetState) (x p v : ℕ) (d : ℕ × Flit) → {own : ℕ → Bool} → IsWorkableBy own s →
-    IfSome (leaving (router_at s x) p v) (λ d. EndsElsewhere (shape s) own x d.0) → IsNetPlace s x p v →
+    IfSome (leaving (router_at s x) p v) (λ d. AreElsewhere (shape s) own x d.0) → IsNetPlace s x p v →
     IsThere (shape s) (Send x p v) → (st : InRecord) (fs : List Flit)
     → (input_at (router_at s x) p v).state ≡ st → (input_at (router_at s x) p v).buffer ≡ fs →
     leaving (router_at s x) p v ≡ Some d
@@ -192,8 +192,8 @@ left s x p v d {own} net crosses place there (Active o c) (f ∷ rest) e b ready
             out = N.out;
           } ≡ record (after (shape s) N (Send x p v)) { out = N.out } =
           ap (λ (n : Network). record n { out = N.out }) (to_after s x p v o c f rest net place there.0 there.1 e b) in
-          let to_cross : EndsElsewhere (shape s) own x o =
-          subst (λ (l : Option (ℕ × Flit)). IfSome l (λ d. EndsElsewhere (shape s) own x d.0)) leaves crosses in
+          let to_cross : AreElsewhere (shape s) own x o =
+          subst (λ (l : Option (ℕ × Flit)). IfSome l (λ d. AreElsewhere (shape s) own x d.0)) leaves crosses in
           let may : (0 < N.credits x o c) ⊎ (o ≡ 2 * length s.mesh) =
           elim (may_send s x p v o c f rest net place there.0 there.1 e b test).1 [
             | inl at ↦ inr at
@@ -226,13 +226,13 @@ left s x p v d {own} net crosses place there (Active o c) (f ∷ rest) e b ready
     ]
 
 pub left_by : (s : NetState) (x p v o : ℕ) (f : Flit) → {own : ℕ → Bool} → IsWorkableBy own s →
-    EndsElsewhere (shape s) own x o → IsThere (shape s) (Send x p v) → leaving (router_at s x) p v ≡ Some (o, f)
+    AreElsewhere (shape s) own x o → IsThere (shape s) (Send x p v) → leaving (router_at s x) p v ≡ Some (o, f)
     → IsWorkableBy own (with_router s x (after_send (router_at s x) p v)) ×
     LetsOut s x p v (with_router s x (after_send (router_at s x) p v))
 unfolding Leaves
 left_by s x p v o f {own} net crosses there ready =
     let place = net_place s x p v net.framed there.0 there.1 there.2 in
     let to_cross =
-    subst (λ (l : Option (ℕ × Flit)). IfSome l (λ d. EndsElsewhere (shape s) own x d.0)) (sym ready) crosses in
+    subst (λ (l : Option (ℕ × Flit)). IfSome l (λ d. AreElsewhere (shape s) own x d.0)) (sym ready) crosses in
     left s x p v (o, f) net to_cross place there (input_at (router_at s x) p v).state
     (input_at (router_at s x) p v).buffer refl refl ready ready

@@ -265,6 +265,7 @@ feed_at s x k net x_in k_in there (Some f) true next can same =
       record {
         there = there;
         enabled = step.0;
+        free = λ hindered. hindered;
         after_it = step.1;
         config = record { mesh = refl; channels = refl; depth = refl; names = refl; own = refl };
         exact = same;

@@ -159,6 +159,7 @@ get_at s x o y net x_in there e (Some c) true first can same =
       record {
         there = there;
         enabled = step.0;
+        free = λ hindered. hindered;
         after_it = step.1;
         config = record { mesh = refl; channels = refl; depth = refl; names = refl; own = refl };
         exact = same;

@@ -176,6 +176,7 @@ give_at s x p v y net place there e true can same =
         there =
             there;
         enabled = step.0;
+        free = λ hindered. hindered;
         after_it = step.1;
         config = record { mesh = refl; channels = refl; depth = refl; names = refl; own = refl };
         exact = same;

@@ -92,7 +92,8 @@ are_owing s x owing net x_in set =
     let wide : width (router_at s x) ≡ sum s.channels = ap (λ (m : List ℕ). sum m) node.same_channels in
     record {
       exact = λ p v p_in v_in. set.inside p v (omega arith) (omega arith);
-      places = λ p v p_few v_few some. let place = set.outside p v p_few v_few some in omega (arith, place.1);
+      places = λ p v p_few v_few some.
+          let place = set.outside p v p_few v_few some in (omega (arith, place.0), omega (arith, place.1));
     }
 
 -- how far the ports have come that owe a credit: those below `from` are done, and of the others just the channels of
@@ -112,8 +113,8 @@ gave_start x a owing there sound owes = record {
   there = there;
   sound = sound;
   few = omega arith;
-  rest = λ p v above p_in v_in. owes.exact p v p_in v_in;
-  places = owes.places;
+  rest = λ p v above p_in v_in. owes.exact p v (omega arith) v_in;
+  places = λ p v p_few v_few some. (owes.places p v p_few v_few some).1;
 }
 
 wide_as : (x : ℕ) (b : NetState) → IsWorkable b → x < node_count b.mesh → width (router_at b x) ≡ sum b.channels

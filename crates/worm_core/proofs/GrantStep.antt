@@ -216,6 +216,7 @@ grant_answers_by s x p v k net there (Some o) e =
       record {
         there = there;
         enabled = step.0;
+        free = λ hindered. hindered;
         after_it = step.1;
         config = record { mesh = refl; channels = refl; depth = refl; names = refl; own = refl };
         exact = ap (λ (g : Option ℕ). with_router s x (after_granting (router_at s x) p v k g)) (sym e);

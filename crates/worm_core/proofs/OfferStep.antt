@@ -33,7 +33,7 @@ use Rattle.worm_core.specs.State.{NetState, IsFramed, IsNodeOf, IsSameConfig, sh
 use Rattle.worm_core.specs.State.{source_at, queue_of, with_source, input_of, output_of}
 use Rattle.worm_core.specs.Workable.{IsWorkableBy}
 use Rattle.worm_core.specs.Moves.{done_step}
-use Rattle.worm_core.specs.Replies.{Replies}
+use Rattle.worm_core.specs.Replies.{Hindered, Replies}
 use Rattle.worm_core.specs.Answers.{accepted_of, refusal_of, Grows}
 use Rattle.worm_core.proofs.Bridge.{put2_same, put3_same, node_bridge, itself3, below_cases}
 use Rattle.worm_core.proofs.Kept.{kept, node_framed}
@@ -244,6 +244,7 @@ record Judges (own : ℕ → Bool) (s : NetState) (x : ℕ) (lane : Lane) (is_la
   enables : refusal (source_at s x) lane is_last ≡ None → Enabled (shape s) (network_of s) step
   enabled : Enabled (shape s) (network_of s) step → refusal (source_at s x) lane is_last ≡ None
   grows : Grows (shape s) (network_of s) step
+  free : Hindered s step → ⊥
   exact : after_it ≡ done_step s step
   made : refusal (source_at s x) lane is_last ≡ None →
       IsWorkableBy own after_it × (network_of after_it ≡ after (shape s) (network_of s) step) × IsSameConfig s after_it
@@ -281,6 +282,7 @@ answers s x lane is_last step after_it {own} net there judges (Ok number) new ok
       record {
         there = there;
         enabled = judges.enables ok.0;
+        free = judges.free;
         after_it = made.1;
         config = made.2;
         exact = judges.exact;
@@ -313,6 +315,7 @@ module _ (s : NetState) (x : ℕ) {own : ℕ → Bool} (net : IsWorkableBy own s
             λ enabled. refuses_none (source_at s x) p.lane false (opens_to s x p.lane net x_in enabled.0)
             (λ e. absurd (cc));
         grows = tt;
+        free = λ hindered. hindered;
         exact = refl;
         made = λ none.
             let is_open = (none_refused (source_at s x) p.lane false none).0 in
@@ -357,6 +360,7 @@ module _ (s : NetState) (x : ℕ) {own : ℕ → Bool} (net : IsWorkableBy own s
             (λ _. subst (λ (cs : List ℕ). slice_index cs lane.class ≤ 1) (sym same)
             (one_owned s.channels s.depth s.mesh lane.class enabled.1));
         grows = tt;
+        free = λ hindered. hindered;
         exact = refl;
         made = λ none.
             let found = none_refused (source_at s x) lane true none in

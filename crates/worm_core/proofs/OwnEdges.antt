@@ -1,23 +1,35 @@
 -- What comes and goes over a link of which one end is elsewhere keeps what moves need.
-use Rattle.std.proofs.Common.{◌≡◌, ℕ, ◌<◌, Bool, true, false, ◌⊎◌, inl, inr, refl, List, [], ◌∷◌, ◌++◌, Some, arith}
-use Rattle.std.proofs.Common.{sym, ◌∙◌}
+use Rattle.std.proofs.Common.{◌≡◌, ℕ, ◌<◌, Bool, true, false, ◌⊎◌, inl, inr, refl, List, [], ◌∷◌, ◌++◌, Option, Some, None, arith}
+use Rattle.std.proofs.Common.{sym, subst, ◌∙◌}
 use Rattle.std.proofs.lemmas.List.Elements.{All-push}
 use Rattle.worm_flit.specs.declared.Flit.{Flit}
 use Rattle.worm_records.specs.declared.InRecord.TheVariants.{Active}
 use Rattle.worm_theory.specs.Shape.{Shape, IsMesh}
 use Rattle.worm_theory.specs.Network.{Network, put2, put3, same}
-use Rattle.worm_theory.specs.Steps.{sent_by}
+use Rattle.worm_theory.specs.Steps.{IsLinked, sent_by}
 use Rattle.worm_theory.proofs.Meshes.{same_start}
 use Rattle.worm_theory.proofs.Places.{place_cases, same-false}
 use Rattle.worm_theory.proofs.Send.{down_sum, up_sum}
 use Rattle.worm_core.specs.Workable.{EndsElsewhere, IsSent, OwnCreditsAdd, Works}
 use Rattle.worm_core.proofs.Working.{send_by}
 
+-- what is at the other end of a port's link is elsewhere
+abbrev pub AreElsewhere : Shape → (ℕ → Bool) → ℕ → ℕ → Type 0
+AreElsewhere s own x o = (y : ℕ) → s.neighbour x o ≡ Some y → own y ≡ false
+
+by_link : (own : ℕ → Bool) (end : Option ℕ) → IsLinked end (λ y. own y ≡ false) → (y : ℕ) → end ≡ Some y →
+    own y ≡ false
+by_link own None crosses y to = absurd crosses
+by_link own (Some z) crosses y to = let same : z ≡ y = cc in subst (λ (n : ℕ). own n ≡ false) same crosses
+
+pub all_elsewhere : (s : Shape) (own : ℕ → Bool) (x o : ℕ) → EndsElsewhere s own x o → AreElsewhere s own x o
+all_elsewhere s own x o crosses = by_link own (s.neighbour x o) crosses
+
 module _ (s : Shape) (mesh : IsMesh s) {own : ℕ → Bool} (net : Network) where
   -- a flit that leaves over such a link
   let_out_credits : (x p v o c : ℕ) (f : Flit) (rest : List Flit) → net.in_record x p v ≡ Active o c →
       net.buffer x p v ≡ f ∷ rest → (0 < net.credits x o c) ⊎ (o ≡ s.terminal)
-      → EndsElsewhere s own x o → OwnCreditsAdd s own net →
+      → AreElsewhere s own x o → OwnCreditsAdd s own net →
       OwnCreditsAdd s own (record (sent_by s net x p v o c f rest) { out = net.out })
   let_out_credits x p v o c f rest active front may crosses sound y2 o2 x2 v2 there_v n2 own_y own_x =
       let h = sound y2 o2 x2 v2 there_v n2 own_y own_x in
@@ -64,7 +76,7 @@ module _ (s : Shape) (mesh : IsMesh s) {own : ℕ → Bool} (net : Network) wher
       ]
 
   -- a credit comes back over one
-  back_credits : (x o : ℕ) (cs : List ℕ) → EndsElsewhere s own x o → OwnCreditsAdd s own net →
+  back_credits : (x o : ℕ) (cs : List ℕ) → AreElsewhere s own x o → OwnCreditsAdd s own net →
       OwnCreditsAdd s own (record net { credit_list = put2 net.credit_list x o cs })
   back_credits x o cs crosses sound y2 o2 x2 v2 there_v n2 own_y own_x =
       let h = sound y2 o2 x2 v2 there_v n2 own_y own_x in
@@ -80,7 +92,7 @@ module _ (s : Shape) (mesh : IsMesh s) {own : ℕ → Bool} (net : Network) wher
 module _ (s : Shape) (mesh : IsMesh s) {own : ℕ → Bool} (net : Network) (works : Works s own net) where
   pub let_out_works : (x p v o c : ℕ) (f : Flit) (rest : List Flit) → x < s.nodes → net.in_record x p v ≡ Active o c →
       net.buffer x p v ≡ f ∷ rest → (0 < net.credits x o c) ⊎ (o ≡ s.terminal)
-      → EndsElsewhere s own x o → Works s own (record (sent_by s net x p v o c f rest) { out = net.out })
+      → AreElsewhere s own x o → Works s own (record (sent_by s net x p v o c f rest) { out = net.out })
   let_out_works x p v o c f rest x_in e b may crosses =
       let sent = send_by s mesh net works x p v o c f rest x_in e b may in
       record {
@@ -108,7 +120,7 @@ module _ (s : Shape) (mesh : IsMesh s) {own : ℕ → Bool} (net : Network) (wor
     unfed = works.unfed;
   }
 
-  pub back_works : (x o c : ℕ) → c < s.channels → EndsElsewhere s own x o →
+  pub back_works : (x o c : ℕ) → c < s.channels → AreElsewhere s own x o →
       Works s own (record net { credit_list = put2 net.credit_list x o (net.credit_list x o ++ c ∷ []) })
   back_works x o c c_in crosses = record {
     records = works.records;

@@ -109,6 +109,7 @@ route_answers s x p v net there true e =
       record {
         there = there;
         enabled = step.0;
+        free = λ hindered. hindered;
         after_it = step.1;
         config = record { mesh = refl; channels = refl; depth = refl; names = refl; own = refl };
         exact = refl;

@@ -23,7 +23,7 @@ use Rattle.worm_core.specs.declared.fault.StepFault.TheVariants.{NoSuchPlace, Re
 use Rattle.worm_core.specs.State.{NetState, IsFramed, IsNetPlace, IsSameConfig, shape, network_of, node_at, router_at}
 use Rattle.worm_core.specs.State.{sink_at, with_node, with_router, with_link, link_at}
 use Rattle.worm_core.specs.Workable.{EndsWithin, IsWorkableBy}
-use Rattle.worm_core.specs.Replies.{IsMade, Replies}
+use Rattle.worm_core.specs.Replies.{Hindered, IsMade, Replies}
 use Rattle.worm_core.specs.Answers.{Grows}
 use Rattle.worm_core.specs.Moves.{done_step, link_out, after_ready, after_sending, HasWay, LeavesByLink, Sends}
 use Rattle.worm_core.proofs.LinkBridge.{link_framed, below_not_same}
@@ -295,11 +295,13 @@ module _ (s : NetState) (x p v o c : ℕ) (f : Flit) (rest : List Flit) {own : �
 
 -- what Net::send leaves and answers
 
-stood : (s : NetState) (step : Step) (new : NetState) → Stands s step new → new ≡ done_step s step → IsMade s step new
-stood s step new stands same =
+stood : (s : NetState) (step : Step) (new : NetState) → Stands s step new → (Hindered s step → ⊥) →
+    new ≡ done_step s step → IsMade s step new
+stood s step new stands free same =
     record {
       there = stands.there;
       enabled = stands.enabled;
+      free = free;
       after_it = stands.after_it;
       config = stands.config;
       exact = same;
@@ -328,9 +330,11 @@ done_answers : (s : NetState) (x p v : ℕ) (d : ℕ × Flit) → {own : ℕ →
     Outcome own s x p v answer new
 unfolding Outcome
 done_answers s x p v d {own} net there enabled grows made same is (Ok Done) new sends =
-    subst (λ (n : NetState). IsWorkableBy own n × Replies s (Send x p v) (Ok Done) n) (sym sends) (
+    let way : HasWay s x (leaving (router_at s x) p v) =
+    subst (λ (o : Option (ℕ × Flit)). HasWay s x o) (sym is) sends.0 in
+    subst (λ (n : NetState). IsWorkableBy own n × Replies s (Send x p v) (Ok Done) n) (sym sends.1) (
       made.0,
-      stood s (Send x p v) (after_sending s x p v d) made.1 same,
+      stood s (Send x p v) (after_sending s x p v d) made.1 (λ hindered. hindered way) same,
     )
 done_answers s x p v d {own} net there enabled grows made same is (Ok StayedIdle) new sends = (
   subst (IsWorkableBy own) (sym sends.1) net,

@@ -9,6 +9,7 @@ use Rattle.worm_flit.specs.declared.Flit.{Flit}
 use Rattle.worm_records.specs.declared.InRecord.{InRecord}
 use Rattle.worm_records.specs.declared.InRecord.TheVariants.{Idle as IdleRecord, Waiting, Active}
 use Rattle.worm_router.specs.Router.{ChannelState}
+use Rattle.worm_router.specs.Rest.{RoutesNothing}
 use Rattle.worm_router.specs.Busy.{is_occupied, is_waiting, is_active, waits, holds}
 use Rattle.std.proofs.lemmas.Bool.Decides.{nat_tests}
 use Rattle.worm_theory.specs.Steps.{Route, IsPort}
@@ -16,7 +17,6 @@ use Rattle.worm_theory.proofs.Places.{number_cases}
 use Rattle.worm_core.specs.Shape.{net_shape}
 use Rattle.worm_core.specs.State.{NetState, router_at, shape}
 use Rattle.worm_core.specs.Workable.{IsWorkable}
-use Rattle.worm_core.specs.Moves.{RoutesNothing}
 use Rattle.worm_core.specs.Replies.{Attempts}
 use Rattle.worm_core.specs.Turns.{Passage, Each, RoutesPortBy, RoutesChannelsBy}
 use Rattle.worm_core.specs.declared.step.Moved.TheVariants.{Idle}

@@ -204,6 +204,7 @@ take_at s x p y net x_in there e (Some f) true first can same =
       record {
         there = there;
         enabled = step.0;
+        free = λ hindered. hindered;
         after_it = step.1;
         config = record { mesh = refl; channels = refl; depth = refl; names = refl; own = refl };
         exact = same;

@@ -26,10 +26,6 @@ use Rattle.worm_core.specs.declared.fault.StepFault.TheVariants.{NoSuchPlace, Re
 unfoldable pub chosen_router : RouterState → RouterState
 chosen_router r = after_choose r
 
--- no channel of the router has an opening flit that waits for its route; routers have at most 7 ports and 8 channels
-abbrev pub RoutesNothing : RouterState → Type 0
-RoutesNothing r = (p v : ℕ) → p < 7 → v < 8 → p ≤ terminal r → v < width r → can_route r p v ≡ false
-
 -- a set of the router's channels, and no channel that is left out has an opening flit that waits for its route
 pub record AreUnrouted (r : RouterState) (set : ℕ) : Type 0 where
   pub all : (p v : ℕ) → p < 7 → v < 8 → p ≤ terminal r → v < width r → has set p v ≡ false → can_route r p v ≡ false
@@ -106,7 +102,7 @@ abbrev pub Sends : NetState → ℕ → ℕ → ℕ → Option (ℕ × Flit) →
 Sends old x p v None (Ok Done) new = ⊥
 Sends old x p v None (Ok Idle) new = new ≡ old
 Sends old x p v None (Err fault) new = ⊥
-Sends old x p v (Some d) (Ok Done) new = new ≡ after_sending old x p v d
+Sends old x p v (Some d) (Ok Done) new = HasWay old x (Some d) × (new ≡ after_sending old x p v d)
 Sends old x p v (Some d) (Ok Idle) new = (HasWay old x (Some d) → ⊥) × (new ≡ old)
 Sends old x p v (Some d) (Err NoSuchPlace) new = ⊥
 Sends old x p v (Some d) (Err (Refused fault)) new = ⊥
@@ -147,10 +143,10 @@ pub record NothingComes (s : NetState) (x : ℕ) : Type 0 where
   pub no_feed : (k : ℕ) → k < length s.channels →
       can_enter (router_at s x) (terminal (router_at s x)) (front_of (source_at s x) k) ≡ false
 
--- a set of the node's channels, and of those of its mesh ports it has just those that owe a credit
+-- a set of the node's channels: just those that owe a credit
 pub record AreOwing (s : NetState) (x owing : ℕ) : Type 0 where
-  pub exact : (p v : ℕ) → p < 2 * length s.mesh → v < sum s.channels → has owing p v ≡ can_give s x p v
-  pub places : (p v : ℕ) → p < 7 → v < 8 → has owing p v ≡ true → v < sum s.channels
+  pub exact : (p v : ℕ) → p ≤ 2 * length s.mesh → v < sum s.channels → has owing p v ≡ can_give s x p v
+  pub places : (p v : ℕ) → p < 7 → v < 8 → has owing p v ≡ true → (p ≤ 2 * length s.mesh) × (v < sum s.channels)
 
 -- the channel of a port owes what it owed
 pub record OwesTheSame (old new : NetState) (x p v : ℕ) : Type 0 where

@@ -25,10 +25,12 @@ Hindered s (Take x p) = ⊥
 Hindered s (GiveCredit x p v) = ⊥
 Hindered s (TakeCredit x o) = ⊥
 
--- the step is there and enabled, and done, and the lists have the shape that the configuration asks for
+-- the step is there and enabled, nothing hinders it, and it is done, and the lists have the shape that the
+-- configuration asks for
 pub record IsMade (old : NetState) (step : Step) (new : NetState) : Type 0 where
   pub there : IsThere (shape old) step
   pub enabled : Enabled (shape old) (network_of old) step
+  pub free : Hindered old step → ⊥
   pub after_it : network_of new ≡ after (shape old) (network_of old) step
   pub config : IsSameConfig old new
   pub exact : new ≡ done_step old step

@@ -8,7 +8,7 @@ use Rattle.worm_records.specs.declared.InRecord.{InRecord}
 use Rattle.worm_records.specs.declared.InRecord.TheVariants.{Idle, Waiting, Active}
 use Rattle.worm_theory.specs.Shape.{Shape}
 use Rattle.worm_theory.specs.Network.{Network}
-use Rattle.worm_theory.specs.Steps.{IsPort}
+use Rattle.worm_theory.specs.Steps.{IsLinked, IsPort}
 use Rattle.worm_theory.specs.Sound.{CreditsAreChannels}
 use Rattle.worm_core.specs.Owned.{owned_by}
 use Rattle.worm_core.specs.State.{NetState, IsFramed, shape, network_of}
@@ -49,9 +49,9 @@ CreditsFit s net = (x o y c : ℕ) → s.neighbour x o ≡ Some y → c < s.chan
 abbrev pub EndsWithin : Shape → (ℕ → Bool) → ℕ → ℕ → Type 0
 EndsWithin s own x o = (y : ℕ) → s.neighbour x o ≡ Some y → (own x ≡ true) × (own y ≡ true)
 
--- the node at the other end of a port's link, if it has one, is elsewhere
+-- the port has a link, and the node at its other end is elsewhere
 abbrev pub EndsElsewhere : Shape → (ℕ → Bool) → ℕ → ℕ → Type 0
-EndsElsewhere s own x o = (y : ℕ) → s.neighbour x o ≡ Some y → own y ≡ false
+EndsElsewhere s own x o = IsLinked (s.neighbour x o) (λ y. own y ≡ false)
 
 pub record Works (s : Shape) (own : ℕ → Bool) (net : Network) : Type 0 where
   pub records : (x p v : ℕ) → x < s.nodes → LeadsOn s net x p v (net.in_record x p v)

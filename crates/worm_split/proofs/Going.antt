@@ -18,7 +18,7 @@ use Rattle.worm_router.specs.Router.{RouterState, ChannelState, input_at, output
 use Rattle.worm_router.specs.Router.{after_send, after_gave}
 use Rattle.worm_theory.specs.Shape.{Shape}
 use Rattle.worm_theory.specs.Network.{Network}
-use Rattle.worm_theory.specs.Steps.{Send, GiveCredit, IsThere, IsPort, Enabled, FrontIs, after}
+use Rattle.worm_theory.specs.Steps.{IsLinked, Send, GiveCredit, IsThere, IsPort, Enabled, FrontIs, after}
 use Rattle.worm_theory.specs.Sound.{Leaves}
 use Rattle.worm_theory.proofs.Places.{bool_cases}
 use Rattle.worm_core.specs.Shape.{net_shape}
@@ -140,10 +140,9 @@ module _ (p : PartState) (part : IsPart p) (framed : IsFramed p.net) (x o : ℕ)
 
     pub ends_elsewhere : EndsElsewhere (shape p.net) (owned p.net) x o
     unfolding net_shape
-    ends_elsewhere y to =
-        let one : ◌≡◌ {A = Option ℕ} (Some links.beyond) (Some y) = sym (linked p part framed x o links at) ∙ to in
-        let same : links.beyond ≡ y = cc in
-        subst (λ (z : ℕ). owned p.net z ≡ false) same leaving_facts.far_elsewhere
+    ends_elsewhere =
+        subst (λ (end : Option ℕ). IsLinked end (λ y. owned p.net y ≡ false)) (sym (linked p part framed x o links at))
+        leaving_facts.far_elsewhere
 
     module _ (z v : ℕ) (flit : Flit) (there : IsThere (shape p.net) (Send x z v))
         (ready : leaving (router_at p.net x) z v ≡ Some (o, flit)) where
@@ -263,10 +262,9 @@ module _ (p : PartState) (part : IsPart p) (framed : IsFramed p.net) (x o : ℕ)
 
     pub owner_elsewhere : EndsElsewhere (shape p.net) (owned p.net) x o
     unfolding net_shape
-    owner_elsewhere y to =
-        let one : ◌≡◌ {A = Option ℕ} (Some links.beyond) (Some y) = sym (linked p part framed x o links at) ∙ to in
-        let same : links.beyond ≡ y = cc in
-        subst (λ (z : ℕ). owned p.net z ≡ false) same entering_facts.near_elsewhere
+    owner_elsewhere =
+        subst (λ (end : Option ℕ). IsLinked end (λ y. owned p.net y ≡ false)) (sym (linked p part framed x o links at))
+        entering_facts.near_elsewhere
 
     pub may_give : (v : ℕ) (end : End) → v < sum p.net.channels → end ≡ end_of p links.beyond (opposite_of o)
         → MayGive end v

@@ -23,7 +23,7 @@ impl Region {
     }
 
     /// The ready flit leaves the node by the output port `out`, over a link to another worker's node: a Send but for
-    /// the link. A flit that is let out by the terminal, which has no link, is gone, so callers ask for a link first.
+    /// the link.
     pub fn let_out(&mut self, node: u8, port: u8, vc: u8, out: u8, flit: Flit)
         requires there { IsThere (shape self.old) (Event.Send node port vc) }
         requires ready { leaving (router_at self.old node) port vc ≡ Some (out, flit) }

@@ -4,6 +4,7 @@ use Rattle.worm_theory.specs.Steps.{GiveCredit, IsThere}
 use Rattle.worm_core.specs.Edges.{LetsGive}
 use Rattle.worm_core.specs.State.{NetState, router_at, shape}
 use Rattle.worm_core.specs.Workable.{EndsElsewhere, owned}
+use Rattle.worm_core.proofs.OwnEdges.{all_elsewhere}
 use Rattle.worm_core.proofs.EdgeMoves.{gave_away}
 use Rattle.worm_core.proofs.Kept.{net_place}
 use Rattle.worm_core.proofs.region.Region.gave.Goals as goal
@@ -23,9 +24,11 @@ invariant_of-self c =
     (sym c.self.view_is) c.requires.there in
     let owed = subst (λ (s : NetState). 0 < (input_at (router_at s c.args.node) c.args.port c.args.vc).owed)
     (sym c.self.view_is) c.requires.owed in
+    let s = c.self.inside.fabric in
     let crosses =
-    subst (λ (s : NetState). EndsElsewhere (shape s) (owned s) c.args.node c.args.port)
-    (sym c.self.view_is) c.requires.crosses in
+    all_elsewhere (shape s) (owned s) c.args.node c.args.port
+    (subst (λ (s : NetState). EndsElsewhere (shape s) (owned s) c.args.node c.args.port)
+    (sym c.self.view_is) c.requires.crosses) in
     rw c.gave.ensures (gave_away c.self.inside.fabric c.args.node c.args.port c.args.vc c.self.invariant crosses there
     owed).0
 
@@ -36,9 +39,11 @@ returns c =
     (sym c.self.view_is) c.requires.there in
     let owed = subst (λ (s : NetState). 0 < (input_at (router_at s c.args.node) c.args.port c.args.vc).owed)
     (sym c.self.view_is) c.requires.owed in
+    let s = c.self.inside.fabric in
     let crosses =
-    subst (λ (s : NetState). EndsElsewhere (shape s) (owned s) c.args.node c.args.port)
-    (sym c.self.view_is) c.requires.crosses in
+    all_elsewhere (shape s) (owned s) c.args.node c.args.port
+    (subst (λ (s : NetState). EndsElsewhere (shape s) (owned s) c.args.node c.args.port)
+    (sym c.self.view_is) c.requires.crosses) in
     subst (λ (s : NetState). LetsGive s c.args.node c.args.port c.args.vc c.gave.new.self) c.self.view_is
     (rw c.gave.ensures (gave_away c.self.inside.fabric c.args.node c.args.port c.args.vc c.self.invariant crosses there
     owed).1)

@@ -4,6 +4,7 @@ use Rattle.worm_theory.specs.Steps.{Send, IsThere}
 use Rattle.worm_core.specs.Edges.{LetsOut}
 use Rattle.worm_core.specs.State.{NetState, router_at, shape}
 use Rattle.worm_core.specs.Workable.{EndsElsewhere, owned}
+use Rattle.worm_core.proofs.OwnEdges.{all_elsewhere}
 use Rattle.worm_core.proofs.EdgeMoves.{left_by}
 use Rattle.worm_core.proofs.Kept.{net_place}
 use Rattle.worm_core.proofs.region.Region.let_out.Goals as goal
@@ -23,9 +24,11 @@ invariant_of-self c =
     let ready =
     subst (λ (s : NetState). leaving (router_at s c.args.node) c.args.port c.args.vc ≡ Some (c.args.out, c.args.flit))
     (sym c.self.view_is) c.requires.ready in
+    let s = c.self.inside.fabric in
     let crosses =
-    subst (λ (s : NetState). EndsElsewhere (shape s) (owned s) c.args.node c.args.out)
-    (sym c.self.view_is) c.requires.crosses in
+    all_elsewhere (shape s) (owned s) c.args.node c.args.out
+    (subst (λ (s : NetState). EndsElsewhere (shape s) (owned s) c.args.node c.args.out)
+    (sym c.self.view_is) c.requires.crosses) in
     rw c.let_out.ensures (left_by c.self.inside.fabric c.args.node c.args.port c.args.vc c.args.out c.args.flit
     c.self.invariant crosses there ready).0
 
@@ -37,9 +40,11 @@ returns c =
     let ready =
     subst (λ (s : NetState). leaving (router_at s c.args.node) c.args.port c.args.vc ≡ Some (c.args.out, c.args.flit))
     (sym c.self.view_is) c.requires.ready in
+    let s = c.self.inside.fabric in
     let crosses =
-    subst (λ (s : NetState). EndsElsewhere (shape s) (owned s) c.args.node c.args.out)
-    (sym c.self.view_is) c.requires.crosses in
+    all_elsewhere (shape s) (owned s) c.args.node c.args.out
+    (subst (λ (s : NetState). EndsElsewhere (shape s) (owned s) c.args.node c.args.out)
+    (sym c.self.view_is) c.requires.crosses) in
     subst (λ (s : NetState). LetsOut s c.args.node c.args.port c.args.vc c.let_out.new.self) c.self.view_is
     (rw c.let_out.ensures (left_by c.self.inside.fabric c.args.node c.args.port c.args.vc c.args.out c.args.flit
     c.self.invariant crosses there ready).1)
