@@ -1,7 +1,7 @@
 //! Which lanes may have something under way, found in one pass over all places that hold flits: so a report asks for
 //! the views of these lanes alone, and not of all that the network has.
 
-ghost use Rattle.std.specs.Prelude.{ℕ, true, false, ◌≡◌, ◌*◌, ◌<◌, ◌≤◌, IfOk, drop, length, replicate};
+ghost use Rattle.std.specs.Prelude.{ℕ, true, false, ◌≡◌, ◌*◌, ◌<◌, ◌≤◌, IfOk, drop, replicate};
 ghost use Rattle.worm_mesh.specs.Address.{node_count};
 ghost use Rattle.worm_mesh.specs.Links.{link_count};
 ghost use Rattle.worm_router.specs.Router.{IsPlace, input_at, terminal, width};

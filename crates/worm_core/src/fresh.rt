@@ -1,11 +1,9 @@
-ghost use Rattle.std.specs.Prelude.{◌≡◌, ◌↔◌, ◌<◌, ◌≤◌, ◌*◌, IsTrue, IfOk, OnOk, OnErr, Err, length, sum, replicate};
+ghost use Rattle.std.specs.Prelude.{◌≡◌, ◌<◌, ◌≤◌, IfOk, Err, length, replicate};
 ghost use Rattle.worm_flit.specs.Channels.{AreChannels};
 ghost use Rattle.worm_mesh.specs.Address.{IsMesh as IsRadices, node_count};
-ghost use Rattle.worm_mesh.specs.Links.{link_count};
-ghost use Rattle.worm_theory.specs.Steps.{empty};
-ghost use Rattle.worm_core.specs.NewNet.{AreFresh, IsConfig, IsFresh};
+ghost use Rattle.worm_core.specs.NewNet.{AreFresh};
 ghost use Rattle.worm_wires.specs.Links.{empty_link};
-ghost use Rattle.worm_core.specs.State.{IsNet, fresh_node, network_of, shape};
+ghost use Rattle.worm_core.specs.State.{fresh_node};
 
 use crate::{Config, LinkState, Node};
 use std::alloc::{AllocError, Global};

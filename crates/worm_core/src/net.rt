@@ -1,13 +1,11 @@
-ghost use Rattle.std.specs.Prelude.{None, Some, slice_index_or, ◌≡◌, ◌≤◌, ◌<◌, ◌*◌, ◌↔◌, ℕ, Result, IsTrue, IfNone};
+ghost use Rattle.std.specs.Prelude.{None, Some, ◌≡◌, ◌≤◌, ◌<◌, ◌↔◌, Result, IsTrue};
 ghost use Rattle.std.specs.Prelude.{IfOk, Ok, sum, length, take, Err};
-ghost use Rattle.worm_theory.specs.Steps.{IsThere, Step as Event};
 ghost use Rattle.worm_core.specs.Runs.{AreAnswered, IsRun, StopsBehind, event_of};
-ghost use Rattle.worm_core.specs.Answers.{Answers, ArbitersStand, accepted_of, moved_of};
+ghost use Rattle.worm_core.specs.Answers.{Answers, ArbitersStand};
 ghost use Rattle.worm_theory.specs.Steps.{empty};
 ghost use Rattle.worm_core.specs.NewNet.{IsConfig, IsFresh};
 ghost use Rattle.worm_core.specs.Headline.{DeliversInOrder, NothingFollowsMarks};
-ghost use Rattle.worm_core.specs.State.{IsNet, shape, network_of, queue_of, router_at, sink_at, source_at, texts_of};
-ghost use Rattle.worm_core.specs.State.{with_router};
+ghost use Rattle.worm_core.specs.State.{IsNet, shape, network_of, queue_of, sink_at, source_at, texts_of};
 ghost use Rattle.worm_core.specs.Turns.{Reaches, Turn};
 ghost use Rattle.worm_core.specs.Script.{due};
 ghost use Rattle.std.specs.Result.{result_err};
@@ -81,6 +79,7 @@ impl Net {
         ensures sound { IsNet self.now }
         ensures delivers { DeliversInOrder self.now }
     {
+        // For the proof: it opens what holds of a network.
         let _region = &self.region;
     }
 

@@ -12,7 +12,7 @@ ghost use Rattle.worm_wires.specs.Wiring.{port_links};
 ghost use Rattle.worm_core.specs.Workable.{EndsWithin, IsWorkable, owned};
 ghost use Rattle.worm_core.specs.Turns.{AreThere, Chooses, ComesInBy, ReachesAt, NodePassesBy, lowest_owed};
 ghost use Rattle.worm_mesh.specs.Address.{node_count};
-ghost use Rattle.worm_router.specs.Router.{input_at, leaving, width};
+ghost use Rattle.worm_router.specs.Router.{input_at, leaving};
 ghost use Rattle.worm_router.specs.Rest.{IsAtRest};
 ghost use Rattle.worm_router.specs.Allocation.{after_allocate};
 ghost use Rattle.worm_core.specs.Moves.{AreOwing, RoutesWithin};
@@ -76,6 +76,7 @@ impl Region {
     pub fn is_workable(&self)
         ensures { IsWorkable self.now }
     {
+        // For the proof: it opens what holds of a region.
         let _fabric = &self.fabric;
     }
 

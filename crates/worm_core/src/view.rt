@@ -6,7 +6,7 @@ ghost use Rattle.worm_flit.specs.Stamps.{is_of_lane, of_lane, on_channel};
 ghost use Rattle.worm_mesh.specs.Address.{node_count, has_neighbour};
 ghost use Rattle.worm_router.specs.Router.{IsPlace, input_at};
 ghost use Rattle.worm_term.specs.Source.{classes, queue_at};
-ghost use Rattle.worm_core.specs.State.{IsFramed, sink_at};
+ghost use Rattle.worm_core.specs.State.{IsFramed};
 ghost use Rattle.worm_core.specs.LaneView.{IsLaneCut, ArePacketsCut, at_place, buffer_held, link_held, channels_of};
 ghost use Rattle.worm_core.specs.LaneView.{places_past, held_at, delivered_view, underway_view};
 

@@ -69,6 +69,7 @@ impl SwAlloc {
     pub fn is_sound(&self)
         ensures { IsSwAlloc self.now.ports self.now.channels self.now.inputs self.now.outputs }
     {
+        // For the proof: it opens what holds of an allocator.
         let _ports = self.ports;
     }
 

@@ -1,7 +1,7 @@
 //! The fields of a line, read from the left.
 
-ghost use Rattle.std.specs.Prelude.{◌≡◌, ◌<◌, ◌^◌, ◌↔◌, IsTrue, [], ◌∷◌, length, drop, position, ◌==◌, MatchOption};
-ghost use Rattle.std.specs.Prelude.{Bool, true, false, Some, None, nat_le, if◌then◌else◌, List, ℕ};
+ghost use Rattle.std.specs.Prelude.{◌≡◌, ◌<◌, IsTrue, [], ◌∷◌, length, drop, position, ◌==◌, MatchOption};
+ghost use Rattle.std.specs.Prelude.{true, false, Some, None, nat_le, if◌then◌else◌, List, ℕ};
 ghost use Rattle.worm_text.specs.Lines.{cut, space, fields_left};
 ghost use Rattle.worm_text.specs.Numerals.{is_digit, is_numeral, value_of, is_name, is_lower_or_digit};
 ghost use Rattle.std.specs.List.{list_all};

@@ -1,12 +1,11 @@
 //! The text of a network, line by line.
 
-ghost use Rattle.std.specs.Prelude.{◌≡◌, ◌≤◌, ◌<◌, [], ◌∷◌, length, sum, Ok, IfOk, IfErr};
-ghost use Rattle.worm_text.specs.Lines.{cut, space};
+ghost use Rattle.std.specs.Prelude.{◌≡◌, ◌≤◌, ◌<◌, [], length, sum, Ok, IfOk, IfErr};
 ghost use Rattle.worm_text.specs.Reading.{Reads, Gives};
 ghost use Rattle.worm_text.specs.Network.{Network, Keeps, text, nodes_of, view, names_of};
 ghost use Rattle.worm_text.specs.Stages.{begins, widened, copies_at, radices_at, header_stage, radix_stage, dims_stage};
 ghost use Rattle.worm_text.specs.Stages.{dims_first_stage, radices_stage, depth_stage, new_name_at, channels_at};
-ghost use Rattle.worm_text.specs.Stages.{one_class, the_end, class_stage, judge, at_class};
+ghost use Rattle.worm_text.specs.Stages.{one_class, the_end, class_stage, judge};
 ghost use Rattle.worm_text.specs.declared.format.Format.{Format};
 ghost use Rattle.std.specs.List.{list_any};
 ghost use Rattle.std.specs.Str.{bytes_eq};

@@ -11,7 +11,7 @@
 //! lemmas behind them. What a mesh is, is asked by six laws (`IsMesh`); arbiters, memory and time are not known here.
 #![tactic(auto)]
 
-ghost use Rattle.std.specs.Prelude.{◌≡◌, ℕ, List, Some, None, ◌++◌};
+ghost use Rattle.std.specs.Prelude.{◌≡◌, ℕ, List, Some, ◌++◌};
 ghost use Rattle.std.specs.Option.{option_to_list};
 ghost use Rattle.worm_flit.specs.Stamps.{on_channel};
 ghost use Rattle.worm_flit.specs.Worms.{IsWorm, latest_on};

@@ -1,6 +1,6 @@
 //! A network taken apart, split among workers and joined again, where the split may want memory.
 
-ghost use Rattle.std.specs.Prelude.{◌≡◌, ◌≤◌, true, IfOk};
+ghost use Rattle.std.specs.Prelude.{◌≡◌, ◌≤◌, true};
 ghost use Rattle.worm_core.specs.Headline.{DeliversInOrder};
 
 use crate::cases::{Case, opposite, words_of};

@@ -1,11 +1,10 @@
 //! The links of a mesh with what is on them, and by node the ports at which something comes in, so that a turn goes
 //! past all others.
 
-ghost use Rattle.std.specs.Prelude.{◌≡◌, ◌<◌, ◌≤◌, ◌*◌, ◌↔◌, ◌==◌, ◌++◌, ◌∷◌, [], ℕ, IfNone, IfSome, IsSome, IsTrue};
-ghost use Rattle.std.specs.Prelude.{Option, Some, false, true, drop, length, slice_get, slice_set};
+ghost use Rattle.std.specs.Prelude.{◌≡◌, ◌<◌, ◌≤◌, ◌*◌, ◌↔◌, ◌++◌, ◌∷◌, [], ℕ, IfNone, IfSome, IsSome, IsTrue};
+ghost use Rattle.std.specs.Prelude.{Option, Some, false, true, drop, length};
 ghost use Rattle.worm_mesh.specs.Address.{IsMesh as IsRadices, neighbour_of};
 ghost use Rattle.worm_mesh.specs.Links.{link_count};
-ghost use Rattle.worm_wires.specs.Links.{LinkView};
 ghost use Rattle.worm_wires.specs.Arrivals.{KnowsArrivals, LinksView, credits_of, credits_to, flits_of, flits_to};
 ghost use Rattle.worm_wires.specs.Arrivals.{number_into, number_out, state_at, with_state};
 ghost use Rattle.worm_wires.specs.Wiring.{port_links};
@@ -141,6 +140,7 @@ impl Links {
         ensures flits { IsTrue result → (p : ℕ) → flits_to self.now node p ≡ [] }
         ensures credits { IsTrue result → (o : ℕ) → credits_to self.now node o ≡ [] }
     {
+        // For the proof: a mesh has at most three dimensions.
         let _terminal = self.wiring.terminal();
         let here = &self.arrivals[usize::from(node)];
         here.flits.is_empty() && here.credits.is_empty()
@@ -154,6 +154,7 @@ impl Links {
         ensures none { IfNone result ((p : ℕ) → from ≤ p → flits_to self.now node p ≡ []) }
     {
         let here = &self.arrivals[usize::from(node)];
+        // For the proof: a mesh has at most three dimensions.
         let _terminal = self.wiring.terminal();
         here.flits.first_from(from)
     }
@@ -166,6 +167,7 @@ impl Links {
         ensures none { IfNone result ((p : ℕ) → from ≤ p → credits_to self.now node p ≡ []) }
     {
         let here = &self.arrivals[usize::from(node)];
+        // For the proof: a mesh has at most three dimensions.
         let _terminal = self.wiring.terminal();
         here.credits.first_from(from)
     }
@@ -207,7 +209,7 @@ impl Links {
         ensures mesh_port { port < 6 }
     {
         let Some(number) = self.wiring.link_out(node, port) else {
-            return 0;
+            unreachable!()
         };
         number
     }

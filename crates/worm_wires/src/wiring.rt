@@ -87,6 +87,7 @@ fn stride(mesh: &Mesh, dim: u8) -> u8
     requires { dim < length mesh.now }
     ensures { result ≡ stride_of mesh.now dim }
 {
+    // For the proof: a mesh has radices within their limits.
     let _dims = mesh.dims();
     match mesh.neighbour(0, 2 * dim + 1) {
         Some(node) => node,
@@ -156,6 +157,7 @@ impl Wiring {
         ensures value { result ≡ kept_number (out_link self.now node port) }
         ensures mesh { IsRadices self.now }
     {
+        // For the proof: a mesh has radices within their limits.
         let _nodes = self.mesh.nodes();
         self.nodes[usize::from(node)].outs[usize::from(port)]
     }
@@ -165,6 +167,7 @@ impl Wiring {
         requires { IsSome (neighbour_of self.now node port) }
         ensures { Some result ≡ neighbour_of self.now node port }
     {
+        // For the proof: a mesh has radices within their limits.
         let _nodes = self.mesh.nodes();
         let stride = self.strides[usize::from(port / 2)];
         if port % 2 == 0 {
@@ -180,6 +183,7 @@ impl Wiring {
         requires out { out ≡ kept_number (out_link self.now node port) }
         ensures { Some result ≡ port_links self.now node port }
     {
+        // For the proof: a mesh has radices within their limits.
         let _nodes = self.mesh.nodes();
         let beyond = self.beyond(node, port);
         let entered = self.mesh.opposite(port);
@@ -204,6 +208,7 @@ impl Wiring {
             × (links.into < link_count self.now)) }
         ensures mesh_ports { IfSome result (λ links. (port < 6) × (links.entered < 6)) }
     {
+        // For the proof: a mesh has radices within their limits.
         let _nodes = self.mesh.nodes();
         if port >= 6 {
             return None;
@@ -223,6 +228,7 @@ impl Wiring {
         ensures bound { result.out < link_count self.now }
         ensures entered { result.entered < 6 }
     {
+        // For the proof: a mesh has radices within their limits.
         let _nodes = self.mesh.nodes();
         let out = self.kept(node, port);
         self.links_by(node, port, out)

@@ -1,6 +1,6 @@
 //! What is read of a fabric along a route: its next link, the channels of a class, and what a link holds.
 
-ghost use Rattle.std.specs.Prelude.{[], false, ◌↔◌, ◌≡◌, ◌≢◌, ◌+◌, ◌<◌, ◌≤◌, IsSome, MatchOption, length, sum};
+ghost use Rattle.std.specs.Prelude.{[], false, ◌↔◌, ◌≡◌, ◌+◌, ◌<◌, IsSome, MatchOption, length};
 ghost use Rattle.std.specs.Prelude.{slice_index};
 ghost use Rattle.worm_flit.specs.Channels.{first_channel};
 ghost use Rattle.worm_mesh.specs.Address.{node_count, neighbour_of};

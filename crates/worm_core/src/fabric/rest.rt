@@ -1,6 +1,6 @@
 //! Whether a node is at rest: nothing can come into it, and its router has nothing to do.
 
-ghost use Rattle.std.specs.Prelude.{ℕ, ◌≡◌, ◌<◌, ◌≤◌, ◌*◌, IfNone, IfSome, IsTrue, IsSome, None, false, length};
+ghost use Rattle.std.specs.Prelude.{ℕ, ◌≡◌, ◌<◌, ◌≤◌, IfNone, IfSome, IsTrue, IsSome, None, false, length};
 ghost use Rattle.worm_mesh.specs.Address.{node_count, neighbour_of};
 ghost use Rattle.worm_router.specs.Router.{terminal};
 ghost use Rattle.worm_term.specs.Source.{front_of};

@@ -1,16 +1,12 @@
-//! A region made of its lists, read, and taken apart again.
+//! A region made of its lists, and taken apart again.
 
-ghost use Rattle.std.specs.Prelude.{◌≡◌, ◌<◌, sum};
-ghost use Rattle.worm_core.specs.Parts.{IsConfigOf, part_state};
-ghost use Rattle.worm_core.specs.State.{sink_at, source_at};
+ghost use Rattle.std.specs.Prelude.{◌≡◌};
+ghost use Rattle.worm_core.specs.Parts.{part_state};
 ghost use Rattle.worm_core.specs.Workable.{IsWorkable};
-ghost use Rattle.worm_mesh.specs.Address.{node_count};
 
 use super::Region;
 use crate::fabric::Fabric;
-use crate::{Config, NetParts, Own};
-use worm_mesh::Mesh;
-use worm_term::{Sink, Source};
+use crate::{NetParts, Own};
 
 impl Region {
     /// The region of these lists, of which the worker owns its nodes: each node at its own number, others in the
@@ -30,54 +26,10 @@ impl Region {
         self.into_fabric().into_parts()
     }
 
-    /// The configuration of the network.
-    pub fn config(&self) -> Config
-        ensures { IsConfigOf self.now result }
-    {
-        self.fabric.config()
-    }
-
     /// Which nodes are owned.
     pub fn own(&self) -> Own
         ensures { result ≡ self.now.own }
     {
         self.fabric.own()
-    }
-
-    /// The mesh.
-    pub fn mesh(&self) -> &Mesh
-        ensures { result.now ≡ self.now.mesh }
-    {
-        self.fabric.mesh()
-    }
-
-    /// The number of channels of a port.
-    pub fn channels(&self) -> u8
-        ensures { result ≡ sum self.now.channels }
-    {
-        self.fabric.channels()
-    }
-
-    /// How many flits each buffer holds.
-    pub fn depth(&self) -> u8
-        ensures { result ≡ self.now.depth }
-    {
-        self.fabric.depth()
-    }
-
-    /// Where the packets of the node's lanes come in.
-    pub fn source(&self, node: u8) -> &Source
-        requires { node < node_count self.now.mesh }
-        ensures { result.now ≡ source_at self.now node }
-    {
-        &self.fabric.node(node).source
-    }
-
-    /// Where the flits for the node come out.
-    pub fn sink(&self, node: u8) -> &Sink
-        requires { node < node_count self.now.mesh }
-        ensures { result.now ≡ sink_at self.now node }
-    {
-        &self.fabric.node(node).sink
     }
 }

@@ -1,6 +1,5 @@
 //! A network taken apart and put together again.
 
-ghost use Rattle.std.specs.Prelude.{◌≡◌};
 
 use super::{config, lane};
 use crate::{Net, Step};
