@@ -75,7 +75,7 @@ impl Lesson<u8, CreditKnown> for Takes {
 /// ```
 /// let (mut tx, mut rx) = credit_line(alloc, cfg)?;
 /// assert_eq!(rt; tx.push(&rt, 0), Ok(()));
-/// assert_eq!(rt; rx.pop(&rt), Some(0));
+/// assert_eq!(rt; rx.pop(), Some(0));
 /// ```
 #[derive(Drop)]
 pub struct CreditTx {
@@ -107,7 +107,7 @@ impl Model for CreditTx {
 /// The taker's end of a credit line: it knows all that was taken. It may lie in a `Vec` and go to another thread.
 ///
 /// ```
-/// while let Some(channel) = rx.pop(&rt) {
+/// while let Some(channel) = rx.pop() {
 ///     credits[usize::from(channel)] += 1;
 /// }
 /// ```
@@ -235,14 +235,14 @@ impl CreditRx {
         let _ = &self.pass;
     }
 
-    /// The channel of the next credit that was sent; `None` where the queue is empty.
-    pub fn pop<R: Wait>(&mut self, rt: &R) -> Option<u8>
+    /// The channel of the next credit that was sent; `None` where none stands in the queue yet. It waits for nothing.
+    pub fn pop(&mut self) -> Option<u8>
         ensures none { IfNone result (self.new ≡ self.old) }
         ensures taken { IfSome result (λ channel. self.new
             ≡ record self.old { taken = self.old.taken ++ channel ∷ [] }) }
         ensures channel { IfSome result (λ channel. channel < self.old.link.channels) }
     {
-        self.line.pop_as::<Takes, R>(rt, &mut self.pass)
+        self.line.try_pop_as::<Takes>(&mut self.pass)
     }
 }
 

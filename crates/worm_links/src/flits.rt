@@ -80,7 +80,7 @@ impl Lesson<u128, FlitKnown> for Takes {
 /// ```
 /// let (mut tx, mut rx) = link(alloc, cfg)?;
 /// assert_eq!(rt; tx.push(&rt, flit), Ok(()));
-/// assert_eq!(rt; rx.pop(&rt), Some(flit));
+/// assert_eq!(rt; rx.pop(), Some(flit));
 /// ```
 #[derive(Drop)]
 pub struct FlitTx {
@@ -112,7 +112,7 @@ impl Model for FlitTx {
 /// The taker's end of a link: it knows all that was taken. It may lie in a `Vec` and go to another thread.
 ///
 /// ```
-/// while let Some(flit) = rx.pop(&rt) {
+/// while let Some(flit) = rx.pop() {
 ///     flits.push(flit)?;
 /// }
 /// ```
@@ -304,16 +304,16 @@ impl FlitRx {
         let _ = &self.pass;
     }
 
-    /// The next flit that was sent; `None` where the queue is empty. It continues what was taken on its channel and may
-    /// cross the link, as the sender proved: nothing is looked up.
-    pub fn pop<R: Wait>(&mut self, rt: &R) -> Option<Flit>
+    /// The next flit that was sent; `None` where none stands in the queue yet. It continues what was taken on its
+    /// channel and may cross the link, as the sender proved: nothing is looked up, and it waits for nothing.
+    pub fn pop(&mut self) -> Option<Flit>
         ensures none { IfNone result (self.new ≡ self.old) }
         ensures taken { IfSome result (λ flit. self.new ≡ record self.old { taken = self.old.taken ++ flit ∷ [] }) }
         ensures continues { IfSome result (λ flit. Continues
             (on_channel flit.vc (self.old.past ++ self.old.taken)) flit) }
         ensures crossing { IfSome result (λ flit. MayCross self.old.link flit) }
     {
-        let word = self.line.pop_as::<Takes, R>(rt, &mut self.pass)?;
+        let word = self.line.try_pop_as::<Takes>(&mut self.pass)?;
         Some(flit_in(word))
     }
 }

@@ -7,8 +7,8 @@
 //! sees what was sent, has that of what it took, with no check as it takes. Together again, the ends know both lists.
 //!
 //! The queues are lock-free and bounded, and hold a flit as one word of 128 bits. Only making them takes memory.
-//! Nothing here waits for room or for a flit; a push or a pop may yet wait within its queue, so that it returns is
-//! not claimed, nor that a flit is ever taken, nor when.
+//! Nothing here waits for room or for a flit; a push, and a pop of what is left at the end, may yet wait within its
+//! queue, so that they return is not claimed, nor that a flit is ever taken, nor when.
 #![tactic(auto)]
 
 mod credits;

@@ -51,8 +51,8 @@ fn one_channel_of_depth_one(rt: HostRuntime) -> Result<(), Fail> {
     let second = flit(1, 0, Kind::Single, 0);
     assert_eq!(rt; tx.push(&rt, first), Ok(()));
     assert_eq!(rt; tx.push(&rt, second), Err(second));
-    assert_eq!(rt; rx.pop(&rt), Some(first));
-    assert_eq!(rt; rx.pop(&rt), None);
+    assert_eq!(rt; rx.pop(), Some(first));
+    assert_eq!(rt; rx.pop(), None);
     Ok(())
 }
 
@@ -63,8 +63,8 @@ fn credits_of_one_channel_of_depth_one(rt: HostRuntime) -> Result<(), Fail> {
         .ok_or("no memory")?;
     assert_eq!(rt; tx.push(&rt, 0), Ok(()));
     assert_eq!(rt; tx.push(&rt, 0), Err(0));
-    assert_eq!(rt; rx.pop(&rt), Some(0));
-    assert_eq!(rt; rx.pop(&rt), None);
+    assert_eq!(rt; rx.pop(), Some(0));
+    assert_eq!(rt; rx.pop(), None);
     Ok(())
 }
 
@@ -79,9 +79,9 @@ fn credits_of_eight_channels_of_depth_seventeen(rt: HostRuntime) -> Result<(), F
     }
     assert_eq!(rt; tx.push(&rt, 0), Err(0));
     for credit in 0..136u8 {
-        assert_eq!(rt; rx.pop(&rt), Some(credit % 8));
+        assert_eq!(rt; rx.pop(), Some(credit % 8));
     }
-    assert_eq!(rt; rx.pop(&rt), None);
+    assert_eq!(rt; rx.pop(), None);
     Ok(())
 }
 
@@ -211,7 +211,7 @@ fn take_all<R: Wait>(
         if taken.len() >= flits {
             break;
         }
-        match rx.pop(rt) {
+        match rx.pop() {
             Some(flit) => taken.push(flit)?,
             None => thread::yield_now(),
         }
@@ -262,9 +262,9 @@ fn eight_channels_of_depth_seventeen(rt: HostRuntime) -> Result<(), Fail> {
     assert_eq!(rt; fill(&rt, &mut tx, 137), 136);
     for packet in 0..136u16 {
         let wanted = flit(packet, 0, Kind::Single, (packet % 8) as u8);
-        assert_eq!(rt; rx.pop(&rt), Some(wanted));
+        assert_eq!(rt; rx.pop(), Some(wanted));
     }
-    assert_eq!(rt; rx.pop(&rt), None);
+    assert_eq!(rt; rx.pop(), None);
     Ok(())
 }
 
@@ -292,7 +292,7 @@ fn three_flits_left_at_the_reunion(rt: HostRuntime) -> Result<(), Fail> {
     let mut tries = 1;
     assert!(rt; offer_packet(&rt, &mut tx, 0, 1, 0, &mut tries));
     assert!(rt; offer_packet(&rt, &mut tx, 1, 3, 1, &mut tries));
-    assert_eq!(rt; rx.pop(&rt), Some(flit(0, 0, Kind::Single, 0)));
+    assert_eq!(rt; rx.pop(), Some(flit(0, 0, Kind::Single, 0)));
     let mut ends = reunite(tx, rx);
     assert_eq!(rt; ends.pop_rest(&rt), Some(flit(1, 0, Kind::Head, 1)));
     assert_eq!(rt; ends.pop_rest(&rt), Some(flit(1, 1, Kind::Body, 1)));
@@ -326,7 +326,7 @@ fn an_opening_history_is_continued(rt: HostRuntime) -> Result<(), Fail> {
     let mut tries = 1;
     assert!(rt; follow(&rt, &mut tx, 7, 1, Kind::Head, Kind::Body, 1, &mut tries));
     assert!(rt; follow(&rt, &mut tx, 7, 2, Kind::Body, Kind::Tail, 1, &mut tries));
-    assert_eq!(rt; rx.pop(&rt), Some(flit(7, 1, Kind::Body, 1)));
+    assert_eq!(rt; rx.pop(), Some(flit(7, 1, Kind::Body, 1)));
     let mut ends = reunite(tx, rx);
     assert_eq!(rt; ends.pop_rest(&rt), Some(flit(7, 2, Kind::Tail, 1)));
     assert_eq!(rt; ends.pop_rest(&rt), None);
@@ -341,7 +341,7 @@ fn two_credits_left_at_the_reunion(rt: HostRuntime) -> Result<(), Fail> {
     assert_eq!(rt; tx.push(&rt, 1), Ok(()));
     assert_eq!(rt; tx.push(&rt, 0), Ok(()));
     assert_eq!(rt; tx.push(&rt, 1), Ok(()));
-    assert_eq!(rt; rx.pop(&rt), Some(1));
+    assert_eq!(rt; rx.pop(), Some(1));
     let mut ends = reunite_credits(tx, rx);
     assert_eq!(rt; ends.pop_rest(&rt), Some(0));
     assert_eq!(rt; ends.pop_rest(&rt), Some(1));
@@ -361,7 +361,7 @@ fn ends_of_different_links_lie_in_one_list(rt: HostRuntime) -> Result<(), Fail> 
     lines.push(narrow)?;
     lines.push(wide)?;
     assert_eq!(rt; tx.push(&rt, 1), Ok(()));
-    assert_eq!(rt; lines[0].pop(&rt), None);
-    assert_eq!(rt; lines[1].pop(&rt), Some(1));
+    assert_eq!(rt; lines[0].pop(), None);
+    assert_eq!(rt; lines[1].pop(), Some(1));
     Ok(())
 }

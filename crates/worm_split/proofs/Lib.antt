@@ -39,3 +39,4 @@ pub mod Asked
 pub mod SinkSends
 pub mod NodeEffects
 pub mod Effects
+pub mod AtRest

@@ -175,16 +175,14 @@ GivesCredit x p old fault new = EachOf (Gives x p) (option_to_list (lowest_owed 
 abbrev pub GivesCredits : ℕ → PartPassage
 GivesCredits x old fault new = EachOf (GivesCredit x) (mesh_ports old.net) old fault new
 
+-- what a node does in a turn once its source and its links were asked
+abbrev pub NodePasses : ℕ → PartPassage
+NodePasses x = Within (ComesInBy Attempts x) then Within (Allocates x) then SendsGranted x then GivesCredits x
+
 -- the turn of a node, with these entries for all nodes
 abbrev pub NodeTurn : List Entry → ℕ → PartPassage
 NodeTurn entries x =
-    Within (AsksSourceBy Attempts entries x)
-    then PullsCredits x
-    then PullsFlits x
-    then Within (ComesInBy Attempts x)
-    then Within (Allocates x)
-    then SendsGranted x
-    then GivesCredits x
+    Within (AsksSourceBy Attempts entries x) then PullsCredits x then PullsFlits x then NodePasses x
 
 -- the turns of the part's nodes, by rising number
 abbrev pub own_nodes : PartState → List ℕ

@@ -32,23 +32,23 @@ pub struct Line {
 }
 
 /// The next credit that came back by the end. None where there is none, or no credits come back by it.
-pub fn pop_credit<R: Wait>(rt: &R, end: &mut End) -> Option<u8>
+pub fn pop_credit(end: &mut End) -> Option<u8>
     ensures none { IfNone result (end.new ≡ end.old) }
     ensures some { IfSome result (λ c. CreditPopped end.old c end.new) }
 {
     match end {
-        End::Leaving(_tx, back) => back.pop(rt),
+        End::Leaving(_tx, back) => back.pop(),
         _ => None,
     }
 }
 
 /// The next flit that came by the end. None where there is none, or no flits come by it.
-pub fn pop_flit<R: Wait>(rt: &R, end: &mut End) -> Option<Flit>
+pub fn pop_flit(end: &mut End) -> Option<Flit>
     ensures none { IfNone result (end.new ≡ end.old) }
     ensures some { IfSome result (λ flit. FlitPopped end.old flit end.new) }
 {
     match end {
-        End::Entering(rx, _give) => rx.pop(rt),
+        End::Entering(rx, _give) => rx.pop(),
         _ => None,
     }
 }

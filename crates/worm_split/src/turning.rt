@@ -17,7 +17,7 @@ ghost use Rattle.worm_swalloc.specs.declared.grant.SwGrant.{SwGrant};
 ghost use Rattle.worm_router.specs.Router.{input_at, leaving};
 ghost use Rattle.worm_theory.specs.Steps.{IsThere, Step as Event};
 ghost use Rattle.worm_split.specs.PartTurns.{ComesBy, EachOf, GivesAcross, GivesCredit, GivesCredits, LeavesBy};
-ghost use Rattle.worm_split.specs.PartTurns.{NodeTurn, Sends, SendsAcross, SendsGrants, StaysWithin, Turn};
+ghost use Rattle.worm_split.specs.PartTurns.{NodePasses, NodeTurn, Sends, SendsAcross, SendsGrants, StaysWithin, Turn};
 ghost use Rattle.worm_split.specs.PartTurns.{PullsCredit, PullsCredits, PullsFlit, PullsFlits, Within};
 
 use crate::ends::{is_entering, is_leaving, pop_credit, pop_flit, push_credit, push_flit};
@@ -31,7 +31,7 @@ use worm_vcalloc::ChannelSet;
 impl Part {
     /// Asks for the next credit of the link out of the port, where the link leaves the worker's nodes and no credit of
     /// it waits.
-    fn pull_credit<R: Wait>(&mut self, rt: &R, node: u8, port: u8)
+    fn pull_credit(&mut self, node: u8, port: u8)
         requires node { node < node_count self.old.net.mesh }
         requires own { owned self.old.net node ≡ true }
         ensures pulls { PullsCredit node port self.old None self.new }
@@ -44,7 +44,7 @@ impl Part {
         if self.region.has_credits(links.beyond, links.entered) {
             return;
         }
-        let Some(vc) = pop_credit(rt, &mut self.ends[usize::from(links.out)]) else {
+        let Some(vc) = pop_credit(&mut self.ends[usize::from(links.out)]) else {
             return;
         };
         self.region.arrive_credit(links.beyond, links.entered, vc);
@@ -52,7 +52,7 @@ impl Part {
 
     /// Asks for the next flit of the link into the port, where the link enters the worker's nodes and no flit of it
     /// waits.
-    fn pull_flit<R: Wait>(&mut self, rt: &R, node: u8, port: u8)
+    fn pull_flit(&mut self, node: u8, port: u8)
         requires node { node < node_count self.old.net.mesh }
         requires own { owned self.old.net node ≡ true }
         ensures pulls { PullsFlit node port self.old None self.new }
@@ -65,33 +65,33 @@ impl Part {
         if self.region.has_flits(links.beyond, links.entered) {
             return;
         }
-        let Some(flit) = pop_flit(rt, &mut self.ends[usize::from(links.into)]) else {
+        let Some(flit) = pop_flit(&mut self.ends[usize::from(links.into)]) else {
             return;
         };
         self.region.arrive(links.beyond, links.entered, flit);
     }
 
     /// Asks for a credit of each link out of the node, ports rising.
-    fn pull_credits<R: Wait>(&mut self, rt: &R, node: u8)
+    fn pull_credits(&mut self, node: u8)
         requires node { node < node_count self.old.net.mesh }
         requires own { owned self.old.net node ≡ true }
         ensures pulls { PullsCredits node self.old None self.new }
         ensures same { IsSamePart self.old self.new }
     {
         for port in 0..self.region.terminal() {
-            self.pull_credit(rt, node, port);
+            self.pull_credit(node, port);
         }
     }
 
     /// Asks for a flit of each link into the node, ports rising.
-    fn pull_flits<R: Wait>(&mut self, rt: &R, node: u8)
+    fn pull_flits(&mut self, node: u8)
         requires node { node < node_count self.old.net.mesh }
         requires own { owned self.old.net node ≡ true }
         ensures pulls { PullsFlits node self.old None self.new }
         ensures same { IsSamePart self.old self.new }
     {
         for port in 0..self.region.terminal() {
-            self.pull_flit(rt, node, port);
+            self.pull_flit(node, port);
         }
     }
 
@@ -280,6 +280,33 @@ impl Part {
         }
     }
 
+    /// Whether the node is at rest, so that the rest of its turn changes nothing. Where it is at rest this may not be
+    /// found.
+    fn rests(&mut self, node: u8) -> bool
+        requires { node < node_count self.old.net.mesh }
+        ensures passes { IsTrue result → NodePasses node self.old None self.old }
+        ensures same { self.new ≡ self.old }
+    {
+        self.region.is_workable();
+        self.region.rests(node)
+    }
+
+    /// What a node does in a turn once its source and its links were asked, up to the first fault.
+    fn node_passes<R: Wait>(&mut self, rt: &R, node: u8) -> Result<(), StepFault>
+        requires node { node < node_count self.old.net.mesh }
+        requires own { owned self.old.net node ≡ true }
+        ensures passes { NodePasses node self.old (result_err result) self.new }
+        ensures same { IsSamePart self.old self.new }
+    {
+        if self.rests(node) {
+            return Ok(());
+        }
+        let granted = self.prepare(node);
+        self.send_granted(rt, node, granted)?;
+        self.give_credits(rt, node);
+        Ok(())
+    }
+
     /// The turn of a node, with these entries for all nodes, up to the first fault.
     fn node_turn<R: Wait>(&mut self, rt: &R, node: u8, entries: &[Entry]) -> Result<(), StepFault>
         requires node { node < node_count self.old.net.mesh }
@@ -288,12 +315,9 @@ impl Part {
         ensures same { IsSamePart self.old self.new }
     {
         self.ask_source(node, entries)?;
-        self.pull_credits(rt, node);
-        self.pull_flits(rt, node);
-        let granted = self.prepare(node);
-        self.send_granted(rt, node, granted)?;
-        self.give_credits(rt, node);
-        Ok(())
+        self.pull_credits(node);
+        self.pull_flits(node);
+        self.node_passes(rt, node)
     }
 
     /// Whether the worker owns the node.

@@ -7,15 +7,15 @@ use Rattle.worm_split.proofs.PartLoops.{of_more, same_on}
 use Rattle.worm_split.proofs.part.Part.pull_credits.Goals as goal
 
 pub pull_credit-requires-clause-node : goal.pull_credit-requires-clause-node
-pull_credit-requires-clause-node g c = subst (λ (ks : List ℕ). c.args.node < node_count ks)
+pull_credit-requires-clause-node c = subst (λ (ks : List ℕ). c.args.node < node_count ks)
     (sym c.loop-port.invariant.same.config.mesh) c.requires.node
 
 pub pull_credit-requires-clause-own : goal.pull_credit-requires-clause-own
-pull_credit-requires-clause-own g c = subst (λ (w : Own). owned_by w c.args.node ≡ true)
+pull_credit-requires-clause-own c = subst (λ (w : Own). owned_by w c.args.node ≡ true)
     (sym c.loop-port.invariant.same.config.own) c.requires.own
 
 pub loop-port-preserved : goal.loop-port-preserved
-loop-port-preserved g c = record {
+loop-port-preserved c = record {
   pulled = of_more (PullsCredit c.args.node) c.loop-port.port c.args.self.now c.loop-port.self c.pull_credit.new.self
       c.loop-port.invariant.pulled c.pull_credit.ensures.pulls;
   same = same_on c.args.self.now c.loop-port.self c.pull_credit.new.self c.loop-port.invariant.same

@@ -5,7 +5,7 @@ use Rattle.worm_split.specs.PartTurns.{EachOf, PullsCredit}
 use Rattle.worm_split.proofs.part.Part.pull_credits.Given as goal
 
 abbrev pub invariant-loop-port : goal.invariant-loop-port
-invariant-loop-port g l = record {
+invariant-loop-port l = record {
   pulled : EachOf (PullsCredit l.node) (range_with_len 0 l.port) l.fn.self None l.self;
   same : IsSamePart l.fn.self l.self;
 }
