@@ -1,5 +1,5 @@
 pub mod Links
-pub mod Fronts
+pub mod Line
 pub mod Ports
 pub mod Wiring
 pub mod Arrivals

@@ -1,7 +1,10 @@
-ghost use Rattle.worm_wires.specs.Links.{empty_link};
-ghost use Rattle.std.specs.Prelude.{◌≡◌, [], ◌∷◌, ◌++◌, ◌<◌, length, drop, min, slice_get, Some, IfOk, ◌≤◌, IfNone};
-ghost use Rattle.std.specs.Prelude.{IsSome, option_to_list, vec_len, vec_capacity};
+//! What is on a link.
 
+ghost use Rattle.worm_wires.specs.Links.{empty_link};
+ghost use Rattle.std.specs.Prelude.{◌≡◌, [], ◌∷◌, ◌++◌, ◌<◌, ◌≤◌, length, drop, min, slice_get, Some, IfOk};
+ghost use Rattle.std.specs.Prelude.{vec_capacity};
+
+use crate::line::Line;
 use std::alloc::{AllocError, Global};
 use std::marker::Model;
 use std::mem::swap;
@@ -17,61 +20,23 @@ use worm_flit::Flit;
 /// ```
 #[derive(Drop)]
 pub struct LinkState {
-    /// The front flit. Mostly there is one at most, so it lies here and not in the list.
-    front: Option<Flit>,
-    /// The channel of the front credit.
-    front_credit: Option<u8>,
-    /// Whether there are flits behind the front, so that mostly the list is not looked at.
-    has_more: bool,
-    /// Whether there are credits behind the front.
-    has_more_credits: bool,
+    /// The flits, in the order in which they were sent, on whatever channels.
+    flits: Line<Flit>,
+    /// The channels whose credits are on their way back.
+    credits: Line<u8>,
     /// How many of each fit without growing; in a network at least the number of channels times the depth.
     room: u16,
-    /// The flits behind the front, in the order in which they were sent, on whatever channels.
-    flits: Vec<Flit>,
-    /// The channels whose credits are on their way back behind the front.
-    credits: Vec<u8>,
 }
 
 impl Model for LinkState {
-    ghost use Rattle.std.specs.Prelude.{vec_capacity, ◌++◌, option_to_list};
+    ghost use Rattle.std.specs.Prelude.{◌≤◌, ◌*◌};
     ghost use Rattle.worm_wires.specs.Links.{LinkView};
-    ghost use Rattle.worm_wires.specs.Fronts.{IsFronted};
 
     ghost Value = { LinkView };
 
-    ghost view = { λ l. record {
-      flits = option_to_list l.front ++ l.flits.items;
-      credits = option_to_list l.front_credit ++ l.credits.items;
-      room = l.room;
-    } };
+    ghost view = { λ l. record { flits = l.flits.items; credits = l.credits.items; room = l.room } };
 
-    ghost invariant = { λ l. (IsFronted l.front l.has_more l.flits.items (vec_capacity l.flits) l.room)
-        × (IsFronted l.front_credit l.has_more_credits l.credits.items (vec_capacity l.credits) l.room) };
-}
-
-/// Takes the first out of the list, if there is one.
-fn take_first<T: Copy>(list: &mut Vec<T>) -> Option<T>
-    ensures items { list.old.items ≡ option_to_list result ++ list.new.items }
-    ensures none { IfNone result (list.new.items ≡ []) }
-    ensures capacity { vec_capacity list.new ≡ vec_capacity list.old }
-    ensures fits { IsSome result → vec_len list.new < vec_capacity list.new }
-{
-    if list.is_empty() {
-        return None;
-    }
-    Some(list.remove(0))
-}
-
-/// Puts it before the first of the list, which has room for it.
-fn put_first<T: Copy>(list: &mut Vec<T>, first: Option<T>)
-    requires { IsSome first → vec_len list.old < vec_capacity list.old }
-    ensures items { list.new.items ≡ option_to_list first ++ list.old.items }
-    ensures capacity { vec_capacity list.old ≤ vec_capacity list.new }
-{
-    if let Some(first) = first {
-        let _done = list.insert(0, first);
-    }
+    ghost invariant = { λ l. (l.room ≤ l.flits.room) × (l.room ≤ l.credits.room) };
 }
 
 /// Makes both the smaller of the two.
@@ -100,18 +65,10 @@ impl LinkState {
         requires credits { room ≤ vec_capacity credits }
         ensures { result ≡ record { flits = flits.items; credits = credits.items; room = room } }
     {
-        let mut flits = flits;
-        let mut credits = credits;
-        let front = take_first(&mut flits);
-        let front_credit = take_first(&mut credits);
         LinkState {
-            front,
-            front_credit,
-            has_more: !flits.is_empty(),
-            has_more_credits: !credits.is_empty(),
+            flits: Line::from_list(flits),
+            credits: Line::from_list(credits),
             room,
-            flits,
-            credits,
         }
     }
 
@@ -123,17 +80,11 @@ impl LinkState {
         ensures credit_room { self.room ≤ vec_capacity result.1 }
     {
         let LinkState {
-            front,
-            front_credit,
-            has_more: _,
-            has_more_credits: _,
+            flits,
+            credits,
             room: _,
-            mut flits,
-            mut credits,
         } = self;
-        put_first(&mut flits, front);
-        put_first(&mut credits, front_credit);
-        (flits, credits)
+        (flits.into_list(), credits.into_list())
     }
 
     /// The room: how many flits, and how many credits, fit without growing.
@@ -147,18 +98,14 @@ impl LinkState {
     pub fn front(&self) -> Option<Flit>
         ensures { result ≡ slice_get self.now.flits 0 }
     {
-        // No flit is behind where there is no front.
-        self.front
+        self.flits.front()
     }
 
     /// How many flits are on it.
     pub fn count(&self) -> usize
         ensures { result ≡ length self.now.flits }
     {
-        match self.front {
-            None => 0,
-            Some(_) => 1 + self.flits.len(),
-        }
+        self.flits.count()
     }
 
     /// The flit at place `i`, counted from the front.
@@ -166,22 +113,14 @@ impl LinkState {
         requires { i < length self.now.flits }
         ensures { slice_get self.now.flits i ≡ Some result }
     {
-        match self.front {
-            Some(front) if i == 0 => front,
-            _ => self.flits[i - 1],
-        }
+        self.flits.item(i)
     }
 
     /// Drops the front flit, if there is one.
     pub fn pop(&mut self)
         ensures { self.new ≡ record self.old { flits = drop 1 self.old.flits } }
     {
-        if self.has_more {
-            self.front = take_first(&mut self.flits);
-            self.has_more = !self.flits.is_empty();
-        } else {
-            self.front = None;
-        }
+        self.flits.pop();
     }
 
     /// Puts the flit at the end.
@@ -189,42 +128,28 @@ impl LinkState {
         requires { length self.old.flits < self.old.room }
         ensures { self.new ≡ record self.old { flits = self.old.flits ++ flit ∷ [] } }
     {
-        if self.front.is_none() {
-            self.front = Some(flit);
-        } else {
-            let _done = self.flits.push(flit);
-            self.has_more = true;
-        }
+        self.flits.push(flit);
     }
 
     /// The channel of the front credit, if there is one.
     pub fn front_credit(&self) -> Option<u8>
         ensures { result ≡ slice_get self.now.credits 0 }
     {
-        // No credit is behind where there is no front.
-        self.front_credit
+        self.credits.front()
     }
 
     /// How many credits are on their way back over it.
     pub fn credit_count(&self) -> usize
         ensures { result ≡ length self.now.credits }
     {
-        match self.front_credit {
-            None => 0,
-            Some(_) => 1 + self.credits.len(),
-        }
+        self.credits.count()
     }
 
     /// Drops the front credit, if there is one.
     pub fn pop_credit(&mut self)
         ensures { self.new ≡ record self.old { credits = drop 1 self.old.credits } }
     {
-        if self.has_more_credits {
-            self.front_credit = take_first(&mut self.credits);
-            self.has_more_credits = !self.credits.is_empty();
-        } else {
-            self.front_credit = None;
-        }
+        self.credits.pop();
     }
 
     /// Puts a credit of the channel at the end.
@@ -232,12 +157,7 @@ impl LinkState {
         requires { length self.old.credits < self.old.room }
         ensures { self.new ≡ record self.old { credits = self.old.credits ++ vc ∷ [] } }
     {
-        if self.front_credit.is_none() {
-            self.front_credit = Some(vc);
-        } else {
-            let _done = self.credits.push(vc);
-            self.has_more_credits = true;
-        }
+        self.credits.push(vc);
     }
 
     /// Exchanges the flits on the two links, and neither keeps more room than both had.
@@ -249,8 +169,6 @@ impl LinkState {
         } }
     {
         keep_least(&mut self.room, &mut other.room);
-        swap(&mut self.front, &mut other.front);
-        swap(&mut self.has_more, &mut other.has_more);
         swap(&mut self.flits, &mut other.flits);
     }
 
@@ -266,8 +184,6 @@ impl LinkState {
         } }
     {
         keep_least(&mut self.room, &mut other.room);
-        swap(&mut self.front_credit, &mut other.front_credit);
-        swap(&mut self.has_more_credits, &mut other.has_more_credits);
         swap(&mut self.credits, &mut other.credits);
     }
 }
