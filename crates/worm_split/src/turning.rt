@@ -30,22 +30,44 @@ use worm_flit::Flit;
 use worm_vcalloc::ChannelSet;
 
 impl Part {
+    /// By mesh port, whether a step that way leads to another worker's node: one adds the same to each node's number,
+    /// so it does for all nodes or for none. Links by the other ports stay within the part, and need not be asked.
+    fn shared_ports(&self) -> [bool; 6] {
+        let mesh = self.region.mesh();
+        let workers = self.region.own().workers;
+        let mut shared = [false; 6];
+        for dim in 0..mesh.dims() {
+            let beyond = mesh.neighbour(0, 2 * dim + 1).unwrap_or(1);
+            let leads_away = u16::from(beyond) % workers != 0;
+            shared[usize::from(2 * dim)] = leads_away;
+            shared[usize::from(2 * dim + 1)] = leads_away;
+        }
+        shared
+    }
+
     /// Asks for the next credit of the link out of the port, where the link leaves the worker's nodes and no credit of
     /// it waits.
-    fn pull_credit(&mut self, node: u8, port: u8)
+    fn pull_credit(&mut self, node: u8, port: u8, shared: &[bool])
         requires node { node < node_count self.old.net.mesh }
         requires own { owned self.old.net node ≡ true }
         ensures pulls { PullsCredit node port self.old None self.new }
         ensures same { IsSamePart self.old self.new }
     {
+        if !shared.get(usize::from(port)).copied().unwrap_or(true) {
+            return;
+        }
         self.region.is_workable();
         let Some(links) = self.region.links_at(node, port) else {
             return;
         };
+        let number = usize::from(links.out);
+        if !is_leaving(&self.ends[number]) {
+            return;
+        }
         if self.region.has_credits(links.beyond, links.entered) {
             return;
         }
-        let Some(vc) = pop_credit(&mut self.ends[usize::from(links.out)]) else {
+        let Some(vc) = pop_credit(&mut self.ends[number]) else {
             return;
         };
         self.region.arrive_credit(links.beyond, links.entered, vc);
@@ -53,46 +75,53 @@ impl Part {
 
     /// Asks for the next flit of the link into the port, where the link enters the worker's nodes and no flit of it
     /// waits.
-    fn pull_flit(&mut self, node: u8, port: u8)
+    fn pull_flit(&mut self, node: u8, port: u8, shared: &[bool])
         requires node { node < node_count self.old.net.mesh }
         requires own { owned self.old.net node ≡ true }
         ensures pulls { PullsFlit node port self.old None self.new }
         ensures same { IsSamePart self.old self.new }
     {
+        if !shared.get(usize::from(port)).copied().unwrap_or(true) {
+            return;
+        }
         self.region.is_workable();
         let Some(links) = self.region.links_at(node, port) else {
             return;
         };
+        let number = usize::from(links.into);
+        if !is_entering(&self.ends[number]) {
+            return;
+        }
         if self.region.has_flits(links.beyond, links.entered) {
             return;
         }
-        let Some(flit) = pop_flit(&mut self.ends[usize::from(links.into)]) else {
+        let Some(flit) = pop_flit(&mut self.ends[number]) else {
             return;
         };
         self.region.arrive(links.beyond, links.entered, flit);
     }
 
     /// Asks for a credit of each link out of the node, ports rising.
-    fn pull_credits(&mut self, node: u8)
+    fn pull_credits(&mut self, node: u8, shared: &[bool])
         requires node { node < node_count self.old.net.mesh }
         requires own { owned self.old.net node ≡ true }
         ensures pulls { PullsCredits node self.old None self.new }
         ensures same { IsSamePart self.old self.new }
     {
         for port in 0..self.region.terminal() {
-            self.pull_credit(node, port);
+            self.pull_credit(node, port, shared);
         }
     }
 
     /// Asks for a flit of each link into the node, ports rising.
-    fn pull_flits(&mut self, node: u8)
+    fn pull_flits(&mut self, node: u8, shared: &[bool])
         requires node { node < node_count self.old.net.mesh }
         requires own { owned self.old.net node ≡ true }
         ensures pulls { PullsFlits node self.old None self.new }
         ensures same { IsSamePart self.old self.new }
     {
         for port in 0..self.region.terminal() {
-            self.pull_flit(node, port);
+            self.pull_flit(node, port, shared);
         }
     }
 
@@ -331,15 +360,21 @@ impl Part {
     }
 
     /// The turn of a node, with these entries for all nodes, up to the first fault.
-    fn node_turn<R: Wait>(&mut self, rt: &R, node: u8, entries: &[Entry]) -> Result<(), StepFault>
+    fn node_turn<R: Wait>(
+        &mut self,
+        rt: &R,
+        node: u8,
+        entries: &[Entry],
+        shared: &[bool],
+    ) -> Result<(), StepFault>
         requires node { node < node_count self.old.net.mesh }
         requires own { owned self.old.net node ≡ true }
         ensures turn { NodeTurn entries.now node self.old (result_err result) self.new }
         ensures same { IsSamePart self.old self.new }
     {
         self.ask_source(node, entries)?;
-        self.pull_credits(node);
-        self.pull_flits(node);
+        self.pull_credits(node, shared);
+        self.pull_flits(node, shared);
         self.node_passes(rt, node)
     }
 
@@ -351,7 +386,13 @@ impl Part {
     }
 
     /// The turn of the node if it is the worker's own, and nothing if it is not.
-    fn own_turn<R: Wait>(&mut self, rt: &R, node: u8, entries: &[Entry]) -> Result<(), StepFault>
+    fn own_turn<R: Wait>(
+        &mut self,
+        rt: &R,
+        node: u8,
+        entries: &[Entry],
+        shared: &[bool],
+    ) -> Result<(), StepFault>
         requires node { node < node_count self.old.net.mesh }
         ensures turn { EachOf (NodeTurn entries.now) (filter (owned self.old.net) (node ∷ [])) self.old
             (result_err result) self.new }
@@ -360,7 +401,7 @@ impl Part {
         if !self.owns(node) {
             return Ok(());
         }
-        self.node_turn(rt, node, entries)
+        self.node_turn(rt, node, entries, shared)
     }
 
     /// The turns of the worker's nodes, in rising number, with these entries for all nodes, up to the first fault.
@@ -368,8 +409,9 @@ impl Part {
         ensures turn { Turn entries.now self.old (result_err result) self.new }
         ensures same { IsSamePart self.old self.new }
     {
+        let shared = self.shared_ports();
         for node in 0..self.region.nodes() {
-            self.own_turn(rt, node as u8, entries)?;
+            self.own_turn(rt, node as u8, entries, &shared)?;
         }
         Ok(())
     }
