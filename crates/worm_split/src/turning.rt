@@ -1,6 +1,6 @@
 //! What a part does in a turn of one of its nodes.
 
-ghost use Rattle.std.specs.Prelude.{◌≡◌, ◌<◌, ◌≤◌, ◌+◌, ◌*◌, ◌↔◌, ◌∷◌, [], ℕ, filter, true, None, Some, IfSome, IsTrue};
+ghost use Rattle.std.specs.Prelude.{◌≡◌, ◌<◌, ◌≤◌, ◌+◌, ◌*◌, ◌%◌, ◌↔◌, ◌∷◌, [], ℕ, filter, true, None, Some, IfSome, IsTrue};
 ghost use Rattle.std.specs.Prelude.{length, slice_index_or, sum};
 ghost use Rattle.std.specs.Result.{result_err};
 ghost use Rattle.worm_mesh.specs.Address.{node_count};
@@ -22,7 +22,6 @@ ghost use Rattle.worm_split.specs.PartTurns.{NodePasses, NodeTurn, Sends, SendsA
 ghost use Rattle.worm_split.specs.PartTurns.{PullsCredit, PullsCredits, PullsFlit, PullsFlits, Within};
 
 use crate::ends::{is_entering, is_leaving, pop_credit, pop_flit, push_credit, push_flit};
-use crate::exchange::owns;
 use crate::part::Part;
 use std::sync::Wait;
 use worm_core::{Act, Entry, Script, StepFault, tried};
@@ -378,27 +377,22 @@ impl Part {
         self.node_passes(rt, node)
     }
 
-    /// Whether the worker owns the node.
-    fn owns(&self, node: u8) -> bool
-        ensures { result ≡ owned self.now.net node }
-    {
-        owns(self.region.own(), node)
-    }
-
-    /// The turn of the node if it is the worker's own, and nothing if it is not.
+    /// The turn of the node, whose owner this is, if it is the worker's own, and nothing if it is not.
     fn own_turn<R: Wait>(
         &mut self,
         rt: &R,
         node: u8,
+        owner: u16,
         entries: &[Entry],
         shared: &[bool],
     ) -> Result<(), StepFault>
         requires node { node < node_count self.old.net.mesh }
+        requires owner { owner ≡ node % self.old.net.own.workers }
         ensures turn { EachOf (NodeTurn entries.now) (filter (owned self.old.net) (node ∷ [])) self.old
             (result_err result) self.new }
         ensures same { IsSamePart self.old self.new }
     {
-        if !self.owns(node) {
+        if owner != self.region.own().worker {
             return Ok(());
         }
         self.node_turn(rt, node, entries, shared)
@@ -410,8 +404,11 @@ impl Part {
         ensures same { IsSamePart self.old self.new }
     {
         let shared = self.shared_ports();
+        let workers = self.region.own().workers;
+        let mut owner = 0;
         for node in 0..self.region.nodes() {
-            self.own_turn(rt, node as u8, entries, &shared)?;
+            self.own_turn(rt, node as u8, owner, entries, &shared)?;
+            owner = next_owner(owner, workers);
         }
         Ok(())
     }
@@ -433,6 +430,17 @@ impl Part {
         self.region.is_workable();
         self.node_turns(rt, entries)
     }
+}
+
+/// The owner of the next node: nodes go to the workers in turn. It is counted, since to divide takes longer.
+fn next_owner(owner: u16, workers: u16) -> u16
+    requires { owner < workers }
+    ensures { result ≡ (owner + 1) % workers }
+{
+    if owner + 1 == workers {
+        return 0;
+    }
+    owner + 1
 }
 
 /// What holds of every packet, for contracts: it has words, and not too many.
