@@ -40,3 +40,4 @@ pub mod SinkSends
 pub mod NodeEffects
 pub mod Effects
 pub mod AtRest
+pub mod Sharing

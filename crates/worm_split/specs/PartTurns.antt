@@ -1,7 +1,7 @@
 -- The turn of a node in a worker's part: the turn of a node, in which what goes to another worker goes by the worker's
 -- end of the link, and what comes from one comes by it (Dally and Towles, chapters 13 and 16).
 use Rattle.std.specs.Prelude.{ℕ, ◌≡◌, ◌≤◌, ◌*◌, ◌⊎◌, List, [], ◌∷◌, ◌++◌, length, map, filter, slice_set}
-use Rattle.std.specs.Prelude.{slice_index_or, Option, Some, None, IsSome, option_map}
+use Rattle.std.specs.Prelude.{Bool, true, false, slice_index_or, Option, Some, None, IsSome, option_map}
 use Rattle.std.specs.List.{flat_map}
 use Rattle.std.specs.Option.{option_to_list}
 use Rattle.worm_flit.specs.declared.Flit.{Flit}
@@ -94,6 +94,11 @@ pub record FlitComes (x p : ℕ) (old new : PartState) : Type 0 where
 
 abbrev pub PullsFlit : ℕ → ℕ → PartPassage
 PullsFlit x p old fault new = (fault ≡ None) × ((new ≡ old) ⊎ FlitComes x p old new)
+
+-- by a port that is not named no link leads from a worker's node to another worker's
+abbrev pub AreShared : NetState → List Bool → Type 0
+AreShared net shared = (x o y : ℕ) → neighbour_of net.mesh x o ≡ Some y → slice_index_or shared o true ≡ false
+    → owned net y ≡ owned net x
 
 -- The flit that is ready leaves by a link to another worker: its push lands, and it left; or the push comes back full,
 -- and nothing is done. It comes back full only where as many flits were sent as the queue holds.

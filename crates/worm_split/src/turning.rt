@@ -1,9 +1,9 @@
 //! What a part does in a turn of one of its nodes.
 
-ghost use Rattle.std.specs.Prelude.{◌≡◌, ◌<◌, ◌≤◌, ◌+◌, ◌*◌, ◌↔◌, ◌∷◌, [], ℕ, filter, true, None, Some, IfSome, IsTrue};
-ghost use Rattle.std.specs.Prelude.{List, Option, length, sum};
+ghost use Rattle.std.specs.Prelude.{◌≡◌, ◌<◌, ◌≤◌, ◌+◌, ◌*◌, ◌%◌, ◌↔◌, ◌∷◌, [], ℕ, filter, true, None, Some, IfSome, IsTrue};
+ghost use Rattle.std.specs.Prelude.{false, List, Option, length, sum};
 ghost use Rattle.std.specs.Result.{result_err};
-ghost use Rattle.worm_mesh.specs.Address.{node_count};
+ghost use Rattle.worm_mesh.specs.Address.{node_count, stride_of};
 ghost use Rattle.worm_core.specs.Replies.{Attempts};
 ghost use Rattle.worm_core.specs.Script.{due};
 ghost use Rattle.worm_core.specs.Prepared.{Prepares};
@@ -18,10 +18,9 @@ ghost use Rattle.worm_router.specs.Router.{input_at, leaving};
 ghost use Rattle.worm_theory.specs.Steps.{IsThere, Step as Event};
 ghost use Rattle.worm_split.specs.PartTurns.{ComesBy, EachOf, GivesAcross, GivesCredit, GivesCredits, LeavesBy};
 ghost use Rattle.worm_split.specs.PartTurns.{NodePasses, NodeTurn, Sends, SendsAcross, SendsGrants, StaysWithin, Turn};
-ghost use Rattle.worm_split.specs.PartTurns.{PullsCredit, PullsCredits, PullsFlit, PullsFlits, Within};
+ghost use Rattle.worm_split.specs.PartTurns.{AreShared, PullsCredit, PullsCredits, PullsFlit, PullsFlits, Within};
 
 use crate::ends::{is_entering, is_leaving, pop_credit, pop_flit, push_credit, push_flit};
-use crate::exchange::owns;
 use crate::part::Part;
 use std::sync::Wait;
 use worm_core::{Act, Entry, Script, StepFault, tried};
@@ -29,22 +28,55 @@ use worm_flit::Flit;
 use worm_vcalloc::ChannelSet;
 
 impl Part {
+    /// Whether a step in this dimension leads to another worker's node. It adds the same to each node's number, so it
+    /// does so from all nodes or from none.
+    fn leads_away(&self, dim: u8) -> bool
+        requires { dim < length self.now.net.mesh }
+        ensures { result ≡ false → stride_of self.now.net.mesh dim % self.now.net.own.workers ≡ 0 }
+    {
+        self.region.is_workable();
+        let Some(beyond) = self.region.mesh().neighbour(0, 2 * dim + 1) else {
+            unreachable!()
+        };
+        u16::from(beyond) % self.region.own().workers != 0
+    }
+
+    /// By mesh port, whether a link by it may lead to another worker's node. The links by the others stay within the
+    /// part, so their queues need not be asked.
+    fn shared_ports(&self) -> [bool; 6]
+        ensures { AreShared self.now.net result }
+    {
+        self.region.is_workable();
+        let mut shared = [false; 6];
+        for port in 0..self.region.terminal() {
+            shared[usize::from(port)] = self.leads_away(port / 2);
+        }
+        shared
+    }
+
     /// Asks for the next credit of the link out of the port, where the link leaves the worker's nodes and no credit of
     /// it waits.
-    fn pull_credit(&mut self, node: u8, port: u8)
+    fn pull_credit(&mut self, node: u8, port: u8, shared: &[bool])
         requires node { node < node_count self.old.net.mesh }
         requires own { owned self.old.net node ≡ true }
         ensures pulls { PullsCredit node port self.old None self.new }
         ensures same { IsSamePart self.old self.new }
     {
+        if !shared.get(usize::from(port)).copied().unwrap_or(true) {
+            return;
+        }
         self.region.is_workable();
         let Some(links) = self.region.links_at(node, port) else {
             return;
         };
+        let number = usize::from(links.out);
+        if !is_leaving(&self.ends[number]) {
+            return;
+        }
         if self.region.has_credits(links.beyond, links.entered) {
             return;
         }
-        let Some(vc) = pop_credit(&mut self.ends[usize::from(links.out)]) else {
+        let Some(vc) = pop_credit(&mut self.ends[number]) else {
             return;
         };
         self.region.arrive_credit(links.beyond, links.entered, vc);
@@ -52,46 +84,53 @@ impl Part {
 
     /// Asks for the next flit of the link into the port, where the link enters the worker's nodes and no flit of it
     /// waits.
-    fn pull_flit(&mut self, node: u8, port: u8)
+    fn pull_flit(&mut self, node: u8, port: u8, shared: &[bool])
         requires node { node < node_count self.old.net.mesh }
         requires own { owned self.old.net node ≡ true }
         ensures pulls { PullsFlit node port self.old None self.new }
         ensures same { IsSamePart self.old self.new }
     {
+        if !shared.get(usize::from(port)).copied().unwrap_or(true) {
+            return;
+        }
         self.region.is_workable();
         let Some(links) = self.region.links_at(node, port) else {
             return;
         };
+        let number = usize::from(links.into);
+        if !is_entering(&self.ends[number]) {
+            return;
+        }
         if self.region.has_flits(links.beyond, links.entered) {
             return;
         }
-        let Some(flit) = pop_flit(&mut self.ends[usize::from(links.into)]) else {
+        let Some(flit) = pop_flit(&mut self.ends[number]) else {
             return;
         };
         self.region.arrive(links.beyond, links.entered, flit);
     }
 
     /// Asks for a credit of each link out of the node, ports rising.
-    fn pull_credits(&mut self, node: u8)
+    fn pull_credits(&mut self, node: u8, shared: &[bool])
         requires node { node < node_count self.old.net.mesh }
         requires own { owned self.old.net node ≡ true }
         ensures pulls { PullsCredits node self.old None self.new }
         ensures same { IsSamePart self.old self.new }
     {
         for port in 0..self.region.terminal() {
-            self.pull_credit(node, port);
+            self.pull_credit(node, port, shared);
         }
     }
 
     /// Asks for a flit of each link into the node, ports rising.
-    fn pull_flits(&mut self, node: u8)
+    fn pull_flits(&mut self, node: u8, shared: &[bool])
         requires node { node < node_count self.old.net.mesh }
         requires own { owned self.old.net node ≡ true }
         ensures pulls { PullsFlits node self.old None self.new }
         ensures same { IsSamePart self.old self.new }
     {
         for port in 0..self.region.terminal() {
-            self.pull_flit(node, port);
+            self.pull_flit(node, port, shared);
         }
     }
 
@@ -308,36 +347,43 @@ impl Part {
     }
 
     /// The turn of a node, with these entries for all nodes, up to the first fault.
-    fn node_turn<R: Wait>(&mut self, rt: &R, node: u8, entries: &[Entry]) -> Result<(), StepFault>
+    fn node_turn<R: Wait>(
+        &mut self,
+        rt: &R,
+        node: u8,
+        entries: &[Entry],
+        shared: &[bool],
+    ) -> Result<(), StepFault>
         requires node { node < node_count self.old.net.mesh }
         requires own { owned self.old.net node ≡ true }
         ensures turn { NodeTurn entries.now node self.old (result_err result) self.new }
         ensures same { IsSamePart self.old self.new }
     {
         self.ask_source(node, entries)?;
-        self.pull_credits(node);
-        self.pull_flits(node);
+        self.pull_credits(node, shared);
+        self.pull_flits(node, shared);
         self.node_passes(rt, node)
     }
 
-    /// Whether the worker owns the node.
-    fn owns(&self, node: u8) -> bool
-        ensures { result ≡ owned self.now.net node }
-    {
-        owns(self.region.own(), node)
-    }
-
-    /// The turn of the node if it is the worker's own, and nothing if it is not.
-    fn own_turn<R: Wait>(&mut self, rt: &R, node: u8, entries: &[Entry]) -> Result<(), StepFault>
+    /// The turn of the node, whose owner this is, if it is the worker's own, and nothing if it is not.
+    fn own_turn<R: Wait>(
+        &mut self,
+        rt: &R,
+        node: u8,
+        owner: u16,
+        entries: &[Entry],
+        shared: &[bool],
+    ) -> Result<(), StepFault>
         requires node { node < node_count self.old.net.mesh }
+        requires owner { owner ≡ node % self.old.net.own.workers }
         ensures turn { EachOf (NodeTurn entries.now) (filter (owned self.old.net) (node ∷ [])) self.old
             (result_err result) self.new }
         ensures same { IsSamePart self.old self.new }
     {
-        if !self.owns(node) {
+        if owner != self.region.own().worker {
             return Ok(());
         }
-        self.node_turn(rt, node, entries)
+        self.node_turn(rt, node, entries, shared)
     }
 
     /// The turns of the worker's nodes, in rising number, with these entries for all nodes, up to the first fault.
@@ -345,8 +391,12 @@ impl Part {
         ensures turn { Turn entries.now self.old (result_err result) self.new }
         ensures same { IsSamePart self.old self.new }
     {
+        let shared = self.shared_ports();
+        let workers = self.region.own().workers;
+        let mut owner = 0;
         for node in 0..self.region.nodes() {
-            self.own_turn(rt, node as u8, entries)?;
+            self.own_turn(rt, node as u8, owner, entries, &shared)?;
+            owner = next_owner(owner, workers);
         }
         Ok(())
     }
@@ -368,6 +418,17 @@ impl Part {
         self.region.is_workable();
         self.node_turns(rt, entries)
     }
+}
+
+/// The owner of the next node: nodes go to the workers in turn. It is counted, since to divide takes longer.
+fn next_owner(owner: u16, workers: u16) -> u16
+    requires { owner < workers }
+    ensures { result ≡ (owner + 1) % workers }
+{
+    if owner + 1 == workers {
+        return 0;
+    }
+    owner + 1
 }
 
 /// What holds of every packet, for contracts: it has words, and not too many.

@@ -1,4 +1,4 @@
-//! A region made of its lists, and taken apart again.
+//! A region made of its lists, read, and taken apart again.
 
 ghost use Rattle.std.specs.Prelude.{◌≡◌};
 ghost use Rattle.worm_core.specs.Parts.{part_state};
@@ -7,6 +7,7 @@ ghost use Rattle.worm_core.specs.Workable.{IsWorkable};
 use super::Region;
 use crate::fabric::Fabric;
 use crate::{NetParts, Own};
+use worm_mesh::Mesh;
 
 impl Region {
     /// The region of these lists, of which the worker owns its nodes: each node at its own number, others in the
@@ -31,5 +32,12 @@ impl Region {
         ensures { result ≡ self.now.own }
     {
         self.fabric.own()
+    }
+
+    /// The mesh.
+    pub fn mesh(&self) -> &Mesh
+        ensures { result.now ≡ self.now.mesh }
+    {
+        self.fabric.mesh()
     }
 }

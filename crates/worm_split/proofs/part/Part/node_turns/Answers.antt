@@ -1,4 +1,5 @@
-use Rattle.std.proofs.Common.{◌≡◌, ◌<◌, ℕ, List, Some, None, [], ◌∷◌, arith, sym, ap, subst, ◌∙◌}
+use Rattle.std.proofs.Common.{◌≡◌, ◌<◌, ◌+◌, ◌%◌, ℕ, suc, List, Some, None, [], ◌∷◌, arith, sym, ap, subst, ◌∙◌}
+use Rattle.std.proofs.Math.Nat.{suc-mod}
 use Rattle.std.proofs.lemmas.Result.{err_from_is_err_and}
 use Rattle.std.specs.Prelude.{filter}
 use Rattle.worm_mesh.specs.Address.{node_count}
@@ -19,10 +20,19 @@ loop-node-preserved g c =
     let same = c.loop-node.invariant.same in
     let turned = subst (λ (w : Own). EachOf (NodeTurn entries) (filter (owned_by w) (c.loop-node.node ∷ [])) b None new)
     same.config.own c.in_ok-own_turn.ensures.turn in
+    let n = c.loop-node.node in
+    let count = a.net.own.workers in
+    let workers : c.own-workers.result.workers ≡ count =
+    ap (λ (w : Own). w.workers) c.own-workers.ensures ∙ (λ t. (c.self.view_is t).net.own.workers) in
+    let more : n % count + 1 ≡ suc (n % count) = omega arith in
+    let next : suc n ≡ n + 1 = omega arith in
     record {
       turned = of_next (owned a.net) (NodeTurn entries) c.loop-node.node a b new None c.loop-node.invariant.turned
           turned;
       same = same_on a b new same c.in_ok-own_turn.ensures.same;
+      owner = c.next_owner-owner.ensures
+          ∙ (λ t. (c.loop-node.invariant.owner t + 1) % (workers t))
+          ∙ ap (λ (k : ℕ). k % count) more ∙ sym (suc-mod n count) ∙ ap (λ (k : ℕ). k % count) next;
     }
 
 pub returns-in_err-own_turn-clause-turn : goal.returns-in_err-own_turn-clause-turn

@@ -1,4 +1,4 @@
-use Rattle.std.proofs.Common.{None}
+use Rattle.std.proofs.Common.{◌≡◌, ◌%◌, None}
 use Rattle.std.specs.Prelude.{filter}
 use Rattle.std.specs.List.{range_with_len}
 use Rattle.worm_core.specs.Workable.{owned}
@@ -10,4 +10,5 @@ abbrev pub invariant-loop-node : goal.invariant-loop-node
 invariant-loop-node g l = record {
   turned : EachOf (NodeTurn l.entries) (filter (owned l.fn.self.net) (range_with_len 0 l.node)) l.fn.self None l.self;
   same : IsSamePart l.fn.self l.self;
+  owner : l.owner ≡ l.node % l.fn.self.net.own.workers;
 }

@@ -22,13 +22,21 @@ has_credits-requires-clause-linked c =
     back_is_some (part_state i.region i.ends.items i.opening.value i.lines.value.items) c.self.invariant.0
     c.is_workable.ensures.framed c.args.node c.args.port c.in-Some.links (sym c.in-Some.is ∙ c.links_at.ensures)
 
+pub index-requires : goal.index-requires
+index-requires c =
+    let i = c.self.inside in
+    let bound : c.in-Some.links.out < length i.ends.items
+    = out_end_bound (part_state i.region i.ends.items i.opening.value i.lines.value.items) c.self.invariant.0
+    c.is_workable.ensures.framed c.args.node c.args.port c.in-Some.links (sym c.in-Some.is ∙ c.links_at.ensures) in
+    omega (arith, bound, c.from-number.ensures)
+
 pub index_mut-requires : goal.index_mut-requires
 index_mut-requires c =
     let i = c.self.inside in
     let bound : c.in-Some.links.out < length i.ends.items
     = out_end_bound (part_state i.region i.ends.items i.opening.value i.lines.value.items) c.self.invariant.0
     c.is_workable.ensures.framed c.args.node c.args.port c.in-Some.links (sym c.in-Some.is ∙ c.links_at.ensures) in
-    omega (arith, bound, c.from.ensures)
+    omega (arith, bound, c.from-number.ensures)
 
 in_hand : (c : goal.After-arrive_credit-arg-1)
     → let i = c.self.inside in CreditInHand
@@ -41,7 +49,7 @@ in_hand c =
     sym c.in-Some.is ∙ c.links_at.ensures in
     let framed = c.is_workable.ensures.framed in
     let hand = credit_taken p c.self.invariant.0 framed c.args.node c.args.port c.in-Some.links at
-    c.in-Some-pop_credit.vc c.from.result c.index_mut.result.now c.pop_credit.new.end c.from.ensures
+    c.in-Some-pop_credit.vc c.from-number.result c.index_mut.result.now c.pop_credit.new.end c.from-number.ensures
     c.index_mut.ensures.value
     (c.has_credits.ensures.0 c.if-has_credits.false) c.in-Some-pop_credit.ensures.some in
     hand
@@ -64,7 +72,7 @@ arrive_credit-requires-clause-channel c = (in_hand c).channel
 put : (c : goal.After-arrive_credit)
     → let i = c.self.inside in
     let p = part_state i.region i.ends.items i.opening.value i.lines.value.items in
-    let new = record p { net = c.arrive_credit.new.self; ends = slice_set p.ends c.from.result c.pop_credit.new.end } in
+    let new = record p { net = c.arrive_credit.new.self; ends = slice_set p.ends c.from-number.result c.pop_credit.new.end } in
     IsPart new × CreditComes c.args.node c.args.port p new × IsSamePart p new
 put c =
     let i = c.self.inside in
@@ -73,11 +81,11 @@ put c =
     sym c.in-Some.is ∙ c.links_at.ensures in
     let framed = c.is_workable.ensures.framed in
     let hand = credit_taken p c.self.invariant.0 framed c.args.node c.args.port c.in-Some.links at
-    c.in-Some-pop_credit.vc c.from.result c.index_mut.result.now c.pop_credit.new.end c.from.ensures
+    c.in-Some-pop_credit.vc c.from-number.result c.index_mut.result.now c.pop_credit.new.end c.from-number.ensures
     c.index_mut.ensures.value
     (c.has_credits.ensures.0 c.if-has_credits.false) c.in-Some-pop_credit.ensures.some in
     credit_put p c.self.invariant.0 framed c.args.node c.args.port c.in-Some.links at c.in-Some-pop_credit.vc
-    c.from.result c.pop_credit.new.end c.arrive_credit.new.self c.from.ensures hand c.arrive_credit.ensures
+    c.from-number.result c.pop_credit.new.end c.arrive_credit.new.self c.from-number.ensures hand c.arrive_credit.ensures
 
 pub invariant_of-self-2 : goal.invariant_of-self-2
 invariant_of-self-2 c =

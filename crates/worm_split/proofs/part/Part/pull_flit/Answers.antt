@@ -16,13 +16,21 @@ has_flits-requires c =
     back_is_some (part_state i.region i.ends.items i.opening.value i.lines.value.items) c.self.invariant.0
     c.is_workable.ensures.framed c.args.node c.args.port c.in-Some.links (sym c.in-Some.is ∙ c.links_at.ensures)
 
+pub index-requires : goal.index-requires
+index-requires c =
+    let i = c.self.inside in
+    let bound : c.in-Some.links.into < length i.ends.items
+    = into_end_bound (part_state i.region i.ends.items i.opening.value i.lines.value.items) c.self.invariant.0
+    c.is_workable.ensures.framed c.args.node c.args.port c.in-Some.links (sym c.in-Some.is ∙ c.links_at.ensures) in
+    omega (arith, bound, c.from-number.ensures)
+
 pub index_mut-requires : goal.index_mut-requires
 index_mut-requires c =
     let i = c.self.inside in
     let bound : c.in-Some.links.into < length i.ends.items
     = into_end_bound (part_state i.region i.ends.items i.opening.value i.lines.value.items) c.self.invariant.0
     c.is_workable.ensures.framed c.args.node c.args.port c.in-Some.links (sym c.in-Some.is ∙ c.links_at.ensures) in
-    omega (arith, bound, c.from.ensures)
+    omega (arith, bound, c.from-number.ensures)
 
 in_hand : (c : goal.After-arrive-arg-1)
     → let i = c.self.inside in FlitInHand
@@ -35,7 +43,7 @@ in_hand c =
     sym c.in-Some.is ∙ c.links_at.ensures in
     let framed = c.is_workable.ensures.framed in
     let hand = flit_off p c.self.invariant.0 framed c.args.node c.args.port c.in-Some.links at c.in-Some-pop_flit.flit
-    c.from.result c.index_mut.result.now c.pop_flit.new.end c.from.ensures c.index_mut.ensures.value
+    c.from-number.result c.index_mut.result.now c.pop_flit.new.end c.from-number.ensures c.index_mut.ensures.value
     (c.has_flits.ensures.0 c.if-has_flits.false) c.in-Some-pop_flit.ensures.some in
     hand
 
@@ -57,7 +65,7 @@ arrive-requires-clause-goal c = (in_hand c).goal
 put : (c : goal.After-arrive)
     → let i = c.self.inside in
     let p = part_state i.region i.ends.items i.opening.value i.lines.value.items in
-    let new = record p { net = c.arrive.new.self; ends = slice_set p.ends c.from.result c.pop_flit.new.end } in
+    let new = record p { net = c.arrive.new.self; ends = slice_set p.ends c.from-number.result c.pop_flit.new.end } in
     IsPart new × FlitComes c.args.node c.args.port p new × IsSamePart p new
 put c =
     let i = c.self.inside in
@@ -66,10 +74,10 @@ put c =
     sym c.in-Some.is ∙ c.links_at.ensures in
     let framed = c.is_workable.ensures.framed in
     let hand = flit_off p c.self.invariant.0 framed c.args.node c.args.port c.in-Some.links at c.in-Some-pop_flit.flit
-    c.from.result c.index_mut.result.now c.pop_flit.new.end c.from.ensures c.index_mut.ensures.value
+    c.from-number.result c.index_mut.result.now c.pop_flit.new.end c.from-number.ensures c.index_mut.ensures.value
     (c.has_flits.ensures.0 c.if-has_flits.false) c.in-Some-pop_flit.ensures.some in
     flit_put p c.self.invariant.0 framed c.args.node c.args.port c.in-Some.links at c.in-Some-pop_flit.flit
-    c.from.result c.pop_flit.new.end c.arrive.new.self c.from.ensures hand c.arrive.ensures
+    c.from-number.result c.pop_flit.new.end c.arrive.new.self c.from-number.ensures hand c.arrive.ensures
 
 pub invariant_of-self-2 : goal.invariant_of-self-2
 invariant_of-self-2 c =
