@@ -1,9 +1,10 @@
 -- What the program answers where a report of accepted texts was written, or a part of one.
-use Rattle.std.proofs.Common.{◌≡◌, ◌≢◌, ◌⊎◌, ℕ, List, Some, None, Option, Ok, Err, inl, inr, refl, subst}
+use Rattle.std.proofs.Common.{◌≡◌, ◌≢◌, ℕ, List, Some, None, Option, Ok, Err, inl, inr, refl, subst}
 use Rattle.std.specs.Prelude.{Result, MatchResult, IsSome}
 use Rattle.worm_core.specs.declared.script.Entry.{Entry}
 use Rattle.worm_core.specs.declared.fault.StepFault.{StepFault}
 use Rattle.worm_core.specs.declared.fault.StepFault.TheVariants.{NoMemory as NoRoom}
+use Rattle.worm_core.specs.Acceptable.{EndsForMemory}
 use Rattle.worm_core.specs.State.{NetState}
 use Rattle.worm_core.specs.Turns.{OneThreadRun}
 use Rattle.wormrun.specs.declared.fault.ProgramFault.{ProgramFault}
@@ -11,12 +12,13 @@ use Rattle.wormrun.specs.declared.fault.ProgramFault.TheVariants as f
 use Rattle.wormrun.specs.declared.turns.Ending.{Ending}
 use Rattle.wormrun.specs.Programs.{Stream, IsReported, Reports, ReportsPart, whole_run, WritesFront, WritesReport}
 use Rattle.wormrun.specs.Programs.{Fails}
+use Rattle.wormrun.proofs.OneReport.{one_report}
 
 part : (network traffic : List ℕ) (turns drain : ℕ) (ending : Ending) (out : Stream) (bytes : List ℕ)
-    → IsReported network traffic turns drain ending bytes → WritesFront out bytes
+    → IsReported network traffic turns drain ending bytes → EndsForMemory ending.fault → WritesFront out bytes
     → ReportsPart network traffic turns drain out
-part network traffic turns drain ending out bytes reported front =
-    record { ending = ending; bytes = bytes; reported = reported; written = front }
+part network traffic turns drain ending out bytes reported quiet front =
+    record { ending = ending; for_memory = quiet; bytes = bytes; reported = reported; written = front }
 
 -- what no fault ended was not stopped
 
@@ -36,27 +38,29 @@ is_whole network traffic turns drain ending bytes reported none =
     let same : ending ≡ whole_run = λ t. record { stopped = stopped t; fault = none t } in
     subst (λ (e : Ending). IsReported network traffic turns drain e bytes) same reported
 
-no_fault : (fault : Option StepFault) → (fault ≡ None) ⊎ (fault ≡ Some NoRoom) → fault ≢ Some NoRoom → fault ≡ None
+no_fault : (fault : Option StepFault) → EndsForMemory fault → fault ≢ Some NoRoom → fault ≡ None
 no_fault fault (inl none) no_want = none
 no_fault fault (inr want) no_want = absurd (no_want want)
 
 -- the run was ended by nothing but want of memory, and this was written of its report
 pub reported_so : (network traffic : List ℕ) (turns drain : ℕ) (ending : Ending) (out : Stream) (bytes : List ℕ)
     (result : Result (Unit {0}) ProgramFault)
-    → IsReported network traffic turns drain ending bytes → (ending.fault ≡ None) ⊎ (ending.fault ≡ Some NoRoom)
+    → IsReported network traffic turns drain ending bytes → EndsForMemory ending.fault
     → WritesReport out ending.fault result bytes
     → MatchResult result (λ _. Reports network traffic turns drain out) (Fails network traffic turns drain out)
 reported_so network traffic turns drain ending out bytes (Ok done) reported quiet writes =
+    let whole = is_whole network traffic turns drain ending bytes reported
+    (no_fault ending.fault quiet writes.0) in
     record {
       bytes = bytes;
-      reported = is_whole network traffic turns drain ending bytes reported
-          (no_fault ending.fault quiet writes.0);
+      reported = whole;
+      only = λ other also. one_report network traffic turns drain other bytes also whole;
       written = writes.1;
     }
 reported_so network traffic turns drain ending out bytes (Err f.NoMemory) reported quiet writes =
-    inr (part network traffic turns drain ending out bytes reported writes)
+    inr (part network traffic turns drain ending out bytes reported quiet writes)
 reported_so network traffic turns drain ending out bytes (Err f.Write) reported quiet writes =
-    part network traffic turns drain ending out bytes reported writes
+    part network traffic turns drain ending out bytes reported quiet writes
 reported_so network traffic turns drain ending out bytes (Err (f.Network t)) reported quiet writes = absurd writes
 reported_so network traffic turns drain ending out bytes (Err (f.Traffic t)) reported quiet writes = absurd writes
 reported_so network traffic turns drain ending out bytes (Err f.ReadNetwork) reported quiet writes = absurd writes

@@ -9,6 +9,7 @@ use Rattle.worm_core.specs.declared.fault.StepFault.TheVariants.{NoMemory as NoR
 use Rattle.worm_core.specs.State.{NetState}
 use Rattle.worm_core.specs.NewNet.{IsFresh}
 use Rattle.worm_core.specs.Totals.{accepted_total}
+use Rattle.worm_core.specs.Acceptable.{EndsForMemory}
 use Rattle.worm_core.specs.Script.{due}
 use Rattle.worm_core.specs.Turns.{Turns, Turn, OneThreadRun}
 use Rattle.worm_text.specs.declared.format.Format.{Format}
@@ -24,7 +25,7 @@ use Rattle.worm_report.specs.Report.{report}
 use Rattle.wormrun.specs.declared.fault.ProgramFault.{ProgramFault}
 use Rattle.wormrun.specs.declared.fault.ProgramFault.TheVariants as f
 use Rattle.wormrun.specs.declared.turns.Ending.{Ending}
-use Rattle.wormrun.specs.Joined.{network_len}
+use Rattle.wormrun.specs.Joined.{IsCut}
 use Rattle.wormrun.specs.Reading.{GaveText}
 
 -- the turns below this one had no fault, and this one had
@@ -128,15 +129,17 @@ WritesReport out fault (Err (f.NotStarted w)) bytes = ⊥
 abbrev pub whole_run : Ending
 whole_run = record { stopped = None; fault = None }
 
--- the report of the whole run was written, all of it
+-- the report of the whole run was written, all of it: the one report that the texts have
 pub record Reports (network traffic : List ℕ) (turns drain : ℕ) (out : Stream) : Type 0 where
   pub bytes : List ℕ
   pub reported : IsReported network traffic turns drain whole_run bytes
+  pub only : (other : List ℕ) → IsReported network traffic turns drain whole_run other → other ≡ bytes
   pub written : Appends out.old out.new bytes
 
--- a first part of the report of a run was written
+-- a first part of the report of a run was written; no source refused an entry: nothing but want of memory ended the run
 pub record ReportsPart (network traffic : List ℕ) (turns drain : ℕ) (out : Stream) : Type 0 where
   pub ending : Ending
+  pub for_memory : EndsForMemory ending.fault
   pub bytes : List ℕ
   pub reported : IsReported network traffic turns drain ending bytes
   pub written : WritesFront out bytes
@@ -206,24 +209,22 @@ ReadsNot first second f.Write = ⊥
 ReadsNot first second f.Workers = ⊥
 ReadsNot first second (f.NotStarted w) = ⊥
 
--- the two texts of a joined input
-abbrev pub first_text : List ℕ → List ℕ
-first_text joined = take (network_len [] joined) joined
-
-abbrev pub second_text : List ℕ → List ℕ
-second_text joined = drop (network_len [] joined) joined
-
--- the reader gave both texts in one, and the report of 100 turns without a drain was written
+-- The reader gave both texts in one, cut behind its first line that is `end`, and the report of 100 turns without a
+-- drain was written.
 pub record ReportsJoined (input out : Stream) : Type 0 where
   pub joined : List ℕ
   pub gave : GaveText input.old input.new joined
-  pub reports : Reports (first_text joined) (second_text joined) 100 0 out
+  pub at : ℕ
+  pub cut : IsCut joined at
+  pub reports : Reports (take at joined) (drop at joined) 100 0 out
 
--- the reader gave both texts in one, and they failed thus
+-- the reader gave both texts in one, cut there, and they failed thus
 pub record FailsCut (input out : Stream) (fault : ProgramFault) : Type 0 where
   pub joined : List ℕ
   pub gave : GaveText input.old input.new joined
-  pub fails : Fails (first_text joined) (second_text joined) 100 0 out fault
+  pub at : ℕ
+  pub cut : IsCut joined at
+  pub fails : Fails (take at joined) (drop at joined) 100 0 out fault
 
 -- what a fault tells where one reader gives both texts
 abbrev pub FailsJoined : Stream → Stream → ProgramFault → Type 0

@@ -1,5 +1,5 @@
 -- What the program makes of two texts by several workers: the report of a network that their run may give.
-use Rattle.std.specs.Prelude.{ℕ, ◌≡◌, ◌<◌, ◌≤◌, ◌-◌, ◌==◌, ◌⊎◌, Bool, true, false, if◌then◌else◌, List, [], ◌∷◌, ◌++◌}
+use Rattle.std.specs.Prelude.{ℕ, ◌≡◌, ◌<◌, ◌≤◌, ◌-◌, ◌==◌, ◌⊎◌, Bool, true, false, if◌then◌else◌, List, [], ◌∷◌}
 use Rattle.std.specs.Prelude.{length}
 use Rattle.std.specs.Prelude.{slice_index_or, All, find, option_map, Option, None, Some}
 use Rattle.std.specs.List.{list_any}
@@ -8,6 +8,7 @@ use Rattle.worm_mesh.specs.Address.{node_count}
 use Rattle.worm_core.specs.declared.script.Entry.{Entry}
 use Rattle.worm_core.specs.declared.fault.StepFault.{StepFault}
 use Rattle.worm_core.specs.declared.fault.StepFault.TheVariants.{NoMemory as NoRoom}
+use Rattle.worm_core.specs.Acceptable.{EndsForMemory}
 use Rattle.worm_core.specs.Headline.{DeliversInOrder}
 use Rattle.worm_core.specs.NewNet.{IsFresh}
 use Rattle.worm_core.specs.State.{NetState}
@@ -49,6 +50,12 @@ for_memory (Refused why) = false
 abbrev pub lack_memory : List Stop → Bool
 lack_memory stops = list_any (λ (s : Stop). for_memory s.why) stops
 
+-- a gate or want of memory was the cause: no source refused an entry
+abbrev pub IsNoRefusal : StopWhy → Type 0
+IsNoRefusal Gate = Unit {0}
+IsNoRefusal NoMemory = Unit {0}
+IsNoRefusal (Refused why) = ⊥
+
 -- Runs
 
 -- the drain follows where nobody was stopped; else want of memory is told
@@ -79,6 +86,20 @@ abbrev pub EndsTogether : (ℕ → ℕ → Type 0) → List Entry → RunPlan �
     → Option StepFault → Type 0
 EndsTogether may script plan most opening closing table fault =
     RanTogether may script plan most opening closing table fault ⊎ NeverRan opening closing table fault
+
+-- The workers ran, and no source refused an entry: each was stopped by its gate or for want of memory, if at all, and
+-- nothing but want of memory ended the drain.
+pub record RanUnrefused (may : ℕ → ℕ → Type 0) (script : List Entry) (plan : RunPlan) (most : ℕ)
+    (opening closing : NetState) (table : List (Option ℕ)) (fault : Option StepFault) : Type 0 where
+  pub ran : RanTogether may script plan most opening closing table fault
+  pub not_refused : All (λ (s : Stop). IsNoRefusal s.why) ran.end.stops.items
+  pub for_memory : EndsForMemory fault
+
+-- the same of an accepted script, or there was no memory for the parts
+abbrev pub EndsUnrefused : (ℕ → ℕ → Type 0) → List Entry → RunPlan → ℕ → NetState → NetState → List (Option ℕ)
+    → Option StepFault → Type 0
+EndsUnrefused may script plan most opening closing table fault =
+    RanUnrefused may script plan most opening closing table fault ⊎ NeverRan opening closing table fault
 
 -- the workers ran, none was stopped but by its gate, and no fault ended the drain
 pub record RanWhole (may : ℕ → ℕ → Type 0) (script : List Entry) (plan : RunPlan) (most : ℕ)
@@ -125,28 +146,21 @@ pub record PartTogether (may : ℕ → ℕ → Type 0) (network traffic : List �
   pub fault : Option StepFault
   pub bytes : List ℕ
   pub reported : IsReportOf
-      (λ script opening closing table. EndsTogether may script plan drain opening closing table fault)
+      (λ script opening closing table. EndsUnrefused may script plan drain opening closing table fault)
       network traffic plan drain bytes
   pub written : WritesFront out bytes
 
--- both texts are accepted, and there are fewer nodes than workers
-pub record HasFewNodes (network traffic : List ℕ) (workers : ℕ) : Type 0 where
+-- both texts are accepted, and this holds of the number of nodes
+pub record HasNodes (Holds : ℕ → Type 0) (network traffic : List ℕ) : Type 0 where
   pub config : Network
   pub script : List Entry
   pub accepted : AreAccepted network traffic config script
-  pub few : node_count config.radices < workers
-
--- both texts are accepted, and there are nodes enough for the workers
-pub record HasNodes (network traffic : List ℕ) (workers : ℕ) : Type 0 where
-  pub config : Network
-  pub script : List Entry
-  pub accepted : AreAccepted network traffic config script
-  pub enough : workers ≤ node_count config.radices
+  pub nodes : Holds (node_count config.radices)
 
 -- what a fault tells of two texts at hand
 abbrev pub FailsTogether : (ℕ → ℕ → Type 0) → RunPlan → ℕ → Stream → List ℕ → List ℕ → ProgramFault → Type 0
 FailsTogether may plan drain out network traffic f.Workers =
-    HasFewNodes network traffic plan.workers × Keeps out.old out.new
+    HasNodes (λ nodes. nodes < plan.workers) network traffic × Keeps out.old out.new
 FailsTogether may plan drain out network traffic (f.Network t) =
     IsRefusedAs network traffic (f.Network t) × Keeps out.old out.new
 FailsTogether may plan drain out network traffic (f.Traffic t) =
@@ -156,7 +170,7 @@ FailsTogether may plan drain out network traffic f.ReadTraffic = ⊥
 FailsTogether may plan drain out network traffic f.NoMemory =
     Keeps out.old out.new ⊎ PartTogether may network traffic plan drain out
 FailsTogether may plan drain out network traffic (f.NotStarted w) =
-    (w < plan.workers) × HasNodes network traffic plan.workers × Keeps out.old out.new
+    (w < plan.workers) × HasNodes (λ nodes. plan.workers ≤ nodes) network traffic × Keeps out.old out.new
 FailsTogether may plan drain out network traffic f.Write = PartTogether may network traffic plan drain out
 
 -- both readers gave their texts, and the report of them was written

@@ -1,12 +1,14 @@
 //! One input that holds both texts.
 
-ghost use Rattle.std.specs.Prelude.{◌≡◌, ◌≤◌, [], length};
-ghost use Rattle.wormrun.specs.Joined.{network_len, IsCut};
+ghost use Rattle.std.specs.Prelude.{◌≡◌, ◌≤◌, length, ℕ};
+ghost use Rattle.wormrun.specs.Joined.{IsCut};
 
-/// The walk over the lines of a text, up to the first that is exactly `end`.
-fn walk_lines(text: &[u8]) -> usize
-    ensures whole { result ≤ length text.now }
-    ensures cut { result ≡ network_len [] text.now }
+/// The number of bytes up to and with the first finished line that is exactly `end`, or of all bytes.
+pub fn network_end(text: &[u8]) -> usize
+    ensures within { result ≤ length text.now }
+    ensures cut { IsCut text.now result }
+    // A text is cut in one place.
+    ensures only { (at : ℕ) → IsCut text.now at → at ≡ result }
 {
     let mut start = 0;
     for (at, byte) in text.iter().enumerate() {
@@ -18,13 +20,4 @@ fn walk_lines(text: &[u8]) -> usize
         }
     }
     text.len()
-}
-
-/// The number of bytes up to and with the first finished line that is exactly `end`, or of all bytes.
-pub fn network_end(text: &[u8]) -> usize
-    ensures whole { result ≤ length text.now }
-    ensures cut { result ≡ network_len [] text.now }
-    ensures first { IsCut text.now result }
-{
-    walk_lines(text)
 }

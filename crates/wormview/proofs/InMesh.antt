@@ -1,12 +1,12 @@
 -- The flits of a report's rows are in the network.
-use Rattle.std.proofs.Common.{◌≡◌, ◌≤◌, ◌<◌, ◌+◌, ◌*◌, ℕ, List, [], ◌∷◌, Bool, true, false, ◌||◌, ◌==◌, Option, None}
-use Rattle.std.proofs.Common.{Some, option_map, IfSome, filter_map, length, All, refl, sym, ap, subst, ◌∙◌, inl, inr}
+use Rattle.std.proofs.Common.{◌≡◌, ◌≤◌, ◌<◌, ◌+◌, ◌*◌, ℕ, List, [], ◌∷◌, true, false, ◌==◌, Option, None}
+use Rattle.std.proofs.Common.{Some, option_map, IfSome, length, All, refl, sym, ◌∙◌, inl, inr}
 use Rattle.std.proofs.Common.{arith}
 use Rattle.std.specs.List.{cons_option}
 use Rattle.std.proofs.lemmas.Bool.{cases_lt}
 use Rattle.std.proofs.lemmas.Bool.Decides.{nat_tests}
 use Rattle.std.proofs.lemmas.List.Elements.{All-nil, All-cons}
-use Rattle.worm_mesh.specs.Address.{node_count, has_neighbour, neighbour_of, opposite_of}
+use Rattle.worm_mesh.specs.Address.{neighbour_of, opposite_of}
 use Rattle.worm_mesh.proofs.Digits.{AreLarge}
 use Rattle.worm_mesh.proofs.Neighbours.{no_port, Joins-from, Joins-back}
 use Rattle.worm_core.specs.declared.view.Place.{Place}
@@ -16,7 +16,7 @@ use Rattle.worm_rows.specs.declared.standing.Standing.{Standing}
 use Rattle.worm_rows.specs.declared.rows.Row.{Row}
 use Rattle.worm_rows.specs.declared.rows.Row.TheVariants.{Header, Options, Stopped, Delivered, Underway, NotOffered}
 use Rattle.worm_rows.specs.declared.rows.Row.TheVariants.{Total}
-use Rattle.worm_rows.specs.Rules.{has_buffer, IsSpot, HasPlace, IsRow, Follow, behind}
+use Rattle.worm_rows.specs.Rules.{has_buffer, HasPlace, IsRow, Follow, behind}
 use Rattle.wormview.specs.declared.scene.Flit.{Flit}
 use Rattle.wormview.specs.Scene.{spot_at, spot_of, seen, seen_flits}
 use Rattle.wormview.specs.Nodes.{HasSpot}

@@ -4,3 +4,4 @@ mod InMesh
 mod Steps
 mod Drawing
 mod Names
+mod Tails

@@ -1,5 +1,5 @@
 -- What texts name: one behind the other, and those without a tag.
-use Rattle.std.proofs.Common.{◌≡◌, ◌+◌, ◌*◌, ◌<◌, ◌/◌, ◌%◌, ℕ, zero, suc, List, [], ◌∷◌, ◌++◌, Bool, true, false, not}
+use Rattle.std.proofs.Common.{◌≡◌, ◌+◌, ◌<◌, ◌/◌, ◌%◌, ℕ, zero, suc, List, [], ◌∷◌, ◌++◌, Bool, true, false, not}
 use Rattle.std.proofs.Common.{◌&&◌, ◌==◌, nat_lt, cond, Result, Ok, Err, OnOk, map, take, length, get_or, flat_map}
 use Rattle.std.proofs.Common.{refl, sym, ap, subst, ◌∙◌, append_assoc, arith}
 use Rattle.std.specs.Prelude.{codes, decimal, string_bytes}

@@ -1,16 +1,17 @@
 -- What the nodes show, one behind the other, are the flits of the rows, each once.
-use Rattle.std.proofs.Common.{◌≡◌, ◌≤◌, ◌<◌, ◌+◌, ◌*◌, ℕ, zero, suc, List, [], ◌∷◌, ◌++◌, Bool, true, false, not, ◌&&◌}
+use Rattle.std.proofs.Common.{◌≡◌, ◌≤◌, ◌<◌, ◌+◌, ◌*◌, ℕ, List, [], ◌∷◌, ◌++◌, Bool, true, false, not, ◌&&◌}
 use Rattle.std.proofs.Common.{◌==◌, cond, map, length, get_or, All, IsPermutation, filter, flat_map, refl, sym, ap}
-use Rattle.std.proofs.Common.{subst, ◌∙◌, append_assoc, arith}
+use Rattle.std.proofs.Common.{subst, ◌∙◌, append_assoc, arith, Result, Ok, Err, IfOk}
 use Rattle.std.specs.List.{range_with_len}
-use Rattle.std.proofs.lemmas.List.{map-append}
 use Rattle.std.proofs.lemmas.List.Concat.{flat_map-append}
 use Rattle.std.proofs.lemmas.List.Elements.{All-head, All-tail, All-filter, filter_passes}
 use Rattle.std.proofs.lemmas.List.Sorted.{IsPermutation-refl, IsPermutation-cons, IsPermutation-sym}
-use Rattle.std.proofs.lemmas.List.Sorted.{IsPermutation-trans, IsPermutation-append, IsPermutation-append_left}
+use Rattle.std.proofs.lemmas.List.Sorted.{IsPermutation-trans, IsPermutation-append}
 use Rattle.std.proofs.lemmas.List.Sorted.{IsPermutation-append_right, IsPermutation-middle, IsPermutation-filter_both}
 use Rattle.worm_mesh.specs.Address.{node_count}
 use Rattle.worm_rows.specs.declared.shape.Shape.{Shape}
+use Rattle.worm_rows.specs.Rules.{IsReport}
+use Rattle.worm_rows.specs.declared.rows.PacketId.{PacketId}
 use Rattle.worm_rows.specs.declared.rows.Row.{Row}
 use Rattle.wormview.specs.declared.scene.Spot.{Spot}
 use Rattle.wormview.specs.declared.scene.Flit.{Flit}
@@ -20,9 +21,12 @@ use Rattle.wormview.specs.declared.scene.Part.TheVariants.{Rear, Whole, Front}
 use Rattle.wormview.specs.declared.views.Station.{Station}
 use Rattle.wormview.specs.declared.views.NodeView.{NodeView}
 use Rattle.wormview.specs.Scene.{spot_at, same, is_on, is_part, flits_at, flits_on, flits_of, stands_in, of_part}
-use Rattle.wormview.specs.Scene.{in_order}
-use Rattle.wormview.specs.Nodes.{spots_at, spots_in, AreFrontFirst, IsStation, IsView, HasSpot, station_flits}
-use Rattle.wormview.specs.Nodes.{view_flits, shown}
+use Rattle.wormview.specs.Scene.{in_order, front_first, parted_flit, seen_flits, with_parts}
+use Rattle.wormview.specs.Nodes.{spots_at, spots_in, IsStation, IsView, HasSpot, station_flits}
+use Rattle.wormview.specs.Nodes.{AreViews, view_flits, shown}
+use Rattle.wormview.specs.Packets.{tail_in, tail_of}
+use Rattle.wormview.specs.Picture.{PicturesFlits, PicturesRows}
+use Rattle.wormview.specs.declared.packets.Packets.{Packets}
 use Rattle.wormview.proofs.Taken.{filter_twice, filter_same, shuffled_pieces, taken_apart}
 
 -- ---- the front first
@@ -55,9 +59,14 @@ ordered : (parted : List Parted) → IsPermutation (flits_of parted) (in_order p
 ordered parted = subst (λ l. IsPermutation (flits_of parted) l)
     (sym (append_assoc (of_part Rear parted) (of_part Whole parted) (of_part Front parted))) (part_by_part parted)
 
-front_first : (flits sorted : List Flit) → AreFrontFirst flits sorted → IsPermutation flits sorted
-front_first flits sorted h = subst (λ l. IsPermutation flits l) (sym h.2)
-    (subst (λ l. IsPermutation l (in_order h.0)) h.1 (ordered h.0))
+again : (tails : PacketId → ℕ) (all flits : List Flit) → flits_of (map (parted_flit tails all) flits) ≡ flits
+again tails all [] = refl
+again tails all (f ∷ flits) = ap (λ (l : List Flit). f ∷ l) (again tails all flits)
+
+same_flits : (tails : PacketId → ℕ) (flits sorted : List Flit) → sorted ≡ front_first tails flits →
+    IsPermutation flits sorted
+same_flits tails flits sorted h = subst (λ l. IsPermutation flits l) (sym h)
+    (subst (λ l. IsPermutation l (front_first tails flits)) (again tails flits flits) (ordered (with_parts tails flits)))
 
 -- ---- one channel
 
@@ -65,16 +74,19 @@ front_first flits sorted h = subst (λ l. IsPermutation flits l) (sym h.2)
 abbrev there : List Flit → Spot → List Flit
 there flits spot = flits_on spot flits ++ flits_on (record spot { on_link = true }) flits
 
-one_station : (flits : List Flit) (s : Station) → IsStation flits s
+one_station : (tails : PacketId → ℕ) (flits : List Flit) (s : Station) → IsStation tails flits s
     → IsPermutation (there flits s.spot) (station_flits s)
-one_station flits s h = IsPermutation-append _ _ _ _ (front_first _ _ h.held) (front_first _ _ h.coming)
+one_station tails flits s h =
+    IsPermutation-append _ _ _ _ (same_flits tails (flits_on s.spot flits) s.held.items h.held)
+    (same_flits tails (flits_on (record s.spot { on_link = true }) flits) s.coming.items h.coming)
 
-all_stations : (flits : List Flit) (stations : List Station) → All (IsStation flits) stations
+all_stations : (tails : PacketId → ℕ) (flits : List Flit) (stations : List Station)
+    → All (IsStation tails flits) stations
     → IsPermutation (flat_map (there flits) (map (λ s. s.spot) stations)) (flat_map station_flits stations)
-all_stations flits [] h = IsPermutation-refl []
-all_stations flits (s ∷ stations) h = IsPermutation-append _ _ _ _
-    (one_station flits s (All-head (IsStation flits) s stations h))
-    (all_stations flits stations (All-tail (IsStation flits) s stations h))
+all_stations tails flits [] h = IsPermutation-refl []
+all_stations tails flits (s ∷ stations) h = IsPermutation-append _ _ _ _
+    (one_station tails flits s (All-head (IsStation tails flits) s stations h))
+    (all_stations tails flits stations (All-tail (IsStation tails flits) s stations h))
 
 -- ---- the channels of a node
 
@@ -168,30 +180,55 @@ all_ports s node flits at has =
 
 -- ---- all nodes
 
-one_view : (s : Shape) (rows : List Row) (flits : List Flit) (v : NodeView) → All (λ f. HasSpot s f.spot) flits
-    → IsView s rows flits v → IsPermutation (flits_at v.node flits) (view_flits v)
-one_view s rows flits v has h =
-    let here = flits_at v.node flits in
-    IsPermutation-trans _ _ _
-    (all_ports s v.node here (filter_passes (λ f. f.spot.node == v.node) flits)
-    (All-filter (λ f. f.spot.node == v.node) (λ f. HasSpot s f.spot) flits has))
-    (subst (λ spots. IsPermutation (flat_map (there here) spots) (view_flits v)) h.spots
-    (all_stations here v.stations.items h.stations))
+module _ (s : Shape) (rows : List Row) (tails : PacketId → ℕ) (flits : List Flit)
+    (has : All (λ f. HasSpot s f.spot) flits) where
+  one_view : (v : NodeView) → IsView s rows tails flits v → IsPermutation (flits_at v.node flits) (view_flits v)
+  one_view v h =
+      let here = flits_at v.node flits in
+      IsPermutation-trans _ _ _
+      (all_ports s v.node here (filter_passes (λ f. f.spot.node == v.node) flits)
+      (All-filter (λ f. f.spot.node == v.node) (λ f. HasSpot s f.spot) flits has))
+      (subst (λ spots. IsPermutation (flat_map (there here) spots) (view_flits v)) h.spots
+      (all_stations tails here v.stations.items h.stations))
 
-all_views : (s : Shape) (rows : List Row) (flits : List Flit) (views : List NodeView)
-    → All (λ f. HasSpot s f.spot) flits → All (IsView s rows flits) views
-    → IsPermutation (flat_map (λ node. flits_at node flits) (map (λ v. v.node) views)) (shown views)
-all_views s rows flits [] has h = IsPermutation-refl []
-all_views s rows flits (v ∷ views) has h =
-    IsPermutation-append _ _ _ _ (one_view s rows flits v has (All-head (IsView s rows flits) v views h))
-    (all_views s rows flits views has (All-tail (IsView s rows flits) v views h))
+  all_views : (views : List NodeView) → All (IsView s rows tails flits) views
+      → IsPermutation (flat_map (λ node. flits_at node flits) (map (λ v. v.node) views)) (shown views)
+  all_views [] h = IsPermutation-refl []
+  all_views (v ∷ views) h =
+      IsPermutation-append _ _ _ _ (one_view v (All-head (IsView s rows tails flits) v views h))
+      (all_views views (All-tail (IsView s rows tails flits) v views h))
 
-pub shows_each_once : (s : Shape) (rows : List Row) (flits : List Flit) (views : List NodeView)
-    → map (λ v. v.node) views ≡ range_with_len 0 (node_count s.mesh) → All (IsView s rows flits) views
-    → All (λ f. HasSpot s f.spot) flits → IsPermutation flits (shown views)
-shows_each_once s rows flits views nodes h has =
-    IsPermutation-trans _ _ _
-    (taken_apart node_of (node_count s.mesh) 0 flits (λ k d lt. let small = (has k d lt).node in
-    (omega arith, omega arith)))
-    (subst (λ ns. IsPermutation (flat_map (λ node. flits_at node flits) ns) (shown views)) nodes
-    (all_views s rows flits views has h))
+  pub shows_each_once : (views : List NodeView) → map (λ v. v.node) views ≡ range_with_len 0 (node_count s.mesh)
+      → All (IsView s rows tails flits) views → IsPermutation flits (shown views)
+  shows_each_once views nodes h =
+      IsPermutation-trans _ _ _
+      (taken_apart node_of (node_count s.mesh) 0 flits (λ k d lt. let small = (has k d lt).node in
+      (omega arith, omega arith)))
+      (subst (λ ns. IsPermutation (flat_map (λ node. flits_at node flits) ns) (shown views)) nodes
+      (all_views views h))
+
+-- of the rows the packets' tails are known
+pub pictures_rows : (s : Shape) (rows : List Row) (packets : Packets) (views : List NodeView) (text : List ℕ)
+    → ((packet : PacketId) → tail_in packets packet ≡ tail_of rows packet) → AreViews s rows (tail_in packets) views
+    → (IsReport s rows → IsPermutation (seen_flits s.mesh rows) (shown views)) → PicturesFlits text (shown views)
+    → PicturesRows s rows text
+pictures_rows s rows packets views text tails are once pictured =
+    let same : tail_in packets ≡ tail_of rows = λ i packet. tails packet i in
+    record {
+      views = views;
+      are_views = subst (λ (t : PacketId → ℕ). AreViews s rows t views) same are;
+      once = once;
+      pictured = pictured;
+    }
+
+pub drawn_rows : {X E : Type 0} (bytes : X → List ℕ) (r : Result X E) (as_map : Bool) (s : Shape) (rows all : List Row)
+    (packets : Packets) (views drawn : List NodeView) → rows ≡ all → drawn ≡ views
+    → ((packet : PacketId) → tail_in packets packet ≡ tail_of rows packet) → AreViews s rows (tail_in packets) views
+    → (IsReport s rows → IsPermutation (seen_flits s.mesh rows) (shown views))
+    → IfOk r (λ text. PicturesFlits (bytes text) (shown drawn))
+    → IfOk r (λ text. as_map ≡ false → PicturesRows s all (bytes text))
+drawn_rows bytes (Ok text) as_map s rows all packets views drawn same_rows same_views tails are once pictured =
+    λ asked. subst (λ (l : List Row). PicturesRows s l (bytes text)) same_rows
+    (pictures_rows s rows packets views (bytes text) tails are once
+    (subst (λ (l : List NodeView). PicturesFlits (bytes text) (shown l)) same_views pictured))
+drawn_rows bytes (Err e) as_map s rows all packets views drawn same_rows same_views tails are once pictured = tt

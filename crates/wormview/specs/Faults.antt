@@ -1,5 +1,10 @@
 -- The line that the program says of a fault on the standard error, and the status that it ends with.
 use Rattle.std.specs.Prelude.{ℕ, List, ◌++◌, codes, decimal, Result, Ok, Err}
+use Rattle.clap.specs.declared.error.Error.{Error}
+use Rattle.clap.specs.declared.error.kind.ErrorKind.{ErrorKind}
+use Rattle.clap.specs.declared.error.kind.ErrorKind.TheVariants as clap
+use Rattle.std.specs.declared.io.ErrorKind.{ErrorKind as IoErrorKind}
+use Rattle.std.specs.declared.io.ErrorKind.TheVariants as io
 use Rattle.worm_text.specs.Faults.{words_of}
 use Rattle.wormview.specs.declared.fault.ViewFault.{ViewFault}
 use Rattle.wormview.specs.declared.fault.ViewFault.TheVariants as f
@@ -33,3 +38,16 @@ words_status (w.Asked answer) = 0
 words_status (w.Words error) = 2
 words_status w.NotText = 2
 words_status w.NoMemory = 6
+
+-- want of memory is answered as such, help and the version where they are asked for, and anything else that the parser
+-- says as what it says
+abbrev pub parser_fault : ErrorKind → Error → WordsFault
+parser_fault clap.OutOfMemory error = w.NoMemory
+parser_fault clap.DisplayHelp error = w.Asked error
+parser_fault clap.DisplayVersion error = w.Asked error
+parser_fault _ error = w.Words error
+
+-- the list of words was not given: one is no text, unless there was no memory
+abbrev pub list_fault : IoErrorKind → WordsFault
+list_fault io.OutOfMemory = w.NoMemory
+list_fault _ = w.NotText

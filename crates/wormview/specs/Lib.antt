@@ -6,3 +6,4 @@ pub mod Programs
 pub mod Titles
 pub mod Views
 pub mod Picture
+pub mod Packets

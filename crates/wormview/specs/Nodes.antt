@@ -4,12 +4,12 @@ use Rattle.std.specs.List.{filter, flat_map, range_with_len}
 use Rattle.worm_mesh.specs.Address.{node_count}
 use Rattle.worm_core.specs.declared.view.Place.TheVariants.{Source}
 use Rattle.worm_rows.specs.declared.shape.Shape.{Shape}
+use Rattle.worm_rows.specs.declared.rows.PacketId.{PacketId}
 use Rattle.worm_rows.specs.declared.rows.Row.{Row}
 use Rattle.worm_rows.specs.declared.rows.Row.TheVariants.{Delivered, Underway}
-use Rattle.wormview.specs.Scene.{spot_at, flits_at, flits_on, flits_of, in_order}
+use Rattle.wormview.specs.Scene.{spot_at, flits_at, flits_on, front_first, seen_flits}
 use Rattle.wormview.specs.declared.scene.Spot.{Spot}
 use Rattle.wormview.specs.declared.scene.Flit.{Flit}
-use Rattle.wormview.specs.declared.scene.Parted.{Parted}
 use Rattle.wormview.specs.declared.views.Station.{Station}
 use Rattle.wormview.specs.declared.views.NodeView.{NodeView}
 
@@ -21,15 +21,10 @@ spots_at node channels port = map (λ vc. spot_at false node port vc) (range_wit
 abbrev pub spots_in : ℕ → ℕ → ℕ → List Spot
 spots_in node ports channels = flat_map (spots_at node channels) (range_with_len 0 ports)
 
--- these flits, each said to be of a rear, a whole packet or a front, and rears are in front of wholes and these of
--- fronts
-abbrev pub AreFrontFirst : List Flit → List Flit → Type 0
-AreFrontFirst flits sorted = (parted : List Parted) × (flits_of parted ≡ flits) × (sorted ≡ in_order parted)
-
--- a channel holds those of these flits that are in its buffer, and those that are on the link to it
-pub record IsStation (flits : List Flit) (s : Station) : Type 0 where
-  pub held : AreFrontFirst (flits_on s.spot flits) s.held.items
-  pub coming : AreFrontFirst (flits_on (record s.spot { on_link = true }) flits) s.coming.items
+-- a channel holds those of these flits that are in its buffer, and those that are on the link to it, the front first
+pub record IsStation (tails : PacketId → ℕ) (flits : List Flit) (s : Station) : Type 0 where
+  pub held : s.held.items ≡ front_first tails (flits_on s.spot flits)
+  pub coming : s.coming.items ≡ front_first tails (flits_on (record s.spot { on_link = true }) flits)
 
 abbrev pub waits_at : ℕ → Row → Bool
 waits_at node (Underway packet index Source) = packet.lane.src == node
@@ -41,11 +36,16 @@ arrives_at node _ = false
 
 -- all channels of a node, each with those of these flits that are there; how many wait in its source, and how many
 -- arrived
-pub record IsView (s : Shape) (rows : List Row) (flits : List Flit) (v : NodeView) : Type 0 where
+pub record IsView (s : Shape) (rows : List Row) (tails : PacketId → ℕ) (flits : List Flit) (v : NodeView) : Type 0 where
   pub spots : map (λ station. station.spot) v.stations.items ≡ spots_in v.node (2 * length s.mesh + 1) s.channels
-  pub stations : All (IsStation (flits_at v.node flits)) v.stations.items
+  pub stations : All (IsStation tails (flits_at v.node flits)) v.stations.items
   pub waiting : v.waiting ≡ length (filter (waits_at v.node) rows)
   pub arrived : v.arrived ≡ length (filter (arrives_at v.node) rows)
+
+-- all nodes of a network, by number, each with what the rows show of it
+pub record AreViews (s : Shape) (rows : List Row) (tails : PacketId → ℕ) (views : List NodeView) : Type 0 where
+  pub nodes : map (λ v. v.node) views ≡ range_with_len 0 (node_count s.mesh)
+  pub each : All (IsView s rows tails (seen_flits s.mesh rows)) views
 
 -- ---- all that is shown
 

@@ -6,9 +6,12 @@ use Rattle.worm_rows.specs.declared.rows.PacketId.{PacketId}
 use Rattle.worm_rows.specs.declared.rows.Row.{Row}
 use Rattle.worm_rows.specs.declared.shape.Shape.{Shape}
 use Rattle.worm_rows.specs.Rules.{IsReport}
+use Rattle.wormview.specs.Nodes.{AreViews, shown}
+use Rattle.wormview.specs.Packets.{tail_of}
 use Rattle.wormview.specs.Scene.{seen_flits}
 use Rattle.wormview.specs.declared.scene.Flit.{Flit}
 use Rattle.wormview.specs.declared.svg.Svg.{Svg}
+use Rattle.wormview.specs.declared.views.NodeView.{NodeView}
 
 -- A flit is an element that begins with its title, which names the flit up to a comma (44).
 abbrev pub name_at : List ℕ → Option (List ℕ)
@@ -53,8 +56,10 @@ pub record PicturesFlits (text : List ℕ) (flits : List Flit) : Type 0 where
   pub whole : text ≡ before ++ (part ++ behind)
   pub named : names part ≡ map flit_name flits
 
--- Of a report all flits in buffers and on links, each once, and no others.
+-- Of all nodes the flits that a report shows, channel by channel, the front first, and no others: of a report all flits
+-- in buffers and on links, each once.
 pub record PicturesRows (s : Shape) (rows : List Row) (text : List ℕ) : Type 0 where
-  pub flits : List Flit
-  pub once : IsReport s rows → IsPermutation (seen_flits s.mesh rows) flits
-  pub pictured : PicturesFlits text flits
+  pub views : List NodeView
+  pub are_views : AreViews s rows (tail_of rows) views
+  pub once : IsReport s rows → IsPermutation (seen_flits s.mesh rows) (shown views)
+  pub pictured : PicturesFlits text (shown views)

@@ -2,7 +2,7 @@
 use Rattle.std.specs.Prelude.{ℕ, ◌&&◌, Bool, true, false, not, ◌==◌, nat_lt, if◌then◌else◌, List, ◌++◌, map, Option}
 use Rattle.std.specs.Prelude.{Some, None}
 use Rattle.std.specs.Option.{option_map}
-use Rattle.std.specs.List.{filter, filter_map}
+use Rattle.std.specs.List.{filter, filter_map, list_any}
 use Rattle.worm_mesh.specs.Address.{node_count, neighbour_of, opposite_of}
 use Rattle.worm_route.specs.Route.{port_of}
 use Rattle.worm_core.specs.declared.view.Place.{Place}
@@ -10,6 +10,7 @@ use Rattle.worm_core.specs.declared.view.Place.TheVariants.{Source, Buffer, Link
 use Rattle.worm_rows.specs.declared.rows.Row.{Row}
 use Rattle.worm_rows.specs.declared.rows.Row.TheVariants.{Underway}
 use Rattle.worm_rows.specs.declared.rows.PacketId.{PacketId}
+use Rattle.wormview.specs.Packets.{same_packet}
 use Rattle.wormview.specs.declared.scene.Spot.{Spot}
 use Rattle.wormview.specs.declared.scene.Flit.{Flit}
 use Rattle.wormview.specs.declared.scene.Parted.{Parted}
@@ -62,6 +63,25 @@ flits_on spot flits = filter (is_on spot) flits
 
 -- ---- the front first
 
+-- these hold this flit of a packet
+abbrev pub holds : List Flit → PacketId → ℕ → Bool
+holds flits packet index = list_any (λ f. same_packet f.packet packet && (f.index == index)) flits
+
+-- Where these stand, a flit stands in its packet's rear if the opening is not there, else in its front if the tail is
+-- not there; tails says the place of each packet's tail.
+abbrev pub part_of : (PacketId → ℕ) → List Flit → Flit → Part
+part_of tails flits f =
+    if not (holds flits f.packet 0) then Rear
+    else if not (holds flits f.packet (tails f.packet)) then Front
+    else Whole
+
+abbrev pub parted_flit : (PacketId → ℕ) → List Flit → Flit → Parted
+parted_flit tails flits f = record { flit = f; part = part_of tails flits f }
+
+-- each of these flits with the part that it stands in
+abbrev pub with_parts : (PacketId → ℕ) → List Flit → List Parted
+with_parts tails flits = map (parted_flit tails flits) flits
+
 abbrev pub flits_of : List Parted → List Flit
 flits_of parted = map (λ p. p.flit) parted
 
@@ -80,3 +100,7 @@ of_part part parted = flits_of (filter (stands_in part) parted)
 -- What went on in front, what is to come behind.
 abbrev pub in_order : List Parted → List Flit
 in_order parted = of_part Rear parted ++ of_part Whole parted ++ of_part Front parted
+
+-- these flits, the front first
+abbrev pub front_first : (PacketId → ℕ) → List Flit → List Flit
+front_first tails flits = in_order (with_parts tails flits)

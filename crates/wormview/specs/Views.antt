@@ -1,8 +1,7 @@
 -- What is drawn, and why nothing is.
-use Rattle.std.specs.Prelude.{◌≡◌, ℕ, List, length, sum, Result, Ok, Err}
-use Rattle.worm_core.specs.declared.config.Config.{Config}
+use Rattle.std.specs.Prelude.{◌≡◌, ℕ, List, length, sum, Ok, Err}
 use Rattle.worm_text.specs.declared.format.Format.{Format}
-use Rattle.worm_text.specs.Network.{Network, Keeps, text, view}
+use Rattle.worm_text.specs.Network.{Network, Keeps, text}
 use Rattle.worm_text.specs.Reader.{network_of}
 use Rattle.worm_rows.specs.declared.shape.Shape.{Shape}
 use Rattle.worm_rows.specs.declared.rows.Row.{Row}

@@ -25,6 +25,10 @@ pub enum ViewFault {
 }
 
 impl From<AllocError> for ViewFault {
+    ghost use Rattle.wormview.specs.declared.fault.ViewFault.TheVariants.{NoMemory};
+
+    ghost from_gives = { λ _ fault. fault ≡ NoMemory };
+
     fn from(_error: AllocError) -> ViewFault {
         ViewFault::NoMemory
     }

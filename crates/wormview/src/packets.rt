@@ -1,5 +1,10 @@
 //! The packets of a report: which flit of each is its last, and how each is coloured.
 
+ghost use Rattle.std.specs.Prelude.{◌≡◌, IfOk, OnOk};
+ghost use Rattle.std.specs.Option.{option_map};
+ghost use Rattle.worm_rows.specs.declared.rows.PacketId.{PacketId};
+ghost use Rattle.wormview.specs.Packets.{known, last_with, place_of, tail_in, tail_of};
+
 use std::alloc::{AllocError, Global};
 use std::collections::BTreeMap;
 use worm_core::Place;
@@ -23,7 +28,9 @@ pub struct Packets {
 }
 
 /// The packet of a row and the place of its flit in it, and whether the flit is in a buffer or on a link.
-fn flit_of(row: &Row) -> Option<(PacketId, u8, bool)> {
+fn flit_of(row: &Row) -> Option<(PacketId, u8, bool)>
+    ensures { option_map (λ f. (f.0, f.1)) result ≡ place_of row.now }
+{
     match row {
         Row::Delivered { packet, load } => Some((
             *packet,
@@ -44,21 +51,27 @@ fn flit_of(row: &Row) -> Option<(PacketId, u8, bool)> {
 
 impl Packets {
     /// The packets of these rows.
-    pub fn of(alloc: Global, rows: &[Row]) -> Result<Packets, AllocError> {
+    pub fn of(alloc: Global, rows: &[Row]) -> Result<Packets, AllocError>
+        ensures tails { IfOk result (λ p. (packet : PacketId) → tail_in p packet ≡ tail_of rows.now packet) }
+    {
         let mut packets = Packets {
             packets: BTreeMap::new(alloc),
             moving: 0,
         };
         for row in rows {
-            if let Some((packet, index, moves)) = flit_of(row) {
-                packets.note(packet, index, moves)?;
+            match flit_of(row) {
+                Some((packet, index, moves)) => packets.note(packet, index, moves)?,
+                None => {}
             }
         }
         Ok(packets)
     }
 
     /// One flit more of the packet.
-    fn note(&mut self, packet: PacketId, index: u8, moves: bool) -> Result<(), AllocError> {
+    fn note(&mut self, packet: PacketId, index: u8, moves: bool) -> Result<(), AllocError>
+        ensures tails { OnOk result ((other : PacketId)
+            → tail_in self.new other ≡ last_with packet index other (tail_in self.old other)) }
+    {
         let mut known = self.get(packet);
         known.last = known.last.max(index);
         if moves && known.number.is_none() {
@@ -70,7 +83,9 @@ impl Packets {
     }
 
     /// What is known of a packet.
-    pub fn get(&self, packet: PacketId) -> Packet {
+    pub fn get(&self, packet: PacketId) -> Packet
+        ensures { result ≡ known self.now packet }
+    {
         match self.packets.get(&packet) {
             Some(known) => *known,
             None => Packet {

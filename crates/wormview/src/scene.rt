@@ -1,9 +1,9 @@
 //! What a report shows of a network, place by place.
 
-ghost use Rattle.std.specs.Prelude.{◌≡◌, IfOk, List, length};
+ghost use Rattle.std.specs.Prelude.{◌≡◌, IfOk, length};
 ghost use Rattle.std.specs.List.{filter};
 ghost use Rattle.wormview.specs.Nodes as nodes;
-ghost use Rattle.wormview.specs.declared.scene.Parted.{Parted};
+ghost use Rattle.wormview.specs.Packets.{tail_in};
 ghost use Rattle.wormview.specs.Scene as spec;
 
 use crate::packets::Packets;
@@ -156,14 +156,18 @@ pub struct Parted {
 }
 
 /// Whether this flit of the packet is among these.
-fn holds(flits: &[Flit], packet: PacketId, index: u8) -> bool {
+fn holds(flits: &[Flit], packet: PacketId, index: u8) -> bool
+    ensures { result ≡ spec.holds flits.now packet index }
+{
     flits
         .iter()
         .any(|flit| flit.packet == packet && flit.index == index)
 }
 
 /// Which part of its packet this flit stands in.
-fn part_of(flits: &[Flit], packets: &Packets, flit: &Flit) -> Part {
+fn part_of(flits: &[Flit], packets: &Packets, flit: &Flit) -> Part
+    ensures { result ≡ spec.part_of (tail_in packets.now) flits.now flit.now }
+{
     if !holds(flits, flit.packet, 0) {
         Part::Rear
     } else if !holds(flits, flit.packet, packets.get(flit.packet).last) {
@@ -175,16 +179,15 @@ fn part_of(flits: &[Flit], packets: &Packets, flit: &Flit) -> Part {
 
 /// Each of these flits with the part that it stands in.
 fn with_parts(alloc: Global, flits: &[Flit], packets: &Packets) -> Result<Vec<Parted>, AllocError>
-    ensures { IfOk result (λ parted. spec.flits_of parted.items ≡ flits.now) }
+    ensures { IfOk result (λ parted. parted.items ≡ spec.with_parts (tail_in packets.now) flits.now) }
 {
-    let mut parted = Vec::new(alloc);
-    for flit in flits {
-        parted.push(Parted {
+    flits
+        .iter()
+        .map(|flit| Parted {
             flit: *flit,
             part: part_of(flits, packets, flit),
-        })?;
-    }
-    Ok(parted)
+        })
+        .collect(alloc)
 }
 
 /// Whether the flit stands in such a part.
@@ -221,18 +224,16 @@ fn in_order(alloc: Global, parted: &[Parted]) -> Result<Vec<Flit>, AllocError>
 }
 
 /// The flits at a spot, the front first as far as a report tells: it lists a spot's flits by lane. Packets do not mix
-/// in a channel,
-/// so one whose opening went on is at the front, and one whose tail is to come at the back; between whole packets of
-/// several lanes
-/// the report's order stands.
+/// in a channel, so one whose opening went on is at the front, and one whose tail is to come at the back; between
+/// whole packets of several lanes the report's order stands.
 pub fn front_first(
     alloc: Global,
     flits: &[Flit],
     packets: &Packets,
     spot: Spot,
 ) -> Result<Vec<Flit>, AllocError>
-    ensures { IfOk result (λ sorted. (parted : List Parted) × (spec.flits_of parted ≡ spec.flits_on spot flits.now)
-        × (sorted.items ≡ spec.in_order parted)) }
+    ensures { IfOk result (λ sorted. sorted.items
+        ≡ spec.front_first (tail_in packets.now) (spec.flits_on spot flits.now)) }
 {
     let here = flits_on(alloc, flits, spot)?;
     let parted = with_parts(alloc, here.as_slice(), packets)?;

@@ -1,11 +1,10 @@
 //! What is shown of each node: a value, from which the picture and the map are drawn.
 
 ghost use Rattle.std.specs.Prelude.{◌≡◌, IfOk, IsPermutation, map, All};
-ghost use Rattle.std.specs.List.{range_with_len};
-ghost use Rattle.worm_mesh.specs.Address.{node_count};
 ghost use Rattle.wormview.specs.Nodes as spec;
 ghost use Rattle.worm_rows.specs.Rules.{IsReport};
-ghost use Rattle.wormview.specs.Nodes.{IsStation, IsView, shown};
+ghost use Rattle.wormview.specs.Nodes.{AreViews, IsStation, IsView, shown};
+ghost use Rattle.wormview.specs.Packets.{tail_in};
 ghost use Rattle.wormview.specs.Scene.{seen_flits as flits_of_rows};
 
 use crate::packets::Packets;
@@ -82,7 +81,7 @@ fn station_at(
     spot: Spot,
 ) -> Result<Station, AllocError>
     ensures spot { IfOk result (λ s. s.spot ≡ spot) }
-    ensures flits { IfOk result (IsStation flits.now) }
+    ensures flits { IfOk result (IsStation (tail_in packets.now) flits.now) }
 {
     let link = Spot {
         on_link: true,
@@ -103,7 +102,7 @@ fn stations(
     spots: &[Spot],
 ) -> Result<Vec<Station>, AllocError>
     ensures spots { IfOk result (λ s. map (λ s. s.spot) s.items ≡ spots.now) }
-    ensures each { IfOk result (λ s. All (IsStation flits.now) s.items) }
+    ensures each { IfOk result (λ s. All (IsStation (tail_in packets.now) flits.now) s.items) }
 {
     let mut stations = Vec::new(alloc);
     for spot in spots {
@@ -122,7 +121,7 @@ fn view(
     node: u8,
 ) -> Result<NodeView, AllocError>
     ensures node { IfOk result (λ v. v.node ≡ node) }
-    ensures shown { IfOk result (IsView shape.now rows.now flits.now) }
+    ensures shown { IfOk result (IsView shape.now rows.now (tail_in packets.now) flits.now) }
 {
     let here = flits_at(alloc, flits, node)?;
     let ports = 2 * shape.mesh.dims() + 1;
@@ -142,8 +141,7 @@ pub fn views(
     rows: &[Row],
     packets: &Packets,
 ) -> Result<Vec<NodeView>, AllocError>
-    ensures nodes { IfOk result (λ v. map (λ n. n.node) v.items ≡ range_with_len 0 (node_count shape.now.mesh)) }
-    ensures each { IfOk result (λ v. All (IsView shape.now rows.now (flits_of_rows shape.now.mesh rows.now)) v.items) }
+    ensures views { IfOk result (λ v. AreViews shape.now rows.now (tail_in packets.now) v.items) }
     // Of a report all flits in buffers and on links are shown, each once, and no others.
     ensures once { IfOk result (λ v. IsReport shape.now rows.now
         → IsPermutation (flits_of_rows shape.now.mesh rows.now) (shown v.items)) }

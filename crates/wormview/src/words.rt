@@ -1,5 +1,10 @@
 //! The words of the command line.
 
+ghost use Rattle.clap.specs.Values.{kind_of};
+ghost use Rattle.std.specs.IoError.{error_kind};
+ghost use Rattle.std.specs.Prelude.{◌≡◌};
+ghost use Rattle.wormview.specs.Faults.{list_fault, parser_fault};
+
 use clap::error::ErrorKind;
 use clap::{Arg, ArgAction, Command, Error};
 use std::alloc::{AllocError, Global};
@@ -29,12 +34,18 @@ pub enum WordsFault {
 }
 
 impl From<AllocError> for WordsFault {
+    ghost use Rattle.wormview.specs.declared.words.WordsFault.TheVariants.{NoMemory};
+
+    ghost from_gives = { λ _ fault. fault ≡ NoMemory };
+
     fn from(_error: AllocError) -> WordsFault {
         WordsFault::NoMemory
     }
 }
 
 impl From<Error> for WordsFault {
+    ghost from_gives = { λ error fault. fault ≡ parser_fault (kind_of error) error };
+
     fn from(error: Error) -> WordsFault {
         match error.kind() {
             ErrorKind::OutOfMemory => WordsFault::NoMemory,
@@ -45,11 +56,12 @@ impl From<Error> for WordsFault {
 }
 
 impl From<io::Error> for WordsFault {
+    ghost from_gives = { λ error fault. fault ≡ list_fault (error_kind error) };
+
     fn from(error: io::Error) -> WordsFault {
-        if error.kind() == io::ErrorKind::OutOfMemory {
-            WordsFault::NoMemory
-        } else {
-            WordsFault::NotText
+        match error.kind() {
+            io::ErrorKind::OutOfMemory => WordsFault::NoMemory,
+            _ => WordsFault::NotText,
         }
     }
 }

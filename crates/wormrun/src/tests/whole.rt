@@ -94,26 +94,40 @@ fn no_words_run_the_joined_input(rt: HostRuntime) {
     ends(&rt, rt.alloc(), &[], 0, "", A_HUNDRED_TURNS, "");
 }
 
+/// The program on these words ends with this status, opens and says this, and prints nothing.
+fn fails(
+    rt: &(impl Abort + Threads + Wait + Sync),
+    alloc: Global,
+    words: &'static [&'static [u8]],
+    status: u8,
+    opened: &str,
+    said: &str,
+) {
+    ends(rt, alloc, words, status, opened, "", said);
+}
+
+const NETWORK_REFUSED: &str = "wormrun: network line 1: header\n";
+
+const TRAFFIC_REFUSED: &str = "wormrun: traffic line 1: header\n";
+
 #[test]
 fn files_that_are_not_there(rt: HostRuntime) {
     let words: &[&[u8]] = &[b"wormrun", b"m", b"t", b"--turns", b"1"];
-    ends(
+    fails(
         &rt,
         rt.alloc(),
         words,
         5,
         "m\n",
-        "",
         "wormrun: cannot read network\n",
     );
     let words: &[&[u8]] = &[b"wormrun", b"n", b"m", b"--turns", b"1"];
-    ends(
+    fails(
         &rt,
         rt.alloc(),
         words,
         5,
         "n\nm\n",
-        "",
         "wormrun: cannot read traffic\n",
     );
 }
@@ -121,53 +135,27 @@ fn files_that_are_not_there(rt: HostRuntime) {
 #[test]
 fn texts_that_are_refused(rt: HostRuntime) {
     let words: &[&[u8]] = &[b"wormrun", b"x", b"t", b"--turns", b"1"];
-    ends(
-        &rt,
-        rt.alloc(),
-        words,
-        3,
-        "x\nt\n",
-        "",
-        "wormrun: network line 1: header\n",
-    );
+    fails(&rt, rt.alloc(), words, 3, "x\nt\n", NETWORK_REFUSED);
     let words: &[&[u8]] = &[b"wormrun", b"n", b"x", b"--turns", b"1"];
-    ends(
-        &rt,
-        rt.alloc(),
-        words,
-        4,
-        "n\nx\n",
-        "",
-        "wormrun: traffic line 1: header\n",
-    );
+    fails(&rt, rt.alloc(), words, 4, "n\nx\n", TRAFFIC_REFUSED);
     let words: &[&[u8]] = &[b"wormrun", b"t", b"n", b"--turns", b"1"];
-    ends(
-        &rt,
-        rt.alloc(),
-        words,
-        3,
-        "t\nn\n",
-        "",
-        "wormrun: network line 1: header\n",
-    );
+    fails(&rt, rt.alloc(), words, 3, "t\nn\n", NETWORK_REFUSED);
 }
 
 #[test]
 fn texts_that_are_refused_for_two_workers(rt: HostRuntime) {
     let words: &[&[u8]] = &[b"wormrun", b"x", b"t", b"--turns", b"1", b"--workers", b"2"];
-    let said = "wormrun: network line 1: header\n";
-    ends(&rt, rt.alloc(), words, 3, "x\nt\n", "", said);
+    fails(&rt, rt.alloc(), words, 3, "x\nt\n", NETWORK_REFUSED);
     let words: &[&[u8]] = &[b"wormrun", b"n", b"x", b"--turns", b"1", b"--workers", b"2"];
-    let said = "wormrun: traffic line 1: header\n";
-    ends(&rt, rt.alloc(), words, 4, "n\nx\n", "", said);
+    fails(&rt, rt.alloc(), words, 4, "n\nx\n", TRAFFIC_REFUSED);
 }
 
 #[test]
 fn a_word_that_is_no_text(rt: HostRuntime) {
     let said = "wormrun: a word is not UTF-8\n";
     let words: &[&[u8]] = &[b"wormrun", b"n", b"\xff", b"--turns", b"1"];
-    ends(&rt, rt.alloc(), words, 2, "", "", said);
-    ends(&rt, rt.alloc(), &[b"wormrun", b"\xc3"], 2, "", "", said);
+    fails(&rt, rt.alloc(), words, 2, "", said);
+    fails(&rt, rt.alloc(), &[b"wormrun", b"\xc3"], 2, "", said);
 }
 
 /// Words that are not the program's: status 2, something is said, nothing is opened or printed.

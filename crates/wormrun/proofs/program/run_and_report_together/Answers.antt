@@ -1,5 +1,4 @@
 use Rattle.std.proofs.Common.{ap}
-use Rattle.worm_core.specs.Totals.{accepted_total}
 use Rattle.worm_report.specs.Seen.{seen}
 use Rattle.worm_report.specs.Report.{report}
 use Rattle.worm_text.specs.Network.{view}

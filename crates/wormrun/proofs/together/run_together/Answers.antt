@@ -1,4 +1,4 @@
-use Rattle.std.proofs.Common.{◌≡◌, List, inl, subst}
+use Rattle.std.proofs.Common.{List, inl, subst}
 use Rattle.worm_run.specs.declared.plan.Stop.{Stop}
 use Rattle.wormrun.specs.Together.{AreStopsOf, DrainsUnstopped}
 use Rattle.wormrun.proofs.together.run_together.Goals as goal

@@ -1,6 +1,7 @@
 use Rattle.std.proofs.Common.{rules, ◌<◌, length}
 use Rattle.std.proofs.lemmas.List.Elements.{All-push}
 use Rattle.wormview.specs.Nodes.{IsStation}
+use Rattle.wormview.specs.Packets.{tail_in}
 use Rattle.wormview.proofs.Steps.{one_station_more}
 use Rattle.wormview.proofs.views.stations.Goals as goal
 
@@ -13,5 +14,5 @@ loop-spot-preserved c =
       spots = one_station_more c.loop-spot.spot-index _ c.args.spots.now stations c.push.new.self.items station
           c.in_ok-push.ensures.items c.loop-spot.invariant.spots within c.in_ok-station_at.ensures.spot;
       each = rw c.in_ok-push.ensures.items (All-push
-          (IsStation c.args.flits.now) stations station c.loop-spot.invariant.each c.in_ok-station_at.ensures.flits);
+          (IsStation (tail_in c.args.packets.now) c.args.flits.now) stations station c.loop-spot.invariant.each c.in_ok-station_at.ensures.flits);
     }
