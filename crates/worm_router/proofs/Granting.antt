@@ -1,9 +1,10 @@
--- What a pass of the channel allocator grants is held after it: an invariant of the grants written one by one.
+-- What a pass of the channel allocator grants is held after it, and all else is as it was: an invariant of the grants
+-- written one by one.
 use Rattle.std.proofs.Common.{◌≡◌, ℕ, zero, suc, ◌+◌, ◌*◌, ◌<◌, ◌≤◌, ◌&&◌, Bool, true, false, is_none, if◌then◌else◌}
 use Rattle.std.proofs.Common.{inl, inr, List, [], ◌∷◌, length, slice_set, slice_index_or, replicate, fold, Option}
 use Rattle.std.proofs.Common.{None, Some, refl, arith, ap, sym, subst, ◌∙◌}
 use Rattle.std.specs.List.{range_with_len}
-use Rattle.std.proofs.lemmas.Bool.{cases_eq, and_from}
+use Rattle.std.proofs.lemmas.Bool.{cases_eq, and_from, and_parts, eqb-true, true≢false}
 use Rattle.std.proofs.lemmas.Nat.{same_from_place}
 use Rattle.std.proofs.lemmas.List.{get_or-set_other, length-set}
 use Rattle.std.proofs.lemmas.Grind.{get_or-set_at}
@@ -21,7 +22,7 @@ use Rattle.worm_router.specs.Router.{RouterState, ChannelState, IsRouter, IsPlac
 use Rattle.worm_router.specs.Router.{fresh_channel, free_output, in_state, input_at, output_at, granting, can_grant}
 use Rattle.worm_router.specs.Router.{after_granting}
 use Rattle.worm_router.specs.Allocation.{asking, request_at, requests, is_free, free_channels, channel_pass, written}
-use Rattle.worm_router.specs.Allocation.{with_port_grants, with_grants, IsAllocated, IsGranted, AreHeld}
+use Rattle.worm_router.specs.Allocation.{with_port_grants, with_grants, IsAllocated, IsGranted, AreHeld, LeavesRest}
 use Rattle.worm_router.proofs.Hopeful.{choice_by}
 use Rattle.worm_router.proofs.InVain.{cell_is}
 use Rattle.worm_router.proofs.Laws.{line-places}
@@ -36,6 +37,14 @@ waited_by r (Waiting p) (f ∷ fs) c o e = by_test (is_none (output_at r p c).ho
       by_test : (b : Bool) → (if b then Some p else None) ≡ Some o → Waiting p ≡ Waiting o
       by_test true same = cc
       by_test false same = absurd (cc)
+
+-- who may use a channel of a port waits for that port
+waits_for : (r : RouterState) (s : InRecord) (fs : List Flit) (o c : ℕ) → may_use (asking r s fs) o c ≡ true
+    → s ≡ Waiting o
+waits_for r Idle fs o c e = absurd (true≢false (sym e))
+waits_for r (Active p v) fs o c e = absurd (true≢false (sym e))
+waits_for r (Waiting p) [] o c e = absurd (true≢false (sym e))
+waits_for r (Waiting p) (f ∷ fs) o c e = ap Waiting (eqb-true p o (and_parts _ _ e).0)
 
 -- what is asked for stands in the channels of the classes alone
 same_asking : (r q : RouterState) (s : InRecord) (fs : List Flit) → q.channels ≡ r.channels
@@ -81,6 +90,10 @@ module _ (r : RouterState) (a : VcAllocState) (grants : List (List (Option ℕ))
         → ((p v : ℕ) → IsPlace r p v → line r p v < n → HasWon (requests r) grants p v o c → ⊥)
         → output_at (at is os) o c ≡ output_at r o c
     got : (p v c : ℕ) → IsPlace r p v → line r p v < n → cell grants p v None ≡ Some c → Got (at is os) p v c
+    states : (p v : ℕ) → IsPlace r p v
+        → input_at (at is os) p v ≡ in_state (input_at r p v) (input_at (at is os) p v).state
+    left : (p v : ℕ) → IsPlace r p v → cell grants p v None ≡ None → input_at (at is os) p v ≡ input_at r p v
+    credits : (o c : ℕ) → IsPlace r o c → (output_at (at is os) o c).credits ≡ (output_at r o c).credits
 
   -- a router in which they are written
   abbrev Written : RouterState → ℕ → Type 0
@@ -131,6 +144,9 @@ module _ (r : RouterState) (a : VcAllocState) (grants : List (List (Option ℕ))
           absurd (cc)
       | inr other ↦ far.got q w c there (omega (arith, before, other)) granted
     ];
+    states = far.states;
+    left = far.left;
+    credits = far.credits;
   }
 
   -- what is written where an input channel gets an output channel
@@ -185,6 +201,51 @@ module _ (r : RouterState) (a : VcAllocState) (grants : List (List (Option ℕ))
         subst (λ k. Got now k w d) (sym here.0)
         (subst (λ k. Got now p k d) (sym here.1) (subst (Got now p v) same got_here))
 
+    -- of an input channel only the record is written
+    states_now : (q w : ℕ) → IsPlace r q w → input_at now q w ≡ in_state (input_at r q w) (input_at now q w).state
+    states_now q w there = elim (cases_eq (line r q w) (line r p v)) [
+      | inl same ↦
+          let is_now = get_or-set_at is (line r p v) (line r q w)
+          (in_state (slice_index_or is (line r p v) (fresh_channel r.depth)) (Active o c)) (fresh_channel r.depth) same
+          in_there in
+          is_now ∙ ap (λ x. in_state x (Active o c)) (far.ahead p v wins.place (omega arith))
+          ∙ ap (λ k. in_state (slice_index_or r.inputs k (fresh_channel r.depth)) (Active o c)) (sym same)
+          ∙ ap (λ (x : ChannelState). in_state (input_at r q w) x.state) (sym is_now)
+      | inr other ↦
+          let as_before = get_or-set_other is (line r p v) (line r q w)
+          (in_state (slice_index_or is (line r p v) (fresh_channel r.depth)) (Active o c)) (fresh_channel r.depth)
+          other in
+          as_before ∙ far.states q w there
+          ∙ ap (λ (x : ChannelState). in_state (input_at r q w) x.state) (sym as_before)
+    ]
+
+    -- and none of one without a grant
+    left_now : (q w : ℕ) → IsPlace r q w → cell grants q w None ≡ None → input_at now q w ≡ input_at r q w
+    left_now q w there none = elim (cases_eq (line r q w) (line r p v)) [
+      | inl same ↦
+          let here = one_place p v q w wins.place there same in
+          let clash : Some c ≡ None =
+          sym wins.won.granted ∙ ap (λ k. cell grants k v None) (sym here.0)
+          ∙ ap (λ k. cell grants q k None) (sym here.1) ∙ none in
+          absurd (cc)
+      | inr other ↦
+          get_or-set_other is (line r p v) (line r q w) _ (fresh_channel r.depth) other ∙ far.left q w there none
+    ]
+
+    -- and of an output channel only the holder
+    credits_now : (out d : ℕ) → IsPlace r out d → (output_at now out d).credits ≡ (output_at r out d).credits
+    credits_now out d there = elim (cases_eq (line r out d) (line r o c)) [
+      | inl same ↦
+          ap (λ (u : OutRecord). u.credits)
+          (get_or-set_at os (line r o c) (line r out d) _ (free_output r.depth) same out_there)
+          ∙ far.credits o c wins.out_place
+          ∙ ap (λ k. (slice_index_or r.outputs k (free_output r.depth)).credits) (sym same)
+      | inr other ↦
+          ap (λ (u : OutRecord). u.credits)
+          (get_or-set_other os (line r o c) (line r out d) _ (free_output r.depth) other)
+          ∙ far.credits out d there
+    ]
+
     held_now : Far (in_held is p v o c) (out_held os p v o c) (line r p v + 1)
     held_now = record {
       inputs = length-set is (line r p v) _ ∙ far.inputs;
@@ -214,6 +275,9 @@ module _ (r : RouterState) (a : VcAllocState) (grants : List (List (Option ℕ))
             same_got q w d here one
         | inr other ↦ got_there q w d other (far.got q w d there (omega (arith, before, other)) granted)
       ];
+      states = states_now;
+      left = left_now;
+      credits = credits_now;
     }
 
     -- the grant can be done
@@ -290,6 +354,9 @@ module _ (r : RouterState) (a : VcAllocState) (grants : List (List (Option ℕ))
     ahead = λ p v place after. refl;
     untaken = λ o c place nobody. refl;
     got = λ p v c place before granted. absurd (omega (arith, before));
+    states = λ p v place. refl;
+    left = λ p v place none. refl;
+    credits = λ o c place. refl;
   }
 
   granted_by : (s : RouterState) (p v c : ℕ) → Got s p v c → IsGranted r s p v c
@@ -304,32 +371,66 @@ module _ (r : RouterState) (a : VcAllocState) (grants : List (List (Option ℕ))
         held = had.held;
       }
 
-  all_held : length r.inputs ≡ places r → length r.outputs ≡ places r
-      → AreHeld r (with_grants grants (at r.inputs r.outputs)) grants
+  -- all grants are written
+  all_written : length r.inputs ≡ places r → length r.outputs ≡ places r
+      → Written (with_grants grants (at r.inputs r.outputs)) (places r)
   unfolding with_grants
-  all_held inputs outputs p v c granted =
-      let w = winner p v c granted in
-      let all = ports_far r.inputs r.outputs (begun inputs outputs) (terminal r + 1) (omega arith) in
-      let below = line-places r p v w.1.place in
-      subst (λ (s : RouterState). IsGranted r s p v c) (sym all.2)
-      (granted_by _ p v c (all.3.got p v c w.1.place below granted))
+  all_written inputs outputs = ports_far r.inputs r.outputs (begun inputs outputs) (terminal r + 1) (omega arith)
 
--- what a pass of the allocator granted is held after it
-pub pass_held : (old new : RouterState) (grants : List (List (Option ℕ))) → terminal old ≤ 6 → width old ≤ 8
-    → IsRouter old
-    → IsAllocated old new grants → AreHeld old new grants
-pass_held old new grants few_ports few sound pass =
+  far_held : (is : List ChannelState) (os : List OutRecord) → Far is os (places r) → AreHeld r (at is os) grants
+  far_held is os far p v c granted =
+      let w = winner p v c granted in
+      granted_by (at is os) p v c (far.got p v c w.1.place (line-places r p v w.1.place) granted)
+
+  far_rest : (is : List ChannelState) (os : List OutRecord) → Far is os (places r) → LeavesRest r (at is os) grants
+  far_rest is os far = record {
+    router = refl;
+    inputs = far.states;
+    ungranted = far.left;
+    outputs = far.credits;
+    free = λ o c place nobody. far.untaken o c place (λ p v at_place before won. nobody (record {
+      port = p;
+      vc = v;
+      waited = waits_for r (input_at r p v).state (input_at r p v).buffer o c
+          (ap (λ q. may_use q o c) (sym (cell_is r None (request_at r) p v few_ports few at_place)) ∙ won.requested);
+      granted = won.granted;
+    }));
+  }
+
+-- what a pass of the allocator granted is held after it, and what it did not grant is as it was
+pub record IsPassed (old new : RouterState) (grants : List (List (Option ℕ))) : Type 0 where
+  pub held : AreHeld old new grants
+  pub rest : LeavesRest old new grants
+
+pub passed_by : (old new : RouterState) (grants : List (List (Option ℕ))) → terminal old ≤ 6 → width old ≤ 8
+    → IsRouter old → IsAllocated old new grants → IsPassed old new grants
+passed_by old new grants few_ports few sound pass =
     let given = (channel_pass old).grants in
     let matching : IsChannelMatching (terminal old + 1) (width old) (requests old) (free_channels old) given =
     subst (IsChannelMatching (terminal old + 1) (width old) (requests old) (free_channels old)) pass.grants_are
     pass.matching in
-    subst (AreHeld old new) (sym pass.grants_are)
-    (subst (λ (s : RouterState). AreHeld old s given) (sym pass.after)
-    (all_held old (channel_pass old).alloc given few_ports few matching sound.lists.all_inputs sound.lists.all_outputs))
+    let all = all_written old (channel_pass old).alloc given few_ports few matching sound.lists.all_inputs
+    sound.lists.all_outputs in
+    subst (IsPassed old new) (sym pass.grants_are)
+    (subst (λ (s : RouterState). IsPassed old s given) (sym (pass.after ∙ all.2)) (record {
+      held = far_held old (channel_pass old).alloc given few_ports few matching all.0 all.1 all.3;
+      rest = far_rest old (channel_pass old).alloc given few_ports few matching all.0 all.1 all.3;
+    }))
 
--- where nothing was granted nothing is to be held
-pub none_held : (old new : RouterState) (grants : List (List (Option ℕ))) → grants ≡ replicate 7 (replicate 8 None)
-    → AreHeld old new grants
-none_held old new grants none p v c granted =
-    let clash : None ≡ Some c = sym (cell-replicate 7 8 p v None) ∙ ap (λ t. cell t p v None) (sym none) ∙ granted in
-    absurd (cc)
+-- where nothing was granted nothing is to be held, and all is as it was
+pub none_passed : (old new : RouterState) (grants : List (List (Option ℕ))) → new ≡ old
+    → grants ≡ replicate 7 (replicate 8 None) → IsPassed old new grants
+none_passed old new grants same none =
+    subst (λ (s : RouterState). IsPassed old s grants) (sym same) (record {
+      held = λ p v c granted.
+          let clash : None ≡ Some c = sym (cell-replicate 7 8 p v None) ∙ ap (λ t. cell t p v None) (sym none)
+          ∙ granted in
+          absurd (cc);
+      rest = record {
+        router = refl;
+        inputs = λ p v place. refl;
+        ungranted = λ p v place ungranted. refl;
+        outputs = λ o c place. refl;
+        free = λ o c place nobody. refl;
+      };
+    })

@@ -17,7 +17,7 @@ use Rattle.worm_swalloc.specs.declared.grant.SwGrant.{SwGrant}
 use Rattle.worm_swalloc.specs.SwAlloc.{sw_grants, sw_after}
 use Rattle.worm_router.specs.Tables.{table}
 use Rattle.worm_router.specs.Router.{RouterState, IsPlace, terminal, width, input_at, output_at, can_grant, after_grant}
-use Rattle.worm_router.specs.Router.{leaving}
+use Rattle.worm_router.specs.Router.{in_state, leaving}
 
 -- what f says of a port and channel of the router; of any other, d
 abbrev pub within : {X : Type 0} → RouterState → X → (ℕ → ℕ → X) → ℕ → ℕ → X
@@ -130,6 +130,26 @@ pub record IsGranted (old new : RouterState) (port vc out_vc : ℕ) : Type 0 whe
 abbrev pub AreHeld : RouterState → RouterState → List (List (Option ℕ)) → Type 0
 AreHeld old new grants = (port vc out_vc : ℕ) → cell grants port vc None ≡ Some out_vc
     → IsGranted old new port vc out_vc
+
+-- an output channel was granted in a pass, to an input channel that waited for its port
+pub record WasGranted (old : RouterState) (grants : List (List (Option ℕ))) (out c : ℕ) : Type 0 where
+  pub port : ℕ
+  pub vc : ℕ
+  pub waited : (input_at old port vc).state ≡ Waiting out
+  pub granted : cell grants port vc None ≡ Some c
+
+-- what a pass leaves alone: buffers, credits and what is owed, and each channel that was not granted
+pub record LeavesRest (old new : RouterState) (grants : List (List (Option ℕ))) : Type 0 where
+  pub router : new ≡ record old { inputs = new.inputs; outputs = new.outputs; channel_alloc = new.channel_alloc }
+  -- an input channel changes in its record alone, and only where it was granted an output channel
+  pub inputs : (port vc : ℕ) → IsPlace old port vc
+      → input_at new port vc ≡ in_state (input_at old port vc) (input_at new port vc).state
+  pub ungranted : (port vc : ℕ) → IsPlace old port vc → cell grants port vc None ≡ None
+      → input_at new port vc ≡ input_at old port vc
+  -- an output channel changes in its holder alone, and only where it was granted
+  pub outputs : (out c : ℕ) → IsPlace old out c → (output_at new out c).credits ≡ (output_at old out c).credits
+  pub free : (out c : ℕ) → IsPlace old out c → (WasGranted old grants out c → ⊥)
+      → output_at new out c ≡ output_at old out c
 
 -- Switch allocation
 

@@ -12,7 +12,7 @@ ghost use Rattle.worm_router.specs.Allocation.{IsFirstChoice, IsHopeful, IsSoleH
 ghost use Rattle.worm_router.specs.Allocation.{ready_at, ready_outs, GrantsNothing, GrantsWithin, written};
 ghost use Rattle.worm_router.specs.Allocation.{channel_pass, after_allocate, with_port_grants, with_grants};
 ghost use Rattle.worm_router.specs.Allocation.{switch_grants, after_choose};
-ghost use Rattle.worm_router.specs.Allocation.{AreHeld, IsSameSize};
+ghost use Rattle.worm_router.specs.Allocation.{AreHeld, LeavesRest, IsSameSize};
 
 use crate::router::Router;
 use worm_records::InRecord;
@@ -203,6 +203,7 @@ impl Router {
         ensures matching { IsChannelMatching (terminal self.old + 1) (width self.old) (requests self.old)
             (free_channels self.old) result }
         ensures held { AreHeld self.old self.new result }
+        ensures rest { LeavesRest self.old self.new result }
     {
         if self.grants_nothing() {
             return VcGrants::new();

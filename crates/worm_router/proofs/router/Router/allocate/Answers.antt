@@ -1,7 +1,7 @@
 use Rattle.std.proofs.Common.{refl, sym, ◌∙◌}
 use Rattle.worm_router.proofs.Hopeful.{none_hopeful, sole_hope}
 use Rattle.worm_router.proofs.SoleHope.{vain_allocated}
-use Rattle.worm_router.proofs.Granting.{none_held, pass_held}
+use Rattle.worm_router.proofs.Granting.{none_passed, passed_by}
 use Rattle.worm_router.proofs.router.Router.allocate.Goals as goal
 
 pub returns-then-grants_nothing-clause-grants : goal.returns-then-grants_nothing-clause-grants
@@ -51,20 +51,43 @@ returns-in-None-clause-matching c =
     c.new-in-None.ensures).matching
 
 pub returns-then-grants_nothing-clause-held : goal.returns-then-grants_nothing-clause-held
-returns-then-grants_nothing-clause-held c = none_held c.args.self.now c.args.self.now c.new.result c.new.ensures
+returns-then-grants_nothing-clause-held c =
+    (none_passed c.args.self.now c.args.self.now c.new.result refl c.new.ensures).held
 
 pub returns-in-None-clause-held : goal.returns-in-None-clause-held
-returns-in-None-clause-held c = none_held c.args.self.now c.file_in_vain.new.self c.new-in-None.result
-    c.new-in-None.ensures
+returns-in-None-clause-held c =
+    (none_passed c.args.self.now c.file_in_vain.new.self c.new-in-None.result c.file_in_vain.ensures
+    c.new-in-None.ensures).held
 
 pub returns-in-Some-clause-held : goal.returns-in-Some-clause-held
 returns-in-Some-clause-held c =
     let known = c.hopeful-hopeful.ensures in
-    pass_held c.args.self.now c.grant_sole.new.self c.grant_sole.result known.few_ports known.few_channels known.sound
-    c.grant_sole.ensures
+    (passed_by c.args.self.now c.grant_sole.new.self c.grant_sole.result known.few_ports known.few_channels known.sound
+    c.grant_sole.ensures).held
 
 pub returns-in-Some-2-clause-held : goal.returns-in-Some-2-clause-held
 returns-in-Some-2-clause-held c =
     let known = c.hopeful-hopeful.ensures in
-    pass_held c.args.self.now c.grant_among.new.self c.grant_among.result known.few_ports known.few_channels
-    known.sound c.grant_among.ensures
+    (passed_by c.args.self.now c.grant_among.new.self c.grant_among.result known.few_ports known.few_channels
+    known.sound c.grant_among.ensures).held
+
+pub returns-then-grants_nothing-clause-rest : goal.returns-then-grants_nothing-clause-rest
+returns-then-grants_nothing-clause-rest c =
+    (none_passed c.args.self.now c.args.self.now c.new.result refl c.new.ensures).rest
+
+pub returns-in-None-clause-rest : goal.returns-in-None-clause-rest
+returns-in-None-clause-rest c =
+    (none_passed c.args.self.now c.file_in_vain.new.self c.new-in-None.result c.file_in_vain.ensures
+    c.new-in-None.ensures).rest
+
+pub returns-in-Some-clause-rest : goal.returns-in-Some-clause-rest
+returns-in-Some-clause-rest c =
+    let known = c.hopeful-hopeful.ensures in
+    (passed_by c.args.self.now c.grant_sole.new.self c.grant_sole.result known.few_ports known.few_channels known.sound
+    c.grant_sole.ensures).rest
+
+pub returns-in-Some-2-clause-rest : goal.returns-in-Some-2-clause-rest
+returns-in-Some-2-clause-rest c =
+    let known = c.hopeful-hopeful.ensures in
+    (passed_by c.args.self.now c.grant_among.new.self c.grant_among.result known.few_ports known.few_channels
+    known.sound c.grant_among.ensures).rest
