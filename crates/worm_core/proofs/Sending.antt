@@ -9,9 +9,8 @@ use Rattle.worm_vcalloc.specs.ChannelSet.{has, IsFirst, IsFirstPort}
 use Rattle.worm_swalloc.specs.declared.grant.SwGrant.{SwGrant}
 use Rattle.worm_swalloc.specs.SwAlloc.{AreGranted, is_of}
 use Rattle.worm_swalloc.proofs.WalkLemmas.{IsWalked, walked_start, walked_from, walked_over, walked_more, walked_all}
-use Rattle.worm_router.specs.Allocation.{switch_grants}
 use Rattle.worm_theory.specs.Steps.{Send, IsThere}
-use Rattle.worm_core.specs.State.{NetState, IsSameConfig, router_at, shape}
+use Rattle.worm_core.specs.State.{NetState, shape}
 use Rattle.worm_core.specs.Workable.{IsWorkable}
 use Rattle.worm_core.specs.Replies.{Attempts, Replies}
 use Rattle.worm_core.specs.Turns.{AreThere, Each, Does, fault_of, granted_send}

@@ -6,7 +6,7 @@ use Rattle.std.proofs.lemmas.Bool.Decides.{nat_tests}
 use Rattle.std.proofs.lemmas.List.{take_all, take_more}
 use Rattle.std.proofs.lemmas.List.Elements.{filter-append}
 use Rattle.std.specs.Prelude.{Result, option_map, filter, slice_index_or, IfSome, IfNone}
-use Rattle.std.specs.List.{range_with_len, flat_map, find}
+use Rattle.std.specs.List.{range_with_len, find}
 use Rattle.std.specs.Option.{option_to_list}
 use Rattle.worm_flit.specs.declared.Lane.{Lane}
 use Rattle.worm_router.specs.Router.{RouterState, width, input_at}
@@ -16,7 +16,6 @@ use Rattle.worm_swalloc.specs.declared.grant.SwGrant.{SwGrant}
 use Rattle.worm_theory.specs.Steps.{Step, Send, GiveCredit}
 use Rattle.worm_core.specs.Script.{begun_at, lane_of}
 use Rattle.worm_core.specs.State.{NetState, router_at, with_router}
-use Rattle.worm_core.specs.Moves.{chosen_router}
 use Rattle.worm_core.specs.Replies.{Attempts, Replies}
 use Rattle.worm_core.specs.Turns.{Each, Does, Passage, Reaches, ReachesAt, Allocates, ask, fault_of, granted_send}
 use Rattle.worm_core.specs.Turns.{lowest_owed, ◌and_then◌, AsksSourceBy, ComesInBy, GivesCreditBy, GivesCreditsBy}

@@ -1,5 +1,5 @@
 -- What a new network is: a node fresh at each place, each link empty, with room for what all its channels may hold.
-use Rattle.std.specs.Prelude.{ℕ, ◌≡◌, ◌*◌, ◌≤◌, [], List, length, sum, replicate, slice_index_or}
+use Rattle.std.specs.Prelude.{ℕ, ◌≡◌, ◌*◌, ◌≤◌, List, length, sum, replicate, slice_index_or}
 use Rattle.worm_flit.specs.Channels.{AreChannels}
 use Rattle.worm_mesh.specs.Address.{IsMesh as IsRadices, node_count}
 use Rattle.worm_mesh.specs.Links.{link_count}

@@ -1,4 +1,4 @@
-ghost use Rattle.std.specs.Prelude.{◌≡◌, ◌-◌, ◌<◌, ◌≤◌, ◌++◌, ◌∷◌, [], true, false, IfOk};
+ghost use Rattle.std.specs.Prelude.{◌≡◌, ◌-◌, ◌<◌, ◌++◌, ◌∷◌, [], true, false, IfOk};
 ghost use Rattle.worm_flit.specs.Kinds.{opens, closes};
 ghost use Rattle.worm_flit.specs.Worms.{MayFollow};
 ghost use Rattle.worm_links.specs.Links.{AreWorms, MayCross};

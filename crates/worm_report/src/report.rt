@@ -1,6 +1,6 @@
 //! The whole report, row after row.
 
-ghost use Rattle.std.specs.Prelude.{◌≡◌, ◌<◌, [], ◌∷◌, ◌++◌, length, map};
+ghost use Rattle.std.specs.Prelude.{◌<◌, ◌++◌, length, map};
 ghost use Rattle.worm_mesh.specs.Address.{node_count};
 ghost use Rattle.worm_core.specs.LaneSet.{IsComplete};
 ghost use Rattle.worm_report.specs.Seen.{seen};

@@ -1,4 +1,4 @@
-ghost use Rattle.std.specs.Prelude.{◌≡◌, ◌==◌, ◌&&◌, ◌||◌, ◌+◌, ◌*◌, ◌≤◌, ◌<◌, ◌^◌, ◌↔◌, length, sum, IfOk, IfErr};
+ghost use Rattle.std.specs.Prelude.{◌≡◌, ◌==◌, ◌&&◌, ◌||◌, ◌+◌, ◌*◌, ◌≤◌, ◌<◌, ◌↔◌, length, IfOk, IfErr};
 ghost use Rattle.std.specs.Prelude.{OnOk, OnErr, IsOk, IsErr, IsSome, IfSome, IfNone, None, Some, ℕ, is_some, nat_lt};
 ghost use Rattle.std.specs.Prelude.{slice_get, replicate, if◌then◌else◌};
 ghost use Rattle.worm_flit.specs.Channels.{AreChannels};

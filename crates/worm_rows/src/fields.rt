@@ -1,6 +1,6 @@
 //! Numbers of a row's fields.
 
-ghost use Rattle.std.specs.Prelude.{◌≡◌, ◌<◌, ◌^◌, IfOk};
+ghost use Rattle.std.specs.Prelude.{◌<◌, IfOk};
 ghost use Rattle.worm_text.specs.Reading.{Reads};
 ghost use Rattle.worm_rows.specs.Reading.{any_at, below_at, named_at};
 

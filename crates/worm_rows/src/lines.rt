@@ -1,8 +1,7 @@
 //! The row that a line says.
 
-ghost use Rattle.std.specs.Prelude.{◌≡◌, ◌≤◌, ◌<◌, codes, Ok};
+ghost use Rattle.std.specs.Prelude.{◌≡◌, ◌≤◌, ◌<◌, Ok};
 ghost use Rattle.worm_mesh.specs.Address.{node_count, has_neighbour};
-ghost use Rattle.worm_text.specs.Lines.{cut, space};
 ghost use Rattle.worm_text.specs.Reading.{Reads, Gives};
 ghost use Rattle.worm_rows.specs.Rules.{has_buffer, listed};
 ghost use Rattle.worm_rows.specs.Reading.{below_at, packet_at, buffer_at, link_at, place_at, load_word_at, load_at};

@@ -1,21 +1,20 @@
 -- What is done at one node: the others stay as they are, and so does what its source accepted, and but for what is sent
 -- to it, its sink.
-use Rattle.std.proofs.Common.{◌≡◌, ℕ, ◌*◌, ◌<◌, inl, inr, List, [], ◌∷◌, ◌++◌, length, map, Option, Some, None, Ok, Err}
+use Rattle.std.proofs.Common.{◌≡◌, ℕ, ◌<◌, List, [], ◌∷◌, length, map, Option, Some, None, Ok, Err}
 use Rattle.std.proofs.Common.{refl, sym, ap, subst, ◌∙◌}
-use Rattle.std.specs.Prelude.{Result, slice_get, slice_index_or}
-use Rattle.std.specs.Option.{option_to_list}
+use Rattle.std.specs.Prelude.{Result}
 use Rattle.std.proofs.Math.ListN.{length-set}
 use Rattle.std.proofs.lemmas.List.{get_or-set_other, get_or-set_same, append-nil}
 use Rattle.worm_flit.specs.declared.Flit.{Flit}
 use Rattle.worm_router.specs.Router.{RouterState, after_accept, after_credit, after_gave, after_route}
 use Rattle.worm_router.specs.Allocation.{after_allocate}
 use Rattle.worm_term.specs.declared.fault.OfferFault.{OfferFault}
-use Rattle.worm_term.specs.Source.{SourceState, front_of}
+use Rattle.worm_term.specs.Source.{front_of}
 use Rattle.worm_theory.specs.Steps.{Step, Feed, Route, Take, GiveCredit, TakeCredit}
 use Rattle.worm_core.specs.Answers.{refusal_of}
 use Rattle.worm_core.specs.Moves.{after_take, after_getting, done_step, fed_node, front_credit, front_into, link_into}
 use Rattle.worm_core.specs.Replies.{Attempts, Replies}
-use Rattle.worm_core.specs.State.{NetState, fresh_node, node_at, router_at, sink_at, source_at, with_node, with_router}
+use Rattle.worm_core.specs.State.{NetState, fresh_node, node_at, router_at, sink_at, source_at, with_node}
 use Rattle.worm_wires.specs.Links.{LinkView}
 use Rattle.worm_core.specs.Turns.{Allocates, ComesInBy, Each, FeedsClassesBy, Passage, RoutesChannelsBy, RoutesPortBy}
 use Rattle.worm_core.specs.Turns.{TakesCreditsBy, TakesFlitsBy, all_channels, all_classes, all_ports, fault_of}

@@ -1,10 +1,9 @@
 -- What a source does of what it is asked: it accepts the first entries, and where it refuses one, that one is the next.
-use Rattle.std.proofs.Common.{◌≡◌, ℕ, ◌+◌, ◌<◌, ◌≤◌, Bool, true, false, ◌⊎◌, inl, inr, List, [], ◌∷◌, ◌++◌, length, map}
+use Rattle.std.proofs.Common.{◌≡◌, ℕ, ◌+◌, ◌<◌, ◌≤◌, true, false, ◌⊎◌, inl, inr, List, [], ◌∷◌, ◌++◌, length, map}
 use Rattle.std.proofs.Common.{Option, Some, None, Ok, Err, refl, arith, sym, ap, subst, ◌∙◌}
 use Rattle.std.proofs.Common.{nat_le, nat_lt, ◌&&◌}
 use Rattle.std.specs.Prelude.{All, IsSome, Result, slice_index}
 use Rattle.std.proofs.lemmas.List.Elements.{All-head, All-tail}
-use Rattle.worm_flit.specs.declared.Flit.{Flit}
 use Rattle.worm_flit.specs.declared.Lane.{Lane}
 use Rattle.worm_flit.specs.Channels.{first_channel, owns}
 use Rattle.worm_flit.specs.Stamps.{of_lane}
@@ -12,7 +11,7 @@ use Rattle.worm_flit.proofs.Owners.{owns-from_owner}
 use Rattle.worm_mesh.specs.Address.{node_count}
 use Rattle.worm_term.specs.declared.fault.OfferFault.{OfferFault}
 use Rattle.worm_term.specs.Lanes.{lane_of}
-use Rattle.worm_term.specs.Source.{SourceState, IsOpen, classes, lane_at, queue_at, refusal}
+use Rattle.worm_term.specs.Source.{SourceState, IsOpen, classes, lane_at, queue_at}
 use Rattle.worm_theory.specs.Network.{Network}
 use Rattle.worm_theory.specs.Shape.{OwnsOne}
 use Rattle.worm_theory.specs.Steps.{Accepts, Enabled, IsThere, has_mark, lane_injected, next_number, packets_in}

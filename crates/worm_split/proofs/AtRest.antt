@@ -1,8 +1,7 @@
 -- Where a node of a part is at rest, what it does once its source and its links were asked changes nothing.
-use Rattle.std.proofs.Common.{◌≡◌, ℕ, zero, suc, ◌+◌, ◌*◌, ◌<◌, ◌≤◌, List, length, replicate, get_or, Option, Some, None}
+use Rattle.std.proofs.Common.{◌≡◌, ℕ, ◌+◌, ◌*◌, ◌<◌, ◌≤◌, List, length, replicate, Option, None}
 use Rattle.std.proofs.Common.{inr, refl, arith, ap, sym, subst, ◌∙◌}
 use Rattle.std.specs.Prelude.{slice_index_or}
-use Rattle.std.specs.List.{range_with_len}
 use Rattle.std.specs.Option.{option_to_list}
 use Rattle.worm_mesh.specs.Address.{node_count}
 use Rattle.worm_router.specs.Router.{RouterState, terminal}
@@ -18,7 +17,7 @@ use Rattle.worm_core.specs.Workable.{IsWorkable}
 use Rattle.worm_core.proofs.GrantStep.{with_router_same}
 use Rattle.worm_core.proofs.Turning.{owed_lowest}
 use Rattle.worm_split.specs.PartState.{PartState}
-use Rattle.worm_split.specs.PartTurns.{EachOf, Gives, GivesCredit, GivesCredits, NodePasses, Sends, SendsGrant}
+use Rattle.worm_split.specs.PartTurns.{EachOf, Gives, GivesCredit, NodePasses, SendsGrant}
 use Rattle.worm_split.specs.PartTurns.{SendsGranted}
 use Rattle.worm_split.proofs.PartLoops.{of_rest}
 

@@ -1,7 +1,7 @@
 -- What comes by a part's end: a credit of a link that leaves its nodes, a flit of one that enters them.
-use Rattle.std.proofs.Common.{◌≡◌, ℕ, ◌<◌, true, false, List, [], ◌∷◌, ◌++◌, length, sum, get_or, Option, Some, None}
+use Rattle.std.proofs.Common.{◌≡◌, ℕ, ◌<◌, false, List, [], ◌∷◌, ◌++◌, length, sum, get_or, Option, Some}
 use Rattle.std.proofs.Common.{refl, arith, sym, ap, subst, ◌∙◌}
-use Rattle.std.specs.Prelude.{IsSome, is_some, slice_get, slice_set}
+use Rattle.std.specs.Prelude.{IsSome, slice_set}
 use Rattle.std.proofs.lemmas.List.{get_or_default}
 use Rattle.worm_flit.specs.declared.Flit.{Flit}
 use Rattle.worm_flit.specs.Stamps.{on_channel}
@@ -20,12 +20,11 @@ use Rattle.worm_split.specs.declared.ends.End.{End}
 use Rattle.worm_split.specs.declared.ends.End.TheVariants.{Inner, Leaving, Entering}
 use Rattle.worm_split.specs.Ends.{CreditPopped, FlitPopped, end_at}
 use Rattle.worm_split.specs.PartState.{PartState, IsPart, IsSamePart, end_of}
-use Rattle.worm_split.specs.PartTurns.{CreditComes, FlitComes, PullsCredit, PullsFlit, with_end}
-use Rattle.worm_split.proofs.EndFacts.{IsLeavingEnd, IsEnteringEnd}
+use Rattle.worm_split.specs.PartTurns.{CreditComes, FlitComes, with_end}
 use Rattle.worm_split.proofs.PartFacts.{is_leaving, is_entering}
 use Rattle.worm_split.proofs.PartMoves.{credit_comes, flit_comes}
 use Rattle.worm_split.proofs.Pulls.{credit_popped, flit_popped, linked, back, beyond_in, entered_is, out_is, into_is}
-use Rattle.worm_split.proofs.Pulls.{out_bound, into_bound, out_end_bound, into_end_bound, out_end, into_end}
+use Rattle.worm_split.proofs.Pulls.{out_end_bound, into_end_bound, out_end, into_end}
 use Rattle.worm_split.proofs.Pulls.{out_credits, into_flits, out_from_beyond, into_from_beyond}
 
 -- another list of one link leaves the configuration

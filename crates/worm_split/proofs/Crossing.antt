@@ -1,15 +1,15 @@
 -- What a link asks of a flit is what the theory asks of one that leaves by it, in both directions.
-use Rattle.std.proofs.Common.{◌≡◌, ℕ, ◌<◌, true, Option, Some, refl, ap, sym, ◌∙◌, subst}
-use Rattle.std.specs.Prelude.{slice_get, sum, length}
+use Rattle.std.proofs.Common.{◌≡◌, ℕ, ◌<◌, true, Option, Some, ap, sym, ◌∙◌, subst}
+use Rattle.std.specs.Prelude.{sum, length}
 use Rattle.worm_flit.specs.declared.Flit.{Flit}
 use Rattle.worm_flit.specs.Channels.{owner_of}
 use Rattle.worm_flit.proofs.Owners.{owner-class}
-use Rattle.worm_mesh.specs.Address.{node_count, neighbour_of}
+use Rattle.worm_mesh.specs.Address.{neighbour_of}
 use Rattle.worm_mesh.proofs.Digits.{AreLarge-from_radices}
 use Rattle.worm_route.specs.Crossing.{crosses}
 use Rattle.worm_links.specs.declared.LinkCfg.{LinkCfg}
 use Rattle.worm_links.specs.Links.{MayCross}
-use Rattle.worm_theory.specs.Shape.{HasLane, Owns}
+use Rattle.worm_theory.specs.Shape.{HasLane}
 use Rattle.worm_theory.specs.Sound.{Leaves}
 use Rattle.worm_shape.specs.Standing.{LeavesBy}
 use Rattle.worm_shape.proofs.Leaving.{crosses_leaves}

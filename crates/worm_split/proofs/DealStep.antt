@@ -1,13 +1,12 @@
 -- One worker more is dealt its part.
-use Rattle.std.proofs.Common.{◌≡◌, ℕ, ◌+◌, ◌*◌, ◌<◌, ◌≤◌, Bool, true, false, cond, List, [], ◌∷◌, ◌++◌, length}
-use Rattle.std.proofs.Common.{length-append, sum, Ok, Err, Option, Some, None, refl, arith, sym, ap, subst, ◌∙◌}
+use Rattle.std.proofs.Common.{◌≡◌, ℕ, ◌+◌, ◌*◌, ◌<◌, ◌≤◌, true, List, [], ◌∷◌, ◌++◌, length}
+use Rattle.std.proofs.Common.{length-append, sum, Ok, Err, refl, arith, sym, ap, subst, ◌∙◌}
 use Rattle.std.specs.Prelude.{All, OnErr, Result, is_ok, slice_index_or}
 use Rattle.std.proofs.lemmas.List.{get_or_append_left, get_or_at}
 use Rattle.std.proofs.Math.ListN.{length-replicate}
 use Rattle.worm_mesh.specs.Links.{link_count}
 use Rattle.worm_wires.specs.Links.{LinkView, empty_link}
-use Rattle.worm_core.specs.Owned.{owned_by}
-use Rattle.worm_core.specs.State.{NetState, IsNet, network_of, shape}
+use Rattle.worm_core.specs.State.{NetState, IsNet}
 use Rattle.worm_core.specs.Workable.{IsWorkable}
 use Rattle.worm_core.specs.declared.node.Node.{Node}
 use Rattle.worm_core.specs.declared.own.Own.{Own}

@@ -1,27 +1,24 @@
 -- A network taken apart is dealt to its workers in rising number: what it has yet of those that come.
 use Rattle.std.proofs.Common.{◌≡◌, ℕ, ◌+◌, ◌*◌, ◌<◌, ◌≤◌, ◌%◌, ◌==◌, Bool, true, false, cond, inl, inr, List, []}
-use Rattle.std.proofs.Common.{length, sum, replicate, refl, arith, sym, ap, subst, ◌∙◌, eq-eqb}
+use Rattle.std.proofs.Common.{length, sum, replicate, refl, arith, sym, ap, ◌∙◌}
 use Rattle.std.specs.Prelude.{slice_index_or}
-use Rattle.std.proofs.lemmas.Bool.{cases_eq, cases_lt}
+use Rattle.std.proofs.lemmas.Bool.{cases_lt}
 use Rattle.std.proofs.lemmas.List.{get_or-replicate, get_or_past}
 use Rattle.std.proofs.Math.ListN.{length-replicate}
-use Rattle.worm_flit.specs.declared.Flit.{Flit}
 use Rattle.worm_mesh.specs.Links.{link_count}
-use Rattle.worm_mesh.specs.declared.mesh.LinkEnds.{LinkEnds}
 use Rattle.worm_core.specs.NewNet.{AreFresh}
 use Rattle.worm_wires.specs.Links.{LinkView, blank_link, empty_link}
 use Rattle.worm_core.specs.Owned.{owned_by}
-use Rattle.worm_core.specs.State.{NetState, fresh_node, link_at, node_at}
+use Rattle.worm_core.specs.State.{NetState, fresh_node, link_at}
 use Rattle.worm_core.specs.declared.node.Node.{Node}
 use Rattle.worm_core.specs.declared.own.Own.{Own}
 use Rattle.worm_split.specs.declared.ends.End.{End}
 use Rattle.worm_split.specs.declared.ends.End.TheVariants.{Inner}
 use Rattle.worm_split.specs.declared.ends.Line.{Line}
 use Rattle.worm_split.specs.declared.exchange.Kept.{Kept}
-use Rattle.worm_split.specs.Apart.{HaveRoom, IsApart}
+use Rattle.worm_split.specs.Apart.{IsApart}
 use Rattle.worm_split.specs.Ends.{end_at, end_made, line_at}
 use Rattle.worm_split.specs.Exchange.{EndsSwapped, LinksSwapped, NodesSwapped, far_of, near_of, way_at}
-use Rattle.worm_split.specs.Joins.{IsBetween}
 use Rattle.worm_split.specs.Splits.{AreLinesMade, IsOpened}
 use Rattle.worm_split.proofs.Gathered.{not_same}
 use Rattle.worm_split.proofs.Gathering.{either_way}

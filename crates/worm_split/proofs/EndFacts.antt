@@ -1,12 +1,11 @@
 -- What a part knows of its end of a link.
-use Rattle.std.proofs.Common.{◌≡◌, ℕ, ◌==◌, ◌%◌, Bool, true, false, cond, List, Some, refl, sym, ap, subst, ◌∙◌}
+use Rattle.std.proofs.Common.{◌≡◌, ℕ, Bool, true, false, cond, List, refl, sym, subst, ◌∙◌}
 use Rattle.worm_flit.specs.declared.Flit.{Flit}
-use Rattle.worm_mesh.specs.Address.{has_neighbour, neighbour_of}
 use Rattle.worm_links.specs.declared.LinkCfg.{LinkCfg}
 use Rattle.worm_links.specs.Links.{TxView, RxView, CreditTxView, CreditRxView}
 use Rattle.worm_split.specs.declared.ends.End.{End}
 use Rattle.worm_split.specs.declared.ends.End.TheVariants.{Inner, Leaving, Entering}
-use Rattle.worm_split.specs.Ends.{IsLinkOf, IsSameEnd, end_made, AreEndsMade}
+use Rattle.worm_split.specs.Ends.{IsLinkOf, IsSameEnd, AreEndsMade}
 
 -- the sender's end of a link
 pub record IsLeavingEnd (mesh channels : List ℕ) (y o : ℕ) (past : List Flit) (near far : Bool) (tx : TxView)

@@ -16,14 +16,13 @@ use Rattle.worm_theory.specs.Shape.{Shape, IsMesh}
 use Rattle.worm_theory.specs.Steps.{empty}
 use Rattle.worm_theory.proofs.Keeps.{empty_sound}
 use Rattle.worm_theory.proofs.Places.{bool_cases}
-use Rattle.worm_wires.specs.Links.{LinkView, blank_link, empty_link}
+use Rattle.worm_wires.specs.Links.{empty_link}
 use Rattle.worm_core.specs.Owned.{owned_by}
 use Rattle.worm_core.specs.Shape.{net_shape}
 use Rattle.worm_core.specs.State.{NetState, IsFramed, IsNet, IsNodeOf, fresh_node, link_at}
 use Rattle.worm_core.specs.State.{network_of, node_at, shape, sink_at}
 use Rattle.worm_core.specs.Workable.{IsBound, IsKept, IsSent, IsWorkable, Works, owned}
 use Rattle.worm_core.specs.declared.node.Node.{Node}
-use Rattle.worm_core.specs.declared.own.Own.{Own}
 use Rattle.worm_core.proofs.Kept.{framed_mesh}
 use Rattle.worm_core.proofs.LinkBridge.{credits_there, out_there}
 use Rattle.worm_core.proofs.NetWays.{workable}
@@ -35,7 +34,6 @@ use Rattle.worm_parts.specs.Region.{Begins, HasPart}
 use Rattle.worm_parts.proofs.RegionQueues.{first_part}
 use Rattle.worm_split.specs.declared.ends.End.{End}
 use Rattle.worm_split.specs.declared.ends.End.TheVariants.{Inner}
-use Rattle.worm_split.specs.declared.ends.Line.{Line}
 use Rattle.worm_split.specs.Apart.{AreWays}
 use Rattle.worm_split.specs.Ends.{AreEndsMade, IsSameEnd, end_at, end_made, given_on, line_at, returned_on, sent_on}
 use Rattle.worm_split.specs.Ends.{taken_on}

@@ -1,21 +1,18 @@
 -- What the parts of one split know together: the configuration, which worker owns a node, and the links by number.
 use Rattle.std.proofs.Common.{◌≡◌, ℕ, ◌<◌, ◌≤◌, ◌%◌, ◌==◌, Bool, true, false, cond, inl, inr, List, [], length, Some}
 use Rattle.std.proofs.Common.{refl, arith, sym, ap, subst, ◌∙◌, eq-eqb}
-use Rattle.std.specs.Prelude.{slice_index_or}
 use Rattle.std.proofs.lemmas.List.{get_or_past}
 use Rattle.std.proofs.lemmas.Bool.{cases_lt}
 use Rattle.worm_flit.specs.declared.Flit.{Flit}
 use Rattle.worm_mesh.specs.Address.{has_neighbour, neighbour_of, Joins}
-use Rattle.worm_mesh.specs.Links.{links_before, link_count}
+use Rattle.worm_mesh.specs.Links.{links_before}
 use Rattle.worm_mesh.specs.declared.mesh.LinkEnds.{LinkEnds}
 use Rattle.worm_mesh.proofs.Digits.{AreLarge, AreLarge-from_radices}
-use Rattle.worm_mesh.proofs.Neighbours.{Joins-from, Joins-unique, has_neighbour-from_Joins}
+use Rattle.worm_mesh.proofs.Neighbours.{Joins-from, Joins-unique}
 use Rattle.worm_mesh.proofs.Numbers.{one_link, below_count}
-use Rattle.worm_theory.specs.Shape.{Shape, IsMesh}
-use Rattle.worm_theory.specs.Network.{Network}
+use Rattle.worm_theory.specs.Shape.{IsMesh}
 use Rattle.worm_theory.proofs.Places.{number_cases}
-use Rattle.worm_core.specs.Shape.{net_shape}
-use Rattle.worm_core.specs.State.{NetState, IsFramed, IsNet, network_of, shape}
+use Rattle.worm_core.specs.State.{NetState, IsNet, network_of, shape}
 use Rattle.worm_core.specs.Owned.{owned_by}
 use Rattle.worm_core.specs.declared.own.Own.{Own}
 use Rattle.worm_core.proofs.Kept.{framed_mesh}
@@ -23,12 +20,10 @@ use Rattle.worm_parts.specs.Join.{Holds}
 use Rattle.worm_parts.specs.Region.{HasPart, Begins}
 use Rattle.worm_parts.specs.Openings.{past_of}
 use Rattle.worm_parts.proofs.RegionQueues.{first_part}
-use Rattle.worm_split.specs.declared.ends.End.{End}
 use Rattle.worm_split.specs.declared.ends.End.TheVariants.{Inner}
 use Rattle.worm_split.specs.declared.ends.Line.{Line}
-use Rattle.worm_split.specs.declared.exchange.Kept.{Kept}
 use Rattle.worm_split.specs.Apart.{AreWays}
-use Rattle.worm_split.specs.Ends.{AreEndsMade, IsSameEnd, end_at, end_made, line_at, returned_on, taken_on}
+use Rattle.worm_split.specs.Ends.{AreEndsMade, IsSameEnd, end_made, line_at, returned_on, taken_on}
 use Rattle.worm_split.specs.Exchange.{way_at}
 use Rattle.worm_split.specs.Joins.{AreParts, owner_of}
 use Rattle.worm_split.specs.PartState.{PartState, IsPart, end_of, part_network, returned_to, taken_by}

@@ -1,20 +1,17 @@
 -- A part put back: what is gathered is one worker's more.
-use Rattle.std.proofs.Common.{◌≡◌, ℕ, ◌+◌, ◌*◌, ◌<◌, ◌≤◌, ◌%◌, ◌==◌, Bool, true, false, cond, inl, inr, List, length}
+use Rattle.std.proofs.Common.{◌≡◌, ℕ, ◌+◌, ◌*◌, ◌<◌, ◌≤◌, ◌%◌, Bool, true, false, cond, inl, inr, List, length}
 use Rattle.std.proofs.Common.{sum, refl, arith, sym, ap, subst, ◌∙◌, eq-eqb}
 use Rattle.std.specs.Prelude.{slice_index_or}
 use Rattle.std.proofs.lemmas.Bool.{cases_eq}
-use Rattle.worm_mesh.specs.declared.mesh.LinkEnds.{LinkEnds}
-use Rattle.worm_flit.specs.declared.Flit.{Flit}
 use Rattle.worm_core.specs.Owned.{owned_by}
 use Rattle.worm_core.specs.State.{NetState, IsFramed, link_at}
-use Rattle.worm_wires.specs.Links.{LinkView}
 use Rattle.worm_core.specs.declared.node.Node.{Node}
 use Rattle.worm_core.specs.declared.own.Own.{Own}
 use Rattle.worm_split.specs.declared.ends.End.{End}
 use Rattle.worm_split.specs.declared.exchange.Kept.{Kept}
 use Rattle.worm_split.specs.Apart.{HaveRoom}
 use Rattle.worm_split.specs.Ends.{end_at, line_at}
-use Rattle.worm_split.specs.Exchange.{EndsPutBack, LinksPutBack, NodesPutBack, far_of, near_of, way_at}
+use Rattle.worm_split.specs.Exchange.{EndsPutBack, LinksPutBack, NodesPutBack, way_at}
 use Rattle.worm_split.specs.Joins.{AreParts, IsBetween, IsGathered, owner_of}
 use Rattle.worm_split.specs.PartState.{PartState, IsPart}
 use Rattle.worm_split.specs.Splits.{part_at}

@@ -1,49 +1,45 @@
 -- What goes by a part's end: a flit over a link that leaves its nodes, a credit over one that enters them.
-use Rattle.std.proofs.Common.{◌≡◌, ℕ, ◌+◌, ◌*◌, ◌<◌, ◌≤◌, ◌==◌, ◌&&◌, ◌||◌, if◌then◌else◌, Bool, true, false, inl, inr}
+use Rattle.std.proofs.Common.{◌≡◌, ℕ, ◌<◌, ◌≤◌, ◌==◌, ◌&&◌, ◌||◌, true, false, inl, inr}
 use Rattle.std.proofs.Common.{List, [], ◌∷◌, ◌++◌, length, sum, get_or, Option, Some, None, refl, arith, sym, ap, subst}
 use Rattle.std.proofs.Common.{◌∙◌}
-use Rattle.std.specs.Prelude.{IsSome, IfSome, slice_set, nat_lt}
+use Rattle.std.specs.Prelude.{slice_set, nat_lt}
 use Rattle.std.proofs.lemmas.List.{get_or_default, set-get_or}
 use Rattle.worm_flit.specs.declared.Flit.{Flit}
 use Rattle.worm_flit.specs.Stamps.{on_channel, with_channel}
 use Rattle.worm_flit.specs.Worms.{Continues}
 use Rattle.worm_mesh.specs.Address.{neighbour_of, node_count, opposite_of}
 use Rattle.worm_mesh.specs.Links.{links_before}
-use Rattle.worm_mesh.proofs.Neighbours.{opposite_twice}
 use Rattle.worm_records.specs.declared.InRecord.{InRecord}
 use Rattle.worm_records.specs.declared.InRecord.TheVariants.{Idle, Waiting, Active}
 use Rattle.worm_links.specs.declared.LinkCfg.{LinkCfg}
 use Rattle.worm_links.specs.Links.{TxView, RxView, CreditTxView, CreditRxView, MayCross, link_capacity}
-use Rattle.worm_router.specs.Router.{RouterState, ChannelState, input_at, output_at, terminal, leaving, leaving_by}
+use Rattle.worm_router.specs.Router.{RouterState, input_at, output_at, terminal, leaving, leaving_by}
 use Rattle.worm_router.specs.Router.{after_send, after_gave}
 use Rattle.worm_theory.specs.Shape.{Shape}
-use Rattle.worm_theory.specs.Network.{Network}
-use Rattle.worm_theory.specs.Steps.{IsLinked, Send, GiveCredit, IsThere, IsPort, Enabled, FrontIs, after}
-use Rattle.worm_theory.specs.Sound.{Leaves}
+use Rattle.worm_theory.specs.Steps.{IsLinked, Send, GiveCredit, IsThere, Enabled, FrontIs, after}
 use Rattle.worm_theory.proofs.Places.{bool_cases}
 use Rattle.worm_core.specs.Shape.{net_shape}
 use Rattle.worm_core.specs.State.{NetState, IsFramed, IsSameConfig, IsNetPlace, shape, network_of, router_at}
 use Rattle.worm_core.specs.State.{with_router}
 use Rattle.worm_core.specs.Edges.{LetsOut, LetsGive}
 use Rattle.worm_wires.specs.Wiring.{port_links}
-use Rattle.worm_core.specs.Workable.{owned, EndsWithin, EndsElsewhere}
+use Rattle.worm_core.specs.Workable.{owned, EndsElsewhere}
 use Rattle.worm_wires.specs.declared.wiring.PortLinks.{PortLinks}
 use Rattle.worm_core.proofs.Kept.{net_place}
-use Rattle.worm_core.proofs.There.{buffer_there, record_there, owed_there}
+use Rattle.worm_core.proofs.There.{buffer_there, record_there}
 use Rattle.worm_parts.specs.Openings.{past_of}
 use Rattle.worm_parts.proofs.Regions.{push_part}
 use Rattle.worm_split.specs.declared.ends.End.{End}
 use Rattle.worm_split.specs.declared.ends.End.TheVariants.{Inner, Leaving, Entering}
-use Rattle.worm_split.specs.Ends.{FlitPushed, CreditPushed, MayGo, MayGive, leaves_by, end_at, sent_on}
+use Rattle.worm_split.specs.Ends.{FlitPushed, CreditPushed, MayGo, MayGive, end_at, sent_on}
 use Rattle.worm_split.specs.PartState.{PartState, IsPart, IsSamePart, end_of, owns, part_network, taken_by, returned_to}
-use Rattle.worm_split.specs.PartTurns.{SendsAcross, GivesAcross, LeavesBy, ComesBy, StaysWithin, with_end}
+use Rattle.worm_split.specs.PartTurns.{SendsAcross, GivesAcross, ComesBy, with_end}
 use Rattle.worm_split.proofs.Crossing.{leaves_cross}
 use Rattle.worm_split.proofs.EndFacts.{IsLeavingEnd, IsEnteringEnd}
-use Rattle.worm_split.proofs.PartFacts.{mesh_of_part, part_shape, is_leaving, is_entering, is_inner}
+use Rattle.worm_split.proofs.PartFacts.{mesh_of_part, part_shape, is_leaving, is_entering}
 use Rattle.worm_split.proofs.PartMoves.{flit_goes, credit_goes}
 use Rattle.worm_split.proofs.Coming.{linked_then, back_then}
 use Rattle.worm_split.proofs.Pulls.{linked, out_is, into_is, out_end_bound, into_end_bound, out_end, into_end}
-use Rattle.worm_split.proofs.Pulls.{entered_is}
 
 -- A flit that is ready: the front of a channel that is active.
 pub record IsReadyAt (s : NetState) (x p v o : ℕ) (flit : Flit) : Type 0 where

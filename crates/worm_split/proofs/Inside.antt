@@ -1,36 +1,31 @@
 -- What a part's network does by itself, at one of the part's nodes, keeps it a part.
-use Rattle.std.proofs.Common.{◌≡◌, ℕ, ◌<◌, Bool, true, false, cond, inl, inr, List, length, Option, Some, None, refl}
+use Rattle.std.proofs.Common.{◌≡◌, ℕ, ◌<◌, true, false, cond, inl, inr, List, Some, None, refl}
 use Rattle.std.proofs.Common.{arith, sym, ap, subst, ◌∙◌}
-use Rattle.std.specs.Prelude.{Result}
-use Rattle.worm_flit.specs.declared.Flit.{Flit}
-use Rattle.worm_mesh.specs.Address.{has_neighbour, neighbour_of, node_count}
+use Rattle.worm_mesh.specs.Address.{has_neighbour, node_count}
 use Rattle.worm_mesh.specs.Links.{links_before, link_count}
 use Rattle.worm_mesh.proofs.Digits.{AreLarge-from_radices}
 use Rattle.worm_mesh.proofs.Neighbours.{IsLink-from_test, neighbour_of-some}
-use Rattle.worm_links.specs.Links.{TxView, RxView, CreditTxView, CreditRxView}
 use Rattle.worm_router.specs.Allocation.{after_allocate}
 use Rattle.worm_theory.specs.Network.{Network}
-use Rattle.worm_theory.specs.Steps.{Step, Grant}
+use Rattle.worm_theory.specs.Steps.{Grant}
 use Rattle.worm_theory.proofs.Places.{bool_cases}
 use Rattle.worm_core.specs.Shape.{net_shape}
 use Rattle.worm_core.specs.State.{NetState, IsSameConfig, shape, network_of, router_at, with_router}
 use Rattle.worm_core.specs.Moves.{chosen_router}
 use Rattle.worm_core.specs.Prepared.{Prepares, allocated_at}
-use Rattle.worm_core.specs.Replies.{Attempts, Replies}
-use Rattle.worm_core.specs.Turns.{Passage, Allocates, ◌and_then◌, AsksSourceBy, ComesInBy, TakesCreditsBy, TakesFlitsBy}
+use Rattle.worm_core.specs.Replies.{Attempts}
+use Rattle.worm_core.specs.Turns.{Passage, AsksSourceBy, ComesInBy, TakesCreditsBy, TakesFlitsBy}
 use Rattle.worm_core.specs.Turns.{FeedsClassesBy, RoutesChannelsBy}
-use Rattle.worm_core.specs.Workable.{owned, IsWorkable}
+use Rattle.worm_core.specs.Workable.{IsWorkable}
 use Rattle.worm_core.specs.Owned.{owned_by}
 use Rattle.worm_core.specs.declared.own.Own.{Own}
 use Rattle.worm_core.specs.declared.script.Entry.{Entry}
-use Rattle.worm_core.specs.declared.step.Moved.{Moved}
-use Rattle.worm_core.specs.declared.fault.StepFault.{StepFault}
 use Rattle.worm_core.proofs.Allocating.{IsKeptByGrants, allocated_keeps, chosen_apart}
 use Rattle.worm_parts.specs.Region.{HasPart}
 use Rattle.worm_split.specs.declared.ends.End.{End}
 use Rattle.worm_split.specs.declared.ends.End.TheVariants.{Inner, Leaving, Entering}
 use Rattle.worm_split.specs.Ends.{IsSameEnd, end_made, end_at, line_at, seen_by, taken_on, returned_on}
-use Rattle.worm_split.specs.PartState.{PartState, IsPart, end_of, owns, part_network, taken_by, returned_to}
+use Rattle.worm_split.specs.PartState.{PartState, IsPart, end_of, owns, taken_by, returned_to}
 use Rattle.worm_split.proofs.Keeping.{IsOf, Keeps, keeps_answer, keeps_asking, keeps_credits, keeps_flits}
 use Rattle.worm_split.proofs.Keeping.{keeps_feeding, keeps_routing, keeps_then}
 use Rattle.worm_split.proofs.PartFacts.{mesh_of_part, part_shape, is_leaving, is_entering}

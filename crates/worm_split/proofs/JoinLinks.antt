@@ -1,21 +1,18 @@
 -- The links of the parts joined: what each has, and what its queues still held.
-use Rattle.std.proofs.Common.{◌≡◌, ℕ, ◌+◌, ◌*◌, ◌<◌, ◌≤◌, ◌%◌, ◌==◌, Bool, true, false, cond, inl, inr, List, []}
-use Rattle.std.proofs.Common.{◌++◌, length, sum, Option, Some, None, refl, arith, sym, ap, subst, ◌∙◌, append-nil}
+use Rattle.std.proofs.Common.{◌≡◌, ℕ, ◌+◌, ◌<◌, ◌≤◌, ◌%◌, true, inl, inr, List, []}
+use Rattle.std.proofs.Common.{◌++◌, length, Some, refl, arith, sym, ap, subst, ◌∙◌, append-nil}
 use Rattle.std.specs.Prelude.{slice_index_or}
 use Rattle.worm_flit.specs.declared.Flit.{Flit}
 use Rattle.worm_mesh.specs.Address.{has_neighbour, neighbour_of}
 use Rattle.worm_mesh.specs.Links.{links_before}
 use Rattle.worm_mesh.proofs.Neighbours.{Joins-from, has_neighbour-from_Joins}
-use Rattle.worm_theory.specs.Network.{Network}
 use Rattle.worm_theory.proofs.Places.{number_cases}
-use Rattle.worm_links.specs.Links.{TxView, RxView, CreditTxView, CreditRxView}
 use Rattle.worm_core.specs.Shape.{net_shape}
-use Rattle.worm_core.specs.State.{NetState, IsFramed, link_at, network_of, shape}
+use Rattle.worm_core.specs.State.{IsFramed, link_at, network_of, shape}
 use Rattle.worm_wires.specs.Links.{LinkView, blank_link}
 use Rattle.worm_core.proofs.LinkBridge.{credits_there, out_there}
-use Rattle.worm_parts.specs.Whole.{AreQueues}
 use Rattle.worm_split.specs.declared.ends.End.{End}
-use Rattle.worm_split.specs.declared.ends.End.TheVariants.{Inner, Leaving, Entering}
+use Rattle.worm_split.specs.declared.ends.End.TheVariants.{Inner, Leaving}
 use Rattle.worm_split.specs.declared.exchange.Kept.{Kept}
 use Rattle.worm_split.specs.Ends.{end_at, given_on, line_at, returned_on, sent_on, taken_on}
 use Rattle.worm_split.specs.Exchange.{way_at}
@@ -23,9 +20,7 @@ use Rattle.worm_split.specs.Joins.{AreEmptied, AreOfOne, AreParts, IsBetween, Is
 use Rattle.worm_split.specs.Joins.{owner_of}
 use Rattle.worm_split.specs.PartState.{PartState, IsPart, end_of, part_network, returned_to, taken_by}
 use Rattle.worm_split.specs.Splits.{part_at}
-use Rattle.worm_split.proofs.Gathered.{IsWay, ends_of_link, end_within, large, opening, owner_below, part_mesh, way_is}
-use Rattle.worm_split.proofs.Gathered.{workers}
-use Rattle.worm_split.proofs.Meeting.{Meet}
+use Rattle.worm_split.proofs.Gathered.{IsWay, ends_of_link, end_within, large, owner_below, part_mesh, way_is}
 
 module _ (parts : List PartState) (are : AreParts parts) (kept : Kept) (gathered : IsGathered parts 0 kept) where
   pub hold : (w : ℕ) → w < length parts → IsPart (part_at parts w)

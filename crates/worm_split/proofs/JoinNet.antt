@@ -1,43 +1,36 @@
 -- The parts joined make a network, of which all holds that held of the one that was split.
-use Rattle.std.proofs.Common.{◌≡◌, ℕ, ◌+◌, ◌*◌, ◌<◌, ◌≤◌, ◌%◌, ◌==◌, Bool, true, false, cond, inl, inr, List, []}
+use Rattle.std.proofs.Common.{◌≡◌, ℕ, ◌*◌, ◌<◌, ◌≤◌, ◌%◌, ◌==◌, false, inl, inr, List, []}
 use Rattle.std.proofs.Common.{◌++◌, length, length-append, sum, Option, Some, None, refl, arith, sym, ap, subst, ◌∙◌}
 use Rattle.std.specs.Prelude.{slice_index_or, All}
 use Rattle.std.specs.List.{count_by}
 use Rattle.std.proofs.lemmas.List.Elements.{All-weaker}
 use Rattle.worm_flit.specs.declared.Flit.{Flit}
 use Rattle.worm_flit.specs.Stamps.{on_channel}
-use Rattle.worm_mesh.specs.Address.{has_neighbour, neighbour_of, node_count}
-use Rattle.worm_mesh.specs.Links.{links_before, link_count}
+use Rattle.worm_mesh.specs.Address.{has_neighbour, neighbour_of}
+use Rattle.worm_mesh.specs.Links.{links_before}
 use Rattle.worm_theory.specs.Shape.{Shape}
 use Rattle.worm_theory.specs.Network.{Network}
 use Rattle.worm_theory.specs.Sound.{Leaves}
-use Rattle.worm_theory.proofs.Bridge.{same_network}
-use Rattle.worm_theory.proofs.Places.{bool_cases, number_cases}
-use Rattle.worm_core.specs.Owned.{sole}
+use Rattle.worm_theory.proofs.Places.{bool_cases}
 use Rattle.worm_core.specs.Shape.{net_shape}
-use Rattle.worm_core.specs.State.{NetState, IsFramed, IsNet, IsNodeOf, fresh_node, input_of}
+use Rattle.worm_core.specs.State.{NetState}
 use Rattle.worm_wires.specs.Links.{LinkView, blank_link}
-use Rattle.worm_core.specs.State.{link_at, link_of, net_state, network_of, node_at, output_of, queue_of, router_at}
-use Rattle.worm_core.specs.State.{shape, sink_at, texts_of}
-use Rattle.worm_term.specs.Source.{queue_at}
-use Rattle.worm_core.specs.declared.node.Node.{Node}
+use Rattle.worm_core.specs.State.{network_of}
+use Rattle.worm_core.specs.State.{shape}
 use Rattle.worm_core.proofs.GiveStep.{credits_counted}
-use Rattle.worm_core.proofs.LinkBridge.{credits_there, out_there}
 use Rattle.worm_core.proofs.Room.{bounded, counted}
 use Rattle.worm_parts.specs.Join.{Holds}
 use Rattle.worm_parts.specs.Whole.{AreQueues, link_of as link_joined, line_of as line_joined, whole}
-use Rattle.worm_parts.proofs.Regions.{parts_hold, parts_sinks, parts_sources}
+use Rattle.worm_parts.proofs.Regions.{parts_hold}
 use Rattle.worm_split.specs.declared.ends.End.{End}
 use Rattle.worm_split.specs.declared.ends.End.TheVariants.{Inner}
 use Rattle.worm_split.specs.declared.exchange.Kept.{Kept}
-use Rattle.worm_split.specs.Ends.{end_at, sent_on}
-use Rattle.worm_split.specs.Exchange.{way_at}
 use Rattle.worm_split.specs.Joins.{AreEmptied, AreParts, IsEmptied, IsGathered, owner_of}
 use Rattle.worm_split.specs.PartState.{PartState, end_of, part_network, returned_to, taken_by}
 use Rattle.worm_split.specs.Splits.{part_at}
 use Rattle.worm_split.specs.declared.ends.End.TheVariants.{Leaving, Entering}
-use Rattle.worm_split.proofs.Gathered.{first, has_part, mesh, owner_below, part_channels, part_depth, part_mesh, was}
-use Rattle.worm_split.proofs.JoinLinks.{IsRest, far_sees, framed, hold, near_sees, rest, way}
+use Rattle.worm_split.proofs.Gathered.{has_part, mesh, was}
+use Rattle.worm_split.proofs.JoinLinks.{IsRest, far_sees, hold, near_sees, rest, way}
 
 some_is : (a b : ℕ) → ◌≡◌ {A = Option ℕ} (Some a) (Some b) → a ≡ b
 some_is a b e = cc

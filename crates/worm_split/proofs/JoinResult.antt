@@ -1,9 +1,8 @@
 -- What a join gives: a network, its places as their owners had them, later than the one that was split.
-use Rattle.std.proofs.Common.{◌≡◌, ℕ, ◌<◌, ◌%◌, inl, inr, List, [], ◌++◌, length, Some, refl, arith, sym, ap, subst}
+use Rattle.std.proofs.Common.{◌≡◌, ℕ, ◌%◌, inl, inr, List, length, Some, refl, sym, ap, subst}
 use Rattle.std.proofs.Common.{◌∙◌}
 use Rattle.std.proofs.lemmas.Bool.{cases_lt}
 use Rattle.std.proofs.lemmas.List.{get_or_past}
-use Rattle.worm_flit.specs.declared.Flit.{Flit}
 use Rattle.worm_mesh.specs.declared.mesh.LinkEnds.{LinkEnds}
 use Rattle.worm_theory.specs.Growth.{SinksGrow, SourcesGrow}
 use Rattle.worm_theory.specs.Shape.{Shape}
@@ -12,8 +11,7 @@ use Rattle.worm_theory.specs.Sound.{Sound, OthersIdle, OnesClosed}
 use Rattle.worm_theory.specs.Cut.{LanesCut}
 use Rattle.worm_theory.specs.PacketCut.{PacketsHold}
 use Rattle.worm_theory.proofs.Marks.{nothing_more_grown}
-use Rattle.worm_core.specs.Headline.{NothingFollowsMarks}
-use Rattle.worm_core.specs.State.{NetState, IsNet, network_of, node_at, shape}
+use Rattle.worm_core.specs.State.{NetState, IsNet, network_of, shape}
 use Rattle.worm_wires.specs.Links.{LinkView}
 use Rattle.worm_core.specs.declared.own.Own.{Own}
 use Rattle.worm_parts.proofs.Regions.{parts_sinks, parts_sources}
@@ -22,7 +20,7 @@ use Rattle.worm_split.specs.Ends.{line_at}
 use Rattle.worm_split.specs.Exchange.{way_at}
 use Rattle.worm_split.specs.Joins.{AreEmptied, AreOfOne, AreParts, IsBetween, IsGathered, IsJoinOf, IsLaterThan}
 use Rattle.worm_split.specs.Joins.{IsLinkJoined, owner_of}
-use Rattle.worm_split.specs.PartState.{PartState, part_network}
+use Rattle.worm_split.specs.PartState.{PartState}
 use Rattle.worm_split.specs.Splits.{part_at}
 use Rattle.worm_split.proofs.Items.{linked_of}
 use Rattle.worm_split.proofs.JoinLinks.{hold, of_one}

@@ -1,25 +1,18 @@
 -- The lists of the parts joined, as one network's.
-use Rattle.std.proofs.Common.{◌≡◌, ℕ, ◌*◌, ◌<◌, ◌≤◌, ◌%◌, ◌==◌, true, false, cond, inl, inr, List, [], length, sum}
+use Rattle.std.proofs.Common.{◌≡◌, ℕ, ◌*◌, ◌<◌, ◌%◌, ◌==◌, true, false, cond, inl, inr, List, [], length, sum}
 use Rattle.std.proofs.Common.{Option, Some, None, refl, arith, sym, ap, subst, ◌∙◌}
 use Rattle.std.specs.Prelude.{slice_index_or}
-use Rattle.worm_flit.specs.declared.Flit.{Flit}
-use Rattle.worm_mesh.specs.Address.{has_neighbour, IsMesh as IsRadices, neighbour_of, node_count}
+use Rattle.worm_mesh.specs.Address.{has_neighbour, IsMesh as IsRadices, node_count}
 use Rattle.worm_mesh.specs.Links.{links_before, link_count}
 use Rattle.worm_flit.specs.Channels.{AreChannels}
-use Rattle.worm_theory.specs.Growth.{SinksGrow, SourcesGrow}
-use Rattle.worm_theory.specs.Shape.{Shape}
-use Rattle.worm_theory.specs.Network.{Network}
-use Rattle.worm_theory.specs.Sound.{Sound, OthersIdle, OnesClosed}
-use Rattle.worm_theory.specs.Cut.{LanesCut}
-use Rattle.worm_theory.specs.PacketCut.{PacketsHold}
 use Rattle.worm_theory.proofs.Bridge.{same_network}
-use Rattle.worm_theory.proofs.Places.{bool_cases, number_cases}
+use Rattle.worm_theory.proofs.Places.{number_cases}
 use Rattle.worm_term.specs.Source.{queue_at}
 use Rattle.worm_core.specs.Owned.{sole}
 use Rattle.worm_core.specs.Shape.{net_shape}
-use Rattle.worm_core.specs.State.{NetState, IsFramed, IsNet, IsNodeOf, fresh_node, input_of}
+use Rattle.worm_core.specs.State.{NetState, IsFramed, IsNodeOf, fresh_node, input_of}
 use Rattle.worm_wires.specs.Links.{LinkView, blank_link}
-use Rattle.worm_core.specs.State.{link_at, link_of, net_state, network_of, node_at, output_of, shape, sink_at}
+use Rattle.worm_core.specs.State.{link_at, net_state, network_of, node_at, output_of, shape, sink_at}
 use Rattle.worm_core.specs.State.{texts_of}
 use Rattle.worm_core.specs.declared.node.Node.{Node}
 use Rattle.worm_core.proofs.LinkBridge.{credits_there, out_there}
@@ -29,7 +22,7 @@ use Rattle.worm_split.specs.declared.exchange.Kept.{Kept}
 use Rattle.worm_split.specs.Ends.{sent_on}
 use Rattle.worm_split.specs.Exchange.{way_at}
 use Rattle.worm_split.specs.Joins.{AreEmptied, AreParts, IsGathered, owner_of}
-use Rattle.worm_split.specs.PartState.{PartState, IsPart, end_of, part_network}
+use Rattle.worm_split.specs.PartState.{PartState, IsPart, end_of}
 use Rattle.worm_split.specs.Splits.{part_at}
 use Rattle.worm_split.proofs.Gathered.{first, owner_below, part_channels, part_depth, part_mesh}
 use Rattle.worm_split.proofs.JoinLinks.{framed, has, hold}

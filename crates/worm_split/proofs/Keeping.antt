@@ -1,5 +1,5 @@
 -- What the network of a part does by itself, within the part, keeps it a part.
-use Rattle.std.proofs.Common.{◌≡◌, ℕ, ◌+◌, ◌*◌, ◌<◌, Bool, true, false, cond, inl, inr, List, [], ◌∷◌, length, map}
+use Rattle.std.proofs.Common.{◌≡◌, ℕ, Bool, true, inl, inr, List, [], ◌∷◌, length, map}
 use Rattle.std.proofs.Common.{Option, Some, None, Ok, Err, refl, sym, ap, subst, ◌∙◌}
 use Rattle.std.specs.Prelude.{Result}
 use Rattle.std.specs.List.{range_with_len}
@@ -11,7 +11,7 @@ use Rattle.worm_theory.specs.Steps.{after}
 use Rattle.worm_core.specs.Shape.{net_shape}
 use Rattle.worm_core.specs.State.{NetState, IsSameConfig, shape, network_of}
 use Rattle.worm_core.specs.Replies.{Attempts, Replies}
-use Rattle.worm_core.specs.Turns.{Passage, Each, ForEach, ◌and_then◌, ComesInBy, AsksSourceBy, TakesCreditsBy}
+use Rattle.worm_core.specs.Turns.{Passage, Each, ◌and_then◌, AsksSourceBy, TakesCreditsBy}
 use Rattle.worm_core.specs.Turns.{TakesFlitsBy, FeedsClassesBy, RoutesPortBy, RoutesChannelsBy, ask, all_ports}
 use Rattle.worm_core.specs.Turns.{mesh_ports}
 use Rattle.worm_core.specs.Script.{begun_at}

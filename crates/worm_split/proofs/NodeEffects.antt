@@ -1,5 +1,5 @@
 -- What the turn of a node does to its source and its sink, and that it leaves every other node as it is.
-use Rattle.std.proofs.Common.{◌≡◌, ℕ, ◌*◌, ◌<◌, ◌==◌, ◌⊎◌, inl, inr, List, [], ◌∷◌, ◌++◌, length, Option, Some, None}
+use Rattle.std.proofs.Common.{◌≡◌, ℕ, ◌<◌, ◌==◌, inl, inr, List, ◌∷◌, ◌++◌, length, Option, Some, None}
 use Rattle.std.proofs.Common.{refl, sym, ap, subst, ◌∙◌}
 use Rattle.std.specs.Option.{option_to_list}
 use Rattle.std.proofs.lemmas.List.Elements.{All-filter}
@@ -11,20 +11,20 @@ use Rattle.worm_core.specs.Replies.{Attempts}
 use Rattle.worm_core.specs.Script.{begun_at, lane_of}
 use Rattle.worm_core.specs.State.{NetState, router_at, sink_at, source_at}
 use Rattle.worm_wires.specs.Links.{LinkView}
-use Rattle.worm_core.specs.Turns.{Allocates, AsksSourceBy, ComesInBy, Passage, lowest_owed, mesh_ports}
+use Rattle.worm_core.specs.Turns.{Allocates, ComesInBy, Passage, lowest_owed, mesh_ports}
 use Rattle.worm_core.specs.declared.fault.StepFault.{StepFault}
 use Rattle.worm_core.specs.declared.fault.StepFault.TheVariants.{Refused}
 use Rattle.worm_core.specs.declared.script.Entry.{Entry}
-use Rattle.worm_split.specs.Effects.{HasAccepted, HasWords, HaveTheSame, HaveWords, OneMore, Refuses, SourceTakes}
+use Rattle.worm_split.specs.Effects.{HasAccepted, HasWords, HaveWords, OneMore, Refuses, SourceTakes}
 use Rattle.worm_split.specs.Effects.{after_entries}
 use Rattle.worm_split.specs.PartState.{PartState}
-use Rattle.worm_split.specs.PartTurns.{◌then◌, EachOf, Gives, GivesCredit, GivesCredits, NodeTurn, PartPassage}
+use Rattle.worm_split.specs.PartTurns.{◌then◌, Gives, GivesCredit, GivesCredits, NodeTurn, PartPassage}
 use Rattle.worm_split.specs.PartTurns.{PullsCredit, PullsCredits, PullsFlit, PullsFlits, SendsGranted, Within}
 use Rattle.worm_split.proofs.Accepted.{same_source, same_then}
 use Rattle.worm_split.proofs.Alone.{IsQuiet, Passed, Quiet, Touches, allocates_quietly, comes_in_quietly, gives_quietly}
 use Rattle.worm_split.proofs.Alone.{no_more, none_refuses, passed_quietly, quiet_on, quiet_then, router_quiet}
 use Rattle.worm_split.proofs.Alone.{still_quiet, then_quiet, touched_on}
-use Rattle.worm_split.proofs.Asked.{Asked, IsSeated, RefusesFirst, asked}
+use Rattle.worm_split.proofs.Asked.{Asked, IsSeated, asked}
 use Rattle.worm_split.proofs.SinkSends.{sends_passed}
 use Rattle.worm_split.proofs.Told.{Tells, TellsOf, each_tells_of}
 

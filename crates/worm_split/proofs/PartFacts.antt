@@ -1,21 +1,19 @@
 -- What a part knows of its ends and of the links that they are of, and how it stays a part as one end changes.
-use Rattle.std.proofs.Common.{◌≡◌, ℕ, ◌<◌, ◌%◌, ◌==◌, Bool, true, false, cond, inl, inr, List, length, Option, Some}
-use Rattle.std.proofs.Common.{None, refl, arith, sym, ap, subst, ◌∙◌, eqb-true, ◌≢◌}
+use Rattle.std.proofs.Common.{◌≡◌, ℕ, ◌<◌, ◌%◌, ◌==◌, true, false, inl, inr, length, Some}
+use Rattle.std.proofs.Common.{refl, arith, sym, ap, subst, ◌∙◌, ◌≢◌}
 use Rattle.std.proofs.Math.ListN.{length-set}
 use Rattle.std.proofs.lemmas.List.{get_or-set_other, get_or-set_same}
-use Rattle.worm_flit.specs.declared.Flit.{Flit}
 use Rattle.worm_mesh.specs.Address.{has_neighbour, neighbour_of}
 use Rattle.worm_mesh.specs.Links.{links_before, link_count}
 use Rattle.worm_mesh.proofs.Digits.{AreLarge-from_radices}
 use Rattle.worm_mesh.proofs.Neighbours.{IsLink-from_test, has_neighbour-from_Joins, Joins-from}
 use Rattle.worm_mesh.proofs.Numbers.{one_link, below_count}
-use Rattle.worm_theory.specs.Shape.{Shape, IsMesh}
-use Rattle.worm_theory.specs.Network.{Network, same, put2}
+use Rattle.worm_theory.specs.Shape.{IsMesh}
+use Rattle.worm_theory.specs.Network.{same, put2}
 use Rattle.worm_theory.proofs.Places.{bool_cases, place_cases, same-false}
 use Rattle.worm_links.specs.Links.{TxView, RxView, CreditTxView, CreditRxView}
 use Rattle.worm_core.specs.Shape.{net_shape}
-use Rattle.worm_core.specs.State.{NetState, IsNet, IsSameConfig, shape, network_of}
-use Rattle.worm_core.specs.Workable.{owned}
+use Rattle.worm_core.specs.State.{NetState, IsSameConfig, shape, network_of}
 use Rattle.worm_core.specs.Owned.{owned_by}
 use Rattle.worm_core.specs.declared.own.Own.{Own}
 use Rattle.worm_core.proofs.Kept.{framed_mesh}
@@ -23,9 +21,8 @@ use Rattle.worm_parts.specs.Region.{HasPart}
 use Rattle.worm_parts.specs.Openings.{past_of}
 use Rattle.worm_split.specs.declared.ends.End.{End}
 use Rattle.worm_split.specs.declared.ends.End.TheVariants.{Inner, Leaving, Entering}
-use Rattle.worm_split.specs.declared.ends.Line.{Line}
-use Rattle.worm_split.specs.Ends.{IsSameEnd, AreEndsMade, end_made, end_at, line_at, seen_by, taken_on, returned_on}
-use Rattle.worm_split.specs.PartState.{PartState, IsPart, end_of, owns, part_network, taken_by, returned_to}
+use Rattle.worm_split.specs.Ends.{IsSameEnd, AreEndsMade, end_made, line_at, seen_by, taken_on, returned_on}
+use Rattle.worm_split.specs.PartState.{PartState, IsPart, end_of, owns}
 use Rattle.worm_split.specs.PartTurns.{with_end}
 use Rattle.worm_split.proofs.EndFacts.{IsLeavingEnd, IsEnteringEnd, leaving_end, entering_end, inner_end}
 

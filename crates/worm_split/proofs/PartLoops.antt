@@ -1,14 +1,14 @@
 -- Passages of a part, one after another.
-use Rattle.std.proofs.Common.{◌≡◌, ℕ, ◌+◌, ◌-◌, ◌<◌, ◌≤◌, zero, suc, Bool, true, false, ap, inl, inr, List, [], ◌∷◌}
+use Rattle.std.proofs.Common.{◌≡◌, ℕ, ◌+◌, ◌-◌, ◌<◌, ◌≤◌, zero, suc, Bool, ap, inl, inr, List, [], ◌∷◌}
 use Rattle.std.proofs.Common.{◌++◌, Option, Some, None, refl, arith, sym, subst, ◌∙◌}
-use Rattle.std.specs.Prelude.{IsSome, filter}
+use Rattle.std.specs.Prelude.{filter}
 use Rattle.std.proofs.lemmas.List.Elements.{filter-append}
 use Rattle.std.specs.List.{range_with_len}
 use Rattle.std.proofs.lemmas.Bool.{cases_lt}
 use Rattle.worm_core.specs.declared.fault.StepFault.{StepFault}
 use Rattle.worm_core.proofs.Passages.{range_more, range_split}
 use Rattle.worm_split.specs.PartState.{PartState, IsSamePart}
-use Rattle.worm_split.specs.PartTurns.{PartPassage, Rests, EachOf}
+use Rattle.worm_split.specs.PartTurns.{PartPassage, EachOf}
 
 pub of_append : {A : Type 0} (P : A → PartPassage) (xs ys : List A) (a b c : PartState) (fault : Option StepFault)
     → EachOf P xs a None b → EachOf P ys b fault c → EachOf P (xs ++ ys) a fault c

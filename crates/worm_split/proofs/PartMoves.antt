@@ -1,15 +1,12 @@
 -- What comes and goes over a part's ends keeps it a part.
-use Rattle.std.proofs.Common.{◌≡◌, ℕ, ◌-◌, ◌<◌, true, false, List, [], ◌∷◌, ◌++◌, Option, Some, None, refl, sym, ap}
+use Rattle.std.proofs.Common.{◌≡◌, ℕ, List, [], ◌∷◌, ◌++◌, Some, refl, sym, ap}
 use Rattle.std.proofs.Common.{subst, ◌∙◌}
-use Rattle.std.specs.Prelude.{IsSome}
 use Rattle.worm_flit.specs.declared.Flit.{Flit}
 use Rattle.worm_flit.specs.Stamps.{on_channel, with_channel}
 use Rattle.worm_flit.specs.Worms.{Continues}
-use Rattle.worm_records.specs.declared.InRecord.{InRecord}
-use Rattle.worm_records.specs.declared.InRecord.TheVariants.{Idle, Waiting, Active}
-use Rattle.worm_theory.specs.Network.{Network, put2, put3}
-use Rattle.worm_theory.specs.Steps.{IsThere, Enabled, IsActiveAt, Send, GiveCredit, after, sent, sent_by, gave, gave_to}
-use Rattle.worm_theory.specs.Sound.{Leaves}
+use Rattle.worm_records.specs.declared.InRecord.TheVariants.{Active}
+use Rattle.worm_theory.specs.Network.{Network, put2}
+use Rattle.worm_theory.specs.Steps.{IsThere, Enabled, Send, GiveCredit, after, sent, sent_by, gave, gave_to}
 use Rattle.worm_links.specs.Links.{TxView, RxView, CreditTxView, CreditRxView, MayCross}
 use Rattle.worm_mesh.specs.Address.{neighbour_of}
 use Rattle.worm_core.specs.Shape.{net_shape}
@@ -19,13 +16,12 @@ use Rattle.worm_parts.specs.Openings.{past_of}
 use Rattle.worm_parts.proofs.Regions.{pull_part, step_part}
 use Rattle.worm_parts.proofs.RegionQueues.{pull_credit_region}
 use Rattle.worm_split.specs.declared.ends.End.{End}
-use Rattle.worm_split.specs.declared.ends.End.TheVariants.{Inner, Leaving, Entering}
+use Rattle.worm_split.specs.declared.ends.End.TheVariants.{Leaving, Entering}
 use Rattle.worm_split.specs.Ends.{IsSameEnd, seen_by, taken_on, returned_on}
 use Rattle.worm_split.specs.PartState.{PartState, IsPart, end_of, owns, part_network, taken_by, returned_to}
 use Rattle.worm_split.specs.PartTurns.{with_end}
 use Rattle.worm_split.proofs.Crossing.{cross_leaves}
-use Rattle.worm_split.proofs.EndFacts.{IsLeavingEnd, IsEnteringEnd}
-use Rattle.worm_split.proofs.PartFacts.{mesh_of_part, part_shape, linked_there, is_leaving, is_entering, part_with_end}
+use Rattle.worm_split.proofs.PartFacts.{mesh_of_part, linked_there, is_leaving, is_entering, part_with_end}
 use Rattle.worm_split.proofs.Seen.{credit_back, credit_returned, credit_takes_none, flit_came, flit_taken}
 use Rattle.worm_split.proofs.Seen.{flit_returns_none, flit_sent, sent_takes, credit_given, given_takes}
 

@@ -1,7 +1,6 @@
 -- The parts are taken from the end of their list, one after another, and put back.
-use Rattle.std.proofs.Common.{◌≡◌, ℕ, ◌+◌, ◌<◌, ◌≤◌, ◌%◌, List, [], ◌∷◌, ◌++◌, length, length-append, append_assoc}
+use Rattle.std.proofs.Common.{◌≡◌, ℕ, ◌+◌, ◌<◌, ◌%◌, List, [], ◌∷◌, ◌++◌, length, length-append, append_assoc}
 use Rattle.std.proofs.Common.{append-nil, refl, arith, sym, ap, subst, ◌∙◌}
-use Rattle.std.specs.Prelude.{slice_index_or}
 use Rattle.std.proofs.lemmas.List.{get_or_at}
 use Rattle.worm_mesh.specs.Address.{node_count}
 use Rattle.worm_mesh.specs.Links.{link_count}

@@ -1,31 +1,24 @@
 -- What a part knows where it asks for a flit or a credit, or sends one: the links of a port, and its ends of them.
-use Rattle.std.proofs.Common.{◌≡◌, ℕ, ◌*◌, ◌+◌, ◌<◌, ◌≤◌, true, false, Bool, List, [], ◌∷◌, ◌++◌, length, sum, Option}
-use Rattle.std.proofs.Common.{Some, None, refl, arith, sym, ap, subst, ◌∙◌}
-use Rattle.std.specs.Prelude.{IsSome, is_some, slice_get, slice_set, slice_index_or}
-use Rattle.std.proofs.Math.Nat.{mul-le-mul_left}
+use Rattle.std.proofs.Common.{◌≡◌, ℕ, ◌<◌, [], ◌∷◌, ◌++◌, length, Option}
+use Rattle.std.proofs.Common.{Some, refl, arith, sym, ap, ◌∙◌}
 use Rattle.worm_flit.specs.declared.Flit.{Flit}
 use Rattle.worm_flit.specs.Stamps.{on_channel}
 use Rattle.worm_flit.specs.Worms.{Continues}
-use Rattle.worm_mesh.specs.Address.{has_neighbour, neighbour_of, node_count, opposite_of}
+use Rattle.worm_mesh.specs.Address.{neighbour_of, node_count, opposite_of}
 use Rattle.worm_mesh.specs.Links.{links_before, link_count}
 use Rattle.worm_mesh.proofs.Digits.{AreLarge-from_radices}
 use Rattle.worm_mesh.proofs.Neighbours.{Joins-from, Joins-back, neighbour_of-some, opposite_twice}
-use Rattle.worm_links.specs.declared.LinkCfg.{LinkCfg}
-use Rattle.worm_links.specs.Links.{TxView, RxView, CreditTxView, CreditRxView, MayCross, link_capacity}
-use Rattle.worm_theory.specs.Network.{Network, put2}
-use Rattle.worm_core.specs.Shape.{net_shape}
-use Rattle.worm_core.specs.State.{NetState, IsFramed, shape, network_of, link_at}
+use Rattle.worm_links.specs.Links.{TxView, RxView, CreditTxView, CreditRxView, MayCross}
+use Rattle.worm_core.specs.State.{IsFramed, network_of, link_at}
 use Rattle.worm_wires.specs.Wiring.{port_links}
-use Rattle.worm_core.specs.Workable.{owned}
 use Rattle.worm_core.specs.Moves.{link_into, link_out}
 use Rattle.worm_wires.specs.declared.wiring.PortLinks.{PortLinks}
-use Rattle.worm_core.proofs.Ends.{none_of}
 use Rattle.worm_core.proofs.LinkBridge.{out_there, credits_there}
 use Rattle.worm_wires.proofs.Wired.{parts, ports_within}
 use Rattle.worm_split.specs.declared.ends.End.{End}
 use Rattle.worm_split.specs.declared.ends.End.TheVariants.{Inner, Leaving, Entering}
 use Rattle.worm_split.specs.Ends.{CreditPopped, FlitPopped, end_at}
-use Rattle.worm_split.specs.PartState.{PartState, IsPart, end_of, owns}
+use Rattle.worm_split.specs.PartState.{PartState, IsPart, end_of}
 use Rattle.worm_split.proofs.PartFacts.{linked_there}
 
 -- which end it was that something came by

@@ -1,13 +1,13 @@
 -- What goes over the worker's ends of links, as the theory of a part has it: a change of one end and of the lists is a
 -- change of what was sent, given or came.
-use Rattle.std.proofs.Common.{◌≡◌, ℕ, ◌-◌, ◌==◌, true, false, cond, inl, inr, List, [], ◌∷◌, ◌++◌, refl, ap, sym, ◌∙◌}
+use Rattle.std.proofs.Common.{◌≡◌, ℕ, cond, inl, inr, List, [], ◌∷◌, ◌++◌, refl, ap}
 use Rattle.worm_flit.specs.declared.Flit.{Flit}
 use Rattle.worm_links.specs.Links.{TxView, RxView, CreditTxView, CreditRxView}
-use Rattle.worm_theory.specs.Network.{Network, SamePlaces, same, put2, put3}
+use Rattle.worm_theory.specs.Network.{Network, same, put2}
 use Rattle.worm_theory.proofs.Places.{place_cases}
 use Rattle.worm_theory.proofs.Bridge.{same_network}
 use Rattle.worm_split.specs.declared.ends.End.{End}
-use Rattle.worm_split.specs.declared.ends.End.TheVariants.{Inner, Leaving, Entering}
+use Rattle.worm_split.specs.declared.ends.End.TheVariants.{Leaving, Entering}
 use Rattle.worm_split.specs.Ends.{seen_by, sent_on, given_on, taken_on, returned_on}
 
 -- a change at one place, looked up: the new value there, and elsewhere what was there

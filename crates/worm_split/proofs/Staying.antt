@@ -1,16 +1,15 @@
 -- A flit that leaves for a node of the part's own, or for its sink, goes as in a network.
-use Rattle.std.proofs.Common.{◌≡◌, ℕ, ◌+◌, ◌*◌, ◌<◌, arith, Bool, true, false, inl, inr, List, [], ◌∷◌, Option, Some}
+use Rattle.std.proofs.Common.{◌≡◌, ℕ, ◌<◌, arith, Bool, true, false, Option, Some}
 use Rattle.std.proofs.Common.{None, Ok, Err, refl, sym, ap, subst, ◌∙◌}
 use Rattle.std.specs.Prelude.{IfSome, IsTrue, Result, nat_lt}
 use Rattle.worm_flit.specs.declared.Flit.{Flit}
 use Rattle.worm_links.specs.Links.{TxView, RxView, CreditTxView, CreditRxView}
-use Rattle.worm_mesh.specs.Address.{has_neighbour, neighbour_of, opposite_of}
+use Rattle.worm_mesh.specs.Address.{neighbour_of, opposite_of}
 use Rattle.worm_records.specs.declared.InRecord.{InRecord}
-use Rattle.worm_records.specs.declared.InRecord.TheVariants.{Idle, Waiting, Active}
+use Rattle.worm_records.specs.declared.InRecord.TheVariants.{Idle}
 use Rattle.worm_router.specs.Router.{RouterState, width, input_at, leaving}
 use Rattle.worm_vcalloc.proofs.ArbiterLemmas.{find-range_found}
-use Rattle.worm_theory.specs.Network.{Network}
-use Rattle.worm_theory.specs.Steps.{Send, GiveCredit, IsThere, IsActiveAt}
+use Rattle.worm_theory.specs.Steps.{Send, GiveCredit, IsActiveAt}
 use Rattle.worm_core.specs.Shape.{net_shape}
 use Rattle.worm_core.specs.State.{NetState, IsFramed, IsSameConfig, shape, network_of, router_at}
 use Rattle.worm_core.specs.Moves.{after_ready}
@@ -27,7 +26,7 @@ use Rattle.worm_split.specs.declared.ends.End.TheVariants.{Inner, Leaving, Enter
 use Rattle.worm_split.specs.Ends.{leaves_by, enters_by}
 use Rattle.worm_split.specs.PartState.{PartState, IsPart, end_of, owns, taken_by, returned_to}
 use Rattle.worm_split.specs.PartTurns.{LeavesBy, ComesBy, StaysWithin}
-use Rattle.worm_split.proofs.Going.{IsReadyAt, ready_at}
+use Rattle.worm_split.proofs.Going.{ready_at}
 use Rattle.worm_split.proofs.Inside.{IsInside, inside_now}
 use Rattle.worm_split.proofs.Keeping.{keeps_answer, stays}
 use Rattle.worm_split.proofs.PartFacts.{mesh_of_part, is_leaving, is_entering, is_inner}

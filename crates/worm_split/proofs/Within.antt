@@ -9,10 +9,9 @@ use Rattle.worm_records.specs.declared.InRecord.TheVariants.{Idle, Waiting, Acti
 use Rattle.worm_theory.specs.Shape.{Shape}
 use Rattle.worm_theory.specs.Network.{Network, put2}
 use Rattle.worm_theory.specs.Steps.{Step, Offer, CloseLane, Feed, Route, Grant, Send, Take, GiveCredit, TakeCredit}
-use Rattle.worm_theory.specs.Steps.{Accepts, IsThere, Enabled, IsActiveAt, IsLinked, FrontIs, after, sent, sent_by}
+use Rattle.worm_theory.specs.Steps.{Accepts, Enabled, IsActiveAt, IsLinked, FrontIs, after, sent, sent_by}
 use Rattle.worm_theory.specs.Steps.{taken, taken_from, gave, gave_to, got, fed, routed, granted}
 use Rattle.worm_theory.proofs.Places.{place_cases}
-use Rattle.worm_theory.proofs.Bridge.{same_network}
 use Rattle.worm_split.specs.declared.ends.End.{End}
 use Rattle.worm_split.specs.Ends.{seen_by, sent_on, given_on}
 

@@ -12,7 +12,6 @@ use Rattle.worm_core.specs.Owned.{sole}
 use Rattle.worm_core.specs.State.{NetState, IsFramed, link_at, network_of, node_at, shape}
 use Rattle.worm_wires.specs.Links.{LinkView, blank_link}
 use Rattle.worm_core.specs.declared.node.Node.{Node}
-use Rattle.worm_core.specs.declared.own.Own.{Own}
 use Rattle.worm_split.specs.declared.ends.End.{End}
 use Rattle.worm_split.specs.declared.ends.End.TheVariants.{Inner, Leaving, Entering}
 use Rattle.worm_split.specs.declared.ends.Line.{Line}

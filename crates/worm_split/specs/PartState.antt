@@ -1,11 +1,10 @@
 -- A worker's part of a network: the network of its own nodes and links, its ends of the links that it shares with other
 -- workers, and, for contracts alone, the network that was split.
-use Rattle.std.specs.Prelude.{◌≡◌, ℕ, ◌<◌, ◌==◌, ◌%◌, Bool, true, false, cond, List, Option, length, Some}
+use Rattle.std.specs.Prelude.{◌≡◌, ℕ, ◌<◌, ◌%◌, Bool, cond, List, length, Some}
 use Rattle.worm_flit.specs.declared.Flit.{Flit}
 use Rattle.worm_mesh.specs.Address.{has_neighbour}
 use Rattle.worm_mesh.specs.Links.{links_before, link_count}
 use Rattle.worm_theory.specs.Network.{Network}
-use Rattle.worm_theory.specs.Shape.{Shape}
 use Rattle.worm_core.specs.State.{NetState, IsNet, IsSameConfig, network_of, shape}
 use Rattle.worm_core.specs.Workable.{owned}
 use Rattle.worm_parts.specs.Region.{HasPart}

@@ -1,8 +1,7 @@
 -- The turn of a node in a worker's part: the turn of a node, in which what goes to another worker goes by the worker's
 -- end of the link, and what comes from one comes by it (Dally and Towles, chapters 13 and 16).
-use Rattle.std.specs.Prelude.{ℕ, ◌≡◌, ◌≤◌, ◌*◌, ◌⊎◌, List, [], ◌∷◌, ◌++◌, length, map, filter, slice_set}
-use Rattle.std.specs.Prelude.{Bool, true, false, slice_index_or, Option, Some, None, IsSome, option_map}
-use Rattle.std.specs.List.{flat_map}
+use Rattle.std.specs.Prelude.{ℕ, ◌≡◌, ◌≤◌, ◌⊎◌, List, [], ◌∷◌, ◌++◌, length, filter, slice_set}
+use Rattle.std.specs.Prelude.{Bool, true, false, slice_index_or, Option, Some, None, IsSome}
 use Rattle.std.specs.Option.{option_to_list}
 use Rattle.worm_flit.specs.declared.Flit.{Flit}
 use Rattle.worm_mesh.specs.Address.{neighbour_of, opposite_of}
@@ -10,17 +9,17 @@ use Rattle.worm_mesh.specs.Links.{links_before}
 use Rattle.worm_links.specs.Links.{TxView, RxView, CreditTxView, CreditRxView, link_capacity}
 use Rattle.worm_router.specs.Router.{leaving, after_send, after_gave}
 use Rattle.worm_router.specs.Allocation.{switch_grants}
-use Rattle.worm_theory.specs.Steps.{Step, Send, GiveCredit}
+use Rattle.worm_theory.specs.Steps.{Send, GiveCredit}
 use Rattle.worm_core.specs.State.{NetState, router_at, with_router, network_of}
 use Rattle.worm_core.specs.Edges.{after_arriving, after_credit_back}
 use Rattle.worm_core.specs.Moves.{chosen_router}
 use Rattle.worm_core.specs.Replies.{Attempts}
-use Rattle.worm_core.specs.Turns.{ComesInBy, AsksSourceBy, Passage, ◌and_then◌, Allocates, lowest_owed, mesh_ports}
+use Rattle.worm_core.specs.Turns.{ComesInBy, AsksSourceBy, Passage, Allocates, lowest_owed, mesh_ports}
 use Rattle.worm_core.specs.Turns.{all_ports, all_nodes}
 use Rattle.worm_core.specs.declared.fault.StepFault.{StepFault}
 use Rattle.worm_core.specs.declared.script.Entry.{Entry}
 use Rattle.worm_split.specs.declared.ends.End.{End}
-use Rattle.worm_split.specs.declared.ends.End.TheVariants.{Inner, Leaving, Entering}
+use Rattle.worm_split.specs.declared.ends.End.TheVariants.{Leaving, Entering}
 use Rattle.worm_core.specs.Workable.{owned}
 use Rattle.worm_swalloc.specs.declared.grant.SwGrant.{SwGrant}
 use Rattle.worm_split.specs.PartState.{PartState, end_of}

@@ -12,7 +12,6 @@ use Rattle.worm_core.specs.State.{NetState, net_state, network_of, node_at, shap
 use Rattle.worm_core.specs.declared.own.Own.{Own}
 use Rattle.worm_parts.specs.Openings.{past_of}
 use Rattle.worm_parts.specs.Region.{Begins}
-use Rattle.worm_split.specs.declared.ends.End.{End}
 use Rattle.worm_split.specs.declared.ends.End.TheVariants.{Inner}
 use Rattle.worm_split.specs.declared.ends.Line.{Line}
 use Rattle.worm_split.specs.declared.exchange.Kept.{Kept}

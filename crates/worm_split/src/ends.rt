@@ -1,9 +1,6 @@
 //! A worker's ends of the links that it shares with others.
 
-ghost use Rattle.std.specs.Prelude.{◌≡◌, ◌<◌, ◌++◌, ◌∷◌, [], IfNone, IfSome, if◌then◌else◌, IsTrue};
-ghost use Rattle.worm_flit.specs.Stamps.{on_channel};
-ghost use Rattle.worm_flit.specs.Worms.{Continues};
-ghost use Rattle.worm_links.specs.Links.{MayCross};
+ghost use Rattle.std.specs.Prelude.{◌≡◌, ◌<◌, IfNone, IfSome};
 ghost use Rattle.worm_split.specs.Ends.{leaves_by, enters_by, CreditPopped, FlitPopped, FlitPushed, CreditPushed};
 ghost use Rattle.worm_split.specs.Ends.{MayGo, MayGive};
 

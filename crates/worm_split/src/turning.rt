@@ -1,6 +1,6 @@
 //! What a part does in a turn of one of its nodes.
 
-ghost use Rattle.std.specs.Prelude.{◌≡◌, ◌<◌, ◌≤◌, ◌+◌, ◌*◌, ◌%◌, ◌↔◌, ◌∷◌, [], ℕ, filter, true, None, Some, IfSome, IsTrue};
+ghost use Rattle.std.specs.Prelude.{◌≡◌, ◌<◌, ◌+◌, ◌*◌, ◌%◌, ◌↔◌, ◌∷◌, [], filter, true, None, Some, IfSome, IsTrue};
 ghost use Rattle.std.specs.Prelude.{false, List, Option, length, sum};
 ghost use Rattle.std.specs.Result.{result_err};
 ghost use Rattle.worm_mesh.specs.Address.{node_count, stride_of};

@@ -1,10 +1,10 @@
-ghost use Rattle.std.specs.Prelude.{◌≡◌, ℕ, ◌+◌, ◌^◌, ◌<◌, ◌≤◌, IfSome, None, is_some, replicate, true, slice_index_or};
+ghost use Rattle.std.specs.Prelude.{◌≡◌, ℕ, ◌^◌, ◌<◌, ◌≤◌, IfSome, None, is_some, replicate, true, slice_index_or};
 ghost use Rattle.std.specs.Prelude.{slice_set};
 ghost use Rattle.worm_vcalloc.specs.Arbiter.{no_arbiter, line_requests, winner, after_pick};
 ghost use Rattle.worm_vcalloc.specs.Table.{cell};
 ghost use Rattle.worm_swalloc.specs.Front.{with_front};
-ghost use Rattle.worm_swalloc.specs.SwAlloc.{SwAllocState, IsSwAlloc, IsSwitchMatching, AreChannelsBelow, AreAskers};
-ghost use Rattle.worm_swalloc.specs.SwAlloc.{request_of, named, all_named, sole_named, is_for, channel_of, chosen};
+ghost use Rattle.worm_swalloc.specs.SwAlloc.{SwAllocState, IsSwAlloc, IsSwitchMatching, AreChannelsBelow};
+ghost use Rattle.worm_swalloc.specs.SwAlloc.{named, all_named, sole_named, is_for, channel_of, chosen};
 ghost use Rattle.worm_swalloc.specs.SwAlloc.{granted, sw_grants, sw_after, output_after, after_grant, with_choice};
 ghost use Rattle.worm_swalloc.specs.SwAlloc.{with_move};
 

@@ -1,4 +1,4 @@
-ghost use Rattle.std.specs.Prelude.{◌≡◌, ℕ, ◌<◌, ◌==◌, None, is_some, replicate};
+ghost use Rattle.std.specs.Prelude.{◌≡◌, ℕ, ◌<◌, None, is_some, replicate};
 ghost use Rattle.worm_vcalloc.specs.ChannelSet.{has};
 ghost use Rattle.worm_vcalloc.specs.Table.{cell, with_cell};
 

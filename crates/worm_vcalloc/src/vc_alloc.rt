@@ -1,7 +1,7 @@
-ghost use Rattle.std.specs.Prelude.{◌≡◌, ℕ, ◌+◌, ◌*◌, ◌^◌, ◌<◌, ◌≤◌, ◌/◌, ◌%◌, IfSome, None, Bool, List, Option};
-ghost use Rattle.std.specs.Prelude.{length, replicate};
-ghost use Rattle.worm_vcalloc.specs.Arbiter.{ArbiterState, line_requests};
-ghost use Rattle.worm_vcalloc.specs.VcAlloc.{VcAllocState, VcPass, IsVcAlloc, IsChannelMatching, IsSoleRequest};
+ghost use Rattle.std.specs.Prelude.{◌≡◌, ℕ, ◌+◌, ◌*◌, ◌^◌, ◌<◌, ◌≤◌, ◌/◌, ◌%◌, None, Bool, List, Option};
+ghost use Rattle.std.specs.Prelude.{replicate};
+ghost use Rattle.worm_vcalloc.specs.Arbiter.{line_requests};
+ghost use Rattle.worm_vcalloc.specs.VcAlloc.{VcAllocState, IsVcAlloc, IsChannelMatching, IsSoleRequest};
 ghost use Rattle.worm_vcalloc.specs.VcAlloc.{sole_grant, is_requester, offered, port_pass, vc_pass};
 ghost use Rattle.worm_vcalloc.specs.declared.request.VcRequest.{VcRequest};
 

@@ -1,7 +1,6 @@
 //! The program over readers and a writer.
 
-ghost use Rattle.std.specs.Prelude.{◌≡◌, ◌≤◌, ◌<◌, ◌-◌, length, nat_le, IfOk, IfErr, IfSome, OnOk, MatchResult};
-ghost use Rattle.std.specs.Io.KnownBytes.{Keeps};
+ghost use Rattle.std.specs.Prelude.{◌≡◌, ◌<◌, ◌-◌, length, nat_le, IfOk, IfErr, IfSome, OnOk, MatchResult};
 ghost use Rattle.worm_core.specs.NewNet.{IsFresh};
 ghost use Rattle.worm_core.specs.Script.{AreInOrder};
 ghost use Rattle.worm_core.specs.State.{texts_of};

@@ -1,7 +1,6 @@
 //! A run by several workers, each on a thread of its own, and the drain after it.
 
 ghost use Rattle.std.specs.Prelude.{None, Some, ◌≡◌, ◌<◌, IfOk, IfErr, if◌then◌else◌};
-ghost use Rattle.worm_core.specs.declared.fault.StepFault.TheVariants.{NoMemory as NoRoom};
 ghost use Rattle.worm_run.specs.Runs.{HasWorkers};
 ghost use Rattle.wormrun.specs.Together.{AreStopsOf, DrainsUnstopped, EndsTogether, lack_memory, stop_turn};
 

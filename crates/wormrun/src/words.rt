@@ -2,7 +2,7 @@
 
 ghost use Rattle.clap.specs.Values.{kind_of};
 ghost use Rattle.std.specs.IoError.{error_kind};
-ghost use Rattle.std.specs.Prelude.{◌≡◌, ◌<◌, ◌≤◌, length, IfOk, IfErr, IfSome};
+ghost use Rattle.std.specs.Prelude.{◌≡◌, ◌<◌, length, IfOk, IfErr, IfSome};
 ghost use Rattle.wormrun.specs.Faults.{parser_fault, list_fault, IsNoList, IsNoCommand};
 ghost use Rattle.wormrun.specs.Ranges.{InRange};
 

@@ -1,6 +1,5 @@
 //! A network taken apart and put together again.
 
-
 use super::{config, lane};
 use crate::{Net, Step};
 use std::test::Fail;

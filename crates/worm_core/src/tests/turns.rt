@@ -1,6 +1,5 @@
 //! Turns: who is asked, what moves in which turn, and what a refusal leaves.
 
-
 use super::view::{Standing, buffer, done, feed, grant, offer, route, send, standings, take};
 use super::{config, lane, words};
 use crate::{

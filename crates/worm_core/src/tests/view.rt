@@ -1,6 +1,5 @@
 //! Lanes as they are seen while flits move step by step.
 
-
 use super::{config, lane};
 use crate::{Held, LaneView, Moved, Net, OfferFault, Place, Step, StepFault};
 use std::alloc::Global;

@@ -1,17 +1,15 @@
 //! One pass of the channel allocator, over what the records state.
 
-ghost use Rattle.std.specs.Prelude.{◌≡◌, ◌+◌, ◌≤◌, ◌<◌, ℕ, None, Some, IfSome, MatchOption, IsTrue, false, replicate};
+ghost use Rattle.std.specs.Prelude.{◌≡◌, ◌+◌, ◌≤◌, ◌<◌, None, Some, IfSome, MatchOption, IsTrue, false};
 ghost use Rattle.worm_flit.specs.Channels.{class_bits};
 ghost use Rattle.worm_vcalloc.specs.Table.{IsTable};
 ghost use Rattle.worm_vcalloc.specs.VcAlloc.{IsChannelMatching};
-ghost use Rattle.worm_swalloc.specs.SwAlloc.{IsSwitchMatching};
-ghost use Rattle.worm_router.specs.Router.{IsPlace, IsRouter, terminal, width, input_at, output_at, after_grant};
+ghost use Rattle.worm_router.specs.Router.{IsPlace, IsRouter, terminal, width};
 ghost use Rattle.worm_router.specs.Tables.{PutsRow};
 ghost use Rattle.worm_router.specs.Allocation.{request_at, requests, is_free, free_channels, HasNoChoice};
 ghost use Rattle.worm_router.specs.Allocation.{IsFirstChoice, IsHopeful, IsSoleHope, requests_among, IsAllocated};
-ghost use Rattle.worm_router.specs.Allocation.{ready_at, ready_outs, GrantsNothing, GrantsWithin, written};
+ghost use Rattle.worm_router.specs.Allocation.{GrantsNothing, GrantsWithin, written};
 ghost use Rattle.worm_router.specs.Allocation.{channel_pass, after_allocate, with_port_grants, with_grants};
-ghost use Rattle.worm_router.specs.Allocation.{switch_grants, after_choose};
 ghost use Rattle.worm_router.specs.Allocation.{AreHeld, LeavesRest, IsSameSize};
 
 use crate::router::Router;

@@ -1,10 +1,9 @@
 //! One pass of the switch allocator, over what the records state.
 
-ghost use Rattle.std.specs.Prelude.{◌≡◌, ◌≤◌, ◌<◌, ℕ, IfSome, None, is_some, replicate, slice_index_or, slice_set};
+ghost use Rattle.std.specs.Prelude.{◌≡◌, ◌≤◌, ◌<◌, IfSome, None, replicate, slice_index_or, slice_set};
 ghost use Rattle.worm_vcalloc.specs.ChannelSet.{has, IsFirstPort};
-ghost use Rattle.worm_vcalloc.specs.Table.{cell};
 ghost use Rattle.worm_swalloc.specs.SwAlloc.{IsSwAlloc, IsSwitchMatching, all_named, named};
-ghost use Rattle.worm_router.specs.Router.{IsPlace, terminal, input_at, leaving};
+ghost use Rattle.worm_router.specs.Router.{IsPlace, terminal, input_at};
 ghost use Rattle.worm_router.specs.Busy.{IsReadySet, port_held};
 ghost use Rattle.worm_router.specs.Allocation.{ready_outs, switch_grants, after_choose};
 

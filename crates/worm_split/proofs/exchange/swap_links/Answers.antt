@@ -1,4 +1,4 @@
-use Rattle.std.proofs.Common.{◌≡◌, ◌<◌, length, arith, ◌∙◌}
+use Rattle.std.proofs.Common.{arith}
 use Rattle.worm_split.proofs.Swapping.{links_further}
 use Rattle.worm_split.proofs.exchange.swap_links.Goals as goal
 

@@ -1,4 +1,4 @@
-use Rattle.std.proofs.Common.{◌≡◌, ◌<◌, length, arith, ◌∙◌}
+use Rattle.std.proofs.Common.{arith}
 use Rattle.worm_split.proofs.Swapping.{nodes_further}
 use Rattle.worm_split.proofs.exchange.swap_nodes.Goals as goal
 

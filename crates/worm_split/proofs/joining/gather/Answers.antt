@@ -1,7 +1,7 @@
-use Rattle.std.proofs.Common.{◌≡◌, ◌++◌, ◌∷◌, [], List, length, Option, ap, subst, sym, ◌∙◌}
+use Rattle.std.proofs.Common.{◌≡◌, ◌++◌, ◌∷◌, [], Option, ap, subst, sym, ◌∙◌}
 use Rattle.worm_split.specs.declared.exchange.Kept.{Kept}
 use Rattle.worm_split.specs.Apart.{IsApart, IsKept}
-use Rattle.worm_split.specs.PartState.{PartState, IsPart, part_state}
+use Rattle.worm_split.specs.PartState.{PartState, part_state}
 use Rattle.worm_split.proofs.Popping.{gather_first, gather_step, lengths_step}
 use Rattle.worm_split.proofs.joining.gather.Goals as goal
 

@@ -1,4 +1,3 @@
-use Rattle.std.proofs.Common.{length}
 use Rattle.worm_split.proofs.Popping.{GatherSoFar}
 use Rattle.worm_split.proofs.joining.gather.Given as goal
 

@@ -1,4 +1,4 @@
-use Rattle.std.proofs.Common.{◌≡◌, ℕ, List, length, ap, arith, subst, sym, ◌∙◌}
+use Rattle.std.proofs.Common.{◌≡◌, ℕ, length, ap, arith, subst, sym, ◌∙◌}
 use Rattle.worm_core.specs.Headline.{DeliversInOrder}
 use Rattle.worm_core.specs.Parts.{parts_state}
 use Rattle.worm_core.specs.State.{NetState, IsNet}

@@ -1,6 +1,5 @@
-use Rattle.std.proofs.Common.{subst, sym}
+use Rattle.std.proofs.Common.{subst}
 use Rattle.worm_core.specs.State.{NetState}
-use Rattle.worm_core.specs.Prepared.{Prepares}
 use Rattle.worm_core.specs.Turns.{Chooses}
 use Rattle.worm_core.specs.Workable.{IsWorkable}
 use Rattle.worm_core.proofs.Resting.{none_there}

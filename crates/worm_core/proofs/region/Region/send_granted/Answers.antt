@@ -1,4 +1,4 @@
-use Rattle.std.proofs.Common.{◌+◌, ◌*◌, Some, None, arith, length, refl}
+use Rattle.std.proofs.Common.{Some, None, arith}
 use Rattle.std.proofs.lemmas.Result.{err_from_is_err_and}
 use Rattle.worm_core.proofs.Passages.{does_nothing}
 use Rattle.worm_core.proofs.Sending.{sent_all, sent_more, sent_start, sent_there, sent_until}

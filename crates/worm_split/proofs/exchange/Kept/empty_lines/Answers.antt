@@ -1,4 +1,4 @@
-use Rattle.std.proofs.Common.{◌≡◌, ◌<◌, List, length, refl, arith, ap}
+use Rattle.std.proofs.Common.{◌≡◌, length, refl, arith}
 use Rattle.worm_split.proofs.Lines.{lines_further, one_queue}
 use Rattle.worm_split.proofs.exchange.Kept.empty_lines.Goals as goal
 

@@ -1,4 +1,3 @@
-use Rattle.std.proofs.Common.{◌≡◌}
 use Rattle.worm_split.proofs.Lines.{LinesSoFar}
 use Rattle.worm_split.proofs.exchange.Kept.empty_lines.Given as goal
 

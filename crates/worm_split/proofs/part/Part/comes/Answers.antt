@@ -1,4 +1,4 @@
-use Rattle.std.proofs.Common.{◌≡◌, ◌<◌, Option, Some, length, arith, sym, ap, ◌∙◌}
+use Rattle.std.proofs.Common.{◌<◌, length, arith, sym, ap, ◌∙◌}
 use Rattle.worm_split.specs.Ends.{enters_by}
 use Rattle.worm_split.specs.PartState.{PartState, part_state}
 use Rattle.worm_split.proofs.Going.{into_looked_up}

@@ -1,4 +1,4 @@
-use Rattle.std.proofs.Common.{◌≡◌, ℕ, None, Some, inr, subst}
+use Rattle.std.proofs.Common.{ℕ, None, inr, subst}
 use Rattle.std.specs.Prelude.{Option}
 use Rattle.std.specs.Option.{option_to_list}
 use Rattle.worm_split.specs.PartTurns.{EachOf, Gives}

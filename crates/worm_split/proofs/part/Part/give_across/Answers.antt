@@ -1,4 +1,4 @@
-use Rattle.std.proofs.Common.{◌≡◌, ◌<◌, ◌*◌, length, sum, arith, sym, subst, ◌∙◌}
+use Rattle.std.proofs.Common.{◌<◌, length, sum, arith, sym, subst, ◌∙◌}
 use Rattle.std.specs.Prelude.{slice_set}
 use Rattle.worm_mesh.specs.Address.{node_count}
 use Rattle.worm_core.specs.declared.own.Own.{Own}

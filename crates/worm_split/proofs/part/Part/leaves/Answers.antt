@@ -1,6 +1,4 @@
-use Rattle.std.proofs.Common.{◌≡◌, ◌<◌, Option, Some, length, arith, sym, ap, subst, ◌∙◌}
-use Rattle.worm_wires.specs.Wiring.{port_links}
-use Rattle.worm_wires.specs.declared.wiring.PortLinks.{PortLinks}
+use Rattle.std.proofs.Common.{◌<◌, length, arith, sym, ap, ◌∙◌}
 use Rattle.worm_split.specs.Ends.{leaves_by}
 use Rattle.worm_split.specs.PartState.{PartState, part_state, end_of}
 use Rattle.worm_split.proofs.Going.{out_looked_up}

@@ -1,4 +1,4 @@
-use Rattle.std.proofs.Common.{◌≡◌, ◌<◌, ◌+◌, ◌%◌, ℕ, suc, List, Some, None, [], ◌∷◌, arith, sym, ap, subst, ◌∙◌}
+use Rattle.std.proofs.Common.{◌≡◌, ◌<◌, ◌+◌, ◌%◌, ℕ, suc, Some, None, [], ◌∷◌, arith, sym, ap, subst, ◌∙◌}
 use Rattle.std.proofs.Math.Nat.{suc-mod}
 use Rattle.std.proofs.lemmas.Result.{err_from_is_err_and}
 use Rattle.std.specs.Prelude.{filter}
@@ -6,7 +6,6 @@ use Rattle.worm_mesh.specs.Address.{node_count}
 use Rattle.worm_core.specs.Owned.{owned_by}
 use Rattle.worm_core.specs.Workable.{owned}
 use Rattle.worm_core.specs.declared.own.Own.{Own}
-use Rattle.worm_core.specs.declared.script.Entry.{Entry}
 use Rattle.worm_split.specs.PartTurns.{EachOf, NodeTurn}
 use Rattle.worm_split.proofs.PartLoops.{of_next, of_ending, same_on}
 use Rattle.worm_split.proofs.part.Part.node_turns.Goals as goal

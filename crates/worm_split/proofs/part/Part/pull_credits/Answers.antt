@@ -1,4 +1,4 @@
-use Rattle.std.proofs.Common.{◌≡◌, ◌<◌, ℕ, List, true, sym, subst, ◌∙◌}
+use Rattle.std.proofs.Common.{◌≡◌, ◌<◌, ℕ, List, true, sym, subst}
 use Rattle.worm_mesh.specs.Address.{node_count}
 use Rattle.worm_core.specs.Owned.{owned_by}
 use Rattle.worm_core.specs.declared.own.Own.{Own}

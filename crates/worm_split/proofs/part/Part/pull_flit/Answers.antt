@@ -1,4 +1,4 @@
-use Rattle.std.proofs.Common.{◌≡◌, ◌<◌, Option, Some, None, refl, inr, ◌*◌, sym, ◌∙◌, length, arith, subst}
+use Rattle.std.proofs.Common.{◌≡◌, ◌<◌, Option, Some, refl, inr, sym, ◌∙◌, length, arith, subst}
 use Rattle.std.specs.Prelude.{slice_set}
 use Rattle.worm_wires.specs.Wiring.{port_links}
 use Rattle.worm_wires.specs.declared.wiring.PortLinks.{PortLinks}

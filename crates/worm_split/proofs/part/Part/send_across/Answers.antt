@@ -1,4 +1,4 @@
-use Rattle.std.proofs.Common.{◌≡◌, ◌*◌, true, false, Option, Some, sym, subst, ◌∙◌}
+use Rattle.std.proofs.Common.{◌≡◌, Some, sym, subst, ◌∙◌}
 use Rattle.std.specs.Prelude.{slice_set}
 use Rattle.worm_router.specs.Router.{leaving}
 use Rattle.worm_theory.specs.Steps.{Send, IsThere}
@@ -8,7 +8,6 @@ use Rattle.worm_split.specs.Apart.{IsKept}
 use Rattle.worm_split.specs.PartState.{PartState, IsPart, IsSamePart, part_state}
 use Rattle.worm_split.specs.PartTurns.{LeavesBy, SendsAcross}
 use Rattle.worm_split.proofs.Going.{out_looked_up, ends_elsewhere, may_go, went, stayed}
-use Rattle.worm_split.proofs.Pulls.{out_end_bound}
 use Rattle.worm_split.proofs.part.Part.send_across.Goals as goal
 use Rattle.worm_split.proofs.part.Part.send_across.Given as given
 

@@ -1,4 +1,4 @@
-use Rattle.std.proofs.Common.{◌≡◌, ◌+◌, ◌*◌, true, arith, length, sym, subst}
+use Rattle.std.proofs.Common.{◌≡◌, true, arith, sym, subst}
 use Rattle.std.proofs.lemmas.Result.{err_from_is_err_and}
 use Rattle.worm_core.specs.Owned.{owned_by}
 use Rattle.worm_core.specs.Workable.{IsWorkable}
