@@ -8,10 +8,10 @@ use Rattle.worm_theory.specs.Steps.{Step, StepsLead}
 use Rattle.worm_shape.proofs.PlaceCuts.{packets_are_cut, lanes_are_cut}
 use Rattle.worm_shape.proofs.PastPlaces.{open_is_active}
 use Rattle.worm_shape.proofs.Elsewhere.{nowhere_else}
-use Rattle.worm_core.specs.Shape.{net_shape}
-use Rattle.worm_core.specs.State.{NetState, IsNet, shape, network_of}
+use Rattle.worm_region.specs.Shape.{net_shape}
+use Rattle.worm_region.specs.State.{NetState, IsNet, shape, network_of}
 use Rattle.worm_core.specs.Headline.{DeliversInOrder, NothingFollowsMarks}
-use Rattle.worm_core.proofs.Kept.{framed_mesh}
+use Rattle.worm_region.proofs.Kept.{framed_mesh}
 
 pub delivers : (s : NetState) → IsNet s → DeliversInOrder s
 unfolding net_shape

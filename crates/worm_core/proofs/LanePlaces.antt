@@ -17,7 +17,8 @@ use Rattle.worm_route.proofs.PlaceLemmas.{ArePlaces-of}
 use Rattle.worm_route.proofs.Track.{IsWay-route}
 use Rattle.worm_shape.proofs.Joined.{between, between-all, between-push}
 use Rattle.worm_shape.proofs.PastPlaces.{nearer, between-nearer}
-use Rattle.worm_core.specs.LaneView.{IsNextLink, places_past}
+use Rattle.worm_region.specs.NextLink.{IsNextLink}
+use Rattle.worm_core.specs.LaneView.{places_past}
 
 module _ (ks : List ℕ) (l : AreLarge ks) (dst : ℕ) (dst_in : dst < node_count ks) where
   -- the nodes of the route from x, from the last to the first

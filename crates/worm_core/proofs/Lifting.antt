@@ -15,29 +15,30 @@ use Rattle.worm_theory.proofs.CutKeeps.{steps_keep}
 use Rattle.worm_theory.proofs.PacketKeeps.{steps_packets}
 use Rattle.worm_theory.proofs.Others.{steps_others}
 use Rattle.worm_theory.proofs.Closed.{steps_closed}
-use Rattle.worm_core.specs.Shape.{net_shape}
-use Rattle.worm_core.specs.State.{NetState, IsNet, IsFramed, shape, network_of, router_at, with_node, with_router}
-use Rattle.worm_core.specs.Moves.{chosen_router}
-use Rattle.worm_core.specs.Answers.{Answers}
-use Rattle.worm_core.specs.Replies.{Attempts, Hindered, Replies}
-use Rattle.worm_core.specs.Turns.{ComesIn, Passage, Each, ForEach, ◌and_then◌, Reaches, Tries, Allocates, TakesCredits}
-use Rattle.worm_core.specs.Turns.{TakesFlits, FeedsClasses, RoutesPort, RoutesChannels, SendsGranted, GivesCredit}
-use Rattle.worm_core.specs.Turns.{GivesCredits, NodePasses, NodeTurn, AsksSource, Turn, all_nodes, all_ports}
-use Rattle.worm_core.specs.Turns.{mesh_ports}
-use Rattle.worm_core.specs.Turns.{AsksSourceBy, ComesInBy, FeedsClassesBy, GivesCreditBy, GivesCreditsBy, NodePassesBy}
-use Rattle.worm_core.specs.Turns.{NodeTurnBy, RoutesChannelsBy, RoutesPortBy, SendsGrantedBy, TakesCreditsBy}
-use Rattle.worm_core.specs.Turns.{TakesFlitsBy}
-use Rattle.worm_core.specs.declared.node.Node.{Node}
-use Rattle.worm_core.specs.declared.script.Entry.{Entry}
-use Rattle.worm_core.specs.declared.step.Moved.{Moved}
-use Rattle.worm_core.specs.declared.step.Moved.TheVariants.{Done, Idle}
-use Rattle.worm_core.specs.declared.fault.StepFault.{StepFault}
-use Rattle.worm_core.specs.declared.fault.StepFault.TheVariants.{NoSuchPlace, Refused, NoMemory}
-use Rattle.worm_core.proofs.Allocating.{allocated, chosen}
-use Rattle.worm_core.proofs.Kept.{framed_mesh}
-use Rattle.worm_core.proofs.NetWays.{workable, send_way}
-use Rattle.worm_core.proofs.Reaching.{by_answer}
-use Rattle.worm_core.proofs.StepsAt.{anywhere}
+use Rattle.worm_region.specs.Shape.{net_shape}
+use Rattle.worm_region.specs.State.{NetState, IsNet, IsFramed, shape, network_of, router_at, with_node, with_router}
+use Rattle.worm_region.specs.Moves.{chosen_router}
+use Rattle.worm_region.specs.Answers.{Answers}
+use Rattle.worm_region.specs.Replies.{Attempts, Hindered, Replies}
+use Rattle.worm_region.specs.Turns.{ComesIn, Passage, Each, ForEach, ◌and_then◌, Reaches, Tries, Allocates, TakesCredits}
+use Rattle.worm_region.specs.Turns.{TakesFlits, FeedsClasses, RoutesPort, RoutesChannels, SendsGranted, GivesCredit}
+use Rattle.worm_region.specs.Turns.{GivesCredits, NodePasses, NodeTurn, AsksSource, Turn, all_nodes, all_ports}
+use Rattle.worm_region.specs.Turns.{mesh_ports}
+use Rattle.worm_region.specs.Turns.{AsksSourceBy, ComesInBy, FeedsClassesBy, GivesCreditBy, GivesCreditsBy, NodePassesBy}
+use Rattle.worm_region.specs.Turns.{NodeTurnBy, RoutesChannelsBy, RoutesPortBy, SendsGrantedBy, TakesCreditsBy}
+use Rattle.worm_region.specs.Turns.{TakesFlitsBy}
+use Rattle.worm_region.specs.declared.node.Node.{Node}
+use Rattle.worm_region.specs.declared.script.Entry.{Entry}
+use Rattle.worm_region.specs.declared.step.Moved.{Moved}
+use Rattle.worm_region.specs.declared.step.Moved.TheVariants.{Done, Idle}
+use Rattle.worm_region.specs.declared.fault.StepFault.{StepFault}
+use Rattle.worm_region.specs.declared.fault.StepFault.TheVariants.{NoSuchPlace, Refused, NoMemory}
+use Rattle.worm_region.proofs.Allocating.{allocated, chosen}
+use Rattle.worm_region.proofs.Kept.{framed_mesh}
+use Rattle.worm_region.proofs.NewNet.{workable}
+use Rattle.worm_core.proofs.NetWays.{send_way}
+use Rattle.worm_region.proofs.Reaching.{by_answer}
+use Rattle.worm_region.proofs.StepsAt.{anywhere}
 
 -- any list of steps keeps a network sound
 pub net_reached : (a b : NetState) → IsNet a → Reaches a b → IsFramed b → IsNet b

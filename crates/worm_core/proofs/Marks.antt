@@ -17,15 +17,15 @@ use Rattle.worm_route.specs.Places.{Place as Spot, Source as AtSource, Buffer as
 use Rattle.worm_router.specs.Router.{ChannelState, terminal, width, input_at, fresh_channel}
 use Rattle.worm_term.specs.Source.{classes, queue_at}
 use Rattle.worm_theory.proofs.Places.{bool_cases}
-use Rattle.worm_core.specs.State.{NetState, IsFramed, router_at, node_at, queue_of, link_of, input_of, fresh_node}
+use Rattle.worm_region.specs.State.{NetState, IsFramed, router_at, node_at, queue_of, link_of, input_of, fresh_node}
 use Rattle.worm_core.specs.LaneView.{channels_of, at_place, held_at, buffer_held, link_held}
-use Rattle.worm_core.specs.declared.node.Node.{Node}
+use Rattle.worm_region.specs.declared.node.Node.{Node}
 use Rattle.worm_core.specs.declared.view.Place.{Place}
 use Rattle.worm_core.specs.declared.view.Place.TheVariants.{Source, Buffer, Link}
 use Rattle.worm_core.specs.LaneSet.{LaneMarks, lane_line, is_marked, with_mark, AllMarked, KeepsMarks, IsComplete}
 use Rattle.worm_core.specs.LaneSet.{NodesMarked, LinksMarked}
-use Rattle.worm_core.proofs.Bridge.{below_cases}
-use Rattle.worm_core.proofs.NewNet.{input_fresh}
+use Rattle.worm_region.proofs.Bridge.{below_cases}
+use Rattle.worm_region.proofs.NewNet.{input_fresh}
 use Rattle.worm_core.proofs.ViewLists.{take_more, none_each}
 
 -- where a mark stands fits a machine number

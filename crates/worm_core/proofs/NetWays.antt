@@ -11,18 +11,12 @@ use Rattle.worm_router.specs.Router.{input_at, leaving, leaving_by}
 use Rattle.worm_theory.specs.Steps.{Send, IsPort, IsThere}
 use Rattle.worm_theory.proofs.Places.{bool_cases}
 use Rattle.worm_theory.proofs.Send.{leading, passing, front_follows}
-use Rattle.worm_core.specs.Shape.{net_shape}
-use Rattle.worm_core.specs.State.{NetState, IsNet, IsFramed, IsNetPlace, shape, network_of, router_at}
-use Rattle.worm_core.specs.Workable.{IsWorkable}
-use Rattle.worm_core.specs.Moves.{HasWay}
-use Rattle.worm_core.proofs.Kept.{framed_mesh, net_place}
-use Rattle.worm_core.proofs.SendStep.{may_leave}
-use Rattle.worm_core.proofs.There.{buffer_there, record_there}
-use Rattle.worm_core.proofs.Working.{sound_works}
-
-pub workable : (s : NetState) → IsNet s → IsWorkable s
-workable s net =
-    record { framed = net.framed; works = sound_works (shape s) (framed_mesh s net.framed) (network_of s) net.sound }
+use Rattle.worm_region.specs.Shape.{net_shape}
+use Rattle.worm_region.specs.State.{NetState, IsNet, IsFramed, IsNetPlace, shape, network_of, router_at}
+use Rattle.worm_region.specs.Moves.{HasWay}
+use Rattle.worm_region.proofs.Kept.{framed_mesh, net_place}
+use Rattle.worm_region.proofs.SendStep.{may_leave}
+use Rattle.worm_region.proofs.There.{buffer_there, record_there}
 
 -- what leaves for the sink is at home
 at_home : (s : NetState) (x o d n : ℕ) → IsFramed s → x < node_count s.mesh → d < node_count s.mesh →

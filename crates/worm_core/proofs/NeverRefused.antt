@@ -14,24 +14,24 @@ use Rattle.worm_term.specs.declared.fault.OfferFault.{OfferFault}
 use Rattle.worm_term.specs.declared.source.LaneState.{LaneState}
 use Rattle.worm_term.specs.Source.{SourceState, IsOpen, fresh_lane, with_packet}
 use Rattle.worm_theory.proofs.Places.{bool_cases}
-use Rattle.worm_core.specs.declared.node.Node.{Node}
-use Rattle.worm_core.specs.declared.script.Act.{Act}
-use Rattle.worm_core.specs.declared.script.Act.TheVariants.{Offer, Close}
-use Rattle.worm_core.specs.declared.script.Entry.{Entry}
-use Rattle.worm_core.specs.declared.step.Moved.{Moved}
-use Rattle.worm_core.specs.declared.step.Moved.TheVariants.{Done, Idle}
-use Rattle.worm_core.specs.declared.fault.StepFault.{StepFault}
-use Rattle.worm_core.specs.declared.fault.StepFault.TheVariants.{NoSuchPlace, Refused, NoMemory}
-use Rattle.worm_core.specs.State.{NetState, node_at, source_at, with_source, fresh_node}
-use Rattle.worm_core.specs.Moves.{done_step}
-use Rattle.worm_core.specs.NewNet.{IsFresh}
-use Rattle.worm_core.specs.Answers.{Answers, refusal_of}
-use Rattle.worm_core.specs.Script.{lane_of, due, begun_at}
+use Rattle.worm_region.specs.declared.node.Node.{Node}
+use Rattle.worm_region.specs.declared.script.Act.{Act}
+use Rattle.worm_region.specs.declared.script.Act.TheVariants.{Offer, Close}
+use Rattle.worm_region.specs.declared.script.Entry.{Entry}
+use Rattle.worm_region.specs.declared.step.Moved.{Moved}
+use Rattle.worm_region.specs.declared.step.Moved.TheVariants.{Done, Idle}
+use Rattle.worm_region.specs.declared.fault.StepFault.{StepFault}
+use Rattle.worm_region.specs.declared.fault.StepFault.TheVariants.{NoSuchPlace, Refused, NoMemory}
+use Rattle.worm_region.specs.State.{NetState, node_at, source_at, with_source, fresh_node}
+use Rattle.worm_region.specs.Moves.{done_step}
+use Rattle.worm_region.specs.NewNet.{IsFresh}
+use Rattle.worm_region.specs.Answers.{Answers, refusal_of}
+use Rattle.worm_region.specs.Script.{lane_of, due, begun_at}
 use Rattle.worm_core.specs.Acceptable.{closes, is_closed, IsAcceptable, AreAcceptable, IsAcceptableScript}
 use Rattle.worm_core.specs.Acceptable.{EndsForMemory, IsTakenWhole}
-use Rattle.worm_core.specs.Turns.{Each, Tries, NodeTurn, Turn, ask, fault_of}
-use Rattle.worm_core.proofs.NewNet.{all_one}
-use Rattle.worm_core.proofs.Sources.{refuses_none}
+use Rattle.worm_region.specs.Turns.{Each, Tries, NodeTurn, Turn, ask, fault_of}
+use Rattle.worm_region.proofs.NewNet.{all_one}
+use Rattle.worm_region.proofs.Sources.{refuses_none}
 use Rattle.worm_core.proofs.SourceLedgers.{Ledger, ledger, ledger_at, LedgersStand, no_fault, want_of_memory}
 use Rattle.worm_core.proofs.SourceLedgers.{quiet_after, quiet_drains}
 use Rattle.worm_core.proofs.ScriptParts.{earlier, rises, earlier_more, acceptable_due, few_due}

@@ -8,15 +8,15 @@ use Rattle.worm_term.specs.Source.{front_of}
 use Rattle.worm_theory.specs.Steps.{Step, Offer, CloseLane, Feed, Route, Grant, Send, Take, GiveCredit, TakeCredit}
 use Rattle.worm_swalloc.specs.SwAlloc.{SwAllocState}
 use Rattle.worm_vcalloc.specs.VcAlloc.{VcAllocState}
-use Rattle.worm_core.specs.declared.node.Node.{Node}
-use Rattle.worm_core.specs.declared.step.Moved.{Moved}
-use Rattle.worm_core.specs.declared.step.Moved.TheVariants.{Done, Idle}
-use Rattle.worm_core.specs.declared.fault.StepFault.{StepFault}
-use Rattle.worm_core.specs.declared.fault.StepFault.TheVariants.{NoSuchPlace, Refused, NoMemory}
-use Rattle.worm_core.specs.State.{NetState, node_at, router_at, with_node}
-use Rattle.worm_core.specs.Moves.{done_step, link_into, front_into, front_credit, fed_node, after_take, after_getting}
-use Rattle.worm_core.specs.Moves.{after_ready, after_sending}
-use Rattle.worm_core.specs.Answers.{Answers, ArbitersStand}
+use Rattle.worm_region.specs.declared.node.Node.{Node}
+use Rattle.worm_region.specs.declared.step.Moved.{Moved}
+use Rattle.worm_region.specs.declared.step.Moved.TheVariants.{Done, Idle}
+use Rattle.worm_region.specs.declared.fault.StepFault.{StepFault}
+use Rattle.worm_region.specs.declared.fault.StepFault.TheVariants.{NoSuchPlace, Refused, NoMemory}
+use Rattle.worm_region.specs.State.{NetState, node_at, router_at, with_node}
+use Rattle.worm_region.specs.Moves.{done_step, link_into, front_into, front_credit, fed_node, after_take, after_getting}
+use Rattle.worm_region.specs.Moves.{after_ready, after_sending}
+use Rattle.worm_region.specs.Answers.{Answers, ArbitersStand}
 
 -- what is read of a list after a write that reads the same
 pub read_over : {A B : Type 0} (read : A → B) (xs : List A) (i j : ℕ) (x d e : A)

@@ -4,13 +4,13 @@ use Rattle.worm_flit.specs.declared.Lane.{Lane}
 use Rattle.worm_flit.specs.Stamps.{of_lane, on_channel}
 use Rattle.worm_mesh.specs.Address.{node_count, has_neighbour}
 use Rattle.worm_router.specs.Router.{ChannelState, input_at}
-use Rattle.worm_core.specs.State.{NetState, IsFramed, IsNetPlace, router_at, link_at}
+use Rattle.worm_region.specs.State.{NetState, IsFramed, IsNetPlace, router_at, link_at}
 use Rattle.worm_wires.specs.Links.{LinkView}
-use Rattle.worm_core.specs.Moves.{link_out}
+use Rattle.worm_region.specs.Moves.{link_out}
 use Rattle.worm_core.specs.LaneView.{at_place, buffer_held, link_held}
 use Rattle.worm_core.specs.declared.view.Place.TheVariants.{Buffer, Link}
-use Rattle.worm_core.proofs.Bridge.{input_of-there}
-use Rattle.worm_core.proofs.LinkBridge.{link_there}
+use Rattle.worm_region.proofs.Bridge.{input_of-there}
+use Rattle.worm_region.proofs.LinkBridge.{link_there}
 
 -- a port and a channel of a framed network are those of its routers
 pub framed_place : (s : NetState) (x p v : ℕ) → IsFramed s → x < node_count s.mesh → p ≤ 2 * length s.mesh

@@ -5,14 +5,14 @@ use Rattle.std.specs.Prelude.{Result}
 use Rattle.std.proofs.lemmas.List.{take_more}
 use Rattle.worm_theory.specs.Shape.{Shape}
 use Rattle.worm_theory.specs.Steps.{Step as Event, StepsTo, StepsLead}
-use Rattle.worm_core.specs.Shape.{net_shape}
-use Rattle.worm_core.specs.declared.step.Moved.{Moved}
-use Rattle.worm_core.specs.declared.step.Moved.TheVariants.{Done, Idle}
-use Rattle.worm_core.specs.declared.step.Step.{Step}
-use Rattle.worm_core.specs.declared.fault.StepFault.{StepFault}
-use Rattle.worm_core.specs.State.{NetState, IsSameConfig, shape, network_of}
-use Rattle.worm_core.specs.Answers.{Answers, ArbitersStand}
-use Rattle.worm_core.specs.Runs.{AreAnswered, IsRun, event_of}
+use Rattle.worm_region.specs.Shape.{net_shape}
+use Rattle.worm_region.specs.declared.step.Moved.{Moved}
+use Rattle.worm_region.specs.declared.step.Moved.TheVariants.{Done, Idle}
+use Rattle.worm_region.specs.declared.step.Step.{Step}
+use Rattle.worm_region.specs.declared.fault.StepFault.{StepFault}
+use Rattle.worm_region.specs.State.{NetState, IsSameConfig, shape, network_of}
+use Rattle.worm_region.specs.Answers.{Answers, ArbitersStand}
+use Rattle.worm_region.specs.Runs.{AreAnswered, IsRun, event_of}
 use Rattle.worm_core.proofs.Pointers.{arbiters_stand, same_stands}
 
 -- one step

@@ -12,21 +12,21 @@ use Rattle.worm_term.specs.declared.fault.OfferFault.{OfferFault}
 use Rattle.worm_term.specs.declared.source.LaneState.{LaneState}
 use Rattle.worm_term.specs.Source.{SourceState, front_of}
 use Rattle.worm_theory.specs.Steps.{Step, Offer, CloseLane, Feed, Route, Grant, Send, Take, GiveCredit, TakeCredit}
-use Rattle.worm_core.specs.declared.node.Node.{Node}
-use Rattle.worm_core.specs.declared.step.Moved.{Moved}
-use Rattle.worm_core.specs.declared.step.Moved.TheVariants.{Done, Idle}
-use Rattle.worm_core.specs.declared.fault.StepFault.{StepFault}
-use Rattle.worm_core.specs.declared.fault.StepFault.TheVariants.{NoSuchPlace, Refused, NoMemory}
-use Rattle.worm_core.specs.State.{NetState, node_at, router_at, source_at, with_node, with_router}
-use Rattle.worm_core.specs.Moves.{done_step, link_into, front_into, front_credit, fed_node, after_take, after_getting}
-use Rattle.worm_core.specs.Moves.{after_ready, after_sending, chosen_router}
-use Rattle.worm_core.specs.Answers.{Answers, refusal_of}
-use Rattle.worm_core.specs.Totals.{injected_total, delivered_total}
+use Rattle.worm_region.specs.declared.node.Node.{Node}
+use Rattle.worm_region.specs.declared.step.Moved.{Moved}
+use Rattle.worm_region.specs.declared.step.Moved.TheVariants.{Done, Idle}
+use Rattle.worm_region.specs.declared.fault.StepFault.{StepFault}
+use Rattle.worm_region.specs.declared.fault.StepFault.TheVariants.{NoSuchPlace, Refused, NoMemory}
+use Rattle.worm_region.specs.State.{NetState, node_at, router_at, source_at, with_node, with_router}
+use Rattle.worm_region.specs.Moves.{done_step, link_into, front_into, front_credit, fed_node, after_take, after_getting}
+use Rattle.worm_region.specs.Moves.{after_ready, after_sending, chosen_router}
+use Rattle.worm_region.specs.Answers.{Answers, refusal_of}
+use Rattle.worm_region.specs.Totals.{injected_total, delivered_total}
 use Rattle.worm_core.specs.Acceptable.{EndsForMemory}
-use Rattle.worm_core.specs.Turns.{ComesIn, Passage, Stays, ◌and_then◌, Each, Tries, NodeTurn, AsksSource, TakesCredits}
-use Rattle.worm_core.specs.Turns.{TakesFlits, FeedsClasses, RoutesChannels, RoutesPort, Allocates, SendsGranted}
-use Rattle.worm_core.specs.Turns.{GivesCredit, GivesCredits, Turn, Drains, fault_of, all_nodes, all_ports, all_classes}
-use Rattle.worm_core.specs.Turns.{all_channels, mesh_ports, granted_send, lowest_owed}
+use Rattle.worm_region.specs.Turns.{ComesIn, Passage, Stays, ◌and_then◌, Each, Tries, NodeTurn, AsksSource, TakesCredits}
+use Rattle.worm_region.specs.Turns.{TakesFlits, FeedsClasses, RoutesChannels, RoutesPort, Allocates, SendsGranted}
+use Rattle.worm_region.specs.Turns.{GivesCredit, GivesCredits, Turn, Drains, fault_of, all_nodes, all_ports, all_classes}
+use Rattle.worm_region.specs.Turns.{all_channels, mesh_ports, granted_send, lowest_owed}
 use Rattle.worm_core.proofs.Pointers.{read_over}
 
 pub record Ledger : Type 0 where

@@ -26,8 +26,8 @@ use Rattle.worm_theory.proofs.PacketLists.{packet_one, packet-cons, packet-appen
 use Rattle.worm_theory.proofs.Places.{bool_cases}
 use Rattle.worm_shape.specs.LaneMoves.{lane_held}
 use Rattle.worm_shape.specs.PacketPlaces.{packet_at}
-use Rattle.worm_core.specs.Shape.{net_shape}
-use Rattle.worm_core.specs.State.{NetState, IsNet, shape, network_of, router_at, sink_at, queue_of, input_of, link_of}
+use Rattle.worm_region.specs.Shape.{net_shape}
+use Rattle.worm_region.specs.State.{NetState, IsNet, shape, network_of, router_at, sink_at, queue_of, input_of, link_of}
 use Rattle.worm_core.specs.LaneView.{channels_of, at_place, held_at, underway_view, joined_view, IsLaneCut}
 use Rattle.worm_core.specs.LaneView.{ArePacketsCut}
 use Rattle.worm_core.specs.declared.view.Held.{Held}

@@ -6,7 +6,7 @@ use Rattle.worm_theory.specs.Marks.{EndsDelivered, EndsForGood}
 use Rattle.worm_theory.specs.PacketCut.{PacketsWhole}
 use Rattle.worm_shape.specs.LaneMoves.{LanesAreCut, LanesAreNowhereElse}
 use Rattle.worm_shape.specs.PacketPlaces.{PacketsAreCut, OpenPacketsAreActive}
-use Rattle.worm_core.specs.State.{NetState, shape, network_of}
+use Rattle.worm_region.specs.State.{NetState, shape, network_of}
 
 pub record DeliversInOrder (s : NetState) : Type 0 where
   -- of a lane whose class owns one channel: the flits delivered, followed by those under way from the sink back along

@@ -5,7 +5,7 @@ use Rattle.worm_flit.specs.declared.Lane.{Lane}
 use Rattle.worm_flit.specs.declared.Flit.{Flit}
 use Rattle.worm_mesh.specs.Address.{node_count}
 use Rattle.worm_router.specs.Router.{input_at}
-use Rattle.worm_core.specs.State.{NetState, router_at, queue_of, link_at}
+use Rattle.worm_region.specs.State.{NetState, router_at, queue_of, link_at}
 use Rattle.worm_core.specs.LaneView.{underway_view}
 
 -- the marks of the lanes between so many nodes in so many classes, by source, then destination, then class

@@ -10,7 +10,7 @@ use Rattle.worm_mesh.specs.declared.mesh.LinkEnds.{LinkEnds}
 use Rattle.worm_route.specs.Places.{Place as Spot, Source as AtSource, Buffer as AtBuffer, Link as AtLink, places_of}
 use Rattle.worm_route.specs.Route.{hops_of, port_of}
 use Rattle.worm_theory.specs.PacketCut.{packet_held}
-use Rattle.worm_core.specs.State.{NetState, router_at, sink_at, queue_of, input_of, link_of}
+use Rattle.worm_region.specs.State.{NetState, router_at, sink_at, queue_of, input_of, link_of}
 use Rattle.worm_core.specs.declared.view.Held.{Held}
 use Rattle.worm_core.specs.declared.view.Place.{Place}
 use Rattle.worm_core.specs.declared.view.Place.TheVariants.{Source, Buffer, Link}
@@ -52,14 +52,6 @@ delivered_view s lane = count_by (is_of_lane lane) (sink_at s lane.dst).delivere
 -- the places that a route to dst has past node x: all those of the lanes from x but x's injection buffer and source
 abbrev pub places_past : List ℕ → ℕ → ℕ → List Spot
 places_past mesh x dst = take (2 * hops_of mesh x dst) (places_of mesh x dst)
-
--- the link by which a route to dst leaves node x, which is not dst
-pub record IsNextLink (mesh : List ℕ) (x dst : ℕ) (link : LinkEnds) : Type 0 where
-  pub further : x ≢ dst
-  pub from_here : link.from ≡ x
-  pub by_port : link.out_port ≡ port_of mesh x dst
-  pub joined : Joins mesh x link.out_port link.to
-  pub entered : link.in_port ≡ opposite_of link.out_port
 
 -- the flits in the sink of the lane's destination, followed by these under way
 abbrev pub joined_view : NetState → Lane → List Held → List Flit

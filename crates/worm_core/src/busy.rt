@@ -8,13 +8,13 @@ ghost use Rattle.worm_router.specs.Router.{IsPlace, input_at, terminal, width};
 ghost use Rattle.worm_term.specs.Source.{classes, queue_at};
 ghost use Rattle.worm_core.specs.LaneSet.{AllMarked, IsComplete, KeepsMarks, LinksMarked, NodesMarked, is_marked};
 ghost use Rattle.worm_core.specs.LaneSet.{lane_line, with_mark};
-ghost use Rattle.worm_core.specs.State.{IsFramed};
+ghost use Rattle.worm_region.specs.State.{IsFramed};
 
-use crate::fabric::Fabric;
 use crate::{LinkState, Net, NoMemory};
 use std::alloc::{AllocError, Global};
 use std::marker::Model;
 use worm_flit::{Flit, Lane};
+use worm_region::Fabric;
 use worm_router::Router;
 use worm_term::Source;
 
@@ -165,41 +165,39 @@ impl LaneSet {
     }
 }
 
-impl Fabric {
-    /// Puts in the lanes of what all sources and routers hold.
-    fn mark_nodes(&self, set: &mut LaneSet)
-        requires { IsFramed self.now }
-        ensures kept { KeepsMarks set.old set.new }
-        ensures marked { NodesMarked self.now set.new (node_count self.now.mesh) }
-    {
-        for node in 0..self.nodes() {
-            let here = self.node(node as u8);
-            set.mark_source(&here.source, self.classes());
-            set.mark_router(&here.router, self.terminal(), self.channels());
-        }
+/// Puts in the lanes of what all sources and routers hold.
+fn mark_nodes(fabric: &Fabric, set: &mut LaneSet)
+    requires { IsFramed fabric.now }
+    ensures kept { KeepsMarks set.old set.new }
+    ensures marked { NodesMarked fabric.now set.new (node_count fabric.now.mesh) }
+{
+    for node in 0..fabric.nodes() {
+        let here = fabric.node(node as u8);
+        set.mark_source(&here.source, fabric.classes());
+        set.mark_router(&here.router, fabric.terminal(), fabric.channels());
     }
+}
 
-    /// Puts in the lanes of what all links hold.
-    fn mark_links(&self, set: &mut LaneSet)
-        requires { IsFramed self.now }
-        ensures kept { KeepsMarks set.old set.new }
-        ensures marked { LinksMarked self.now set.new (link_count self.now.mesh) }
-    {
-        for number in 0..self.links() {
-            set.mark_link(self.link(number));
-        }
+/// Puts in the lanes of what all links hold.
+fn mark_links(fabric: &Fabric, set: &mut LaneSet)
+    requires { IsFramed fabric.now }
+    ensures kept { KeepsMarks set.old set.new }
+    ensures marked { LinksMarked fabric.now set.new (link_count fabric.now.mesh) }
+{
+    for number in 0..fabric.links() {
+        set.mark_link(fabric.link(number));
     }
+}
 
-    /// The lanes of all flits that are under way.
-    fn busy(&self, alloc: Global) -> Result<LaneSet, AllocError>
-        requires { IsFramed self.now }
-        ensures { IfOk result (IsComplete self.now) }
-    {
-        let mut set = LaneSet::new(alloc, self.nodes(), self.classes())?;
-        self.mark_nodes(&mut set);
-        self.mark_links(&mut set);
-        Ok(set)
-    }
+/// The lanes of all flits that are under way.
+fn busy_lanes(fabric: &Fabric, alloc: Global) -> Result<LaneSet, AllocError>
+    requires { IsFramed fabric.now }
+    ensures { IfOk result (IsComplete fabric.now) }
+{
+    let mut set = LaneSet::new(alloc, fabric.nodes(), fabric.classes())?;
+    mark_nodes(fabric, &mut set);
+    mark_links(fabric, &mut set);
+    Ok(set)
 }
 
 impl Net {
@@ -209,6 +207,6 @@ impl Net {
     pub fn busy(&self, alloc: Global) -> Result<LaneSet, NoMemory>
         ensures { IfOk result (IsComplete self.now) }
     {
-        Ok(self.fabric().busy(alloc)?)
+        Ok(busy_lanes(self.fabric(), alloc)?)
     }
 }

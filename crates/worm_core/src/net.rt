@@ -1,24 +1,21 @@
 ghost use Rattle.std.specs.Prelude.{None, Some, ◌≡◌, ◌≤◌, ◌<◌, ◌↔◌, Result, IsTrue};
 ghost use Rattle.std.specs.Prelude.{IfOk, Ok, sum, length, take, Err};
-ghost use Rattle.worm_core.specs.Runs.{AreAnswered, IsRun, StopsBehind, event_of};
-ghost use Rattle.worm_core.specs.Answers.{Answers, ArbitersStand};
+ghost use Rattle.worm_region.specs.Runs.{AreAnswered, IsRun, StopsBehind, event_of};
+ghost use Rattle.worm_region.specs.Answers.{Answers, ArbitersStand};
 ghost use Rattle.worm_theory.specs.Steps.{empty};
-ghost use Rattle.worm_core.specs.NewNet.{IsConfig, IsFresh};
+ghost use Rattle.worm_region.specs.NewNet.{IsConfig, IsFresh};
 ghost use Rattle.worm_core.specs.Headline.{DeliversInOrder, NothingFollowsMarks};
-ghost use Rattle.worm_core.specs.State.{IsNet, shape, network_of, queue_of, sink_at, source_at, texts_of};
-ghost use Rattle.worm_core.specs.Turns.{Reaches, Turn};
-ghost use Rattle.worm_core.specs.Script.{due};
+ghost use Rattle.worm_region.specs.State.{IsNet, shape, network_of, queue_of, sink_at, source_at, texts_of};
+ghost use Rattle.worm_region.specs.Turns.{Reaches, Turn};
+ghost use Rattle.worm_region.specs.Script.{due};
 ghost use Rattle.std.specs.Result.{result_err};
 ghost use Rattle.worm_mesh.specs.Address.{node_count};
 
-use crate::config::copy_names;
-use crate::fabric::Fabric;
-use crate::region::Region;
 use crate::{Config, Entry, Moved, NetFault, Script, Step, StepFault};
 use std::alloc::Global;
 use std::marker::Model;
-use worm_flit::{Flit, Lane, are_channels};
-use worm_mesh::Mesh;
+use worm_flit::{Flit, Lane};
+use worm_region::{Fabric, Region};
 use worm_term::{Sink, Source};
 
 /// A sound network.
@@ -28,7 +25,7 @@ pub struct Net {
 }
 
 impl Model for Net {
-    ghost use Rattle.worm_core.specs.State.{NetState, IsNet};
+    ghost use Rattle.worm_region.specs.State.{NetState, IsNet};
 
     ghost Value = { NetState };
 
@@ -57,21 +54,8 @@ impl Net {
             (IsConfig config.now.radices.items config.now.channels.items config.now.depth
             (length config.now.classes.items) → ⊥) }
     {
-        let Ok(mesh) = Mesh::new(config.radices.as_slice()) else {
-            return Err(NetFault::BadConfig);
-        };
-        let channels = config.channels.as_slice();
-        if !are_channels(channels) || config.classes.len() != channels.len() {
-            return Err(NetFault::BadConfig);
-        }
-        if config.depth == 0 || config.depth > 16 {
-            return Err(NetFault::BadConfig);
-        }
-        let names = copy_names(&config.classes);
-        let Ok(fabric) = Fabric::new(alloc, mesh, channels, config.depth, names) else {
-            return Err(NetFault::NoMemory);
-        };
-        Ok(Net::from_fabric(fabric).counted())
+        let region = Region::new(alloc, config)?;
+        Ok(Net::of(region).counted())
     }
 
     /// What holds of every network, for whoever has one.
@@ -91,23 +75,21 @@ impl Net {
         self.region.fabric()
     }
 
-    /// The lists of the network by themselves.
-    pub(crate) fn into_fabric(self) -> Fabric
+    /// The network's region by itself.
+    pub(crate) fn into_region(self) -> Region
         ensures same { result ≡ self }
         ensures sound { IsNet self }
     {
         let Net { region } = self;
-        region.into_fabric()
+        region
     }
 
-    /// The network of these lists.
-    pub(crate) fn from_fabric(fabric: Fabric) -> Net
-        requires { IsNet fabric }
-        ensures { result ≡ fabric }
+    /// The network that has this region.
+    pub(crate) fn of(region: Region) -> Net
+        requires { IsNet region }
+        ensures { result ≡ region }
     {
-        Net {
-            region: Region::new(fabric),
-        }
+        Net { region }
     }
 
     /// The number of nodes.

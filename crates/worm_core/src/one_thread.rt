@@ -1,7 +1,7 @@
 ghost use Rattle.std.specs.Prelude.{ℕ, List};
-ghost use Rattle.worm_core.specs.declared.script.Entry.{Entry};
-ghost use Rattle.worm_core.specs.NewNet.{IsOneNetwork};
-ghost use Rattle.worm_core.specs.Turns.{IsDetermined, RunIsDetermined, Turn};
+ghost use Rattle.worm_region.specs.declared.script.Entry.{Entry};
+ghost use Rattle.worm_region.specs.NewNet.{IsOneNetwork};
+ghost use Rattle.worm_region.specs.Turns.{IsDetermined, RunIsDetermined, Turn};
 
 /// Turns are functions of the network and the script: unless want of memory ends it, a turn leads from one network to
 /// one alone, with one fault or none; so does a run of turns with its drain, which then is stopped at one place, if at

@@ -1,27 +1,11 @@
 //! A network taken apart into its nodes and links, as its workers hold them, and put together again.
 
 ghost use Rattle.std.specs.Prelude.{◌≡◌};
-ghost use Rattle.worm_core.specs.Parts.{IsConfigOf, parts_state};
-ghost use Rattle.worm_core.specs.State.{IsNet};
+ghost use Rattle.worm_region.specs.Parts.{IsConfigOf, parts_state};
+ghost use Rattle.worm_region.specs.State.{IsNet};
 
-use crate::fabric::Fabric;
-use crate::{Config, LinkState, Net, Node, Own};
-
-/// The parts of a network.
-///
-/// ```text
-/// let parts = net.into_parts();
-/// let net = Net::from_parts(parts);
-/// ```
-#[derive(Drop)]
-pub struct NetParts {
-    /// What it was made from.
-    pub config: Config,
-    /// The nodes by number.
-    pub nodes: Vec<Node>,
-    /// The links by number, each with room for as many flits and as many credits as all its channels' buffers hold.
-    pub links: Vec<LinkState>,
-}
+use crate::{Config, Net, NetParts, Own};
+use worm_region::Region;
 
 impl Net {
     /// The configuration that the network was made from.
@@ -32,11 +16,16 @@ impl Net {
     }
 
     /// The network's parts. It takes no memory.
+    ///
+    /// ```text
+    /// let parts = net.into_parts();
+    /// let net = Net::from_parts(parts);
+    /// ```
     pub fn into_parts(self) -> NetParts
         ensures parts { parts_state result ≡ self }
         ensures sound { IsNet (parts_state result) }
     {
-        self.into_fabric().into_parts()
+        self.into_region().into_parts()
     }
 
     /// The network of these parts, which are those of one: each node at its own number, each link with the room for as
@@ -46,6 +35,6 @@ impl Net {
         requires { IsNet (parts_state parts) }
         ensures { result ≡ parts_state parts }
     {
-        Net::from_fabric(Fabric::from_parts(parts, Own::sole())).counted()
+        Net::of(Region::from_parts(parts, Own::sole())).counted()
     }
 }

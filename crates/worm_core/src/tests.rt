@@ -5,7 +5,7 @@ mod turns;
 mod view;
 
 use crate::{
-    Act, Config, Entry, Moved, Name, Net, NetFault, OfferFault, RunSoFar, Script, ScriptFault,
+    Act, Config, Entry, Moved, Name, Net, NetFault, OfferFault, RunSoFar, Script,
     Step, StepFault, Totals,
 };
 use arrayvec::ArrayVec;

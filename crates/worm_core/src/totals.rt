@@ -1,10 +1,10 @@
 ghost use Rattle.std.specs.Prelude.{◌≡◌, ◌==◌, ◌<◌, ◌≤◌, ◌*◌, ◌^◌, length};
 ghost use Rattle.worm_mesh.specs.Address.{node_count};
 ghost use Rattle.worm_theory.specs.Steps.{packets_in};
-ghost use Rattle.worm_core.specs.State.{sink_at};
-ghost use Rattle.worm_core.specs.Totals.{accepted_below, accepted_total, delivered_total, injected_below};
-ghost use Rattle.worm_core.specs.Totals.{injected_total};
-ghost use Rattle.worm_core.specs.UnderWay.{IsUnderWay};
+ghost use Rattle.worm_region.specs.State.{sink_at};
+ghost use Rattle.worm_region.specs.Totals.{accepted_below, accepted_total, delivered_total, injected_below};
+ghost use Rattle.worm_region.specs.Totals.{injected_total};
+ghost use Rattle.worm_region.specs.UnderWay.{IsUnderWay};
 
 use crate::Net;
 use worm_flit::{Flit, is_closing};
@@ -81,9 +81,9 @@ impl Net {
         ensures { result ≡ self }
     {
         let (injected, delivered) = self.flits();
-        let mut fabric = self.into_fabric();
-        fabric.count(difference(injected, delivered));
-        Net::from_fabric(fabric)
+        let mut region = self.into_region();
+        region.count(difference(injected, delivered));
+        Net::of(region)
     }
 
     /// The flits that all sources accepted, and those that all sinks took.

@@ -6,14 +6,14 @@ ghost use Rattle.worm_flit.specs.Stamps.{is_of_lane, of_lane, on_channel};
 ghost use Rattle.worm_mesh.specs.Address.{node_count, has_neighbour};
 ghost use Rattle.worm_router.specs.Router.{IsPlace, input_at};
 ghost use Rattle.worm_term.specs.Source.{classes, queue_at};
-ghost use Rattle.worm_core.specs.State.{IsFramed};
+ghost use Rattle.worm_region.specs.State.{IsFramed};
 ghost use Rattle.worm_core.specs.LaneView.{IsLaneCut, ArePacketsCut, at_place, buffer_held, link_held, channels_of};
 ghost use Rattle.worm_core.specs.LaneView.{places_past, held_at, delivered_view, underway_view};
 
-use crate::fabric::Fabric;
 use crate::{LinkState, Net, NoMemory};
 use std::alloc::{AllocError, Global};
 use worm_flit::{Flit, Lane};
+use worm_region::Fabric;
 use worm_router::Router;
 use worm_term::Source;
 
@@ -119,84 +119,82 @@ fn put_line(
     Ok(())
 }
 
-impl Fabric {
-    /// Adds what the buffers of an input port hold of the lane.
-    fn put_buffers(
-        &self,
-        held: &mut Vec<Held>,
-        lane: Lane,
-        node: u8,
-        port: u8,
-    ) -> Result<(), AllocError>
-        requires framed { IsFramed self.now }
-        requires node { node < node_count self.now.mesh }
-        requires port { port ≤ 2 * length self.now.mesh }
-        requires class { lane.class < length self.now.channels }
-        ensures { OnOk result (held.new.items ≡ held.old.items
-            ++ flat_map (buffer_held self.now lane node port) (channels_of self.now.channels lane.class)) }
-    {
-        let router = &self.node(node).router;
-        let channels = self.channels_of(lane.class);
-        for vc in channels.start..channels.end {
-            put_channel(held, lane, router, node, port, vc)?;
-        }
-        Ok(())
+/// Adds what the buffers of an input port hold of the lane.
+fn put_buffers(
+    fabric: &Fabric,
+    held: &mut Vec<Held>,
+    lane: Lane,
+    node: u8,
+    port: u8,
+) -> Result<(), AllocError>
+    requires framed { IsFramed fabric.now }
+    requires node { node < node_count fabric.now.mesh }
+    requires port { port ≤ 2 * length fabric.now.mesh }
+    requires class { lane.class < length fabric.now.channels }
+    ensures { OnOk result (held.new.items ≡ held.old.items
+        ++ flat_map (buffer_held fabric.now lane node port) (channels_of fabric.now.channels lane.class)) }
+{
+    let router = &fabric.node(node).router;
+    let channels = fabric.channels_of(lane.class);
+    for vc in channels.start..channels.end {
+        put_channel(held, lane, router, node, port, vc)?;
     }
+    Ok(())
+}
 
-    /// Adds what the link out of a port holds of the lane.
-    fn put_lines(
-        &self,
-        held: &mut Vec<Held>,
-        lane: Lane,
-        node: u8,
-        port: u8,
-    ) -> Result<(), AllocError>
-        requires framed { IsFramed self.now }
-        requires linked { has_neighbour self.now.mesh node port ≡ true }
-        requires class { lane.class < length self.now.channels }
-        ensures { OnOk result (held.new.items ≡ held.old.items
-            ++ flat_map (link_held self.now lane node port) (channels_of self.now.channels lane.class)) }
-    {
-        let link = self.link_from(node, port);
-        let channels = self.channels_of(lane.class);
-        for vc in channels.start..channels.end {
-            put_line(held, lane, link, node, port, vc)?;
-        }
-        Ok(())
+/// Adds what the link out of a port holds of the lane.
+fn put_lines(
+    fabric: &Fabric,
+    held: &mut Vec<Held>,
+    lane: Lane,
+    node: u8,
+    port: u8,
+) -> Result<(), AllocError>
+    requires framed { IsFramed fabric.now }
+    requires linked { has_neighbour fabric.now.mesh node port ≡ true }
+    requires class { lane.class < length fabric.now.channels }
+    ensures { OnOk result (held.new.items ≡ held.old.items
+        ++ flat_map (link_held fabric.now lane node port) (channels_of fabric.now.channels lane.class)) }
+{
+    let link = fabric.link_from(node, port);
+    let channels = fabric.channels_of(lane.class);
+    for vc in channels.start..channels.end {
+        put_line(held, lane, link, node, port, vc)?;
     }
+    Ok(())
+}
 
-    /// Adds what is under way of the lane past the node, from the sink back.
-    fn put_past(&self, held: &mut Vec<Held>, lane: Lane, node: u8) -> Result<(), AllocError>
-        requires framed { IsFramed self.now }
-        requires node { node < node_count self.now.mesh }
-        requires dst { lane.dst < node_count self.now.mesh }
-        requires class { lane.class < length self.now.channels }
-        ensures { OnOk result (held.new.items ≡ held.old.items
-            ++ flat_map (held_at self.now lane) (places_past self.now.mesh node lane.dst)) }
-    {
-        let Some(link) = self.next_link(node, lane.dst) else {
-            return Ok(());
-        };
-        self.put_past(held, lane, link.to)?;
-        self.put_buffers(held, lane, link.to, link.in_port)?;
-        self.put_lines(held, lane, node, link.out_port)?;
-        Ok(())
-    }
+/// Adds what is under way of the lane past the node, from the sink back.
+fn put_past(fabric: &Fabric, held: &mut Vec<Held>, lane: Lane, node: u8) -> Result<(), AllocError>
+    requires framed { IsFramed fabric.now }
+    requires node { node < node_count fabric.now.mesh }
+    requires dst { lane.dst < node_count fabric.now.mesh }
+    requires class { lane.class < length fabric.now.channels }
+    ensures { OnOk result (held.new.items ≡ held.old.items
+        ++ flat_map (held_at fabric.now lane) (places_past fabric.now.mesh node lane.dst)) }
+{
+    let Some(link) = fabric.next_link(node, lane.dst) else {
+        return Ok(());
+    };
+    put_past(fabric, held, lane, link.to)?;
+    put_buffers(fabric, held, lane, link.to, link.in_port)?;
+    put_lines(fabric, held, lane, node, link.out_port)?;
+    Ok(())
+}
 
-    /// All that is under way of the lane, from the sink back.
-    fn underway(&self, alloc: Global, lane: Lane) -> Result<Vec<Held>, AllocError>
-        requires framed { IsFramed self.now }
-        requires src { lane.src < node_count self.now.mesh }
-        requires dst { lane.dst < node_count self.now.mesh }
-        requires class { lane.class < length self.now.channels }
-        ensures { IfOk result (λ held. held.items ≡ underway_view self.now lane) }
-    {
-        let mut held = Vec::new(alloc);
-        self.put_past(&mut held, lane, lane.src)?;
-        self.put_buffers(&mut held, lane, lane.src, self.terminal())?;
-        put_unfed(&mut held, lane, &self.node(lane.src).source)?;
-        Ok(held)
-    }
+/// All that is under way of the lane, from the sink back.
+fn underway(fabric: &Fabric, alloc: Global, lane: Lane) -> Result<Vec<Held>, AllocError>
+    requires framed { IsFramed fabric.now }
+    requires src { lane.src < node_count fabric.now.mesh }
+    requires dst { lane.dst < node_count fabric.now.mesh }
+    requires class { lane.class < length fabric.now.channels }
+    ensures { IfOk result (λ held. held.items ≡ underway_view fabric.now lane) }
+{
+    let mut held = Vec::new(alloc);
+    put_past(fabric, &mut held, lane, lane.src)?;
+    put_buffers(fabric, &mut held, lane, lane.src, fabric.terminal())?;
+    put_unfed(&mut held, lane, &fabric.node(lane.src).source)?;
+    Ok(held)
 }
 
 impl Net {
@@ -212,7 +210,7 @@ impl Net {
         ensures packets_cut { IfOk result (λ view. ArePacketsCut self.now lane view.underway.items) }
     {
         let fabric = self.fabric();
-        let underway = fabric.underway(alloc, lane)?;
+        let underway = underway(fabric, alloc, lane)?;
         let delivered = self.delivered(lane.dst);
         let count = delivered.iter().filter(|flit| is_of(flit, lane)).count();
         Ok(LaneView {

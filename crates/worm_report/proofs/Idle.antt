@@ -2,7 +2,7 @@
 use Rattle.std.proofs.Common.{◌≡◌, ◌<◌, ℕ, false, List, [], length, map, sym, ap}
 use Rattle.worm_flit.specs.declared.Lane.{Lane}
 use Rattle.worm_mesh.specs.Address.{node_count}
-use Rattle.worm_core.specs.State.{NetState}
+use Rattle.worm_region.specs.State.{NetState}
 use Rattle.worm_core.specs.LaneSet.{LaneMarks, IsComplete, is_marked}
 use Rattle.worm_core.specs.declared.view.Held.{Held}
 use Rattle.worm_report.specs.declared.row.Row.TheVariants.{Underway}

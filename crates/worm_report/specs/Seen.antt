@@ -3,8 +3,8 @@ use Rattle.std.specs.Prelude.{ℕ, List, length}
 use Rattle.worm_flit.specs.declared.Flit.{Flit}
 use Rattle.worm_flit.specs.declared.Lane.{Lane}
 use Rattle.worm_mesh.specs.Address.{node_count}
-use Rattle.worm_core.specs.State.{NetState, sink_at}
-use Rattle.worm_core.specs.Totals.{delivered_total, injected_total}
+use Rattle.worm_region.specs.State.{NetState, sink_at}
+use Rattle.worm_region.specs.Totals.{delivered_total, injected_total}
 use Rattle.worm_core.specs.LaneView.{underway_view}
 use Rattle.worm_core.specs.declared.view.Held.{Held}
 

@@ -16,14 +16,14 @@ use Rattle.worm_term.specs.Source.{SourceState, IsOpen, fresh_lane, fresh_source
 use Rattle.worm_term.specs.Source.{with_packet}
 use Rattle.worm_theory.proofs.Places.{bool_cases}
 use Rattle.worm_core.specs.Acceptable.{AreAcceptable, IsAcceptable, IsAcceptableScript, MayClose, closes, is_closed}
-use Rattle.worm_core.specs.NewNet.{IsFresh}
-use Rattle.worm_core.specs.Script.{begun_at, due, lane_of}
-use Rattle.worm_core.specs.State.{NetState, fresh_node, node_at, source_at}
-use Rattle.worm_core.specs.declared.node.Node.{Node}
-use Rattle.worm_core.specs.declared.script.Act.{Act}
-use Rattle.worm_core.specs.declared.script.Act.TheVariants.{Offer, Close}
-use Rattle.worm_core.specs.declared.script.Entry.{Entry}
-use Rattle.worm_core.proofs.Sources.{refuses_none}
+use Rattle.worm_region.specs.NewNet.{IsFresh}
+use Rattle.worm_region.specs.Script.{begun_at, due, lane_of}
+use Rattle.worm_region.specs.State.{NetState, fresh_node, node_at, source_at}
+use Rattle.worm_region.specs.declared.node.Node.{Node}
+use Rattle.worm_region.specs.declared.script.Act.{Act}
+use Rattle.worm_region.specs.declared.script.Act.TheVariants.{Offer, Close}
+use Rattle.worm_region.specs.declared.script.Entry.{Entry}
+use Rattle.worm_region.proofs.Sources.{refuses_none}
 use Rattle.worm_split.specs.Effects.{HasAccepted, Refuses, after_act, after_entries, is_close}
 use Rattle.worm_run.specs.Runs.{RefusesItsNext, RunsTo, ending_at}
 use Rattle.worm_run.specs.Working.{due_before}

@@ -4,14 +4,14 @@ use Rattle.std.specs.Option.{option_to_list}
 use Rattle.std.specs.Prelude.{slice_index_or}
 use Rattle.worm_swalloc.specs.declared.grant.SwGrant.{SwGrant}
 use Rattle.worm_theory.specs.Steps.{Step, Feed, Route, Send, Take, GiveCredit, TakeCredit}
-use Rattle.worm_core.specs.Replies.{Attempts}
-use Rattle.worm_core.specs.State.{NetState}
-use Rattle.worm_core.specs.Turns.{Passage, AsksSourceBy, ComesInBy, TakesCreditsBy, TakesFlitsBy, FeedsClassesBy}
-use Rattle.worm_core.specs.Turns.{RoutesChannelsBy, RoutesPortBy, Allocates, fault_of}
-use Rattle.worm_core.specs.declared.script.Entry.{Entry}
-use Rattle.worm_core.specs.declared.step.Moved.{Moved}
-use Rattle.worm_core.specs.declared.fault.StepFault.{StepFault}
-use Rattle.worm_core.specs.declared.fault.StepFault.TheVariants.{NoSuchPlace, Refused, NoMemory}
+use Rattle.worm_region.specs.Replies.{Attempts}
+use Rattle.worm_region.specs.State.{NetState}
+use Rattle.worm_region.specs.Turns.{Passage, AsksSourceBy, ComesInBy, TakesCreditsBy, TakesFlitsBy, FeedsClassesBy}
+use Rattle.worm_region.specs.Turns.{RoutesChannelsBy, RoutesPortBy, Allocates, fault_of}
+use Rattle.worm_region.specs.declared.script.Entry.{Entry}
+use Rattle.worm_region.specs.declared.step.Moved.{Moved}
+use Rattle.worm_region.specs.declared.fault.StepFault.{StepFault}
+use Rattle.worm_region.specs.declared.fault.StepFault.TheVariants.{NoSuchPlace, Refused, NoMemory}
 use Rattle.worm_split.specs.PartState.{PartState}
 use Rattle.worm_split.specs.PartTurns.{Within, PullsCredits, PullsFlits, SendsGranted, SendsGrant, Sends, GivesCredits}
 use Rattle.worm_split.specs.PartTurns.{GivesCredit, Gives, NodeTurn, Turn, EachOf, PartPassage, PullsCredit, PullsFlit}

@@ -1,7 +1,7 @@
 -- A part may be moved to another thread, and so may what its worker gives back: neither has what is one thread's alone.
 use denote.Param.Send.{IsSend, sendable}
 use Rattle.std.proofs.Crossing.{crosses}
-use Rattle.worm_core.proofs.region.Region.TheSendSync.{the_send as region_send}
+use Rattle.worm_region.proofs.region.Region.TheSendSync.{the_send as region_send}
 use Rattle.worm_split.proofs.ends.End.TheSendSync.{the_send as end_send}
 use Rattle.worm_split.proofs.exchange.Kept.TheSendSync.{the_send as kept_send}
 use Rattle.worm_split.specs.contracts.part.Part as Part

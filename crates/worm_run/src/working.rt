@@ -1,7 +1,7 @@
 //! One worker: the turns that it takes with its part, and what it promises of them.
 
 ghost use Rattle.std.specs.Prelude.{Some, None, ◌≡◌};
-ghost use Rattle.worm_core.specs.declared.fault.StepFault.TheVariants.{NoSuchPlace};
+ghost use Rattle.worm_region.specs.declared.fault.StepFault.TheVariants.{NoSuchPlace};
 ghost use Rattle.worm_run.specs.Working.{WorkedAs, fault_behind};
 
 use crate::gate::Gate;

@@ -15,22 +15,22 @@ use Rattle.worm_term.specs.Source.{SourceState, IsOpen, classes, lane_at, queue_
 use Rattle.worm_theory.specs.Network.{Network}
 use Rattle.worm_theory.specs.Shape.{OwnsOne}
 use Rattle.worm_theory.specs.Steps.{Accepts, Enabled, IsThere, has_mark, lane_injected, next_number, packets_in}
-use Rattle.worm_core.specs.Answers.{refusal_of}
-use Rattle.worm_core.specs.Moves.{done_step}
-use Rattle.worm_core.specs.Replies.{Attempts, Hindered, Replies}
-use Rattle.worm_core.specs.Shape.{net_shape}
-use Rattle.worm_core.specs.State.{NetState, IsFramed, IsNodeOf, network_of, node_at, queue_of, shape, sink_at}
-use Rattle.worm_core.specs.State.{source_at, with_source}
-use Rattle.worm_core.specs.Turns.{Each, ask, fault_of}
-use Rattle.worm_core.specs.declared.fault.StepFault.{StepFault}
-use Rattle.worm_core.specs.declared.fault.StepFault.TheVariants.{NoMemory, NoSuchPlace, Refused}
-use Rattle.worm_core.specs.declared.node.Node.{Node}
-use Rattle.worm_core.specs.declared.script.Act.{Act}
-use Rattle.worm_core.specs.declared.script.Act.TheVariants.{Close, Offer}
-use Rattle.worm_core.specs.declared.script.Entry.{Entry}
-use Rattle.worm_core.specs.declared.step.Moved.{Moved}
-use Rattle.worm_core.specs.declared.step.Moved.TheVariants.{Done, Idle}
-use Rattle.worm_core.proofs.Sources.{counted_packets, none_refused}
+use Rattle.worm_region.specs.Answers.{refusal_of}
+use Rattle.worm_region.specs.Moves.{done_step}
+use Rattle.worm_region.specs.Replies.{Attempts, Hindered, Replies}
+use Rattle.worm_region.specs.Shape.{net_shape}
+use Rattle.worm_region.specs.State.{NetState, IsFramed, IsNodeOf, network_of, node_at, queue_of, shape, sink_at}
+use Rattle.worm_region.specs.State.{source_at, with_source}
+use Rattle.worm_region.specs.Turns.{Each, ask, fault_of}
+use Rattle.worm_region.specs.declared.fault.StepFault.{StepFault}
+use Rattle.worm_region.specs.declared.fault.StepFault.TheVariants.{NoMemory, NoSuchPlace, Refused}
+use Rattle.worm_region.specs.declared.node.Node.{Node}
+use Rattle.worm_region.specs.declared.script.Act.{Act}
+use Rattle.worm_region.specs.declared.script.Act.TheVariants.{Close, Offer}
+use Rattle.worm_region.specs.declared.script.Entry.{Entry}
+use Rattle.worm_region.specs.declared.step.Moved.{Moved}
+use Rattle.worm_region.specs.declared.step.Moved.TheVariants.{Done, Idle}
+use Rattle.worm_region.proofs.Sources.{counted_packets, none_refused}
 use Rattle.worm_split.specs.Effects.{HasAccepted, HasWords, HaveTheSame, Refuses, after_act}
 use Rattle.worm_split.proofs.Accepted.{accepted-none, accepted-then, same_source}
 use Rattle.worm_split.proofs.Alone.{Touches, none_refuses, put_there, put_touches, touched_on, untouched}

@@ -9,12 +9,12 @@ use Rattle.worm_flit.specs.Worms.{Continues}
 use Rattle.worm_mesh.specs.Address.{neighbour_of, node_count, opposite_of}
 use Rattle.worm_mesh.specs.Links.{links_before}
 use Rattle.worm_links.specs.Links.{TxView, RxView, CreditTxView, CreditRxView, MayCross}
-use Rattle.worm_core.specs.Shape.{net_shape}
-use Rattle.worm_core.specs.State.{NetState, IsFramed, IsSameConfig, shape, network_of, link_at}
-use Rattle.worm_core.specs.Edges.{Arrives, ComesBack, after_arriving, after_credit_back}
+use Rattle.worm_region.specs.Shape.{net_shape}
+use Rattle.worm_region.specs.State.{NetState, IsFramed, IsSameConfig, shape, network_of, link_at}
+use Rattle.worm_region.specs.Edges.{Arrives, ComesBack, after_arriving, after_credit_back}
 use Rattle.worm_wires.specs.Wiring.{port_links}
-use Rattle.worm_core.specs.Workable.{owned}
-use Rattle.worm_core.specs.Moves.{link_into, link_out}
+use Rattle.worm_region.specs.Workable.{owned}
+use Rattle.worm_region.specs.Moves.{link_into, link_out}
 use Rattle.worm_wires.specs.declared.wiring.PortLinks.{PortLinks}
 use Rattle.worm_split.specs.declared.ends.End.{End}
 use Rattle.worm_split.specs.declared.ends.End.TheVariants.{Inner, Leaving, Entering}
@@ -29,7 +29,7 @@ use Rattle.worm_split.proofs.Pulls.{out_credits, into_flits, out_from_beyond, in
 
 -- another list of one link leaves the configuration
 same_when_linked : (s new : NetState) (k : ℕ) (l : Rattle.worm_wires.specs.Links.LinkView)
-    → new ≡ Rattle.worm_core.specs.State.with_link s k l → IsSameConfig s new
+    → new ≡ Rattle.worm_region.specs.State.with_link s k l → IsSameConfig s new
 same_when_linked s new k l e = record {
   mesh = ap (λ (n : NetState). n.mesh) e;
   channels = ap (λ (n : NetState). n.channels) e;

@@ -13,8 +13,8 @@ use Rattle.worm_theory.specs.Shape.{HasLane}
 use Rattle.worm_theory.specs.Sound.{Leaves}
 use Rattle.worm_shape.specs.Standing.{LeavesBy}
 use Rattle.worm_shape.proofs.Leaving.{crosses_leaves}
-use Rattle.worm_core.specs.Shape.{net_shape}
-use Rattle.worm_core.specs.State.{NetState, IsFramed, shape}
+use Rattle.worm_region.specs.Shape.{net_shape}
+use Rattle.worm_region.specs.State.{NetState, IsFramed, shape}
 use Rattle.worm_split.specs.Ends.{IsLinkOf}
 
 some_is : (a b : ℕ) → ◌≡◌ {A = Option ℕ} (Some a) (Some b) → a ≡ b

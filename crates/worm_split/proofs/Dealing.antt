@@ -6,12 +6,12 @@ use Rattle.std.proofs.lemmas.Bool.{cases_lt}
 use Rattle.std.proofs.lemmas.List.{get_or-replicate, get_or_past}
 use Rattle.std.proofs.Math.ListN.{length-replicate}
 use Rattle.worm_mesh.specs.Links.{link_count}
-use Rattle.worm_core.specs.NewNet.{AreFresh}
+use Rattle.worm_region.specs.NewNet.{AreFresh}
 use Rattle.worm_wires.specs.Links.{LinkView, blank_link, empty_link}
-use Rattle.worm_core.specs.Owned.{owned_by}
-use Rattle.worm_core.specs.State.{NetState, fresh_node, link_at}
-use Rattle.worm_core.specs.declared.node.Node.{Node}
-use Rattle.worm_core.specs.declared.own.Own.{Own}
+use Rattle.worm_region.specs.Owned.{owned_by}
+use Rattle.worm_region.specs.State.{NetState, fresh_node, link_at}
+use Rattle.worm_region.specs.declared.node.Node.{Node}
+use Rattle.worm_region.specs.declared.own.Own.{Own}
 use Rattle.worm_split.specs.declared.ends.End.{End}
 use Rattle.worm_split.specs.declared.ends.End.TheVariants.{Inner}
 use Rattle.worm_split.specs.declared.ends.Line.{Line}

@@ -17,18 +17,18 @@ use Rattle.worm_theory.specs.Steps.{empty}
 use Rattle.worm_theory.proofs.Keeps.{empty_sound}
 use Rattle.worm_theory.proofs.Places.{bool_cases}
 use Rattle.worm_wires.specs.Links.{empty_link}
-use Rattle.worm_core.specs.Owned.{owned_by}
-use Rattle.worm_core.specs.Shape.{net_shape}
-use Rattle.worm_core.specs.State.{NetState, IsFramed, IsNet, IsNodeOf, fresh_node, link_at}
-use Rattle.worm_core.specs.State.{network_of, node_at, shape, sink_at}
-use Rattle.worm_core.specs.Workable.{IsBound, IsKept, IsSent, IsWorkable, Works, owned}
-use Rattle.worm_core.specs.declared.node.Node.{Node}
-use Rattle.worm_core.proofs.Kept.{framed_mesh}
-use Rattle.worm_core.proofs.LinkBridge.{credits_there, out_there}
+use Rattle.worm_region.specs.Owned.{owned_by}
+use Rattle.worm_region.specs.Shape.{net_shape}
+use Rattle.worm_region.specs.State.{NetState, IsFramed, IsNet, IsNodeOf, fresh_node, link_at}
+use Rattle.worm_region.specs.State.{network_of, node_at, shape, sink_at}
+use Rattle.worm_region.specs.Workable.{IsBound, IsKept, IsSent, IsWorkable, Works, owned}
+use Rattle.worm_region.specs.declared.node.Node.{Node}
+use Rattle.worm_region.proofs.Kept.{framed_mesh}
+use Rattle.worm_region.proofs.LinkBridge.{credits_there, out_there}
 use Rattle.worm_core.proofs.NetWays.{workable}
-use Rattle.worm_core.proofs.NewNet.{fresh_is, stands_for}
-use Rattle.worm_core.proofs.Owning.{all_within}
-use Rattle.worm_core.proofs.Working.{sound_works}
+use Rattle.worm_region.proofs.NewNet.{fresh_is, stands_for}
+use Rattle.worm_region.proofs.Owning.{all_within}
+use Rattle.worm_region.proofs.Working.{sound_works}
 use Rattle.worm_parts.specs.Openings.{past_of}
 use Rattle.worm_parts.specs.Region.{Begins, HasPart}
 use Rattle.worm_parts.proofs.RegionQueues.{first_part}

@@ -12,10 +12,10 @@ use Rattle.worm_mesh.proofs.Neighbours.{Joins-from, Joins-unique}
 use Rattle.worm_mesh.proofs.Numbers.{one_link, below_count}
 use Rattle.worm_theory.specs.Shape.{IsMesh}
 use Rattle.worm_theory.proofs.Places.{number_cases}
-use Rattle.worm_core.specs.State.{NetState, IsNet, network_of, shape}
-use Rattle.worm_core.specs.Owned.{owned_by}
-use Rattle.worm_core.specs.declared.own.Own.{Own}
-use Rattle.worm_core.proofs.Kept.{framed_mesh}
+use Rattle.worm_region.specs.State.{NetState, IsNet, network_of, shape}
+use Rattle.worm_region.specs.Owned.{owned_by}
+use Rattle.worm_region.specs.declared.own.Own.{Own}
+use Rattle.worm_region.proofs.Kept.{framed_mesh}
 use Rattle.worm_parts.specs.Join.{Holds}
 use Rattle.worm_parts.specs.Region.{HasPart, Begins}
 use Rattle.worm_parts.specs.Openings.{past_of}

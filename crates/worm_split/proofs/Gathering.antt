@@ -3,10 +3,10 @@ use Rattle.std.proofs.Common.{◌≡◌, ℕ, ◌+◌, ◌*◌, ◌<◌, ◌≤�
 use Rattle.std.proofs.Common.{sum, refl, arith, sym, ap, subst, ◌∙◌, eq-eqb}
 use Rattle.std.specs.Prelude.{slice_index_or}
 use Rattle.std.proofs.lemmas.Bool.{cases_eq}
-use Rattle.worm_core.specs.Owned.{owned_by}
-use Rattle.worm_core.specs.State.{NetState, IsFramed, link_at}
-use Rattle.worm_core.specs.declared.node.Node.{Node}
-use Rattle.worm_core.specs.declared.own.Own.{Own}
+use Rattle.worm_region.specs.Owned.{owned_by}
+use Rattle.worm_region.specs.State.{NetState, IsFramed, link_at}
+use Rattle.worm_region.specs.declared.node.Node.{Node}
+use Rattle.worm_region.specs.declared.own.Own.{Own}
 use Rattle.worm_split.specs.declared.ends.End.{End}
 use Rattle.worm_split.specs.declared.exchange.Kept.{Kept}
 use Rattle.worm_split.specs.Apart.{HaveRoom}

@@ -18,15 +18,15 @@ use Rattle.worm_router.specs.Router.{after_send, after_gave}
 use Rattle.worm_theory.specs.Shape.{Shape}
 use Rattle.worm_theory.specs.Steps.{IsLinked, Send, GiveCredit, IsThere, Enabled, FrontIs, after}
 use Rattle.worm_theory.proofs.Places.{bool_cases}
-use Rattle.worm_core.specs.Shape.{net_shape}
-use Rattle.worm_core.specs.State.{NetState, IsFramed, IsSameConfig, IsNetPlace, shape, network_of, router_at}
-use Rattle.worm_core.specs.State.{with_router}
-use Rattle.worm_core.specs.Edges.{LetsOut, LetsGive}
+use Rattle.worm_region.specs.Shape.{net_shape}
+use Rattle.worm_region.specs.State.{NetState, IsFramed, IsSameConfig, IsNetPlace, shape, network_of, router_at}
+use Rattle.worm_region.specs.State.{with_router}
+use Rattle.worm_region.specs.Edges.{LetsOut, LetsGive}
 use Rattle.worm_wires.specs.Wiring.{port_links}
-use Rattle.worm_core.specs.Workable.{owned, EndsElsewhere}
+use Rattle.worm_region.specs.Workable.{owned, EndsElsewhere}
 use Rattle.worm_wires.specs.declared.wiring.PortLinks.{PortLinks}
-use Rattle.worm_core.proofs.Kept.{net_place}
-use Rattle.worm_core.proofs.There.{buffer_there, record_there}
+use Rattle.worm_region.proofs.Kept.{net_place}
+use Rattle.worm_region.proofs.There.{buffer_there, record_there}
 use Rattle.worm_parts.specs.Openings.{past_of}
 use Rattle.worm_parts.proofs.Regions.{push_part}
 use Rattle.worm_split.specs.declared.ends.End.{End}

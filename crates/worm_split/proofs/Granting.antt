@@ -10,15 +10,15 @@ use Rattle.worm_swalloc.specs.SwAlloc.{AreGranted}
 use Rattle.worm_swalloc.proofs.WalkLemmas.{IsWalked, walked_start, walked_from, walked_over, walked_more, walked_all}
 use Rattle.worm_theory.specs.Steps.{Send, IsThere}
 use Rattle.worm_router.specs.Allocation.{switch_grants}
-use Rattle.worm_core.specs.Moves.{chosen_router}
-use Rattle.worm_core.specs.Prepared.{Prepares, allocated_at}
-use Rattle.worm_core.specs.Replies.{Attempts}
-use Rattle.worm_core.specs.State.{NetState, router_at, shape, with_router}
-use Rattle.worm_core.specs.Turns.{Allocates, AreThere, Chooses, ComesInBy}
-use Rattle.worm_core.specs.Workable.{IsWorkable}
-use Rattle.worm_core.specs.declared.fault.StepFault.{StepFault}
-use Rattle.worm_core.proofs.Allocating.{there_still}
-use Rattle.worm_core.proofs.Sending.{granted_one, granted_none, first_port, walked_there, was_granted}
+use Rattle.worm_region.specs.Moves.{chosen_router}
+use Rattle.worm_region.specs.Prepared.{Prepares, allocated_at}
+use Rattle.worm_region.specs.Replies.{Attempts}
+use Rattle.worm_region.specs.State.{NetState, router_at, shape, with_router}
+use Rattle.worm_region.specs.Turns.{Allocates, AreThere, Chooses, ComesInBy}
+use Rattle.worm_region.specs.Workable.{IsWorkable}
+use Rattle.worm_region.specs.declared.fault.StepFault.{StepFault}
+use Rattle.worm_region.proofs.Allocating.{there_still}
+use Rattle.worm_region.proofs.Sending.{granted_one, granted_none, first_port, walked_there, was_granted}
 use Rattle.worm_split.specs.PartState.{PartState, IsSamePart}
 use Rattle.worm_split.specs.PartTurns.{EachOf, PartPassage, Sends, SendsGrant, SendsGranted, SendsGrants, Within, ◌then◌}
 use Rattle.worm_split.proofs.PartLoops.{of_more, of_end, of_one, of_rest, same_on, same_still}

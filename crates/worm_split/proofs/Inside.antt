@@ -9,18 +9,18 @@ use Rattle.worm_router.specs.Allocation.{after_allocate}
 use Rattle.worm_theory.specs.Network.{Network}
 use Rattle.worm_theory.specs.Steps.{Grant}
 use Rattle.worm_theory.proofs.Places.{bool_cases}
-use Rattle.worm_core.specs.Shape.{net_shape}
-use Rattle.worm_core.specs.State.{NetState, IsSameConfig, shape, network_of, router_at, with_router}
-use Rattle.worm_core.specs.Moves.{chosen_router}
-use Rattle.worm_core.specs.Prepared.{Prepares, allocated_at}
-use Rattle.worm_core.specs.Replies.{Attempts}
-use Rattle.worm_core.specs.Turns.{Passage, AsksSourceBy, ComesInBy, TakesCreditsBy, TakesFlitsBy}
-use Rattle.worm_core.specs.Turns.{FeedsClassesBy, RoutesChannelsBy}
-use Rattle.worm_core.specs.Workable.{IsWorkable}
-use Rattle.worm_core.specs.Owned.{owned_by}
-use Rattle.worm_core.specs.declared.own.Own.{Own}
-use Rattle.worm_core.specs.declared.script.Entry.{Entry}
-use Rattle.worm_core.proofs.Allocating.{IsKeptByGrants, allocated_keeps, chosen_apart}
+use Rattle.worm_region.specs.Shape.{net_shape}
+use Rattle.worm_region.specs.State.{NetState, IsSameConfig, shape, network_of, router_at, with_router}
+use Rattle.worm_region.specs.Moves.{chosen_router}
+use Rattle.worm_region.specs.Prepared.{Prepares, allocated_at}
+use Rattle.worm_region.specs.Replies.{Attempts}
+use Rattle.worm_region.specs.Turns.{Passage, AsksSourceBy, ComesInBy, TakesCreditsBy, TakesFlitsBy}
+use Rattle.worm_region.specs.Turns.{FeedsClassesBy, RoutesChannelsBy}
+use Rattle.worm_region.specs.Workable.{IsWorkable}
+use Rattle.worm_region.specs.Owned.{owned_by}
+use Rattle.worm_region.specs.declared.own.Own.{Own}
+use Rattle.worm_region.specs.declared.script.Entry.{Entry}
+use Rattle.worm_region.proofs.Allocating.{IsKeptByGrants, allocated_keeps, chosen_apart}
 use Rattle.worm_parts.specs.Region.{HasPart}
 use Rattle.worm_split.specs.declared.ends.End.{End}
 use Rattle.worm_split.specs.declared.ends.End.TheVariants.{Inner, Leaving, Entering}

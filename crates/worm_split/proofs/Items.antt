@@ -8,8 +8,8 @@ use Rattle.worm_flit.specs.Channels.{owner_of}
 use Rattle.worm_mesh.specs.Address.{Joins}
 use Rattle.worm_mesh.proofs.Digits.{AreLarge-from_radices}
 use Rattle.worm_mesh.proofs.Neighbours.{neighbour_of-some}
-use Rattle.worm_core.specs.Shape.{net_shape}
-use Rattle.worm_core.specs.State.{NetState, IsFramed, shape}
+use Rattle.worm_region.specs.Shape.{net_shape}
+use Rattle.worm_region.specs.State.{NetState, IsFramed, shape}
 
 get_set : (xs : List ℕ) (i v : ℕ) → i < length xs → slice_get (slice_set xs i v) i ≡ Some v
 get_set [] i v below = absurd (omega arith)

@@ -12,13 +12,13 @@ use Rattle.worm_theory.specs.Shape.{Shape}
 use Rattle.worm_theory.specs.Network.{Network}
 use Rattle.worm_theory.specs.Sound.{Leaves}
 use Rattle.worm_theory.proofs.Places.{bool_cases}
-use Rattle.worm_core.specs.Shape.{net_shape}
-use Rattle.worm_core.specs.State.{NetState}
+use Rattle.worm_region.specs.Shape.{net_shape}
+use Rattle.worm_region.specs.State.{NetState}
 use Rattle.worm_wires.specs.Links.{LinkView, blank_link}
-use Rattle.worm_core.specs.State.{network_of}
-use Rattle.worm_core.specs.State.{shape}
-use Rattle.worm_core.proofs.GiveStep.{credits_counted}
-use Rattle.worm_core.proofs.Room.{bounded, counted}
+use Rattle.worm_region.specs.State.{network_of}
+use Rattle.worm_region.specs.State.{shape}
+use Rattle.worm_region.proofs.GiveStep.{credits_counted}
+use Rattle.worm_region.proofs.Room.{bounded, counted}
 use Rattle.worm_parts.specs.Join.{Holds}
 use Rattle.worm_parts.specs.Whole.{AreQueues, link_of as link_joined, line_of as line_joined, whole}
 use Rattle.worm_parts.proofs.Regions.{parts_hold}

@@ -11,9 +11,9 @@ use Rattle.worm_theory.specs.Sound.{Sound, OthersIdle, OnesClosed}
 use Rattle.worm_theory.specs.Cut.{LanesCut}
 use Rattle.worm_theory.specs.PacketCut.{PacketsHold}
 use Rattle.worm_theory.proofs.Marks.{nothing_more_grown}
-use Rattle.worm_core.specs.State.{NetState, IsNet, network_of, shape}
+use Rattle.worm_region.specs.State.{NetState, IsNet, network_of, shape}
 use Rattle.worm_wires.specs.Links.{LinkView}
-use Rattle.worm_core.specs.declared.own.Own.{Own}
+use Rattle.worm_region.specs.declared.own.Own.{Own}
 use Rattle.worm_parts.proofs.Regions.{parts_sinks, parts_sources}
 use Rattle.worm_split.specs.declared.exchange.Kept.{Kept}
 use Rattle.worm_split.specs.Ends.{line_at}

@@ -8,20 +8,20 @@ use Rattle.worm_theory.specs.Shape.{Shape, IsMesh}
 use Rattle.worm_theory.specs.Network.{Network}
 use Rattle.worm_theory.specs.Steps.{Step, Offer, CloseLane, Feed, Route, Grant, Send, Take, GiveCredit, TakeCredit}
 use Rattle.worm_theory.specs.Steps.{after}
-use Rattle.worm_core.specs.Shape.{net_shape}
-use Rattle.worm_core.specs.State.{NetState, IsSameConfig, shape, network_of}
-use Rattle.worm_core.specs.Replies.{Attempts, Replies}
-use Rattle.worm_core.specs.Turns.{Passage, Each, ◌and_then◌, AsksSourceBy, TakesCreditsBy}
-use Rattle.worm_core.specs.Turns.{TakesFlitsBy, FeedsClassesBy, RoutesPortBy, RoutesChannelsBy, ask, all_ports}
-use Rattle.worm_core.specs.Turns.{mesh_ports}
-use Rattle.worm_core.specs.Script.{begun_at}
-use Rattle.worm_core.specs.declared.script.Act.{Act}
-use Rattle.worm_core.specs.declared.script.Act.TheVariants.{Offer as ToOffer, Close as ToClose}
-use Rattle.worm_core.specs.declared.script.Entry.{Entry}
-use Rattle.worm_core.specs.declared.step.Moved.{Moved}
-use Rattle.worm_core.specs.declared.step.Moved.TheVariants.{Done, Idle}
-use Rattle.worm_core.specs.declared.fault.StepFault.{StepFault}
-use Rattle.worm_core.specs.declared.fault.StepFault.TheVariants.{NoSuchPlace, Refused, NoMemory}
+use Rattle.worm_region.specs.Shape.{net_shape}
+use Rattle.worm_region.specs.State.{NetState, IsSameConfig, shape, network_of}
+use Rattle.worm_region.specs.Replies.{Attempts, Replies}
+use Rattle.worm_region.specs.Turns.{Passage, Each, ◌and_then◌, AsksSourceBy, TakesCreditsBy}
+use Rattle.worm_region.specs.Turns.{TakesFlitsBy, FeedsClassesBy, RoutesPortBy, RoutesChannelsBy, ask, all_ports}
+use Rattle.worm_region.specs.Turns.{mesh_ports}
+use Rattle.worm_region.specs.Script.{begun_at}
+use Rattle.worm_region.specs.declared.script.Act.{Act}
+use Rattle.worm_region.specs.declared.script.Act.TheVariants.{Offer as ToOffer, Close as ToClose}
+use Rattle.worm_region.specs.declared.script.Entry.{Entry}
+use Rattle.worm_region.specs.declared.step.Moved.{Moved}
+use Rattle.worm_region.specs.declared.step.Moved.TheVariants.{Done, Idle}
+use Rattle.worm_region.specs.declared.fault.StepFault.{StepFault}
+use Rattle.worm_region.specs.declared.fault.StepFault.TheVariants.{NoSuchPlace, Refused, NoMemory}
 use Rattle.worm_parts.specs.Region.{HasPart, node_of}
 use Rattle.worm_parts.proofs.Regions.{step_part}
 use Rattle.worm_split.specs.declared.ends.End.{End}

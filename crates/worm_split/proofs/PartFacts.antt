@@ -12,11 +12,11 @@ use Rattle.worm_theory.specs.Shape.{IsMesh}
 use Rattle.worm_theory.specs.Network.{same, put2}
 use Rattle.worm_theory.proofs.Places.{bool_cases, place_cases, same-false}
 use Rattle.worm_links.specs.Links.{TxView, RxView, CreditTxView, CreditRxView}
-use Rattle.worm_core.specs.Shape.{net_shape}
-use Rattle.worm_core.specs.State.{NetState, IsSameConfig, shape, network_of}
-use Rattle.worm_core.specs.Owned.{owned_by}
-use Rattle.worm_core.specs.declared.own.Own.{Own}
-use Rattle.worm_core.proofs.Kept.{framed_mesh}
+use Rattle.worm_region.specs.Shape.{net_shape}
+use Rattle.worm_region.specs.State.{NetState, IsSameConfig, shape, network_of}
+use Rattle.worm_region.specs.Owned.{owned_by}
+use Rattle.worm_region.specs.declared.own.Own.{Own}
+use Rattle.worm_region.proofs.Kept.{framed_mesh}
 use Rattle.worm_parts.specs.Region.{HasPart}
 use Rattle.worm_parts.specs.Openings.{past_of}
 use Rattle.worm_split.specs.declared.ends.End.{End}

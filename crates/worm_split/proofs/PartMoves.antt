@@ -9,8 +9,8 @@ use Rattle.worm_theory.specs.Network.{Network, put2}
 use Rattle.worm_theory.specs.Steps.{IsThere, Enabled, Send, GiveCredit, after, sent, sent_by, gave, gave_to}
 use Rattle.worm_links.specs.Links.{TxView, RxView, CreditTxView, CreditRxView, MayCross}
 use Rattle.worm_mesh.specs.Address.{neighbour_of}
-use Rattle.worm_core.specs.Shape.{net_shape}
-use Rattle.worm_core.specs.State.{NetState, IsSameConfig, shape, network_of}
+use Rattle.worm_region.specs.Shape.{net_shape}
+use Rattle.worm_region.specs.State.{NetState, IsSameConfig, shape, network_of}
 use Rattle.worm_parts.specs.Region.{HasPart, among}
 use Rattle.worm_parts.specs.Openings.{past_of}
 use Rattle.worm_parts.proofs.Regions.{pull_part, step_part}

@@ -4,7 +4,7 @@ use Rattle.std.proofs.Common.{append-nil, refl, arith, sym, ap, subst, ◌∙◌
 use Rattle.std.proofs.lemmas.List.{get_or_at}
 use Rattle.worm_mesh.specs.Address.{node_count}
 use Rattle.worm_mesh.specs.Links.{link_count}
-use Rattle.worm_core.specs.State.{NetState, IsFramed}
+use Rattle.worm_region.specs.State.{NetState, IsFramed}
 use Rattle.worm_split.specs.declared.exchange.Kept.{Kept}
 use Rattle.worm_split.specs.Apart.{IsApart}
 use Rattle.worm_split.specs.Exchange.{EndsPutBack, LinksPutBack, NodesPutBack, way_at}

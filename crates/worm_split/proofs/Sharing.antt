@@ -5,8 +5,8 @@ use Rattle.std.proofs.Math.Nat.{add-mul-mod_self_left, div-add-mod}
 use Rattle.std.specs.Prelude.{IsSome, slice_index_or}
 use Rattle.worm_mesh.specs.Address.{neighbour_of, stride_of}
 use Rattle.worm_theory.proofs.Places.{number_cases}
-use Rattle.worm_core.specs.State.{IsFramed, NetState}
-use Rattle.worm_core.proofs.Ends.{leader}
+use Rattle.worm_region.specs.State.{IsFramed, NetState}
+use Rattle.worm_region.proofs.Ends.{leader}
 use Rattle.worm_wires.proofs.Strides.{step_down, step_up}
 use Rattle.worm_split.specs.PartTurns.{AreShared}
 

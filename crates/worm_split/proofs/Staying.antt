@@ -10,17 +10,17 @@ use Rattle.worm_records.specs.declared.InRecord.TheVariants.{Idle}
 use Rattle.worm_router.specs.Router.{RouterState, width, input_at, leaving}
 use Rattle.worm_vcalloc.proofs.ArbiterLemmas.{find-range_found}
 use Rattle.worm_theory.specs.Steps.{Send, GiveCredit, IsActiveAt}
-use Rattle.worm_core.specs.Shape.{net_shape}
-use Rattle.worm_core.specs.State.{NetState, IsFramed, IsSameConfig, shape, network_of, router_at}
-use Rattle.worm_core.specs.Moves.{after_ready}
-use Rattle.worm_core.specs.Replies.{Replies}
-use Rattle.worm_core.specs.Turns.{fault_of, lowest_owed}
-use Rattle.worm_core.specs.Workable.{owned, EndsWithin}
-use Rattle.worm_core.specs.declared.step.Moved.{Moved}
-use Rattle.worm_core.specs.declared.step.Moved.TheVariants.{Done, Idle}
-use Rattle.worm_core.specs.declared.fault.StepFault.{StepFault}
-use Rattle.worm_core.specs.declared.fault.StepFault.TheVariants.{NoSuchPlace, Refused, NoMemory}
-use Rattle.worm_core.proofs.Kept.{net_place}
+use Rattle.worm_region.specs.Shape.{net_shape}
+use Rattle.worm_region.specs.State.{NetState, IsFramed, IsSameConfig, shape, network_of, router_at}
+use Rattle.worm_region.specs.Moves.{after_ready}
+use Rattle.worm_region.specs.Replies.{Replies}
+use Rattle.worm_region.specs.Turns.{fault_of, lowest_owed}
+use Rattle.worm_region.specs.Workable.{owned, EndsWithin}
+use Rattle.worm_region.specs.declared.step.Moved.{Moved}
+use Rattle.worm_region.specs.declared.step.Moved.TheVariants.{Done, Idle}
+use Rattle.worm_region.specs.declared.fault.StepFault.{StepFault}
+use Rattle.worm_region.specs.declared.fault.StepFault.TheVariants.{NoSuchPlace, Refused, NoMemory}
+use Rattle.worm_region.proofs.Kept.{net_place}
 use Rattle.worm_split.specs.declared.ends.End.{End}
 use Rattle.worm_split.specs.declared.ends.End.TheVariants.{Inner, Leaving, Entering}
 use Rattle.worm_split.specs.Ends.{leaves_by, enters_by}

@@ -1,9 +1,9 @@
 -- What is told of two networks and of a fault between them, if it holds where nothing is done and is handed on from
 -- each passage to the next, holds of passages one after another.
 use Rattle.std.proofs.Common.{◌≡◌, inl, inr, List, [], ◌∷◌, Option, None, sym, subst, ap}
-use Rattle.worm_core.specs.State.{NetState}
-use Rattle.worm_core.specs.Turns.{Passage, ◌and_then◌, Each}
-use Rattle.worm_core.specs.declared.fault.StepFault.{StepFault}
+use Rattle.worm_region.specs.State.{NetState}
+use Rattle.worm_region.specs.Turns.{Passage, ◌and_then◌, Each}
+use Rattle.worm_region.specs.declared.fault.StepFault.{StepFault}
 use Rattle.worm_split.specs.PartState.{PartState}
 use Rattle.worm_split.specs.PartTurns.{PartPassage, ◌then◌, EachOf}
 

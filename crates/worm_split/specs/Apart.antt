@@ -4,10 +4,10 @@ use Rattle.worm_mesh.specs.Address.{node_count}
 use Rattle.worm_mesh.specs.Ends.{AreEndsOf}
 use Rattle.worm_mesh.specs.Links.{link_count}
 use Rattle.worm_mesh.specs.declared.mesh.LinkEnds.{LinkEnds}
-use Rattle.worm_core.specs.Parts.{IsConfigOf}
-use Rattle.worm_core.specs.State.{NetState}
+use Rattle.worm_region.specs.Parts.{IsConfigOf}
+use Rattle.worm_region.specs.State.{NetState}
 use Rattle.worm_wires.specs.Links.{LinkView, blank_link}
-use Rattle.worm_core.specs.declared.own.Own.{Own}
+use Rattle.worm_region.specs.declared.own.Own.{Own}
 use Rattle.worm_split.specs.declared.exchange.Kept.{Kept}
 use Rattle.worm_split.specs.Exchange.{way_at}
 

@@ -8,10 +8,10 @@ use Rattle.worm_flit.specs.declared.Flit.{Flit}
 use Rattle.worm_links.specs.Links.{TxView, RxView, CreditTxView, CreditRxView}
 use Rattle.worm_theory.specs.Growth.{SinksGrow, SourcesGrow}
 use Rattle.worm_core.specs.Headline.{NothingFollowsMarks}
-use Rattle.worm_core.specs.Owned.{sole}
-use Rattle.worm_core.specs.State.{NetState, IsFramed, link_at, network_of, node_at, shape}
+use Rattle.worm_region.specs.Owned.{sole}
+use Rattle.worm_region.specs.State.{NetState, IsFramed, link_at, network_of, node_at, shape}
 use Rattle.worm_wires.specs.Links.{LinkView, blank_link}
-use Rattle.worm_core.specs.declared.node.Node.{Node}
+use Rattle.worm_region.specs.declared.node.Node.{Node}
 use Rattle.worm_split.specs.declared.ends.End.{End}
 use Rattle.worm_split.specs.declared.ends.End.TheVariants.{Inner, Leaving, Entering}
 use Rattle.worm_split.specs.declared.ends.Line.{Line}

@@ -10,17 +10,17 @@ use Rattle.worm_links.specs.Links.{TxView, RxView, CreditTxView, CreditRxView, l
 use Rattle.worm_router.specs.Router.{leaving, after_send, after_gave}
 use Rattle.worm_router.specs.Allocation.{switch_grants}
 use Rattle.worm_theory.specs.Steps.{Send, GiveCredit}
-use Rattle.worm_core.specs.State.{NetState, router_at, with_router, network_of}
-use Rattle.worm_core.specs.Edges.{after_arriving, after_credit_back}
-use Rattle.worm_core.specs.Moves.{chosen_router}
-use Rattle.worm_core.specs.Replies.{Attempts}
-use Rattle.worm_core.specs.Turns.{ComesInBy, AsksSourceBy, Passage, Allocates, lowest_owed, mesh_ports}
-use Rattle.worm_core.specs.Turns.{all_ports, all_nodes}
-use Rattle.worm_core.specs.declared.fault.StepFault.{StepFault}
-use Rattle.worm_core.specs.declared.script.Entry.{Entry}
+use Rattle.worm_region.specs.State.{NetState, router_at, with_router, network_of}
+use Rattle.worm_region.specs.Edges.{after_arriving, after_credit_back}
+use Rattle.worm_region.specs.Moves.{chosen_router}
+use Rattle.worm_region.specs.Replies.{Attempts}
+use Rattle.worm_region.specs.Turns.{ComesInBy, AsksSourceBy, Passage, Allocates, lowest_owed, mesh_ports}
+use Rattle.worm_region.specs.Turns.{all_ports, all_nodes}
+use Rattle.worm_region.specs.declared.fault.StepFault.{StepFault}
+use Rattle.worm_region.specs.declared.script.Entry.{Entry}
 use Rattle.worm_split.specs.declared.ends.End.{End}
 use Rattle.worm_split.specs.declared.ends.End.TheVariants.{Leaving, Entering}
-use Rattle.worm_core.specs.Workable.{owned}
+use Rattle.worm_region.specs.Workable.{owned}
 use Rattle.worm_swalloc.specs.declared.grant.SwGrant.{SwGrant}
 use Rattle.worm_split.specs.PartState.{PartState, end_of}
 

@@ -2,7 +2,7 @@
 //! worker its part; done again at the join it puts the part back.
 
 ghost use Rattle.std.specs.Prelude.{◌≡◌, ◌<◌, length};
-ghost use Rattle.worm_core.specs.Owned.{owned_by};
+ghost use Rattle.worm_region.specs.Owned.{owned_by};
 ghost use Rattle.worm_split.specs.Exchange.{EndsSwapped, LinksSwapped, NodesSwapped, SwapsEnd, SwapsLink, SwapsNode};
 
 use crate::ends::{End, Line};

@@ -1,8 +1,8 @@
 //! A network split at its links among workers.
 
 ghost use Rattle.std.specs.Prelude.{◌≡◌, ◌<◌, ◌≤◌, IfErr, IfOk, vec_capacity};
-ghost use Rattle.worm_core.specs.State.{IsNet};
-ghost use Rattle.worm_core.specs.Workable.{IsWorkable};
+ghost use Rattle.worm_region.specs.State.{IsNet};
+ghost use Rattle.worm_region.specs.Workable.{IsWorkable};
 ghost use Rattle.worm_split.specs.PartState.{IsPart};
 ghost use Rattle.worm_split.specs.Apart.{IsKept};
 ghost use Rattle.worm_split.specs.Splits.{AreSeats, IsOpened, IsSplitOf, seat_state};

@@ -12,7 +12,7 @@ use Rattle.worm_text.specs.declared.fault.Why.TheVariants.{NoEnd, AfterEnd}
 use Rattle.worm_text.specs.declared.fault.TextFault.{TextFault}
 use Rattle.worm_text.specs.declared.format.Format.{Format}
 use Rattle.worm_text.specs.declared.format.Format.TheVariants.{One, Two}
-use Rattle.worm_core.specs.declared.config.Config.{Config}
+use Rattle.worm_region.specs.declared.config.Config.{Config}
 use Rattle.worm_text.specs.Lines.{cut, newline, line, finished}
 use Rattle.worm_text.specs.Numerals.{is_name}
 use Rattle.worm_text.specs.Network.{Network, view, IsBetween, header_line, class_line, class_lines, mesh_lines}

@@ -3,7 +3,7 @@ use Rattle.std.specs.Prelude.{◌≡◌, ℕ, ◌*◌, ◌≤◌, List, [], ◌�
 use Rattle.std.specs.Prelude.{slice_index, true}
 use Rattle.std.specs.Fmt.{decimal}
 use Rattle.arrayvec.specs.ArrayString.{ArrayString}
-use Rattle.worm_core.specs.declared.config.Config.{Config}
+use Rattle.worm_region.specs.declared.config.Config.{Config}
 use Rattle.worm_text.specs.declared.format.Format.{Format}
 use Rattle.worm_text.specs.declared.format.Format.TheVariants.{One, Two}
 use Rattle.worm_text.specs.Lines.{line, finished}

@@ -1,8 +1,8 @@
 //! Worked cases: networks, and what is offered to them.
 
 ghost use Rattle.std.specs.Prelude.{◌≡◌, IfErr, IfOk, length};
-ghost use Rattle.worm_core.specs.NewNet.{IsConfig, IsFresh};
-ghost use Rattle.worm_core.specs.State.{texts_of};
+ghost use Rattle.worm_region.specs.NewNet.{IsConfig, IsFresh};
+ghost use Rattle.worm_region.specs.State.{texts_of};
 
 use crate::seen::Seen;
 use std::alloc::Global;

@@ -2,8 +2,8 @@
 
 ghost use Rattle.std.specs.Prelude.{◌≡◌, false, IfOk, None};
 ghost use Rattle.worm_core.specs.LaneView.{IsLaneCut};
-ghost use Rattle.worm_core.specs.Script.{due};
-ghost use Rattle.worm_core.specs.Turns.{Reaches, Turn};
+ghost use Rattle.worm_region.specs.Script.{due};
+ghost use Rattle.worm_region.specs.Turns.{Reaches, Turn};
 
 use crate::cases::{lane, two_words};
 use crate::seen::Seen;

@@ -6,11 +6,11 @@ use Rattle.std.proofs.lemmas.List.Elements.{All-cons, All-head, All-nil, All-tai
 use Rattle.worm_term.specs.declared.fault.OfferFault.{OfferFault}
 use Rattle.worm_theory.proofs.Places.{bool_cases}
 use Rattle.worm_core.specs.Acceptable.{EndsForMemory, IsAcceptableScript}
-use Rattle.worm_core.specs.NewNet.{IsFresh}
-use Rattle.worm_core.specs.State.{NetState}
-use Rattle.worm_core.specs.declared.script.Entry.{Entry}
-use Rattle.worm_core.specs.declared.fault.StepFault.{StepFault}
-use Rattle.worm_core.specs.declared.fault.StepFault.TheVariants.{NoMemory as NoRoom}
+use Rattle.worm_region.specs.NewNet.{IsFresh}
+use Rattle.worm_region.specs.State.{NetState}
+use Rattle.worm_region.specs.declared.script.Entry.{Entry}
+use Rattle.worm_region.specs.declared.fault.StepFault.{StepFault}
+use Rattle.worm_region.specs.declared.fault.StepFault.TheVariants.{NoMemory as NoRoom}
 use Rattle.worm_core.proofs.SourceLedgers.{quiet_drains}
 use Rattle.worm_run.specs.declared.plan.RunPlan.{RunPlan}
 use Rattle.worm_run.specs.declared.plan.Stop.{Stop}

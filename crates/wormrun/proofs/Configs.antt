@@ -5,7 +5,7 @@ use Rattle.worm_mesh.specs.Address.{IsMesh, node_count}
 use Rattle.worm_mesh.specs.Faults.{IsFault}
 use Rattle.worm_mesh.specs.declared.mesh.MeshFault.{MeshFault}
 use Rattle.worm_mesh.specs.declared.mesh.MeshFault.TheVariants.{Radix, Dims, TooManyNodes}
-use Rattle.worm_core.specs.NewNet.{IsConfig}
+use Rattle.worm_region.specs.NewNet.{IsConfig}
 use Rattle.worm_text.specs.declared.format.Format.{Format}
 use Rattle.worm_text.specs.Network.{Network, Keeps, nodes_of}
 

@@ -1,10 +1,10 @@
 -- A drain, turn by turn.
 use Rattle.std.proofs.Common.{◌≡◌, ℕ, zero, suc, ◌-◌, ◌+◌, ◌<◌, ◌==◌, true, false, [], Option, Some, None, inl, inr}
 use Rattle.std.proofs.Common.{refl, arith, sym, subst}
-use Rattle.worm_core.specs.State.{NetState}
-use Rattle.worm_core.specs.Totals.{injected_total, delivered_total}
-use Rattle.worm_core.specs.Turns.{Turn, Drains}
-use Rattle.worm_core.specs.declared.fault.StepFault.{StepFault}
+use Rattle.worm_region.specs.State.{NetState}
+use Rattle.worm_region.specs.Totals.{injected_total, delivered_total}
+use Rattle.worm_region.specs.Turns.{Turn, Drains}
+use Rattle.worm_region.specs.declared.fault.StepFault.{StepFault}
 
 -- nothing is under way
 pub drain_over : (n : ℕ) (a : NetState) → (injected_total a == delivered_total a) ≡ true → Drains n a None a

@@ -2,16 +2,16 @@
 use Rattle.std.proofs.Common.{◌≡◌, ℕ, ◌-◌, List, [], ◌∷◌, length, Option, Some, None, Result, Ok, refl, ap, sym}
 use Rattle.std.proofs.Common.{subst, ◌∙◌}
 use Rattle.worm_core.proofs.Determined.{run_one}
-use Rattle.worm_core.proofs.NewNet.{fresh_one}
-use Rattle.worm_core.specs.NewNet.{IsFresh}
-use Rattle.worm_core.specs.State.{NetState}
-use Rattle.worm_core.specs.Totals.{accepted_total}
-use Rattle.worm_core.specs.Turns.{OneThreadRun}
-use Rattle.worm_core.specs.declared.fault.StepFault.{StepFault}
-use Rattle.worm_core.specs.declared.fault.StepFault.TheVariants.{NoMemory}
-use Rattle.worm_core.specs.declared.script.Act.{Act}
-use Rattle.worm_core.specs.declared.script.Act.TheVariants.{Offer, Close}
-use Rattle.worm_core.specs.declared.script.Entry.{Entry}
+use Rattle.worm_region.proofs.NewNet.{fresh_one}
+use Rattle.worm_region.specs.NewNet.{IsFresh}
+use Rattle.worm_region.specs.State.{NetState}
+use Rattle.worm_region.specs.Totals.{accepted_total}
+use Rattle.worm_region.specs.Turns.{OneThreadRun}
+use Rattle.worm_region.specs.declared.fault.StepFault.{StepFault}
+use Rattle.worm_region.specs.declared.fault.StepFault.TheVariants.{NoMemory}
+use Rattle.worm_region.specs.declared.script.Act.{Act}
+use Rattle.worm_region.specs.declared.script.Act.TheVariants.{Offer, Close}
+use Rattle.worm_region.specs.declared.script.Entry.{Entry}
 use Rattle.worm_report.specs.Report.{report}
 use Rattle.worm_report.specs.Seen.{seen}
 use Rattle.worm_text.proofs.TrafficAgain.{IsNamed, reads_traffic}

@@ -1,12 +1,12 @@
 -- What the program answers where a report of accepted texts was written, or a part of one.
 use Rattle.std.proofs.Common.{◌≡◌, ◌≢◌, ℕ, List, Some, None, Option, Ok, Err, inl, inr, refl, subst}
 use Rattle.std.specs.Prelude.{Result, MatchResult, IsSome}
-use Rattle.worm_core.specs.declared.script.Entry.{Entry}
-use Rattle.worm_core.specs.declared.fault.StepFault.{StepFault}
-use Rattle.worm_core.specs.declared.fault.StepFault.TheVariants.{NoMemory as NoRoom}
+use Rattle.worm_region.specs.declared.script.Entry.{Entry}
+use Rattle.worm_region.specs.declared.fault.StepFault.{StepFault}
+use Rattle.worm_region.specs.declared.fault.StepFault.TheVariants.{NoMemory as NoRoom}
 use Rattle.worm_core.specs.Acceptable.{EndsForMemory}
-use Rattle.worm_core.specs.State.{NetState}
-use Rattle.worm_core.specs.Turns.{OneThreadRun}
+use Rattle.worm_region.specs.State.{NetState}
+use Rattle.worm_region.specs.Turns.{OneThreadRun}
 use Rattle.wormrun.specs.declared.fault.ProgramFault.{ProgramFault}
 use Rattle.wormrun.specs.declared.fault.ProgramFault.TheVariants as f
 use Rattle.wormrun.specs.declared.turns.Ending.{Ending}

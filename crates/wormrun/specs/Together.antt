@@ -5,15 +5,15 @@ use Rattle.std.specs.Prelude.{slice_index_or, All, find, option_map, Option, Non
 use Rattle.std.specs.List.{list_any}
 use Rattle.std.specs.Io.KnownBytes.{Keeps, Appends}
 use Rattle.worm_mesh.specs.Address.{node_count}
-use Rattle.worm_core.specs.declared.script.Entry.{Entry}
-use Rattle.worm_core.specs.declared.fault.StepFault.{StepFault}
-use Rattle.worm_core.specs.declared.fault.StepFault.TheVariants.{NoMemory as NoRoom}
+use Rattle.worm_region.specs.declared.script.Entry.{Entry}
+use Rattle.worm_region.specs.declared.fault.StepFault.{StepFault}
+use Rattle.worm_region.specs.declared.fault.StepFault.TheVariants.{NoMemory as NoRoom}
 use Rattle.worm_core.specs.Acceptable.{EndsForMemory}
 use Rattle.worm_core.specs.Headline.{DeliversInOrder}
-use Rattle.worm_core.specs.NewNet.{IsFresh}
-use Rattle.worm_core.specs.State.{NetState}
-use Rattle.worm_core.specs.Totals.{accepted_total}
-use Rattle.worm_core.specs.Turns.{Drains}
+use Rattle.worm_region.specs.NewNet.{IsFresh}
+use Rattle.worm_region.specs.State.{NetState}
+use Rattle.worm_region.specs.Totals.{accepted_total}
+use Rattle.worm_region.specs.Turns.{Drains}
 use Rattle.worm_split.specs.Joins.{IsLaterThan}
 use Rattle.worm_run.specs.declared.plan.RunEnd.{RunEnd}
 use Rattle.worm_run.specs.declared.plan.RunPlan.{RunPlan}

@@ -1,10 +1,10 @@
 //! The program over readers and a writer.
 
 ghost use Rattle.std.specs.Prelude.{◌≡◌, ◌<◌, ◌-◌, length, nat_le, IfOk, IfErr, IfSome, OnOk, MatchResult};
-ghost use Rattle.worm_core.specs.NewNet.{IsFresh};
-ghost use Rattle.worm_core.specs.Script.{AreInOrder};
-ghost use Rattle.worm_core.specs.State.{texts_of};
-ghost use Rattle.worm_core.specs.Totals.{accepted_total};
+ghost use Rattle.worm_region.specs.NewNet.{IsFresh};
+ghost use Rattle.worm_region.specs.Script.{AreInOrder};
+ghost use Rattle.worm_region.specs.State.{texts_of};
+ghost use Rattle.worm_region.specs.Totals.{accepted_total};
 ghost use Rattle.worm_report.specs.Seen.{seen};
 ghost use Rattle.worm_report.specs.Report.{report};
 ghost use Rattle.worm_text.specs.Network.{view, Keeps as KeepsRules};

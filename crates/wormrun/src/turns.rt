@@ -1,7 +1,7 @@
 //! A script's turns on one thread, and the drain after them.
 
 ghost use Rattle.std.specs.Prelude.{◌<◌, None, Some, MatchOption};
-ghost use Rattle.worm_core.specs.Turns.{Drains, OneThreadRun, Turns};
+ghost use Rattle.worm_region.specs.Turns.{Drains, OneThreadRun, Turns};
 ghost use Rattle.wormrun.specs.Programs.{StopsAt};
 
 use std::alloc::Global;

@@ -125,25 +125,6 @@ fn a_mark_arrives_last(rt: HostRuntime) -> Result<(), Fail> {
     Ok(())
 }
 
-#[test]
-fn the_entries_of_a_turn(rt: HostRuntime) -> Result<(), Fail> {
-    let mut script = Script::empty(rt.alloc());
-    for turn in [0, 2, 2, 5] {
-        script.push(to_offer(turn, lane(0, turn as u8, 0), &[1])?)?;
-    }
-    let early = script.push(to_offer(4, lane(0, 4, 0), &[1])?);
-    assert_eq!(rt; early, Err(ScriptFault::TurnFalls));
-    assert_eq!(rt; script.entries().len(), 4);
-    assert_eq!(rt; script.due(0).len(), 1);
-    assert_eq!(rt; script.due(1).len(), 0);
-    assert_eq!(rt; script.due(2).len(), 2);
-    let last = script.due(5);
-    assert_eq!(rt; last.len(), 1);
-    assert_eq!(rt; last[0].act.lane(), lane(0, 5, 0));
-    assert_eq!(rt; script.due(1_000_000_000_000).len(), 0);
-    Ok(())
-}
-
 /// The most nodes, the deepest buffers, the most channels and the longest packet, over the longest way. A flit is fed
 /// each turn, and goes all the way in it, as the nodes on it rise.
 #[test]

@@ -1,8 +1,8 @@
 use Rattle.std.proofs.Common.{◌≡◌, ℕ, length, ap, arith, subst, sym, ◌∙◌}
 use Rattle.worm_core.specs.Headline.{DeliversInOrder}
-use Rattle.worm_core.specs.Parts.{parts_state}
-use Rattle.worm_core.specs.State.{NetState, IsNet}
-use Rattle.worm_core.specs.declared.parts.NetParts.{NetParts}
+use Rattle.worm_region.specs.Parts.{parts_state}
+use Rattle.worm_region.specs.State.{NetState, IsNet}
+use Rattle.worm_region.specs.declared.parts.NetParts.{NetParts}
 use Rattle.worm_core.proofs.Headline.{delivers}
 use Rattle.worm_split.specs.Ends.{line_at}
 use Rattle.worm_split.specs.Joins.{AreEmptied, AreOfOne, IsBetween, IsJoinOf, IsLaterThan}

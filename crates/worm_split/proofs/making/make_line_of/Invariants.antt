@@ -1,4 +1,4 @@
-use Rattle.worm_core.specs.State.{network_of, shape}
+use Rattle.worm_region.specs.State.{network_of, shape}
 use Rattle.worm_parts.specs.Openings.{past_of}
 use Rattle.worm_split.proofs.making.make_line_of.Given as goal
 

@@ -1,7 +1,7 @@
 use Rattle.std.proofs.Common.{◌-◌, None, Some, List, sym, subst, ◌∙◌}
-use Rattle.worm_core.specs.Script.{due}
-use Rattle.worm_core.specs.Turns.{Turn}
-use Rattle.worm_core.specs.declared.script.Entry.{Entry}
+use Rattle.worm_region.specs.Script.{due}
+use Rattle.worm_region.specs.Turns.{Turn}
+use Rattle.worm_region.specs.declared.script.Entry.{Entry}
 use Rattle.wormrun.proofs.Draining.{drain_over, drain_on, drain_cut}
 use Rattle.wormrun.proofs.turns.drain.Goals as goal
 

@@ -1,7 +1,7 @@
 use Rattle.std.proofs.Common.{◌-◌, Option}
-use Rattle.worm_core.specs.State.{NetState}
-use Rattle.worm_core.specs.Turns.{Drains}
-use Rattle.worm_core.specs.declared.fault.StepFault.{StepFault}
+use Rattle.worm_region.specs.State.{NetState}
+use Rattle.worm_region.specs.Turns.{Drains}
+use Rattle.worm_region.specs.declared.fault.StepFault.{StepFault}
 use Rattle.wormrun.proofs.turns.drain.Given as goal
 
 abbrev pub invariant-loop-turn : goal.invariant-loop-turn

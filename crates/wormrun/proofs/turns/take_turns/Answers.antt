@@ -1,5 +1,5 @@
 use Rattle.std.proofs.Common.{None}
-use Rattle.worm_core.proofs.Passages.{turns_more}
+use Rattle.worm_region.proofs.Passages.{turns_more}
 use Rattle.wormrun.proofs.turns.take_turns.Goals as goal
 
 pub loop-turn-preserved : goal.loop-turn-preserved

@@ -1,5 +1,5 @@
 use Rattle.std.proofs.Common.{None}
-use Rattle.worm_core.specs.Turns.{Turns}
+use Rattle.worm_region.specs.Turns.{Turns}
 use Rattle.wormrun.proofs.turns.take_turns.Given as goal
 
 abbrev pub invariant-loop-turn : goal.invariant-loop-turn

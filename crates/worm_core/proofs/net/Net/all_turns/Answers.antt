@@ -1,7 +1,7 @@
 use Rattle.std.proofs.Common.{subst}
 use Rattle.std.specs.Result.{result_err}
-use Rattle.worm_core.specs.State.{NetState}
-use Rattle.worm_core.specs.Turns.{Reaches, Turn}
+use Rattle.worm_region.specs.State.{NetState}
+use Rattle.worm_region.specs.Turns.{Reaches, Turn}
 use Rattle.worm_core.proofs.Lifting.{lift_turn}
 use Rattle.worm_core.proofs.net.Net.all_turns.Goals as goal
 

@@ -1,6 +1,6 @@
 use Rattle.std.proofs.Common.{◌≡◌, ◌+◌, subst}
-use Rattle.worm_core.specs.State.{NetState}
-use Rattle.worm_core.specs.UnderWay.{accepted_in, taken_in}
+use Rattle.worm_region.specs.State.{NetState}
+use Rattle.worm_region.specs.UnderWay.{accepted_in, taken_in}
 use Rattle.worm_core.proofs.TotalsUnderWay.{none_under_way}
 use Rattle.worm_core.proofs.net.Net.is_drained.Goals as goal
 

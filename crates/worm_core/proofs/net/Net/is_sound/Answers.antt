@@ -1,5 +1,5 @@
 use Rattle.std.proofs.Common.{subst}
-use Rattle.worm_core.specs.State.{IsNet}
+use Rattle.worm_region.specs.State.{IsNet}
 use Rattle.worm_core.proofs.Headline.{delivers}
 use Rattle.worm_core.proofs.net.Net.is_sound.Goals as goal
 

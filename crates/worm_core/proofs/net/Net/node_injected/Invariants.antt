@@ -1,5 +1,5 @@
 use Rattle.std.proofs.Common.{◌≡◌, ◌≤◌, ◌*◌, ◌^◌}
-use Rattle.worm_core.specs.Totals.{injected_below}
+use Rattle.worm_region.specs.Totals.{injected_below}
 use Rattle.worm_core.proofs.net.Net.node_injected.Given as goal
 
 abbrev pub invariant-loop-class : goal.invariant-loop-class

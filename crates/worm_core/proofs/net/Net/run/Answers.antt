@@ -1,5 +1,5 @@
 use Rattle.std.proofs.Common.{map, take}
-use Rattle.worm_core.specs.Runs.{event_of}
+use Rattle.worm_region.specs.Runs.{event_of}
 use Rattle.worm_core.proofs.Headline.{nothing_follows}
 use Rattle.worm_core.proofs.RunSteps.{answered_stand, run_of}
 use Rattle.worm_core.proofs.net.Net.run.Goals as goal

@@ -1,5 +1,5 @@
 use Rattle.std.proofs.Common.{◌≡◌, take}
-use Rattle.worm_core.specs.Runs.{AreAnswered}
+use Rattle.worm_region.specs.Runs.{AreAnswered}
 use Rattle.worm_core.proofs.net.Net.take_steps.Given as goal
 
 abbrev pub invariant-loop-step : goal.invariant-loop-step

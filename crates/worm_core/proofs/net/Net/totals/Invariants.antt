@@ -1,7 +1,7 @@
 use Rattle.std.proofs.Common.{◌≡◌, ◌≤◌, ◌*◌, ◌^◌, length}
 use Rattle.worm_mesh.specs.Links.{sum_below}
-use Rattle.worm_core.specs.State.{sink_at}
-use Rattle.worm_core.specs.Totals.{injected_below, accepted_below}
+use Rattle.worm_region.specs.State.{sink_at}
+use Rattle.worm_region.specs.Totals.{injected_below, accepted_below}
 use Rattle.worm_core.proofs.net.Net.totals.Given as goal
 
 abbrev pub invariant-loop-node : goal.invariant-loop-node

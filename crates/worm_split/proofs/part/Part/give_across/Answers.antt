@@ -1,7 +1,7 @@
 use Rattle.std.proofs.Common.{◌<◌, length, sum, arith, sym, subst, ◌∙◌}
 use Rattle.std.specs.Prelude.{slice_set}
 use Rattle.worm_mesh.specs.Address.{node_count}
-use Rattle.worm_core.specs.declared.own.Own.{Own}
+use Rattle.worm_region.specs.declared.own.Own.{Own}
 use Rattle.worm_split.specs.Apart.{IsKept}
 use Rattle.worm_split.specs.PartState.{PartState, IsPart, IsSamePart, part_state}
 use Rattle.worm_split.specs.PartTurns.{ComesBy, GivesAcross}

@@ -1,7 +1,7 @@
 use Rattle.std.proofs.Common.{◌≡◌, ◌<◌, ℕ, List, true, sym, subst}
 use Rattle.worm_mesh.specs.Address.{node_count}
-use Rattle.worm_core.specs.Owned.{owned_by}
-use Rattle.worm_core.specs.declared.own.Own.{Own}
+use Rattle.worm_region.specs.Owned.{owned_by}
+use Rattle.worm_region.specs.declared.own.Own.{Own}
 use Rattle.worm_split.specs.PartTurns.{GivesCredit}
 use Rattle.worm_split.proofs.PartLoops.{of_more, same_on}
 use Rattle.worm_split.proofs.part.Part.give_credits.Goals as goal

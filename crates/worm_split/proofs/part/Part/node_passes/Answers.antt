@@ -1,8 +1,8 @@
 use Rattle.std.proofs.Common.{Some, None, inl, inr, refl, sym, subst}
 use Rattle.std.proofs.lemmas.Result.{err_from_is_err_and}
 use Rattle.worm_router.specs.Allocation.{switch_grants}
-use Rattle.worm_core.specs.Prepared.{allocated_at}
-use Rattle.worm_core.specs.State.{router_at}
+use Rattle.worm_region.specs.Prepared.{allocated_at}
+use Rattle.worm_region.specs.State.{router_at}
 use Rattle.worm_split.specs.PartState.{PartState}
 use Rattle.worm_split.specs.PartTurns.{◌then◌, GivesCredits, NodePasses, SendsGranted}
 use Rattle.worm_split.proofs.Granting.{prepared, sent_chosen}

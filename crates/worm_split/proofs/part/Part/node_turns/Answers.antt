@@ -3,9 +3,9 @@ use Rattle.std.proofs.Math.Nat.{suc-mod}
 use Rattle.std.proofs.lemmas.Result.{err_from_is_err_and}
 use Rattle.std.specs.Prelude.{filter}
 use Rattle.worm_mesh.specs.Address.{node_count}
-use Rattle.worm_core.specs.Owned.{owned_by}
-use Rattle.worm_core.specs.Workable.{owned}
-use Rattle.worm_core.specs.declared.own.Own.{Own}
+use Rattle.worm_region.specs.Owned.{owned_by}
+use Rattle.worm_region.specs.Workable.{owned}
+use Rattle.worm_region.specs.declared.own.Own.{Own}
 use Rattle.worm_split.specs.PartTurns.{EachOf, NodeTurn}
 use Rattle.worm_split.proofs.PartLoops.{of_next, of_ending, same_on}
 use Rattle.worm_split.proofs.part.Part.node_turns.Goals as goal

@@ -1,7 +1,7 @@
 use Rattle.std.proofs.Common.{◌≡◌, ◌%◌, None}
 use Rattle.std.specs.Prelude.{filter}
 use Rattle.std.specs.List.{range_with_len}
-use Rattle.worm_core.specs.Workable.{owned}
+use Rattle.worm_region.specs.Workable.{owned}
 use Rattle.worm_split.specs.PartState.{IsSamePart}
 use Rattle.worm_split.specs.PartTurns.{EachOf, NodeTurn}
 use Rattle.worm_split.proofs.part.Part.node_turns.Given as goal

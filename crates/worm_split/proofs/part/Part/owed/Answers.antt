@@ -2,7 +2,7 @@ use Rattle.std.proofs.Common.{ℕ, List, ◌<◌, arith, sym, subst, sum}
 use Rattle.std.specs.Prelude.{IfSome}
 use Rattle.worm_mesh.specs.Address.{node_count}
 use Rattle.worm_router.specs.Router.{input_at}
-use Rattle.worm_core.specs.State.{router_at}
+use Rattle.worm_region.specs.State.{router_at}
 use Rattle.worm_split.specs.PartState.{PartState}
 use Rattle.worm_split.proofs.Staying.{lowest_found}
 use Rattle.worm_split.proofs.part.Part.owed.Goals as goal

@@ -2,8 +2,8 @@ use Rattle.std.proofs.Common.{◌≡◌, ◌%◌, ℕ, List, [], ◌∷◌, true
 use Rattle.std.proofs.lemmas.Bool.{eq-eqb}
 use Rattle.std.specs.Prelude.{filter}
 use Rattle.std.specs.Result.{result_err}
-use Rattle.worm_core.specs.Workable.{owned}
-use Rattle.worm_core.specs.declared.own.Own.{Own}
+use Rattle.worm_region.specs.Workable.{owned}
+use Rattle.worm_region.specs.declared.own.Own.{Own}
 use Rattle.worm_split.specs.PartTurns.{EachOf, NodeTurn}
 use Rattle.worm_split.proofs.PartLoops.{of_one}
 use Rattle.worm_split.proofs.part.Part.own_turn.Goals as goal

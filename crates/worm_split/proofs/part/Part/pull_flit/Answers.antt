@@ -2,7 +2,7 @@ use Rattle.std.proofs.Common.{◌≡◌, ◌<◌, Option, Some, refl, inr, sym, 
 use Rattle.std.specs.Prelude.{slice_set}
 use Rattle.worm_wires.specs.Wiring.{port_links}
 use Rattle.worm_wires.specs.declared.wiring.PortLinks.{PortLinks}
-use Rattle.worm_core.specs.declared.own.Own.{Own}
+use Rattle.worm_region.specs.declared.own.Own.{Own}
 use Rattle.worm_split.specs.Apart.{IsKept}
 use Rattle.worm_split.specs.PartState.{PartState, IsPart, IsSamePart, part_state}
 use Rattle.worm_split.specs.PartTurns.{FlitComes}

@@ -1,8 +1,8 @@
 use Rattle.std.proofs.Common.{◌≡◌, true, arith, sym, subst}
 use Rattle.std.proofs.lemmas.Result.{err_from_is_err_and}
-use Rattle.worm_core.specs.Owned.{owned_by}
-use Rattle.worm_core.specs.Workable.{IsWorkable}
-use Rattle.worm_core.specs.declared.own.Own.{Own}
+use Rattle.worm_region.specs.Owned.{owned_by}
+use Rattle.worm_region.specs.Workable.{IsWorkable}
+use Rattle.worm_region.specs.declared.own.Own.{Own}
 use Rattle.worm_split.specs.PartState.{PartState}
 use Rattle.worm_split.proofs.Granting.{sent_start, sent_there, sent_more, sent_until, sent_all}
 use Rattle.worm_split.proofs.PartLoops.{same_on}

@@ -1,8 +1,8 @@
 use Rattle.std.proofs.Common.{◌≡◌, true, sym, subst, ◌∙◌}
 use Rattle.worm_router.specs.Router.{leaving}
-use Rattle.worm_core.specs.State.{router_at}
-use Rattle.worm_core.specs.Workable.{owned}
-use Rattle.worm_core.specs.declared.own.Own.{Own}
+use Rattle.worm_region.specs.State.{router_at}
+use Rattle.worm_region.specs.Workable.{owned}
+use Rattle.worm_region.specs.declared.own.Own.{Own}
 use Rattle.worm_split.specs.Apart.{IsKept}
 use Rattle.worm_split.specs.PartState.{PartState, part_state}
 use Rattle.worm_split.specs.PartTurns.{StaysWithin}

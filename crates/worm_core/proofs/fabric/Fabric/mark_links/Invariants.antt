@@ -1,5 +1,0 @@
-use Rattle.worm_core.specs.LaneSet.{KeepsMarks, LinksMarked}
-use Rattle.worm_core.proofs.fabric.Fabric.mark_links.Given as goal
-
-abbrev pub invariant-loop-number : goal.invariant-loop-number
-invariant-loop-number l = record { kept : KeepsMarks l.initial.set l.set; marked : LinksMarked l.self l.set l.number }

@@ -1,9 +1,0 @@
-use Rattle.std.proofs.Common.{◌≡◌, length}
-use Rattle.worm_core.specs.NewNet.{AreFresh}
-use Rattle.worm_core.proofs.fresh.make_nodes.Given as goal
-
-abbrev pub invariant-loop-node : goal.invariant-loop-node
-invariant-loop-node l = record {
-  counted : length l.nodes.items ≡ l.node;
-  fresh : AreFresh l.mesh l.channels l.depth l.nodes.items;
-}

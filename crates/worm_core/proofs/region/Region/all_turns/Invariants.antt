@@ -1,9 +1,0 @@
-use Rattle.std.proofs.Common.{None}
-use Rattle.std.specs.List.{range_with_len}
-use Rattle.worm_core.specs.Replies.{Attempts}
-use Rattle.worm_core.specs.Turns.{Does, Each, NodeTurnBy}
-use Rattle.worm_core.proofs.region.Region.all_turns.Given as goal
-
-abbrev pub invariant-loop-node : goal.invariant-loop-node
-invariant-loop-node l =
-    Does (Each (NodeTurnBy Attempts l.entries) (range_with_len 0 l.node)) l.initial.self None l.self

@@ -1,9 +1,0 @@
-use Rattle.std.proofs.Common.{ℕ}
-use Rattle.worm_core.proofs.Routing.{Routed}
-use Rattle.worm_core.proofs.region.Region.route_channels.Given as goal
-
-abbrev pub invariant-loop-port : goal.invariant-loop-port
-invariant-loop-port l = (port : ℕ) × (vc : ℕ) × Routed l.node l.initial.self l.self l.unrouted port vc
-
-abbrev pub decreases-loop-port : goal.decreases-loop-port
-decreases-loop-port l = l.unrouted

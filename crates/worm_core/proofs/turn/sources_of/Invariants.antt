@@ -1,9 +1,0 @@
-use Rattle.std.proofs.Common.{ℕ, ◌≡◌, ◌<◌, true, false, [], take}
-use Rattle.std.specs.Prelude.{slice_index_or}
-use Rattle.worm_core.specs.Script.{begun_at}
-use Rattle.worm_core.proofs.turn.sources_of.Given as goal
-
--- of the entries before, none is for a node that is not marked
-abbrev pub invariant-loop-entry : goal.invariant-loop-entry
-invariant-loop-entry l = (x : ℕ) → x < 256 → slice_index_or l.sources x true ≡ false
-    → begun_at x (take l.entry-index l.entries) ≡ []

@@ -1,0 +1,139 @@
+-- How many flits are under way, after a change of one node.
+use Rattle.std.proofs.Common.{◌≡◌, ℕ, ◌+◌, ◌++◌, ◌∷◌, [], ◌<◌, Bool, true, false, List, length, set, get_or, Option}
+use Rattle.std.proofs.Common.{Some, None, inl, inr, arith, ap, refl, ◌∙◌, length-append}
+use Rattle.std.specs.Prelude.{Result, Ok, Err, OnOk, OnErr, is_ok, if◌then◌else◌}
+use Rattle.worm_term.specs.declared.fault.OfferFault.{OfferFault}
+use Rattle.std.specs.List.{sum_by}
+use Rattle.std.proofs.lemmas.List.{set_past}
+use Rattle.std.proofs.lemmas.List.Sums.{sum_by-set}
+use Rattle.std.proofs.lemmas.Bool.{cases_lt}
+use Rattle.worm_flit.specs.declared.Flit.{Flit}
+use Rattle.worm_flit.specs.declared.Lane.{Lane}
+use Rattle.worm_flit.specs.Packets.{PacketState, mark, packet_flits}
+use Rattle.worm_flit.proofs.Packets.{length-packet_flits}
+use Rattle.worm_term.specs.Queue.{QueueState, empty_queue, one_fed}
+use Rattle.worm_term.specs.Source.{SourceState, after_close, after_offer, next_number, queue_at}
+use Rattle.worm_router.specs.Router.{RouterState}
+use Rattle.worm_region.specs.Moves.{delivered_node, fed_node}
+use Rattle.worm_region.specs.Still.{KnowsStill}
+use Rattle.worm_region.specs.UnderWay.{IsUnderWay, accepted_by, accepted_in, taken_by, taken_in}
+use Rattle.worm_region.specs.declared.node.Node.{Node}
+use Rattle.worm_region.proofs.KeptStill.{touched}
+
+-- sums of a list with another element
+
+sum_more : {A : Type 0} (f : A → ℕ) (xs : List A) (i a : ℕ) (y d : A) → i < length xs → f y ≡ f (get_or xs i d) + a
+    → sum_by f (set xs i y) ≡ sum_by f xs + a
+sum_more f xs i a y d there e = let sums = sum_by-set f xs i y d there in omega arith
+
+sum_same : {A : Type 0} (f : A → ℕ) (xs : List A) (i : ℕ) (y d : A) → f y ≡ f (get_or xs i d)
+    → sum_by f (set xs i y) ≡ sum_by f xs
+sum_same f xs i y d e = elim (cases_lt i (length xs)) [
+  | inl there ↦ let more = sum_more f xs i 0 y d there (e ∙ omega arith) in omega arith
+  | inr past ↦ ap (sum_by f) (set_past xs i y past)
+]
+
+-- what the operations of a node accept and take
+
+pub offered_more : (n : Node) (p : PacketState) → p.lane.class < length n.source.queues
+    → accepted_by (record n { source = after_offer n.source p }) ≡ accepted_by n + length p.words
+unfolding accepted_by
+offered_more n p there =
+    let q = queue_at n.source p.lane.class in
+    let flits = packet_flits p.lane (next_number n.source p.lane) p.words in
+    let grown = length-append q.injected flits in
+    let count = length-packet_flits p.lane (next_number n.source p.lane) p.words in
+    sum_more (λ (q : QueueState). length q.injected) n.source.queues p.lane.class (length p.words)
+    (record q { injected = q.injected ++ flits }) empty_queue there (omega arith)
+
+pub closed_more : (n : Node) (lane : Lane) → lane.class < length n.source.queues
+    → accepted_by (record n { source = after_close n.source lane }) ≡ accepted_by n + 1
+unfolding accepted_by
+closed_more n lane there =
+    let q = queue_at n.source lane.class in
+    let flits = mark lane (next_number n.source lane) ∷ [] in
+    let grown = length-append q.injected flits in
+    sum_more (λ (q : QueueState). length q.injected) n.source.queues lane.class 1
+    (record q { injected = q.injected ++ flits }) empty_queue there grown
+
+pub fed_same : (n : Node) (k : ℕ) (o : Option Flit)
+    → (accepted_by (fed_node n k o) ≡ accepted_by n) × (taken_by (fed_node n k o) ≡ taken_by n)
+unfolding accepted_by taken_by
+fed_same n k None = (refl, refl)
+fed_same n k (Some f) = (
+  sum_same (λ (q : QueueState). length q.injected) n.source.queues k
+      (one_fed (queue_at n.source k)) empty_queue refl,
+  refl,
+)
+
+-- the same where it is done only if there is room
+pub fed_if : (n m : Node) (k : ℕ) (o : Option Flit) (done : Bool) → m ≡ (if done then fed_node n k o else n)
+    → (accepted_by m ≡ accepted_by n) × (taken_by m ≡ taken_by n)
+fed_if n m k o true is = rw is (fed_same n k o)
+fed_if n m k o false is = rw is (refl, refl)
+
+pub delivered_more : (n : Node) (p v : ℕ) (f : Flit)
+    → (accepted_by (delivered_node n p v f) ≡ accepted_by n) × (taken_by (delivered_node n p v f) ≡ taken_by n + 1)
+unfolding accepted_by taken_by
+delivered_more n p v f = (refl, length-append n.sink.delivered (f ∷ []))
+
+pub routed_same : (n : Node) (r : RouterState)
+    → (accepted_by (record n { router = r }) ≡ accepted_by n) × (taken_by (record n { router = r }) ≡ taken_by n)
+unfolding accepted_by taken_by
+routed_same n r = (refl, refl)
+
+pub sources_same : (n : Node) (t : SourceState) → taken_by (record n { source = t }) ≡ taken_by n
+unfolding taken_by
+sources_same n t = refl
+
+-- What is known of the nodes once one of them, read at the place j, has changed: it is not known to be still, and the
+-- count is another.
+
+module _ (nodes : List Node) (kept : List Bool) (count : Option ℕ) (i j x : ℕ) (n m : Node)
+    (knows : KnowsStill nodes kept × IsUnderWay (accepted_in nodes) (taken_in nodes) count) (at_i : i ≡ x)
+    (at_j : j ≡ x) (there : x < length nodes) (read : n ≡ get_or nodes j n) where
+  accepted_new : (a : ℕ) → accepted_by m ≡ accepted_by n + a → accepted_in (set nodes j m) ≡ accepted_in nodes + a
+  unfolding accepted_in
+  accepted_new a e = sum_more accepted_by nodes j a m n (omega arith) (e ∙ ap (λ (k : Node). accepted_by k + a) read)
+
+  taken_new : (t : ℕ) → taken_by m ≡ taken_by n + t → taken_in (set nodes j m) ≡ taken_in nodes + t
+  unfolding taken_in
+  taken_new t e = sum_more taken_by nodes j t m n (omega arith) (e ∙ ap (λ (k : Node). taken_by k + t) read)
+
+  still_new : KnowsStill (set nodes j m) (set kept i false)
+  still_new = rw (at_i, at_j) (touched nodes kept x m knows.0)
+
+  pub accepts : (a : ℕ) (new_count : Option ℕ) → accepted_by m ≡ accepted_by n + a → taken_by m ≡ taken_by n
+      → ((accepted taken : ℕ) → IsUnderWay accepted taken count → IsUnderWay (accepted + a) taken new_count)
+      → KnowsStill (set nodes j m) (set kept i false)
+      × IsUnderWay (accepted_in (set nodes j m)) (taken_in (set nodes j m)) new_count
+  accepts a new_count more same counts =
+      let taken : taken_in (set nodes j m) ≡ taken_in nodes = taken_new 0 (same ∙ omega arith) ∙ omega arith in
+      (still_new, rw (accepted_new a more, taken) (counts (accepted_in nodes) (taken_in nodes) knows.1))
+
+  pub takes : (new_count : Option ℕ) → accepted_by m ≡ accepted_by n → taken_by m ≡ taken_by n + 1
+      → ((accepted taken : ℕ) → IsUnderWay accepted taken count → IsUnderWay accepted (taken + 1) new_count)
+      → KnowsStill (set nodes j m) (set kept i false)
+      × IsUnderWay (accepted_in (set nodes j m)) (taken_in (set nodes j m)) new_count
+  takes new_count same more counts =
+      let accepted : accepted_in (set nodes j m) ≡ accepted_in nodes =
+      accepted_new 0 (same ∙ omega arith) ∙ omega arith in
+      (still_new, rw (accepted, taken_new 1 more) (counts (accepted_in nodes) (taken_in nodes) knows.1))
+
+  pub stays : (accepted_by m ≡ accepted_by n) × (taken_by m ≡ taken_by n)
+      → KnowsStill (set nodes j m) (set kept i false)
+      × IsUnderWay (accepted_in (set nodes j m)) (taken_in (set nodes j m)) count
+  stays same =
+      let accepted : accepted_in (set nodes j m) ≡ accepted_in nodes =
+      accepted_new 0 (same.0 ∙ omega arith) ∙ omega arith in
+      let taken : taken_in (set nodes j m) ≡ taken_in nodes = taken_new 0 (same.1 ∙ omega arith) ∙ omega arith in
+      (still_new, rw (accepted, taken) knows.1)
+
+-- what an answer says of its two cases
+pub on_ok : (r : Result ℕ OfferFault) (P : Type 0) → OnOk r P → is_ok r ≡ true → P
+on_ok (Ok n) P holds is = holds
+on_ok (Err fault) P holds is = absurd (cc)
+
+pub on_err : (r : Result ℕ OfferFault) (P : Type 0) → OnErr r P → is_ok r ≡ false → P
+on_err (Ok n) P holds is = absurd (cc)
+on_err (Err fault) P holds is = holds

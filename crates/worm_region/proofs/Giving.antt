@@ -1,0 +1,226 @@
+-- Credits are given by the ports that owe one, and what any other port owes stays.
+use Rattle.std.proofs.Common.{◌≡◌, ◌==◌, ℕ, ◌+◌, ◌-◌, ◌*◌, ◌<◌, ◌≤◌, true, false, inl, inr, List, length, nat_lt, sum}
+use Rattle.std.proofs.Common.{Some, None, Ok, Err, refl, arith, ap, sym, subst, ◌∙◌}
+use Rattle.std.specs.Prelude.{Result}
+use Rattle.std.specs.List.{range_with_len}
+use Rattle.std.proofs.lemmas.Bool.{eq-eqb}
+use Rattle.std.proofs.lemmas.Bool.Decides.{nat_tests}
+use Rattle.worm_vcalloc.specs.ChannelSet.{has, IsFirst}
+use Rattle.worm_vcalloc.proofs.SetLemmas.{has-zero}
+use Rattle.worm_mesh.specs.Address.{node_count}
+use Rattle.worm_router.specs.Router.{ChannelState, RouterState, input_at, with_input, terminal, width, after_gave}
+use Rattle.worm_router.specs.Busy.{IsSetOf, owes}
+use Rattle.worm_theory.specs.Steps.{GiveCredit}
+use Rattle.worm_theory.proofs.Places.{same-false}
+use Rattle.worm_region.specs.Shape.{net_shape}
+use Rattle.worm_region.specs.State.{NetState, node_at, router_at, with_node}
+use Rattle.worm_region.specs.Workable.{IsWorkable}
+use Rattle.worm_region.specs.Replies.{Attempts, Replies}
+use Rattle.worm_region.specs.Moves.{AreOwing, OwesTheSame, can_give}
+use Rattle.worm_region.specs.Turns.{Each, Does, lowest_owed, mesh_ports, GivesCreditBy, GivesCreditsBy}
+use Rattle.worm_region.specs.declared.node.Node.{Node}
+use Rattle.worm_region.specs.declared.step.Moved.{Moved}
+use Rattle.worm_region.specs.declared.step.Moved.TheVariants.{Done, Idle}
+use Rattle.worm_region.specs.declared.fault.StepFault.{StepFault}
+use Rattle.worm_region.specs.declared.fault.StepFault.TheVariants.{NoSuchPlace, Refused, NoMemory}
+use Rattle.worm_wires.proofs.Looking.{true_of}
+use Rattle.worm_region.proofs.Bridge.{node_at-put, input_of-put, input_of-there}
+use Rattle.worm_region.proofs.Kept.{net_place}
+use Rattle.worm_region.proofs.Passages.{does_for, does_nothing, loop_more, loop_on}
+use Rattle.worm_region.proofs.Skipping.{places_same}
+use Rattle.worm_region.proofs.Turning.{gives_none, owed_lowest, owing_some}
+
+unchanged : (a b : NetState) (x p v : ℕ) → b ≡ a → v < width (router_at b x) → OwesTheSame a b x p v
+unchanged a b x p v same within = record {
+  there = subst (λ (s : NetState). v < width (router_at s x)) same within;
+  owed = ap (λ (s : NetState). (input_at (router_at s x) p v).owed) same;
+}
+
+-- what is written of one input channel of a router leaves the others
+pub input_elsewhere : (a : NetState) (x q c p v : ℕ) (one : ChannelState) → IsWorkable a → x < length a.nodes →
+    q ≤ terminal (router_at a x) → c < width (router_at a x) → (p ≡ q → v ≡ c → ⊥) → v < width (router_at a x)
+    → input_at (with_input (router_at a x) q c one) p v ≡ input_at (router_at a x) p v
+input_elsewhere a x q c p v one net there q_in c_in away v_in =
+    let r = router_at a x in
+    let node = net.framed.each_node x there in
+    let put = input_of-put r q c one (record { port_in = q_in; channel_in = c_in }) node.all_inputs p v in
+    let apart = same-false p v q c away in
+    sym (input_of-there (with_input r q c one) p v v_in) ∙ (put ∙ (rw apart (input_of-there r p v v_in)))
+
+gave_elsewhere : (a : NetState) (x q c p v : ℕ) → IsWorkable a → x < length a.nodes → q ≤ terminal (router_at a x) →
+    c < width (router_at a x) → (p ≡ q → ⊥) → v < width (router_at a x)
+    → (input_at (after_gave (router_at a x) q c) p v).owed ≡ (input_at (router_at a x) p v).owed
+gave_elsewhere a x q c p v net there q_in c_in away v_in =
+    let one : ChannelState =
+    record (input_at (router_at a x) q c) { owed = (input_at (router_at a x) q c).owed - 1 } in
+    ap (λ (s : ChannelState). s.owed) (input_elsewhere a x q c p v one net there q_in c_in (λ e f. away e) v_in)
+
+pub give_elsewhere : (a b : NetState) (x q c : ℕ) (answer : Result Moved StepFault) → IsWorkable a →
+    Replies a (GiveCredit x q c) answer b → (p v : ℕ) → (p ≡ q → ⊥) → v < width (router_at b x) → OwesTheSame a b x p v
+unfolding net_shape
+give_elsewhere a b x q c (Ok Done) net done p v away within =
+    let place = net_place a x q c net.framed done.there.0 (inr done.there.1) done.there.2 in
+    let r = after_gave (router_at a x) q c in
+    let itself : (x == x) ≡ true = eq-eqb x x refl in
+    let m : Node = record (node_at a x) { router = r } in
+    let at : node_at (with_node a x m) x ≡ m = rw (node_at-put a x m x place.node_in, itself) refl in
+    let router : router_at b x ≡ r =
+    ap (λ (s : NetState). router_at s x) done.exact ∙ ap (λ (n : Node). n.router) at in
+    let v_in : v < width (router_at a x) = subst (λ (q : RouterState). v < width q) router within in
+    record {
+      there = v_in;
+      owed =
+          ap (λ (q : RouterState). (input_at q p v).owed) router ∙
+          gave_elsewhere a x q c p v net place.node_in place.place.port_in place.place.channel_in away v_in;
+    }
+give_elsewhere a b x q c (Ok Idle) net idle p v away within = unchanged a b x p v idle.3 within
+give_elsewhere a b x q c (Err NoSuchPlace) net none p v away within = unchanged a b x p v none.1 within
+give_elsewhere a b x q c (Err (Refused why)) net none p v away within = unchanged a b x p v none.3 within
+give_elsewhere a b x q c (Err NoMemory) net none p v away within = unchanged a b x p v none.3 within
+
+-- the set of a router's channels that owe
+
+none_owed : (n : ℕ) → nat_lt 0 n ≡ false → n ≡ 0
+none_owed n none = grind (arith, nat_tests)
+
+pub are_owing : (s : NetState) (x owing : ℕ) → IsWorkable s → x < node_count s.mesh →
+    IsSetOf owes (router_at s x) owing → AreOwing s x owing
+are_owing s x owing net x_in set =
+    let all = net.framed.all_nodes in
+    let node = net.framed.each_node x (omega arith) in
+    let mesh = ap (λ (m : List ℕ). length m) node.same_mesh in
+    let wide : width (router_at s x) ≡ sum s.channels = ap (λ (m : List ℕ). sum m) node.same_channels in
+    record {
+      exact = λ p v p_in v_in. set.inside p v (omega arith) (omega arith);
+      places = λ p v p_few v_few some.
+          let place = set.outside p v p_few v_few some in (omega (arith, place.0), omega (arith, place.1));
+    }
+
+-- how far the ports have come that owe a credit: those below `from` are done, and of the others just the channels of
+-- the set owe one
+pub record Gave (x : ℕ) (a b : NetState) (owing from : ℕ) : Type 0 where
+  pub passed : Does (Each (GivesCreditBy Attempts x) (range_with_len 0 from)) a None b
+  pub there : x < node_count b.mesh
+  pub sound : IsWorkable b
+  pub few : from ≤ 2 * length b.mesh
+  pub rest : (p v : ℕ) → from ≤ p → p < 2 * length b.mesh → v < sum b.channels → has owing p v ≡ can_give b x p v
+  pub places : (p v : ℕ) → p < 7 → v < 8 → has owing p v ≡ true → v < sum b.channels
+
+pub gave_start : (x : ℕ) (a : NetState) (owing : ℕ) → x < node_count a.mesh → IsWorkable a → AreOwing a x owing →
+    Gave x a a owing 0
+gave_start x a owing there sound owes = record {
+  passed = does_nothing a;
+  there = there;
+  sound = sound;
+  few = omega arith;
+  rest = λ p v above p_in v_in. owes.exact p v (omega arith) v_in;
+  places = λ p v p_few v_few some. (owes.places p v p_few v_few some).1;
+}
+
+wide_as : (x : ℕ) (b : NetState) → IsWorkable b → x < node_count b.mesh → width (router_at b x) ≡ sum b.channels
+wide_as x b net there =
+    let all = net.framed.all_nodes in
+    let node = net.framed.each_node x (omega arith) in
+    ap (λ (m : List ℕ). sum m) node.same_channels
+
+port_still : (x p : ℕ) (b : NetState) → IsWorkable b → x < node_count b.mesh →
+    ((v : ℕ) → v < sum b.channels → can_give b x p v ≡ false) → GivesCreditBy Attempts x p b None b
+port_still x p b net there none =
+    let wide = wide_as x b net there in
+    (gives_none x p b (owed_lowest (router_at b x) p None tt tt
+    (λ v v_in. none_owed (input_at (router_at b x) p v).owed (none v (omega arith))))).exact
+
+-- the first channel of the set, where its port is to give yet, owes a credit and is the lowest of its port
+pub owed_first : (x : ℕ) (a b : NetState) (owing new from q c : ℕ) → Gave x a b owing from → IsFirst owing new q c →
+    from ≤ q → q < 2 * length b.mesh → (c < sum b.channels) × (0 < (input_at (router_at b x) q c).owed)
+owed_first x a b owing new from q c gave first to_give q_in =
+    let on : has owing q c ≡ true = true_of (has owing q c) first.was_in in
+    let c_in = gave.places q c first.port_in first.channel_in on in
+    (c_in, owing_some (input_at (router_at b x) q c).owed (sym (gave.rest q c to_give q_in c_in) ∙ on))
+
+lowest_first : (x : ℕ) (a b : NetState) (owing new from q c : ℕ) → Gave x a b owing from → IsFirst owing new q c →
+    from ≤ q → q < 2 * length b.mesh → Some c ≡ lowest_owed (router_at b x) q
+lowest_first x a b owing new from q c gave first to_give q_in =
+    let owes = owed_first x a b owing new from q c gave first to_give q_in in
+    let c_in = owes.0 in
+    let wide = wide_as x b gave.sound gave.there in
+    owed_lowest (router_at b x) q (Some c) (omega arith, owes.1)
+    (λ k below. none_owed (input_at (router_at b x) q k).owed (sym (gave.rest q k to_give q_in (omega arith)) ∙
+    first.none_before q k (omega (arith, first.channel_in)) (omega arith)))
+    tt
+
+-- what is left of the set after its first channel was taken out
+still_in : (owing new q c p v : ℕ) → IsFirst owing new q c → p < 7 → v < 8 → has new p v ≡ true → has owing p v ≡ true
+still_in owing new q c p v first p_few v_few some = elim (places_same p q v c) [
+  | inl here ↦ absurd (let is = (λ t. has new (here.0 t) (here.1 t)) ∙ first.taken.here in cc)
+  | inr away ↦ sym (first.taken.elsewhere p v p_few v_few away) ∙ some
+]
+
+pub gave_same : (x : ℕ) (a b : NetState) (owing new from q c : ℕ) → Gave x a b owing from → IsFirst owing new q c →
+    q < from → Gave x a b new from
+gave_same x a b owing new from q c gave first below =
+    let few = gave.sound.framed.classes.total in
+    let few_dims = gave.sound.framed.radices.few_dims in
+    record {
+      passed = gave.passed;
+      there = gave.there;
+      sound = gave.sound;
+      few = gave.few;
+      rest =
+          λ p v above p_in v_in. first.taken.elsewhere p v (omega (arith, few_dims)) (omega (arith, few))
+          (λ e f. omega arith) ∙ gave.rest p v above p_in v_in;
+      places = λ p v p_few v_few some. gave.places p v p_few v_few (still_in owing new q c p v first p_few v_few some);
+    }
+
+pub gave_more : (x : ℕ) (a b b_new : NetState) (owing new from q c : ℕ) → Gave x a b owing from →
+    IsFirst owing new q c → from ≤ q → q < 2 * length b.mesh →
+    (Some c ≡ lowest_owed (router_at b x) q → Does (GivesCreditBy Attempts x q) b None b_new)
+    → ((p v : ℕ) → (p ≡ q → ⊥) → v < width (router_at b_new x) → OwesTheSame b b_new x p v) → IsWorkable b_new →
+    Gave x a b_new new (q + 1)
+gave_more x a b b_new owing new from q c gave first to_give q_in given same net_new =
+    let net = gave.sound in
+    let few = net.framed.classes.total in
+    let few_dims = net.framed.radices.few_dims in
+    let does = given (lowest_first x a b owing new from q c gave first to_give q_in) in
+    let config = does.reaches.config in
+    let mesh = ap (λ (m : List ℕ). length m) config.mesh in
+    let nodes = ap node_count config.mesh in
+    let wide = ap (λ (cs : List ℕ). sum cs) config.channels in
+    let there : x < node_count b_new.mesh = omega (arith, gave.there) in
+    let wide_new = wide_as x b_new net_new there in
+    let up_to = loop_on (GivesCreditBy Attempts x) from q a b to_give gave.passed
+    (λ p above below. port_still x p b net gave.there (λ v v_in. sym (gave.rest p v above (omega arith) v_in) ∙
+    first.none_before p v (omega (arith, few)) (omega (arith, few)))) in
+    record {
+      passed = loop_more (GivesCreditBy Attempts x) q a b b_new None up_to does;
+      there = there;
+      sound = net_new;
+      few = omega arith;
+      rest = λ p v above p_in v_in.
+          let kept = same p v (λ e. omega arith) (omega arith) in
+          first.taken.elsewhere p v (omega (arith, few_dims)) (omega (arith, few)) (λ e f. omega arith) ∙
+          (gave.rest p v (omega arith) (omega arith) (omega arith) ∙ ap (λ (n : ℕ). nat_lt 0 n) (sym kept.owed));
+      places = λ p v p_few v_few some.
+          let was = gave.places p v p_few v_few (still_in owing new q c p v first p_few v_few some) in omega arith;
+    }
+
+gave_end : (x : ℕ) (a b : NetState) (owing from : ℕ) → Gave x a b owing from →
+    ((p v : ℕ) → p < 2 * length b.mesh → v < 8 → has owing p v ≡ false) → Does (GivesCreditsBy Attempts x) a None b
+gave_end x a b owing from gave none =
+    let few = gave.sound.framed.classes.total in
+    let mesh = ap (λ (m : List ℕ). length m) gave.passed.reaches.config.mesh in
+    let all = loop_on (GivesCreditBy Attempts x) from (2 * length b.mesh) a b gave.few gave.passed
+    (λ p above below. port_still x p b gave.sound gave.there (λ v v_in. sym (gave.rest p v above below v_in) ∙
+    none p v below (omega (arith, few)))) in
+    does_for mesh_ports (GivesCreditBy Attempts x) (2 * length a.mesh) (2 * length b.mesh) a b None refl
+    (omega arith) all
+
+pub gave_all : (x : ℕ) (a b : NetState) (owing from : ℕ) → Gave x a b owing from → owing ≡ 0 →
+    Does (GivesCreditsBy Attempts x) a None b
+gave_all x a b owing from gave none =
+    gave_end x a b owing from gave (λ p v p_in v_in. ap (λ (s : ℕ). has s p v) none ∙ has-zero p v)
+
+pub gave_past : (x : ℕ) (a b : NetState) (owing new from q c : ℕ) → Gave x a b owing from → IsFirst owing new q c →
+    2 * length b.mesh ≤ q → Does (GivesCreditsBy Attempts x) a None b
+gave_past x a b owing new from q c gave first past =
+    gave_end x a b owing from gave (λ p v p_in v_in. first.none_before p v v_in (omega arith))

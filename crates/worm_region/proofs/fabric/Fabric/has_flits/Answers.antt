@@ -1,0 +1,13 @@
+use Rattle.std.proofs.Common.{ap, ◌∙◌}
+use Rattle.std.specs.Prelude.{slice_get}
+use Rattle.worm_region.specs.State.{link_at}
+use Rattle.worm_wires.specs.Links.{LinkView}
+use Rattle.worm_region.specs.Moves.{link_out}
+use Rattle.worm_region.proofs.EmptyLinks.{front_is}
+use Rattle.worm_region.proofs.fabric.Fabric.has_flits.Goals as goal
+
+pub returns : goal.returns
+returns c =
+    let link = link_at c.args.self.now (link_out c.args.self.now c.args.node c.args.port) in
+    front_is link.flits c.front.result c.is_some.result
+    (c.front.ensures ∙ ap (λ (l : LinkView). slice_get l.flits 0) c.link_from.ensures) c.is_some.ensures

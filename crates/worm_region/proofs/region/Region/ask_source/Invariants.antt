@@ -1,0 +1,12 @@
+use Rattle.std.proofs.Common.{◌==◌, None, map, take}
+use Rattle.std.specs.Prelude.{filter}
+use Rattle.worm_region.specs.declared.script.Entry.{Entry}
+use Rattle.worm_region.specs.Script.{lane_of}
+use Rattle.worm_region.specs.Replies.{Attempts}
+use Rattle.worm_region.specs.Turns.{Does, Each, ask}
+use Rattle.worm_region.proofs.region.Region.ask_source.Given as goal
+
+abbrev pub invariant-loop-entry : goal.invariant-loop-entry
+invariant-loop-entry l =
+    Does (Each Attempts (map (λ (e : Entry). ask l.node e.act)
+    (filter (λ (e : Entry). (lane_of e.act).src == l.node) (take l.entry-index l.entries)))) l.initial.self None l.self

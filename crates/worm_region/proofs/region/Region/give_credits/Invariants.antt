@@ -1,0 +1,8 @@
+use Rattle.worm_region.proofs.Giving.{Gave}
+use Rattle.worm_region.proofs.region.Region.give_credits.Given as goal
+
+abbrev pub invariant-loop-port : goal.invariant-loop-port
+invariant-loop-port l = Gave l.node l.initial.self l.self l.owing l.from
+
+abbrev pub decreases-loop-port : goal.decreases-loop-port
+decreases-loop-port l = l.owing

@@ -1,0 +1,64 @@
+use Rattle.std.proofs.Common.{◌<◌, Ok, refl, subst, sym, true, inr}
+use Rattle.worm_theory.specs.Steps.{GiveCredit, IsThere}
+use Rattle.worm_router.specs.Router.{input_at}
+use Rattle.worm_region.specs.Shape.{net_shape}
+use Rattle.worm_region.specs.State.{NetState, router_at, shape}
+use Rattle.worm_region.specs.Replies.{Replies}
+use Rattle.worm_region.specs.Answers.{moved_of}
+use Rattle.worm_region.specs.Workable.{EndsWithin, owned}
+use Rattle.worm_region.proofs.GiveStep.{gave_owed, give_room}
+use Rattle.worm_region.proofs.Kept.{net_place}
+use Rattle.worm_region.proofs.There.{not_found}
+use Rattle.worm_region.proofs.region.Region.give_owed.Goals as goal
+
+pub returns-in_default : goal.returns-in_default
+unfolding net_shape
+returns-in_default c = (
+  subst (λ (s : NetState). IsThere (shape s) (GiveCredit c.args.node c.args.port c.args.vc) → ⊥) c.self.view_is
+      (λ there. not_found (c.in_default.ensures.there.1 (there.0, there.1))),
+  refl,
+)
+
+pub give-requires-clause-place : goal.give-requires-clause-place
+unfolding net_shape
+give-requires-clause-place c =
+    let found = c.in-Some.ensures.there.0 refl in
+    net_place c.self.inside.fabric c.args.node c.args.port c.args.vc c.self.invariant.framed found.0 (inr found.1)
+    (rw c.self.view_is c.requires.channel)
+
+pub give-requires-clause-room : goal.give-requires-clause-room
+unfolding net_shape
+give-requires-clause-room c =
+    let found = c.in-Some.ensures.there.0 refl in
+    let owed =
+    subst (λ (s : NetState). 0 < (input_at (router_at s c.args.node) c.args.port c.args.vc).owed)
+    (sym c.self.view_is) c.requires.owed in
+    let within =
+    subst (λ (s : NetState). EndsWithin (shape s) (owned s) c.args.node c.args.port)
+    (sym c.self.view_is) c.requires.within in
+    give_room c.self.inside.fabric c.args.node c.args.port c.args.vc c.self.invariant within
+    (found.0, found.1, rw c.self.view_is c.requires.channel) owed
+
+pub invariant_of-self : goal.invariant_of-self
+unfolding net_shape
+invariant_of-self c =
+    let found = c.in-Some.ensures.there.0 refl in
+    let owed =
+    subst (λ (s : NetState). 0 < (input_at (router_at s c.args.node) c.args.port c.args.vc).owed)
+    (sym c.self.view_is) c.requires.owed in
+    rw c.give.ensures (gave_owed c.self.inside.fabric c.args.node c.args.port c.args.vc c.self.invariant
+    (found.0, found.1, rw c.self.view_is c.requires.channel) owed).0
+
+pub returns : goal.returns
+unfolding net_shape
+returns c =
+    let a =
+    (gave_owed c.self.inside.fabric c.args.node c.args.port c.args.vc c.self.invariant (let found =
+    c.in-Some.ensures.there.0 refl in
+    (found.0, found.1, rw c.self.view_is c.requires.channel))
+    (subst (λ (s : NetState). 0 < (input_at (router_at s c.args.node) c.args.port c.args.vc).owed)
+    (sym c.self.view_is) c.requires.owed)).1 in
+    let given : Replies c.self.inside.fabric (GiveCredit c.args.node c.args.port c.args.vc)
+    (Ok (moved_of true)) c.give.new.self = rw c.give.ensures a in
+    subst (λ (s : NetState). Replies s (GiveCredit c.args.node c.args.port c.args.vc)
+    (Ok (moved_of true)) c.give.new.self) c.self.view_is given

@@ -1,0 +1,13 @@
+use Rattle.std.proofs.Common.{List, Option}
+use Rattle.worm_swalloc.specs.declared.grant.SwGrant.{SwGrant}
+use Rattle.worm_swalloc.specs.SwAlloc.{AreGranted}
+use Rattle.worm_region.proofs.Sending.{Sent}
+use Rattle.worm_region.proofs.region.Region.send_granted.Given as goal
+
+abbrev pub invariant-loop-port : goal.invariant-loop-port
+invariant-loop-port l =
+    (grants : List (Option SwGrant)) → AreGranted grants l.initial.left →
+    Sent l.node grants l.initial.left l.left l.initial.self l.self
+
+abbrev pub decreases-loop-port : goal.decreases-loop-port
+decreases-loop-port l = l.left

@@ -1,0 +1,42 @@
+use Rattle.std.proofs.Common.{Ok, refl, subst}
+use Rattle.worm_theory.specs.Steps.{Take, IsThere}
+use Rattle.worm_region.specs.Shape.{net_shape}
+use Rattle.worm_region.specs.State.{NetState, shape}
+use Rattle.worm_region.specs.Replies.{Replies}
+use Rattle.worm_region.specs.Answers.{moved_of}
+use Rattle.worm_region.proofs.TakeStep.{take_answers, front_fits}
+use Rattle.worm_region.proofs.There.{not_found}
+use Rattle.worm_region.proofs.Reaching.{still_workable}
+use Rattle.worm_region.proofs.region.Region.take.Goals as goal
+
+pub returns-in_default : goal.returns-in_default
+unfolding net_shape
+returns-in_default c = (
+  subst (λ (s : NetState). IsThere (shape s) (Take c.args.node c.args.port) → ⊥) c.self.view_is
+      (λ there. not_found (c.in_default.ensures.there.1 there)),
+  refl,
+)
+
+pub take-requires-clause-front : goal.take-requires-clause-front
+unfolding net_shape
+take-requires-clause-front c =
+    front_fits c.self.inside.fabric c.args.node c.args.port c.self.invariant (c.in-Some.ensures.there.0 refl)
+
+pub invariant_of-self : goal.invariant_of-self
+unfolding net_shape
+invariant_of-self c =
+    let there = c.in-Some.ensures.there.0 refl in
+    still_workable c.self.inside.fabric c.take.new.self (Take c.args.node c.args.port) (Ok (moved_of c.take.result))
+    (rw c.take.ensures.after (take_answers c.self.inside.fabric c.args.node c.args.port c.self.invariant there
+    c.take.result c.take.ensures.enabled))
+
+pub returns : goal.returns
+unfolding net_shape
+returns c =
+    let a =
+    (take_answers c.self.inside.fabric c.args.node c.args.port c.self.invariant
+    (c.in-Some.ensures.there.0 refl) c.take.result c.take.ensures.enabled).1 in
+    let moved : Replies c.self.inside.fabric (Take c.args.node c.args.port) (Ok c.moved.result) c.take.new.self =
+    rw (c.moved.ensures, c.take.ensures.after) a in
+    subst (λ (s : NetState). Replies s (Take c.args.node c.args.port) (Ok c.moved.result) c.take.new.self)
+    c.self.view_is moved

@@ -1,0 +1,22 @@
+use Rattle.std.proofs.Common.{◌≡◌, ◌<◌, ◌-◌, ◌∙◌, List, Option, ap, arith, get_or, length, subst, sym}
+use Rattle.std.specs.Prelude.{[], unwrap_or}
+use Rattle.std.proofs.lemmas.Option.{unwrap_or-slice_get}
+use Rattle.worm_region.specs.Script.{AreInOrder, due}
+use Rattle.worm_region.specs.declared.script.Entry.{Entry}
+use Rattle.worm_wires.proofs.Looking.{true_of}
+use Rattle.worm_region.proofs.DueEntries.{less, none_behind}
+use Rattle.worm_region.proofs.script.Script.is_over.Goals as goal
+
+pub returns-in-Some : goal.returns-in-Some
+returns-in-Some c = λ over.
+    let entries = c.deref.result.now in
+    let same : entries ≡ c.args.self.now = c.deref.ensures.value ∙ c.self.view_is in
+    let in_order : AreInOrder entries = subst AreInOrder (sym c.deref.ensures.value) c.self.invariant in
+    let below : c.in-Some.last.now.turn < c.args.turn = let before = less c.from.result c.args.turn (true_of _ over) in
+    let is = c.from.ensures in omega arith in
+    let none : due c.args.turn entries ≡ [] = none_behind entries c.args.turn in_order (λ d some.
+    let last : get_or entries (length entries - 1) d ≡ c.in-Some.last.now =
+    sym (unwrap_or-slice_get entries (length entries - 1) d)
+    ∙ ap (λ (o : Option Entry). unwrap_or o d) (sym c.in-Some.ensures.value) in
+    rw last below) in
+    subst (λ (es : List Entry). due c.args.turn es ≡ []) same none

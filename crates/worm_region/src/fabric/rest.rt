@@ -1,0 +1,91 @@
+//! Whether a node is at rest: nothing can come into it, and its router has nothing to do.
+
+ghost use Rattle.std.specs.Prelude.{ℕ, ◌≡◌, ◌<◌, ◌≤◌, IfNone, IfSome, IsTrue, IsSome, None, false, length};
+ghost use Rattle.worm_mesh.specs.Address.{node_count, neighbour_of};
+ghost use Rattle.worm_router.specs.Router.{terminal};
+ghost use Rattle.worm_term.specs.Source.{front_of};
+ghost use Rattle.worm_region.specs.Moves.{can_enter, front_credit, front_into};
+ghost use Rattle.worm_region.specs.State.{router_at, source_at};
+ghost use Rattle.worm_region.specs.Workable.{IsWorkable};
+ghost use Rattle.worm_region.specs.Still.{IsStill, nth_node};
+ghost use Rattle.worm_region.specs.Replies.{Attempts};
+ghost use Rattle.worm_region.specs.Turns.{ComesInBy, NodePassesBy};
+ghost use Rattle.worm_router.specs.Rest.{IsAtRest};
+
+use super::Fabric;
+
+impl Fabric {
+    /// Whether no credit is on a link out of the node, and no flit on a link into it.
+    fn are_links_still(&self, node: u8) -> bool
+        requires { node < node_count self.now.mesh }
+        ensures credits { IsTrue result → (p : ℕ) → IsSome (neighbour_of self.now.mesh node p) →
+            front_credit self.now node p ≡ None }
+        ensures flits { IsTrue result → (p : ℕ) → IsSome (neighbour_of self.now.mesh node p) →
+            front_into self.now node p ≡ None }
+    {
+        self.links.is_quiet(node)
+    }
+
+    /// The first class from this one on of which the node's source has a flit, and for that there is room.
+    pub(crate) fn next_class(&self, node: u8, from: u8) -> Option<u8>
+        requires sound { IsWorkable self.now }
+        requires node { node < node_count self.now.mesh }
+        ensures class { IfSome result (λ class. (from ≤ class) × (class < length self.now.channels) × (class < 4)) }
+        ensures before { IfSome result (λ class. (k : ℕ) → from ≤ k → k < class →
+            can_enter (router_at self.now node) (terminal (router_at self.now node))
+            (front_of (source_at self.now node) k) ≡ false) }
+        ensures none { IfNone result ((k : ℕ) → from ≤ k → k < length self.now.channels →
+            can_enter (router_at self.now node) (terminal (router_at self.now node))
+            (front_of (source_at self.now node) k) ≡ false) }
+    {
+        let terminal = self.terminal();
+        let here = self.node(node);
+        for class in from..self.classes.classes() {
+            if here.can_feed(class, terminal) {
+                return Some(class);
+            }
+        }
+        None
+    }
+
+    /// Whether the node's source has no flit for which there is room.
+    fn feeds_nothing(&self, node: u8) -> bool
+        requires sound { IsWorkable self.now }
+        requires node { node < node_count self.now.mesh }
+        ensures { IsTrue result → (k : ℕ) → k < length self.now.channels →
+            can_enter (router_at self.now node) (terminal (router_at self.now node))
+            (front_of (source_at self.now node) k) ≡ false }
+    {
+        self.next_class(node, 0).is_none()
+    }
+
+    /// Whether the node is found to be still; that is kept, so that it is not asked again until the node changes.
+    fn settles(&mut self, node: u8) -> bool
+        requires sound { IsWorkable self.old }
+        requires node { node < node_count self.old.mesh }
+        ensures still { IsTrue result → IsStill (nth_node self.old.nodes node) }
+        ensures same { self.new ≡ self.old }
+    {
+        if !self.node(node).router.is_at_rest() || !self.feeds_nothing(node) {
+            return false;
+        }
+        self.nodes.settle(node);
+        true
+    }
+
+    /// Whether the node is at rest: what it would do in a turn once its source was asked would change nothing. Where
+    /// it is at rest this may not be found.
+    pub(crate) fn rests(&mut self, node: u8) -> bool
+        requires sound { IsWorkable self.old }
+        requires node { node < node_count self.old.mesh }
+        ensures comes { IsTrue result → ComesInBy Attempts node self.old None self.old }
+        ensures rest { IsTrue result → IsAtRest (router_at self.old node) }
+        ensures passes { IsTrue result → NodePassesBy Attempts node self.old None self.old }
+        ensures same { self.new ≡ self.old }
+    {
+        if !self.are_links_still(node) {
+            return false;
+        }
+        self.nodes.is_still(node) || self.settles(node)
+    }
+}

@@ -1,0 +1,39 @@
+//! The lists of a network, or of a worker's part of one, and what moves them: the steps, and the turn of a node, on a
+//! k-ary n-mesh with wormhole switching and credits (Dally and Towles, chapters 5, 13 and 16).
+//!
+//! One idea carries the crate: a region's lists stand for functions of places (`network_of`), and each step writes, at
+//! one node or at the two ends of one link, what the theory's step writes at one place of each function. `Fabric` has
+//! the lists and no invariant. `Region` has what a move needs of them, kept by each move, and tests whether a step's
+//! place is there; a whole network has one in which every node is owned, a worker's part one of its own nodes.
+//!
+//! That a whole network is sound is kept by the crate above. Nothing is said of time, nor that anything is delivered.
+#![tactic(auto)]
+
+mod config;
+mod fabric;
+mod fault;
+mod fresh;
+mod node;
+mod nodes;
+mod own;
+mod parts;
+mod region;
+mod script;
+mod step;
+#[cfg(test)]
+mod tests;
+mod turn;
+
+pub use config::{Config, Name};
+pub use fabric::Fabric;
+pub use fault::{NetFault, StepFault};
+pub use fresh::fresh_nodes;
+pub use node::Node;
+pub use own::Own;
+pub use parts::NetParts;
+pub use region::Region;
+pub use script::{Act, Entry, Script, ScriptFault};
+pub use step::{Moved, Step};
+pub use turn::tried;
+pub use worm_term::{NoMemory, OfferFault};
+pub use worm_wires::{LinkState, PortLinks};

@@ -1,0 +1,109 @@
+ghost use Rattle.std.specs.Prelude.{true, false, ◌≡◌, ◌<◌, ◌≤◌, Some, OnOk, OnErr, IfErr, None, length};
+ghost use Rattle.std.specs.Prelude.{unwrap_or, if◌then◌else◌};
+ghost use Rattle.worm_router.specs.Router.{IsPlace, terminal, leaving};
+ghost use Rattle.worm_term.specs.Source.{classes, front_of, refusal, after_offer, after_close};
+ghost use Rattle.worm_region.specs.Moves.{AreUnrouted, FrontFits, can_enter, fed_node, delivered_node};
+
+use worm_flit::{Flit, Lane, Packet};
+use worm_router::Router;
+use worm_term::{OfferFault, Sink, Source};
+use worm_vcalloc::ChannelSet;
+
+/// One node: its router, and the two ends of its lanes.
+#[derive(Drop)]
+pub struct Node {
+    /// Where the packets of this node's lanes come in.
+    pub source: Source,
+    /// The router, whose terminal port is fed by the source and drained by the sink.
+    pub router: Router,
+    /// Where the flits for this node come out.
+    pub sink: Sink,
+}
+
+impl Node {
+    /// Moves the source's next flit of the class into the injection buffer, where there is one and that has room.
+    pub(crate) fn feed(&mut self, class: u8, port: u8) -> bool
+        requires class { class < classes self.old.source }
+        requires port { port ≡ terminal self.old.router }
+        requires front { FrontFits self.old.router (terminal self.old.router) (front_of self.old.source class) }
+        ensures enabled { result ≡ can_enter self.old.router (terminal self.old.router)
+            (front_of self.old.source class) }
+        ensures after { self.new ≡ (if result then fed_node self.old class (front_of self.old.source class)
+            else self.old) }
+    {
+        if !self.can_feed(class, port) {
+            return false;
+        }
+        let Some(flit) = self.source.front(class) else {
+            return false;
+        };
+        let _done = self.router.accept(port, flit);
+        self.source.fed(class);
+        true
+    }
+
+    /// Whether the source has a flit of the class for which the injection buffer has room.
+    pub(crate) fn can_feed(&self, class: u8, port: u8) -> bool
+        requires class { class < classes self.now.source }
+        requires port { port ≡ terminal self.now.router }
+        requires front { FrontFits self.now.router (terminal self.now.router) (front_of self.now.source class) }
+        ensures { result ≡ can_enter self.now.router (terminal self.now.router) (front_of self.now.source class) }
+    {
+        match self.source.next_channel(class) {
+            None => false,
+            Some(vc) => self.router.has_room(port, vc),
+        }
+    }
+
+    /// Lets the flit that is ready at this place out into the sink, by the output port `out`, if the sink can take it.
+    pub(crate) fn deliver(&mut self, port: u8, vc: u8, out: u8, flit: Flit) -> bool
+        requires place { IsPlace self.old.router port vc }
+        requires ready { leaving self.old.router port vc ≡ Some (out, flit) }
+        requires home { flit.lane.dst ≡ self.old.sink.node }
+        ensures after { self.new ≡ (if result then delivered_node self.old port vc flit else self.old) }
+    {
+        if self.sink.take(flit).is_err() {
+            return false;
+        }
+        self.router.let_out(port, vc, out, flit);
+        true
+    }
+
+    /// The channels with a flit that lack a route; no other has anything to route.
+    pub(crate) fn unrouted(&self) -> ChannelSet
+        ensures { AreUnrouted self.now.router result }
+    {
+        let router = &self.router;
+        router
+            .occupied()
+            .difference(&router.waiting())
+            .difference(&router.active())
+    }
+
+    /// Hands the packet to the source.
+    pub(crate) fn offer(&mut self, packet: &Packet) -> Result<u16, OfferFault>
+        ensures ok { OnOk result ((refusal self.old.source packet.now.lane false ≡ None)
+            × (self.new ≡ record self.old { source = after_offer self.old.source packet.now })) }
+        ensures fault { IfErr result (λ e. e
+            ≡ unwrap_or (refusal self.old.source packet.now.lane false) OfferFault.NoMemory) }
+        ensures err { OnErr result (self.new ≡ self.old) }
+        ensures there { OnOk result (packet.now.lane.class < length self.old.source.queues) }
+        ensures some { 1 ≤ length packet.now.words }
+        ensures few { length packet.now.words ≤ 32 }
+    {
+        // For the proof: a packet has words, and at most 32.
+        let _words = packet.words();
+        self.source.offer(packet)
+    }
+
+    /// Hands the lane's close mark to the source.
+    pub(crate) fn close(&mut self, lane: Lane) -> Result<u16, OfferFault>
+        ensures ok { OnOk result ((refusal self.old.source lane true ≡ None)
+            × (self.new ≡ record self.old { source = after_close self.old.source lane })) }
+        ensures fault { IfErr result (λ e. e ≡ unwrap_or (refusal self.old.source lane true) OfferFault.NoMemory) }
+        ensures err { OnErr result (self.new ≡ self.old) }
+        ensures there { OnOk result (lane.class < length self.old.source.queues) }
+    {
+        self.source.close(lane)
+    }
+}

@@ -1,0 +1,211 @@
+//! The nodes of a network by number, which of them are known to be still, so that a turn goes past them, and how many
+//! flits are under way, so that a drain ends without a look at each node.
+
+ghost use Rattle.std.specs.Prelude.{ℕ, ◌≡◌, ◌+◌, ◌<◌, ◌≤◌, IsTrue, IfErr, None, OnErr, OnOk, Some, length, slice_set};
+ghost use Rattle.std.specs.Prelude.{true, false, unwrap_or, if◌then◌else◌};
+ghost use Rattle.std.specs.Borrow.{Lends, sem};
+ghost use Rattle.worm_router.specs.Router.{IsPlace, leaving, terminal};
+ghost use Rattle.worm_term.specs.Source.{after_close, after_offer, classes, front_of, refusal};
+ghost use Rattle.worm_region.specs.Moves.{FrontFits, can_enter, delivered_node, fed_node};
+ghost use Rattle.worm_region.specs.Still.{IsStill, nth_node, put_router, put_source};
+ghost use Rattle.worm_region.specs.UnderWay.{IsUnderWay, accepted_in, taken_in};
+ghost use Rattle.worm_region.specs.contracts.nodes.Nodes.{the_row};
+ghost use Rattle.worm_router.specs.contracts.router.Router.{the_row as router_row};
+
+use crate::Node;
+use std::marker::Model;
+use worm_flit::{Flit, Lane, Packet};
+use worm_router::Router;
+use worm_term::OfferFault;
+
+/// The nodes by number.
+#[derive(Drop)]
+pub struct Nodes {
+    /// The nodes.
+    list: Vec<Node>,
+    /// Whether the node of this number is known to be still.
+    still: [bool; 256],
+    /// How many flits their sources accepted and their sinks have not taken; `None` where that is not known.
+    under_way: Option<u64>,
+}
+
+impl Model for Nodes {
+    ghost use Rattle.std.specs.Prelude.{List};
+    ghost use Rattle.worm_region.specs.declared.node.Node.{Node};
+
+    ghost Value = { List Node };
+
+    ghost use Rattle.std.specs.Prelude.{◌*◌};
+    ghost use Rattle.worm_region.specs.Still.{KnowsStill};
+    ghost use Rattle.worm_region.specs.UnderWay.{IsUnderWay, accepted_in, taken_in};
+
+    ghost view = { λ n. n.list.items };
+
+    ghost invariant = { λ n. KnowsStill n.list.items n.still
+        × IsUnderWay (accepted_in n.list.items) (taken_in n.list.items) n.under_way };
+}
+
+/// The count after so many flits were accepted.
+fn more(count: Option<u64>, flits: u64) -> Option<u64>
+    ensures { (accepted taken : ℕ) → IsUnderWay accepted taken count → IsUnderWay (accepted + flits) taken result }
+{
+    count?.checked_add(flits)
+}
+
+/// The count after a flit was taken.
+fn one_fewer(count: Option<u64>) -> Option<u64>
+    ensures { (accepted taken : ℕ) → IsUnderWay accepted taken count → IsUnderWay accepted (taken + 1) result }
+{
+    count?.checked_sub(1)
+}
+
+impl Nodes {
+    /// These nodes. Nothing is known of them yet.
+    pub fn new(list: Vec<Node>) -> Nodes
+        ensures { result ≡ list.items }
+    {
+        Nodes {
+            list,
+            still: [false; 256],
+            under_way: None,
+        }
+    }
+
+    /// The nodes by themselves.
+    pub fn into_list(self) -> Vec<Node>
+        ensures { result.items ≡ self }
+    {
+        let Nodes {
+            list,
+            still: _,
+            under_way: _,
+        } = self;
+        list
+    }
+
+    /// The node of this number.
+    pub fn node(&self, node: u8) -> &Node
+        requires { node < length self.now }
+        ensures { result.now ≡ nth_node self.now node }
+    {
+        &self.list[usize::from(node)]
+    }
+
+    /// The router of this node, for a change.
+    pub fn router_mut(&mut self, node: u8) -> &mut Router
+        requires { node < length self.old }
+        ensures* lends { sem 𝓛 (Lends the_row router_row self.entry result (put_router self.old node)) }
+        ensures value { result.now ≡ (nth_node self.old node).router }
+    {
+        self.still[usize::from(node)] = false;
+        let here = &mut self.list[usize::from(node)];
+        &mut here.router
+    }
+
+    /// Whether the node is known to be still.
+    pub fn is_still(&self, node: u8) -> bool
+        requires { node < length self.now }
+        ensures { IsTrue result → IsStill (nth_node self.now node) }
+    {
+        self.still[usize::from(node)]
+    }
+
+    /// Keeps it that the node is still, until it changes.
+    pub fn settle(&mut self, node: u8)
+        requires { IsStill (nth_node self.old node) }
+        ensures { self.new ≡ self.old }
+    {
+        self.still[usize::from(node)] = true;
+    }
+
+    /// How many flits are under way, where it is known.
+    pub fn under_way(&self) -> Option<u64>
+        ensures { IsUnderWay (accepted_in self.now) (taken_in self.now) result }
+    {
+        self.under_way
+    }
+
+    /// Keeps it that so many flits are under way, and counts on from there.
+    pub fn count(&mut self, under_way: Option<u64>)
+        requires { IsUnderWay (accepted_in self.old) (taken_in self.old) under_way }
+        ensures { self.new ≡ self.old }
+    {
+        self.under_way = under_way;
+    }
+
+    /// Moves the next flit of the class from the node's source into its injection buffer, where there is one and that
+    /// has room.
+    pub fn feed(&mut self, node: u8, class: u8, port: u8) -> bool
+        requires node { node < length self.old }
+        requires class { class < classes (nth_node self.old node).source }
+        requires port { port ≡ terminal (nth_node self.old node).router }
+        requires front { FrontFits (nth_node self.old node).router (terminal (nth_node self.old node).router)
+            (front_of (nth_node self.old node).source class) }
+        ensures enabled { result ≡ can_enter (nth_node self.old node).router (terminal (nth_node self.old node).router)
+            (front_of (nth_node self.old node).source class) }
+        ensures after { self.new ≡ (if result
+            then slice_set self.old node (fed_node (nth_node self.old node) class
+            (front_of (nth_node self.old node).source class)) else self.old) }
+    {
+        self.still[usize::from(node)] = false;
+        let here = &mut self.list[usize::from(node)];
+        here.feed(class, port)
+    }
+
+    /// Lets the flit that is ready at this place out into the node's sink, by the output port `out`, if the sink can
+    /// take it.
+    pub fn deliver(&mut self, node: u8, port: u8, vc: u8, out: u8, flit: Flit) -> bool
+        requires node { node < length self.old }
+        requires place { IsPlace (nth_node self.old node).router port vc }
+        requires ready { leaving (nth_node self.old node).router port vc ≡ Some (out, flit) }
+        requires home { flit.lane.dst ≡ (nth_node self.old node).sink.node }
+        ensures { self.new ≡ (if result then slice_set self.old node
+            (delivered_node (nth_node self.old node) port vc flit) else self.old) }
+    {
+        self.still[usize::from(node)] = false;
+        let here = &mut self.list[usize::from(node)];
+        if !here.deliver(port, vc, out, flit) {
+            return false;
+        }
+        self.under_way = one_fewer(self.under_way);
+        true
+    }
+
+    /// Hands the packet to the node's source.
+    pub fn offer(&mut self, node: u8, packet: &Packet) -> Result<u16, OfferFault>
+        requires { node < length self.old }
+        ensures ok { OnOk result ((refusal (nth_node self.old node).source packet.now.lane false ≡ None)
+            × (self.new ≡ put_source self.old node (after_offer (nth_node self.old node).source packet.now))) }
+        ensures fault { IfErr result (λ e. e
+            ≡ unwrap_or (refusal (nth_node self.old node).source packet.now.lane false) OfferFault.NoMemory) }
+        ensures err { OnErr result (self.new ≡ self.old) }
+        ensures some { 1 ≤ length packet.now.words }
+        ensures few { length packet.now.words ≤ 32 }
+    {
+        self.still[usize::from(node)] = false;
+        let here = &mut self.list[usize::from(node)];
+        let answer = here.offer(packet);
+        if answer.is_ok() {
+            self.under_way = more(self.under_way, packet.words().len() as u64);
+        }
+        answer
+    }
+
+    /// Hands the lane's close mark to the node's source.
+    pub fn close(&mut self, node: u8, lane: Lane) -> Result<u16, OfferFault>
+        requires { node < length self.old }
+        ensures ok { OnOk result ((refusal (nth_node self.old node).source lane true ≡ None)
+            × (self.new ≡ put_source self.old node (after_close (nth_node self.old node).source lane))) }
+        ensures fault { IfErr result (λ e. e
+            ≡ unwrap_or (refusal (nth_node self.old node).source lane true) OfferFault.NoMemory) }
+        ensures err { OnErr result (self.new ≡ self.old) }
+    {
+        self.still[usize::from(node)] = false;
+        let here = &mut self.list[usize::from(node)];
+        let answer = here.close(lane);
+        if answer.is_ok() {
+            self.under_way = more(self.under_way, 1);
+        }
+        answer
+    }
+}

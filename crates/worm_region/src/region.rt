@@ -1,0 +1,408 @@
+//! The lists of a network with what its moves need of them, and the moves: small steps, each of which keeps that.
+
+ghost use Rattle.std.specs.Prelude.{None, Some, ◌≡◌, ◌≤◌, ◌<◌, ◌*◌, ℕ, Result, IsTrue, IfNone, Ok};
+ghost use Rattle.std.specs.Prelude.{sum, length, IfSome, IfOk, Err, ◌↔◌};
+ghost use Rattle.worm_theory.specs.Steps.{IsThere, Step as Event};
+ghost use Rattle.worm_region.specs.Runs.{event_of};
+ghost use Rattle.worm_region.specs.Replies.{Attempts, Replies};
+ghost use Rattle.worm_region.specs.Answers.{accepted_of, moved_of};
+ghost use Rattle.worm_region.specs.NewNet.{IsConfig, IsFresh};
+ghost use Rattle.worm_region.specs.State.{IsNet, shape, router_at, texts_of, with_router};
+ghost use Rattle.worm_region.specs.UnderWay.{IsUnderWay, accepted_in, taken_in};
+ghost use Rattle.worm_region.specs.Owned.{sole};
+ghost use Rattle.worm_wires.specs.Wiring.{port_links};
+ghost use Rattle.worm_region.specs.Workable.{EndsWithin, IsWorkable, owned};
+ghost use Rattle.worm_region.specs.Turns.{AreThere, Chooses, ComesInBy, ReachesAt, NodePassesBy, lowest_owed};
+ghost use Rattle.worm_mesh.specs.Address.{node_count};
+ghost use Rattle.worm_router.specs.Router.{input_at, leaving};
+ghost use Rattle.worm_router.specs.Rest.{IsAtRest};
+ghost use Rattle.worm_router.specs.Allocation.{after_allocate};
+ghost use Rattle.worm_region.specs.Moves.{AreOwing, RoutesWithin};
+
+mod edges;
+mod parts;
+
+use crate::config::copy_names;
+use crate::fabric::Fabric;
+use crate::{Config, Moved, NetFault, Step, StepFault};
+use std::alloc::Global;
+use std::marker::Model;
+use worm_flit::{Lane, Packet, are_channels};
+use worm_mesh::Mesh;
+use worm_term::OfferFault;
+use worm_vcalloc::ChannelSet;
+use worm_wires::PortLinks;
+
+/// The nodes and links of a network, some nodes or all owned by whoever has it: what a move of a node needs holds of
+/// it, and each move keeps that. Of the nodes that are not owned it has others in their places, which whoever has it
+/// leaves alone; of a link that comes from one of them what was taken off its queue and is in no buffer.
+#[derive(Drop)]
+pub struct Region {
+    fabric: Fabric,
+}
+
+impl Model for Region {
+    ghost use Rattle.worm_region.specs.State.{NetState};
+    ghost use Rattle.worm_region.specs.Workable.{IsWorkable};
+
+    ghost Value = { NetState };
+
+    ghost view = { λ r. r.fabric };
+
+    ghost invariant = { λ r. IsWorkable r.fabric };
+}
+
+fn moved(done: bool) -> Moved
+    ensures { result ≡ moved_of done }
+{
+    if done { Moved::Done } else { Moved::Idle }
+}
+
+fn accepted(answer: Result<u16, OfferFault>) -> Result<Moved, StepFault>
+    ensures { result ≡ accepted_of answer }
+{
+    match answer {
+        Ok(_number) => Ok(Moved::Done),
+        Err(OfferFault::NoMemory) => Err(StepFault::NoMemory),
+        Err(fault) => Err(StepFault::Refused(fault)),
+    }
+}
+
+impl Region {
+    /// The region of a new network, all of whose nodes are owned. `BadConfig` where a number of the configuration is
+    /// out of its range or not every class has its one name, else `NoMemory` where there is none for the nodes, their
+    /// buffers and the links.
+    pub fn new(alloc: Global, config: &Config) -> Result<Region, NetFault>
+        ensures fresh { IfOk result (λ r. IsFresh config.now.radices.items config.now.channels.items config.now.depth
+            (texts_of config.now.classes.items) r) }
+        ensures whole { IfOk result (λ r. IsNet r) }
+        ensures bad { (result ≡ Err NetFault.BadConfig) ↔
+            (IsConfig config.now.radices.items config.now.channels.items config.now.depth
+            (length config.now.classes.items) → ⊥) }
+    {
+        let Ok(mesh) = Mesh::new(config.radices.as_slice()) else {
+            return Err(NetFault::BadConfig);
+        };
+        let channels = config.channels.as_slice();
+        if !are_channels(channels) || config.classes.len() != channels.len() {
+            return Err(NetFault::BadConfig);
+        }
+        if config.depth == 0 || config.depth > 16 {
+            return Err(NetFault::BadConfig);
+        }
+        let names = copy_names(&config.classes);
+        let Ok(fabric) = Fabric::new(alloc, mesh, channels, config.depth, names) else {
+            return Err(NetFault::NoMemory);
+        };
+        Ok(Region::of(fabric))
+    }
+
+    /// The region of these lists.
+    fn of(fabric: Fabric) -> Region
+        requires { IsWorkable fabric }
+        ensures { result ≡ fabric }
+    {
+        Region { fabric }
+    }
+
+    /// What holds of every region, for whoever has one.
+    pub fn is_workable(&self)
+        ensures { IsWorkable self.now }
+    {
+        // For the proof: it opens what holds of a region.
+        let _fabric = &self.fabric;
+    }
+
+    /// The lists, to be read.
+    pub fn fabric(&self) -> &Fabric
+        ensures same { result.now ≡ self.now }
+    {
+        &self.fabric
+    }
+
+    /// The lists by themselves.
+    pub(crate) fn into_fabric(self) -> Fabric
+        ensures same { result ≡ self }
+    {
+        let Region { fabric } = self;
+        fabric
+    }
+
+    /// Keeps it that so many flits are under way, and counts on from there.
+    pub fn count(&mut self, under_way: Option<u64>)
+        requires { IsUnderWay (accepted_in self.old.nodes) (taken_in self.old.nodes) under_way }
+        ensures { self.new ≡ self.old }
+    {
+        self.fabric.count(under_way);
+    }
+
+    /// The number of nodes.
+    pub fn nodes(&self) -> u16
+        ensures value { result ≡ node_count self.now.mesh }
+        ensures bound { result ≤ 256 }
+    {
+        self.fabric.nodes()
+    }
+
+    /// The links of this port, if the node has a neighbour there: the node beyond, and the numbers of the two links.
+    pub fn links_at(&self, node: u8, port: u8) -> Option<PortLinks>
+        ensures { result ≡ port_links self.now.mesh node port }
+    {
+        self.fabric.links_at(node, port)
+    }
+
+    /// The terminal port of each node.
+    pub fn terminal(&self) -> u8
+        ensures value { result ≡ 2 * length self.now.mesh }
+        ensures bound { result ≤ 6 }
+    {
+        self.fabric.terminal()
+    }
+
+    /// One pass of the node's channel allocator, its grants written into the records.
+    pub(crate) fn allocate(&mut self, node: u8)
+        requires { node < node_count self.old.mesh }
+        ensures after { self.new ≡ with_router self.old node (after_allocate (router_at self.old node)) }
+        ensures reaches { ReachesAt node self.old self.new }
+    {
+        self.fabric.allocate(node);
+    }
+
+    /// One pass of the node's switch allocator: the channels that it grants.
+    pub(crate) fn choose(&mut self, node: u8) -> ChannelSet
+        requires { node < node_count self.old.mesh }
+        ensures chooses { Chooses node result self.old self.new }
+        ensures there { AreThere self.new node result }
+        ensures reaches { ReachesAt node self.old self.new }
+    {
+        self.fabric.choose(node)
+    }
+
+    /// Whether no channel of the node may send; then a pass of the switch allocator grants nothing. Where none may this
+    /// may not be found.
+    pub(crate) fn sends_nothing(&self, node: u8) -> bool
+        requires { node < node_count self.now.mesh }
+        ensures { IsTrue result → Chooses node 0 self.now self.now }
+    {
+        self.fabric.sends_nothing(node)
+    }
+
+    /// The channels of the node with a flit that lack a route; no other has anything to route.
+    pub(crate) fn unrouted(&self, node: u8) -> ChannelSet
+        requires { node < node_count self.now.mesh }
+        ensures routes { RoutesWithin self.now node result }
+        ensures sound { IsWorkable self.now }
+    {
+        self.fabric.unrouted(node)
+    }
+
+    /// A mesh port from this one on by which a credit may come in; before it there is none to take, and where there is
+    /// none, past it.
+    pub(crate) fn next_credit(&self, node: u8, from: u8) -> Option<u8>
+        requires node { node < node_count self.now.mesh }
+        requires from { from ≤ 6 }
+        ensures mesh_port { IfSome result (λ port. (from ≤ port) × (port < 2 * length self.now.mesh) × (port < 6)) }
+        ensures before { IfSome result (λ port. (p : ℕ) → from ≤ p → p < port →
+            Attempts (Event.TakeCredit node p) self.now None self.now) }
+        ensures none { IfNone result ((p : ℕ) → from ≤ p → Attempts (Event.TakeCredit node p) self.now None self.now) }
+    {
+        self.fabric.next_credit(node, from)
+    }
+
+    /// The same of flits.
+    pub(crate) fn next_flit(&self, node: u8, from: u8) -> Option<u8>
+        requires node { node < node_count self.now.mesh }
+        requires from { from ≤ 6 }
+        ensures mesh_port { IfSome result (λ port. (from ≤ port) × (port < 2 * length self.now.mesh) × (port < 6)) }
+        ensures before { IfSome result (λ port. (p : ℕ) → from ≤ p → p < port →
+            Attempts (Event.Take node p) self.now None self.now) }
+        ensures none { IfNone result ((p : ℕ) → from ≤ p → Attempts (Event.Take node p) self.now None self.now) }
+    {
+        self.fabric.next_flit(node, from)
+    }
+
+    /// A class from this one on of which the node may feed a flit; before it there is none to feed, and where there
+    /// is none, past it. Where none can be fed this may not be found.
+    pub(crate) fn next_class(&self, node: u8, from: u8) -> Option<u8>
+        requires { node < node_count self.now.mesh }
+        ensures class { IfSome result (λ class. (from ≤ class) × (class < length self.now.channels) × (class < 4)) }
+        ensures before { IfSome result (λ class. (k : ℕ) → from ≤ k → k < class →
+            Attempts (Event.Feed node k) self.now None self.now) }
+        ensures none { IfNone result ((k : ℕ) → from ≤ k → k < length self.now.channels →
+            Attempts (Event.Feed node k) self.now None self.now) }
+    {
+        self.fabric.next_class(node, from)
+    }
+
+    /// The channels of the node that owe a credit.
+    pub fn owing(&self, node: u8) -> ChannelSet
+        requires { node < node_count self.now.mesh }
+        ensures owing { AreOwing self.now node result }
+        ensures sound { IsWorkable self.now }
+    {
+        self.fabric.owing(node)
+    }
+
+    /// The lowest channel of the mesh port that owes a credit.
+    pub fn owed(&self, node: u8, port: u8) -> Option<u8>
+        requires node { node < node_count self.now.mesh }
+        requires port { port < 2 * length self.now.mesh }
+        ensures { result ≡ lowest_owed (router_at self.now node) port }
+    {
+        self.fabric.owed(node, port)
+    }
+
+    /// Whether the node is at rest, so that its turn goes past all but what its source is asked. Where it is at rest
+    /// this may not be found.
+    pub fn rests(&mut self, node: u8) -> bool
+        requires { node < node_count self.old.mesh }
+        ensures comes { IsTrue result → ComesInBy Attempts node self.old None self.old }
+        ensures rest { IsTrue result → IsAtRest (router_at self.old node) }
+        ensures passes { IsTrue result → NodePassesBy Attempts node self.old None self.old }
+        ensures same { self.new ≡ self.old }
+    {
+        self.fabric.rests(node)
+    }
+
+    pub(crate) fn offer(&mut self, node: u8, packet: &Packet) -> Result<Moved, StepFault>
+        ensures { Replies self.old (Event.Offer node packet.now.lane packet.now.words) result self.new }
+    {
+        if !self.fabric.has_node(node) {
+            return Err(StepFault::NoSuchPlace);
+        }
+        accepted(self.fabric.offer(node, packet))
+    }
+
+    pub(crate) fn close(&mut self, node: u8, lane: Lane) -> Result<Moved, StepFault>
+        ensures { Replies self.old (Event.CloseLane node lane) result self.new }
+    {
+        if !self.fabric.has_node(node) {
+            return Err(StepFault::NoSuchPlace);
+        }
+        accepted(self.fabric.close(node, lane))
+    }
+
+    pub(crate) fn feed(&mut self, node: u8, class: u8) -> Result<Moved, StepFault>
+        ensures { Replies self.old (Event.Feed node class) result self.new }
+    {
+        if !self.fabric.has_class(node, class) {
+            return Err(StepFault::NoSuchPlace);
+        }
+        Ok(moved(self.feed_there(node, class)))
+    }
+
+    /// The same where the node and the class are there.
+    pub(crate) fn feed_there(&mut self, node: u8, class: u8) -> bool
+        requires node { node < node_count self.old.mesh }
+        requires class { class < length self.old.channels }
+        ensures { Replies self.old (Event.Feed node class) (Ok (moved_of result)) self.new }
+    {
+        self.fabric.feed(node, class)
+    }
+
+    pub(crate) fn route(&mut self, node: u8, port: u8, vc: u8) -> Result<Moved, StepFault>
+        ensures { Replies self.old (Event.Route node port vc) result self.new }
+    {
+        if !self.fabric.has_place(node, port, vc) {
+            return Err(StepFault::NoSuchPlace);
+        }
+        Ok(moved(self.fabric.route(node, port, vc)))
+    }
+
+    fn grant(&mut self, node: u8, port: u8, vc: u8, out_vc: u8) -> Result<Moved, StepFault>
+        ensures { Replies self.old (Event.Grant node port vc out_vc) result self.new }
+    {
+        if !self.fabric.has_grant(node, port, vc, out_vc) {
+            return Err(StepFault::NoSuchPlace);
+        }
+        Ok(moved(self.fabric.grant(node, port, vc, out_vc)))
+    }
+
+    fn send(&mut self, node: u8, port: u8, vc: u8) -> Result<Moved, StepFault>
+        requires { self.old.own ≡ sole }
+        ensures { Replies self.old (Event.Send node port vc) result self.new }
+    {
+        if !self.fabric.has_place(node, port, vc) {
+            return Err(StepFault::NoSuchPlace);
+        }
+        self.send_there(node, port, vc)
+    }
+
+    /// A Send where the place is there. What leaves over a link stays among the nodes that are owned.
+    pub fn send_there(&mut self, node: u8, port: u8, vc: u8) -> Result<Moved, StepFault>
+        requires there { IsThere (shape self.old) (Event.Send node port vc) }
+        requires within { IfSome (leaving (router_at self.old node) port vc)
+            (λ out. EndsWithin (shape self.old) (owned self.old) node out.0) }
+        ensures { Replies self.old (Event.Send node port vc) result self.new }
+    {
+        self.fabric.send(node, port, vc)
+    }
+
+    pub(crate) fn take(&mut self, node: u8, port: u8) -> Result<Moved, StepFault>
+        ensures { Replies self.old (Event.Take node port) result self.new }
+    {
+        let Some(number) = self.fabric.link_into(node, port) else {
+            return Err(StepFault::NoSuchPlace);
+        };
+        Ok(moved(self.fabric.take(node, port, number)))
+    }
+
+    fn give(&mut self, node: u8, port: u8, vc: u8) -> Result<Moved, StepFault>
+        requires { self.old.own ≡ sole }
+        ensures { Replies self.old (Event.GiveCredit node port vc) result self.new }
+    {
+        if !self.fabric.has_line(node, port, vc) {
+            return Err(StepFault::NoSuchPlace);
+        }
+        if !self.fabric.owes(node, port, vc) {
+            return Ok(Moved::Idle);
+        }
+        self.give_owed(node, port, vc)
+    }
+
+    /// A GiveCredit where the node and the channel are there, and the channel of the port owes a credit.
+    pub fn give_owed(&mut self, node: u8, port: u8, vc: u8) -> Result<Moved, StepFault>
+        requires channel { vc < sum self.old.channels }
+        requires owed { 0 < (input_at (router_at self.old node) port vc).owed }
+        requires within { EndsWithin (shape self.old) (owned self.old) node port }
+        ensures { Replies self.old (Event.GiveCredit node port vc) result self.new }
+    {
+        let Some(links) = self.fabric.links_at(node, port) else {
+            return Err(StepFault::NoSuchPlace);
+        };
+        self.fabric.give(node, port, vc, links);
+        Ok(Moved::Done)
+    }
+
+    pub(crate) fn get(&mut self, node: u8, port: u8) -> Result<Moved, StepFault>
+        ensures { Replies self.old (Event.TakeCredit node port) result self.new }
+    {
+        let Some(number) = self.fabric.link_out(node, port) else {
+            return Err(StepFault::NoSuchPlace);
+        };
+        Ok(moved(self.fabric.get(node, port, number)))
+    }
+
+    /// One step, where all nodes are owned.
+    pub fn step(&mut self, step: &Step) -> Result<Moved, StepFault>
+        requires { self.old.own ≡ sole }
+        ensures { Replies self.old (event_of step.now) result self.new }
+    {
+        match step {
+            Step::Offer { node, packet } => self.offer(*node, packet),
+            Step::Close { node, lane } => self.close(*node, *lane),
+            Step::Feed { node, class } => self.feed(*node, *class),
+            Step::Route { node, port, vc } => self.route(*node, *port, *vc),
+            Step::Grant {
+                node,
+                port,
+                vc,
+                out_vc,
+            } => self.grant(*node, *port, *vc, *out_vc),
+            Step::Send { node, port, vc } => self.send(*node, *port, *vc),
+            Step::Take { node, port } => self.take(*node, *port),
+            Step::GiveCredit { node, port, vc } => self.give(*node, *port, *vc),
+            Step::TakeCredit { node, port } => self.get(*node, *port),
+        }
+    }
+}

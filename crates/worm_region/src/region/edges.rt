@@ -1,0 +1,92 @@
+//! What comes into a part of a network and goes out of it, over the links that it shares with other workers
+//! (Dally and Towles, chapter 13).
+
+ghost use Rattle.std.specs.Prelude.{◌≡◌, ◌<◌, ◌↔◌, [], false, IsSome, Some, sum};
+ghost use Rattle.worm_theory.specs.Steps.{IsThere, Step as Event};
+ghost use Rattle.worm_region.specs.Edges.{Arrives, ComesBack, LetsGive, LetsOut};
+ghost use Rattle.worm_region.specs.Moves.{link_into, link_out};
+ghost use Rattle.worm_region.specs.State.{link_at, router_at, shape};
+ghost use Rattle.worm_region.specs.Workable.{EndsElsewhere, owned};
+ghost use Rattle.worm_mesh.specs.Address.{neighbour_of, node_count};
+ghost use Rattle.worm_router.specs.Router.{input_at, leaving};
+
+use super::Region;
+use worm_flit::Flit;
+
+impl Region {
+    /// By which port the front flit may leave, and as which flit, if it may.
+    pub fn ready(&self, node: u8, port: u8, vc: u8) -> Option<(u8, Flit)>
+        requires { IsThere (shape self.now) (Event.Send node port vc) }
+        ensures { result ≡ leaving (router_at self.now node) port vc }
+    {
+        self.fabric.ready(node, port, vc)
+    }
+
+    /// The ready flit leaves the node by the output port `out`, over a link to another worker's node: a Send but for
+    /// the link.
+    pub fn let_out(&mut self, node: u8, port: u8, vc: u8, out: u8, flit: Flit)
+        requires there { IsThere (shape self.old) (Event.Send node port vc) }
+        requires ready { leaving (router_at self.old node) port vc ≡ Some (out, flit) }
+        requires crosses { EndsElsewhere (shape self.old) (owned self.old) node out }
+        ensures { LetsOut self.old node port vc self.new }
+    {
+        self.fabric.let_out(node, port, vc, out, flit);
+    }
+
+    /// The input channel owes one credit less, which goes back to another worker's node: a GiveCredit but for the
+    /// credit's list.
+    pub fn gave(&mut self, node: u8, port: u8, vc: u8)
+        requires there { IsThere (shape self.old) (Event.GiveCredit node port vc) }
+        requires owed { 0 < (input_at (router_at self.old node) port vc).owed }
+        requires crosses { EndsElsewhere (shape self.old) (owned self.old) node port }
+        ensures { LetsGive self.old node port vc self.new }
+    {
+        self.fabric.gave(node, port, vc);
+    }
+
+    /// Whether a flit is on the link out of this port. One that comes from another worker's node is taken off its
+    /// queue where none is.
+    pub fn has_flits(&self, node: u8, port: u8) -> bool
+        requires { IsSome (neighbour_of self.now.mesh node port) }
+        ensures { (result ≡ false) ↔ ((link_at self.now (link_out self.now node port)).flits ≡ []) }
+    {
+        self.fabric.has_flits(node, port)
+    }
+
+    /// Whether a credit is on its way back over the link into this port.
+    pub fn has_credits(&self, node: u8, port: u8) -> bool
+        requires node { node < node_count self.now.mesh }
+        requires linked { IsSome (neighbour_of self.now.mesh node port) }
+        ensures { (result ≡ false) ↔ ((link_at self.now (link_into self.now node port)).credits ≡ []) }
+    {
+        self.fabric.has_credits(node, port)
+    }
+
+    /// The flit comes onto the link out of this port of another worker's node, on which there is none.
+    pub fn arrive(&mut self, node: u8, port: u8, flit: Flit)
+        requires elsewhere { owned self.old node ≡ false }
+        requires linked { IsSome (neighbour_of self.old.mesh node port) }
+        requires empty { (link_at self.old (link_out self.old node port)).flits ≡ [] }
+        requires channel { flit.vc < sum self.old.channels }
+        requires goal { flit.lane.dst < node_count self.old.mesh }
+        ensures { Arrives self.old node port flit self.new }
+    {
+        self.fabric.arrive(node, port, flit);
+    }
+
+    /// The credit of the channel, which this port of another worker's node gave, comes onto its way back over the link
+    /// into the port, on which there is none.
+    pub fn arrive_credit(&mut self, node: u8, port: u8, vc: u8)
+        requires elsewhere { owned self.old node ≡ false }
+        requires node { node < node_count self.old.mesh }
+        requires linked { IsSome (neighbour_of self.old.mesh node port) }
+        requires empty { (link_at self.old (link_into self.old node port)).credits ≡ [] }
+        requires channel { vc < sum self.old.channels }
+        ensures { ComesBack self.old node port vc self.new }
+    {
+        let Some(links) = self.fabric.links_at(node, port) else {
+            unreachable!()
+        };
+        self.fabric.arrive_credit(node, port, links, vc);
+    }
+}

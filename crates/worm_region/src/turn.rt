@@ -1,0 +1,271 @@
+//! The turn of a node, and the turns of all nodes in rising number.
+
+ghost use Rattle.std.specs.Prelude.{ℕ, List, [], ◌≡◌, ◌<◌, ◌*◌, Option, None, Some, true, false, sum};
+ghost use Rattle.std.specs.Result.{result_err};
+ghost use Rattle.worm_mesh.specs.Address.{node_count};
+ghost use Rattle.worm_region.specs.Replies.{Attempts, Replies};
+ghost use Rattle.worm_region.specs.Script.{begun_at, is_marked};
+ghost use Rattle.worm_region.specs.Owned.{sole};
+ghost use Rattle.worm_region.specs.Workable.{IsWorkable};
+ghost use Rattle.worm_region.specs.declared.script.Entry.{Entry};
+ghost use Rattle.worm_router.specs.Router.{input_at, width};
+ghost use Rattle.worm_swalloc.specs.SwAlloc.{AreGranted};
+ghost use Rattle.worm_swalloc.specs.declared.grant.SwGrant.{SwGrant};
+ghost use Rattle.worm_region.specs.State.{router_at};
+ghost use Rattle.worm_theory.specs.Steps.{Route};
+ghost use Rattle.worm_region.specs.Moves.{OwesTheSame, RoutesTheSame};
+ghost use Rattle.worm_region.specs.Turns.{Does, ForEach, ReachesAt, all_nodes, ask, fault_of, lowest_owed, AsksSourceBy};
+ghost use Rattle.worm_region.specs.Turns.{ComesInBy, FeedsClassesBy, GivesCreditBy, GivesCreditsBy, NodePassesBy};
+ghost use Rattle.worm_region.specs.Turns.{NodeTurnBy, RoutesChannelsBy, SendsBy, TakesCreditsBy, TakesFlitsBy};
+ghost use Rattle.worm_region.specs.Turns.{AreGrants, AreThere};
+ghost use Rattle.worm_region.specs.Prepared.{Prepares};
+
+use crate::region::Region;
+use crate::{Act, Entry, Moved, StepFault};
+use worm_vcalloc::ChannelSet;
+
+/// What the answer to a step is to the turn that tried it: a step that is not there, or not enabled, is passed over.
+pub fn tried(answer: Result<Moved, StepFault>) -> Result<(), StepFault>
+    ensures { result_err result ≡ fault_of answer }
+{
+    match answer {
+        Ok(_moved) => Ok(()),
+        Err(StepFault::NoSuchPlace) => Ok(()),
+        Err(fault) => Err(fault),
+    }
+}
+
+/// The nodes whose sources these entries ask, by number: an entry is for none of the others. None where there is no
+/// entry.
+fn sources_of(entries: &[Entry]) -> Option<[bool; 256]>
+    ensures { (x : ℕ) → x < 256 → is_marked result x ≡ false → begun_at x entries.now ≡ [] }
+{
+    if entries.is_empty() {
+        return None;
+    }
+    let mut sources = [false; 256];
+    for entry in entries {
+        sources[usize::from(entry.act.lane().src)] = true;
+    }
+    Some(sources)
+}
+
+/// Whether the node is one of these.
+fn asks(sources: &Option<[bool; 256]>, node: u8) -> bool
+    ensures { result ≡ is_marked sources.now node }
+{
+    match sources {
+        None => false,
+        Some(sources) => sources[usize::from(node)],
+    }
+}
+
+impl Region {
+    /// Asks the node's source what an entry asks of it.
+    fn ask(&mut self, node: u8, act: &Act) -> Result<Moved, StepFault>
+        ensures { Replies self.old (ask node act.now) result self.new }
+    {
+        match act {
+            Act::Offer(packet) => self.offer(node, packet),
+            Act::Close(lane) => self.close(node, *lane),
+        }
+    }
+
+    /// Asks the node's source what these entries ask of it, up to the first refusal.
+    pub fn ask_source(&mut self, node: u8, entries: &[Entry]) -> Result<(), StepFault>
+        ensures does { Does (AsksSourceBy Attempts entries.now node) self.old (result_err result) self.new }
+        ensures at_node { ReachesAt node self.old self.new }
+    {
+        for entry in entries {
+            if entry.act.lane().src == node {
+                tried(self.ask(node, &entry.act))?;
+            }
+        }
+        Ok(())
+    }
+
+    /// Takes a credit from each link out of the node, ports rising.
+    fn take_credits(&mut self, node: u8)
+        requires { node < node_count self.old.mesh }
+        ensures { Does (TakesCreditsBy Attempts node) self.old None self.new }
+    {
+        let mut from = 0;
+        while let Some(port) = self.next_credit(node, from) {
+            let _moved = self.get(node, port);
+            from = port + 1;
+        }
+    }
+
+    /// Takes a flit from each link into the node, ports rising.
+    fn take_flits(&mut self, node: u8)
+        requires { node < node_count self.old.mesh }
+        ensures { Does (TakesFlitsBy Attempts node) self.old None self.new }
+    {
+        let mut from = 0;
+        while let Some(port) = self.next_flit(node, from) {
+            let _moved = self.take(node, port);
+            from = port + 1;
+        }
+    }
+
+    /// Feeds a flit of each class, rising.
+    fn feed_classes(&mut self, node: u8)
+        requires { node < node_count self.old.mesh }
+        ensures { Does (FeedsClassesBy Attempts node) self.old None self.new }
+    {
+        let mut from = 0;
+        while let Some(class) = self.next_class(node, from) {
+            let _fed = self.feed_there(node, class);
+            from = class + 1;
+        }
+    }
+
+    /// Routes a channel, which changes what no other has to route.
+    fn route_channel(&mut self, node: u8, port: u8, vc: u8)
+        ensures routed { Does (Attempts (Route node port vc)) self.old None self.new }
+        ensures others { (p v : ℕ) → ((p ≡ port) → (v ≡ vc) → ⊥) → v < width (router_at self.new node) →
+            RoutesTheSame self.old self.new node p v }
+        ensures sound { IsWorkable self.new }
+    {
+        self.is_workable();
+        let _moved = self.route(node, port, vc);
+        self.is_workable();
+    }
+
+    /// Routes each channel that lacks a route, by rising port, then channel.
+    fn route_channels(&mut self, node: u8)
+        requires { node < node_count self.old.mesh }
+        ensures { Does (RoutesChannelsBy Attempts node) self.old None self.new }
+    {
+        let mut unrouted = self.unrouted(node);
+        while let Some((port, vc)) = unrouted.pop_first() {
+            self.route_channel(node, port, vc);
+        }
+    }
+
+    /// Lets each of these channels, which the switch allocator granted, send, ports rising, up to the first fault.
+    fn send_granted(&mut self, node: u8, granted: ChannelSet) -> Result<(), StepFault>
+        requires granted { AreGrants granted }
+        requires there { AreThere self.old node granted }
+        requires whole { self.old.own ≡ sole }
+        ensures { (grants : List (Option SwGrant)) → AreGranted grants granted →
+            Does (SendsBy Attempts grants node) self.old (result_err result) self.new }
+    {
+        self.is_workable();
+        let mut left = granted;
+        while let Some((port, vc)) = left.pop_first() {
+            tried(self.send_there(node, port, vc))?;
+        }
+        Ok(())
+    }
+
+    /// Gives a credit that a channel of the port owes to the link into it.
+    fn give_credit(&mut self, node: u8, port: u8, vc: u8)
+        requires channel { vc < sum self.old.channels }
+        requires owed { 0 < (input_at (router_at self.old node) port vc).owed }
+        requires whole { self.old.own ≡ sole }
+        ensures given { Some vc ≡ lowest_owed (router_at self.old node) port →
+            Does (GivesCreditBy Attempts node port) self.old None self.new }
+        ensures others { (p : ℕ) (v : ℕ) → (p ≡ port → ⊥) → v < width (router_at self.new node) →
+            OwesTheSame self.old self.new node p v }
+        ensures sound { IsWorkable self.new }
+    {
+        self.is_workable();
+        let _moved = self.give_owed(node, port, vc);
+        self.is_workable();
+    }
+
+    /// Gives a credit of the lowest channel that owes one to each link into the node, ports rising.
+    fn give_credits(&mut self, node: u8)
+        requires node { node < node_count self.old.mesh }
+        requires whole { self.old.own ≡ sole }
+        ensures { Does (GivesCreditsBy Attempts node) self.old None self.new }
+    {
+        let terminal = self.terminal();
+        let mut owing = self.owing(node);
+        let mut from = 0;
+        while let Some((port, vc)) = owing.pop_first() {
+            // The terminal has no link, and owes none.
+            if port >= terminal {
+                return;
+            }
+            // A port has given one already where a lower channel of it owed one, too.
+            if from <= port {
+                self.give_credit(node, port, vc);
+                from = port + 1;
+            }
+        }
+    }
+
+    /// Takes what comes in at the node, credits and then flits, feeds a flit of each class, and routes each channel
+    /// that lacks a route.
+    fn come_in(&mut self, node: u8)
+        requires { node < node_count self.old.mesh }
+        ensures does { Does (ComesInBy Attempts node) self.old None self.new }
+        ensures at_node { ReachesAt node self.old self.new }
+    {
+        self.take_credits(node);
+        self.take_flits(node);
+        self.feed_classes(node);
+        self.route_channels(node);
+    }
+
+    /// All that the node does in a turn before anything leaves it, once its source was asked: what comes in is taken,
+    /// fed and routed, and both allocators pass. The channels that may send are those granted.
+    pub fn prepare(&mut self, node: u8) -> ChannelSet
+        requires { node < node_count self.old.mesh }
+        ensures prepares { Prepares node result self.old self.new }
+        ensures there { AreThere self.new node result }
+        ensures at_node { ReachesAt node self.old self.new }
+    {
+        // What holds of each region is told of those between, too, for whoever keeps more of them than this.
+        self.come_in(node);
+        self.is_workable();
+        self.allocate(node);
+        self.is_workable();
+        if self.sends_nothing(node) {
+            return ChannelSet::new();
+        }
+        self.choose(node)
+    }
+
+    /// What a node does in a turn once its source was asked.
+    fn node_passes(&mut self, node: u8) -> Result<(), StepFault>
+        requires node { node < node_count self.old.mesh }
+        requires whole { self.old.own ≡ sole }
+        ensures { Does (NodePassesBy Attempts node) self.old (result_err result) self.new }
+    {
+        if self.rests(node) {
+            return Ok(());
+        }
+        let granted = self.prepare(node);
+        self.send_granted(node, granted)?;
+        self.give_credits(node);
+        Ok(())
+    }
+
+    /// The turn of a node, with these entries for all nodes; one of them may be for its source.
+    fn node_turn(&mut self, node: u8, entries: &[Entry], is_asked: bool) -> Result<(), StepFault>
+        requires node { node < node_count self.old.mesh }
+        requires asked { is_asked ≡ false → begun_at node entries.now ≡ [] }
+        requires whole { self.old.own ≡ sole }
+        ensures { Does (NodeTurnBy Attempts entries.now node) self.old (result_err result) self.new }
+    {
+        if is_asked {
+            self.ask_source(node, entries)?;
+        }
+        self.node_passes(node)
+    }
+
+    /// The turns of all nodes with these entries, in rising number.
+    pub fn all_turns(&mut self, entries: &[Entry]) -> Result<(), StepFault>
+        requires { self.old.own ≡ sole }
+        ensures { Does (ForEach all_nodes (NodeTurnBy Attempts entries.now)) self.old (result_err result) self.new }
+    {
+        let sources = sources_of(entries);
+        for node in 0..self.nodes() {
+            self.node_turn(node as u8, entries, asks(&sources, node as u8))?;
+        }
+        Ok(())
+    }
+}
