@@ -41,6 +41,7 @@ pub mod StepsAt
 pub mod Allocating
 pub mod NetWays
 pub mod Lifting
+pub mod Idle
 pub mod Determined
 pub mod ViewLists
 pub mod LanePlaces

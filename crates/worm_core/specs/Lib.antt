@@ -12,6 +12,7 @@ pub mod Runs
 pub mod Headline
 pub mod NewNet
 pub mod Turns
+pub mod Idle
 pub mod Replies
 pub mod Prepared
 pub mod Totals
