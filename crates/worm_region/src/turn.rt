@@ -1,6 +1,6 @@
 //! The turn of a node, and the turns of all nodes in rising number.
 
-ghost use Rattle.std.specs.Prelude.{ℕ, List, [], ◌≡◌, ◌<◌, ◌*◌, Option, None, Some, true, false, sum};
+ghost use Rattle.std.specs.Prelude.{ℕ, List, [], ◌≡◌, ◌<◌, ◌*◌, Option, None, Some, IsTrue, true, false, sum};
 ghost use Rattle.std.specs.Result.{result_err};
 ghost use Rattle.worm_mesh.specs.Address.{node_count};
 ghost use Rattle.worm_region.specs.Replies.{Attempts, Replies};
@@ -255,6 +255,20 @@ impl Region {
             self.ask_source(node, entries)?;
         }
         self.node_passes(node)
+    }
+
+    /// Whether each node is at rest, asked up to the first that is not. Where all are this may not be found.
+    pub fn all_rest(&mut self) -> bool
+        ensures passes { IsTrue result → (x : ℕ) → x < node_count self.old.mesh →
+            NodePassesBy Attempts x self.old None self.old }
+        ensures same { self.new ≡ self.old }
+    {
+        for node in 0..self.nodes() {
+            if !self.rests(node as u8) {
+                return false;
+            }
+        }
+        true
     }
 
     /// The turns of all nodes with these entries, in rising number.

@@ -192,3 +192,30 @@ fn want_of_memory_loses_nothing(rt: HostRuntime) -> Result<(), Fail> {
     }
     Ok(())
 }
+
+/// Once nothing can move, turns change nothing, until a step or an entry asks something of a source: then it arrives.
+#[test]
+fn an_idle_network_is_woken(rt: HostRuntime) -> Result<(), Fail> {
+    let mut net = Net::new(rt.alloc(), &config(&[2], 2, &[1]))?;
+    let mut script = Script::empty(rt.alloc());
+    script.push(to_offer(5, lane(1, 0, 0), &[17])?)?;
+    script.push(to_offer(30, lane(0, 1, 0), &[19])?)?;
+    for turn in 0..20 {
+        net.turn(turn, &script)?;
+    }
+    let first = words(&net, 0, rt)?;
+    assert_eq!(rt; first.as_slice(), [17].as_slice());
+    done(&mut net, &[offer(lane(1, 0, 0), &[18])?], &rt);
+    for turn in 20..30 {
+        net.turn(turn, &script)?;
+    }
+    let both = words(&net, 0, rt)?;
+    assert_eq!(rt; both.as_slice(), [17, 18].as_slice());
+    for turn in 30..40 {
+        net.turn(turn, &script)?;
+    }
+    let other = words(&net, 1, rt)?;
+    assert_eq!(rt; other.as_slice(), [19].as_slice());
+    assert!(rt; net.is_drained());
+    Ok(())
+}

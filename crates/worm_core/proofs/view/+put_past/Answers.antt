@@ -6,7 +6,7 @@ use Rattle.worm_mesh.proofs.Neighbours.{has_neighbour-from_Joins}
 use Rattle.worm_route.specs.Places.{Buffer, Link}
 use Rattle.worm_core.specs.LaneView.{held_at, places_past}
 use Rattle.worm_core.proofs.LanePlaces.{past_arrived, hops_fall, past_next, past_held}
-use Rattle.worm_region.proofs.fabric.Fabric.+put_past.Goals as goal
+use Rattle.worm_core.proofs.view.+put_past.Goals as goal
 
 pub returns-in_default : goal.returns-in_default
 returns-in_default t c =

@@ -8,7 +8,7 @@ use Rattle.worm_region.specs.declared.node.Node.{Node}
 use Rattle.worm_core.specs.declared.view.Place.TheVariants.{Buffer}
 use Rattle.worm_core.proofs.ReadPlaces.{framed_place, buffer_read}
 use Rattle.worm_core.proofs.ViewLists.{added, channel-more, class_within}
-use Rattle.worm_region.proofs.fabric.Fabric.put_buffers.Goals as goal
+use Rattle.worm_core.proofs.view.put_buffers.Goals as goal
 
 pub put_channel-requires : goal.put_channel-requires
 put_channel-requires c =

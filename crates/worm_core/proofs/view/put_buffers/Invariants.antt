@@ -2,7 +2,7 @@ use Rattle.std.proofs.Common.{◌≡◌, ◌++◌, ◌-◌}
 use Rattle.std.specs.Prelude.{flat_map}
 use Rattle.std.specs.List.{range_with_len}
 use Rattle.worm_core.specs.LaneView.{buffer_held}
-use Rattle.worm_region.proofs.fabric.Fabric.put_buffers.Given as goal
+use Rattle.worm_core.proofs.view.put_buffers.Given as goal
 
 abbrev pub invariant-loop-vc : goal.invariant-loop-vc
 invariant-loop-vc l =

@@ -4,7 +4,7 @@ use Rattle.std.specs.List.{range_with_len}
 use Rattle.worm_core.specs.LaneView.{link_held}
 use Rattle.worm_core.proofs.ReadPlaces.{link_read}
 use Rattle.worm_core.proofs.ViewLists.{added, channel-more}
-use Rattle.worm_region.proofs.fabric.Fabric.put_lines.Goals as goal
+use Rattle.worm_core.proofs.view.put_lines.Goals as goal
 
 pub loop-vc-preserved : goal.loop-vc-preserved
 loop-vc-preserved c =

@@ -8,7 +8,7 @@ use Rattle.worm_core.specs.LaneView.{at_place, held_at, places_past}
 use Rattle.worm_region.specs.declared.node.Node.{Node}
 use Rattle.worm_core.specs.declared.view.Place.TheVariants.{Source as InSource}
 use Rattle.worm_core.proofs.LanePlaces.{places_split, past_held}
-use Rattle.worm_region.proofs.fabric.Fabric.underway.Goals as goal
+use Rattle.worm_core.proofs.view.underway.Goals as goal
 
 pub returns : goal.returns
 returns c =

@@ -1,0 +1,11 @@
+-- A network in which nothing can move: a turn without entries changes nothing.
+use Rattle.std.specs.Prelude.{[], None, Bool, IsTrue}
+use Rattle.worm_region.specs.State.{NetState}
+use Rattle.worm_region.specs.Turns.{Turn}
+
+abbrev pub IsIdle : NetState → Type 0
+IsIdle s = Turn [] s None s
+
+-- where it is known to be one, it is
+abbrev pub KnowsIdle : NetState → Bool → Type 0
+KnowsIdle s known = IsTrue known → IsIdle s
