@@ -5,8 +5,8 @@ mod turns;
 mod view;
 
 use crate::{
-    Act, Config, Entry, Moved, Name, Net, NetFault, OfferFault, RunSoFar, Script,
-    Step, StepFault, Totals,
+    Act, Config, Entry, Moved, Name, Net, NetFault, OfferFault, RunSoFar, Script, Step, StepFault,
+    Totals,
 };
 use arrayvec::ArrayVec;
 use std::test::Fail;

@@ -53,7 +53,10 @@ fn the_entries_of_a_turn(rt: HostRuntime) -> Result<(), Fail> {
 
 #[test]
 fn numbers_out_of_their_range(rt: HostRuntime) -> Result<(), Fail> {
-    let refused = |config: &Config| matches!(Region::new(rt.alloc(), config), Err(NetFault::BadConfig));
+    let refused = |config: &Config| matches!(
+        Region::new(rt.alloc(), config),
+        Err(NetFault::BadConfig)
+    );
     assert!(rt; refused(&config(&[1], 2, &[1])));
     assert!(rt; refused(&config(&[2], 0, &[1])));
     assert!(rt; refused(&config(&[2], 17, &[1])));
@@ -77,9 +80,13 @@ fn where_a_route_goes_on(rt: HostRuntime) -> Result<(), Fail> {
     assert_eq!(rt; fabric.terminal(), 4);
     assert_eq!(rt; fabric.channels(), 4);
     if fabric.nodes() == 6 {
-        let right = fabric.next_link(0, 5).map(|link| (link.out_port, link.to, link.in_port));
+        let right = fabric
+            .next_link(0, 5)
+            .map(|link| (link.out_port, link.to, link.in_port));
         assert_eq!(rt; right, Some((1, 1, 0)));
-        let up = fabric.next_link(2, 5).map(|link| (link.out_port, link.to, link.in_port));
+        let up = fabric
+            .next_link(2, 5)
+            .map(|link| (link.out_port, link.to, link.in_port));
         assert_eq!(rt; up, Some((3, 5, 2)));
         assert!(rt; fabric.next_link(5, 5).is_none());
     }
