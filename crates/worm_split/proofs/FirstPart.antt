@@ -25,7 +25,7 @@ use Rattle.worm_region.specs.Workable.{IsBound, IsKept, IsSent, IsWorkable, Work
 use Rattle.worm_region.specs.declared.node.Node.{Node}
 use Rattle.worm_region.proofs.Kept.{framed_mesh}
 use Rattle.worm_region.proofs.LinkBridge.{credits_there, out_there}
-use Rattle.worm_core.proofs.NetWays.{workable}
+use Rattle.worm_region.proofs.NewNet.{workable}
 use Rattle.worm_region.proofs.NewNet.{fresh_is, stands_for}
 use Rattle.worm_region.proofs.Owning.{all_within}
 use Rattle.worm_region.proofs.Working.{sound_works}
