@@ -1,6 +1,5 @@
 use Rattle.std.proofs.Common.{◌≤◌, arith}
 use Rattle.worm_mesh.specs.Address.{IsMesh as IsRadices}
-use Rattle.worm_region.specs.State.{IsNet}
 use Rattle.worm_region.proofs.NewNet.{fresh_holds, workable}
 use Rattle.worm_region.proofs.region.Region.new.Goals as goal
 
