@@ -1,14 +1,12 @@
 -- What is read of a lane: its flits at each of its places, from the sink back (Dally and Towles, chapters 8 and 13).
-use Rattle.std.specs.Prelude.{ℕ, ◌*◌, ◌≡◌, ◌≢◌, List, ◌++◌, drop, take, map, flat_map, slice_index}
+use Rattle.std.specs.Prelude.{ℕ, ◌*◌, ◌≡◌, List, ◌++◌, drop, take, map, flat_map, slice_index}
 use Rattle.std.specs.List.{count_by, range_with_len}
 use Rattle.worm_flit.specs.declared.Lane.{Lane}
 use Rattle.worm_flit.specs.declared.Flit.{Flit}
 use Rattle.worm_flit.specs.Channels.{first_channel}
 use Rattle.worm_flit.specs.Stamps.{bare, is_of_lane, of_lane, on_channel}
-use Rattle.worm_mesh.specs.Address.{Joins, opposite_of}
-use Rattle.worm_mesh.specs.declared.mesh.LinkEnds.{LinkEnds}
 use Rattle.worm_route.specs.Places.{Place as Spot, Source as AtSource, Buffer as AtBuffer, Link as AtLink, places_of}
-use Rattle.worm_route.specs.Route.{hops_of, port_of}
+use Rattle.worm_route.specs.Route.{hops_of}
 use Rattle.worm_theory.specs.PacketCut.{packet_held}
 use Rattle.worm_region.specs.State.{NetState, router_at, sink_at, queue_of, input_of, link_of}
 use Rattle.worm_core.specs.declared.view.Held.{Held}
