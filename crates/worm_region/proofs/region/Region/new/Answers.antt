@@ -19,5 +19,6 @@ returns-clause-whole c =
     let depth : 1 ≤ c.args.config.now.depth = let zero = c.if-config-eq0.false in omega arith in
     let few : c.args.config.now.depth ≤ 16 = let more = c.if-config-gt16.false in omega arith in
     let classes = c.are_channels.ensures.0 c.if-not-are_channels.false in
-    rw (c.of.ensures) (fresh_holds c.in-Ok.mesh c.as_slice-channels.result.now c.args.config.now.depth _ c.in-Ok-new.fabric
+    rw (c.of.ensures)
+    (fresh_holds c.in-Ok.mesh c.as_slice-channels.result.now c.args.config.now.depth _ c.in-Ok-new.fabric
     c.in-Ok-new.ensures radices classes depth few)
