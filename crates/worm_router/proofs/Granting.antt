@@ -9,7 +9,8 @@ use Rattle.std.proofs.lemmas.Nat.{same_from_place}
 use Rattle.std.proofs.lemmas.List.{get_or-set_other, length-set}
 use Rattle.std.proofs.lemmas.Grind.{get_or-set_at}
 use Rattle.worm_flit.specs.declared.Flit.{Flit}
-use Rattle.worm_flit.specs.Channels.{owns, class_bits}
+use Rattle.worm_flit.specs.Channels.{owns}
+use Rattle.worm_flit.proofs.Masks.{class_bits-owns}
 use Rattle.worm_records.specs.declared.InRecord.{InRecord}
 use Rattle.worm_records.specs.declared.InRecord.TheVariants.{Idle, Waiting, Active}
 use Rattle.worm_records.specs.declared.OutRecord.{OutRecord}
@@ -23,9 +24,8 @@ use Rattle.worm_router.specs.Router.{fresh_channel, free_output, in_state, input
 use Rattle.worm_router.specs.Router.{after_granting}
 use Rattle.worm_router.specs.Allocation.{asking, request_at, requests, is_free, free_channels, channel_pass, written}
 use Rattle.worm_router.specs.Allocation.{with_port_grants, with_grants, IsAllocated, IsGranted, AreHeld, LeavesRest}
-use Rattle.worm_router.proofs.Hopeful.{choice_by}
-use Rattle.worm_router.proofs.InVain.{cell_is}
 use Rattle.worm_router.proofs.Laws.{line-places}
+use Rattle.worm_router.proofs.TableRows.{cell_is}
 
 -- what is granted was waited for
 waited_by : (r : RouterState) (s : InRecord) (fs : List Flit) (c o : ℕ) → granting r s fs c ≡ Some o → s ≡ Waiting o
@@ -39,21 +39,25 @@ waited_by r (Waiting p) (f ∷ fs) c o e = by_test (is_none (output_at r p c).ho
       by_test false same = absurd (cc)
 
 -- who may use a channel of a port waits for that port
-waits_for : (r : RouterState) (s : InRecord) (fs : List Flit) (o c : ℕ) → may_use (asking r s fs) o c ≡ true
+waits_for : (r : RouterState) (s : InRecord) (fs : List Flit) (o c : ℕ) → may_use (asking r.channels s fs) o c ≡ true
     → s ≡ Waiting o
 waits_for r Idle fs o c e = absurd (true≢false (sym e))
 waits_for r (Active p v) fs o c e = absurd (true≢false (sym e))
 waits_for r (Waiting p) [] o c e = absurd (true≢false (sym e))
 waits_for r (Waiting p) (f ∷ fs) o c e = ap Waiting (eqb-true p o (and_parts _ _ e).0)
 
--- what is asked for stands in the channels of the classes alone
-same_asking : (r q : RouterState) (s : InRecord) (fs : List Flit) → q.channels ≡ r.channels
-    → asking q s fs ≡ asking r s fs
-same_asking r q Idle fs same = refl
-same_asking r q (Active o c) fs same = refl
-same_asking r q (Waiting o) [] same = refl
-same_asking r q (Waiting o) (f ∷ fs) same =
-    ap (λ (cs : List ℕ). Some (record { out = o; allowed = class_bits cs f.lane.class })) same
+-- who may use a free channel is granted it
+choice_by : (r : RouterState) (s : InRecord) (fs : List Flit) (o c : ℕ)
+    → is_free r o c ≡ true → may_use (asking r.channels s fs) o c ≡ true → granting r s fs c ≡ Some o
+choice_by r Idle fs o c unheld uses = absurd (true≢false (sym uses))
+choice_by r (Active p v) fs o c unheld uses = absurd (true≢false (sym uses))
+choice_by r (Waiting p) [] o c unheld uses = absurd (true≢false (sym uses))
+choice_by r (Waiting p) (f ∷ fs) o c unheld uses =
+    let parts = and_parts _ _ uses in
+    let same : p ≡ o = eqb-true p o parts.0 in
+    ap (λ k. if is_none (output_at r k c).holder && owns r.channels f.lane.class c then Some k else None) same
+    ∙ ap (λ b. if b then Some o else None)
+    (and_from _ _ unheld (sym (class_bits-owns r.channels f.lane.class c) ∙ parts.1))
 
 is_unheld : (h : Option (ℕ × ℕ)) → is_none h ≡ true → h ≡ None
 is_unheld None e = refl
@@ -290,10 +294,8 @@ module _ (r : RouterState) (a : VcAllocState) (grants : List (List (Option ℕ))
         (omega (arith, same, before)) in
         let free : is_free s o c ≡ true =
         ap (λ (u : OutRecord). is_none u.holder) (far.untaken o c wins.out_place none_before) ∙ wins.free in
-        let uses : may_use (asking s had.state had.buffer) o c ≡ true =
-        ap (λ q. may_use q o c) (same_asking r s had.state had.buffer refl) ∙ wins.uses in
         ap (λ (x : ChannelState). granting s x.state x.buffer c) (far.ahead p v wins.place (omega arith))
-        ∙ choice_by s had.state had.buffer o c (and_from _ _ free uses)
+        ∙ choice_by s had.state had.buffer o c free wins.uses
 
   -- one place more
   step : (is : List ChannelState) (os : List OutRecord) (p v : ℕ) → IsPlace r p v → Far is os (line r p v)
@@ -365,7 +367,7 @@ module _ (r : RouterState) (a : VcAllocState) (grants : List (List (Option ℕ))
       record {
         out = had.out;
         waited = waited_by r x.state x.buffer c had.out
-            (choice_by r x.state x.buffer had.out c (and_from _ _ had.wins.free had.wins.uses));
+            (choice_by r x.state x.buffer had.out c had.wins.free had.wins.uses);
         free = is_unheld (output_at r had.out c).holder had.wins.free;
         active = had.active;
         held = had.held;

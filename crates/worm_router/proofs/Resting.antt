@@ -7,6 +7,7 @@ use Rattle.worm_records.specs.declared.InRecord.{InRecord}
 use Rattle.worm_records.specs.declared.InRecord.TheVariants.{Idle, Waiting, Active}
 use Rattle.worm_vcalloc.proofs.SetLemmas.{has-empty}
 use Rattle.worm_router.specs.Router.{RouterState, ChannelState, input_at, is_idle, opens_front}
+use Rattle.worm_router.specs.Demand.{DemandView}
 use Rattle.worm_router.specs.Busy.{IsKept, IsSetOf, is_occupied, is_waiting, is_active, owes, waits, holds}
 use Rattle.worm_router.specs.Allocation.{switch_grants, after_choose}
 use Rattle.worm_router.specs.Rest.{OwesNothing}
@@ -32,17 +33,19 @@ owes_none r owing is none = λ p v p_in v_in.
     let e : nat_lt 0 (input_at r p v).owed ≡ false = sym (is.inside p v p_in v_in) ∙ has-empty owing p v none in
     grind (arith, nat_tests)
 
-pub chooses_none : (r s : RouterState) (sets : BusyChannels) (masks : List ℕ) → r ≡ s → IsKept r sets masks
+pub chooses_none : (r s : RouterState) (sets : BusyChannels) (asked : DemandView) (masks : List ℕ) → r ≡ s
+    → IsKept r sets asked masks
     → (sets.ready == 0) ≡ true → after_choose s ≡ s
-chooses_none r s sets masks same kept none =
+chooses_none r s sets asked masks same kept none =
     let ports = kept.router.allocators.switch_ports in
     let few = kept.busy.few_ports in
     subst (λ (q : RouterState). after_choose q ≡ q) same
     (idle_choose r (omega arith) kept.arbiters (none_ready_of r sets.ready kept.ready none))
 
-pub grants_none : (r s : RouterState) (sets : BusyChannels) (masks : List ℕ) → r ≡ s → IsKept r sets masks
+pub grants_none : (r s : RouterState) (sets : BusyChannels) (asked : DemandView) (masks : List ℕ) → r ≡ s
+    → IsKept r sets asked masks
     → (sets.ready == 0) ≡ true → switch_grants s ≡ replicate 7 None
-grants_none r s sets masks same kept none =
+grants_none r s sets asked masks same kept none =
     let ports = kept.router.allocators.switch_ports in
     let few = kept.busy.few_ports in
     subst (λ (q : RouterState). switch_grants q ≡ replicate 7 None) same

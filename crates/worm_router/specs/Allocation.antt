@@ -1,6 +1,6 @@
 -- What the channels of a router ask of its allocators, and what a pass of each leaves (Dally and Towles, chapters 16
 -- and 19).
-use Rattle.std.specs.Prelude.{ℕ, ◌≡◌, ◌<◌, ◌≤◌, ◌+◌, ◌&&◌, nat_le, nat_lt, Bool, true, false, is_none, if◌then◌else◌}
+use Rattle.std.specs.Prelude.{ℕ, ◌≡◌, ◌<◌, ◌+◌, ◌&&◌, nat_le, nat_lt, Bool, false, is_none, if◌then◌else◌}
 use Rattle.std.specs.Prelude.{List, [], ◌∷◌, Option, None, Some, fold, replicate}
 use Rattle.std.specs.Option.{option_map}
 use Rattle.std.specs.List.{range_with_len}
@@ -9,14 +9,12 @@ use Rattle.worm_flit.specs.Channels.{class_bits}
 use Rattle.worm_records.specs.declared.InRecord.{InRecord}
 use Rattle.worm_records.specs.declared.InRecord.TheVariants.{Idle, Waiting, Active}
 use Rattle.worm_vcalloc.specs.declared.request.VcRequest.{VcRequest}
-use Rattle.worm_vcalloc.specs.VcRequest.{may_use}
 use Rattle.worm_vcalloc.specs.Table.{cell}
-use Rattle.worm_vcalloc.specs.ChannelSet.{has}
 use Rattle.worm_vcalloc.specs.VcAlloc.{VcPass, IsChannelMatching, vc_pass}
 use Rattle.worm_swalloc.specs.declared.grant.SwGrant.{SwGrant}
 use Rattle.worm_swalloc.specs.SwAlloc.{sw_grants, sw_after}
 use Rattle.worm_router.specs.Tables.{table}
-use Rattle.worm_router.specs.Router.{RouterState, IsPlace, terminal, width, input_at, output_at, can_grant, after_grant}
+use Rattle.worm_router.specs.Router.{RouterState, IsPlace, terminal, width, input_at, output_at, after_grant}
 use Rattle.worm_router.specs.Router.{in_state, leaving}
 
 -- what f says of a port and channel of the router; of any other, d
@@ -26,14 +24,14 @@ within r d f port vc = if nat_le port (terminal r) && nat_lt vc (width r) then f
 -- Channel allocation
 
 -- a waiting channel with a packet at its front asks for a channel of the packet's class at its output port
-abbrev pub asking : RouterState → InRecord → List Flit → Option VcRequest
-asking r Idle fs = None
-asking r (Active o c) fs = None
-asking r (Waiting o) [] = None
-asking r (Waiting o) (f ∷ fs) = Some (record { out = o; allowed = class_bits r.channels f.lane.class })
+abbrev pub asking : List ℕ → InRecord → List Flit → Option VcRequest
+asking channels Idle fs = None
+asking channels (Active o c) fs = None
+asking channels (Waiting o) [] = None
+asking channels (Waiting o) (f ∷ fs) = Some (record { out = o; allowed = class_bits channels f.lane.class })
 
 abbrev pub request_at : RouterState → ℕ → ℕ → Option VcRequest
-request_at r port vc = asking r (input_at r port vc).state (input_at r port vc).buffer
+request_at r port vc = asking r.channels (input_at r port vc).state (input_at r port vc).buffer
 
 abbrev pub requests : RouterState → List (List (Option VcRequest))
 requests r = table (within r None (request_at r))
@@ -44,46 +42,10 @@ is_free r out c = is_none (output_at r out c).holder
 abbrev pub free_channels : RouterState → List (List Bool)
 free_channels r = table (within r false (is_free r))
 
--- two tables of requests say the same of each free output channel
-abbrev pub AgreeWhereFree : List (List Bool) → List (List (Option VcRequest)) → List (List (Option VcRequest)) → Type 0
-AgreeWhereFree free v w = (out c port vc : ℕ) → cell free out c false ≡ true
-    → may_use (cell v port vc None) out c ≡ may_use (cell w port vc None) out c
-
--- an output channel is free, and an input channel may use it
-abbrev pub may_get : RouterState → ℕ → ℕ → ℕ → ℕ → Bool
-may_get r port vc out c = is_free r out c && may_use (request_at r port vc) out c
-
--- no free output channel is for this input channel
-abbrev pub HasNoChoice : RouterState → ℕ → ℕ → Type 0
-HasNoChoice r port vc = (out c : ℕ) → IsPlace r out c → may_get r port vc out c ≡ false
-
--- the first output channel that is free for this input channel
-pub record IsFirstChoice (r : RouterState) (port vc out c : ℕ) : Type 0 where
-  pub place : IsPlace r out c
-  pub gets : may_get r port vc out c ≡ true
-  pub first : (k : ℕ) → k < c → may_get r port vc out k ≡ false
-
--- a set of input channels has each for which some output channel is free
-pub record IsHopeful (r : RouterState) (set : ℕ) : Type 0 where
-  pub all : (p v o c : ℕ) → IsPlace r p v → IsPlace r o c → may_get r p v o c ≡ true → has set p v ≡ true
-  pub places : (p v : ℕ) → p < 7 → v < 8 → has set p v ≡ true → IsPlace r p v
-
--- output channels are free for this input channel alone
-abbrev pub IsSoleHope : RouterState → ℕ → ℕ → Type 0
-IsSoleHope r port vc = (p v o c : ℕ) → IsPlace r p v → IsPlace r o c → may_get r p v o c ≡ true → (p ≡ port) × (v ≡ vc)
-
--- the requests of the input channels of a set
-abbrev pub requests_among : RouterState → ℕ → List (List (Option VcRequest))
-requests_among r set = table (within r None (λ port vc. if has set port vc then request_at r port vc else None))
-
 -- one pass of the channel allocator, over the requests and the free channels that the records state
 abbrev pub channel_pass : RouterState → VcPass
 channel_pass r =
     vc_pass (requests r) (free_channels r) (record { alloc = r.channel_alloc; grants = replicate 7 (replicate 8 None) })
-
--- no input channel can be granted an output channel
-abbrev pub GrantsNothing : RouterState → Type 0
-GrantsNothing r = (p v c : ℕ) → p ≤ terminal r → v < width r → c < width r → can_grant r p v c ≡ None
 
 -- each granted channel is one of so many
 abbrev pub GrantsWithin : ℕ → List (List (Option ℕ)) → Type 0

@@ -1,17 +1,16 @@
 -- Which input channels have something to do: the sets that a router keeps beside its lists, so that a turn skips all
 -- others.
 use Rattle.std.specs.Prelude.{ℕ, ◌+◌, ◌*◌, ◌<◌, ◌≤◌, ◌≡◌, ◌==◌, ◌&&◌, ◌||◌, nat_lt, Bool, true, false, List, length}
-use Rattle.std.specs.Prelude.{slice_index, slice_index_or, IsTrue, is_some, All, Option, Some, None}
+use Rattle.std.specs.Prelude.{slice_index, slice_index_or, is_some, All, Option, Some, None}
 use Rattle.worm_flit.specs.Channels.{class_bits}
 use Rattle.worm_records.specs.declared.InRecord.{InRecord}
 use Rattle.worm_records.specs.declared.InRecord.TheVariants.{Idle, Waiting, Active}
-use Rattle.worm_records.specs.declared.OutRecord.{OutRecord}
 use Rattle.worm_vcalloc.specs.ChannelSet.{has}
 use Rattle.worm_swalloc.specs.SwAlloc.{SwAllocState}
-use Rattle.worm_router.specs.Allocation.{GrantsNothing}
+use Rattle.worm_router.specs.Demand.{DemandView, IsDemandOf}
 use Rattle.worm_router.specs.declared.busy.BusyChannels.{BusyChannels}
 use Rattle.worm_router.specs.Router.{ChannelState, RouterState, IsRouter, IsPlace, terminal, width, fresh_channel}
-use Rattle.worm_router.specs.Router.{free_output, input_at, output_at, leaving}
+use Rattle.worm_router.specs.Router.{input_at, output_at, leaving}
 
 -- an input channel has a flit
 abbrev pub is_occupied : ChannelState → Bool
@@ -55,7 +54,6 @@ pub record AreBusy (terminal width depth : ℕ) (inputs : List ChannelState) (se
   pub few_ports : terminal ≤ 6
   pub few_channels : width ≤ 8
   pub occupied : IsSetIn is_occupied terminal width depth inputs sets.occupied
-  pub waiting : IsSetIn is_waiting terminal width depth inputs sets.waiting
   pub active : IsSetIn is_active terminal width depth inputs sets.active
   pub owing : IsSetIn owes terminal width depth inputs sets.owing
 
@@ -74,11 +72,6 @@ pub record AreHolders (r : RouterState) : Type 0 where
   pub held : (p v o c : ℕ) → p ≤ terminal r → v < width r → (input_at r p v).state ≡ Active o c
       → (output_at r o c).holder ≡ Some (p, v)
   pub fit : All (λ u. IsHolder (terminal r) (width r) u.holder) r.outputs
-
--- a set has those output channels that are held
-pub record IsHeldIn (terminal width depth : ℕ) (outputs : List OutRecord) (set : ℕ) : Type 0 where
-  pub all : (out vc : ℕ) → out ≤ terminal → vc < width
-      → has set out vc ≡ is_some (slice_index_or outputs (out * width + vc) (free_output depth)).holder
 
 -- a set has the input channels of a router that may send, and no others
 pub record IsReadySet (r : RouterState) (set : ℕ) : Type 0 where
@@ -129,13 +122,17 @@ pub record HasArbiters (s : SwAllocState) : Type 0 where
   pub inputs : s.ports ≤ length s.inputs
   pub outputs : s.ports ≤ length s.outputs
 
--- what a router keeps: what contracts see, and the sets and the masks of classes beside it
-pub record IsKept (r : RouterState) (sets : BusyChannels) (masks : List ℕ) : Type 0 where
+-- what waits has a flit to wait with
+abbrev pub HasFront : ChannelState → Type 0
+HasFront c = is_waiting c ≡ true → is_occupied c ≡ true
+
+-- what a router keeps: what contracts see, and the sets, the requests and the masks of classes beside it
+pub record IsKept (r : RouterState) (sets : BusyChannels) (asked : DemandView) (masks : List ℕ) : Type 0 where
   pub router : IsRouter r
   pub arbiters : HasArbiters r.switch_alloc
   pub busy : AreBusy (terminal r) (width r) r.depth r.inputs sets
-  pub in_vain : IsTrue sets.in_vain → GrantsNothing r
+  pub demand : IsDemandOf r asked
+  pub fronts : All HasFront r.inputs
   pub holders : AreHolders r
   pub ready : IsReadySet r sets.ready
-  pub held : IsHeldIn (terminal r) (width r) r.depth r.outputs sets.held
   pub classes : AreMasks r.channels masks

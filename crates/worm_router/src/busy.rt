@@ -1,27 +1,21 @@
-ghost use Rattle.std.specs.Prelude.{◌≡◌, ◌<◌, ◌&&◌, ◌||◌, true, false, not, IfSome, MatchOption};
+ghost use Rattle.std.specs.Prelude.{◌≡◌, ◌<◌, ◌&&◌, ◌||◌, true, false, IfSome, MatchOption};
 ghost use Rattle.worm_vcalloc.specs.ChannelSet.{has, IsPut};
-ghost use Rattle.worm_router.specs.Busy.{IsFiled, is_occupied, is_waiting, is_active, owes};
+ghost use Rattle.worm_router.specs.Busy.{IsFiled, is_occupied, is_active, owes};
 
 use crate::channel::InputChannel;
 use worm_vcalloc::ChannelSet;
 
-/// Which input channels have something to do, so that a turn skips all others, and which output channels are held.
+/// Which input channels have something to do, so that a turn skips all others.
 #[derive(Clone, Copy)]
 pub struct BusyChannels {
     /// Those that have a flit.
     pub occupied: ChannelSet,
-    /// Those that wait for an output channel.
-    pub waiting: ChannelSet,
     /// Those that hold an output channel.
     pub active: ChannelSet,
     /// Those that owe a credit.
     pub owing: ChannelSet,
-    /// That those that wait do so in vain: none of them can be granted an output channel. One-sided.
-    pub in_vain: bool,
     /// Those that may send.
     pub ready: ChannelSet,
-    /// The output channels that are held.
-    pub held: ChannelSet,
 }
 
 /// Takes a channel out of a set that it is in, unless it stays.
@@ -52,22 +46,16 @@ impl BusyChannels {
     pub fn new() -> BusyChannels
         ensures { result ≡ record {
           occupied = 0;
-          waiting = 0;
           active = 0;
           owing = 0;
-          in_vain = false;
           ready = 0;
-          held = 0;
         } }
     {
         BusyChannels {
             occupied: ChannelSet::new(),
-            waiting: ChannelSet::new(),
             active: ChannelSet::new(),
             owing: ChannelSet::new(),
-            in_vain: false,
             ready: ChannelSet::new(),
-            held: ChannelSet::new(),
         }
     }
 
@@ -76,100 +64,47 @@ impl BusyChannels {
         requires port { port < 7 }
         requires vc { vc < 8 }
         ensures occupied { IsPut self.old.occupied self.new.occupied port vc (is_occupied channel.now) }
-        ensures in_vain { self.new.in_vain ≡ (self.old.in_vain && not (is_waiting channel.now)) }
         ensures ready { IsPut self.old.ready self.new.ready port vc (sends && is_occupied channel.now) }
         ensures others { self.new ≡ record self.old {
           occupied = self.new.occupied;
-          in_vain = self.new.in_vain;
           ready = self.new.ready;
         } }
     {
         let has_flit = channel.is_occupied();
-        let waits = channel.is_waiting();
         self.occupied.put(port, vc, has_flit);
         self.ready.put(port, vc, sends && has_flit);
-        self.in_vain = self.in_vain && !waits;
     }
 
-    /// Files a channel that comes to wait, and may be granted what others wait for in vain.
-    pub fn file_waiting(&mut self, port: u8, vc: u8)
+    /// Files a channel that was granted an output channel; `sends` where it may send now.
+    pub fn file_active(&mut self, port: u8, vc: u8, sends: bool)
         requires port { port < 7 }
         requires vc { vc < 8 }
-        ensures waiting { IsPut self.old.waiting self.new.waiting port vc true }
-        ensures others { self.new ≡ record self.old { waiting = self.new.waiting; in_vain = false } }
-    {
-        self.waiting.put(port, vc, true);
-        self.in_vain = false;
-    }
-
-    /// Files a channel that was granted this channel of an output port; `sends` where it may send now.
-    pub fn file_active(&mut self, port: u8, vc: u8, out: u8, out_vc: u8, sends: bool)
-        requires port { port < 7 }
-        requires vc { vc < 8 }
-        requires out { out < 7 }
-        requires out_vc { out_vc < 8 }
-        ensures waiting { IsPut self.old.waiting self.new.waiting port vc false }
         ensures active { IsPut self.old.active self.new.active port vc true }
         ensures ready { IsPut self.old.ready self.new.ready port vc sends }
-        ensures held { IsPut self.old.held self.new.held out out_vc true }
-        ensures others { self.new ≡ record self.old {
-          waiting = self.new.waiting;
-          active = self.new.active;
-          in_vain = false;
-          ready = self.new.ready;
-          held = self.new.held;
-        } }
+        ensures others { self.new ≡ record self.old { active = self.new.active; ready = self.new.ready } }
     {
-        self.waiting.put(port, vc, false);
         self.active.put(port, vc, true);
         self.ready.put(port, vc, sends);
-        self.held.put(out, out_vc, true);
-        self.in_vain = false;
     }
 
-    /// Files a channel that let a flit out by this channel of an output port, which it held;
-    /// `follows` where a next flit has its credits. A channel that still holds its output channel freed none.
-    pub fn file_left(
-        &mut self,
-        port: u8,
-        vc: u8,
-        channel: &InputChannel,
-        out: u8,
-        out_vc: u8,
-        follows: bool,
-    )
+    /// Files a channel that let a flit out by the output channel that it held; `follows` where a next flit has its
+    /// credits.
+    pub fn file_left(&mut self, port: u8, vc: u8, channel: &InputChannel, follows: bool)
         requires port { port < 7 }
         requires vc { vc < 8 }
-        requires out { out < 7 }
-        requires out_vc { out_vc < 8 }
-        requires was_held { has self.old.held out out_vc ≡ true }
         requires held { has self.old.active port vc ≡ true }
         requires owes_no_less { has self.old.owing port vc ≡ true → owes channel.now ≡ true }
         ensures occupied { IsFiled self.old.occupied self.new.occupied port vc (is_occupied channel.now) }
         ensures active { IsFiled self.old.active self.new.active port vc (is_active channel.now) }
         ensures owing { IsFiled self.old.owing self.new.owing port vc (owes channel.now) }
-        ensures in_vain { self.new.in_vain ≡ (self.old.in_vain && is_active channel.now) }
         ensures ready { IsFiled self.old.ready self.new.ready port vc
             ((is_active channel.now && is_occupied channel.now) && follows) }
-        ensures held { IsFiled self.old.held self.new.held out out_vc (is_active channel.now) }
-        ensures others { self.new ≡ record self.old {
-          occupied = self.new.occupied;
-          active = self.new.active;
-          owing = self.new.owing;
-          in_vain = self.new.in_vain;
-          ready = self.new.ready;
-          held = self.new.held;
-        } }
     {
         let has_more = channel.is_occupied();
         let holds = channel.is_active();
         self.occupied.put(port, vc, has_more);
         self.ready.put(port, vc, holds && has_more && follows);
-        if !holds {
-            self.active.put(port, vc, false);
-            self.held.put(out, out_vc, false);
-        }
-        self.in_vain = self.in_vain && holds;
+        leave_unless(&mut self.active, port, vc, holds);
         join_if(&mut self.owing, port, vc, channel.owed() > 0);
     }
 

@@ -16,6 +16,7 @@ mod switching;
 
 use crate::busy::BusyChannels;
 use crate::channel::InputChannel;
+use crate::demand::Demand;
 use crate::fault::{RouterFault, TooMany};
 use std::alloc::{AllocError, Global};
 use std::marker::Model;
@@ -24,7 +25,7 @@ use worm_mesh::Mesh;
 use worm_records::{InRecord, OutRecord};
 use worm_route::next_port;
 use worm_swalloc::SwAlloc;
-use worm_vcalloc::{ChannelSet, VcAlloc};
+use worm_vcalloc::{ChannelSet, VcAlloc, VcRequest};
 
 /// The router of one node: its input channels and its output channels, each by rising port, then channel.
 ///
@@ -54,6 +55,8 @@ pub struct Router {
     switch_alloc: SwAlloc,
     /// Which input channels have something to do.
     busy: BusyChannels,
+    /// Which output channels are asked for, and which are free.
+    demand: Demand,
     /// The allocator of output channels. It stands last: a turn mostly reads what is before it, and seldom this.
     channel_alloc: VcAlloc,
 }
@@ -68,7 +71,7 @@ impl Model for Router {
         r.switch_alloc };
 
     ghost invariant = { λ r. IsKept (router_state r.mesh r.node r.classes r.depth r.inputs.items r.outputs.items
-        r.channel_alloc r.switch_alloc) r.busy r.masks };
+        r.channel_alloc r.switch_alloc) r.busy r.demand r.masks };
 }
 
 /// So many input channels with empty buffers.
@@ -164,6 +167,7 @@ impl Router {
             channel_alloc: VcAlloc::new(ports, total),
             switch_alloc: SwAlloc::new(ports, total),
             busy: BusyChannels::new(),
+            demand: Demand::new(ports, total),
         })
     }
 
@@ -206,7 +210,7 @@ impl Router {
     pub fn waiting(&self) -> ChannelSet
         ensures { IsSetOf is_waiting self.now result }
     {
-        self.busy.waiting
+        self.demand.requests().waiting()
     }
 
     /// The input channels that hold an output channel.
@@ -318,9 +322,10 @@ impl Router {
             return false;
         }
         let out = next_port(&self.mesh, self.node, front.lane.dst);
+        let allowed = self.mask(front.lane.class);
         let channel = &mut self.inputs[i];
         channel.set_state(InRecord::Waiting { out });
-        self.busy.file_waiting(port, vc);
+        self.demand.ask(port, vc, VcRequest { out, allowed });
         true
     }
 
@@ -356,7 +361,8 @@ impl Router {
         let sends = self.sends_by(port, vc, out, out_vc);
         let channel = &mut self.inputs[i];
         channel.set_state(InRecord::Active { out, out_vc });
-        self.busy.file_active(port, vc, out, out_vc, sends);
+        self.busy.file_active(port, vc, sends);
+        self.demand.meet(port, vc, out, out_vc);
         let output = &mut self.outputs[o];
         output.grant(port, vc);
     }
@@ -425,8 +431,9 @@ impl Router {
         let output = &mut self.outputs[o];
         pass(output, flit, spent);
         let follows = may_follow(channel.owed(), more_owed, output.credits, spent, self.depth);
-        self.busy
-            .file_left(port, vc, channel, out, flit.vc, follows);
+        self.busy.file_left(port, vc, channel, follows);
+        self.demand
+            .release_if(is_closing(flit.kind), out, flit.vc);
     }
 
     /// The lowest channel of the port that owes a credit upstream.

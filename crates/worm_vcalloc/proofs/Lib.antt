@@ -7,4 +7,3 @@ pub mod FiledLemmas
 pub mod PassLemmas
 pub mod MatchingLemmas
 pub mod GatherLemmas
-pub mod SoleLemmas

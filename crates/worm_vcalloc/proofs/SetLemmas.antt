@@ -4,15 +4,15 @@ use Rattle.std.proofs.Common.{◌||◌, bit_and, bit_or, min, max, sym, ap, ◌�
 use Rattle.std.specs.Int.{bit_at, bit_not, trailing_zeros, w64}
 use Rattle.std.specs.Int.Bits.{or_zero_r}
 use mir.Val.{bool_byte}
-use Rattle.std.proofs.lemmas.Bool.{cases_eq, cases_lt, eq-eqb, eqb-true, ne_eqb, and_from, and_parts, and_right}
+use Rattle.std.proofs.lemmas.Bool.{cases_eq, cases_lt, eq-eqb, eqb-true, ne_eqb, and_from, and_right}
 use Rattle.std.proofs.lemmas.Bool.{true≢false}
-use Rattle.std.proofs.lemmas.Nat.{one_shl, or_lt, and_le_l, shr-shr, shr_le, pow_below}
+use Rattle.std.proofs.lemmas.Nat.{one_shl, or_lt, and_le_l, shr-shr, pow_below}
 use Rattle.std.proofs.lemmas.Nat.Bits.{bit_at_and, bit_at_or, bit_at_not, bit_at_ones, bit_at-lt, bit_at_set_same}
 use Rattle.std.proofs.lemmas.Nat.Bits.{bit_at_set_other, bit_at_clear_same, bit_at_clear_other, bit_at_above}
 use Rattle.std.proofs.lemmas.Nat.Bits.{bit_at-trailing_zeros}
 use Rattle.std.proofs.Math.Pow.{pow_mono, shl_lt}
 use Rattle.worm_vcalloc.specs.Arbiter.{line_requests}
-use Rattle.worm_vcalloc.specs.ChannelSet.{has, IsPut, IsFirst, IsFirstPort, HasAll, IsFirstOutside}
+use Rattle.worm_vcalloc.specs.ChannelSet.{has, IsPut, IsFirst, IsFirstPort}
 use Rattle.worm_vcalloc.proofs.LineLemmas.{shifted_low, shifted_high}
 
 -- ---- tests of bits
@@ -264,70 +264,3 @@ row_lines bits port channels channel few l =
     let e : min (bit_at (bits / 2 ^ (8 * port)) channel) 1
     ≡ bit_at (bits / 2 ^ (8 * port)) channel = omega arith in e)
     ∙ ap (λ n. (n % 2) == 1) (shr-shr bits (8 * port) channel)
-
--- ---- channels that are not in the set
-
--- these channels of a port, without those in the set
-abbrev outside_of : ℕ → ℕ → ℕ → ℕ
-outside_of bits port channels = bit_and channels (bit_not w64 (bits / 2 ^ (8 * port)))
-
-outside_has : (bits port channels c : ℕ) → bits < 2 ^ 56 → c < 64
-    → (bit_at (outside_of bits port channels) c == 1) ≡ ((bit_at channels c == 1) && not (has bits port c))
-outside_has bits port channels c fits low =
-    let less = shr_le bits (8 * port) in
-    ap (λ x. x == 1) (bit_at_and channels (bit_not w64 (bits / 2 ^ (8 * port))) c)
-    ∙ both_set (bit_at channels c) (bit_at (bit_not w64 (bits / 2 ^ (8 * port))) c) (bit_at-lt channels c)
-    (bit_at-lt (bit_not w64 (bits / 2 ^ (8 * port))) c)
-    ∙ ap (λ t. (bit_at channels c == 1) && t)
-    (ap (λ x. x == 1) (bit_at_not w64 (bits / 2 ^ (8 * port)) c (omega arith) low)
-    ∙ turned (bit_at (bits / 2 ^ (8 * port)) c) (bit_at-lt (bits / 2 ^ (8 * port)) c)
-    ∙ ap (λ n. not ((n % 2) == 1)) (shr-shr bits (8 * port) c))
-
--- a channel of the byte
-in_byte : (channels c : ℕ) → channels < 2 ^ 8 → (bit_at channels c == 1) ≡ true → c < 8
-in_byte channels c fits is = elim (cases_lt c 8) [
-  | inl l ↦ l
-  | inr g ↦ absurd (true≢false (sym is ∙ bit_unset channels c (bit_at_above channels 8 c fits g)))
-]
-
-has_else : (a h : Bool) → a ≡ true → (a && not h) ≡ false → h ≡ true
-has_else a true is none = refl
-has_else a false is none = absurd (true≢false (sym (ap (λ t. t && true) is) ∙ none))
-
-pub all_inside : (bits port channels : ℕ) → bits < 2 ^ 56 → channels < 2 ^ 8 → outside_of bits port channels ≡ 0
-    → HasAll bits port channels
-all_inside bits port channels fits byte none = λ c is.
-    let low = in_byte channels c byte is in
-    has_else (bit_at channels c == 1) (has bits port c) is
-    (sym (outside_has bits port channels c fits (omega arith)) ∙ ap (λ n. bit_at n c == 1) none
-    ∙ bit_unset 0 c (bit_at_above 0 0 c (omega arith) (omega arith)))
-
-pub first_out : (bits port channels : ℕ) → bits < 2 ^ 56 → channels < 2 ^ 8 → 0 < outside_of bits port channels
-    → IsFirstOutside bits port channels (trailing_zeros w64 (outside_of bits port channels))
-first_out bits port channels fits byte some = record {
-  channel_in = low;
-  among = both.0;
-  outside = not_true (has bits port first) both.1;
-  all_before = λ c before is.
-      has_else (bit_at channels c == 1) (has bits port c) is
-      (sym (outside_has bits port channels c fits (omega (arith, low)))
-      ∙ bit_unset (outside_of bits port channels) c (lowest.2 c before));
-} where
-  first : ℕ
-  first = trailing_zeros w64 (outside_of bits port channels)
-
-  lowest : (first < 64) × (bit_at (outside_of bits port channels) first ≡ 1) × ((i : ℕ) → i < first
-      → bit_at (outside_of bits port channels) i ≡ 0)
-  lowest = let less = and_le_l channels (bit_not w64 (bits / 2 ^ (8 * port))) in
-      bit_at-trailing_zeros w64 (outside_of bits port channels) some (omega arith)
-
-  both : ((bit_at channels first == 1) ≡ true) × (not (has bits port first) ≡ true)
-  both = and_parts _ _ (sym (outside_has bits port channels first fits lowest.0)
-      ∙ bit_set (outside_of bits port channels) first lowest.1)
-
-  low : first < 8
-  low = in_byte channels first byte both.0
-
-  not_true : (b : Bool) → not b ≡ true → b ≡ false
-  not_true true e = sym e
-  not_true false e = refl

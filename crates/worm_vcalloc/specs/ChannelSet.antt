@@ -1,5 +1,5 @@
 -- Sets of the channels of a router, seen as one number.
-use Rattle.std.specs.Prelude.{◌≡◌, ℕ, ◌+◌, ◌*◌, ◌<◌, ◌^◌, ◌==◌, Bool, true, false, IsTrue}
+use Rattle.std.specs.Prelude.{◌≡◌, ℕ, ◌+◌, ◌*◌, ◌<◌, ◌^◌, ◌==◌, Bool, false, IsTrue}
 use Rattle.std.specs.Int.{bit_at}
 
 -- whether a channel of a port is in the set: a bit for each, eight to a port
@@ -32,14 +32,3 @@ pub record IsFirstPort (old new port : ℕ) : Type 0 where
   pub elsewhere : (p c : ℕ) → p < 7 → c < 8 → ((p ≡ port) → ⊥) → has new p c ≡ has old p c
   -- the sets of a loop that takes ports out are ever smaller numbers
   pub fewer : new < old
-
--- all these channels of a port, a bit for each, are in the set
-abbrev pub HasAll : ℕ → ℕ → ℕ → Type 0
-HasAll set port channels = (channel : ℕ) → (bit_at channels channel == 1) ≡ true → has set port channel ≡ true
-
--- it is the first of these channels of a port that is not in the set
-pub record IsFirstOutside (set port channels channel : ℕ) : Type 0 where
-  pub channel_in : channel < 8
-  pub among : (bit_at channels channel == 1) ≡ true
-  pub outside : has set port channel ≡ false
-  pub all_before : (c : ℕ) → c < channel → (bit_at channels c == 1) ≡ true → has set port c ≡ true

@@ -1,6 +1,6 @@
 -- One pass of virtual-channel allocation (Dally and Towles, chapter 19).
 use Rattle.std.specs.Prelude.{◌≡◌, ℕ, ◌*◌, ◌/◌, ◌%◌, ◌<◌, ◌≤◌, ◌&&◌, Bool, false, if◌then◌else◌, List, Option, Some}
-use Rattle.std.specs.Prelude.{None, is_none, IsTrue, fold, replicate}
+use Rattle.std.specs.Prelude.{None, is_none, IsTrue, fold}
 use Rattle.std.specs.List.{range_with_len}
 use Rattle.worm_vcalloc.specs.declared.request.VcRequest.{VcRequest}
 use Rattle.worm_vcalloc.specs.VcRequest.{may_use}
@@ -60,19 +60,6 @@ port_pass waiting free pass out = fold (vc_step waiting free out) pass (range_wi
 -- the output ports, rising
 unfoldable pub vc_pass : List (List (Option VcRequest)) → List (List Bool) → VcPass → VcPass
 vc_pass waiting free pass = fold (port_pass waiting free) pass (range_with_len 0 pass.alloc.ports)
-
--- one input channel alone may use free output channels, of which this one is the first
-pub record IsSoleRequest (waiting : List (List (Option VcRequest))) (free : List (List Bool))
-    (port vc out channel : ℕ) : Type 0 where
-  pub asks : IsTrue (may_use (cell waiting port vc None) out channel)
-  pub is_free : IsTrue (cell free out channel false)
-  pub sole : (o c p v : ℕ) → IsTrue (cell free o c false) → IsTrue (may_use (cell waiting p v None) o c)
-      → (p ≡ port) × (v ≡ vc)
-  pub first : (c : ℕ) → c < channel → IsTrue (cell free out c false) → may_use (cell waiting port vc None) out c ≡ false
-
--- the grant of one input channel alone
-abbrev pub sole_grant : ℕ → ℕ → ℕ → List (List (Option ℕ))
-sole_grant port vc channel = with_cell (replicate 7 (replicate 8 None)) port vc (Some channel)
 
 -- between passes: one to seven ports, one to eight channels, and each arbiter has a line for each input channel
 pub record IsVcAlloc (ports channels : ℕ) (arbiters : List (List ArbiterState)) : Type 0 where

@@ -1,6 +1,6 @@
 ghost use Rattle.std.specs.Prelude.{◌≡◌, ℕ, ◌+◌, ◌*◌, ◌/◌, ◌%◌, ◌^◌, ◌<◌, ◌≤◌, ◌==◌, ◌&&◌, ◌||◌, MatchOption, not};
 ghost use Rattle.worm_vcalloc.specs.Arbiter.{line_requests};
-ghost use Rattle.worm_vcalloc.specs.ChannelSet.{has, IsPut, IsFirst, IsFirstPort, HasAll, IsFirstOutside};
+ghost use Rattle.worm_vcalloc.specs.ChannelSet.{has, IsPut, IsFirst, IsFirstPort};
 
 use std::marker::Model;
 
@@ -89,18 +89,6 @@ impl ChannelSet {
         Some(port)
     }
 
-    /// The first of these channels of a port, a bit for each, that is not in the set; None where all are.
-    pub fn first_outside(&self, port: u8, channels: u8) -> Option<u8>
-        requires { port < 7 }
-        ensures { MatchOption result (HasAll self.now port channels) (IsFirstOutside self.now port channels) }
-    {
-        let outside = u64::from(channels) & !(self.bits >> (8 * port));
-        if outside == 0 {
-            return None;
-        }
-        Some(outside.trailing_zeros() as u8)
-    }
-
     /// The channels that are in both sets.
     pub fn intersection(&self, other: &ChannelSet) -> ChannelSet
         ensures { (p c : ℕ) → has result p c ≡ (has self.now p c && has other.now p c) }
@@ -172,16 +160,6 @@ mod tests {
         assert_eq!(rt; set.pop_first(), Some((0, 6)));
         assert_eq!(rt; set.pop_first(), Some((4, 1)));
         assert_eq!(rt; set.pop_first(), None);
-    }
-
-    #[test]
-    fn the_first_outside_is_found(rt: HostRuntime) {
-        let mut held = ChannelSet::new();
-        held.put(2, 1, true);
-        held.put(3, 2, true);
-        assert_eq!(rt; held.first_outside(2, 0b110), Some(2));
-        assert_eq!(rt; held.first_outside(2, 0b010), None);
-        assert_eq!(rt; held.first_outside(1, 0b010), Some(1));
     }
 
     #[test]

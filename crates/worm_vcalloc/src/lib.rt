@@ -8,8 +8,7 @@
 //! The definition of a pass looks at every input channel for every output channel; the code does not.
 //! [`VcRequests`] keeps beside the table of requests who waits and who asks for which port, each a
 //! [`ChannelSet`] of one word, so a pass in which nothing waits is one load, and an output channel looks
-//! only at those that ask for its port. A [`ChannelMap`] likewise knows its keys without a scan. Where
-//! one input channel alone can be granted anything, `grant_sole` makes the same pass without a table.
+//! only at those that ask for its port. A [`ChannelMap`] likewise knows its keys without a scan.
 //!
 //! No allocator here is fair over several turns or finds a largest matching, and none claims it: what is
 //! promised is the exact pass, and that its grants are a matching.

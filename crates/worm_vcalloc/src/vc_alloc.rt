@@ -1,8 +1,8 @@
 ghost use Rattle.std.specs.Prelude.{◌≡◌, ℕ, ◌+◌, ◌*◌, ◌^◌, ◌<◌, ◌≤◌, ◌/◌, ◌%◌, None, Bool, List, Option};
 ghost use Rattle.std.specs.Prelude.{replicate};
 ghost use Rattle.worm_vcalloc.specs.Arbiter.{line_requests};
-ghost use Rattle.worm_vcalloc.specs.VcAlloc.{VcAllocState, IsVcAlloc, IsChannelMatching, IsSoleRequest};
-ghost use Rattle.worm_vcalloc.specs.VcAlloc.{sole_grant, is_requester, offered, port_pass, vc_pass};
+ghost use Rattle.worm_vcalloc.specs.VcAlloc.{VcAllocState, IsVcAlloc, IsChannelMatching};
+ghost use Rattle.worm_vcalloc.specs.VcAlloc.{is_requester, offered, port_pass, vc_pass};
 ghost use Rattle.worm_vcalloc.specs.declared.request.VcRequest.{VcRequest};
 
 use crate::arbiter::Arbiter;
@@ -87,27 +87,6 @@ impl VcAlloc {
             self.grant_port(out, waiting, free, &mut grants);
         }
         grants
-    }
-
-    /// The same pass for a caller that knows that one input channel alone may use free output channels, of which this
-    /// one is the first: it goes to that input channel.
-    pub fn grant_sole(&mut self, port: u8, vc: u8, out: u8, channel: u8)
-        requires port { port < self.old.ports }
-        requires vc { vc < self.old.channels }
-        requires out { out < self.old.ports }
-        requires channel { channel < self.old.channels }
-        ensures pass { (waiting : List (List (Option VcRequest))) → (free : List (List Bool))
-            → IsSoleRequest waiting free port vc out channel
-            → record { alloc = self.new; grants = sole_grant port vc channel }
-            ≡ vc_pass waiting free (record { alloc = self.old; grants = replicate 7 (replicate 8 None) }) }
-        ensures matching { (waiting : List (List (Option VcRequest))) → (free : List (List Bool))
-            → IsSoleRequest waiting free port vc out channel
-            → IsChannelMatching self.old.ports self.old.channels waiting free (sole_grant port vc channel) }
-        ensures ports { self.new.ports ≡ self.old.ports }
-        ensures channels { self.new.channels ≡ self.old.channels }
-    {
-        let line = port * self.channels + vc;
-        self.arbiters[out as usize][channel as usize].move_past(line);
     }
 
     /// Offers the free channels of one output port, rising.
@@ -206,19 +185,6 @@ mod tests {
         assert_eq!(rt; grants.get(2, 0), Some(0));
         let grants = alloc.grant(&waiting, &free);
         assert_eq!(rt; grants.get(0, 0), Some(0));
-    }
-
-    #[test]
-    fn a_sole_request_moves_its_arbiter(rt: HostRuntime) {
-        let mut alloc = VcAlloc::new(3, 2);
-        alloc.grant_sole(0, 1, 1, 0);
-        let mut waiting = VcRequests::new();
-        waiting.set(0, 1, asks(1, 1));
-        waiting.set(2, 0, asks(1, 1));
-        let mut free = [[false; 8]; 7];
-        free[1][0] = true;
-        let grants = alloc.grant(&waiting, &free);
-        assert_eq!(rt; grants.get(2, 0), Some(0));
     }
 
     #[test]

@@ -1,93 +1,69 @@
-use Rattle.std.proofs.Common.{refl, sym, ◌∙◌}
-use Rattle.worm_router.proofs.Hopeful.{none_hopeful, sole_hope}
-use Rattle.worm_router.proofs.SoleHope.{vain_allocated}
-use Rattle.worm_router.proofs.Granting.{none_passed, passed_by}
+use Rattle.std.proofs.Common.{refl, subst, sym, ap, ◌∙◌, ◌≤◌}
+use Rattle.worm_vcalloc.specs.VcAlloc.{VcPass}
+use Rattle.worm_router.specs.Router.{RouterState, router_state, IsRouter, terminal, width}
+use Rattle.worm_router.specs.Allocation.{IsAllocated}
+use Rattle.worm_router.specs.Demand.{AreInVain}
+use Rattle.worm_router.proofs.NothingWaits.{vain_allocated}
+use Rattle.worm_router.proofs.Demanded.{in_vain, vain_router, none_of_keys, pass_of, matching_of, written_is}
+use Rattle.worm_router.proofs.Granting.{IsPassed, passed_by}
 use Rattle.worm_router.proofs.router.Router.allocate.Goals as goal
 
-pub returns-then-grants_nothing-clause-grants : goal.returns-then-grants_nothing-clause-grants
-returns-then-grants_nothing-clause-grants c =
+pub returns-then-is_in_vain-clause-grants : goal.returns-then-is_in_vain-clause-grants
+returns-then-is_in_vain-clause-grants c =
     (vain_allocated c.args.self.now c.args.self.now c.new.result
-    (c.grants_nothing.ensures c.if-grants_nothing.true) refl c.new.ensures).grants_are
+    (vain_router _ c.args.self.now _ c.self.view_is c.self.invariant.demand
+    (c.is_in_vain.ensures c.if-is_in_vain.true)) refl c.new.ensures).grants_are
 
-pub returns-then-grants_nothing-clause-after : goal.returns-then-grants_nothing-clause-after
-returns-then-grants_nothing-clause-after c =
+pub returns-then-is_in_vain-clause-after : goal.returns-then-is_in_vain-clause-after
+returns-then-is_in_vain-clause-after c =
     (vain_allocated c.args.self.now c.args.self.now c.new.result
-    (c.grants_nothing.ensures c.if-grants_nothing.true) refl c.new.ensures).after
+    (vain_router _ c.args.self.now _ c.self.view_is c.self.invariant.demand
+    (c.is_in_vain.ensures c.if-is_in_vain.true)) refl c.new.ensures).after
 
-pub returns-then-grants_nothing-clause-matching : goal.returns-then-grants_nothing-clause-matching
-returns-then-grants_nothing-clause-matching c =
+pub returns-then-is_in_vain-clause-matching : goal.returns-then-is_in_vain-clause-matching
+returns-then-is_in_vain-clause-matching c =
     (vain_allocated c.args.self.now c.args.self.now c.new.result
-    (c.grants_nothing.ensures c.if-grants_nothing.true) refl c.new.ensures).matching
+    (vain_router _ c.args.self.now _ c.self.view_is c.self.invariant.demand
+    (c.is_in_vain.ensures c.if-is_in_vain.true)) refl c.new.ensures).matching
 
-pub file_in_vain-requires : goal.file_in_vain-requires
-file_in_vain-requires c = none_hopeful c.args.self.now c.hopeful-hopeful.result c.hopeful-hopeful.ensures.sound
-    c.hopeful-hopeful.ensures.hopeful c.in-None.ensures.0
+pub set_in_vain-requires : goal.set_in_vain-requires
+set_in_vain-requires c = λ none.
+    let at : RouterState = router_state c.self.inside.mesh c.self.inside.node c.self.inside.classes c.self.inside.depth
+    c.self.inside.inputs.items c.self.inside.outputs.items c.self.inside.channel_alloc c.self.inside.switch_alloc in
+    subst (λ t. AreInVain t c.self.inside.demand.free) c.requests.ensures
+    (subst (AreInVain c.requests.result.now) c.free.ensures
+    (in_vain at _ _ _ _ _ c.self.invariant.busy.few_ports c.self.invariant.busy.few_channels
+    c.self.invariant.router.allocators.channel_ports c.self.invariant.router.allocators.channel_channels
+    (c.requests.ensures ∙ c.self.invariant.demand.requests) (c.free.ensures ∙ c.self.invariant.demand.free)
+    c.grant-grants.ensures.matching (none_of_keys _ _ c.keys.ensures (sym c.is_empty.ensures ∙ none))))
 
-pub grant_sole-requires-clause-sole : goal.grant_sole-requires-clause-sole
-grant_sole-requires-clause-sole c =
-    sole_hope c.args.self.now c.hopeful-hopeful.result c.pop_first.new.self c.in-Some.port c.in-Some.vc
-    c.hopeful-hopeful.ensures.few_ports c.hopeful-hopeful.ensures.few_channels c.hopeful-hopeful.ensures.hopeful
-    c.in-Some.ensures (sym c.is_empty.ensures ∙ c.if-is_empty.true)
+-- what the pass comes to
+allocated : (c : goal.After-write) → IsAllocated c.args.self.now c.write.new.self c.grant-grants.result
+allocated c =
+    let pass = pass_of _ c.args.self.now _ _ _ _ c.self.view_is (c.requests.ensures ∙ c.self.invariant.demand.requests)
+    (c.free.ensures ∙ c.self.invariant.demand.free) c.grant-grants.ensures.pass in
+    record {
+      grants_are = ap (λ (p : VcPass). p.grants) pass;
+      after = c.write.ensures.after ∙ written_is _ c.args.self.now _ _ c.self.view_is pass;
+      same = record {
+        same_mesh = c.write.ensures.same.same_mesh ∙ ap (λ (r : RouterState). r.mesh) c.self.view_is;
+        same_channels = c.write.ensures.same.same_channels ∙ ap (λ (r : RouterState). r.channels) c.self.view_is;
+      };
+      matching = matching_of _ c.args.self.now _ _ _ _ _ c.self.view_is
+          c.self.invariant.router.allocators.channel_ports c.self.invariant.router.allocators.channel_channels
+          (c.requests.ensures ∙ c.self.invariant.demand.requests)
+          (c.free.ensures ∙ c.self.invariant.demand.free) c.grant-grants.ensures.matching;
+    }
 
-pub returns-in-None-clause-grants : goal.returns-in-None-clause-grants
-returns-in-None-clause-grants c =
-    let none = none_hopeful c.args.self.now c.hopeful-hopeful.result c.hopeful-hopeful.ensures.sound
-    c.hopeful-hopeful.ensures.hopeful c.in-None.ensures.0 in
-    (vain_allocated c.args.self.now c.file_in_vain.new.self c.new-in-None.result none c.file_in_vain.ensures
-    c.new-in-None.ensures).grants_are
+passed : (c : goal.After-write) → IsPassed c.args.self.now c.write.new.self c.grant-grants.result
+passed c =
+    passed_by c.args.self.now c.write.new.self c.grant-grants.result
+    (subst (λ (r : RouterState). terminal r ≤ 6) c.self.view_is c.self.invariant.busy.few_ports)
+    (subst (λ (r : RouterState). width r ≤ 8) c.self.view_is c.self.invariant.busy.few_channels)
+    (subst IsRouter c.self.view_is c.self.invariant.router) (allocated c)
 
-pub returns-in-None-clause-after : goal.returns-in-None-clause-after
-returns-in-None-clause-after c =
-    let none = none_hopeful c.args.self.now c.hopeful-hopeful.result c.hopeful-hopeful.ensures.sound
-    c.hopeful-hopeful.ensures.hopeful c.in-None.ensures.0 in
-    (vain_allocated c.args.self.now c.file_in_vain.new.self c.new-in-None.result none c.file_in_vain.ensures
-    c.new-in-None.ensures).after
+pub returns-clause-held : goal.returns-clause-held
+returns-clause-held c = (passed c).held
 
-pub returns-in-None-clause-matching : goal.returns-in-None-clause-matching
-returns-in-None-clause-matching c =
-    let none = none_hopeful c.args.self.now c.hopeful-hopeful.result c.hopeful-hopeful.ensures.sound
-    c.hopeful-hopeful.ensures.hopeful c.in-None.ensures.0 in
-    (vain_allocated c.args.self.now c.file_in_vain.new.self c.new-in-None.result none c.file_in_vain.ensures
-    c.new-in-None.ensures).matching
-
-pub returns-then-grants_nothing-clause-held : goal.returns-then-grants_nothing-clause-held
-returns-then-grants_nothing-clause-held c =
-    (none_passed c.args.self.now c.args.self.now c.new.result refl c.new.ensures).held
-
-pub returns-in-None-clause-held : goal.returns-in-None-clause-held
-returns-in-None-clause-held c =
-    (none_passed c.args.self.now c.file_in_vain.new.self c.new-in-None.result c.file_in_vain.ensures
-    c.new-in-None.ensures).held
-
-pub returns-in-Some-clause-held : goal.returns-in-Some-clause-held
-returns-in-Some-clause-held c =
-    let known = c.hopeful-hopeful.ensures in
-    (passed_by c.args.self.now c.grant_sole.new.self c.grant_sole.result known.few_ports known.few_channels known.sound
-    c.grant_sole.ensures).held
-
-pub returns-in-Some-2-clause-held : goal.returns-in-Some-2-clause-held
-returns-in-Some-2-clause-held c =
-    let known = c.hopeful-hopeful.ensures in
-    (passed_by c.args.self.now c.grant_among.new.self c.grant_among.result known.few_ports known.few_channels
-    known.sound c.grant_among.ensures).held
-
-pub returns-then-grants_nothing-clause-rest : goal.returns-then-grants_nothing-clause-rest
-returns-then-grants_nothing-clause-rest c =
-    (none_passed c.args.self.now c.args.self.now c.new.result refl c.new.ensures).rest
-
-pub returns-in-None-clause-rest : goal.returns-in-None-clause-rest
-returns-in-None-clause-rest c =
-    (none_passed c.args.self.now c.file_in_vain.new.self c.new-in-None.result c.file_in_vain.ensures
-    c.new-in-None.ensures).rest
-
-pub returns-in-Some-clause-rest : goal.returns-in-Some-clause-rest
-returns-in-Some-clause-rest c =
-    let known = c.hopeful-hopeful.ensures in
-    (passed_by c.args.self.now c.grant_sole.new.self c.grant_sole.result known.few_ports known.few_channels known.sound
-    c.grant_sole.ensures).rest
-
-pub returns-in-Some-2-clause-rest : goal.returns-in-Some-2-clause-rest
-returns-in-Some-2-clause-rest c =
-    let known = c.hopeful-hopeful.ensures in
-    (passed_by c.args.self.now c.grant_among.new.self c.grant_among.result known.few_ports known.few_channels
-    known.sound c.grant_among.ensures).rest
+pub returns-clause-rest : goal.returns-clause-rest
+returns-clause-rest c = (passed c).rest

@@ -64,11 +64,11 @@ invariant_of-self c = record {
     };
   };
   arbiters = subst HasArbiters (sym (passed c)) (arbiters_stay _ _ c.self.invariant.arbiters);
-  busy = busy_as _ _ _ _ _ _ c.self.invariant.busy refl refl refl refl;
-  in_vain = c.self.invariant.in_vain;
+  busy = busy_as _ _ _ _ _ _ c.self.invariant.busy refl refl refl;
+  demand = record { requests = c.self.invariant.demand.requests; free = c.self.invariant.demand.free };
+  fronts = c.self.invariant.fronts;
   holders = record { held = c.self.invariant.holders.held; fit = c.self.invariant.holders.fit };
   ready = record { inside = c.self.invariant.ready.inside; outside = c.self.invariant.ready.outside };
-  held = c.self.invariant.held;
   classes = c.self.invariant.classes;
 }
 
@@ -87,12 +87,12 @@ returns-clause-matching c =
 
 pub returns-then-is_empty-clause-grants : goal.returns-then-is_empty-clause-grants
 returns-then-is_empty-clause-grants c =
-    c.new.ensures ∙ sym (grants_none _ c.args.self.now _ _ c.self.view_is c.self.invariant
+    c.new.ensures ∙ sym (grants_none _ c.args.self.now _ _ _ c.self.view_is c.self.invariant
     (sym c.is_empty.ensures ∙ c.if-is_empty.true))
 
 pub returns-then-is_empty-clause-after : goal.returns-then-is_empty-clause-after
 returns-then-is_empty-clause-after c = sym
-    (chooses_none _ c.args.self.now _ _ c.self.view_is c.self.invariant (sym c.is_empty.ensures ∙ c.if-is_empty.true))
+    (chooses_none _ c.args.self.now _ _ _ c.self.view_is c.self.invariant (sym c.is_empty.ensures ∙ c.if-is_empty.true))
 
 pub returns-then-is_empty-clause-matching : goal.returns-then-is_empty-clause-matching
 returns-then-is_empty-clause-matching c =

@@ -67,11 +67,11 @@ invariant_of-self c = record {
     };
   };
   arbiters = subst HasArbiters (sym (passed c)) (arbiters_stay _ _ c.self.invariant.arbiters);
-  busy = busy_as _ _ _ _ _ _ c.self.invariant.busy refl refl refl refl;
-  in_vain = c.self.invariant.in_vain;
+  busy = busy_as _ _ _ _ _ _ c.self.invariant.busy refl refl refl;
+  demand = record { requests = c.self.invariant.demand.requests; free = c.self.invariant.demand.free };
+  fronts = c.self.invariant.fronts;
   holders = record { held = c.self.invariant.holders.held; fit = c.self.invariant.holders.fit };
   ready = record { inside = c.self.invariant.ready.inside; outside = c.self.invariant.ready.outside };
-  held = c.self.invariant.held;
   classes = c.self.invariant.classes;
 }
 

@@ -7,9 +7,8 @@ use Rattle.worm_router.proofs.Places.{output_of}
 use Rattle.worm_router.specs.declared.busy.BusyChannels.{BusyChannels}
 use Rattle.worm_router.proofs.Filed.{busy_as}
 use Rattle.worm_router.proofs.Holders.{holders_out}
-use Rattle.worm_router.proofs.Held.{held_kept}
 use Rattle.worm_router.proofs.ReadySet.{ready_credit, credit_as, woken_fits}
-use Rattle.worm_router.proofs.InVain.{vain_out}
+use Rattle.worm_router.proofs.Demanded.{free_kept}
 use Rattle.worm_router.proofs.router.Router.credit.Goals as goal
 
 pub invariant_of-self : goal.invariant_of-self
@@ -40,15 +39,16 @@ invariant_of-self c =
       arbiters = c.self.invariant.arbiters;
       busy = busy_as _ _ _ _ _ _ c.self.invariant.busy
           (ap (λ (b : BusyChannels). b.occupied) c.file_credit.ensures.others)
-          (ap (λ (b : BusyChannels). b.waiting) c.file_credit.ensures.others)
           (ap (λ (b : BusyChannels). b.active) c.file_credit.ensures.others)
           (ap (λ (b : BusyChannels). b.owing) c.file_credit.ensures.others);
-      in_vain = λ yes. vain_out _ _ _ _ _ _ output (ap (λ (u : OutRecord). u.holder) c.add_credit.ensures)
-          (c.self.invariant.in_vain (sym (ap (λ (b : BusyChannels). b.in_vain) c.file_credit.ensures.others) ∙ yes));
+      demand = record {
+        requests = c.self.invariant.demand.requests;
+        free = c.self.invariant.demand.free
+            ∙ sym (free_kept _ _ _ _ _ _ output (ap (λ (u : OutRecord). u.holder) c.add_credit.ensures));
+      };
+      fronts = c.self.invariant.fronts;
       holders = holders_out _ _ _ _ _ _ output
           (ap (λ (u : OutRecord). u.holder) c.add_credit.ensures) c.self.invariant.holders;
-      held = held_kept _ _ _ _ _ _ _ _ output (ap (λ (u : OutRecord). u.holder) c.add_credit.ensures)
-          (ap (λ (b : BusyChannels). b.held) c.file_credit.ensures.others) c.self.invariant.held;
       classes = c.self.invariant.classes;
       ready = ready_credit at _ _ _ c.waits_for_credit-woken.result refl refl c.self.invariant.busy.few_ports
           c.self.invariant.busy.few_channels (credit_as _ c.args.self.now _ _ _ _ _ c.waits_for_credit-woken.result

@@ -1,14 +1,15 @@
 use Rattle.std.proofs.Common.{◌<◌, subst, arith, ◌||◌, ◌≡◌, sym, ap, ◌∙◌, inl, inr}
 use Rattle.std.proofs.lemmas.Bool.{ne_eqb}
 use Rattle.worm_router.specs.Router.{RouterState, ChannelState, router_state}
-use Rattle.worm_router.specs.Busy.{is_occupied, is_waiting, is_active}
+use Rattle.std.proofs.lemmas.List.Elements.{All-set, All-get_or}
+use Rattle.worm_router.specs.Allocation.{asking}
+use Rattle.worm_router.specs.Busy.{HasFront, is_occupied, is_active}
 use Rattle.worm_router.specs.declared.busy.BusyChannels.{BusyChannels}
 use Rattle.worm_router.proofs.Places.{input_of}
 use Rattle.worm_router.proofs.Kept.{input_read, input_set_sound, read_sound, give_sound}
 use Rattle.worm_router.proofs.Filed.{busy_filed}
-use Rattle.worm_router.proofs.InVain.{vain_as}
+use Rattle.worm_router.proofs.Demanded.{requests_kept}
 use Rattle.worm_router.proofs.Holders.{holders_in}
-use Rattle.worm_router.proofs.Held.{held_as}
 use Rattle.worm_router.proofs.ReadySet.{ready_by, ready_given, gave_wakes}
 use Rattle.worm_router.proofs.router.Router.gave.Goals as goal
 use Rattle.worm_router.proofs.router.Router.gave.Goals.{then-owes_all, else-owes_all}
@@ -26,6 +27,10 @@ invariant_of-self c =
     c.self.view_is c.index_mut-channel.ensures.value c.line-i.ensures.value c.line-i.ensures.in_inputs in
     let read = input_of _ c.args.self.now c.args.port c.args.vc c.line-i.result c.index.result.now c.self.view_is
     c.requires.place c.line-i.ensures.value c.line-i.ensures.in_inputs c.index.ensures in
+    let front : HasFront c.index_mut-channel.result.now =
+    subst HasFront (sym c.index_mut-channel.ensures.value)
+    (All-get_or HasFront c.self.inside.inputs.items c.line-i.result c.index_mut-channel.result.now input.within
+    c.self.invariant.fronts) in
     let owed_some : 0 < c.index_mut-channel.result.now.owed =
     subst (λ (x : ChannelState). 0 < x.owed) (sym here) c.requires.owed in
     let wakes : (c.if-owes_all.woken || ready_by at c.args.port c.index_mut-channel.result.now)
@@ -48,15 +53,18 @@ invariant_of-self c =
       arbiters = c.self.invariant.arbiters;
       busy = busy_filed _ _ _ _ _ _ _ _ input c.self.invariant.busy
           (inr (ap (λ (b : BusyChannels). b.occupied) c.file_given.ensures.others, ap is_occupied c.give.ensures))
-          (inr (ap (λ (b : BusyChannels). b.waiting) c.file_given.ensures.others, ap is_waiting c.give.ensures))
           (inr (ap (λ (b : BusyChannels). b.active) c.file_given.ensures.others, ap is_active c.give.ensures))
           (inl c.file_given.ensures.owing);
-      in_vain = λ yes. vain_as _ _ _ _ _ _ input (ap (λ (x : ChannelState). x.state) c.give.ensures)
-          (ap (λ (x : ChannelState). x.buffer) c.give.ensures)
-          (c.self.invariant.in_vain (sym (ap (λ (b : BusyChannels). b.in_vain) c.file_given.ensures.others) ∙ yes));
+      demand = record {
+        requests = c.self.invariant.demand.requests
+            ∙ sym (requests_kept _ _ _ _ _ _ input
+            (ap (λ (x : ChannelState). asking c.self.inside.classes x.state x.buffer) c.give.ensures));
+        free = c.self.invariant.demand.free;
+      };
+      fronts = All-set HasFront c.self.inside.inputs.items c.line-i.result c.give.new.self
+          (subst HasFront (sym c.give.ensures) front) c.self.invariant.fronts;
       holders = holders_in _ _ _ _ _ _ input
           (λ o k holds. sym (ap (λ (x : ChannelState). x.state) c.give.ensures) ∙ holds) c.self.invariant.holders;
-      held = held_as _ _ _ _ _ _ c.self.invariant.held (ap (λ (b : BusyChannels). b.held) c.file_given.ensures.others);
       classes = c.self.invariant.classes;
       ready = ready_given _ _ _ _ _ _ _ _ c.if-owes_all.woken input c.self.invariant.busy.few_ports
           c.self.invariant.busy.few_channels wakes c.file_given.ensures.ready c.self.invariant.ready;

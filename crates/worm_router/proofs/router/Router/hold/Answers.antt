@@ -1,17 +1,20 @@
-use Rattle.std.proofs.Common.{◌&&◌, is_some, ◌<◌, ◌*◌, ◌∙◌, ap, sym, subst, inl, inr, true, false, ◌≡◌, sum, length}
+use Rattle.std.proofs.lemmas.List.Elements.{All-set}
+use Rattle.std.proofs.Common.{◌&&◌, is_none, false, ◌<◌, ◌*◌, ◌∙◌, ap, sym, subst, inl, inr, true, false, ◌≡◌, sum, length}
 use Rattle.std.proofs.Common.{arith}
 use Rattle.std.proofs.lemmas.Grind.{common_steps, elements}
 use Rattle.worm_records.specs.declared.InRecord.TheVariants.{Active}
 use Rattle.worm_records.specs.declared.OutRecord.{OutRecord}
 use Rattle.worm_vcalloc.specs.ChannelSet.{IsPut}
 use Rattle.worm_router.specs.Router.{RouterState, ChannelState, router_state, free_output}
-use Rattle.worm_router.specs.Busy.{could_send, is_occupied, is_waiting, is_active, owes}
+use Rattle.worm_router.specs.Allocation.{asking}
+use Rattle.worm_router.specs.Demand.{DemandView}
+use Rattle.worm_router.specs.Busy.{HasFront, could_send, is_occupied, is_waiting, is_active, owes}
 use Rattle.worm_router.specs.declared.busy.BusyChannels.{BusyChannels}
 use Rattle.worm_router.proofs.Places.{input_of, output_of, output_read}
 use Rattle.worm_router.proofs.Kept.{full_after, full_before, input_read}
 use Rattle.worm_router.proofs.Filed.{busy_filed, filed}
 use Rattle.worm_router.proofs.Holders.{holders_held}
-use Rattle.worm_router.proofs.Held.{held_filed}
+use Rattle.worm_router.proofs.Demanded.{requests_put, free_put}
 use Rattle.worm_router.proofs.ReadySet.{ready_held}
 use Rattle.worm_router.proofs.router.Router.hold.Goals as goal
 
@@ -63,18 +66,24 @@ invariant_of-self c =
       busy = busy_filed _ _ _ _ _ _ _ _ input c.self.invariant.busy
           (inr (ap (λ (b : BusyChannels). b.occupied) c.file_active.ensures.others, ap is_occupied c.set_state.ensures))
           (inl (filed _ _ _ _ _ (subst (IsPut _ _ _ _)
-          (sym (ap is_waiting c.set_state.ensures)) c.file_active.ensures.waiting)))
-          (inl (filed _ _ _ _ _ (subst (IsPut _ _ _ _)
           (sym (ap is_active c.set_state.ensures)) c.file_active.ensures.active)))
           (inr (ap (λ (b : BusyChannels). b.owing) c.file_active.ensures.others, ap owes c.set_state.ensures));
-      in_vain = λ yes. let no : true ≡ false =
-          sym yes ∙ ap (λ (b : BusyChannels). b.in_vain) c.file_active.ensures.others in absurd (cc);
+      demand = record {
+        requests = requests_put _ _ _ _ _ _ input _ _ _ c.self.invariant.busy.few_ports
+            c.self.invariant.busy.few_channels c.self.invariant.demand.requests
+            (ap (λ (d : DemandView). d.requests) c.meet.ensures)
+            (ap (λ (x : ChannelState). asking c.self.inside.classes x.state x.buffer) c.set_state.ensures);
+        free = free_put _ _ _ _ _ _ output _ _ false c.self.invariant.busy.few_ports
+            c.self.invariant.busy.few_channels c.self.invariant.demand.free
+            (ap (λ (d : DemandView). d.free) c.meet.ensures)
+            (ap (λ (v : OutRecord). is_none v.holder) c.grant.ensures);
+      };
+      fronts = All-set HasFront c.self.inside.inputs.items c.line-i.result c.set_state.new.self
+          (λ waiting. let no : true ≡ false = sym waiting ∙ ap is_waiting c.set_state.ensures in absurd (cc))
+          c.self.invariant.fronts;
       holders = holders_held _ _ _ _ _ _ _ _ _ _ _ input output (ap (λ (x : ChannelState). x.state) c.set_state.ensures)
           (ap (λ (v : OutRecord). v.holder) read ∙ c.requires.free)
           (ap (λ (v : OutRecord). v.holder) c.grant.ensures) c.self.invariant.holders;
-      held = held_filed _ _ _ _ _ _ _ _ true output c.self.invariant.busy.few_ports c.self.invariant.busy.few_channels
-          (filed _ _ _ _ _ c.file_active.ensures.held)
-          (ap (λ (v : OutRecord). is_some v.holder) c.grant.ensures) c.self.invariant.held;
       classes = c.self.invariant.classes;
       ready = ready_held _ _ _ _ _ _ _ _ _ _ _ _ _ input output c.self.invariant.busy.few_ports
           c.self.invariant.busy.few_channels c.set_state.ensures put

@@ -1,22 +1,21 @@
-use Rattle.std.proofs.Common.{◌==◌, ◌&&◌, ◌||◌, nat_lt, is_some, arith, true, false, if◌then◌else◌, None, inl, inr, ◌∙◌}
+use Rattle.std.proofs.Common.{◌==◌, ◌&&◌, ◌||◌, nat_lt, arith, true, false, if◌then◌else◌, inl, ◌∙◌}
 use Rattle.std.proofs.Common.{ap, sym, subst, ◌≤◌, ◌<◌, ◌+◌, ◌≡◌, ◌*◌, ℕ, sum, length}
 use Rattle.std.proofs.lemmas.Grind.{common_steps}
-use Rattle.std.proofs.lemmas.List.Elements.{All-get_or}
-use Rattle.std.proofs.lemmas.Bool.{and_parts}
+use Rattle.std.proofs.lemmas.List.Elements.{All-set, All-get_or}
 use Rattle.worm_flit.specs.Kinds.{closes}
 use Rattle.worm_records.specs.declared.InRecord.TheVariants.{Active}
 use Rattle.worm_records.specs.declared.OutRecord.{OutRecord}
-use Rattle.worm_router.specs.Router.{IsPlace, credit_of, RouterState, ChannelState, input_at, IsRouter, IsChannel}
+use Rattle.worm_router.specs.Router.{credit_of, RouterState, ChannelState, input_at, IsRouter, IsChannel}
 use Rattle.worm_router.specs.Router.{free_output, terminal, width}
 use Rattle.worm_router.proofs.Kept.{both_set_sound, input_read, let_out_sound, full_after, full_before, no_credit}
-use Rattle.worm_router.specs.Busy.{is_waiting, is_active, owes}
-use Rattle.worm_router.specs.declared.busy.BusyChannels.{BusyChannels}
+use Rattle.worm_vcalloc.specs.Table.{with_cell}
+use Rattle.worm_router.specs.Demand.{DemandView}
+use Rattle.worm_router.specs.Busy.{HasFront, is_waiting, is_active, owes}
 use Rattle.worm_router.proofs.Places.{input_of, output_of, output_read}
 use Rattle.worm_router.proofs.Filed.{busy_filed, inside_of}
 use Rattle.worm_router.proofs.Leaving.{may_leave, leaves_active, leaves_by_state, owes_more}
-use Rattle.worm_router.proofs.InVain.{vain_left, holds_open, holds_waits_not, waits_not_after}
+use Rattle.worm_router.proofs.Demanded.{requests_kept, free_left, asks_nothing, holds_waits_not, waits_not_after}
 use Rattle.worm_router.proofs.Holders.{holders_left}
-use Rattle.worm_router.proofs.Held.{held_filed, freed_or_held, held_by, has_held}
 use Rattle.worm_router.proofs.ReadySet.{ready_left}
 use Rattle.worm_router.proofs.router.Router.let_out.Goals as goal
 
@@ -106,29 +105,23 @@ invariant_of-self c =
       arbiters = c.self.invariant.arbiters;
       busy = busy_filed _ _ _ _ _ _ _ _ input c.self.invariant.busy
           (inl c.file_left.ensures.occupied)
-          (inr (ap (λ (b : BusyChannels). b.waiting) c.file_left.ensures.others, waits_not ∙ sym waited_not))
           (inl c.file_left.ensures.active)
           (inl c.file_left.ensures.owing);
-      in_vain = λ yes.
-          let parts = and_parts _ _ (sym c.file_left.ensures.in_vain ∙ yes) in
-          let still : closes c.args.flit.kind ≡ false =
-          holds_open (closes c.args.flit.kind) c.index_mut-channel.result.now.state
-          (sym (ap is_active c.let_out.ensures) ∙ parts.1) in
-          vain_left _ _ _ _ _ _ _ _ _ _ _ input output waits_not
-          (ap (λ (u : OutRecord). u.holder) c.pass.ensures
-          ∙ ap (λ b. if b then None else c.index_mut-output.result.now.holder) still)
-          (c.self.invariant.in_vain parts.0);
+      demand = record {
+        requests = ap (λ (d : DemandView). d.requests) c.release_if.ensures ∙ c.self.invariant.demand.requests
+            ∙ sym (requests_kept _ _ _ _ _ _ input (asks_nothing _ _ _ waits_not ∙ sym (asks_nothing _ _ _ waited_not)));
+        free = free_left _ _ _ _ _ _ output (closes c.args.flit.kind) _ _ c.self.invariant.busy.few_ports
+            c.self.invariant.busy.few_channels c.self.invariant.demand.free
+            (ap (λ (d : DemandView). d.free) c.release_if.ensures
+            ∙ ap (λ b. if b then with_cell c.self.inside.demand.free c.args.out c.args.flit.vc true
+            else c.self.inside.demand.free) c.is_closing.ensures)
+            (ap (λ (u : OutRecord). u.holder) c.pass.ensures);
+      };
+      fronts = All-set HasFront c.self.inside.inputs.items c.line-i.result c.let_out.new.self
+          (λ waiting. let no : true ≡ false = sym waiting ∙ waits_not in absurd (cc)) c.self.invariant.fronts;
       holders = holders_left _ _ _ _ _ _ _ _ _ _ _ (closes c.args.flit.kind) input output held_it
           (ap (λ (x : ChannelState). x.state) c.let_out.ensures)
           (ap (λ (u : OutRecord). u.holder) c.pass.ensures) c.self.invariant.holders;
-      held = held_filed _ _ _ _ _ _ _ _ (is_active c.let_out.new.self) output c.self.invariant.busy.few_ports
-          c.self.invariant.busy.few_channels c.file_left.ensures.held
-          (ap (λ (u : OutRecord). is_some u.holder) c.pass.ensures
-          ∙ freed_or_held (closes c.args.flit.kind) c.index_mut-channel.result.now.state _ _
-          c.index_mut-output.result.now.holder held_it
-          (held_by _ c.self.inside.busy.held _ _ _ _ _ _ _ _ input output held_it c.self.invariant.holders)
-          ∙ sym (ap is_active c.let_out.ensures))
-          c.self.invariant.held;
       classes = c.self.invariant.classes;
       ready = ready_left _ _ _ _ _ _ _ _ _ _ _ c.credit_of-spent.result c.credit_of-more_owed.result _ _
           (closes c.args.flit.kind) c.may_follow-follows.result input output c.self.invariant.busy.few_ports
@@ -141,27 +134,6 @@ invariant_of-self c =
           (c.credit_of-more_owed.result == 0 || nat_lt n c.self.inside.depth)) c.owed.ensures)
           c.file_left.ensures.ready c.self.invariant.holders c.self.invariant.ready;
     }
-
-pub file_left-requires-clause-was_held : goal.file_left-requires-clause-was_held
-file_left-requires-clause-was_held c =
-    let input = input_of _ c.args.self.now c.args.port c.args.vc c.line-i.result c.index_mut-channel.result.now
-    c.self.view_is c.requires.place c.line-i.ensures.value c.line-i.ensures.in_inputs
-    c.index_mut-channel.ensures.value in
-    let there = may_leave c.args.self.now c.args.port c.args.vc (
-      c.args.out,
-      c.args.flit,
-    ) (subst IsRouter c.self.view_is c.self.invariant.router) c.requires.place c.requires.ready in
-    let here : c.index_mut-channel.result.now ≡ input_at c.args.self.now c.args.port c.args.vc =
-    input_read _ c.args.self.now c.args.port c.args.vc c.line-i.result c.index_mut-channel.result.now c.self.view_is
-    c.index_mut-channel.ensures.value c.line-i.ensures.value c.line-i.ensures.in_inputs in
-    let active = ap (λ (k : ChannelState). k.state) here
-    ∙ leaves_by_state c.args.self.now c.args.port (input_at c.args.self.now c.args.port c.args.vc)
-    (input_at c.args.self.now c.args.port c.args.vc).state (input_at c.args.self.now c.args.port c.args.vc).buffer
-    (c.args.out, c.args.flit) c.requires.ready in
-    has_held _ _ _ _ _ _ c.args.out c.args.flit.vc input
-    (subst (λ (r : RouterState). IsPlace r c.args.out c.args.flit.vc) (sym c.self.view_is)
-    (record { port_in = there.out_in; channel_in = there.channel_in })) active c.self.invariant.holders
-    c.self.invariant.held
 
 pub file_left-requires-clause-owes_no_less : goal.file_left-requires-clause-owes_no_less
 file_left-requires-clause-owes_no_less c = λ owed.

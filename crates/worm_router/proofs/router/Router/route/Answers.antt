@@ -1,14 +1,16 @@
-use Rattle.std.proofs.Common.{subst, sym, ap, ◌∙◌, inl, inr, true, false, ◌≡◌, arith}
-use Rattle.worm_vcalloc.specs.ChannelSet.{IsPut}
-use Rattle.worm_router.specs.Busy.{IsReadySet, is_occupied, is_waiting, is_active, owes, holds}
-use Rattle.worm_router.specs.declared.busy.BusyChannels.{BusyChannels}
-use Rattle.worm_router.specs.Router.{ChannelState}
+use Rattle.worm_flit.specs.Channels.{class_bits}
+use Rattle.std.proofs.Common.{refl, slice_get, Some, sym, ap, ◌∙◌, inr, false, ◌≡◌, arith}
+use Rattle.std.proofs.lemmas.List.Elements.{All-set}
+use Rattle.worm_router.specs.Allocation.{asking}
+use Rattle.worm_router.specs.Demand.{DemandView}
+use Rattle.worm_router.specs.Busy.{HasFront, is_occupied, is_active, owes, holds}
+use Rattle.worm_router.specs.Router.{ChannelState, RouterState}
 use Rattle.worm_router.proofs.Places.{input_of}
 use Rattle.worm_router.proofs.Kept.{input_set_sound, read_sound, waiting_sound}
-use Rattle.worm_router.proofs.Filed.{busy_filed, filed}
+use Rattle.worm_router.proofs.Filed.{busy_filed}
 use Rattle.worm_records.specs.declared.InRecord.TheVariants.{Idle}
 use Rattle.worm_router.proofs.Holders.{holders_in}
-use Rattle.worm_router.proofs.Held.{held_as}
+use Rattle.worm_router.proofs.Demanded.{requests_put, asks_by_front, front_there}
 use Rattle.worm_router.proofs.ReadySet.{ready_waiting}
 use Rattle.worm_router.proofs.router.Router.route.Goals as goal
 use Rattle.worm_router.proofs.router.Router.route.Goals.{in-Idle, in_default}
@@ -27,6 +29,10 @@ invariant_of-self c =
     ] in
     let was_idle : is_active c.index_mut-channel.result.now ≡ false =
     ap is_active (input.was ∙ sym read.was) ∙ ap holds (sym c.state.ensures ∙ idle) in
+    let front : slice_get c.index_mut-channel.result.now.buffer 0 ≡ Some c.in-Some.front =
+    ap (λ (x : ChannelState). slice_get x.buffer 0) (input.was ∙ sym read.was) ∙ sym c.flit_at.ensures ∙ c.in-Some.is in
+    let allowed : c.mask-allowed.result ≡ class_bits c.self.inside.classes c.in-Some.front.lane.class =
+    c.mask-allowed.ensures ∙ ap (λ (r : RouterState). class_bits r.channels c.in-Some.front.lane.class) (sym c.self.view_is) in
     record {
       router = record {
         lists = input_set_sound _ _ _ _ _ _ _ _ c.self.invariant.router.lists
@@ -36,26 +42,23 @@ invariant_of-self c =
       };
       arbiters = c.self.invariant.arbiters;
       busy = busy_filed _ _ _ _ _ _ _ _ input c.self.invariant.busy
-          (inr (
-            ap (λ (b : BusyChannels). b.occupied) c.file_waiting.ensures.others,
-            ap is_occupied c.set_state.ensures,
-          ))
-          (inl (filed _ _ _ _ _ (subst (IsPut _ _ _ _)
-          (sym (ap is_waiting c.set_state.ensures)) c.file_waiting.ensures.waiting)))
-          (inr (
-            ap (λ (b : BusyChannels). b.active) c.file_waiting.ensures.others,
-            ap is_active c.set_state.ensures ∙ sym was_idle,
-          ))
-          (inr (ap (λ (b : BusyChannels). b.owing) c.file_waiting.ensures.others, ap owes c.set_state.ensures));
-      in_vain = λ yes. let no : true ≡ false =
-          sym yes ∙ ap (λ (b : BusyChannels). b.in_vain) c.file_waiting.ensures.others in absurd (cc);
+          (inr (refl, ap is_occupied c.set_state.ensures))
+          (inr (refl, ap is_active c.set_state.ensures ∙ sym was_idle))
+          (inr (refl, ap owes c.set_state.ensures));
+      demand = record {
+        requests = requests_put _ _ _ _ _ _ input _ _ _ c.self.invariant.busy.few_ports
+            c.self.invariant.busy.few_channels c.self.invariant.demand.requests
+            (ap (λ (d : DemandView). d.requests) c.ask.ensures)
+            (ap (λ (x : ChannelState). asking c.self.inside.classes x.state x.buffer) c.set_state.ensures
+            ∙ asks_by_front _ _ c.in-Some.front _ _ front allowed);
+        free = ap (λ (d : DemandView). d.free) c.ask.ensures ∙ c.self.invariant.demand.free;
+      };
+      fronts = All-set HasFront c.self.inside.inputs.items c.line-i.result c.set_state.new.self
+          (λ waiting. ap is_occupied c.set_state.ensures ∙ front_there _ _ front) c.self.invariant.fronts;
       holders = holders_in _ _ _ _ _ _ input
           (λ o k holds. let unlike = sym (ap (λ (x : ChannelState). x.state) c.set_state.ensures) ∙ holds in
           absurd (cc)) c.self.invariant.holders;
-      held = held_as _ _ _ _ _ _ c.self.invariant.held
-          (ap (λ (b : BusyChannels). b.held) c.file_waiting.ensures.others);
       classes = c.self.invariant.classes;
-      ready = subst (IsReadySet _) (sym (ap (λ (b : BusyChannels). b.ready) c.file_waiting.ensures.others))
-          (ready_waiting _ _ _ _ _ _ _ input c.self.invariant.busy.few_ports c.self.invariant.busy.few_channels was_idle
+      ready = (ready_waiting _ _ _ _ _ _ _ input c.self.invariant.busy.few_ports c.self.invariant.busy.few_channels was_idle
           (ap is_active c.set_state.ensures) c.self.invariant.ready);
     }

@@ -1,0 +1,142 @@
+//! What the channel allocator goes over, kept as it comes: which output channels input channels ask for, and which are
+//! free.
+
+ghost use Rattle.std.specs.Prelude.{◌≡◌, ◌<◌, ◌≤◌, Some, None, IsTrue, false, true, replicate, if◌then◌else◌};
+ghost use Rattle.worm_vcalloc.specs.Table.{IsTable, with_cell};
+ghost use Rattle.worm_router.specs.Tables.{PutsRow, PutsRows};
+ghost use Rattle.worm_router.specs.Demand.{AreInVain};
+
+use std::marker::Model;
+use worm_vcalloc::{FreeChannels, VcRequest, VcRequests};
+
+/// Who asks for an output channel, and which are free.
+#[derive(Drop)]
+pub struct Demand {
+    /// What the waiting input channels ask for.
+    requests: VcRequests,
+    /// Which output channels are free.
+    free: FreeChannels,
+    /// That no request is for a free channel. It may be false where none is.
+    in_vain: bool,
+}
+
+impl Model for Demand {
+    ghost use Rattle.std.specs.Prelude.{IsTrue};
+    ghost use Rattle.worm_router.specs.Demand.{DemandView, AreInVain};
+
+    ghost Value = { DemandView };
+
+    ghost view = { λ d. record { requests = d.requests; free = d.free } };
+
+    ghost invariant = { λ d. IsTrue d.in_vain → AreInVain d.requests d.free };
+}
+
+/// Marks the channels of an output port as free.
+fn free_port(free: &mut FreeChannels, port: u8, channels: u8)
+    requires port { port < 7 }
+    requires channels { channels ≤ 8 }
+    requires shape { IsTable free.old }
+    ensures { PutsRow false (λ channel. true) channels port free.old free.new }
+{
+    for channel in 0..channels {
+        free[usize::from(port)][usize::from(channel)] = true;
+    }
+}
+
+/// The channels of so many ports, all free.
+fn all_free(ports: u8, channels: u8) -> FreeChannels
+    requires ports { ports ≤ 7 }
+    requires channels { channels ≤ 8 }
+    ensures { PutsRows false (λ port channel. true) channels ports result }
+{
+    let mut free = [[false; 8]; 7];
+    for port in 0..ports {
+        free_port(&mut free, port, channels);
+    }
+    free
+}
+
+impl Demand {
+    /// No request, and all channels of so many ports free.
+    pub fn new(ports: u8, channels: u8) -> Demand
+        requires ports { ports ≤ 7 }
+        requires channels { channels ≤ 8 }
+        ensures requests { result.requests ≡ replicate 7 (replicate 8 None) }
+        ensures free { PutsRows false (λ port channel. true) channels ports result.free }
+    {
+        Demand {
+            requests: VcRequests::new(),
+            free: all_free(ports, channels),
+            in_vain: true,
+        }
+    }
+
+    /// What the waiting input channels ask for.
+    pub fn requests(&self) -> &VcRequests
+        ensures { result.now ≡ self.now.requests }
+    {
+        &self.requests
+    }
+
+    /// Which output channels are free.
+    pub fn free(&self) -> &FreeChannels
+        ensures { result.now ≡ self.now.free }
+    {
+        &self.free
+    }
+
+    /// From now on the input channel asks for this.
+    pub fn ask(&mut self, port: u8, vc: u8, request: VcRequest)
+        requires port { port < 7 }
+        requires vc { vc < 8 }
+        ensures { self.new ≡ record self.old { requests = with_cell self.old.requests port vc (Some request) } }
+    {
+        self.requests.set(port, vc, Some(request));
+        self.in_vain = false;
+    }
+
+    /// The input channel has got this output channel: it asks no more, and that is free no more.
+    pub fn meet(&mut self, port: u8, vc: u8, out: u8, out_vc: u8)
+        requires port { port < 7 }
+        requires vc { vc < 8 }
+        requires out { out < 7 }
+        requires out_vc { out_vc < 8 }
+        ensures { self.new ≡ record {
+          requests = with_cell self.old.requests port vc None;
+          free = with_cell self.old.free out out_vc false;
+        } }
+    {
+        self.requests.set(port, vc, None);
+        self.free[usize::from(out)][usize::from(out_vc)] = false;
+        self.in_vain = false;
+    }
+
+    /// The output channel is free again, where a closing flit left by it.
+    pub fn release_if(&mut self, closed: bool, out: u8, out_vc: u8)
+        requires out { out < 7 }
+        requires out_vc { out_vc < 8 }
+        ensures { self.new ≡ record self.old {
+          free = (if closed then with_cell self.old.free out out_vc true else self.old.free);
+        } }
+    {
+        if closed {
+            self.free[usize::from(out)][usize::from(out_vc)] = true;
+            self.in_vain = false;
+        }
+    }
+
+    /// Whether no request is for a free channel. Where none is this may not be known.
+    pub fn is_in_vain(&self) -> bool
+        ensures { IsTrue result → AreInVain self.now.requests self.now.free }
+    {
+        self.in_vain
+    }
+
+    /// Keeps it whether no request is for a free channel, until that changes. Where none is false may be kept.
+    pub fn set_in_vain(&mut self, in_vain: bool)
+        requires { IsTrue in_vain → AreInVain self.old.requests self.old.free }
+        ensures { self.new ≡ self.old }
+    {
+        self.in_vain = in_vain;
+    }
+}
