@@ -17,7 +17,7 @@ use Rattle.worm_router.specs.Router.{RouterState, width, terminal, input_at, out
 use Rattle.worm_router.specs.Router.{can_grant, after_grant, after_granting}
 use Rattle.worm_router.specs.Allocation.{written, with_port_grants, with_grants, channel_pass, after_allocate}
 use Rattle.worm_router.specs.Allocation.{after_choose, ready_at, ready_outs}
-use Rattle.worm_router.proofs.InVain.{cell_has}
+use Rattle.worm_router.proofs.TableRows.{cell_has}
 use Rattle.worm_shape.proofs.Channels.{owned_by}
 use Rattle.worm_swalloc.specs.SwAlloc.{SwAllocState}
 use Rattle.worm_theory.specs.Shape.{Shape}

@@ -17,7 +17,7 @@ use Rattle.worm_swalloc.proofs.FrontLemmas.{slice_index_or-with_front_below, sli
 use Rattle.worm_swalloc.proofs.SwLemmas.{get_or-replicate_same}
 use Rattle.worm_router.specs.Allocation.{ready_at, ready_outs, switch_grants}
 use Rattle.worm_router.specs.Router.{RouterState, IsPlace, after_leaving, input_at, leaving, let_out, credit_of}
-use Rattle.worm_router.proofs.InVain.{cell_has}
+use Rattle.worm_router.proofs.TableRows.{cell_has}
 use Rattle.worm_router.proofs.Laws.{input_at-other}
 use Rattle.worm_router.proofs.Leaving.{leaves_by_state}
 
