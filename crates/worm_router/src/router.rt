@@ -432,8 +432,7 @@ impl Router {
         pass(output, flit, spent);
         let follows = may_follow(channel.owed(), more_owed, output.credits, spent, self.depth);
         self.busy.file_left(port, vc, channel, follows);
-        self.demand
-            .release_if(is_closing(flit.kind), out, flit.vc);
+        self.demand.release_if(is_closing(flit.kind), out, flit.vc);
     }
 
     /// The lowest channel of the port that owes a credit upstream.
