@@ -3,7 +3,7 @@
 
 ghost use Rattle.std.specs.Prelude.{◌≡◌};
 ghost use Rattle.worm_flit.specs.Channels.{AreChannels};
-ghost use Rattle.worm_mesh.specs.Address.{IsMesh as IsRadices};
+ghost use Rattle.worm_mesh.specs.Address.{AreRadices};
 ghost use Rattle.worm_region.specs.Parts.{IsConfigOf, part_state};
 
 use super::Fabric;
@@ -77,7 +77,7 @@ impl Fabric {
 
     /// The fabric of these parts, whose configuration is within its limits, with these nodes owned.
     pub(crate) fn from_parts(parts: NetParts, own: Own) -> Fabric
-        requires radices { IsRadices parts.config.radices.items }
+        requires radices { AreRadices parts.config.radices.items }
         requires channels { AreChannels parts.config.channels.items }
         ensures { result ≡ part_state parts own }
     {
