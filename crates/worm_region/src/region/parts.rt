@@ -38,6 +38,6 @@ impl Region {
     pub fn mesh(&self) -> &Mesh
         ensures { result.now ≡ self.now.mesh }
     {
-        self.fabric.mesh()
+        self.fabric.wires().wiring().mesh()
     }
 }
