@@ -182,11 +182,13 @@ impl Nodes {
         ensures some { 1 ≤ length packet.now.words }
         ensures few { length packet.now.words ≤ 32 }
     {
+        // For the proof, too: a packet has words, and at most 32.
+        let flits = packet.words().len() as u64;
         self.still[usize::from(node)] = false;
         let here = &mut self.list[usize::from(node)];
-        let answer = here.offer(packet);
+        let answer = here.source.offer(packet);
         if answer.is_ok() {
-            self.under_way = more(self.under_way, packet.words().len() as u64);
+            self.under_way = more(self.under_way, flits);
         }
         answer
     }
@@ -202,7 +204,7 @@ impl Nodes {
     {
         self.still[usize::from(node)] = false;
         let here = &mut self.list[usize::from(node)];
-        let answer = here.close(lane);
+        let answer = here.source.close(lane);
         if answer.is_ok() {
             self.under_way = more(self.under_way, 1);
         }

@@ -94,15 +94,7 @@ impl Region {
         let Ok(fabric) = Fabric::new(alloc, mesh, channels, config.depth, names) else {
             return Err(NetFault::NoMemory);
         };
-        Ok(Region::of(fabric))
-    }
-
-    /// The region of these lists.
-    fn of(fabric: Fabric) -> Region
-        requires { IsWorkable fabric }
-        ensures { result ≡ fabric }
-    {
-        Region { fabric }
+        Ok(Region { fabric })
     }
 
     /// What holds of every region, for whoever has one.
@@ -118,14 +110,6 @@ impl Region {
         ensures same { result.now ≡ self.now }
     {
         &self.fabric
-    }
-
-    /// The lists by themselves.
-    pub(crate) fn into_fabric(self) -> Fabric
-        ensures same { result ≡ self }
-    {
-        let Region { fabric } = self;
-        fabric
     }
 
     /// Keeps it that so many flits are under way, and counts on from there.
@@ -261,7 +245,10 @@ impl Region {
         ensures passes { IsTrue result → NodePassesBy Attempts node self.old None self.old }
         ensures same { self.new ≡ self.old }
     {
-        self.fabric.rests(node)
+        if !self.fabric.wires().is_quiet(node) {
+            return false;
+        }
+        self.fabric.is_still(node)
     }
 
     pub(crate) fn offer(&mut self, node: u8, packet: &Packet) -> Result<Moved, StepFault>
