@@ -85,12 +85,13 @@ impl Fabric {
         let nodes = make_nodes(alloc, &mesh, channels, depth)?;
         let room = u16::from(classes.total()) * u16::from(depth);
         let links = make_links(alloc, mesh.links(), room)?;
+        let nodes = Nodes::new(nodes, classes.classes());
         Ok(Fabric {
             links: Links::new(mesh, links),
             classes,
             depth,
             names,
-            nodes: Nodes::new(nodes),
+            nodes,
             own: Own::sole(),
         })
     }
@@ -319,13 +320,5 @@ impl Fabric {
         ensures { IsUnderWay (accepted_in self.now.nodes) (taken_in self.now.nodes) result }
     {
         self.nodes.under_way()
-    }
-
-    /// Keeps it that so many flits are under way, and counts on from there.
-    pub(crate) fn count(&mut self, under_way: Option<u64>)
-        requires { IsUnderWay (accepted_in self.old.nodes) (taken_in self.old.nodes) under_way }
-        ensures { self.new ≡ self.old }
-    {
-        self.nodes.count(under_way);
     }
 }

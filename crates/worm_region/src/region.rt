@@ -112,14 +112,6 @@ impl Region {
         &self.fabric
     }
 
-    /// Keeps it that so many flits are under way, and counts on from there.
-    pub fn count(&mut self, under_way: Option<u64>)
-        requires { IsUnderWay (accepted_in self.old.nodes) (taken_in self.old.nodes) under_way }
-        ensures { self.new ≡ self.old }
-    {
-        self.fabric.count(under_way);
-    }
-
     /// The number of nodes.
     pub fn nodes(&self) -> u16
         ensures value { result ≡ node_count self.now.mesh }

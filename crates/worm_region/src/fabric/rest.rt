@@ -37,8 +37,8 @@ impl Fabric {
         None
     }
 
-    /// Whether the node is known to be still, or found to be; that is kept, so that it is not asked again until the node
-    /// changes. Where it is still this may not be found.
+    /// Whether the node is known to be still, or found to be, which is kept until the node changes. Where it is still
+    /// this may not be found.
     pub(crate) fn is_still(&mut self, node: u8) -> bool
         requires sound { IsWorkable self.old }
         requires node { node < node_count self.old.mesh }
