@@ -64,7 +64,7 @@ impl Net {
     }
 
     /// What holds of every network, for whoever has one.
-    pub fn is_sound(&self)
+    pub fn recall(&self)
         ensures sound { IsNet self.now }
         ensures delivers { DeliversInOrder self.now }
     {
@@ -229,9 +229,9 @@ impl Net {
         ensures delivers { DeliversInOrder self.new }
         ensures marks { NothingFollowsMarks self.old self.new }
     {
-        self.is_sound();
+        self.recall();
         let so_far = self.take_steps(steps);
-        self.is_sound();
+        self.recall();
         so_far
     }
 
@@ -244,9 +244,9 @@ impl Net {
         ensures delivers { DeliversInOrder self.new }
         ensures marks { NothingFollowsMarks self.old self.new }
     {
-        self.is_sound();
+        self.recall();
         let result = self.all_turns(script.due(turn));
-        self.is_sound();
+        self.recall();
         result
     }
 }

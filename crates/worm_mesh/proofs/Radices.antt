@@ -4,7 +4,7 @@ use Rattle.std.proofs.Common.{take-append-drop}
 use Rattle.std.specs.Prelude.{All}
 use Rattle.std.proofs.lemmas.Nat.{mul-le}
 use Rattle.std.proofs.lemmas.List.Elements.{All-append, All-replicate, All-weaker}
-use Rattle.worm_mesh.specs.Address.{IsRadix, IsMesh}
+use Rattle.worm_mesh.specs.Address.{IsRadix, AreRadices}
 use Rattle.worm_mesh.specs.Faults.{IsFault}
 use Rattle.worm_mesh.specs.declared.mesh.MeshFault.{MeshFault}
 use Rattle.worm_mesh.specs.declared.mesh.MeshFault.TheVariants.{Radix, Dims, TooManyNodes}
@@ -24,7 +24,7 @@ pub product_small : (a b c : ℕ) → a ≤ 16 → b ≤ 16 → c ≤ 16 → a *
 product_small a b c p q r = omega (arith, mul-le a b 16 16 p q, mul-le (a * b) c 256 16 (mul-le a b 16 16 p q) r)
 
 -- what is refused keeps not all limits
-pub no_IsMesh : (ks : List ℕ) (fault : MeshFault) → IsFault ks fault → IsMesh ks → ⊥
+pub no_IsMesh : (ks : List ℕ) (fault : MeshFault) → IsFault ks fault → AreRadices ks → ⊥
 no_IsMesh ks Radix h mesh = h mesh.radices
 no_IsMesh ks Dims h mesh =
     let some = mesh.some_dims in

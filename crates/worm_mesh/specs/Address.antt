@@ -42,7 +42,7 @@ abbrev pub IsRadix : ℕ → Type 0
 IsRadix k = (2 ≤ k) × (k ≤ 16)
 
 -- the limits on a mesh
-pub record IsMesh (ks : List ℕ) : Type 0 where
+pub record AreRadices (ks : List ℕ) : Type 0 where
   pub some_dims : 0 < length ks
   pub few_dims : length ks ≤ 3
   pub radices : All IsRadix ks

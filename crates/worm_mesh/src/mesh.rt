@@ -129,7 +129,7 @@ fn links_in_rows(radix: u16, row: u16, digit: u16, rest: LinkCounts) -> u16
 }
 
 impl Mesh {
-    ghost use Rattle.worm_mesh.specs.Address.{IsMesh, IsAddress, Joins, AreNeighbours, node_count, stride_of};
+    ghost use Rattle.worm_mesh.specs.Address.{AreRadices, IsAddress, Joins, AreNeighbours, node_count, stride_of};
     ghost use Rattle.worm_mesh.specs.Address.{address_of, digit_of, has_neighbour, neighbour_of, opposite_of};
     ghost use Rattle.worm_mesh.specs.Links.{links_below_port, degree_of, links_before, link_count, channels_in, IsLink};
     ghost use Rattle.worm_mesh.specs.Links.{IsNumbering};
@@ -140,7 +140,7 @@ impl Mesh {
     /// radices is outside 2 to 16, `Dims` where there is none or more than three, `TooManyNodes` where their product is
     /// above 256.
     pub fn new(radices: &[u8]) -> Result<Mesh, MeshFault>
-        ensures { MatchResult result (λ m. (m ≡ radices.now) × IsMesh radices.now) (IsFault radices.now) }
+        ensures { MatchResult result (λ m. (m ≡ radices.now) × AreRadices radices.now) (IsFault radices.now) }
     {
         if !are_radices(radices) {
             return Err(MeshFault::Radix);
@@ -160,7 +160,7 @@ impl Mesh {
         requires three { length radices ≡ 3 }
         requires radices { All IsRadix (take dims radices) }
         requires filled { drop dims radices ≡ replicate (3 - dims) 1 }
-        ensures { MatchResult result (λ m. (m ≡ take dims radices) × IsMesh m)
+        ensures { MatchResult result (λ m. (m ≡ take dims radices) × AreRadices m)
             (λ e. (e ≡ MeshFault.TooManyNodes) × (256 < node_count (take dims radices))) }
     {
         let [a, b, c] = radices;
@@ -173,7 +173,7 @@ impl Mesh {
     /// How many nodes there are, 2 to 256: the product of the radices.
     pub fn nodes(&self) -> u16
         ensures value { result ≡ node_count self.now }
-        ensures mesh { IsMesh self.now }
+        ensures mesh { AreRadices self.now }
     {
         let [a, b, c] = self.radices;
         u16::from(a) * u16::from(b) * u16::from(c)
@@ -182,7 +182,7 @@ impl Mesh {
     /// How many dimensions there are, 1 to 3.
     pub fn dims(&self) -> u8
         ensures value { result ≡ length self.now }
-        ensures mesh { IsMesh self.now }
+        ensures mesh { AreRadices self.now }
         ensures low { 1 ≤ result }
         ensures high { result ≤ 3 }
     {
@@ -194,7 +194,7 @@ impl Mesh {
         requires { d < length self.now }
         ensures value { result ≡ slice_index self.now d }
         ensures limits { IsRadix result }
-        ensures mesh { IsMesh self.now }
+        ensures mesh { AreRadices self.now }
     {
         self.radices[usize::from(d)]
     }
@@ -203,7 +203,7 @@ impl Mesh {
     fn stride(&self, d: u8) -> u16
         requires { d < length self.now }
         ensures value { result ≡ stride_of self.now d }
-        ensures mesh { IsMesh self.now }
+        ensures mesh { AreRadices self.now }
     {
         let [a, b, _] = self.radices;
         match d {
@@ -228,7 +228,7 @@ impl Mesh {
     // Whether `node` has a neighbour at `port`.
     fn has_neighbour(&self, node: u8, port: u8) -> bool
         ensures value { result ≡ has_neighbour self.now node port }
-        ensures mesh { IsMesh self.now }
+        ensures mesh { AreRadices self.now }
     {
         let d = port / 2;
         if u16::from(node) >= self.nodes() || d >= self.dims() {

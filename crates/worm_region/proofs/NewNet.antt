@@ -3,7 +3,7 @@ use Rattle.std.proofs.Common.{◌≡◌, ℕ, zero, suc, ◌+◌, ◌*◌, ◌<�
 use Rattle.std.proofs.Common.{length, drop, get_or, sum, replicate, refl, arith, ap, sym, subst, ◌∙◌}
 use Rattle.std.proofs.lemmas.List.{length-replicate}
 use Rattle.worm_flit.specs.Channels.{AreChannels}
-use Rattle.worm_mesh.specs.Address.{IsMesh as IsRadices, node_count, has_neighbour}
+use Rattle.worm_mesh.specs.Address.{AreRadices, node_count, has_neighbour}
 use Rattle.worm_mesh.specs.Links.{links_before, link_count}
 use Rattle.worm_records.specs.declared.OutRecord.{OutRecord}
 use Rattle.worm_router.specs.Router.{ChannelState, fresh_router, fresh_channel, free_output}
@@ -77,7 +77,7 @@ pub fresh_push : (mesh channels : List ℕ) (depth : ℕ) (nodes : List Node) �
 fresh_push mesh channels depth nodes all = pushed (fresh_node mesh channels depth) nodes all
 
 -- a fresh node is that of its number
-pub fresh_is : (mesh channels : List ℕ) (depth : ℕ) → IsRadices mesh → (x : ℕ) → x < node_count mesh
+pub fresh_is : (mesh channels : List ℕ) (depth : ℕ) → AreRadices mesh → (x : ℕ) → x < node_count mesh
     → IsNodeOf mesh channels depth x (fresh_node mesh channels depth x)
 fresh_is mesh channels depth radices x x_in = record {
   same_mesh = refl;
@@ -159,7 +159,7 @@ module _ (mesh channels : List ℕ) (depth : ℕ) (names : List (List ℕ)) (nod
     unfed = λ x k. ap (λ (q : QueueState). drop q.fed q.injected) (queues x k);
   }
 
-  module _ (radices : IsRadices mesh) (classes : AreChannels channels) (least_depth : 1 ≤ depth)
+  module _ (radices : AreRadices mesh) (classes : AreChannels channels) (least_depth : 1 ≤ depth)
       (most_depth : depth ≤ 16) (all_owned : own ≡ sole) (all_nodes : length nodes ≡ node_count mesh) where
     room_is : (n k room : ℕ) → k < n → (get_or (replicate n (empty_link room)) k blank_link).room ≡ room
     room_is zero k room within = absurd (omega arith)
@@ -211,9 +211,9 @@ module _ (mesh channels : List ℕ) (depth : ℕ) (names : List (List ℕ)) (t :
   pub fresh_stands : network_of t ≡ empty (shape t)
   fresh_stands = stands_for t.mesh t.channels t.depth t.names t.nodes t.links t.own nodes_of links_of
 
-  pub fresh_holds : IsRadices mesh → AreChannels channels → 1 ≤ depth → depth ≤ 16 → IsNet t
+  pub fresh_holds : AreRadices mesh → AreChannels channels → 1 ≤ depth → depth ≤ 16 → IsNet t
   fresh_holds radices classes some few =
-      let own_radices : IsRadices t.mesh = rw fresh.same_mesh radices in
+      let own_radices : AreRadices t.mesh = rw fresh.same_mesh radices in
       let own_classes : AreChannels t.channels = rw fresh.same_channels classes in
       let own_depth : 1 ≤ t.depth = rw fresh.same_depth some in
       let own_few : t.depth ≤ 16 = rw fresh.same_depth few in

@@ -1,7 +1,7 @@
 -- What a new network is: a node fresh at each place, each link empty, with room for what all its channels may hold.
 use Rattle.std.specs.Prelude.{ℕ, ◌≡◌, ◌*◌, ◌≤◌, List, length, sum, replicate, slice_index_or}
 use Rattle.worm_flit.specs.Channels.{AreChannels}
-use Rattle.worm_mesh.specs.Address.{IsMesh as IsRadices, node_count}
+use Rattle.worm_mesh.specs.Address.{AreRadices, node_count}
 use Rattle.worm_mesh.specs.Links.{link_count}
 use Rattle.worm_region.specs.declared.node.Node.{Node}
 use Rattle.worm_region.specs.Owned.{sole}
@@ -10,7 +10,7 @@ use Rattle.worm_wires.specs.Links.{empty_link}
 
 -- the limits of a configuration
 pub record IsConfig (radices channels : List ℕ) (depth names : ℕ) : Type 0 where
-  pub mesh : IsRadices radices
+  pub mesh : AreRadices radices
   pub classes : AreChannels channels
   pub least_depth : 1 ≤ depth
   pub most_depth : depth ≤ 16

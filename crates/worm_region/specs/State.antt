@@ -3,7 +3,7 @@ use Rattle.std.specs.Prelude.{ℕ, ◌*◌, ◌<◌, ◌≤◌, ◌≡◌, ◌==
 use Rattle.std.specs.Prelude.{slice_index_or, slice_set}
 use Rattle.arrayvec.specs.ArrayString.{ArrayString}
 use Rattle.worm_flit.specs.Channels.{AreChannels}
-use Rattle.worm_mesh.specs.Address.{IsMesh as IsRadices, node_count, has_neighbour}
+use Rattle.worm_mesh.specs.Address.{AreRadices, node_count, has_neighbour}
 use Rattle.worm_mesh.specs.Links.{links_before, link_count}
 use Rattle.worm_records.specs.declared.OutRecord.{OutRecord}
 use Rattle.worm_router.specs.Router.{RouterState, ChannelState, IsPlace, width, places, fresh_channel, free_output}
@@ -132,7 +132,7 @@ pub record IsNodeOf (mesh channels : List ℕ) (depth x : ℕ) (n : Node) : Type
 
 -- the lists have the shape that the configuration asks for
 pub record IsFramed (s : NetState) : Type 0 where
-  pub radices : IsRadices s.mesh
+  pub radices : AreRadices s.mesh
   pub classes : AreChannels s.channels
   pub least_depth : 1 ≤ s.depth
   pub most_depth : s.depth ≤ 16

@@ -5,7 +5,7 @@ ghost use Rattle.worm_flit.specs.Channels.{AreChannels};
 ghost use Rattle.worm_region.specs.NewNet.{IsFresh};
 ghost use Rattle.worm_router.specs.Allocation.{after_allocate, switch_grants};
 ghost use Rattle.worm_swalloc.specs.SwAlloc.{AreGranted};
-ghost use Rattle.worm_mesh.specs.Address.{IsMesh as IsRadices, node_count, neighbour_of};
+ghost use Rattle.worm_mesh.specs.Address.{AreRadices, node_count, neighbour_of};
 ghost use Rattle.worm_mesh.specs.Links.{link_count};
 ghost use Rattle.worm_router.specs.Router.{after_accept, after_credit, after_gave, after_grant};
 ghost use Rattle.worm_router.specs.Router.{after_route, can_grant, can_route, input_at, leaving};
@@ -76,7 +76,7 @@ impl Fabric {
         depth: u8,
         names: ArrayVec<Name, 4>,
     ) -> Result<Fabric, AllocError>
-        requires mesh { IsRadices mesh }
+        requires mesh { AreRadices mesh }
         requires channels { AreChannels channels.now }
         requires depth { (1 ≤ depth) × (depth ≤ 16) }
         ensures { IfOk result (λ f. IsFresh mesh channels.now depth (texts_of names.items) f) }
@@ -232,7 +232,7 @@ impl Fabric {
     /// chapter 13).
     pub(crate) fn give(&mut self, node: u8, port: u8, vc: u8, links: PortLinks)
         requires place { IsNetPlace self.old node port vc }
-        requires mesh { IsRadices self.old.mesh }
+        requires mesh { AreRadices self.old.mesh }
         requires ports { Some links ≡ port_links self.old.mesh node port }
         requires links { length self.old.links ≡ link_count self.old.mesh }
         requires owed { 0 < (input_at (router_at self.old node) port vc).owed }

@@ -1,6 +1,6 @@
 ghost use Rattle.std.specs.Prelude.{◌≡◌, ◌<◌, ◌≤◌, IfOk, Err, length, replicate};
 ghost use Rattle.worm_flit.specs.Channels.{AreChannels};
-ghost use Rattle.worm_mesh.specs.Address.{IsMesh as IsRadices, node_count};
+ghost use Rattle.worm_mesh.specs.Address.{AreRadices, node_count};
 ghost use Rattle.worm_region.specs.NewNet.{AreFresh};
 ghost use Rattle.worm_wires.specs.Links.{empty_link};
 ghost use Rattle.worm_region.specs.State.{fresh_node};
@@ -42,7 +42,7 @@ fn make_node(
 /// The nodes of a new network of this configuration, each at its own number. A part of a network has such nodes in the
 /// places of those that it does not own.
 pub fn fresh_nodes(alloc: Global, config: &Config) -> Result<Vec<Node>, AllocError>
-    requires mesh { IsRadices config.now.radices.items }
+    requires mesh { AreRadices config.now.radices.items }
     requires channels { AreChannels config.now.channels.items }
     requires depth { (1 ≤ config.now.depth) × (config.now.depth ≤ 16) }
     ensures all { IfOk result (λ v. length v.items ≡ node_count config.now.radices.items) }
@@ -62,7 +62,7 @@ pub(crate) fn make_nodes(
     channels: &[u8],
     depth: u8,
 ) -> Result<Vec<Node>, AllocError>
-    requires mesh { IsRadices mesh.now }
+    requires mesh { AreRadices mesh.now }
     requires channels { AreChannels channels.now }
     requires depth { (1 ≤ depth) × (depth ≤ 16) }
     ensures all { IfOk result (λ v. length v.items ≡ node_count mesh.now) }

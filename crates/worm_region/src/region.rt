@@ -98,7 +98,7 @@ impl Region {
     }
 
     /// What holds of every region, for whoever has one.
-    pub fn is_workable(&self)
+    pub fn recall(&self)
         ensures { IsWorkable self.now }
     {
         // For the proof: it opens what holds of a region.

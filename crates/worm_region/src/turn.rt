@@ -127,9 +127,9 @@ impl Region {
             RoutesTheSame self.old self.new node p v }
         ensures sound { IsWorkable self.new }
     {
-        self.is_workable();
+        self.recall();
         let _moved = self.route(node, port, vc);
-        self.is_workable();
+        self.recall();
     }
 
     /// Routes each channel that lacks a route, by rising port, then channel.
@@ -151,7 +151,7 @@ impl Region {
         ensures { (grants : List (Option SwGrant)) → AreGranted grants granted →
             Does (SendsBy Attempts grants node) self.old (result_err result) self.new }
     {
-        self.is_workable();
+        self.recall();
         let mut left = granted;
         while let Some((port, vc)) = left.pop_first() {
             tried(self.send_there(node, port, vc))?;
@@ -170,9 +170,9 @@ impl Region {
             OwesTheSame self.old self.new node p v }
         ensures sound { IsWorkable self.new }
     {
-        self.is_workable();
+        self.recall();
         let _moved = self.give_owed(node, port, vc);
-        self.is_workable();
+        self.recall();
     }
 
     /// Gives a credit of the lowest channel that owes one to each link into the node, ports rising.
@@ -220,9 +220,9 @@ impl Region {
     {
         // What holds of each region is told of those between, too, for whoever keeps more of them than this.
         self.come_in(node);
-        self.is_workable();
+        self.recall();
         self.allocate(node);
-        self.is_workable();
+        self.recall();
         if self.sends_nothing(node) {
             return ChannelSet::new();
         }

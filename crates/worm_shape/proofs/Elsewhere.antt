@@ -6,7 +6,7 @@ use Rattle.std.proofs.lemmas.List.Elements.{All-head, All-tail}
 use Rattle.worm_flit.specs.declared.Lane.{Lane}
 use Rattle.worm_flit.specs.declared.Flit.{Flit}
 use Rattle.worm_flit.specs.Stamps.{on_channel}
-use Rattle.worm_mesh.specs.Address.{IsMesh as MeshHolds}
+use Rattle.worm_mesh.specs.Address.{AreRadices}
 use Rattle.worm_mesh.proofs.Digits.{AreLarge, AreLarge-from_radices}
 use Rattle.worm_mesh.proofs.Neighbours.{neighbour_of-some}
 use Rattle.worm_route.specs.Route.{port_of}
@@ -49,7 +49,7 @@ none_on s lane x o v (f ∷ fs) h off =
       | inr away ↦ rw away.0 rest
     ]
 
-none_elsewhere : (ks counts : List ℕ) (depth : ℕ) (net : Network) (lane : Lane) → MeshHolds ks
+none_elsewhere : (ks counts : List ℕ) (depth : ℕ) (net : Network) (lane : Lane) → AreRadices ks
     → HasLane (shape_of ks counts depth) lane → Sound (shape_of ks counts depth) net
     → NoneElsewhere ks (shape_of ks counts depth) net lane
 none_elsewhere ks counts depth net lane mesh there sound =
@@ -121,6 +121,6 @@ none_elsewhere ks counts depth net lane mesh there sound =
         → held lane (on_channel v (net.out x o)) ≡ []
     link_channels x o v off = none_on (shape_of ks counts depth) lane x o v (net.out x o) (sound.leaving x o) off
 
-pub nowhere_else : (ks counts : List ℕ) (depth : ℕ) (net : Network) → MeshHolds ks
+pub nowhere_else : (ks counts : List ℕ) (depth : ℕ) (net : Network) → AreRadices ks
     → Sound (shape_of ks counts depth) net → LanesAreNowhereElse ks (shape_of ks counts depth) net
 nowhere_else ks counts depth net mesh sound = λ lane there. none_elsewhere ks counts depth net lane mesh there sound

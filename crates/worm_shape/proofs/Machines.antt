@@ -11,7 +11,7 @@ use Rattle.worm_flit.specs.Packets.{packet_flits, mark}
 use Rattle.worm_flit.specs.Channels.{AreChannels}
 use Rattle.worm_records.specs.declared.InRecord.{InRecord}
 use Rattle.worm_records.specs.declared.InRecord.TheVariants.{Idle, Waiting, Active}
-use Rattle.worm_mesh.specs.Address.{neighbour_of, opposite_of, IsMesh as MeshHolds}
+use Rattle.worm_mesh.specs.Address.{neighbour_of, opposite_of, AreRadices}
 use Rattle.worm_mesh.proofs.Digits.{AreLarge, AreLarge-from_radices}
 use Rattle.worm_mesh.proofs.Neighbours.{Joins-from, opposite_twice}
 use Rattle.worm_route.specs.Route.{port_of}
@@ -39,7 +39,7 @@ use Rattle.worm_shape.proofs.Shapes.{shape_is_mesh}
 use Rattle.worm_shape.proofs.Stands.{entered_place, left_place, source_place}
 use Rattle.worm_shape.proofs.SameLane.{same_lane, is_same, no_lane}
 
-module _ (ks counts : List ℕ) (depth : ℕ) (mesh_holds : MeshHolds ks) (counts_hold : AreChannels counts) (lane : Lane)
+module _ (ks counts : List ℕ) (depth : ℕ) (mesh_holds : AreRadices ks) (counts_hold : AreChannels counts) (lane : Lane)
     (there : HasLane (shape_of ks counts depth) lane) (c : ℕ)
     (alone : OwnsAlone (shape_of ks counts depth) lane.class c) where
   abbrev shape : Shape
@@ -489,7 +489,7 @@ module _ (ks counts : List ℕ) (depth : ℕ) (mesh_holds : MeshHolds ks) (count
     step_moves (GiveCredit x p v) at enabled = of_parts (GiveCredit x p v) (give_moves x p v (neighbour_of ks x p))
     step_moves (TakeCredit x o) at enabled = of_parts (TakeCredit x o) (get_moves x o (net.credit_list x o))
 
-pub each_moves_one : (ks counts : List ℕ) (depth : ℕ) → MeshHolds ks → AreChannels counts
+pub each_moves_one : (ks counts : List ℕ) (depth : ℕ) → AreRadices ks → AreChannels counts
     → EachMovesOne ks (shape_of ks counts depth)
 each_moves_one ks counts depth mesh classes = λ net step lane c there alone sound at enabled.
     step_moves ks counts depth mesh classes lane there c alone net sound step at enabled

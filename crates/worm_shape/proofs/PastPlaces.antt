@@ -9,7 +9,7 @@ use Rattle.std.proofs.lemmas.List.Concat.{flat_map-append}
 use Rattle.worm_flit.specs.declared.Lane.{Lane}
 use Rattle.worm_flit.specs.declared.Flit.{Flit}
 use Rattle.worm_flit.specs.Channels.{AreChannels}
-use Rattle.worm_mesh.specs.Address.{node_count, neighbour_of, opposite_of, IsMesh as MeshHolds}
+use Rattle.worm_mesh.specs.Address.{node_count, neighbour_of, opposite_of, AreRadices}
 use Rattle.worm_mesh.proofs.Digits.{AreLarge, AreLarge-from_radices}
 use Rattle.worm_mesh.proofs.Neighbours.{Joins-from}
 use Rattle.worm_route.specs.Route.{route_of, port_of, hops_of}
@@ -183,7 +183,7 @@ module _ (ks counts : List ℕ) (depth : ℕ) (l : AreLarge ks) (lane : Lane)
           record { some = rw same opened.some; unclosed = rw same opened.unclosed }
 
 -- exactly one input channel of the buffer's node is active for such a packet
-pub open_is_active : (ks counts : List ℕ) (depth : ℕ) → MeshHolds ks → AreChannels counts → (net : Network)
+pub open_is_active : (ks counts : List ℕ) (depth : ℕ) → AreRadices ks → AreChannels counts → (net : Network)
     → Sound (shape_of ks counts depth) net → PacketsHold (shape_of ks counts depth) net
     → OpenPacketsAreActive ks (shape_of ks counts depth) net
 open_is_active ks counts depth mesh classes net sound hold = λ lane k there nearer farther x p split opened.

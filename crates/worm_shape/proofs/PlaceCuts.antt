@@ -4,7 +4,7 @@ use Rattle.std.proofs.lemmas.Bool.{ne_eqb}
 use Rattle.std.proofs.lemmas.List.{append-nil}
 use Rattle.worm_flit.specs.declared.Lane.{Lane}
 use Rattle.worm_flit.specs.Channels.{AreChannels}
-use Rattle.worm_mesh.specs.Address.{IsMesh as MeshHolds}
+use Rattle.worm_mesh.specs.Address.{AreRadices}
 use Rattle.worm_mesh.proofs.Digits.{AreLarge-from_radices}
 use Rattle.worm_route.specs.Route.{hops_of}
 use Rattle.worm_route.specs.Places.{places_of}
@@ -30,7 +30,7 @@ machine_stands ks counts depth net lane c =
     IsMachine-of (lane_held (shape_of ks counts depth) net lane c) (delivered (shape_of ks counts depth) net lane)
     (places_of ks lane.src lane.dst)
 
-module _ (ks counts : List ℕ) (depth : ℕ) (mesh : MeshHolds ks) (net : Network) where
+module _ (ks counts : List ℕ) (depth : ℕ) (mesh : AreRadices ks) (net : Network) where
   -- its list is what the theory has delivered and under way
   items_are : (lane : Lane) (c : ℕ) → HasLane (shape_of ks counts depth) lane
       → (lane_machine ks (shape_of ks counts depth) net lane c).items ≡ delivered (shape_of ks counts depth) net lane

@@ -2,7 +2,7 @@
 use Rattle.std.proofs.Common.{ℕ, suc, ◌≡◌, ◌*◌, ◌<◌, ⊎_elim, Some, List, length, arith, ap}
 use Rattle.std.proofs.lemmas.Bool.{cases_eq}
 use Rattle.worm_flit.specs.Channels.{AreChannels}
-use Rattle.worm_mesh.specs.Address.{node_count, neighbour_of, opposite_of, IsMesh as MeshHolds}
+use Rattle.worm_mesh.specs.Address.{node_count, neighbour_of, opposite_of, AreRadices}
 use Rattle.worm_mesh.proofs.Digits.{AreLarge, AreLarge-from_radices}
 use Rattle.worm_mesh.proofs.Neighbours.{neighbour_of-some, neighbour_of-none, no_port, Joins-from, Joins-back}
 use Rattle.worm_mesh.proofs.Neighbours.{opposite_twice}
@@ -35,7 +35,7 @@ module _ (ks : List ℕ) (l : AreLarge ks) where
       ))
       (cases_eq x d)
 
-pub shape_is_mesh : (ks counts : List ℕ) (depth : ℕ) → MeshHolds ks → AreChannels counts
+pub shape_is_mesh : (ks counts : List ℕ) (depth : ℕ) → AreRadices ks → AreChannels counts
     → IsMesh (shape_of ks counts depth)
 shape_is_mesh ks counts depth mesh classes =
     let l = AreLarge-from_radices ks mesh.radices in

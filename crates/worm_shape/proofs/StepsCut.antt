@@ -1,7 +1,7 @@
 -- The networks that lists of steps lead to from the empty one: sound, their lanes cut, their packets held.
 use Rattle.std.proofs.Common.{ℕ, List}
 use Rattle.worm_flit.specs.Channels.{AreChannels}
-use Rattle.worm_mesh.specs.Address.{IsMesh as MeshHolds}
+use Rattle.worm_mesh.specs.Address.{AreRadices}
 use Rattle.worm_theory.specs.Network.{Network}
 use Rattle.worm_theory.specs.Steps.{Step, StepsLead, empty}
 use Rattle.worm_theory.specs.Sound.{Sound}
@@ -18,7 +18,7 @@ pub record IsKept (ks counts : List ℕ) (depth : ℕ) (net : Network) : Type 0 
   pub lanes : LanesCut (shape_of ks counts depth) net
   pub packets : PacketsHold (shape_of ks counts depth) net
 
-pub steps_kept : (ks counts : List ℕ) (depth : ℕ) (steps : List Step) (new : Network) → MeshHolds ks
+pub steps_kept : (ks counts : List ℕ) (depth : ℕ) (steps : List Step) (new : Network) → AreRadices ks
     → AreChannels counts → StepsLead (shape_of ks counts depth) (empty (shape_of ks counts depth)) steps new
     → IsKept ks counts depth new
 steps_kept ks counts depth steps new mesh classes lead =

@@ -13,7 +13,7 @@
 ghost use Rattle.std.specs.Prelude.{ℕ, true, ◌≡◌, ◌↔◌, List};
 ghost use Rattle.worm_flit.specs.declared.Lane.{Lane};
 ghost use Rattle.worm_flit.specs.Channels.{AreChannels, owns};
-ghost use Rattle.worm_mesh.specs.Address.{IsMesh as IsMeshOf};
+ghost use Rattle.worm_mesh.specs.Address.{AreRadices};
 ghost use Rattle.worm_route.specs.Places.{Source, Buffer, Link, IsPlaceOf};
 ghost use Rattle.worm_route.specs.LaneMachine.{IsMachine};
 ghost use Rattle.worm_route.specs.Crossing.{crosses};
@@ -30,7 +30,7 @@ ghost use Rattle.worm_shape.specs.PacketPlaces.{PacketsAreCut, OpenPacketsAreAct
 
 /// The shape of each mesh with its classes is what the theory asks for, and a class owns the channels that it is given.
 pub fn is_a_mesh()
-    ensures mesh { (ks counts : List ℕ) (depth : ℕ) → IsMeshOf ks → AreChannels counts →
+    ensures mesh { (ks counts : List ℕ) (depth : ℕ) → AreRadices ks → AreChannels counts →
         IsMesh (shape_of ks counts depth) }
     ensures owned { (ks counts : List ℕ) (depth class channel : ℕ) →
         (Owns (shape_of ks counts depth) class channel ↔ (owns counts class channel ≡ true)) }
@@ -40,20 +40,20 @@ pub fn is_a_mesh()
 /// the links that it leaves by.
 pub fn places_are_entered()
     ensures buffers { (ks counts : List ℕ) (depth : ℕ) (lane : Lane) → let s = shape_of ks counts depth in
-        IsMeshOf ks → HasLane s lane → (x p : ℕ) →
+        AreRadices ks → HasLane s lane → (x p : ℕ) →
         (Enters s lane x p ↔ IsPlaceOf ks lane.src lane.dst (Buffer x p)) }
     ensures links { (ks counts : List ℕ) (depth : ℕ) (lane : Lane) → let s = shape_of ks counts depth in
-        IsMeshOf ks → HasLane s lane → (x o : ℕ) →
+        AreRadices ks → HasLane s lane → (x o : ℕ) →
         (LeavesBy s lane x o ↔ IsPlaceOf ks lane.src lane.dst (Link x o)) }
     ensures source { (ks counts : List ℕ) (depth : ℕ) (lane : Lane) → let s = shape_of ks counts depth in
-        IsMeshOf ks → HasLane s lane →
+        AreRadices ks → HasLane s lane →
         IsPlaceOf ks lane.src lane.dst Source }
 {}
 
 /// The test whether a route crosses a link is true exactly where the theory's flits of the lane leave by that link.
 pub fn test_is_exact()
     ensures { (ks counts : List ℕ) (depth : ℕ) (lane : Lane) → let s = shape_of ks counts depth in
-        IsMeshOf ks → HasLane s lane → (x port : ℕ) →
+        AreRadices ks → HasLane s lane → (x port : ℕ) →
         ((crosses ks x port lane.src lane.dst ≡ true) ↔ LeavesBy s lane x port) }
 {}
 
@@ -63,20 +63,20 @@ pub fn lanes_move_once()
     ensures stands { (ks counts : List ℕ) (depth : ℕ) (net : Network) (lane : Lane) (c : ℕ) →
         IsMachine (lane_machine ks (shape_of ks counts depth) net lane c) }
     ensures list { (ks counts : List ℕ) (depth : ℕ) (net : Network) → let s = shape_of ks counts depth in
-        IsMeshOf ks → LanesCut s net → LanesAreCut ks s net }
-    ensures step { (ks counts : List ℕ) (depth : ℕ) → IsMeshOf ks → AreChannels counts →
+        AreRadices ks → LanesCut s net → LanesAreCut ks s net }
+    ensures step { (ks counts : List ℕ) (depth : ℕ) → AreRadices ks → AreChannels counts →
         EachMovesOne ks (shape_of ks counts depth) }
     ensures elsewhere { (ks counts : List ℕ) (depth : ℕ) (net : Network) → let s = shape_of ks counts depth in
-        IsMeshOf ks → Sound s net → LanesAreNowhereElse ks s net }
+        AreRadices ks → Sound s net → LanesAreNowhereElse ks s net }
 {}
 
 /// A packet of any class is cut by the places of its lane. Where it is open past a buffer of its route, exactly one
 /// input channel of that node is active for it, and it is at the buffer's port.
 pub fn packets_are_cut()
     ensures list { (ks counts : List ℕ) (depth : ℕ) (net : Network) → let s = shape_of ks counts depth in
-        IsMeshOf ks → AreChannels counts → Sound s net → PacketsHold s net → PacketsAreCut ks s net }
+        AreRadices ks → AreChannels counts → Sound s net → PacketsHold s net → PacketsAreCut ks s net }
     ensures one { (ks counts : List ℕ) (depth : ℕ) (net : Network) → let s = shape_of ks counts depth in
-        IsMeshOf ks → AreChannels counts → Sound s net → PacketsHold s net → OpenPacketsAreActive ks s net }
+        AreRadices ks → AreChannels counts → Sound s net → PacketsHold s net → OpenPacketsAreActive ks s net }
 {}
 
 /// Whatever list of steps the empty network of a mesh takes, each lane and each packet is cut by the places of its
@@ -84,14 +84,14 @@ pub fn packets_are_cut()
 pub fn stays_cut()
     ensures lanes { (ks counts : List ℕ) (depth : ℕ) (steps : List Step) (new : Network)
         → let s = shape_of ks counts depth in
-        IsMeshOf ks → AreChannels counts → StepsLead s (empty s) steps new → LanesAreCut ks s new }
+        AreRadices ks → AreChannels counts → StepsLead s (empty s) steps new → LanesAreCut ks s new }
     ensures packets { (ks counts : List ℕ) (depth : ℕ) (steps : List Step) (new : Network)
         → let s = shape_of ks counts depth in
-        IsMeshOf ks → AreChannels counts → StepsLead s (empty s) steps new → PacketsAreCut ks s new }
+        AreRadices ks → AreChannels counts → StepsLead s (empty s) steps new → PacketsAreCut ks s new }
     ensures one { (ks counts : List ℕ) (depth : ℕ) (steps : List Step) (new : Network)
         → let s = shape_of ks counts depth in
-        IsMeshOf ks → AreChannels counts → StepsLead s (empty s) steps new → OpenPacketsAreActive ks s new }
+        AreRadices ks → AreChannels counts → StepsLead s (empty s) steps new → OpenPacketsAreActive ks s new }
     ensures elsewhere { (ks counts : List ℕ) (depth : ℕ) (steps : List Step) (new : Network)
         → let s = shape_of ks counts depth in
-        IsMeshOf ks → AreChannels counts → StepsLead s (empty s) steps new → LanesAreNowhereElse ks s new }
+        AreRadices ks → AreChannels counts → StepsLead s (empty s) steps new → LanesAreNowhereElse ks s new }
 {}

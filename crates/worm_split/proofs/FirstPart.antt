@@ -6,7 +6,7 @@ use Rattle.std.specs.List.{count_by}
 use Rattle.worm_flit.specs.declared.Flit.{Flit}
 use Rattle.worm_flit.specs.Channels.{AreChannels}
 use Rattle.worm_flit.specs.Stamps.{on_channel}
-use Rattle.worm_mesh.specs.Address.{has_neighbour, IsMesh as IsRadices, neighbour_of, node_count}
+use Rattle.worm_mesh.specs.Address.{has_neighbour, AreRadices, neighbour_of, node_count}
 use Rattle.worm_mesh.specs.Links.{links_before, link_count}
 use Rattle.worm_mesh.specs.declared.mesh.LinkEnds.{LinkEnds}
 use Rattle.worm_mesh.proofs.Digits.{AreLarge, AreLarge-from_radices}
@@ -124,7 +124,7 @@ module _ (p : PartState) (net : IsNet p.opening) (ways : List LinkEnds) (are : A
 
   pub framed : IsFramed p.net
   framed = record {
-    radices = subst IsRadices (sym dealt.config.mesh) net.framed.radices;
+    radices = subst AreRadices (sym dealt.config.mesh) net.framed.radices;
     classes = subst AreChannels (sym dealt.config.channels) net.framed.classes;
     least_depth = rw dealt.config.depth net.framed.least_depth;
     most_depth = rw dealt.config.depth net.framed.most_depth;

@@ -2,7 +2,7 @@
 use Rattle.std.proofs.Common.{◌≡◌, ℕ, ◌*◌, ◌<◌, ◌%◌, ◌==◌, true, false, cond, inl, inr, List, [], length, sum}
 use Rattle.std.proofs.Common.{Option, Some, None, refl, arith, sym, ap, subst, ◌∙◌}
 use Rattle.std.specs.Prelude.{slice_index_or}
-use Rattle.worm_mesh.specs.Address.{has_neighbour, IsMesh as IsRadices, node_count}
+use Rattle.worm_mesh.specs.Address.{has_neighbour, AreRadices, node_count}
 use Rattle.worm_mesh.specs.Links.{links_before, link_count}
 use Rattle.worm_flit.specs.Channels.{AreChannels}
 use Rattle.worm_theory.proofs.Bridge.{same_network}
@@ -100,7 +100,7 @@ module _ (parts : List PartState) (are : AreParts parts) (kept : Kept) (gathered
       let config = gathered.apart.config in
       let frame = (first parts are each).opened.framed in
       record {
-        radices = subst IsRadices (sym config.radices) frame.radices;
+        radices = subst AreRadices (sym config.radices) frame.radices;
         classes = subst AreChannels (sym config.channels) frame.classes;
         least_depth = rw config.depth frame.least_depth;
         most_depth = rw config.depth frame.most_depth;

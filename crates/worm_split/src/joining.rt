@@ -166,7 +166,7 @@ fn gather(mut parts: Vec<Part>) -> Kept
     let Some(mut whole) = kept else {
         unreachable!()
     };
-    region.is_workable();
+    region.recall();
     whole.put_back(region, ends);
     while let Some(part) = parts.pop() {
         let Part {
@@ -176,7 +176,7 @@ fn gather(mut parts: Vec<Part>) -> Kept
             lines: _,
             kept: _,
         } = part;
-        region.is_workable();
+        region.recall();
         whole.put_back(region, ends);
     }
     whole

@@ -92,7 +92,7 @@ fn make_line<B: Opening>(
     ensures { IfOk result (λ line. AreEndsMade net.now.mesh net.now.channels net.now.depth way.from way.out_port
         (past_of (shape net.now) (network_of net.now) way.from way.out_port way.to) line.out line.into) }
 {
-    net.is_sound();
+    net.recall();
     let Ok((tx, rx)) = link_after::<B>(alloc, *cfg) else {
         return Err(AllocError);
     };
@@ -196,7 +196,7 @@ fn make_seat(
     requires room { room ≡ sum net.now.channels * net.now.depth }
     ensures { IfOk result (λ seat. IsSeat net.now lines.now.items seat) }
 {
-    net.is_sound();
+    net.recall();
     let config = net.config();
     let nodes = fresh_nodes(alloc, &config)?;
     let links = make_links(alloc, count, room)?;
@@ -237,7 +237,7 @@ pub(crate) fn make_rooms(alloc: Global, net: &Net, workers: u16) -> Result<Rooms
     requires workers { 0 < workers }
     ensures { IfOk result (λ rooms. AreRooms net.now workers rooms) }
 {
-    net.is_sound();
+    net.recall();
     let config = net.config();
     let Ok(mesh) = Mesh::new(config.radices.as_slice()) else {
         unreachable!()

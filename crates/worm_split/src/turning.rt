@@ -34,7 +34,7 @@ impl Part {
         requires { dim < length self.now.net.mesh }
         ensures { result ≡ false → stride_of self.now.net.mesh dim % self.now.net.own.workers ≡ 0 }
     {
-        self.region.is_workable();
+        self.region.recall();
         let Some(beyond) = self.region.mesh().neighbour(0, 2 * dim + 1) else {
             unreachable!()
         };
@@ -46,7 +46,7 @@ impl Part {
     fn shared_ports(&self) -> [bool; 6]
         ensures { AreShared self.now.net result }
     {
-        self.region.is_workable();
+        self.region.recall();
         let mut shared = [false; 6];
         for port in 0..self.region.terminal() {
             shared[usize::from(port)] = self.leads_away(port / 2);
@@ -65,7 +65,7 @@ impl Part {
         if !shared.get(usize::from(port)).copied().unwrap_or(true) {
             return;
         }
-        self.region.is_workable();
+        self.region.recall();
         let Some(links) = self.region.links_at(node, port) else {
             return;
         };
@@ -93,7 +93,7 @@ impl Part {
         if !shared.get(usize::from(port)).copied().unwrap_or(true) {
             return;
         }
-        self.region.is_workable();
+        self.region.recall();
         let Some(links) = self.region.links_at(node, port) else {
             return;
         };
@@ -164,7 +164,7 @@ impl Part {
         ensures sends { SendsAcross node port vc self.old self.new }
         ensures same { IsSamePart self.old self.new }
     {
-        self.region.is_workable();
+        self.region.recall();
         let Some(links) = self.region.links_at(node, out) else {
             unreachable!()
         };
@@ -181,7 +181,7 @@ impl Part {
         ensures sends { Within (Attempts (Event.Send node port vc)) self.old (result_err result) self.new }
         ensures same { IsSamePart self.old self.new }
     {
-        self.region.is_workable();
+        self.region.recall();
         tried(self.region.send_there(node, port, vc))
     }
 
@@ -189,7 +189,7 @@ impl Part {
     fn leaves(&self, node: u8, out: u8) -> bool
         ensures { IsTrue result ↔ LeavesBy self.now node out }
     {
-        self.region.is_workable();
+        self.region.recall();
         let Some(links) = self.region.links_at(node, out) else {
             return false;
         };
@@ -227,7 +227,7 @@ impl Part {
             SendsGrants grants node self.old (result_err result) self.new }
         ensures same { IsSamePart self.old self.new }
     {
-        self.region.is_workable();
+        self.region.recall();
         let mut left = granted;
         while let Some((port, vc)) = left.pop_first() {
             self.send(rt, node, port, vc)?;
@@ -245,7 +245,7 @@ impl Part {
         ensures gives { GivesAcross node port vc self.old self.new }
         ensures same { IsSamePart self.old self.new }
     {
-        self.region.is_workable();
+        self.region.recall();
         let Some(links) = self.region.links_at(node, port) else {
             unreachable!()
         };
@@ -270,7 +270,7 @@ impl Part {
     fn comes(&self, node: u8, port: u8) -> bool
         ensures { IsTrue result ↔ ComesBy self.now node port }
     {
-        self.region.is_workable();
+        self.region.recall();
         let Some(links) = self.region.links_at(node, port) else {
             return false;
         };
@@ -303,7 +303,7 @@ impl Part {
         ensures channel { IfSome result (λ vc. (vc < sum self.now.net.channels)
             × (0 < (input_at (router_at self.now.net node) port vc).owed)) }
     {
-        self.region.is_workable();
+        self.region.recall();
         self.region.owed(node, port)
     }
 
@@ -326,7 +326,7 @@ impl Part {
         ensures passes { IsTrue result → NodePasses node self.old None self.old }
         ensures same { self.new ≡ self.old }
     {
-        self.region.is_workable();
+        self.region.recall();
         self.region.rests(node)
     }
 
@@ -415,7 +415,7 @@ impl Part {
     {
         let entries = script.due(turn);
         have_words(entries);
-        self.region.is_workable();
+        self.region.recall();
         self.node_turns(rt, entries)
     }
 }

@@ -66,7 +66,7 @@ impl SwAlloc {
     }
 
     /// What holds of every allocator, for whoever has one.
-    pub fn is_sound(&self)
+    pub fn recall(&self)
         ensures { IsSwAlloc self.now.ports self.now.channels self.now.inputs self.now.outputs }
     {
         // For the proof: it opens what holds of an allocator.

@@ -30,7 +30,7 @@ fn split_and_joined<R: Wait>(rt: &R, alloc: Global, net: Net, workers: usize) ->
     match split(alloc, net, workers) {
         Ok(parts) => (join(rt, parts), false),
         Err((net, NoMemory)) => {
-            net.is_sound();
+            net.recall();
             (net, true)
         }
     }

@@ -2,7 +2,7 @@
 use Rattle.std.proofs.Common.{◌≡◌, ◌==◌, ◌⊎◌, ℕ, true, false, List, Option, Some, None, refl, arith, ap, sym, subst}
 use Rattle.std.proofs.Common.{◌∙◌}
 use Rattle.std.specs.Prelude.{option_map}
-use Rattle.worm_mesh.specs.Address.{IsMesh as IsRadices, Joins, neighbour_of, opposite_of}
+use Rattle.worm_mesh.specs.Address.{AreRadices, Joins, neighbour_of, opposite_of}
 use Rattle.worm_mesh.specs.Links.{links_before}
 use Rattle.worm_mesh.proofs.Digits.{AreLarge-from_radices}
 use Rattle.worm_mesh.proofs.Neighbours.{Joins-from, Joins-back, Joins-unique, opposite_twice}
@@ -14,7 +14,7 @@ number_cases k c = grind arith
 
 -- Each link is that of one port
 
-into_by : (mesh : List ℕ) (x o y z p : ℕ) → IsRadices mesh → neighbour_of mesh x o ≡ Some y → (n : Option ℕ)
+into_by : (mesh : List ℕ) (x o y z p : ℕ) → AreRadices mesh → neighbour_of mesh x o ≡ Some y → (n : Option ℕ)
     → neighbour_of mesh z p ≡ n → option_map (λ w. links_before mesh w (opposite_of p)) n ≡ Some (links_before mesh x o)
     → (z ≡ y) × (p ≡ opposite_of o)
 into_by mesh x o y z p radices e None beyond same = let no : ◌≡◌ {A = Option ℕ} None (Some (links_before mesh x o)) =
@@ -30,11 +30,11 @@ into_by mesh x o y z p radices e (Some w) beyond same =
     (subst (λ (v : ℕ). Joins mesh v (opposite_of p) z) both.0 back) in
     (Joins-unique mesh x o z y large joined there, sym (opposite_twice p) ∙ ap opposite_of both.1)
 
-pub in_apart : (mesh : List ℕ) (x o y z p : ℕ) → IsRadices mesh → neighbour_of mesh x o ≡ Some y
+pub in_apart : (mesh : List ℕ) (x o y z p : ℕ) → AreRadices mesh → neighbour_of mesh x o ≡ Some y
     → in_link mesh z p ≡ Some (links_before mesh x o) → (z ≡ y) × (p ≡ opposite_of o)
 in_apart mesh x o y z p radices e same = into_by mesh x o y z p radices e (neighbour_of mesh z p) refl same
 
-out_by : (mesh : List ℕ) (x p y z o : ℕ) → IsRadices mesh → neighbour_of mesh x p ≡ Some y → (n : Option ℕ)
+out_by : (mesh : List ℕ) (x p y z o : ℕ) → AreRadices mesh → neighbour_of mesh x p ≡ Some y → (n : Option ℕ)
     → neighbour_of mesh z o ≡ n → option_map (λ w. links_before mesh z o) n ≡ Some (links_before mesh y (opposite_of p))
     → (z ≡ y) × (o ≡ opposite_of p)
 out_by mesh x p y z o radices e None beyond same =
@@ -46,7 +46,7 @@ out_by mesh x p y z o radices e (Some w) beyond same =
     let equal : links_before mesh z o ≡ links_before mesh y (opposite_of p) = cc in
     one_link mesh large z o y (opposite_of p) (w, Joins-from mesh z o w large beyond) (x, back) equal
 
-pub out_apart : (mesh : List ℕ) (x p y z o : ℕ) → IsRadices mesh → neighbour_of mesh x p ≡ Some y
+pub out_apart : (mesh : List ℕ) (x p y z o : ℕ) → AreRadices mesh → neighbour_of mesh x p ≡ Some y
     → out_link mesh z o ≡ Some (links_before mesh y (opposite_of p)) → (z ≡ y) × (o ≡ opposite_of p)
 out_apart mesh x p y z o radices e same = out_by mesh x p y z o radices e (neighbour_of mesh z o) refl same
 

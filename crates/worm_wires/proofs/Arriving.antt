@@ -4,7 +4,7 @@ use Rattle.std.proofs.Common.{length, drop, get_or, set, Option, Some, None, ref
 use Rattle.std.specs.Prelude.{option_map, IsSome, is_some, not, slice_get}
 use Rattle.std.proofs.lemmas.List.{get_or_default, get_or-set_other, get_or-set_same}
 use Rattle.worm_flit.specs.declared.Flit.{Flit}
-use Rattle.worm_mesh.specs.Address.{IsMesh as IsRadices, neighbour_of, opposite_of}
+use Rattle.worm_mesh.specs.Address.{AreRadices, neighbour_of, opposite_of}
 use Rattle.worm_mesh.specs.Links.{links_before, link_count}
 use Rattle.worm_mesh.proofs.Digits.{AreLarge-from_radices}
 use Rattle.worm_mesh.proofs.Neighbours.{Joins-from, Joins-back}
@@ -173,7 +173,7 @@ knows_no_credits l kept x o bits knows x_in x_there put none =
     (λ y y_in away. knows y y_in)
 
 -- the port that is entered is a mesh port
-entered_there : (mesh : List ℕ) (x o y : ℕ) → IsRadices mesh → neighbour_of mesh x o ≡ Some y
+entered_there : (mesh : List ℕ) (x o y : ℕ) → AreRadices mesh → neighbour_of mesh x o ≡ Some y
     → opposite_of o < 2 * length mesh
 entered_there mesh x o y radices e = (Joins-back mesh x o y
     (Joins-from mesh x o y (AreLarge-from_radices mesh radices.radices) e)).mesh_port
@@ -181,7 +181,7 @@ entered_there mesh x o y radices e = (Joins-back mesh x o y
 -- A flit goes onto the link that leads from the port o of x into the port p of y; and a credit onto that out of it
 
 pub knows_push : (l : LinksView) (kept : List Arrivals) (x o y bits : ℕ) (new : LinkView) → KnowsAll l kept
-    → IsRadices l.mesh → neighbour_of l.mesh x o ≡ Some y → y < 256 → y < length kept
+    → AreRadices l.mesh → neighbour_of l.mesh x o ≡ Some y → y < 256 → y < length kept
     → links_before l.mesh x o < length l.states
     → new.credits ≡ (state_at l (links_before l.mesh x o)).credits
     → IsPut (get_or kept y no_arrivals).flits bits (opposite_of o) true
@@ -211,7 +211,7 @@ knows_push l kept x o y bits new knows radices e y_in y_there k_there same put =
     })
 
 pub knows_push_credit : (l : LinksView) (kept : List Arrivals) (x p y bits : ℕ) (new : LinkView) → KnowsAll l kept
-    → IsRadices l.mesh → neighbour_of l.mesh x p ≡ Some y → y < 256 → y < length kept
+    → AreRadices l.mesh → neighbour_of l.mesh x p ≡ Some y → y < 256 → y < length kept
     → links_before l.mesh y (opposite_of p) < length l.states
     → new.flits ≡ (state_at l (links_before l.mesh y (opposite_of p))).flits
     → IsPut (get_or kept y no_arrivals).credits bits (opposite_of p) true
@@ -384,7 +384,7 @@ forgets_credits l kept x o i j bits d knows all x_in at_i at_j put none =
 pub pushes : (mesh : List ℕ) (states : List LinkView) (now : LinksView) (kept : List Arrivals) (x o m i j bits : ℕ)
     (links : PortLinks) (d : Arrivals) (read new : LinkView) (flits : List Flit)
     → KnowsAll (record { mesh = mesh; states = states }) kept → length kept ≡ 256
-    → record { mesh = mesh; states = states } ≡ now → IsRadices mesh
+    → record { mesh = mesh; states = states } ≡ now → AreRadices mesh
     → links.beyond < 256 → i ≡ links.beyond → j ≡ links.beyond → m ≡ links.out
     → ◌≡◌ {A = Option PortLinks} (Some links) (port_links mesh x o) → length now.states ≡ link_count now.mesh
     → read ≡ get_or states m read
@@ -420,7 +420,7 @@ pushes mesh states now kept x o m i j bits links d read new flits knows all same
 pub pushes_credit : (mesh : List ℕ) (states : List LinkView) (now : LinksView) (kept : List Arrivals)
     (x p m i j bits : ℕ) (links : PortLinks) (d : Arrivals) (read new : LinkView) (credits : List ℕ)
     → KnowsAll (record { mesh = mesh; states = states }) kept → length kept ≡ 256
-    → record { mesh = mesh; states = states } ≡ now → IsRadices now.mesh
+    → record { mesh = mesh; states = states } ≡ now → AreRadices now.mesh
     → links.beyond < 256 → i ≡ links.beyond → j ≡ links.beyond → m ≡ links.into
     → ◌≡◌ {A = Option PortLinks} (Some links) (port_links now.mesh x p) → length now.states ≡ link_count now.mesh
     → read ≡ get_or states m read
@@ -430,7 +430,7 @@ pub pushes_credit : (mesh : List ℕ) (states : List LinkView) (now : LinksView)
 pushes_credit mesh states now kept x p m i j bits links d read new credits knows all same radices_now y_in at_i at_j
     at_m linked_now full reads news put =
     let y = links.beyond in
-    let radices : IsRadices mesh = subst (λ (v : LinksView). IsRadices v.mesh) (sym same) radices_now in
+    let radices : AreRadices mesh = subst (λ (v : LinksView). AreRadices v.mesh) (sym same) radices_now in
     let linked : ◌≡◌ {A = Option PortLinks} (Some links) (port_links mesh x p) =
     subst (λ (v : LinksView). ◌≡◌ {A = Option PortLinks} (Some links) (port_links v.mesh x p))
     (sym same) linked_now in

@@ -4,7 +4,7 @@ use Rattle.std.proofs.Common.{true, false}
 use Rattle.std.proofs.Common.{Option, Some, None, IsSome, arith, refl, ap, sym, ◌∙◌}
 use Rattle.std.proofs.Math.Nat.{div-add-mod, zero-div, zero-mod}
 use Rattle.std.proofs.lemmas.Nat.{mul-le}
-use Rattle.worm_mesh.specs.Address.{IsMesh as IsRadices, digit_of, has_neighbour, neighbour_of, node_count, stride_of}
+use Rattle.worm_mesh.specs.Address.{AreRadices, digit_of, has_neighbour, neighbour_of, node_count, stride_of}
 use Rattle.worm_mesh.proofs.Digits.{AreLarge, AreLarge-from_radices, digit_of_is}
 use Rattle.worm_mesh.proofs.Neighbours.{IsLink-from_test, down, has_up, neighbour_of-none, neighbour_of-some, up}
 use Rattle.worm_wires.specs.Wiring.{AreStrides}
@@ -22,7 +22,7 @@ no_digit : (ks : List ℕ) (d : ℕ) → d < length ks → digit_of ks 0 d ≡ 0
 no_digit ks d h = digit_of_is ks 0 d h ∙ rw (zero-div (stride_of ks d), zero-mod (get_or ks d 0)) refl
 
 -- node 0 has a neighbour on the plus side of each dimension, as far as one step
-pub step_from_zero : (ks : List ℕ) (d port : ℕ) → IsRadices ks → d < length ks → port ≡ 2 * d + 1
+pub step_from_zero : (ks : List ℕ) (d port : ℕ) → AreRadices ks → d < length ks → port ≡ 2 * d + 1
     → neighbour_of ks 0 port ≡ Some (stride_of ks d)
 step_from_zero ks d port radices h same =
     let large = AreLarge-from_radices ks radices.radices in
@@ -44,14 +44,14 @@ neighbour_there ks x port some = by_test (has_neighbour ks x port) refl
     by_test false t = let none : neighbour_of ks x port ≡ None = neighbour_of-none ks x port t in absurd (cc)
 
 -- the neighbour on the minus side is a step below, on the plus side a step above
-pub step_down : (ks : List ℕ) (x port : ℕ) → IsRadices ks → IsSome (neighbour_of ks x port) → port % 2 ≡ 0
+pub step_down : (ks : List ℕ) (x port : ℕ) → AreRadices ks → IsSome (neighbour_of ks x port) → port % 2 ≡ 0
     → (stride_of ks (port / 2) ≤ x) × (neighbour_of ks x port ≡ Some (x - stride_of ks (port / 2)))
 step_down ks x port radices some even =
     let large = AreLarge-from_radices ks radices.radices in
     let joins = down ks x port large (neighbour_there ks x port some) even in
     (joins.0, neighbour_of-some ks x port (x - stride_of ks (port / 2)) large joins.1)
 
-pub step_up : (ks : List ℕ) (x port : ℕ) → IsRadices ks → IsSome (neighbour_of ks x port) → port % 2 ≡ 1
+pub step_up : (ks : List ℕ) (x port : ℕ) → AreRadices ks → IsSome (neighbour_of ks x port) → port % 2 ≡ 1
     → (x + stride_of ks (port / 2) < 256) × (neighbour_of ks x port ≡ Some (x + stride_of ks (port / 2)))
 step_up ks x port radices some odd =
     let large = AreLarge-from_radices ks radices.radices in
@@ -61,7 +61,7 @@ step_up ks x port radices some odd =
     )
 
 -- what is kept of the dimension of a port that has a neighbour
-pub step_kept : (ks now strides : List ℕ) (x port i : ℕ) → AreStrides ks strides → ks ≡ now → IsRadices now
+pub step_kept : (ks now strides : List ℕ) (x port i : ℕ) → AreStrides ks strides → ks ≡ now → AreRadices now
     → IsSome (neighbour_of now x port) → i ≡ port / 2
     → get_or strides i 0 ≡ stride_of now (port / 2)
 step_kept ks now strides x port i kept same radices some at =

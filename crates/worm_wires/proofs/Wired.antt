@@ -3,7 +3,7 @@ use Rattle.std.proofs.Common.{◌≡◌, ℕ, ◌*◌, ◌+◌, ◌<◌, ◌≤�
 use Rattle.std.proofs.Common.{subst, ◌∙◌, get_or, set, below_more, get_or-set_other, get_or-set_same}
 use Rattle.std.specs.Prelude.{IfSome, IsSome, option_map}
 use Rattle.std.specs.Option.{SomeIff}
-use Rattle.worm_mesh.specs.Address.{IsMesh as IsRadices, neighbour_of, node_count, opposite_of}
+use Rattle.worm_mesh.specs.Address.{AreRadices, neighbour_of, node_count, opposite_of}
 use Rattle.worm_mesh.specs.Links.{IsLink, degree_of, links_before, link_count}
 use Rattle.worm_mesh.proofs.Digits.{AreLarge-from_radices}
 use Rattle.worm_mesh.proofs.Neighbours.{Joins-from, Joins-back, neighbour_of-some, neighbour_of-none, no_port}
@@ -13,7 +13,7 @@ use Rattle.worm_wires.specs.Wiring.{port_links}
 use Rattle.worm_wires.specs.declared.wiring.NodeLinks.{NodeLinks}
 use Rattle.worm_wires.specs.declared.wiring.PortLinks.{PortLinks}
 
-out_by : (mesh : List ℕ) (x p : ℕ) → IsRadices mesh → (n r : Option ℕ) → neighbour_of mesh x p ≡ n
+out_by : (mesh : List ℕ) (x p : ℕ) → AreRadices mesh → (n r : Option ℕ) → neighbour_of mesh x p ≡ n
     → SomeIff r (IsLink mesh x p) (links_before mesh x p) → r ≡ option_map (λ y. links_before mesh x p) n
 out_by mesh x p radices None None e has = refl
 out_by mesh x p radices None (Some k) e has =
@@ -25,7 +25,7 @@ out_by mesh x p radices (Some y) None e has =
     absurd (has (y, Joins-from mesh x p y large e))
 out_by mesh x p radices (Some y) (Some k) e has = ap (λ (i : ℕ). Some i) has.1
 
-pub out_numbered : (mesh : List ℕ) (x p : ℕ) → IsRadices mesh → (r : Option ℕ)
+pub out_numbered : (mesh : List ℕ) (x p : ℕ) → AreRadices mesh → (r : Option ℕ)
     → SomeIff r (IsLink mesh x p) (links_before mesh x p) → r ≡ out_link mesh x p
 out_numbered mesh x p radices r has = out_by mesh x p radices (neighbour_of mesh x p) r refl has
 
@@ -66,12 +66,12 @@ there_kept : (mesh : List ℕ) (x p y : ℕ) → neighbour_of mesh x p ≡ Some 
 there_kept mesh x p y e = ap (λ (n : Option ℕ). kept_number (option_map (λ z. links_before mesh x p) n)) e
 
 -- of one without a neighbour it is none's
-few_links : (mesh : List ℕ) → IsRadices mesh → link_count mesh ≤ 1536
+few_links : (mesh : List ℕ) → AreRadices mesh → link_count mesh ≤ 1536
 few_links mesh radices =
     let each : (x : ℕ) → degree_of mesh x ≤ 6 = λ x. omega (arith, degree_of-le mesh x, radices.few_dims) in
     omega (arith, sum_below-le (degree_of mesh) 6 (node_count mesh) each, radices.few_nodes)
 
-none_by : (mesh : List ℕ) (x p : ℕ) → IsRadices mesh → (n : Option ℕ) → neighbour_of mesh x p ≡ n
+none_by : (mesh : List ℕ) (x p : ℕ) → AreRadices mesh → (n : Option ℕ) → neighbour_of mesh x p ≡ n
     → kept_number (out_link mesh x p) ≡ 65535 → n ≡ None
 none_by mesh x p radices None e kept = refl
 none_by mesh x p radices (Some y) e kept =
@@ -79,7 +79,7 @@ none_by mesh x p radices (Some y) e kept =
     let below = below_count mesh large x p (y, Joins-from mesh x p y large e) in
     absurd (omega (arith, below, few_links mesh radices, there_kept mesh x p y e, kept))
 
-pub none_kept : (mesh : List ℕ) (x p : ℕ) → IsRadices mesh → kept_number (out_link mesh x p) ≡ 65535
+pub none_kept : (mesh : List ℕ) (x p : ℕ) → AreRadices mesh → kept_number (out_link mesh x p) ≡ 65535
     → neighbour_of mesh x p ≡ None
 none_kept mesh x p radices kept = none_by mesh x p radices (neighbour_of mesh x p) refl kept
 
@@ -94,7 +94,7 @@ pub some_kept : (mesh : List ℕ) (x p : ℕ) → (kept_number (out_link mesh x 
 some_kept mesh x p kept = some_by mesh x p (neighbour_of mesh x p) refl kept
 
 -- the links of a port put together of their parts
-pub joined : (mesh : List ℕ) (x p y k j : ℕ) → IsRadices mesh → Some y ≡ neighbour_of mesh x p
+pub joined : (mesh : List ℕ) (x p y k j : ℕ) → AreRadices mesh → Some y ≡ neighbour_of mesh x p
     → k ≡ kept_number (out_link mesh x p) → j ≡ kept_number (out_link mesh y (opposite_of p))
     → ◌≡◌ {A = Option PortLinks} (Some (record { beyond = y; entered = opposite_of p; out = k; into = j }))
     (port_links mesh x p)
@@ -192,7 +192,7 @@ pub numbers : (mesh : List ℕ) (x p : ℕ)
 numbers mesh x p = numbers_by mesh x p (neighbour_of mesh x p)
 
 -- each number is a link's
-bound_by : (mesh : List ℕ) (x p : ℕ) → IsRadices mesh → (n : Option ℕ) → neighbour_of mesh x p ≡ n
+bound_by : (mesh : List ℕ) (x p : ℕ) → AreRadices mesh → (n : Option ℕ) → neighbour_of mesh x p ≡ n
     → IfSome {T = PortLinks} (option_map (λ y. record {
       beyond = y;
       entered = opposite_of p;
@@ -206,13 +206,13 @@ bound_by mesh x p radices (Some y) e =
     let joins = Joins-from mesh x p y large e in
     (below_count mesh large x p (y, joins), below_count mesh large y (opposite_of p) (x, Joins-back mesh x p y joins))
 
-pub ports_bound : (mesh : List ℕ) (x p : ℕ) → IsRadices mesh
+pub ports_bound : (mesh : List ℕ) (x p : ℕ) → AreRadices mesh
     → IfSome {T = PortLinks} (port_links mesh x p)
     (λ links. (links.out < link_count mesh) × (links.into < link_count mesh))
 ports_bound mesh x p radices = bound_by mesh x p radices (neighbour_of mesh x p) refl
 
 -- and each port entered a mesh port
-entered_by : (mesh : List ℕ) (x p : ℕ) → p < 6 → IsRadices mesh → (n : Option ℕ) → neighbour_of mesh x p ≡ n
+entered_by : (mesh : List ℕ) (x p : ℕ) → p < 6 → AreRadices mesh → (n : Option ℕ) → neighbour_of mesh x p ≡ n
     → IfSome {T = PortLinks} (option_map (λ y. record {
       beyond = y;
       entered = opposite_of p;
@@ -225,19 +225,19 @@ entered_by mesh x p p_in radices (Some y) e =
     let joins = Joins-from mesh x p y (AreLarge-from_radices mesh radices.radices) e in
     (p_in, omega (arith, joins.mesh_port, radices.few_dims))
 
-pub ports_entered : (mesh : List ℕ) (x p : ℕ) → p < 6 → IsRadices mesh
+pub ports_entered : (mesh : List ℕ) (x p : ℕ) → p < 6 → AreRadices mesh
     → IfSome {T = PortLinks} (port_links mesh x p) (λ links. (p < 6) × (links.entered < 6))
 ports_entered mesh x p p_in radices = entered_by mesh x p p_in radices (neighbour_of mesh x p) refl
 
 -- the same of links that are there
-pub ports_within : (mesh : List ℕ) (x p : ℕ) (links : PortLinks) → IsRadices mesh
+pub ports_within : (mesh : List ℕ) (x p : ℕ) (links : PortLinks) → AreRadices mesh
     → ◌≡◌ {A = Option PortLinks} (Some links) (port_links mesh x p)
     → (links.out < link_count mesh) × (links.into < link_count mesh)
 ports_within mesh x p links radices e =
     subst (λ (o : Option PortLinks). IfSome o (λ l. (l.out < link_count mesh) × (l.into < link_count mesh))) (sym e)
     (ports_bound mesh x p radices)
 
-pub entered_within : (mesh : List ℕ) (x p : ℕ) (links : PortLinks) → IsRadices mesh
+pub entered_within : (mesh : List ℕ) (x p : ℕ) (links : PortLinks) → AreRadices mesh
     → ◌≡◌ {A = Option PortLinks} (Some links) (port_links mesh x p) → links.entered < 6
 entered_within mesh x p links radices e =
     let these = parts mesh x p links e in
@@ -246,11 +246,11 @@ entered_within mesh x p links radices e =
     omega (arith, joins.mesh_port, radices.few_dims)
 
 -- a port with a neighbour is a mesh port
-there_by : (mesh : List ℕ) (x p : ℕ) → IsRadices mesh → (n : Option ℕ) → neighbour_of mesh x p ≡ n → IsSome n → p < 6
+there_by : (mesh : List ℕ) (x p : ℕ) → AreRadices mesh → (n : Option ℕ) → neighbour_of mesh x p ≡ n → IsSome n → p < 6
 there_by mesh x p radices None e some = absurd (cc)
 there_by mesh x p radices (Some y) e some =
     let joins = Joins-from mesh x p y (AreLarge-from_radices mesh radices.radices) e in
     omega (arith, joins.mesh_port, radices.few_dims)
 
-pub port_there : (mesh : List ℕ) (x p : ℕ) → IsRadices mesh → IsSome (neighbour_of mesh x p) → p < 6
+pub port_there : (mesh : List ℕ) (x p : ℕ) → AreRadices mesh → IsSome (neighbour_of mesh x p) → p < 6
 port_there mesh x p radices some = there_by mesh x p radices (neighbour_of mesh x p) refl some

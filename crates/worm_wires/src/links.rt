@@ -3,7 +3,7 @@
 
 ghost use Rattle.std.specs.Prelude.{◌≡◌, ◌<◌, ◌≤◌, ◌*◌, ◌↔◌, ◌++◌, ◌∷◌, [], ℕ, IfNone, IfSome, IsSome, IsTrue};
 ghost use Rattle.std.specs.Prelude.{Option, Some, false, true, drop, length};
-ghost use Rattle.worm_mesh.specs.Address.{IsMesh as IsRadices, neighbour_of};
+ghost use Rattle.worm_mesh.specs.Address.{AreRadices, neighbour_of};
 ghost use Rattle.worm_mesh.specs.Links.{link_count};
 ghost use Rattle.worm_wires.specs.Arrivals.{KnowsArrivals, LinksView, credits_of, credits_to, flits_of, flits_to};
 ghost use Rattle.worm_wires.specs.Arrivals.{number_into, number_out, state_at, with_state};
@@ -90,7 +90,7 @@ fn arrivals_of(wiring: &Wiring, states: &[LinkState], node: u8) -> Arrivals
 impl Links {
     /// The links of the mesh, in these states by number.
     pub fn new(mesh: Mesh, states: Vec<LinkState>) -> Links
-        requires { IsRadices mesh }
+        requires { AreRadices mesh }
         ensures { result ≡ record { mesh = mesh; states = states.items } }
     {
         let wiring = Wiring::new(mesh);
@@ -196,7 +196,7 @@ impl Links {
     pub fn links_at(&self, node: u8, port: u8) -> Option<PortLinks>
         ensures there { IsSome result ↔ IsSome (neighbour_of self.now.mesh node port) }
         ensures value { result ≡ port_links self.now.mesh node port }
-        ensures mesh { IsRadices self.now.mesh }
+        ensures mesh { AreRadices self.now.mesh }
     {
         self.wiring.links_at(node, port)
     }
@@ -289,7 +289,7 @@ impl Links {
 
     /// Puts a credit of the channel at the end of the credits of the link into this port, whose links are these.
     pub fn push_credit(&mut self, node: u8, port: u8, links: PortLinks, vc: u8)
-        requires mesh { IsRadices self.old.mesh }
+        requires mesh { AreRadices self.old.mesh }
         requires ports { Some links ≡ port_links self.old.mesh node port }
         requires links { length self.old.states ≡ link_count self.old.mesh }
         requires room { length (state_at self.old (number_into self.old node port)).credits

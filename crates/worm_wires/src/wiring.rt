@@ -1,7 +1,7 @@
 //! A mesh with the numbers of its links kept by node and port, so that no step searches for a link.
 
 ghost use Rattle.std.specs.Prelude.{◌≡◌, ◌<◌, ◌≤◌, ◌*◌, ℕ, IfSome, IsSome, Some, length};
-ghost use Rattle.worm_mesh.specs.Address.{IsMesh as IsRadices, neighbour_of, node_count, stride_of};
+ghost use Rattle.worm_mesh.specs.Address.{AreRadices, neighbour_of, node_count, stride_of};
 ghost use Rattle.worm_mesh.specs.Links.{link_count, links_before};
 ghost use Rattle.worm_wires.specs.Wiring.{AreLinksOf, AreStrides, in_link, into_from, kept_number, out_link};
 ghost use Rattle.worm_wires.specs.Wiring.{port_links};
@@ -61,7 +61,7 @@ impl Model for Wiring {
 
 /// The number that is kept of the link out of this port.
 fn number_out(mesh: &Mesh, node: u8, port: u8) -> u16
-    requires { IsRadices mesh.now }
+    requires { AreRadices mesh.now }
     ensures { result ≡ kept_number (out_link mesh.now node port) }
 {
     match mesh.link_number(node, port) {
@@ -72,7 +72,7 @@ fn number_out(mesh: &Mesh, node: u8, port: u8) -> u16
 
 /// The links of a node; none of a node that is not there.
 fn links_of(mesh: &Mesh, node: u8) -> NodeLinks
-    requires { IsRadices mesh.now }
+    requires { AreRadices mesh.now }
     ensures { AreLinksOf mesh.now node result }
 {
     let mut outs = [NO_LINK; 6];
@@ -109,7 +109,7 @@ fn strides(mesh: &Mesh) -> [u8; 3]
 impl Wiring {
     /// The mesh with its links' numbers.
     pub fn new(mesh: Mesh) -> Wiring
-        requires { IsRadices mesh }
+        requires { AreRadices mesh }
         ensures { result ≡ mesh }
     {
         let mut nodes = [NodeLinks { outs: [NO_LINK; 6] }; 256];
@@ -155,7 +155,7 @@ impl Wiring {
     fn kept(&self, node: u8, port: u8) -> u16
         requires { port < 6 }
         ensures value { result ≡ kept_number (out_link self.now node port) }
-        ensures mesh { IsRadices self.now }
+        ensures mesh { AreRadices self.now }
     {
         // For the proof: a mesh has radices within their limits.
         let _nodes = self.mesh.nodes();
@@ -199,7 +199,7 @@ impl Wiring {
     /// The links of this port of the node, if there is a neighbour.
     pub fn links_at(&self, node: u8, port: u8) -> Option<PortLinks>
         ensures value { result ≡ port_links self.now node port }
-        ensures mesh { IsRadices self.now }
+        ensures mesh { AreRadices self.now }
 
         // The numbers again, by themselves.
         ensures out { IfSome result (λ links. links.out ≡ links_before self.now node port) }
@@ -224,7 +224,7 @@ impl Wiring {
     pub fn links_beyond(&self, node: u8, port: u8) -> PortLinks
         requires { IsSome (neighbour_of self.now node port) }
         ensures value { Some result ≡ port_links self.now node port }
-        ensures mesh { IsRadices self.now }
+        ensures mesh { AreRadices self.now }
         ensures bound { result.out < link_count self.now }
         ensures entered { result.entered < 6 }
     {

@@ -1,7 +1,7 @@
 -- A configuration that a network text says is one that a network is made of.
 use Rattle.std.proofs.Common.{inl, inr, ◌≡◌, ◌*◌, ℕ, List, [], ◌∷◌, length, fold, sym, ◌∙◌, arith}
 use Rattle.std.proofs.Math.Nat.{mul_assoc, mul-one, one-mul}
-use Rattle.worm_mesh.specs.Address.{IsMesh, node_count}
+use Rattle.worm_mesh.specs.Address.{AreRadices, node_count}
 use Rattle.worm_mesh.specs.Faults.{IsFault}
 use Rattle.worm_mesh.specs.declared.mesh.MeshFault.{MeshFault}
 use Rattle.worm_mesh.specs.declared.mesh.MeshFault.TheVariants.{Radix, Dims, TooManyNodes}
@@ -38,7 +38,7 @@ kept_config format n names all kept = record {
 }
 
 -- a mesh that is one is not refused
-pub not_fault : (radices : List ℕ) (fault : MeshFault) → IsMesh radices → IsFault radices fault → ⊥
+pub not_fault : (radices : List ℕ) (fault : MeshFault) → AreRadices radices → IsFault radices fault → ⊥
 not_fault radices Radix mesh broken = broken mesh.radices
 not_fault radices Dims mesh broken = elim broken.1 [
   | inl none ↦ let some = mesh.some_dims in omega arith

@@ -2,7 +2,7 @@
 //! comes onto a link.
 
 ghost use Rattle.std.specs.Prelude.{◌≡◌, ◌<◌, IsSome, Some, length};
-ghost use Rattle.worm_mesh.specs.Address.{IsMesh as IsRadices, neighbour_of};
+ghost use Rattle.worm_mesh.specs.Address.{AreRadices, neighbour_of};
 ghost use Rattle.worm_mesh.specs.Links.{link_count};
 ghost use Rattle.worm_router.specs.Router.{after_send, leaving};
 ghost use Rattle.worm_region.specs.State.{IsNetPlace, link_at, router_at, with_router};
@@ -28,7 +28,7 @@ impl Fabric {
 
     /// The credit of the channel comes onto the link into this port, on its way back.
     pub(crate) fn arrive_credit(&mut self, node: u8, port: u8, links: PortLinks, vc: u8)
-        requires mesh { IsRadices self.old.mesh }
+        requires mesh { AreRadices self.old.mesh }
         requires ports { Some links ≡ port_links self.old.mesh node port }
         requires links { length self.old.links ≡ link_count self.old.mesh }
         requires room { length (link_at self.old (link_into self.old node port)).credits <

@@ -3,7 +3,7 @@
 
 ghost use Rattle.std.specs.Prelude.{◌≡◌, length};
 ghost use Rattle.worm_flit.specs.Channels.{AreChannels};
-ghost use Rattle.worm_mesh.specs.Address.{IsMesh as IsRadices};
+ghost use Rattle.worm_mesh.specs.Address.{AreRadices};
 ghost use Rattle.worm_region.specs.Parts.{IsConfigOf, part_state};
 ghost use Rattle.worm_region.specs.UnderWay.{HaveClasses};
 
@@ -78,7 +78,7 @@ impl Fabric {
 
     /// The fabric of these parts, whose configuration is within its limits, with these nodes owned.
     pub(crate) fn from_parts(parts: NetParts, own: Own) -> Fabric
-        requires radices { IsRadices parts.config.radices.items }
+        requires radices { AreRadices parts.config.radices.items }
         requires channels { AreChannels parts.config.channels.items }
         requires nodes { HaveClasses (length parts.config.channels.items) parts.nodes.items }
         ensures { result ≡ part_state parts own }

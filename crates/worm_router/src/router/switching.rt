@@ -66,7 +66,7 @@ impl Router {
         ensures sound { IsSwAlloc self.now.switch_alloc.ports self.now.switch_alloc.channels
             self.now.switch_alloc.inputs self.now.switch_alloc.outputs }
     {
-        self.switch_alloc.is_sound();
+        self.switch_alloc.recall();
         let mut left = *ready;
         while let Some(port) = left.pop_port() {
             self.name_port(port, ready, asked);
@@ -81,7 +81,7 @@ impl Router {
         ensures after { self.new ≡ after_choose self.old }
         ensures matching { IsSwitchMatching self.old.switch_alloc (ready_outs self.old) result }
     {
-        self.switch_alloc.is_sound();
+        self.switch_alloc.recall();
         let request = self.named_by(port, ready);
         self.switch_alloc.grant_sole(port, request)
     }

@@ -15,7 +15,7 @@ loop-part-init c =
     let apart : IsApart i.opening.value c.in-Some-kept.whole = subst (λ
     (o : Option Kept). IsKept i.opening.value i.region.own o) c.in-Some-kept.is c.last.invariant.1 in
     gather_first c.args.parts.items c.requires c.pop.new.self.items p popped c.last.invariant.0
-    c.is_workable.ensures.framed c.in-Some-kept.whole
+    c.recall.ensures.framed c.in-Some-kept.whole
     c.put_back.new.self apart did.config did.ways did.nodes did.links did.ends
 
 pub put_back-requires-in-Some-pop-clause-nodes : goal.put_back-requires-in-Some-pop-clause-nodes
@@ -28,7 +28,7 @@ put_back-requires-in-Some-pop-clause-nodes c =
     ∙ ap (λ (q : PartState). rest ++ q ∷ []) (sym c.part.view_is) in
     (lengths_step c.args.parts.items c.requires s.parts.items rest s.invariant.done p s.invariant.all popped
     c.part.invariant.0
-    c.is_workable-in-Some-pop.ensures.framed s.whole s.invariant.gathered.apart).0
+    c.recall-in-Some-pop.ensures.framed s.whole s.invariant.gathered.apart).0
 
 pub put_back-requires-in-Some-pop-clause-few : goal.put_back-requires-in-Some-pop-clause-few
 put_back-requires-in-Some-pop-clause-few c =
@@ -40,7 +40,7 @@ put_back-requires-in-Some-pop-clause-few c =
     ∙ ap (λ (q : PartState). rest ++ q ∷ []) (sym c.part.view_is) in
     (lengths_step c.args.parts.items c.requires s.parts.items rest s.invariant.done p s.invariant.all popped
     c.part.invariant.0
-    c.is_workable-in-Some-pop.ensures.framed s.whole s.invariant.gathered.apart).3
+    c.recall-in-Some-pop.ensures.framed s.whole s.invariant.gathered.apart).3
 
 pub put_back-requires-in-Some-pop-clause-links : goal.put_back-requires-in-Some-pop-clause-links
 put_back-requires-in-Some-pop-clause-links c =
@@ -52,7 +52,7 @@ put_back-requires-in-Some-pop-clause-links c =
     ∙ ap (λ (q : PartState). rest ++ q ∷ []) (sym c.part.view_is) in
     (lengths_step c.args.parts.items c.requires s.parts.items rest s.invariant.done p s.invariant.all popped
     c.part.invariant.0
-    c.is_workable-in-Some-pop.ensures.framed s.whole s.invariant.gathered.apart).1
+    c.recall-in-Some-pop.ensures.framed s.whole s.invariant.gathered.apart).1
 
 pub put_back-requires-in-Some-pop-clause-ends : goal.put_back-requires-in-Some-pop-clause-ends
 put_back-requires-in-Some-pop-clause-ends c =
@@ -64,7 +64,7 @@ put_back-requires-in-Some-pop-clause-ends c =
     ∙ ap (λ (q : PartState). rest ++ q ∷ []) (sym c.part.view_is) in
     (lengths_step c.args.parts.items c.requires s.parts.items rest s.invariant.done p s.invariant.all popped
     c.part.invariant.0
-    c.is_workable-in-Some-pop.ensures.framed s.whole s.invariant.gathered.apart).2
+    c.recall-in-Some-pop.ensures.framed s.whole s.invariant.gathered.apart).2
 
 pub loop-part-preserved : goal.loop-part-preserved
 loop-part-preserved c =
@@ -77,7 +77,7 @@ loop-part-preserved c =
     let did = c.put_back-in-Some-pop.ensures in
     gather_step c.args.parts.items c.requires s.parts.items rest s.invariant.done p s.invariant.all popped
     c.part.invariant.0
-    c.is_workable-in-Some-pop.ensures.framed s.whole c.put_back-in-Some-pop.new.self s.invariant.gathered did.config
+    c.recall-in-Some-pop.ensures.framed s.whole c.put_back-in-Some-pop.new.self s.invariant.gathered did.config
     did.ways did.nodes did.links did.ends
 
 pub loop-part-preserved-in-Some-pop : goal.loop-part-preserved-in-Some-pop
@@ -91,5 +91,5 @@ loop-part-preserved-in-Some-pop c =
     let did = c.put_back-in-Some-pop.ensures in
     gather_step c.args.parts.items c.requires s.parts.items rest s.invariant.done p s.invariant.all popped
     c.part.invariant.0
-    c.is_workable-in-Some-pop.ensures.framed s.whole c.put_back-in-Some-pop.new.self s.invariant.gathered did.config
+    c.recall-in-Some-pop.ensures.framed s.whole c.put_back-in-Some-pop.new.self s.invariant.gathered did.config
     did.ways did.nodes did.links did.ends

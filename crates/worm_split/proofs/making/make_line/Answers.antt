@@ -13,7 +13,7 @@ pub link_after-requires-clause-past : goal.link_after-requires-clause-past
 link_after-requires-clause-past g c = λ v.
     let net = c.args.net.now in
     let way = c.args.way in
-    let sound = c.is_sound.ensures.sound in
+    let sound = c.recall.ensures.sound in
     subst (λ (past : List Flit). IsWorm (on_channel v past)) (sym c.requires.past)
     (past_worms (shape net) (framed_mesh net sound.framed) (network_of net)
     (net_holds net sound) way.from way.out_port way.to

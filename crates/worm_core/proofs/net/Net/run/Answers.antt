@@ -16,7 +16,7 @@ returns-clause-pointers c =
 
 pub returns-clause-marks : goal.returns-clause-marks
 returns-clause-marks c =
-    nothing_follows c.args.self.now c.take_steps-so_far.new.self c.is_sound.ensures.sound
+    nothing_follows c.args.self.now c.take_steps-so_far.new.self c.recall.ensures.sound
     (map event_of (take c.take_steps-so_far.result.done c.args.steps.now))
     (run_of c.args.self.now c.take_steps-so_far.new.self c.args.steps.now c.take_steps-so_far.result.done
     c.take_steps-so_far.ensures.answered).led

@@ -3,5 +3,5 @@ use Rattle.worm_core.proofs.net.Net.turn.Goals as goal
 
 pub returns-clause-marks : goal.returns-clause-marks
 returns-clause-marks c =
-    nothing_follows c.args.self.now c.all_turns-result.new.self c.is_sound.ensures.sound
+    nothing_follows c.args.self.now c.all_turns-result.new.self c.recall.ensures.sound
     c.all_turns-result.ensures.reaches.steps c.all_turns-result.ensures.reaches.led

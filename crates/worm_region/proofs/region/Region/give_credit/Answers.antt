@@ -11,7 +11,7 @@ returns-clause-given c = λ lowest.
 pub returns-clause-others : goal.returns-clause-others
 returns-clause-others c =
     give_elsewhere c.args.self.now c.give_owed-moved.new.self c.args.node c.args.port c.args.vc
-    c.give_owed-moved.result c.is_workable.ensures c.give_owed-moved.ensures
+    c.give_owed-moved.result c.recall.ensures c.give_owed-moved.ensures
 
 pub give_owed-moved-requires-clause-within : goal.give_owed-moved-requires-clause-within
 give_owed-moved-requires-clause-within c = all_within c.args.self.now c.args.node c.args.port c.requires.whole

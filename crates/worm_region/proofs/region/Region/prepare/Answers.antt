@@ -12,8 +12,8 @@ returns-then-sends_nothing-clause-prepares c = rw c.new.ensures (record {
   comes = c.come_in.ensures.does.exact;
   chooses = subst (λ (s : NetState). Chooses c.args.node 0 s c.allocate.new.self) c.allocate.ensures.after
       (c.sends_nothing.ensures c.if-sends_nothing.true);
-  workable = c.is_workable.ensures;
-  still_workable = subst IsWorkable c.allocate.ensures.after c.is_workable-2.ensures;
+  workable = c.recall.ensures;
+  still_workable = subst IsWorkable c.allocate.ensures.after c.recall-2.ensures;
 })
 
 pub returns-then-sends_nothing-clause-there : goal.returns-then-sends_nothing-clause-there
@@ -30,8 +30,8 @@ returns-clause-prepares c = record {
   comes = c.come_in.ensures.does.exact;
   chooses = subst (λ (s : NetState). Chooses c.args.node c.choose.result s c.choose.new.self) c.allocate.ensures.after
       c.choose.ensures.chooses;
-  workable = c.is_workable.ensures;
-  still_workable = subst IsWorkable c.allocate.ensures.after c.is_workable-2.ensures;
+  workable = c.recall.ensures;
+  still_workable = subst IsWorkable c.allocate.ensures.after c.recall-2.ensures;
 }
 
 pub returns-clause-at_node : goal.returns-clause-at_node

@@ -12,4 +12,4 @@ returns-clause-routed c =
 pub returns-clause-others : goal.returns-clause-others
 returns-clause-others c =
     route_elsewhere c.args.self.now c.route-moved.new.self c.args.node c.args.port c.args.vc c.route-moved.result
-    c.is_workable.ensures c.route-moved.ensures
+    c.recall.ensures c.route-moved.ensures

@@ -21,7 +21,7 @@ here c = router_state c.self.inside.mesh c.self.inside.node c.self.inside.classe
 sound_here : (c : goal.After-grant_sole)
     → IsSwAlloc c.self.inside.switch_alloc.ports c.self.inside.switch_alloc.channels c.self.inside.switch_alloc.inputs
     c.self.inside.switch_alloc.outputs
-sound_here c = c.is_sound.ensures
+sound_here c = c.recall.ensures
 
 named_here : (c : goal.After-grant_sole)
     → sole_named c.args.port c.named_by-request.result ≡ all_named c.self.inside.switch_alloc (ready_outs (here c))
@@ -50,7 +50,7 @@ grant_sole-requires-clause-channel c =
     (sym c.self.view_is)
     (sole_within c.args.self.now c.args.ready.now c.args.port
     (subst (λ (r : RouterState). IsSwAlloc r.switch_alloc.ports r.switch_alloc.channels r.switch_alloc.inputs
-    r.switch_alloc.outputs) c.self.view_is c.is_sound.ensures)
+    r.switch_alloc.outputs) c.self.view_is c.recall.ensures)
     (subst (λ (r : RouterState). r.switch_alloc.ports ≡ terminal r + 1) c.self.view_is
     c.self.invariant.router.allocators.switch_ports) c.requires.ready c.requires.sole c.named_by-request.result
     c.named_by-request.ensures)

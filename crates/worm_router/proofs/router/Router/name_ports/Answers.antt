@@ -19,7 +19,7 @@ pub loop-port-preserved : goal.loop-port-preserved
 loop-port-preserved c =
     let sound = subst (λ (r : RouterState).
     IsSwAlloc r.switch_alloc.ports r.switch_alloc.channels r.switch_alloc.inputs r.switch_alloc.outputs)
-    c.self.view_is c.is_sound.ensures in
+    c.self.view_is c.recall.ensures in
     let ports = subst (λ (r : RouterState). r.switch_alloc.ports ≡ terminal r + 1) c.self.view_is
     c.self.invariant.router.allocators.switch_ports in
     naming_goes_on c.args.self.now c.args.ready.now c.loop-port.left c.pop_port.new.self c.in-Some.port
@@ -30,6 +30,6 @@ pub returns-clause-named : goal.returns-clause-named
 returns-clause-named c =
     let sound = subst (λ (r : RouterState).
     IsSwAlloc r.switch_alloc.ports r.switch_alloc.channels r.switch_alloc.inputs r.switch_alloc.outputs)
-    c.self.view_is c.is_sound.ensures in
+    c.self.view_is c.recall.ensures in
     named_all c.args.self.now c.args.ready.now c.loop-port.left c.loop-port.asked sound c.loop-port.invariant
     c.requires.ready c.in_default.ensures.0

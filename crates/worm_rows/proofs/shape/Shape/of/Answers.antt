@@ -1,6 +1,6 @@
 use Rattle.std.proofs.Common.{◌≡◌, ◌*◌, ℕ, List, [], ◌∷◌, length, fold, sym, subst, ◌∙◌, arith, inl, inr}
 use Rattle.std.proofs.Math.Nat.{mul_assoc, mul-one, one-mul}
-use Rattle.worm_mesh.specs.Address.{node_count, IsMesh}
+use Rattle.worm_mesh.specs.Address.{node_count, AreRadices}
 use Rattle.worm_mesh.specs.Faults.{IsFault}
 use Rattle.worm_mesh.specs.declared.mesh.MeshFault.{MeshFault}
 use Rattle.worm_mesh.specs.declared.mesh.MeshFault.TheVariants.{Radix, Dims, TooManyNodes}
@@ -16,7 +16,7 @@ product a (k ∷ radices) = product (a * k) radices ∙ mul_assoc a k (node_coun
 all_nodes : (radices : List ℕ) → nodes_of radices ≡ node_count radices
 all_nodes radices = product 1 radices ∙ one-mul (node_count radices)
 
-kept_mesh : (format : Format) (n : Network) → Keeps format n → IsMesh n.radices
+kept_mesh : (format : Format) (n : Network) → Keeps format n → AreRadices n.radices
 kept_mesh format n kept =
     record {
       some_dims = omega (arith, kept.mesh.dims.0);
@@ -25,7 +25,7 @@ kept_mesh format n kept =
       few_nodes = omega (arith, kept.mesh.nodes, all_nodes n.radices);
     }
 
-no_fault : (ks : List ℕ) (fault : MeshFault) → IsMesh ks → IsFault ks fault → ⊥
+no_fault : (ks : List ℕ) (fault : MeshFault) → AreRadices ks → IsFault ks fault → ⊥
 no_fault ks Radix m h = h m.radices
 no_fault ks Dims m h = elim h.1 [ inl z ↦ omega (arith, m.some_dims, z) | inr z ↦ omega (arith, m.few_dims, z) ]
 no_fault ks TooManyNodes m h = omega (arith, h.3, m.few_nodes)

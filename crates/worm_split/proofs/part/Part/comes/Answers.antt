@@ -11,7 +11,7 @@ index-requires c =
     let i = c.self.inside in
     let few : c.in-Some.links.into < length i.ends.items
     = into_end_bound (part_state i.region i.ends.items i.opening.value i.lines.value.items) c.self.invariant.0
-    c.is_workable.ensures.framed c.args.node c.args.port c.in-Some.links (sym c.in-Some.is ∙ c.links_at.ensures) in
+    c.recall.ensures.framed c.args.node c.args.port c.in-Some.links (sym c.in-Some.is ∙ c.links_at.ensures) in
     omega (arith, few, c.from.ensures)
 
 pub returns : goal.returns
@@ -19,7 +19,7 @@ returns c =
     let i = c.self.inside in
     let p : PartState = part_state i.region i.ends.items i.opening.value i.lines.value.items in
     let at = sym c.in-Some.is ∙ c.links_at.ensures in
-    let framed = c.is_workable.ensures.framed in
+    let framed = c.recall.ensures.framed in
     let looked = into_looked_up p c.self.invariant.0 framed c.args.node c.args.port c.in-Some.links at c.from.result
     c.index.result.now c.from.ensures c.index.ensures in
     let is = c.is_entering.ensures ∙ ap enters_by looked in

@@ -16,7 +16,7 @@ index_mut-requires g c =
     let i = c.self.inside in
     let few : c.in-Some.links.into < length i.ends.items
     = into_end_bound (part_state i.region i.ends.items i.opening.value i.lines.value.items) c.self.invariant.0
-    c.is_workable.ensures.framed c.args.node c.args.port c.in-Some.links (sym c.in-Some.is ∙ c.links_at.ensures) in
+    c.recall.ensures.framed c.args.node c.args.port c.in-Some.links (sym c.in-Some.is ∙ c.links_at.ensures) in
     omega (arith, few, c.from.ensures)
 
 pub push_credit-requires : goal.push_credit-requires
@@ -25,7 +25,7 @@ push_credit-requires g c =
     let p : PartState = part_state i.region i.ends.items i.opening.value i.lines.value.items in
     let back = sym c.self.view_is in
     let at = sym c.in-Some.is ∙ c.links_at.ensures in
-    let framed = c.is_workable.ensures.framed in
+    let framed = c.recall.ensures.framed in
     let comes = entering_by p c.self.invariant.0 framed c.args.node c.args.port c.in-Some.links at
     (subst (λ (q : PartState). ComesBy q c.args.node c.args.port) back c.requires.comes) in
     let now = into_looked_up p c.self.invariant.0 framed c.args.node c.args.port c.in-Some.links at c.from.result
@@ -40,7 +40,7 @@ gave-requires-clause-there g c =
     let p : PartState = part_state i.region i.ends.items i.opening.value i.lines.value.items in
     let back = sym c.self.view_is in
     let at = sym c.in-Some.is ∙ c.links_at.ensures in
-    let framed = c.is_workable.ensures.framed in
+    let framed = c.recall.ensures.framed in
     let comes = entering_by p c.self.invariant.0 framed c.args.node c.args.port c.in-Some.links at
     (subst (λ (q : PartState). ComesBy q c.args.node c.args.port) back c.requires.comes) in
     let node = subst (λ (q : PartState). c.args.node < node_count q.net.mesh) back c.requires.node in
@@ -53,7 +53,7 @@ gave-requires-clause-crosses g c =
     let p : PartState = part_state i.region i.ends.items i.opening.value i.lines.value.items in
     let back = sym c.self.view_is in
     let at = sym c.in-Some.is ∙ c.links_at.ensures in
-    let framed = c.is_workable.ensures.framed in
+    let framed = c.recall.ensures.framed in
     let comes = entering_by p c.self.invariant.0 framed c.args.node c.args.port c.in-Some.links at
     (subst (λ (q : PartState). ComesBy q c.args.node c.args.port) back c.requires.comes) in
     owner_elsewhere p c.self.invariant.0 framed c.args.node c.args.port c.in-Some.links at comes.0 comes.1 comes.2
@@ -68,7 +68,7 @@ landing g c =
     let p : PartState = part_state i.region i.ends.items i.opening.value i.lines.value.items in
     let back = sym c.self.view_is in
     let at = sym c.in-Some.is ∙ c.links_at.ensures in
-    let framed = c.is_workable.ensures.framed in
+    let framed = c.recall.ensures.framed in
     let comes = entering_by p c.self.invariant.0 framed c.args.node c.args.port c.in-Some.links at
     (subst (λ (q : PartState). ComesBy q c.args.node c.args.port) back c.requires.comes) in
     let node = subst (λ (q : PartState). c.args.node < node_count q.net.mesh) back c.requires.node in
@@ -98,7 +98,7 @@ invariant_of-self-else-push_credit g c =
     let p : PartState = part_state i.region i.ends.items i.opening.value i.lines.value.items in
     let back = sym c.self.view_is in
     let at = sym c.in-Some.is ∙ c.links_at.ensures in
-    let framed = c.is_workable.ensures.framed in
+    let framed = c.recall.ensures.framed in
     let comes = entering_by p c.self.invariant.0 framed c.args.node c.args.port c.in-Some.links at
     (subst (λ (q : PartState). ComesBy q c.args.node c.args.port) back c.requires.comes) in
     let still = owes_still p c.self.invariant.0 framed c.args.node c.args.port c.in-Some.links at comes.0 comes.1
@@ -112,7 +112,7 @@ returns-else-push_credit-clause-gives g c =
     let p : PartState = part_state i.region i.ends.items i.opening.value i.lines.value.items in
     let back = sym c.self.view_is in
     let at = sym c.in-Some.is ∙ c.links_at.ensures in
-    let framed = c.is_workable.ensures.framed in
+    let framed = c.recall.ensures.framed in
     let comes = entering_by p c.self.invariant.0 framed c.args.node c.args.port c.in-Some.links at
     (subst (λ (q : PartState). ComesBy q c.args.node c.args.port) back c.requires.comes) in
     let still = owes_still p c.self.invariant.0 framed c.args.node c.args.port c.in-Some.links at comes.0 comes.1

@@ -11,7 +11,7 @@ unreachable-requires c =
     let mesh = c.self.inside.region.mesh in
     let there : c.args.dim < length mesh =
     subst (λ (p : PartState). c.args.dim < length p.net.mesh) (sym c.self.view_is) c.requires in
-    let one = step_from_zero mesh c.args.dim (2 * c.args.dim + 1) c.is_workable.ensures.framed.radices there refl in
+    let one = step_from_zero mesh c.args.dim (2 * c.args.dim + 1) c.recall.ensures.framed.radices there refl in
     let is : c.neighbour.result ≡ Some (stride_of mesh c.args.dim) =
     c.neighbour.ensures.value ∙ ((λ t. neighbour_of (c.mesh.ensures t) 0 (2 * c.args.dim + 1)) ∙ one) in
     let none : ◌≡◌ {A = Option ℕ} None (Some (stride_of mesh c.args.dim)) = sym c.in_default.is ∙ is in
@@ -23,7 +23,7 @@ returns c = λ no.
     let mesh = net.mesh in
     let there : c.args.dim < length mesh =
     subst (λ (p : PartState). c.args.dim < length p.net.mesh) (sym c.self.view_is) c.requires in
-    let one = step_from_zero mesh c.args.dim (2 * c.args.dim + 1) c.is_workable.ensures.framed.radices there refl in
+    let one = step_from_zero mesh c.args.dim (2 * c.args.dim + 1) c.recall.ensures.framed.radices there refl in
     let is : c.neighbour.result ≡ Some (stride_of mesh c.args.dim) =
     c.neighbour.ensures.value ∙ ((λ t. neighbour_of (c.mesh.ensures t) 0 (2 * c.args.dim + 1)) ∙ one) in
     let found : ◌≡◌ {A = Option ℕ} (Some c.in-Some.beyond) (Some (stride_of mesh c.args.dim)) = sym c.in-Some.is ∙ is in

@@ -14,20 +14,20 @@ pub has_credits-requires-clause-node : goal.has_credits-requires-clause-node
 has_credits-requires-clause-node c =
     let i = c.self.inside in
     beyond_in (part_state i.region i.ends.items i.opening.value i.lines.value.items) c.self.invariant.0
-    c.is_workable.ensures.framed c.args.node c.args.port c.in-Some.links (sym c.in-Some.is ∙ c.links_at.ensures)
+    c.recall.ensures.framed c.args.node c.args.port c.in-Some.links (sym c.in-Some.is ∙ c.links_at.ensures)
 
 pub has_credits-requires-clause-linked : goal.has_credits-requires-clause-linked
 has_credits-requires-clause-linked c =
     let i = c.self.inside in
     back_is_some (part_state i.region i.ends.items i.opening.value i.lines.value.items) c.self.invariant.0
-    c.is_workable.ensures.framed c.args.node c.args.port c.in-Some.links (sym c.in-Some.is ∙ c.links_at.ensures)
+    c.recall.ensures.framed c.args.node c.args.port c.in-Some.links (sym c.in-Some.is ∙ c.links_at.ensures)
 
 pub index-requires : goal.index-requires
 index-requires c =
     let i = c.self.inside in
     let bound : c.in-Some.links.out < length i.ends.items
     = out_end_bound (part_state i.region i.ends.items i.opening.value i.lines.value.items) c.self.invariant.0
-    c.is_workable.ensures.framed c.args.node c.args.port c.in-Some.links (sym c.in-Some.is ∙ c.links_at.ensures) in
+    c.recall.ensures.framed c.args.node c.args.port c.in-Some.links (sym c.in-Some.is ∙ c.links_at.ensures) in
     omega (arith, bound, c.from-number.ensures)
 
 pub index_mut-requires : goal.index_mut-requires
@@ -35,7 +35,7 @@ index_mut-requires c =
     let i = c.self.inside in
     let bound : c.in-Some.links.out < length i.ends.items
     = out_end_bound (part_state i.region i.ends.items i.opening.value i.lines.value.items) c.self.invariant.0
-    c.is_workable.ensures.framed c.args.node c.args.port c.in-Some.links (sym c.in-Some.is ∙ c.links_at.ensures) in
+    c.recall.ensures.framed c.args.node c.args.port c.in-Some.links (sym c.in-Some.is ∙ c.links_at.ensures) in
     omega (arith, bound, c.from-number.ensures)
 
 in_hand : (c : goal.After-arrive_credit-arg-1)
@@ -47,7 +47,7 @@ in_hand c =
     let p : PartState = part_state i.region i.ends.items i.opening.value i.lines.value.items in
     let at : ◌≡◌ {A = Option PortLinks} (Some c.in-Some.links) (port_links p.net.mesh c.args.node c.args.port) =
     sym c.in-Some.is ∙ c.links_at.ensures in
-    let framed = c.is_workable.ensures.framed in
+    let framed = c.recall.ensures.framed in
     let hand = credit_taken p c.self.invariant.0 framed c.args.node c.args.port c.in-Some.links at
     c.in-Some-pop_credit.vc c.from-number.result c.index_mut.result.now c.pop_credit.new.end c.from-number.ensures
     c.index_mut.ensures.value
@@ -79,7 +79,7 @@ put c =
     let p : PartState = part_state i.region i.ends.items i.opening.value i.lines.value.items in
     let at : ◌≡◌ {A = Option PortLinks} (Some c.in-Some.links) (port_links p.net.mesh c.args.node c.args.port) =
     sym c.in-Some.is ∙ c.links_at.ensures in
-    let framed = c.is_workable.ensures.framed in
+    let framed = c.recall.ensures.framed in
     let hand = credit_taken p c.self.invariant.0 framed c.args.node c.args.port c.in-Some.links at
     c.in-Some-pop_credit.vc c.from-number.result c.index_mut.result.now c.pop_credit.new.end c.from-number.ensures
     c.index_mut.ensures.value

@@ -14,14 +14,14 @@ pub has_flits-requires : goal.has_flits-requires
 has_flits-requires c =
     let i = c.self.inside in
     back_is_some (part_state i.region i.ends.items i.opening.value i.lines.value.items) c.self.invariant.0
-    c.is_workable.ensures.framed c.args.node c.args.port c.in-Some.links (sym c.in-Some.is ∙ c.links_at.ensures)
+    c.recall.ensures.framed c.args.node c.args.port c.in-Some.links (sym c.in-Some.is ∙ c.links_at.ensures)
 
 pub index-requires : goal.index-requires
 index-requires c =
     let i = c.self.inside in
     let bound : c.in-Some.links.into < length i.ends.items
     = into_end_bound (part_state i.region i.ends.items i.opening.value i.lines.value.items) c.self.invariant.0
-    c.is_workable.ensures.framed c.args.node c.args.port c.in-Some.links (sym c.in-Some.is ∙ c.links_at.ensures) in
+    c.recall.ensures.framed c.args.node c.args.port c.in-Some.links (sym c.in-Some.is ∙ c.links_at.ensures) in
     omega (arith, bound, c.from-number.ensures)
 
 pub index_mut-requires : goal.index_mut-requires
@@ -29,7 +29,7 @@ index_mut-requires c =
     let i = c.self.inside in
     let bound : c.in-Some.links.into < length i.ends.items
     = into_end_bound (part_state i.region i.ends.items i.opening.value i.lines.value.items) c.self.invariant.0
-    c.is_workable.ensures.framed c.args.node c.args.port c.in-Some.links (sym c.in-Some.is ∙ c.links_at.ensures) in
+    c.recall.ensures.framed c.args.node c.args.port c.in-Some.links (sym c.in-Some.is ∙ c.links_at.ensures) in
     omega (arith, bound, c.from-number.ensures)
 
 in_hand : (c : goal.After-arrive-arg-1)
@@ -41,7 +41,7 @@ in_hand c =
     let p : PartState = part_state i.region i.ends.items i.opening.value i.lines.value.items in
     let at : ◌≡◌ {A = Option PortLinks} (Some c.in-Some.links) (port_links p.net.mesh c.args.node c.args.port) =
     sym c.in-Some.is ∙ c.links_at.ensures in
-    let framed = c.is_workable.ensures.framed in
+    let framed = c.recall.ensures.framed in
     let hand = flit_off p c.self.invariant.0 framed c.args.node c.args.port c.in-Some.links at c.in-Some-pop_flit.flit
     c.from-number.result c.index_mut.result.now c.pop_flit.new.end c.from-number.ensures c.index_mut.ensures.value
     (c.has_flits.ensures.0 c.if-has_flits.false) c.in-Some-pop_flit.ensures.some in
@@ -72,7 +72,7 @@ put c =
     let p : PartState = part_state i.region i.ends.items i.opening.value i.lines.value.items in
     let at : ◌≡◌ {A = Option PortLinks} (Some c.in-Some.links) (port_links p.net.mesh c.args.node c.args.port) =
     sym c.in-Some.is ∙ c.links_at.ensures in
-    let framed = c.is_workable.ensures.framed in
+    let framed = c.recall.ensures.framed in
     let hand = flit_off p c.self.invariant.0 framed c.args.node c.args.port c.in-Some.links at c.in-Some-pop_flit.flit
     c.from-number.result c.index_mut.result.now c.pop_flit.new.end c.from-number.ensures c.index_mut.ensures.value
     (c.has_flits.ensures.0 c.if-has_flits.false) c.in-Some-pop_flit.ensures.some in

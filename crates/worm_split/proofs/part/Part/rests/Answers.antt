@@ -12,4 +12,4 @@ returns-clause-passes c = λ yes.
     let there : c.args.node < node_count p.net.mesh =
     subst (λ (q : PartState). c.args.node < node_count q.net.mesh) (sym c.self.view_is) c.requires in
     subst (λ (q : PartState). NodePasses c.args.node q None q) c.self.view_is
-    (part_rests p c.args.node c.is_workable.ensures there (c.rests.ensures.rest yes) (c.rests.ensures.comes yes))
+    (part_rests p c.args.node c.recall.ensures there (c.rests.ensures.rest yes) (c.rests.ensures.comes yes))

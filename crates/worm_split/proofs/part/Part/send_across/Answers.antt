@@ -17,7 +17,7 @@ push_flit-requires g c =
     let p : PartState = part_state i.region i.ends.items i.opening.value i.lines.value.items in
     let back = sym c.self.view_is in
     let at = sym c.in-Some.is ∙ c.links_at.ensures in
-    let framed = c.is_workable.ensures.framed in
+    let framed = c.recall.ensures.framed in
     let leaves = subst (λ (q : PartState). LeavesBy q c.args.node c.args.out) back c.requires.leaves in
     let there = subst (λ (q : PartState). IsThere (shape q.net) (Send c.args.node c.args.port c.args.vc)) back
     c.requires.there in
@@ -34,7 +34,7 @@ let_out-requires-clause-crosses g c =
     let p : PartState = part_state i.region i.ends.items i.opening.value i.lines.value.items in
     let at = sym c.in-Some.is ∙ c.links_at.ensures in
     let leaves = subst (λ (q : PartState). LeavesBy q c.args.node c.args.out) (sym c.self.view_is) c.requires.leaves in
-    ends_elsewhere p c.self.invariant.0 c.is_workable.ensures.framed c.args.node c.args.out c.in-Some.links at leaves.0
+    ends_elsewhere p c.self.invariant.0 c.recall.ensures.framed c.args.node c.args.out c.in-Some.links at leaves.0
     leaves.1 leaves.2
 
 landing : (g : given.Over) (c : goal.After-let_out g)
@@ -47,7 +47,7 @@ landing g c =
     let p : PartState = part_state i.region i.ends.items i.opening.value i.lines.value.items in
     let back = sym c.self.view_is in
     let at = sym c.in-Some.is ∙ c.links_at.ensures in
-    let framed = c.is_workable.ensures.framed in
+    let framed = c.recall.ensures.framed in
     let leaves = subst (λ (q : PartState). LeavesBy q c.args.node c.args.out) back c.requires.leaves in
     let there = subst (λ (q : PartState). IsThere (shape q.net) (Send c.args.node c.args.port c.args.vc)) back
     c.requires.there in
@@ -77,7 +77,7 @@ invariant_of-self-else-push_flit g c =
     let p : PartState = part_state i.region i.ends.items i.opening.value i.lines.value.items in
     let back = sym c.self.view_is in
     let at = sym c.in-Some.is ∙ c.links_at.ensures in
-    let framed = c.is_workable.ensures.framed in
+    let framed = c.recall.ensures.framed in
     let leaves = subst (λ (q : PartState). LeavesBy q c.args.node c.args.out) back c.requires.leaves in
     let there = subst (λ (q : PartState). IsThere (shape q.net) (Send c.args.node c.args.port c.args.vc)) back
     c.requires.there in
@@ -95,7 +95,7 @@ returns-else-push_flit-clause-sends g c =
     let p : PartState = part_state i.region i.ends.items i.opening.value i.lines.value.items in
     let back = sym c.self.view_is in
     let at = sym c.in-Some.is ∙ c.links_at.ensures in
-    let framed = c.is_workable.ensures.framed in
+    let framed = c.recall.ensures.framed in
     let leaves = subst (λ (q : PartState). LeavesBy q c.args.node c.args.out) back c.requires.leaves in
     let there = subst (λ (q : PartState). IsThere (shape q.net) (Send c.args.node c.args.port c.args.vc)) back
     c.requires.there in

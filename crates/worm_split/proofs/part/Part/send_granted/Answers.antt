@@ -11,7 +11,7 @@ use Rattle.worm_split.proofs.part.Part.send_granted.Goals as goal
 pub loop-port-init : goal.loop-port-init
 loop-port-init g c =
     let net : IsWorkable c.args.self.now.net =
-    subst (λ (p : PartState). IsWorkable p.net) c.self.view_is c.is_workable.ensures in
+    subst (λ (p : PartState). IsWorkable p.net) c.self.view_is c.recall.ensures in
     let few = net.framed.radices.few_dims in
     λ grants are. sent_start c.args.node grants c.args.granted are c.args.self.now (omega arith)
 
@@ -24,7 +24,7 @@ send-requires-clause-own g c =
 pub send-requires-clause-there : goal.send-requires-clause-there
 send-requires-clause-there g c =
     let net : IsWorkable c.args.self.now.net =
-    subst (λ (p : PartState). IsWorkable p.net) c.self.view_is c.is_workable.ensures in
+    subst (λ (p : PartState). IsWorkable p.net) c.self.view_is c.recall.ensures in
     let some = c.requires.granted in
     (sent_there c.args.node some.0 c.args.granted some.1 c.loop-port.left c.pop_first.new.self c.in-Some.port
     c.in-Some.vc c.args.self.now c.loop-port.self net c.requires.there
@@ -33,7 +33,7 @@ send-requires-clause-there g c =
 pub loop-port-preserved : goal.loop-port-preserved
 loop-port-preserved g c =
     let net : IsWorkable c.args.self.now.net =
-    subst (λ (p : PartState). IsWorkable p.net) c.self.view_is c.is_workable.ensures in
+    subst (λ (p : PartState). IsWorkable p.net) c.self.view_is c.recall.ensures in
     λ grants are.
     let sent = c.loop-port.invariant grants are in
     let there = sent_there c.args.node grants c.args.granted are c.loop-port.left c.pop_first.new.self c.in-Some.port
@@ -46,7 +46,7 @@ loop-port-preserved g c =
 pub returns-in_err-send-clause-sends : goal.returns-in_err-send-clause-sends
 returns-in_err-send-clause-sends g c =
     let net : IsWorkable c.args.self.now.net =
-    subst (λ (p : PartState). IsWorkable p.net) c.self.view_is c.is_workable.ensures in
+    subst (λ (p : PartState). IsWorkable p.net) c.self.view_is c.recall.ensures in
     λ grants are.
     let sent = c.loop-port.invariant grants are in
     let there = sent_there c.args.node grants c.args.granted are c.loop-port.left c.pop_first.new.self c.in-Some.port

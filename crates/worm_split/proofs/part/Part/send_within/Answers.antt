@@ -28,7 +28,7 @@ invariant_of-self c =
     let stays = subst (λ (q : PartState). StaysWithin q c.args.node
     (leaving (router_at q.net c.args.node) c.args.port c.args.vc)) (sym c.self.view_is) c.requires.stays in
     let made = sent_within p c.self.invariant.0 c.args.node here c.args.port c.args.vc c.send_there.new.self
-    c.is_workable.ensures.framed c.send_there.result stays c.send_there.ensures in (
+    c.recall.ensures.framed c.send_there.result stays c.send_there.ensures in (
       part_with_net p c.self.invariant.0 c.send_there.new.self made.0 made.1,
       subst (λ (w : Own). IsKept i.opening.value w i.kept) (sym made.1.own) c.self.invariant.1,
     )

@@ -31,7 +31,7 @@ loop-port-preserved c =
 
 pub returns : goal.returns
 returns c =
-    let framed = c.is_workable.ensures.framed in
+    let framed = c.recall.ensures.framed in
     subst (λ (p : PartState). AreShared p.net c.loop-port.shared) c.self.view_is
     (are_shared c.self.inside.region c.loop-port.shared framed
     (λ p below unnamed.

@@ -22,7 +22,7 @@ module _ (g : given.Over) (c : goal.After-node_turns g) where
   fault = result_err c.node_turns.result
 
   framed : IsFramed c.args.self.now.net
-  framed = subst (λ (p : PartState). IsFramed p.net) c.self.view_is c.is_workable.ensures.framed
+  framed = subst (λ (p : PartState). IsFramed p.net) c.self.view_is c.recall.ensures.framed
 
   words : HaveWords entries
   words = subst HaveWords c.due-entries.ensures c.have_words.ensures

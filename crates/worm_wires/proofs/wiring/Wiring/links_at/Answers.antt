@@ -1,17 +1,17 @@
 use Rattle.std.proofs.Common.{◌≡◌, ℕ, Option, None, ap, subst, sym, ◌∙◌}
 use Rattle.std.specs.Prelude.{option_map}
-use Rattle.worm_mesh.specs.Address.{IsMesh as IsRadices}
+use Rattle.worm_mesh.specs.Address.{AreRadices}
 use Rattle.worm_wires.specs.Wiring.{port_links}
 use Rattle.worm_wires.proofs.Wired.{none_kept, no_links_there, ports_within}
 use Rattle.worm_wires.proofs.wiring.Wiring.links_at.Goals as goal
 
 pub returns-then-out-clause-value : goal.returns-then-out-clause-value
 returns-then-out-clause-value c =
-    let radices = subst IsRadices c.self.view_is c.nodes-nodes.ensures.mesh in
+    let radices = subst AreRadices c.self.view_is c.nodes-nodes.ensures.mesh in
     sym (no_links_there c.args.self.now c.args.node c.args.port
     (none_kept c.args.self.now c.args.node c.args.port radices (sym c.kept-out.ensures.value ∙ c.if-out.true)))
 
 pub returns-clause-bound : goal.returns-clause-bound
 returns-clause-bound c =
-    let radices = subst IsRadices c.self.view_is c.nodes-nodes.ensures.mesh in
+    let radices = subst AreRadices c.self.view_is c.nodes-nodes.ensures.mesh in
     ports_within c.args.self.now c.args.node c.args.port c.links_by.result radices c.links_by.ensures

@@ -1,5 +1,5 @@
 use Rattle.std.proofs.Common.{◌≡◌, Option, Some, ap, subst, sym, ◌∙◌}
-use Rattle.worm_mesh.specs.Address.{IsMesh as IsRadices}
+use Rattle.worm_mesh.specs.Address.{AreRadices}
 use Rattle.worm_wires.specs.Wiring.{kept_number, out_link, port_links}
 use Rattle.worm_wires.specs.declared.wiring.PortLinks.{PortLinks}
 use Rattle.worm_wires.proofs.Wired.{joined}
@@ -8,7 +8,7 @@ use Rattle.worm_wires.proofs.wiring.Wiring.links_by.Goals as goal
 pub returns : goal.returns
 returns c =
     let now = c.args.self.now in
-    let radices = subst IsRadices c.self.view_is c.nodes-nodes.ensures.mesh in
+    let radices = subst AreRadices c.self.view_is c.nodes-nodes.ensures.mesh in
     let into = c.kept-into.ensures.value ∙ ap
     (λ p. kept_number (out_link now c.beyond-beyond.result p)) c.opposite-entered.ensures.value in
     let links = joined now c.args.node c.args.port c.beyond-beyond.result c.args.out c.kept-into.result radices
