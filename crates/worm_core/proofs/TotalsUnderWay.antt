@@ -1,5 +1,5 @@
 -- The sums over sources and sinks by number are those over the list of nodes.
-use Rattle.std.proofs.Common.{◌≡◌, ◌==◌, Option, Some, None, ℕ, zero, suc, ◌+◌, ◌<◌, ◌≤◌, List, length, get_or, take}
+use Rattle.std.proofs.Common.{◌≡◌, ◌==◌, ℕ, zero, suc, ◌+◌, ◌<◌, ◌≤◌, List, length, get_or, take}
 use Rattle.std.proofs.Common.{refl, arith, ap, sym, ◌∙◌}
 use Rattle.std.specs.List.{sum_by}
 use Rattle.std.proofs.lemmas.List.{take_all}
@@ -11,7 +11,7 @@ use Rattle.worm_term.specs.Queue.{QueueState, empty_queue}
 use Rattle.worm_region.specs.State.{NetState, IsNet, node_at, sink_at}
 use Rattle.worm_region.specs.Still.{no_node, nth_node}
 use Rattle.worm_region.specs.Totals.{delivered_total, injected_below, injected_total}
-use Rattle.worm_region.specs.UnderWay.{IsUnderWay, accepted_by, accepted_in, taken_by, taken_in}
+use Rattle.worm_region.specs.UnderWay.{accepted_by, accepted_in, taken_by, taken_in}
 use Rattle.worm_region.proofs.Resting.{is_nth}
 
 below_is : {A : Type 0} (f : A → ℕ) (d : A) (xs : List A) (n : ℕ) → n ≤ length xs →
@@ -53,13 +53,6 @@ delivered_is s net =
     sum_below_same (λ x. length (sink_at s x).delivered) (λ x. taken_by (nth_node s.nodes x)) (node_count s.mesh)
     (λ x x_in. ap taken_by (sym (is_nth s x net.framed x_in)))
     ∙ all_is taken_by no_node s.nodes (node_count s.mesh) (sym net.framed.all_nodes)
-
--- the number under way, as the sums have it
-pub counts_sums : (s t : NetState) (i d : ℕ) (count : Option ℕ) → IsNet s → t ≡ s → i ≡ injected_total s →
-    d ≡ delivered_total s → IsUnderWay i d count → IsUnderWay (accepted_in t.nodes) (taken_in t.nodes) count
-counts_sums s t i d None net same injected delivered known = tt
-counts_sums s t i d (Some n) net same injected delivered known =
-    rw (same, ← injected_is s net, ← delivered_is s net, ← injected, ← delivered) known
 
 -- none is under way exactly where the sums are equal
 equal_if_none : (i d n : ℕ) → i ≡ d + n → (n == 0) ≡ (i == d)

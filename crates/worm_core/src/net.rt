@@ -60,7 +60,7 @@ impl Net {
             (length config.now.classes.items) → ⊥) }
     {
         let region = Region::new(alloc, config)?;
-        Ok(Net::of(region).counted())
+        Ok(Net::of(region))
     }
 
     /// What holds of every network, for whoever has one.

@@ -35,6 +35,6 @@ impl Net {
         requires { IsNet (parts_state parts) }
         ensures { result ≡ parts_state parts }
     {
-        Net::of(Region::from_parts(parts, Own::sole())).counted()
+        Net::of(Region::from_parts(parts, Own::sole()))
     }
 }

@@ -4,7 +4,6 @@ ghost use Rattle.worm_theory.specs.Steps.{packets_in};
 ghost use Rattle.worm_region.specs.State.{sink_at};
 ghost use Rattle.worm_region.specs.Totals.{accepted_below, accepted_total, delivered_total, injected_below};
 ghost use Rattle.worm_region.specs.Totals.{injected_total};
-ghost use Rattle.worm_region.specs.UnderWay.{IsUnderWay};
 
 use crate::Net;
 use worm_flit::{Flit, is_closing};
@@ -32,13 +31,6 @@ fn packets_ended(flits: &[Flit]) -> u64
         }
     }
     ended
-}
-
-/// How many more flits were accepted than delivered, where the number is in range.
-fn difference(injected: u128, delivered: u128) -> Option<u64>
-    ensures { IsUnderWay injected delivered result }
-{
-    u64::try_from(injected.checked_sub(delivered)?).ok()
 }
 
 impl Net {
@@ -74,16 +66,6 @@ impl Net {
         }
         let (injected, delivered) = self.flits();
         injected == delivered
-    }
-
-    /// The same network, of which it is known how many flits are under way.
-    pub(crate) fn counted(self) -> Net
-        ensures { result ≡ self }
-    {
-        let (injected, delivered) = self.flits();
-        let mut region = self.into_region();
-        region.count(difference(injected, delivered));
-        Net::of(region)
     }
 
     /// The flits that all sources accepted, and those that all sinks took.

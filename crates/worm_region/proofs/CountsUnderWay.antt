@@ -1,7 +1,7 @@
 -- How many flits are under way, after a change of one node.
 use Rattle.std.proofs.Common.{◌≡◌, ℕ, ◌+◌, ◌++◌, ◌∷◌, [], ◌<◌, Bool, true, false, List, length, set, get_or, Option}
 use Rattle.std.proofs.Common.{Some, None, inl, inr, arith, ap, refl, ◌∙◌, length-append}
-use Rattle.std.specs.Prelude.{Result, Ok, Err, OnOk, OnErr, is_ok, if◌then◌else◌}
+use Rattle.std.specs.Prelude.{Result, Ok, Err, IfOk, OnOk, OnErr, is_ok, if◌then◌else◌}
 use Rattle.worm_term.specs.declared.fault.OfferFault.{OfferFault}
 use Rattle.std.specs.List.{sum_by}
 use Rattle.std.proofs.lemmas.List.{set_past}
@@ -133,6 +133,10 @@ module _ (nodes : List Node) (kept : List Bool) (count : Option ℕ) (i j x : �
 pub on_ok : (r : Result ℕ OfferFault) (P : Type 0) → OnOk r P → is_ok r ≡ true → P
 on_ok (Ok n) P holds is = holds
 on_ok (Err fault) P holds is = absurd (cc)
+
+pub if_ok : (r : Result ℕ OfferFault) (P : ℕ → Type 0) → IfOk r P → is_ok r ≡ true → (n : ℕ) × P n
+if_ok (Ok n) P holds is = (n, holds)
+if_ok (Err fault) P holds is = absurd (cc)
 
 pub on_err : (r : Result ℕ OfferFault) (P : Type 0) → OnErr r P → is_ok r ≡ false → P
 on_err (Ok n) P holds is = absurd (cc)

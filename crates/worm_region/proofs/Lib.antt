@@ -6,6 +6,7 @@ pub mod Kept
 pub mod Owning
 pub mod Ends
 pub mod There
+pub mod Lines
 pub mod RouteStep
 pub mod GrantStep
 pub mod Room

@@ -19,12 +19,14 @@ ghost use Rattle.worm_region.specs.Moves.{delivered_node, fed_node, front_credit
 ghost use Rattle.worm_region.specs.Moves.{link_out};
 ghost use Rattle.worm_wires.specs.Wiring.{port_links};
 ghost use Rattle.worm_region.specs.UnderWay.{IsUnderWay, accepted_in, taken_in};
+ghost use Rattle.std.specs.Borrow.{Lends, sem};
+ghost use Rattle.worm_region.specs.contracts.fabric.Fabric.{the_row};
+ghost use Rattle.worm_router.specs.contracts.router.Router.{the_row as router_row};
 
 mod edges;
 mod parts;
 mod readers;
 mod rest;
-mod still;
 
 use crate::fresh::{make_links, make_nodes};
 use crate::nodes::Nodes;
@@ -34,6 +36,7 @@ use std::alloc::{AllocError, Global};
 use std::marker::Model;
 use worm_flit::{ClassChannels, Flit, Lane, Packet};
 use worm_mesh::Mesh;
+use worm_router::Router;
 use worm_term::OfferFault;
 use worm_vcalloc::ChannelSet;
 use worm_wires::{Links, PortLinks};
@@ -82,12 +85,13 @@ impl Fabric {
         let nodes = make_nodes(alloc, &mesh, channels, depth)?;
         let room = u16::from(classes.total()) * u16::from(depth);
         let links = make_links(alloc, mesh.links(), room)?;
+        let nodes = Nodes::new(nodes, classes.classes());
         Ok(Fabric {
             links: Links::new(mesh, links),
             classes,
             depth,
             names,
-            nodes: Nodes::new(nodes),
+            nodes,
             own: Own::sole(),
         })
     }
@@ -99,85 +103,15 @@ impl Fabric {
         u16::from(node) < self.links.wiring().nodes()
     }
 
-    /// Whether the mesh has this node, and the network this class.
-    pub(crate) fn has_class(&self, node: u8, class: u8) -> bool
-        ensures { IsTrue result ↔ ((node < node_count self.now.mesh) × (class < length self.now.channels)) }
-    {
-        u16::from(node) < self.links.wiring().nodes() && class < self.classes.classes()
-    }
-
     /// Whether the node has this port, the terminal or one with a neighbour, and the network this channel.
     pub(crate) fn has_place(&self, node: u8, port: u8, vc: u8) -> bool
         ensures { IsTrue result ↔ ((node < node_count self.now.mesh) ×
             ((port ≡ 2 * length self.now.mesh) ⊎ IsSome (neighbour_of self.now.mesh node port)) ×
             (vc < sum self.now.channels)) }
     {
-        u16::from(node) < self.links.wiring().nodes()
-            && (port == self.terminal() || self.has_neighbour(node, port))
+        self.has_node(node)
+            && (port == self.terminal() || self.links.wiring().link_out(node, port).is_some())
             && vc < self.classes.total()
-    }
-
-    /// The same for a channel of an output port beside.
-    pub(crate) fn has_grant(&self, node: u8, port: u8, vc: u8, out_vc: u8) -> bool
-        ensures { IsTrue result ↔ ((node < node_count self.now.mesh) ×
-            ((port ≡ 2 * length self.now.mesh) ⊎ IsSome (neighbour_of self.now.mesh node port)) ×
-            (vc < sum self.now.channels) × (out_vc < sum self.now.channels)) }
-    {
-        self.has_place(node, port, vc) && out_vc < self.classes.total()
-    }
-
-    /// Whether a node is at the other end of this port's links.
-    fn has_neighbour(&self, node: u8, port: u8) -> bool
-        ensures { IsTrue result ↔ IsSome (neighbour_of self.now.mesh node port) }
-    {
-        self.links.wiring().link_out(node, port).is_some()
-    }
-
-    /// Whether the node has a neighbour at this port.
-    pub(crate) fn has_link(&self, node: u8, port: u8) -> bool
-        ensures { IsTrue result ↔ ((node < node_count self.now.mesh) × IsSome (neighbour_of self.now.mesh node port)) }
-    {
-        self.has_neighbour(node, port)
-    }
-
-    /// The same for a channel of the link into the port.
-    pub(crate) fn has_line(&self, node: u8, port: u8, vc: u8) -> bool
-        ensures { IsTrue result ↔ ((node < node_count self.now.mesh) × IsSome (neighbour_of self.now.mesh node port) ×
-            (vc < sum self.now.channels)) }
-    {
-        self.has_link(node, port) && vc < self.classes.total()
-    }
-
-    /// The number of the link into this port, if the node has a neighbour there.
-    pub(crate) fn link_into(&self, node: u8, port: u8) -> Option<u16>
-        ensures there { IsSome result ↔
-            ((node < node_count self.now.mesh) × IsSome (neighbour_of self.now.mesh node port)) }
-        ensures value { IfSome result (λ number. number ≡ link_into self.now node port) }
-        ensures bound { IfSome result (λ number. number < link_count self.now.mesh) }
-        ensures mesh_port { IsSome result → port < 6 }
-    {
-        self.links.find_into(node, port)
-    }
-
-    /// The number of the link out of this port, if the node has a neighbour there.
-    pub(crate) fn link_out(&self, node: u8, port: u8) -> Option<u16>
-        ensures there { IsSome result ↔
-            ((node < node_count self.now.mesh) × IsSome (neighbour_of self.now.mesh node port)) }
-        ensures value { IfSome result (λ number. number ≡ link_out self.now node port) }
-        ensures bound { IfSome result (λ number. number < link_count self.now.mesh) }
-        ensures mesh_port { IsSome result → port < 6 }
-    {
-        self.links.find_out(node, port)
-    }
-
-    /// The links of this port, if the node has a neighbour there.
-    pub(crate) fn links_at(&self, node: u8, port: u8) -> Option<PortLinks>
-        ensures there { IsSome result ↔
-            ((node < node_count self.now.mesh) × IsSome (neighbour_of self.now.mesh node port)) }
-        ensures value { result ≡ port_links self.now.mesh node port }
-        ensures mesh { AreRadices self.now.mesh }
-    {
-        self.links.links_at(node, port)
     }
 
     /// The terminal port of each node.
@@ -186,17 +120,6 @@ impl Fabric {
         ensures bound { result ≤ 6 }
     {
         self.links.wiring().terminal()
-    }
-
-    /// Gives the flit to the node's buffer of its channel, if that has room.
-    fn accept(&mut self, node: u8, port: u8, flit: Flit) -> bool
-        requires place { IsNetPlace self.old node port flit.vc }
-        requires dst { flit.lane.dst < node_count (router_at self.old node).mesh }
-        ensures done { result ≡ has_room (router_at self.old node) port flit }
-        ensures after { self.new ≡ (if result then with_router self.old node
-            (after_accept (router_at self.old node) port flit) else self.old) }
-    {
-        self.nodes.router_mut(node).accept(port, flit).is_ok()
     }
 
     /// Moves the front of the link into a port, which is that of this number, to the buffer of its channel (Dally and
@@ -216,31 +139,11 @@ impl Fabric {
         let Some(flit) = self.links.link(number).front() else {
             return false;
         };
-        if !self.accept(node, port, flit) {
+        if self.router_mut(node).accept(port, flit).is_err() {
             return false;
         }
         self.links.pop(node, port, number);
         true
-    }
-
-    /// Route computation: an out port for the opening flit at a buffer's front (Dally and Towles, chapters 8 and 16).
-    pub(crate) fn route(&mut self, node: u8, port: u8, vc: u8) -> bool
-        requires { IsNetPlace self.old node port vc }
-        ensures enabled { result ≡ can_route (router_at self.old node) port vc }
-        ensures after { self.new ≡ (if result then with_router self.old node
-            (after_route (router_at self.old node) port vc) else self.old) }
-    {
-        self.nodes.router_mut(node).route(port, vc)
-    }
-
-    /// Gives a waiting input channel an output channel (Dally and Towles, chapter 16).
-    pub(crate) fn grant(&mut self, node: u8, port: u8, vc: u8, out_vc: u8) -> bool
-        requires place { IsNetPlace self.old node port vc }
-        requires out_channel { out_vc < width (router_at self.old node) }
-        ensures enabled { result ≡ is_some (can_grant (router_at self.old node) port vc out_vc) }
-        ensures after { self.new ≡ with_router self.old node (after_grant (router_at self.old node) port vc out_vc) }
-    {
-        self.nodes.router_mut(node).grant(port, vc, out_vc)
     }
 
     /// Whether the flit that is ready at this place is at home. The buffer is asked: were the flit itself read in part,
@@ -253,17 +156,6 @@ impl Fabric {
             Some(flit) => flit.lane.dst == node,
             None => false,
         }
-    }
-
-    /// Lets the ready flit out into the node's sink, by the output port `out`, if the sink can take it.
-    fn deliver(&mut self, node: u8, port: u8, vc: u8, out: u8, flit: Flit) -> bool
-        requires place { IsNetPlace self.old node port vc }
-        requires ready { leaving (router_at self.old node) port vc ≡ Some (out, flit) }
-        requires home { flit.lane.dst ≡ (sink_at self.old node).node }
-        ensures { self.new ≡ (if result then with_node self.old node
-            (delivered_node (node_at self.old node) port vc flit) else self.old) }
-    {
-        self.nodes.deliver(node, port, vc, out, flit)
     }
 
     /// Lets the ready flit out, into the sink or onto the link of its port (Dally and Towles, chapter 13). `NoMemory`
@@ -284,7 +176,7 @@ impl Fabric {
             if !self.is_home(node, port, vc) {
                 return Ok(Moved::Idle);
             }
-            if !self.deliver(node, port, vc, out, flit) {
+            if !self.nodes.deliver(node, port, vc, out, flit) {
                 return Err(StepFault::NoMemory);
             }
             return Ok(Moved::Done);
@@ -336,23 +228,6 @@ impl Fabric {
         self.nodes.close(node, lane)
     }
 
-    /// Whether the input channel owes a credit.
-    pub(crate) fn owes(&self, node: u8, port: u8, vc: u8) -> bool
-        requires { IsNetPlace self.now node port vc }
-        ensures { result ≡ can_give self.now node port vc }
-    {
-        self.nodes.node(node).router.owed_count(port, vc) > 0
-    }
-
-    /// The input channel owes one credit less.
-    pub(crate) fn gave(&mut self, node: u8, port: u8, vc: u8)
-        requires place { IsNetPlace self.old node port vc }
-        requires owed { 0 < (input_at (router_at self.old node) port vc).owed }
-        ensures { self.new ≡ with_router self.old node (after_gave (router_at self.old node) port vc) }
-    {
-        self.nodes.router_mut(node).gave(port, vc);
-    }
-
     /// Gives a credit that the input channel owes to the link into its port, whose links are these (Dally and Towles,
     /// chapter 13).
     pub(crate) fn give(&mut self, node: u8, port: u8, vc: u8, links: PortLinks)
@@ -365,19 +240,8 @@ impl Fabric {
             (link_at self.old (link_into self.old node port)).room }
         ensures { self.new ≡ after_giving self.old node port vc (link_into self.old node port) }
     {
-        self.gave(node, port, vc);
+        self.router_mut(node).gave(port, vc);
         self.links.push_credit(node, port, links, vc);
-    }
-
-    /// Counts a credit more for the output channel, if one is missing.
-    fn credit(&mut self, node: u8, port: u8, vc: u8) -> bool
-        requires { IsNetPlace self.old node port vc }
-        ensures enabled { result ≡ (if (output_at (router_at self.old node) port vc).credits ==
-            (router_at self.old node).depth then false else true) }
-        ensures after { self.new ≡ (if result then with_router self.old node
-            (after_credit (router_at self.old node) port vc) else self.old) }
-    {
-        self.nodes.router_mut(node).credit(port, vc).is_ok()
     }
 
     /// Takes the front credit of the link out of this port, which is that of this number, into its channel's count
@@ -397,7 +261,7 @@ impl Fabric {
         let Some(vc) = self.links.link(number).front_credit() else {
             return false;
         };
-        if !self.credit(node, port, vc) {
+        if self.router_mut(node).credit(port, vc).is_err() {
             return false;
         }
         self.links.pop_credit(node, port, number);
@@ -427,22 +291,20 @@ impl Fabric {
         self.classes.total()
     }
 
-    /// One pass of the node's channel allocator into its records (Dally and Towles, chapters 16 and 19).
-    pub(crate) fn allocate(&mut self, node: u8)
+    /// The router of this node, for a change.
+    pub(crate) fn router_mut(&mut self, node: u8) -> &mut Router
         requires { node < length self.old.nodes }
-        ensures { self.new ≡ with_router self.old node (after_allocate (router_at self.old node)) }
+        ensures* lends { sem 𝓛 (Lends the_row router_row self.entry result (with_router self.old node)) }
+        ensures value { result.now ≡ router_at self.old node }
     {
-        let _grants = self.nodes.router_mut(node).allocate();
+        self.nodes.router_mut(node)
     }
 
-    /// One pass of the node's switch allocator: the channels that it grants (Dally and Towles, chapters 16 and 19).
-    pub(crate) fn choose(&mut self, node: u8) -> ChannelSet
-        requires { node < length self.old.nodes }
-        ensures granted { AreGranted (switch_grants (router_at self.old node)) result }
-        ensures after { self.new ≡ with_router self.old node (chosen_router (router_at self.old node)) }
-        ensures ready { AreReady (router_at self.old node) (switch_grants (router_at self.old node)) }
+    /// The links, with what is on them.
+    pub(crate) fn wires(&self) -> &Links
+        ensures { result.now ≡ record { mesh = self.now.mesh; states = self.now.links } }
     {
-        self.nodes.router_mut(node).choose().channels()
+        &self.links
     }
 
     /// The node of this number.
@@ -458,13 +320,5 @@ impl Fabric {
         ensures { IsUnderWay (accepted_in self.now.nodes) (taken_in self.now.nodes) result }
     {
         self.nodes.under_way()
-    }
-
-    /// Keeps it that so many flits are under way, and counts on from there.
-    pub(crate) fn count(&mut self, under_way: Option<u64>)
-        requires { IsUnderWay (accepted_in self.old.nodes) (taken_in self.old.nodes) under_way }
-        ensures { self.new ≡ self.old }
-    {
-        self.nodes.count(under_way);
     }
 }

@@ -79,31 +79,4 @@ impl Node {
             .difference(&router.waiting())
             .difference(&router.active())
     }
-
-    /// Hands the packet to the source.
-    pub(crate) fn offer(&mut self, packet: &Packet) -> Result<u16, OfferFault>
-        ensures ok { OnOk result ((refusal self.old.source packet.now.lane false ≡ None)
-            × (self.new ≡ record self.old { source = after_offer self.old.source packet.now })) }
-        ensures fault { IfErr result (λ e. e
-            ≡ unwrap_or (refusal self.old.source packet.now.lane false) OfferFault.NoMemory) }
-        ensures err { OnErr result (self.new ≡ self.old) }
-        ensures there { OnOk result (packet.now.lane.class < length self.old.source.queues) }
-        ensures some { 1 ≤ length packet.now.words }
-        ensures few { length packet.now.words ≤ 32 }
-    {
-        // For the proof: a packet has words, and at most 32.
-        let _words = packet.words();
-        self.source.offer(packet)
-    }
-
-    /// Hands the lane's close mark to the source.
-    pub(crate) fn close(&mut self, lane: Lane) -> Result<u16, OfferFault>
-        ensures ok { OnOk result ((refusal self.old.source lane true ≡ None)
-            × (self.new ≡ record self.old { source = after_close self.old.source lane })) }
-        ensures fault { IfErr result (λ e. e ≡ unwrap_or (refusal self.old.source lane true) OfferFault.NoMemory) }
-        ensures err { OnErr result (self.new ≡ self.old) }
-        ensures there { OnOk result (lane.class < length self.old.source.queues) }
-    {
-        self.source.close(lane)
-    }
 }

@@ -2,13 +2,13 @@
 //! flits are under way, so that a drain ends without a look at each node.
 
 ghost use Rattle.std.specs.Prelude.{ℕ, ◌≡◌, ◌+◌, ◌<◌, ◌≤◌, IsTrue, IfErr, None, OnErr, OnOk, Some, length, slice_set};
-ghost use Rattle.std.specs.Prelude.{true, false, unwrap_or, if◌then◌else◌};
+ghost use Rattle.std.specs.Prelude.{true, false, unwrap_or, if◌then◌else◌, IfSome};
 ghost use Rattle.std.specs.Borrow.{Lends, sem};
 ghost use Rattle.worm_router.specs.Router.{IsPlace, leaving, terminal};
 ghost use Rattle.worm_term.specs.Source.{after_close, after_offer, classes, front_of, refusal};
 ghost use Rattle.worm_region.specs.Moves.{FrontFits, can_enter, delivered_node, fed_node};
 ghost use Rattle.worm_region.specs.Still.{IsStill, nth_node, put_router, put_source};
-ghost use Rattle.worm_region.specs.UnderWay.{IsUnderWay, accepted_in, taken_in};
+ghost use Rattle.worm_region.specs.UnderWay.{HasClasses, HaveClasses, IsUnderWay, accepted_by, accepted_in, taken_in};
 ghost use Rattle.worm_region.specs.contracts.nodes.Nodes.{the_row};
 ghost use Rattle.worm_router.specs.contracts.router.Router.{the_row as router_row};
 
@@ -59,15 +59,43 @@ fn one_fewer(count: Option<u64>) -> Option<u64>
     count?.checked_sub(1)
 }
 
+/// How many flits the node's source accepted of its classes, which are so many, where the number is in range.
+fn count_accepted(node: &Node, classes: u8) -> Option<u64>
+    requires { HasClasses classes node.now }
+    ensures { IfSome result (λ n. n ≡ accepted_by node.now) }
+{
+    let mut accepted = 0u64;
+    for class in 0..classes {
+        accepted = accepted.checked_add(node.source.injected(class).len() as u64)?;
+    }
+    Some(accepted)
+}
+
+/// How many flits are under way at these nodes, whose sources have so many classes, where the numbers are in range.
+fn count_under_way(nodes: &[Node], classes: u8) -> Option<u64>
+    requires { HaveClasses classes nodes.now }
+    ensures { IsUnderWay (accepted_in nodes.now) (taken_in nodes.now) result }
+{
+    let mut accepted = 0u64;
+    let mut taken = 0u64;
+    for node in nodes {
+        accepted = accepted.checked_add(count_accepted(node, classes)?)?;
+        taken = taken.checked_add(node.sink.delivered().len() as u64)?;
+    }
+    accepted.checked_sub(taken)
+}
+
 impl Nodes {
-    /// These nodes. Nothing is known of them yet.
-    pub fn new(list: Vec<Node>) -> Nodes
+    /// These nodes, whose sources have so many classes. None is known to be still yet.
+    pub fn new(list: Vec<Node>, classes: u8) -> Nodes
+        requires { HaveClasses classes list.items }
         ensures { result ≡ list.items }
     {
+        let under_way = count_under_way(list.as_slice(), classes);
         Nodes {
             list,
             still: [false; 256],
-            under_way: None,
+            under_way,
         }
     }
 
@@ -125,14 +153,6 @@ impl Nodes {
         self.under_way
     }
 
-    /// Keeps it that so many flits are under way, and counts on from there.
-    pub fn count(&mut self, under_way: Option<u64>)
-        requires { IsUnderWay (accepted_in self.old) (taken_in self.old) under_way }
-        ensures { self.new ≡ self.old }
-    {
-        self.under_way = under_way;
-    }
-
     /// Moves the next flit of the class from the node's source into its injection buffer, where there is one and that
     /// has room.
     pub fn feed(&mut self, node: u8, class: u8, port: u8) -> bool
@@ -182,11 +202,13 @@ impl Nodes {
         ensures some { 1 ≤ length packet.now.words }
         ensures few { length packet.now.words ≤ 32 }
     {
+        // For the proof, too: a packet has words, and at most 32.
+        let flits = packet.words().len() as u64;
         self.still[usize::from(node)] = false;
         let here = &mut self.list[usize::from(node)];
-        let answer = here.offer(packet);
+        let answer = here.source.offer(packet);
         if answer.is_ok() {
-            self.under_way = more(self.under_way, packet.words().len() as u64);
+            self.under_way = more(self.under_way, flits);
         }
         answer
     }
@@ -202,7 +224,7 @@ impl Nodes {
     {
         self.still[usize::from(node)] = false;
         let here = &mut self.list[usize::from(node)];
-        let answer = here.close(lane);
+        let answer = here.source.close(lane);
         if answer.is_ok() {
             self.under_way = more(self.under_way, 1);
         }

@@ -94,15 +94,7 @@ impl Region {
         let Ok(fabric) = Fabric::new(alloc, mesh, channels, config.depth, names) else {
             return Err(NetFault::NoMemory);
         };
-        Ok(Region::of(fabric))
-    }
-
-    /// The region of these lists.
-    fn of(fabric: Fabric) -> Region
-        requires { IsWorkable fabric }
-        ensures { result ≡ fabric }
-    {
-        Region { fabric }
+        Ok(Region { fabric })
     }
 
     /// What holds of every region, for whoever has one.
@@ -120,22 +112,6 @@ impl Region {
         &self.fabric
     }
 
-    /// The lists by themselves.
-    pub(crate) fn into_fabric(self) -> Fabric
-        ensures same { result ≡ self }
-    {
-        let Region { fabric } = self;
-        fabric
-    }
-
-    /// Keeps it that so many flits are under way, and counts on from there.
-    pub fn count(&mut self, under_way: Option<u64>)
-        requires { IsUnderWay (accepted_in self.old.nodes) (taken_in self.old.nodes) under_way }
-        ensures { self.new ≡ self.old }
-    {
-        self.fabric.count(under_way);
-    }
-
     /// The number of nodes.
     pub fn nodes(&self) -> u16
         ensures value { result ≡ node_count self.now.mesh }
@@ -148,7 +124,7 @@ impl Region {
     pub fn links_at(&self, node: u8, port: u8) -> Option<PortLinks>
         ensures { result ≡ port_links self.now.mesh node port }
     {
-        self.fabric.links_at(node, port)
+        self.fabric.wires().links_at(node, port)
     }
 
     /// The terminal port of each node.
@@ -165,7 +141,7 @@ impl Region {
         ensures after { self.new ≡ with_router self.old node (after_allocate (router_at self.old node)) }
         ensures reaches { ReachesAt node self.old self.new }
     {
-        self.fabric.allocate(node);
+        let _grants = self.fabric.router_mut(node).allocate();
     }
 
     /// One pass of the node's switch allocator: the channels that it grants.
@@ -175,7 +151,7 @@ impl Region {
         ensures there { AreThere self.new node result }
         ensures reaches { ReachesAt node self.old self.new }
     {
-        self.fabric.choose(node)
+        self.fabric.router_mut(node).choose().channels()
     }
 
     /// Whether no channel of the node may send; then a pass of the switch allocator grants nothing. Where none may this
@@ -184,7 +160,7 @@ impl Region {
         requires { node < node_count self.now.mesh }
         ensures { IsTrue result → Chooses node 0 self.now self.now }
     {
-        self.fabric.sends_nothing(node)
+        self.fabric.node(node).router.sends_nothing()
     }
 
     /// The channels of the node with a flit that lack a route; no other has anything to route.
@@ -193,7 +169,7 @@ impl Region {
         ensures routes { RoutesWithin self.now node result }
         ensures sound { IsWorkable self.now }
     {
-        self.fabric.unrouted(node)
+        self.fabric.node(node).unrouted()
     }
 
     /// A mesh port from this one on by which a credit may come in; before it there is none to take, and where there is
@@ -206,7 +182,7 @@ impl Region {
             Attempts (Event.TakeCredit node p) self.now None self.now) }
         ensures none { IfNone result ((p : ℕ) → from ≤ p → Attempts (Event.TakeCredit node p) self.now None self.now) }
     {
-        self.fabric.next_credit(node, from)
+        self.fabric.wires().next_credit(node, from)
     }
 
     /// The same of flits.
@@ -218,7 +194,7 @@ impl Region {
             Attempts (Event.Take node p) self.now None self.now) }
         ensures none { IfNone result ((p : ℕ) → from ≤ p → Attempts (Event.Take node p) self.now None self.now) }
     {
-        self.fabric.next_flit(node, from)
+        self.fabric.wires().next_flit(node, from)
     }
 
     /// A class from this one on of which the node may feed a flit; before it there is none to feed, and where there
@@ -240,7 +216,7 @@ impl Region {
         ensures owing { AreOwing self.now node result }
         ensures sound { IsWorkable self.now }
     {
-        self.fabric.owing(node)
+        self.fabric.node(node).router.owing()
     }
 
     /// The lowest channel of the mesh port that owes a credit.
@@ -249,7 +225,7 @@ impl Region {
         requires port { port < 2 * length self.now.mesh }
         ensures { result ≡ lowest_owed (router_at self.now node) port }
     {
-        self.fabric.owed(node, port)
+        self.fabric.node(node).router.owed(port)
     }
 
     /// Whether the node is at rest, so that its turn goes past all but what its source is asked. Where it is at rest
@@ -261,7 +237,10 @@ impl Region {
         ensures passes { IsTrue result → NodePassesBy Attempts node self.old None self.old }
         ensures same { self.new ≡ self.old }
     {
-        self.fabric.rests(node)
+        if !self.fabric.wires().is_quiet(node) {
+            return false;
+        }
+        self.fabric.is_still(node)
     }
 
     pub(crate) fn offer(&mut self, node: u8, packet: &Packet) -> Result<Moved, StepFault>
@@ -285,7 +264,7 @@ impl Region {
     pub(crate) fn feed(&mut self, node: u8, class: u8) -> Result<Moved, StepFault>
         ensures { Replies self.old (Event.Feed node class) result self.new }
     {
-        if !self.fabric.has_class(node, class) {
+        if !self.fabric.has_node(node) || class >= self.fabric.classes() {
             return Err(StepFault::NoSuchPlace);
         }
         Ok(moved(self.feed_there(node, class)))
@@ -306,16 +285,16 @@ impl Region {
         if !self.fabric.has_place(node, port, vc) {
             return Err(StepFault::NoSuchPlace);
         }
-        Ok(moved(self.fabric.route(node, port, vc)))
+        Ok(moved(self.fabric.router_mut(node).route(port, vc)))
     }
 
     fn grant(&mut self, node: u8, port: u8, vc: u8, out_vc: u8) -> Result<Moved, StepFault>
         ensures { Replies self.old (Event.Grant node port vc out_vc) result self.new }
     {
-        if !self.fabric.has_grant(node, port, vc, out_vc) {
+        if !self.fabric.has_place(node, port, vc) || out_vc >= self.fabric.channels() {
             return Err(StepFault::NoSuchPlace);
         }
-        Ok(moved(self.fabric.grant(node, port, vc, out_vc)))
+        Ok(moved(self.fabric.router_mut(node).grant(port, vc, out_vc)))
     }
 
     fn send(&mut self, node: u8, port: u8, vc: u8) -> Result<Moved, StepFault>
@@ -341,7 +320,7 @@ impl Region {
     pub(crate) fn take(&mut self, node: u8, port: u8) -> Result<Moved, StepFault>
         ensures { Replies self.old (Event.Take node port) result self.new }
     {
-        let Some(number) = self.fabric.link_into(node, port) else {
+        let Some(number) = self.fabric.wires().find_into(node, port) else {
             return Err(StepFault::NoSuchPlace);
         };
         Ok(moved(self.fabric.take(node, port, number)))
@@ -351,10 +330,10 @@ impl Region {
         requires { self.old.own ≡ sole }
         ensures { Replies self.old (Event.GiveCredit node port vc) result self.new }
     {
-        if !self.fabric.has_line(node, port, vc) {
+        if self.fabric.wires().links_at(node, port).is_none() || vc >= self.fabric.channels() {
             return Err(StepFault::NoSuchPlace);
         }
-        if !self.fabric.owes(node, port, vc) {
+        if self.fabric.node(node).router.owed_count(port, vc) == 0 {
             return Ok(Moved::Idle);
         }
         self.give_owed(node, port, vc)
@@ -367,7 +346,7 @@ impl Region {
         requires within { EndsWithin (shape self.old) (owned self.old) node port }
         ensures { Replies self.old (Event.GiveCredit node port vc) result self.new }
     {
-        let Some(links) = self.fabric.links_at(node, port) else {
+        let Some(links) = self.fabric.wires().links_at(node, port) else {
             return Err(StepFault::NoSuchPlace);
         };
         self.fabric.give(node, port, vc, links);
@@ -377,7 +356,7 @@ impl Region {
     pub(crate) fn get(&mut self, node: u8, port: u8) -> Result<Moved, StepFault>
         ensures { Replies self.old (Event.TakeCredit node port) result self.new }
     {
-        let Some(number) = self.fabric.link_out(node, port) else {
+        let Some(number) = self.fabric.wires().find_out(node, port) else {
             return Err(StepFault::NoSuchPlace);
         };
         Ok(moved(self.fabric.get(node, port, number)))

@@ -1,5 +1,5 @@
 -- Which ports a look at what is known of a node finds: flits come in by them, or credits come back.
-use Rattle.std.proofs.Common.{◌≡◌, ◌==◌, ℕ, ◌*◌, ◌<◌, ◌≤◌, Bool, true, false, inl, inr, List, [], length, get_or, set}
+use Rattle.std.proofs.Common.{◌≡◌, ◌==◌, ℕ, ◌*◌, ◌<◌, ◌≤◌, Bool, true, false, inl, inr, List, [], length, get_or}
 use Rattle.std.proofs.Common.{Option, Some, None, refl, arith, ap, sym, ◌∙◌}
 use Rattle.std.specs.Prelude.{IfNone, IfSome, MatchOption, IsTrue, option_map, IsSome, is_some, slice_get}
 use Rattle.std.proofs.lemmas.List.{get_or_default}

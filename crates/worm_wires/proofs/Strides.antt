@@ -1,7 +1,7 @@
 -- What one step in a dimension adds to a node's number.
 use Rattle.std.proofs.Common.{ℕ, zero, suc, ◌≡◌, ◌+◌, ◌-◌, ◌*◌, ◌/◌, ◌%◌, ◌<◌, ◌≤◌, List, [], ◌∷◌, length, get_or, Bool}
 use Rattle.std.proofs.Common.{true, false}
-use Rattle.std.proofs.Common.{Option, Some, None, IsSome, arith, refl, ap, sym, ◌∙◌}
+use Rattle.std.proofs.Common.{Some, None, IsSome, arith, refl, ap, ◌∙◌}
 use Rattle.std.proofs.Math.Nat.{div-add-mod, zero-div, zero-mod}
 use Rattle.std.proofs.lemmas.Nat.{mul-le}
 use Rattle.worm_mesh.specs.Address.{AreRadices, digit_of, has_neighbour, neighbour_of, node_count, stride_of}

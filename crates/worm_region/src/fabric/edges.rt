@@ -15,23 +15,6 @@ use worm_flit::Flit;
 use worm_wires::PortLinks;
 
 impl Fabric {
-    /// By which port the front flit may leave, and as which flit, if it may.
-    pub(crate) fn ready(&self, node: u8, port: u8, vc: u8) -> Option<(u8, Flit)>
-        requires { IsNetPlace self.now node port vc }
-        ensures { result ≡ leaving (router_at self.now node) port vc }
-    {
-        self.nodes.node(node).router.ready(port, vc)
-    }
-
-    /// The ready flit leaves the node by the output port `out`, whose link is kept elsewhere.
-    pub(crate) fn let_out(&mut self, node: u8, port: u8, vc: u8, out: u8, flit: Flit)
-        requires place { IsNetPlace self.old node port vc }
-        requires ready { leaving (router_at self.old node) port vc ≡ Some (out, flit) }
-        ensures { self.new ≡ with_router self.old node (after_send (router_at self.old node) port vc) }
-    {
-        self.nodes.router_mut(node).let_out(port, vc, out, flit);
-    }
-
     /// The flit comes onto the link out of this port.
     pub(crate) fn arrive(&mut self, node: u8, port: u8, flit: Flit)
         requires links { length self.old.links ≡ link_count self.old.mesh }

@@ -1,10 +1,11 @@
 //! A fabric taken apart, and put together again. The configuration's lists have room in themselves, so neither takes
 //! memory.
 
-ghost use Rattle.std.specs.Prelude.{◌≡◌};
+ghost use Rattle.std.specs.Prelude.{◌≡◌, length};
 ghost use Rattle.worm_flit.specs.Channels.{AreChannels};
 ghost use Rattle.worm_mesh.specs.Address.{AreRadices};
 ghost use Rattle.worm_region.specs.Parts.{IsConfigOf, part_state};
+ghost use Rattle.worm_region.specs.UnderWay.{HaveClasses};
 
 use super::Fabric;
 use crate::config::copy_names;
@@ -79,6 +80,7 @@ impl Fabric {
     pub(crate) fn from_parts(parts: NetParts, own: Own) -> Fabric
         requires radices { AreRadices parts.config.radices.items }
         requires channels { AreChannels parts.config.channels.items }
+        requires nodes { HaveClasses (length parts.config.channels.items) parts.nodes.items }
         ensures { result ≡ part_state parts own }
     {
         let NetParts {
@@ -95,12 +97,14 @@ impl Fabric {
         let Ok(mesh) = Mesh::new(radices.as_slice()) else {
             unreachable!()
         };
+        let classes = ClassChannels::new(channels.as_slice());
+        let nodes = Nodes::new(nodes, classes.classes());
         Fabric {
             links: Links::new(mesh, links),
-            classes: ClassChannels::new(channels.as_slice()),
+            classes,
             depth,
             names,
-            nodes: Nodes::new(nodes),
+            nodes,
             own,
         }
     }

@@ -69,46 +69,10 @@ impl Fabric {
         self.links.link(number)
     }
 
-    /// The mesh.
-    pub(crate) fn mesh(&self) -> &Mesh
-        ensures { result.now ≡ self.now.mesh }
-    {
-        self.links.wiring().mesh()
-    }
-
-    /// How many flits each buffer holds.
-    pub(crate) fn depth(&self) -> u8
-        ensures { result ≡ self.now.depth }
-    {
-        self.depth
-    }
-
     /// Which nodes are owned.
     pub(crate) fn own(&self) -> Own
         ensures { result ≡ self.now.own }
     {
         self.own
-    }
-
-    /// Whether a flit is on the link out of this port.
-    pub(crate) fn has_flits(&self, node: u8, port: u8) -> bool
-        requires links { length self.now.links ≡ link_count self.now.mesh }
-        requires linked { IsSome (neighbour_of self.now.mesh node port) }
-        ensures { (result ≡ false) ↔ ((link_at self.now (link_out self.now node port)).flits ≡ []) }
-    {
-        self.link_from(node, port).front().is_some()
-    }
-
-    /// Whether a credit is on its way back over the link into this port.
-    pub(crate) fn has_credits(&self, node: u8, port: u8) -> bool
-        requires links { length self.now.links ≡ link_count self.now.mesh }
-        requires node { node < node_count self.now.mesh }
-        requires linked { IsSome (neighbour_of self.now.mesh node port) }
-        ensures { (result ≡ false) ↔ ((link_at self.now (link_into self.now node port)).credits ≡ []) }
-    {
-        let Some(number) = self.link_into(node, port) else {
-            unreachable!()
-        };
-        self.links.link(number).front_credit().is_some()
     }
 }

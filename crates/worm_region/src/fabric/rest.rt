@@ -1,4 +1,4 @@
-//! Whether a node is at rest: nothing can come into it, and its router has nothing to do.
+//! Whether a node is still: its source has nothing to feed, and its router has nothing to do.
 
 ghost use Rattle.std.specs.Prelude.{ℕ, ◌≡◌, ◌<◌, ◌≤◌, IfNone, IfSome, IsTrue, IsSome, None, false, length};
 ghost use Rattle.worm_mesh.specs.Address.{node_count, neighbour_of};
@@ -15,17 +15,6 @@ ghost use Rattle.worm_router.specs.Rest.{IsAtRest};
 use super::Fabric;
 
 impl Fabric {
-    /// Whether no credit is on a link out of the node, and no flit on a link into it.
-    fn are_links_still(&self, node: u8) -> bool
-        requires { node < node_count self.now.mesh }
-        ensures credits { IsTrue result → (p : ℕ) → IsSome (neighbour_of self.now.mesh node p) →
-            front_credit self.now node p ≡ None }
-        ensures flits { IsTrue result → (p : ℕ) → IsSome (neighbour_of self.now.mesh node p) →
-            front_into self.now node p ≡ None }
-    {
-        self.links.is_quiet(node)
-    }
-
     /// The first class from this one on of which the node's source has a flit, and for that there is room.
     pub(crate) fn next_class(&self, node: u8, from: u8) -> Option<u8>
         requires sound { IsWorkable self.now }
@@ -48,44 +37,21 @@ impl Fabric {
         None
     }
 
-    /// Whether the node's source has no flit for which there is room.
-    fn feeds_nothing(&self, node: u8) -> bool
-        requires sound { IsWorkable self.now }
-        requires node { node < node_count self.now.mesh }
-        ensures { IsTrue result → (k : ℕ) → k < length self.now.channels →
-            can_enter (router_at self.now node) (terminal (router_at self.now node))
-            (front_of (source_at self.now node) k) ≡ false }
-    {
-        self.next_class(node, 0).is_none()
-    }
-
-    /// Whether the node is found to be still; that is kept, so that it is not asked again until the node changes.
-    fn settles(&mut self, node: u8) -> bool
+    /// Whether the node is known to be still, or found to be, which is kept until the node changes. Where it is still
+    /// this may not be found.
+    pub(crate) fn is_still(&mut self, node: u8) -> bool
         requires sound { IsWorkable self.old }
         requires node { node < node_count self.old.mesh }
         ensures still { IsTrue result → IsStill (nth_node self.old.nodes node) }
         ensures same { self.new ≡ self.old }
     {
-        if !self.node(node).router.is_at_rest() || !self.feeds_nothing(node) {
+        if self.nodes.is_still(node) {
+            return true;
+        }
+        if !self.node(node).router.is_at_rest() || self.next_class(node, 0).is_some() {
             return false;
         }
         self.nodes.settle(node);
         true
-    }
-
-    /// Whether the node is at rest: what it would do in a turn once its source was asked would change nothing. Where
-    /// it is at rest this may not be found.
-    pub(crate) fn rests(&mut self, node: u8) -> bool
-        requires sound { IsWorkable self.old }
-        requires node { node < node_count self.old.mesh }
-        ensures comes { IsTrue result → ComesInBy Attempts node self.old None self.old }
-        ensures rest { IsTrue result → IsAtRest (router_at self.old node) }
-        ensures passes { IsTrue result → NodePassesBy Attempts node self.old None self.old }
-        ensures same { self.new ≡ self.old }
-    {
-        if !self.are_links_still(node) {
-            return false;
-        }
-        self.nodes.is_still(node) || self.settles(node)
     }
 }

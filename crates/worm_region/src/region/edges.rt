@@ -19,7 +19,7 @@ impl Region {
         requires { IsThere (shape self.now) (Event.Send node port vc) }
         ensures { result ≡ leaving (router_at self.now node) port vc }
     {
-        self.fabric.ready(node, port, vc)
+        self.fabric.node(node).router.ready(port, vc)
     }
 
     /// The ready flit leaves the node by the output port `out`, over a link to another worker's node: a Send but for
@@ -30,7 +30,7 @@ impl Region {
         requires crosses { EndsElsewhere (shape self.old) (owned self.old) node out }
         ensures { LetsOut self.old node port vc self.new }
     {
-        self.fabric.let_out(node, port, vc, out, flit);
+        self.fabric.router_mut(node).let_out(port, vc, out, flit);
     }
 
     /// The input channel owes one credit less, which goes back to another worker's node: a GiveCredit but for the
@@ -41,7 +41,7 @@ impl Region {
         requires crosses { EndsElsewhere (shape self.old) (owned self.old) node port }
         ensures { LetsGive self.old node port vc self.new }
     {
-        self.fabric.gave(node, port, vc);
+        self.fabric.router_mut(node).gave(port, vc);
     }
 
     /// Whether a flit is on the link out of this port. One that comes from another worker's node is taken off its
@@ -50,7 +50,7 @@ impl Region {
         requires { IsSome (neighbour_of self.now.mesh node port) }
         ensures { (result ≡ false) ↔ ((link_at self.now (link_out self.now node port)).flits ≡ []) }
     {
-        self.fabric.has_flits(node, port)
+        self.fabric.link_from(node, port).front().is_some()
     }
 
     /// Whether a credit is on its way back over the link into this port.
@@ -59,7 +59,10 @@ impl Region {
         requires linked { IsSome (neighbour_of self.now.mesh node port) }
         ensures { (result ≡ false) ↔ ((link_at self.now (link_into self.now node port)).credits ≡ []) }
     {
-        self.fabric.has_credits(node, port)
+        let Some(number) = self.fabric.wires().find_into(node, port) else {
+            unreachable!()
+        };
+        self.fabric.link(number).front_credit().is_some()
     }
 
     /// The flit comes onto the link out of this port of another worker's node, on which there is none.
@@ -84,7 +87,7 @@ impl Region {
         requires channel { vc < sum self.old.channels }
         ensures { ComesBack self.old node port vc self.new }
     {
-        let Some(links) = self.fabric.links_at(node, port) else {
+        let Some(links) = self.fabric.wires().links_at(node, port) else {
             unreachable!()
         };
         self.fabric.arrive_credit(node, port, links, vc);

@@ -16,7 +16,9 @@ impl Region {
         requires { IsWorkable (part_state parts own) }
         ensures { result ≡ part_state parts own }
     {
-        Region::of(Fabric::from_parts(parts, own))
+        Region {
+            fabric: Fabric::from_parts(parts, own),
+        }
     }
 
     /// The region's lists. It takes no memory.
@@ -24,7 +26,8 @@ impl Region {
         ensures parts { part_state result self.own ≡ self }
         ensures works { IsWorkable (part_state result self.own) }
     {
-        self.into_fabric().into_parts()
+        let Region { fabric } = self;
+        fabric.into_parts()
     }
 
     /// Which nodes are owned.
@@ -38,6 +41,6 @@ impl Region {
     pub fn mesh(&self) -> &Mesh
         ensures { result.now ≡ self.now.mesh }
     {
-        self.fabric.mesh()
+        self.fabric.wires().wiring().mesh()
     }
 }

@@ -1,5 +1,5 @@
-use Rattle.std.proofs.Common.{Option, Some, None, ap, ◌≡◌, ℕ, ◌∙◌, sym}
-use Rattle.worm_wires.specs.Wiring.{kept_number, out_link}
+use Rattle.std.proofs.Common.{ap, ◌∙◌, sym}
+use Rattle.worm_wires.specs.Wiring.{kept_number}
 use Rattle.worm_wires.proofs.Wired.{out_numbered}
 use Rattle.worm_wires.proofs.wiring.number_out.Goals as goal
 

@@ -1,36 +1,64 @@
-use Rattle.std.proofs.Common.{ℕ, ◌<◌, subst}
+use Rattle.std.proofs.Common.{ℕ, ◌≡◌, ◌<◌, List, None, Option, ap, slice_index_or, subst, ◌∙◌}
 use Rattle.worm_mesh.specs.Address.{node_count}
 use Rattle.worm_router.specs.Allocation.{switch_grants}
+use Rattle.worm_router.specs.Router.{RouterState}
+use Rattle.worm_swalloc.specs.declared.grant.SwGrant.{SwGrant}
+use Rattle.worm_swalloc.specs.SwAlloc.{AreGranted}
 use Rattle.worm_theory.specs.Steps.{IsThere, Send}
-use Rattle.worm_region.specs.State.{NetState, router_at, shape}
+use Rattle.worm_region.specs.Moves.{AreReady, chosen_router}
+use Rattle.worm_region.specs.State.{NetState, router_at, shape, with_router}
 use Rattle.worm_region.specs.Turns.{Chooses, ReachesAt}
-use Rattle.worm_region.proofs.Allocating.{chosen_in, ready_there, there_still}
+use Rattle.worm_region.proofs.Allocating.{chosen_in, named_ready, ready_there, there_still}
 use Rattle.worm_region.proofs.Sending.{granted_one}
 use Rattle.worm_region.proofs.region.Region.choose.Goals as goal
 
+-- the node's router after the pass
+chosen : (c : goal.After-channels) →
+    c.choose.new.self ≡ chosen_router (router_at c.self.inside.fabric c.args.node)
+unfolding chosen_router
+chosen c = c.choose.ensures.after ∙ ap (λ (r : RouterState). chosen_router r) c.router_mut.ensures.value
+
+-- what was granted is ready
+ready : (c : goal.After-channels) →
+    AreReady (router_at c.self.inside.fabric c.args.node) (switch_grants (router_at c.self.inside.fabric c.args.node))
+ready c =
+    subst (λ (r : RouterState). AreReady r (switch_grants r)) c.router_mut.ensures.value
+    (record {
+      each = λ p g granted.
+          named_ready c.router_mut.result.now p g.vc g.out
+          (c.choose.ensures.matching.requested p g
+          (ap (λ (gs : List (Option SwGrant)). slice_index_or gs p None) c.choose.ensures.grants ∙ granted)).0;
+    })
+
+granted : (c : goal.After-channels) →
+    AreGranted (switch_grants (router_at c.self.inside.fabric c.args.node)) c.channels.result
+granted c =
+    subst (λ (r : RouterState). AreGranted (switch_grants r) c.channels.result) c.router_mut.ensures.value
+    (subst (λ (gs : List (Option SwGrant)). AreGranted gs c.channels.result) c.choose.ensures.grants c.channels.ensures)
+
 pub invariant_of-self : goal.invariant_of-self
 invariant_of-self c =
-    rw c.choose.ensures.after (chosen_in c.self.inside.fabric c.args.node c.self.invariant
-    (rw (c.self.view_is) c.requires)).0
+    rw (chosen c) (chosen_in c.self.inside.fabric c.args.node c.self.invariant (rw (c.self.view_is) c.requires)).0
 
 pub returns-clause-reaches : goal.returns-clause-reaches
 returns-clause-reaches c =
-    subst (λ (s : NetState). ReachesAt c.args.node s c.choose.new.self) c.self.view_is
-    (rw c.choose.ensures.after (chosen_in c.self.inside.fabric c.args.node c.self.invariant
-    (rw (c.self.view_is) c.requires)).1)
+    rw (chosen c, ← c.self.view_is)
+    (chosen_in c.self.inside.fabric c.args.node c.self.invariant (rw (c.self.view_is) c.requires)).1
 
 pub returns-clause-chooses : goal.returns-clause-chooses
 returns-clause-chooses c =
-    subst (λ (s : NetState). Chooses c.args.node c.choose.result s c.choose.new.self) c.self.view_is
-    (c.choose.ensures.granted, c.choose.ensures.after)
+    subst (λ (s : NetState). Chooses c.args.node c.channels.result s
+    (with_router c.self.inside.fabric c.args.node c.choose.new.self)) c.self.view_is
+    (granted c, ap (λ (r : RouterState). with_router c.self.inside.fabric c.args.node r) (chosen c))
 
 pub returns-clause-there : goal.returns-clause-there
 returns-clause-there c = λ p v p_in v_in is.
     let s = c.self.inside.fabric in
     let x = c.args.node in
     let here : x < node_count s.mesh = rw (c.self.view_is) c.requires in
-    let grant = granted_one (switch_grants (router_at s x)) c.choose.result p v c.choose.ensures.granted p_in v_in is in
-    let at = ready_there s x p grant.0.vc c.self.invariant here (c.choose.ensures.ready.each p grant.0 grant.1) in
-    let chosen : ReachesAt x s c.choose.new.self = rw c.choose.ensures.after (chosen_in s x c.self.invariant here).1 in
-    there_still s c.choose.new.self x p v chosen.config
+    let grant = granted_one (switch_grants (router_at s x)) c.channels.result p v (granted c) p_in v_in is in
+    let at = ready_there s x p grant.0.vc c.self.invariant here ((ready c).each p grant.0 grant.1) in
+    let new = with_router s x c.choose.new.self in
+    let chosen : ReachesAt x s new = rw (chosen c) (chosen_in s x c.self.invariant here).1 in
+    there_still s new x p v chosen.config
     (subst (λ (vc : ℕ). IsThere (shape s) (Send x p vc)) grant.2 at)

@@ -1,31 +1,44 @@
-use Rattle.std.proofs.Common.{Ok, refl, subst}
+use Rattle.std.proofs.Common.{◌<◌, Ok, refl, subst}
+use Rattle.std.specs.Prelude.{IsSome}
+use Rattle.worm_mesh.specs.Address.{neighbour_of, node_count}
 use Rattle.worm_theory.specs.Steps.{Take, IsThere}
 use Rattle.worm_region.specs.Shape.{net_shape}
 use Rattle.worm_region.specs.State.{NetState, shape}
 use Rattle.worm_region.specs.Replies.{Replies}
 use Rattle.worm_region.specs.Answers.{moved_of}
 use Rattle.worm_region.proofs.TakeStep.{take_answers, front_fits}
+use Rattle.worm_region.proofs.Lines.{line_back, line_there}
 use Rattle.worm_region.proofs.There.{not_found}
 use Rattle.worm_region.proofs.Reaching.{still_workable}
 use Rattle.worm_region.proofs.region.Region.take.Goals as goal
+use Rattle.worm_region.proofs.region.Region.take.Goals.{In-Some}
+
+found : (c : goal.In-Some) → (c.args.node < node_count c.self.inside.fabric.mesh)
+    × IsSome (neighbour_of c.self.inside.fabric.mesh c.args.node c.args.port)
+found c =
+    line_there c.self.inside.fabric c.wires.result.now c.args.node c.args.port c.wires.ensures
+    (c.in-Some.ensures.there.0 refl)
 
 pub returns-in_default : goal.returns-in_default
 unfolding net_shape
 returns-in_default c = (
   subst (λ (s : NetState). IsThere (shape s) (Take c.args.node c.args.port) → ⊥) c.self.view_is
-      (λ there. not_found (c.in_default.ensures.there.1 there)),
+      (λ there. not_found (c.in_default.ensures.there.1 (line_back c.self.inside.fabric c.wires.result.now c.args.node
+      c.args.port c.wires.ensures there.1))),
   refl,
 )
 
 pub take-requires-clause-front : goal.take-requires-clause-front
 unfolding net_shape
 take-requires-clause-front c =
-    front_fits c.self.inside.fabric c.args.node c.args.port c.self.invariant (c.in-Some.ensures.there.0 refl)
+    front_fits c.self.inside.fabric c.args.node c.args.port c.self.invariant
+    (found (goal.at.take-requires-clause-front c).In-Some)
 
 pub invariant_of-self : goal.invariant_of-self
 unfolding net_shape
 invariant_of-self c =
-    let there = c.in-Some.ensures.there.0 refl in
+    let there =
+    found (goal.at.invariant_of-self c).In-Some in
     still_workable c.self.inside.fabric c.take.new.self (Take c.args.node c.args.port) (Ok (moved_of c.take.result))
     (rw c.take.ensures.after (take_answers c.self.inside.fabric c.args.node c.args.port c.self.invariant there
     c.take.result c.take.ensures.enabled))
@@ -35,7 +48,7 @@ unfolding net_shape
 returns c =
     let a =
     (take_answers c.self.inside.fabric c.args.node c.args.port c.self.invariant
-    (c.in-Some.ensures.there.0 refl) c.take.result c.take.ensures.enabled).1 in
+    (found (goal.at.returns c).In-Some) c.take.result c.take.ensures.enabled).1 in
     let moved : Replies c.self.inside.fabric (Take c.args.node c.args.port) (Ok c.moved.result) c.take.new.self =
     rw (c.moved.ensures, c.take.ensures.after) a in
     subst (λ (s : NetState). Replies s (Take c.args.node c.args.port) (Ok c.moved.result) c.take.new.self)

@@ -1,4 +1,4 @@
-use Rattle.std.proofs.Common.{◌≡◌, ◌+◌, ◌-◌, ℕ, Some, arith, ap, subst, sym, ◌∙◌}
+use Rattle.std.proofs.Common.{◌+◌, ◌-◌, ℕ, Some, arith, ap, subst, sym, ◌∙◌}
 use Rattle.worm_mesh.specs.Address.{AreRadices}
 use Rattle.worm_wires.proofs.Strides.{step_down, step_kept, step_up}
 use Rattle.worm_wires.proofs.wiring.Wiring.beyond.Goals as goal

@@ -1,7 +1,5 @@
-use Rattle.std.proofs.Common.{◌≡◌, ℕ, Option, None, ap, subst, sym, ◌∙◌}
-use Rattle.std.specs.Prelude.{option_map}
+use Rattle.std.proofs.Common.{subst, sym, ◌∙◌}
 use Rattle.worm_mesh.specs.Address.{AreRadices}
-use Rattle.worm_wires.specs.Wiring.{port_links}
 use Rattle.worm_wires.proofs.Wired.{none_kept, no_links_there, ports_within}
 use Rattle.worm_wires.proofs.wiring.Wiring.links_at.Goals as goal
 

@@ -1,7 +1,6 @@
-use Rattle.std.proofs.Common.{◌≡◌, Option, Some, ap, subst, sym, ◌∙◌}
+use Rattle.std.proofs.Common.{ap, subst, ◌∙◌}
 use Rattle.worm_mesh.specs.Address.{AreRadices}
-use Rattle.worm_wires.specs.Wiring.{kept_number, out_link, port_links}
-use Rattle.worm_wires.specs.declared.wiring.PortLinks.{PortLinks}
+use Rattle.worm_wires.specs.Wiring.{kept_number, out_link}
 use Rattle.worm_wires.proofs.Wired.{joined}
 use Rattle.worm_wires.proofs.wiring.Wiring.links_by.Goals as goal
 

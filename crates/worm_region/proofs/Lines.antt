@@ -1,0 +1,33 @@
+-- What the links say of a port that is looked up there, in the words of the whole network.
+use Rattle.std.proofs.Common.{◌≡◌, ℕ, ◌<◌, List, inl, inr, subst, sym}
+use Rattle.std.specs.Prelude.{IsSome}
+use Rattle.std.proofs.lemmas.Bool.{cases_lt}
+use Rattle.worm_mesh.specs.Address.{neighbour_of, node_count}
+use Rattle.worm_mesh.proofs.Neighbours.{no_node}
+use Rattle.worm_wires.specs.Arrivals.{LinksView}
+use Rattle.worm_region.specs.State.{NetState}
+use Rattle.worm_region.proofs.There.{not_found}
+
+-- the mesh, and what is on its links
+abbrev pub links_of : NetState → LinksView
+links_of s = record { mesh = s.mesh; states = s.links }
+
+-- a port with a neighbour is a node's
+of_node : (mesh : List ℕ) (x p : ℕ) → IsSome (neighbour_of mesh x p) → x < node_count mesh
+of_node mesh x p linked = elim (cases_lt x (node_count mesh)) [
+  | inl there ↦ there
+  | inr past ↦ absurd (not_found (rw (no_node mesh x p past) at linked))
+]
+
+-- a port that has a link there is a port of a node with a neighbour
+pub line_there : (s : NetState) (l : LinksView) (x p : ℕ) → l ≡ links_of s → IsSome (neighbour_of l.mesh x p)
+    → (x < node_count s.mesh) × IsSome (neighbour_of s.mesh x p)
+line_there s l x p is linked =
+    let there : IsSome (neighbour_of s.mesh x p) =
+    subst (λ (l : LinksView). IsSome (neighbour_of l.mesh x p)) is linked in
+    (of_node s.mesh x p there, there)
+
+-- and the other way round
+pub line_back : (s : NetState) (l : LinksView) (x p : ℕ) → l ≡ links_of s → IsSome (neighbour_of s.mesh x p)
+    → IsSome (neighbour_of l.mesh x p)
+line_back s l x p is linked = subst (λ (l : LinksView). IsSome (neighbour_of l.mesh x p)) (sym is) linked

@@ -1,0 +1,32 @@
+use Rattle.std.proofs.Common.{◌≡◌, Bool, Option, None, Some, arith, false, sym, subst}
+use Rattle.std.specs.Prelude.{IfNone, is_some}
+use Rattle.worm_router.specs.Rest.{IsAtRest}
+use Rattle.worm_region.specs.State.{NetState}
+use Rattle.worm_region.specs.Still.{IsStill, nth_node}
+use Rattle.worm_region.specs.declared.node.Node.{Node}
+use Rattle.worm_region.proofs.Resting.{found_still}
+use Rattle.worm_region.proofs.fabric.Fabric.is_still.Goals as goal
+
+where_none : {A : Type 0} (o : Option A) (some : Bool) (P : Type 0) → IfNone o P → some ≡ is_some o → some ≡ false → P
+where_none None some P holds is off = holds
+where_none (Some a) some P holds is off = absurd (cc)
+
+pub returns-then-is_still-clause-still : goal.returns-then-is_still-clause-still
+returns-then-is_still-clause-still c = λ yes.
+    subst (λ (s : NetState). IsStill (nth_node s.nodes c.args.node)) c.self.view_is
+    (c.is_still.ensures c.if-is_still.true)
+
+pub settle-requires : goal.settle-requires
+settle-requires c =
+    subst (λ (s : NetState). IsStill (nth_node s.nodes c.args.node)) (sym c.self.view_is)
+    (found_still c.args.self.now c.args.node c.requires.sound c.requires.node
+    (subst (λ (n : Node). IsAtRest n.router) c.node.ensures (c.is_at_rest.ensures c.if-not-is_at_rest.false))
+    (λ k below. where_none c.next_class.result c.is_some.result _ c.next_class.ensures.none c.is_some.ensures
+    c.if-is_some.false k (omega arith) below))
+
+pub returns-clause-still : goal.returns-clause-still
+returns-clause-still c = λ yes.
+    found_still c.args.self.now c.args.node c.requires.sound c.requires.node
+    (subst (λ (n : Node). IsAtRest n.router) c.node.ensures (c.is_at_rest.ensures c.if-not-is_at_rest.false))
+    (λ k below. where_none c.next_class.result c.is_some.result _ c.next_class.ensures.none c.is_some.ensures
+    c.if-is_some.false k (omega arith) below)
