@@ -1,5 +1,5 @@
 -- A lane that is not busy has no rows.
-use Rattle.std.proofs.Common.{◌≡◌, ◌<◌, ℕ, false, List, [], length, map, sym, ap}
+use Rattle.std.proofs.Common.{◌≡◌, ◌<◌, false, [], length, map, sym, ap}
 use Rattle.worm_flit.specs.declared.Lane.{Lane}
 use Rattle.worm_mesh.specs.Address.{node_count}
 use Rattle.worm_region.specs.State.{NetState}

@@ -1,8 +1,8 @@
 -- One write after another.
-use Rattle.std.proofs.Common.{◌≡◌, ℕ, zero, suc, inl, inr, ◌+◌, ◌-◌, ◌≤◌, ◌<◌, List, [], ◌∷◌, ◌++◌, length, take, drop}
+use Rattle.std.proofs.Common.{◌≡◌, ◌≢◌, ℕ, zero, suc, inl, inr, ◌+◌, ◌-◌, ◌≤◌, ◌<◌, List, [], ◌∷◌, ◌++◌, length, take, drop}
 use Rattle.std.proofs.Common.{map, get_or, Option, Some, None, Result, Ok, Err, refl, sym, ap, subst, ◌∙◌, append_assoc}
 use Rattle.std.proofs.Common.{arith}
-use Rattle.std.specs.Prelude.{OnOk, OnErr}
+use Rattle.std.specs.Prelude.{OnOk, OnErr, IfErr}
 use Rattle.std.specs.Result.{IsErr, result_and}
 use Rattle.std.specs.List.{flat_map, range_with_len}
 use Rattle.std.specs.Io.KnownBytes.{Appends, Keeps}
@@ -12,10 +12,10 @@ use Rattle.std.proofs.lemmas.List.{append-nil, take-append-drop, take_all, lengt
 use Rattle.std.proofs.lemmas.List.Concat.{flat_map-append}
 use Rattle.worm_report.specs.declared.row.Row.{Row}
 use Rattle.worm_report.specs.declared.summary.ReportFault.{ReportFault}
-use Rattle.worm_report.specs.declared.summary.ReportFault.TheVariants.{NoMemory}
+use Rattle.worm_report.specs.declared.summary.ReportFault.TheVariants.{NoMemory, Write}
 use Rattle.worm_report.specs.Rows.{row_text, rows_text}
 use Rattle.worm_report.specs.Report.{rows_below}
-use Rattle.worm_report.specs.Writing.{Desk, desk, Writes, WritesRows}
+use Rattle.worm_report.specs.Writing.{Desk, desk, Writes, WritesRows, WritesOrBreaksOff}
 
 abbrev pub Answer : Type 0
 Answer = Result (Unit {0}) ReportFault
@@ -28,22 +28,58 @@ Appends-Keeps None b h = tt
 Appends-Keeps (Some xs) None h = absurd h
 Appends-Keeps (Some xs) (Some ys) h = h ∙ sym (append-nil xs)
 
+-- ---- what is empty
+
+front_empty : (xs ys : List ℕ) → xs ++ ys ≡ [] → xs ≡ []
+front_empty [] ys e = refl
+front_empty (x ∷ xs) ys e = absurd (cc)
+
+back_empty : (xs ys : List ℕ) → xs ++ ys ≡ [] → ys ≡ []
+back_empty [] ys e = e
+back_empty (x ∷ xs) ys e = absurd (cc)
+
+one_is_there : (x : ℕ) → ◌≡◌ {A = List ℕ} (x ∷ []) [] → ⊥
+one_is_there x e = absurd (cc)
+
+-- a line is there, if only by its end
+line_is_there : (row : Row) (rows : List Row) → rows_text (row ∷ rows) ≢ []
+unfolding row_text
+line_is_there row rows none =
+    one_is_there 10 (back_empty _ (10 ∷ []) (front_empty (row_text row) (rows_text rows) none))
+
 -- ---- bytes
 
 on_err : (r : Answer) (P : Type 0) → IsErr r → OnOk r P
 on_err (Ok u) P h = absurd cc
 on_err (Err x) P h = tt
 
--- so many of the bytes were given
-pub given_part : {a b : Option (List ℕ)} {r : Answer} (bytes front rest : List ℕ) → IsErr r → bytes ≡ front ++ rest
-    → Appends a b front → Writes a b r bytes
-given_part {r = r} bytes front rest e whole given =
-    record { front = front; rest = rest; whole = whole; given = given; all = on_err r (rest ≡ []) e }
+on_fault : (r : Answer) (P : Type 0) → P → OnErr r P
+on_fault (Ok u) P h = tt
+on_fault (Err x) P h = h
+
+if_fault : (r : Answer) (P : Type 0) → P → IfErr r (λ fault. fault ≡ NoMemory → P)
+if_fault (Ok u) P h = tt
+if_fault (Err x) P h = λ want. h
+
+is_write : (P : Type 0) → Write ≡ NoMemory → P
+is_write P e = absurd (cc)
+
+-- so many of the bytes were given, and then the writer failed
+pub given_part : {a b : Option (List ℕ)} (bytes front rest : List ℕ) → bytes ≡ front ++ rest → Appends a b front
+    → Writes a b (Err Write) bytes
+given_part bytes front rest whole given = record {
+  front = front;
+  rest = rest;
+  whole = whole;
+  given = given;
+  all = tt;
+  more = is_write (rest ≢ []);
+}
 
 pub given_all : {a b : Option (List ℕ)} (bytes front rest : List ℕ) → length rest ≡ 0 → bytes ≡ front ++ rest
     → Appends a b front → Writes a b done bytes
 given_all bytes front [] none whole given =
-    record { front = front; rest = []; whole = whole; given = given; all = refl }
+    record { front = front; rest = []; whole = whole; given = given; all = refl; more = tt }
 given_all bytes front (b ∷ bs) none whole given = absurd (omega arith)
 
 -- one turn of the loop that gives what is left
@@ -117,6 +153,35 @@ rows_then {a = a} {b = b} {c = c} xs ys h k = record {
   all = k.all;
 }
 
+-- ---- rows broken off
+
+-- a fault, and a row at least behind it
+pub breaks_off : {a b : Desk} {r s : Answer} (xs : List Row) (y : Row) (ys : List Row) → IsErr s → WritesRows a b r xs
+    → WritesOrBreaksOff a b s (xs ++ y ∷ ys)
+unfolding rows_stop part
+breaks_off {s = s} xs y ys e w = record {
+  written = rows_stop xs (y ∷ ys) e w;
+  more = on_fault s (w.rest ++ rows_text (y ∷ ys) ≢ [])
+      (λ none. line_is_there y ys (back_empty w.rest (rows_text (y ∷ ys)) none));
+}
+
+pub then_breaks_off : {a b c : Desk} {r : Answer} (xs ys : List Row) → WritesRows a b done xs
+    → WritesOrBreaksOff b c r ys → WritesOrBreaksOff a c r (xs ++ ys)
+unfolding rows_then
+then_breaks_off xs ys h k = record { written = rows_then xs ys h k.written; more = k.more }
+
+-- a fault before the first line
+pub none_begun : {a : Option (List ℕ)} {r : Answer} (row : Row) (rows : List Row) → IsErr r
+    → Writes a a r (rows_text (row ∷ rows))
+none_begun {a = a} {r = r} row rows e = record {
+  front = [];
+  rest = rows_text (row ∷ rows);
+  whole = refl;
+  given = Appends-nil a;
+  all = on_err r (rows_text (row ∷ rows) ≡ []) e;
+  more = if_fault r (rows_text (row ∷ rows) ≢ []) (line_is_there row rows);
+}
+
 -- ---- pages
 
 -- the page was written, or a first part of it, and is empty
@@ -134,20 +199,26 @@ page_turned was now empty w = record {
 -- a line was put on the page, or there was no memory for it
 pub line_added : {given : Option (List ℕ)} (r : Answer) (was now : List ℕ) (row : Row)
     → OnOk r (now ≡ was ++ row_text row) → OnErr r (now ≡ was)
-    → WritesRows (desk given was) (desk given now) r (row ∷ [])
+    → WritesOrBreaksOff (desk given was) (desk given now) r (row ∷ [])
 line_added {given = given} (Ok u) was now row ok err = record {
-  front = [];
-  rest = [];
-  whole = ap (λ (z : List ℕ). was ++ z) (append-nil (row_text row)) ∙ sym ok ∙ sym (append-nil now);
-  given = Appends-nil given;
-  all = refl;
+  written = record {
+    front = [];
+    rest = [];
+    whole = ap (λ (z : List ℕ). was ++ z) (append-nil (row_text row)) ∙ sym ok ∙ sym (append-nil now);
+    given = Appends-nil given;
+    all = refl;
+  };
+  more = tt;
 }
 line_added {given = given} (Err e) was now row ok err = record {
-  front = [];
-  rest = rows_text (row ∷ []);
-  whole = ap (λ (z : List ℕ). z ++ rows_text (row ∷ [])) (sym err);
-  given = Appends-nil given;
-  all = tt;
+  written = record {
+    front = [];
+    rest = rows_text (row ∷ []);
+    whole = ap (λ (z : List ℕ). z ++ rows_text (row ∷ [])) (sym err);
+    given = Appends-nil given;
+    all = tt;
+  };
+  more = line_is_there row [];
 }
 
 both_done : (r s : Answer) (rest : List ℕ) (more : List ℕ) → OnOk r (rest ≡ []) → OnOk s (more ≡ [])
@@ -156,10 +227,18 @@ both_done (Ok u) (Ok v) rest more no_rest no_more = ap (λ (z : List ℕ). z ++ 
 both_done (Ok u) (Err e) rest more no_rest no_more = tt
 both_done (Err e) s rest more no_rest no_more = tt
 
+both_more : (r s : Answer) (rest more : List ℕ) → OnErr r (rest ≢ [])
+    → IfErr s (λ fault. fault ≡ NoMemory → more ≢ [])
+    → IfErr (result_and r s) (λ fault. fault ≡ NoMemory → more ++ rest ≢ [])
+both_more (Ok u) (Ok v) rest more h k = tt
+both_more (Ok u) (Err e) rest more h k = λ want none. k want (front_empty more rest none)
+both_more (Err e) s rest more h k = λ want none. h (back_empty more rest none)
+
 -- All rows were made, or up to a fault, and then the page was closed.
 pub report_closed : {a b c : Option (List ℕ)} {r s : Answer} (fresh page : List ℕ) (rows : List Row) → fresh ≡ []
-    → WritesRows (desk a fresh) (desk b page) r rows → Writes b c s page → Writes a c (result_and r s) (rows_text rows)
-report_closed {a = a} {b = b} {c = c} {r = r} {s = s} fresh page rows empty made closed = record {
+    → WritesOrBreaksOff (desk a fresh) (desk b page) r rows → Writes b c s page
+    → Writes a c (result_and r s) (rows_text rows)
+report_closed {a = a} {b = b} {c = c} {r = r} {s = s} fresh page rows empty off closed = let made = off.written in record {
   front = made.front ++ closed.front;
   rest = closed.rest ++ made.rest;
   whole =
@@ -169,26 +248,32 @@ report_closed {a = a} {b = b} {c = c} {r = r} {s = s} fresh page rows empty made
       ∙ append_assoc (made.front ++ closed.front) closed.rest made.rest;
   given = Appends-trans a b c made.front closed.front made.given closed.given;
   all = both_done r s made.rest closed.rest made.all closed.all;
+  more = both_more r s made.rest closed.rest off.more closed.more;
 }
 
--- the writer passed on what it was given, or did not
-pub passed_on : {a b c : Option (List ℕ)} {s : Answer} (bytes : List ℕ) → Writes a b done bytes → Keeps b c
-    → Writes a c s bytes
-passed_on {a = a} {b = b} {c = c} {s = s} bytes w kept = record {
-  front = bytes;
-  rest = [];
-  whole = sym (append-nil bytes);
-  given = subst (Appends a c) (append-nil bytes)
-      (Appends-trans a b c bytes [] (subst (Appends a b) (all_given w.front w.rest bytes w.whole w.all) w.given)
-      (Appends-Keeps b c kept));
-  all = on_any s;
-} where
-  on_any : (r : Answer) → OnOk r (◌≡◌ {A = List ℕ} [] [])
-  on_any (Ok u) = refl
-  on_any (Err e) = tt
+given_and_kept : (a b c : Option (List ℕ)) (bytes : List ℕ) → Writes a b done bytes → Keeps b c → Appends a c bytes
+given_and_kept a b c bytes w kept =
+    subst (Appends a c) (append-nil bytes)
+    (Appends-trans a b c bytes [] (subst (Appends a b) (all_given w.front w.rest bytes w.whole w.all) w.given)
+    (Appends-Keeps b c kept))
+
+-- the writer passed on what it was given
+pub passed_on : {a b c : Option (List ℕ)} (bytes : List ℕ) → Writes a b done bytes → Keeps b c → Writes a c done bytes
+passed_on {a = a} {b = b} {c = c} bytes w kept =
+    given_all bytes bytes [] refl (sym (append-nil bytes)) (given_and_kept a b c bytes w kept)
+
+-- or it did not
+pub not_passed_on : {a b c : Option (List ℕ)} (bytes : List ℕ) → Writes a b done bytes → Keeps b c
+    → Writes a c (Err Write) bytes
+not_passed_on {a = a} {b = b} {c = c} bytes w kept =
+    given_part bytes bytes [] (sym (append-nil bytes)) (given_and_kept a b c bytes w kept)
 
 pub same_rows : {a b : Desk} {r : Answer} (xs ys : List Row) → xs ≡ ys → WritesRows a b r xs → WritesRows a b r ys
 same_rows {a = a} {b = b} {r = r} xs ys e w = subst (λ (rows : List Row). WritesRows a b r rows) e w
+
+pub same_broken_off : {a b : Desk} {r : Answer} (xs ys : List Row) → xs ≡ ys → WritesOrBreaksOff a b r xs
+    → WritesOrBreaksOff a b r ys
+same_broken_off {a = a} {b = b} {r = r} xs ys e w = subst (λ (rows : List Row). WritesOrBreaksOff a b r rows) e w
 
 -- ---- a loop over numbers
 

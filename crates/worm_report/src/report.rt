@@ -7,7 +7,7 @@ ghost use Rattle.worm_report.specs.Seen.{seen};
 ghost use Rattle.worm_report.specs.Report.{options_rows, stop_rows, stops_rows, opening_rows, delivered_rows};
 ghost use Rattle.worm_report.specs.Report.{lane_rows, pair_rows, source_rows, underway_rows, flits_rows, closing_rows};
 ghost use Rattle.worm_report.specs.Report.{report};
-ghost use Rattle.worm_report.specs.Writing.{desk, Writes, WritesRows};
+ghost use Rattle.worm_report.specs.Writing.{desk, Writes, WritesRows, WritesOrBreaksOff};
 
 use crate::page::Page;
 use crate::row::Row;
@@ -239,7 +239,7 @@ fn put_closing<W: Write>(
     net: &Net,
     summary: &Summary,
 ) -> Result<(), ReportFault>
-    ensures { WritesRows (desk (W.contents out.old) page.old) (desk (W.contents out.new) page.new) result
+    ensures { WritesOrBreaksOff (desk (W.contents out.old) page.old) (desk (W.contents out.new) page.new) result
         (closing_rows (seen net.now) summary.now) }
 {
     let entries = summary.not_offered;
@@ -260,7 +260,7 @@ fn put_report<W: Write>(
     net: &Net,
     summary: &Summary,
 ) -> Result<(), ReportFault>
-    ensures { WritesRows (desk (W.contents out.old) page.old) (desk (W.contents out.new) page.new) result
+    ensures { WritesOrBreaksOff (desk (W.contents out.old) page.old) (desk (W.contents out.new) page.new) result
         (opening_rows summary.now ++ flits_rows (seen net.now) ++ closing_rows (seen net.now) summary.now) }
 {
     put_opening(out, page, summary)?;
@@ -270,7 +270,7 @@ fn put_report<W: Write>(
 
 /// Writes the report of a network and of the run that led to it. `Write` where the writer failed or took nothing,
 /// `NoMemory` where there was no memory for a page, for a line, for the set of busy lanes or for the view of a lane;
-/// a first part of the report has then gone out.
+/// a first part of the report has then gone out, and where memory ran out not all of it.
 pub fn write_report<W: Write>(
     alloc: Global,
     net: &Net,

@@ -1,7 +1,7 @@
 //! Bytes and lines into a writer, whole or a first part of them.
 
 ghost use Rattle.std.specs.Prelude.{◌≡◌, [], ◌∷◌};
-ghost use Rattle.worm_report.specs.Writing.{desk, Writes, WritesRows};
+ghost use Rattle.worm_report.specs.Writing.{desk, Writes, WritesRows, WritesOrBreaksOff};
 
 use crate::page::Page;
 use crate::row::Row;
@@ -45,7 +45,8 @@ fn make_room<W: Write>(out: &mut W, page: &mut Page) -> Result<(), ReportFault>
 
 /// Puts the line of a row on the page, whose other lines the writer is given where it is full.
 pub fn put_row<W: Write>(out: &mut W, page: &mut Page, row: Row) -> Result<(), ReportFault>
-    ensures { WritesRows (desk (W.contents out.old) page.old) (desk (W.contents out.new) page.new) result (row ∷ []) }
+    ensures { WritesOrBreaksOff (desk (W.contents out.old) page.old) (desk (W.contents out.new) page.new) result
+        (row ∷ []) }
 {
     make_room(out, page)?;
     page.add(row)

@@ -1,8 +1,9 @@
-use Rattle.std.proofs.Common.{sym, subst, ◌++◌}
+use Rattle.std.proofs.Common.{[], ◌∷◌, sym, subst, ◌++◌}
+use Rattle.worm_report.specs.declared.row.Row.TheVariants.{Header, Options}
 use Rattle.worm_report.specs.Seen.{seen}
-use Rattle.worm_report.specs.Report.{opening_rows, flits_rows, closing_rows, report}
+use Rattle.worm_report.specs.Report.{opening_rows, stops_rows, flits_rows, closing_rows, report}
 use Rattle.worm_report.specs.Writing.{Writes}
-use Rattle.worm_report.proofs.Written.{Answer, report_closed}
+use Rattle.worm_report.proofs.Written.{Answer, none_begun, report_closed}
 use Rattle.worm_report.proofs.report.write_report.Goals as goal
 
 pub returns : goal.returns
@@ -14,3 +15,10 @@ returns g c =
     (sym c.and.ensures)
     (report_closed c.in_ok-page.page c.put_report-made.new.page rows c.in_ok-page.ensures.ok c.put_report-made.ensures
     c.close-closed.ensures)
+
+pub returns-in_err-page : goal.returns-in_err-page
+returns-in_err-page g c =
+    let net = seen c.args.net.now in
+    let summary = c.args.summary.now in
+    none_begun Header (Options summary.turns summary.workers summary.drain ∷ []
+    ++ stops_rows summary.stops ++ flits_rows net ++ closing_rows net summary) c.from_residual.ensures.0

@@ -1,4 +1,4 @@
-use Rattle.worm_report.proofs.Written.{no_rows, page_turned}
+use Rattle.worm_report.proofs.Written.{page_turned}
 use Rattle.worm_report.proofs.writing.make_room.Goals as goal
 
 pub returns-then-is_full : goal.returns-then-is_full
