@@ -41,23 +41,24 @@ impl Router {
         ensures after { self.new ≡ with_port_grants grants.now self.old port }
         ensures same { IsSameSize self.old self.new }
     {
-        let channels = self.classes.total();
-        if grants.keys().row(port, channels) == 0 {
-            return;
-        }
-        for vc in 0..channels {
+        for vc in 0..self.classes.total() {
             self.write_grant(port, vc, grants.get(port, vc));
         }
     }
 
     /// Writes grants into the records, one by one, by rising input port.
     fn write(&mut self, grants: &VcGrants)
+        requires few { width self.old ≤ 8 }
         requires within { GrantsWithin (width self.old) grants.now }
         ensures after { self.new ≡ with_grants grants.now self.old }
         ensures same { IsSameSize self.old self.new }
     {
-        for port in 0..self.terminal() + 1 {
-            self.write_port(grants, port);
+        let terminal = self.terminal();
+        let mut left = grants.keys();
+        while let Some(port) = left.pop_port() {
+            if port <= terminal {
+                self.write_port(grants, port);
+            }
         }
     }
 

@@ -1,12 +1,12 @@
 use Rattle.std.proofs.Common.{arith, ap, refl}
 use Rattle.worm_router.specs.Router.{width}
-use Rattle.worm_router.proofs.GrantsWritten.{grant_written, place_stays, written_port, port_without}
+use Rattle.worm_router.proofs.GrantsWritten.{grant_written, place_stays, written_port}
 use Rattle.worm_router.proofs.router.Router.write_port.Goals as goal
 
 pub write_grant-requires-clause-place : goal.write_grant-requires-clause-place
 write_grant-requires-clause-place c =
     place_stays c.args.self.now c.loop-vc.self c.args.port c.loop-vc.vc c.loop-vc.invariant.same c.requires.port
-    (omega (arith, c.total-channels.ensures.value, c.loop-vc-test.true, ap width c.self.view_is))
+    (omega (arith, c.total-vc-end.ensures.value, c.loop-vc-test.true, ap width c.self.view_is))
 
 pub loop-vc-preserved : goal.loop-vc-preserved
 loop-vc-preserved c =
@@ -18,14 +18,8 @@ returns-clause-after c =
     written_port c.args.self.now c.loop-vc.self c.args.grants.now c.args.port c.loop-vc.vc
     (omega (
       arith,
-      c.total-channels.ensures.value,
+      c.total-vc-end.ensures.value,
       c.loop-vc-test.false,
       c.loop-vc.auto.vc-end,
       ap width c.self.view_is,
     )) c.loop-vc.invariant
-
-pub returns-then-row-eq0-clause-after : goal.returns-then-row-eq0-clause-after
-returns-then-row-eq0-clause-after c =
-    port_without _ c.args.self.now c.args.grants.now c.keys.result c.row.result c.args.port c.total-channels.result
-    c.self.view_is c.total-channels.ensures.value c.self.invariant.busy.few_channels c.requires.few c.keys.ensures
-    c.row.ensures.lines c.if-row-eq0.true
