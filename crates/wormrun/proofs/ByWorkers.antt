@@ -168,6 +168,7 @@ module _ (may : ℕ → ℕ → Type 0) (network traffic : List ℕ) (plan : Run
   pub together_so : (result : Result (Unit {0}) ProgramFault) → WritesReport out fault result bytes →
       MatchResult result (λ _. ReportsTogether may network traffic plan drain out)
       (FailsTogether may plan drain out network traffic)
+  unfolding part
   together_so (Ok done) writes = record {
     bytes = bytes;
     reported = record {
@@ -183,7 +184,7 @@ module _ (may : ℕ → ℕ → Type 0) (network traffic : List ℕ) (plan : Run
     };
     written = writes.1;
   }
-  together_so (Err f.NoMemory) writes = inr (part writes)
+  together_so (Err f.NoMemory) writes = inr record { part = part writes.part; short = writes.short }
   together_so (Err f.Write) writes = part writes
   together_so (Err f.Workers) writes = absurd writes
   together_so (Err (f.Network t)) writes = absurd writes

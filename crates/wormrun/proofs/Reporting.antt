@@ -7,12 +7,31 @@ use Rattle.worm_region.specs.declared.fault.StepFault.TheVariants.{NoMemory as N
 use Rattle.worm_core.specs.Acceptable.{EndsForMemory}
 use Rattle.worm_region.specs.State.{NetState}
 use Rattle.worm_region.specs.Turns.{OneThreadRun}
+use Rattle.worm_report.specs.declared.summary.ReportFault.{ReportFault}
+use Rattle.worm_report.specs.declared.summary.ReportFault.TheVariants.{NoMemory}
+use Rattle.worm_report.specs.Writing.{Writes}
 use Rattle.wormrun.specs.declared.fault.ProgramFault.{ProgramFault}
 use Rattle.wormrun.specs.declared.fault.ProgramFault.TheVariants as f
 use Rattle.wormrun.specs.declared.turns.Ending.{Ending}
 use Rattle.wormrun.specs.Programs.{Stream, IsReported, Reports, ReportsPart, whole_run, WritesFront, WritesReport}
-use Rattle.wormrun.specs.Programs.{Fails}
+use Rattle.wormrun.specs.Programs.{Fails, WritesShort}
 use Rattle.wormrun.proofs.OneReport.{one_report}
+
+-- there was no memory for the report itself
+pub no_room : (out : Stream) (fault : Option StepFault) (bytes : List ℕ) (e : ReportFault) → e ≡ NoMemory
+    → Writes out.old out.new (Err e) bytes → WritesShort out fault bytes
+no_room out fault bytes e want w = record {
+  part = record { front = w.front; rest = w.rest; parts = w.whole; written = w.given };
+  short = λ none. absurd (w.more want none);
+}
+
+-- it is out, and memory had run out before
+pub ran_out : (out : Stream) (fault : Option StepFault) (bytes : List ℕ) → Writes out.old out.new (Ok tt) bytes
+    → fault ≡ Some NoRoom → WritesShort out fault bytes
+ran_out out fault bytes w want = record {
+  part = record { front = w.front; rest = w.rest; parts = w.whole; written = w.given };
+  short = λ none. want;
+}
 
 part : (network traffic : List ℕ) (turns drain : ℕ) (ending : Ending) (out : Stream) (bytes : List ℕ)
     → IsReported network traffic turns drain ending bytes → EndsForMemory ending.fault → WritesFront out bytes
@@ -48,6 +67,7 @@ pub reported_so : (network traffic : List ℕ) (turns drain : ℕ) (ending : End
     → IsReported network traffic turns drain ending bytes → EndsForMemory ending.fault
     → WritesReport out ending.fault result bytes
     → MatchResult result (λ _. Reports network traffic turns drain out) (Fails network traffic turns drain out)
+unfolding part
 reported_so network traffic turns drain ending out bytes (Ok done) reported quiet writes =
     let whole = is_whole network traffic turns drain ending bytes reported
     (no_fault ending.fault quiet writes.0) in
@@ -58,7 +78,10 @@ reported_so network traffic turns drain ending out bytes (Ok done) reported quie
       written = writes.1;
     }
 reported_so network traffic turns drain ending out bytes (Err f.NoMemory) reported quiet writes =
-    inr (part network traffic turns drain ending out bytes reported quiet writes)
+    inr record {
+      part = part network traffic turns drain ending out bytes reported quiet writes.part;
+      short = writes.short;
+    }
 reported_so network traffic turns drain ending out bytes (Err f.Write) reported quiet writes =
     part network traffic turns drain ending out bytes reported quiet writes
 reported_so network traffic turns drain ending out bytes (Err (f.Network t)) reported quiet writes = absurd writes

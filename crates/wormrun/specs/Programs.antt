@@ -112,11 +112,20 @@ pub record WritesFront (out : Stream) (bytes : List ℕ) : Type 0 where
   pub parts : bytes ≡ front ++ rest
   pub written : Appends out.old out.new front
 
+-- some of a report is still to come, unless memory had run out in its run
+abbrev pub IsCutShort : Option StepFault → List ℕ → Type 0
+IsCutShort fault rest = rest ≡ [] → fault ≡ Some NoRoom
+
+-- memory ran out: a first part of the bytes was written, and all of them only where it ran out in the run
+pub record WritesShort (out : Stream) (fault : Option StepFault) (bytes : List ℕ) : Type 0 where
+  pub part : WritesFront out bytes
+  pub short : IsCutShort fault part.rest
+
 -- What a call wrote of the report of a run that ended with this fault, or with none. Want of memory in the run is told
 -- where the report is out.
 abbrev pub WritesReport : Stream → Option StepFault → Result (Unit {0}) ProgramFault → List ℕ → Type 0
 WritesReport out fault (Ok _) bytes = (fault ≢ Some NoRoom) × Appends out.old out.new bytes
-WritesReport out fault (Err f.NoMemory) bytes = WritesFront out bytes
+WritesReport out fault (Err f.NoMemory) bytes = WritesShort out fault bytes
 WritesReport out fault (Err f.Write) bytes = WritesFront out bytes
 WritesReport out fault (Err (f.Network t)) bytes = ⊥
 WritesReport out fault (Err (f.Traffic t)) bytes = ⊥
@@ -144,13 +153,19 @@ pub record ReportsPart (network traffic : List ℕ) (turns drain : ℕ) (out : S
   pub reported : IsReported network traffic turns drain ending bytes
   pub written : WritesFront out bytes
 
+-- the same where memory ran out: all of the report only where it ran out in the run
+pub record ReportsShort (network traffic : List ℕ) (turns drain : ℕ) (out : Stream) : Type 0 where
+  pub part : ReportsPart network traffic turns drain out
+  pub short : IsCutShort part.ending.fault part.written.rest
+
 -- what a fault tells of two texts at hand
 abbrev pub Fails : List ℕ → List ℕ → ℕ → ℕ → Stream → ProgramFault → Type 0
 Fails network traffic turns drain out (f.Network t) = IsRefusedAs network traffic (f.Network t) × Keeps out.old out.new
 Fails network traffic turns drain out (f.Traffic t) = IsRefusedAs network traffic (f.Traffic t) × Keeps out.old out.new
 Fails network traffic turns drain out f.ReadNetwork = ⊥
 Fails network traffic turns drain out f.ReadTraffic = ⊥
-Fails network traffic turns drain out f.NoMemory = Keeps out.old out.new ⊎ ReportsPart network traffic turns drain out
+Fails network traffic turns drain out f.NoMemory =
+    Keeps out.old out.new ⊎ ReportsShort network traffic turns drain out
 Fails network traffic turns drain out f.Write = ReportsPart network traffic turns drain out
 Fails network traffic turns drain out f.Workers = ⊥
 Fails network traffic turns drain out (f.NotStarted w) = ⊥

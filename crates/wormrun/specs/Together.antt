@@ -28,7 +28,8 @@ use Rattle.worm_report.specs.Report.{report}
 use Rattle.worm_report.specs.Seen.{seen}
 use Rattle.wormrun.specs.declared.fault.ProgramFault.{ProgramFault}
 use Rattle.wormrun.specs.declared.fault.ProgramFault.TheVariants as f
-use Rattle.wormrun.specs.Programs.{FailsReading, GaveBoth, IsRefusedAs, SaysNetwork, SaysTraffic, Stream, WritesFront}
+use Rattle.wormrun.specs.Programs.{FailsReading, GaveBoth, IsCutShort, IsRefusedAs, SaysNetwork, SaysTraffic, Stream}
+use Rattle.wormrun.specs.Programs.{WritesFront}
 
 -- Stops
 
@@ -150,6 +151,12 @@ pub record PartTogether (may : ℕ → ℕ → Type 0) (network traffic : List �
       network traffic plan drain bytes
   pub written : WritesFront out bytes
 
+-- the same where memory ran out: all of the report only where it ran out in the run
+pub record ShortTogether (may : ℕ → ℕ → Type 0) (network traffic : List ℕ) (plan : RunPlan) (drain : ℕ)
+    (out : Stream) : Type 0 where
+  pub part : PartTogether may network traffic plan drain out
+  pub short : IsCutShort part.fault part.written.rest
+
 -- both texts are accepted, and this holds of the number of nodes
 pub record HasNodes (Holds : ℕ → Type 0) (network traffic : List ℕ) : Type 0 where
   pub config : Network
@@ -168,7 +175,7 @@ FailsTogether may plan drain out network traffic (f.Traffic t) =
 FailsTogether may plan drain out network traffic f.ReadNetwork = ⊥
 FailsTogether may plan drain out network traffic f.ReadTraffic = ⊥
 FailsTogether may plan drain out network traffic f.NoMemory =
-    Keeps out.old out.new ⊎ PartTogether may network traffic plan drain out
+    Keeps out.old out.new ⊎ ShortTogether may network traffic plan drain out
 FailsTogether may plan drain out network traffic (f.NotStarted w) =
     (w < plan.workers) × HasNodes (λ nodes. plan.workers ≤ nodes) network traffic × Keeps out.old out.new
 FailsTogether may plan drain out network traffic f.Write = PartTogether may network traffic plan drain out

@@ -175,8 +175,8 @@ fn run_and_report<W: Write>(
 ///
 /// `ReadNetwork` and `ReadTraffic` where a reader failed or gave more than 8,388,608 bytes; `Network` and `Traffic`
 /// where a text is refused; `Write` where the writer failed or took nothing, and `NoMemory` where memory ran out: a
-/// first part of the report may then be out, and all of it where memory ran out in a turn. With every other fault
-/// nothing was written.
+/// first part of the report may then be out, and with `NoMemory` all of it only where memory ran out in a turn. With
+/// every other fault nothing was written.
 pub fn run_alone<N: Read, F: Read, W: Write>(
     alloc: Global,
     network: &mut N,
