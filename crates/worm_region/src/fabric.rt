@@ -23,8 +23,7 @@ ghost use Rattle.std.specs.Borrow.{Lends, sem};
 ghost use Rattle.worm_region.specs.contracts.fabric.Fabric.{the_row};
 ghost use Rattle.worm_router.specs.contracts.router.Router.{the_row as router_row};
 
-mod edges;
-mod parts;
+pub(crate) mod parts;
 mod readers;
 mod rest;
 
@@ -45,17 +44,17 @@ use worm_wires::{Links, PortLinks};
 #[derive(Drop)]
 pub struct Fabric {
     /// The mesh, and the links by number.
-    links: Links,
+    pub(crate) links: Links,
     /// The channels that classes own.
-    classes: ClassChannels,
+    pub(crate) classes: ClassChannels,
     /// How many flits each buffer holds, 1 to 16.
-    depth: u8,
+    pub(crate) depth: u8,
     /// The classes' names.
-    names: ArrayVec<Name, 4>,
+    pub(crate) names: ArrayVec<Name, 4>,
     /// The nodes by number.
-    nodes: Nodes,
+    pub(crate) nodes: Nodes,
     /// Which of the nodes are owned by whoever has the fabric. No code asks; what holds of a fabric does.
-    own: Own,
+    pub(crate) own: Own,
 }
 
 impl Model for Fabric {

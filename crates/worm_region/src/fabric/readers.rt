@@ -68,11 +68,4 @@ impl Fabric {
     {
         self.links.link(number)
     }
-
-    /// Which nodes are owned.
-    pub(crate) fn own(&self) -> Own
-        ensures { result ≡ self.now.own }
-    {
-        self.own
-    }
 }

@@ -74,7 +74,7 @@ impl Region {
         requires goal { flit.lane.dst < node_count self.old.mesh }
         ensures { Arrives self.old node port flit self.new }
     {
-        self.fabric.arrive(node, port, flit);
+        self.fabric.links.push(node, port, flit);
     }
 
     /// The credit of the channel, which this port of another worker's node gave, comes onto its way back over the link
@@ -90,6 +90,6 @@ impl Region {
         let Some(links) = self.fabric.wires().links_at(node, port) else {
             unreachable!()
         };
-        self.fabric.arrive_credit(node, port, links, vc);
+        self.fabric.links.push_credit(node, port, links, vc);
     }
 }

@@ -6,8 +6,12 @@ ghost use Rattle.worm_region.specs.Workable.{IsWorkable};
 
 use super::Region;
 use crate::fabric::Fabric;
-use crate::{NetParts, Own};
+use crate::fabric::parts::{counts_of, radices_of};
+use crate::nodes::Nodes;
+use crate::{Config, NetParts, Own};
+use worm_flit::ClassChannels;
 use worm_mesh::Mesh;
+use worm_wires::Links;
 
 impl Region {
     /// The region of these lists, of which the worker owns its nodes: each node at its own number, others in the
@@ -16,8 +20,31 @@ impl Region {
         requires { IsWorkable (part_state parts own) }
         ensures { result ≡ part_state parts own }
     {
+        let NetParts {
+            config,
+            nodes,
+            links,
+        } = parts;
+        let Config {
+            radices,
+            depth,
+            classes: names,
+            channels,
+        } = config;
+        let Ok(mesh) = Mesh::new(radices.as_slice()) else {
+            unreachable!()
+        };
+        let classes = ClassChannels::new(channels.as_slice());
+        let nodes = Nodes::new(nodes, classes.classes());
         Region {
-            fabric: Fabric::from_parts(parts, own),
+            fabric: Fabric {
+                links: Links::new(mesh, links),
+                classes,
+                depth,
+                names,
+                nodes,
+                own,
+            },
         }
     }
 
@@ -27,14 +54,32 @@ impl Region {
         ensures works { IsWorkable (part_state result self.own) }
     {
         let Region { fabric } = self;
-        fabric.into_parts()
+        let Fabric {
+            links,
+            classes,
+            depth,
+            names,
+            nodes,
+            own: _,
+        } = fabric;
+        let config = Config {
+            radices: radices_of(links.wiring().mesh()),
+            depth,
+            classes: names,
+            channels: counts_of(&classes),
+        };
+        NetParts {
+            config,
+            nodes: nodes.into_list(),
+            links: links.into_states(),
+        }
     }
 
     /// Which nodes are owned.
     pub fn own(&self) -> Own
         ensures { result ≡ self.now.own }
     {
-        self.fabric.own()
+        self.fabric.own
     }
 
     /// The mesh.

@@ -22,7 +22,12 @@ loop-node-preserved c =
     let delivered : length c.delivered.result.now ≡ taken_by n = ap length c.delivered.ensures in
     record {
       accepted =
-          omega (arith, accepted, c.loop-node.invariant.accepted, c.in_ok-count_accepted.ensures,
-          c.in_ok-accepted.ensures);
+          omega (
+            arith,
+            accepted,
+            c.loop-node.invariant.accepted,
+            c.in_ok-count_accepted.ensures,
+            c.in_ok-accepted.ensures,
+          );
       taken = omega (arith, taken, delivered, c.loop-node.invariant.taken, c.in_ok-taken.ensures);
     }

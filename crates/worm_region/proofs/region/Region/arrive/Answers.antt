@@ -1,16 +1,44 @@
-use Rattle.std.proofs.Common.{◌≡◌, ◌<◌, false, [], sum, subst, sym}
+use Rattle.std.proofs.Common.{◌≡◌, ◌<◌, ◌∙◌, false, [], ap, length, sum, subst, sym}
 use Rattle.std.specs.Prelude.{IsSome}
 use Rattle.worm_mesh.specs.Address.{neighbour_of, node_count}
-use Rattle.worm_region.specs.Edges.{Arrives}
-use Rattle.worm_region.specs.State.{NetState, link_at}
+use Rattle.worm_wires.specs.Arrivals.{LinksView}
+use Rattle.worm_region.specs.Edges.{Arrives, after_arriving}
+use Rattle.worm_region.specs.State.{NetState, link_at, net_state, texts_of}
 use Rattle.worm_region.specs.Moves.{link_out}
-use Rattle.worm_region.specs.Workable.{owned}
+use Rattle.worm_region.specs.Workable.{IsWorkable, owned}
+use Rattle.worm_region.specs.declared.region.Region.TheInside.{Inside}
 use Rattle.worm_region.proofs.EdgeMoves.{arrived}
 use Rattle.worm_region.proofs.EmptyLinks.{flit_room}
 use Rattle.worm_region.proofs.region.Region.arrive.Goals as goal
 
-pub arrive-requires-clause-room : goal.arrive-requires-clause-room
-arrive-requires-clause-room c =
+-- the region's lists after it
+after : (c : goal.After-push) → LinksView → NetState
+after c l =
+    let i = c.self-inside.inside.0.0 in net_state l.mesh i.classes i.depth (texts_of i.names.items) i.nodes l.states
+    i.own
+
+came : (c : goal.After-push) → after c c.push.new.self ≡ after_arriving c.self.inside.fabric c.args.node c.args.port
+    c.args.flit
+unfolding after
+came c =
+    ap (after c) c.push.ensures
+    ∙ ap (λ (s : NetState). after_arriving s c.args.node c.args.port c.args.flit)
+    (ap (λ (r : Inside). r.fabric) c.self-inside.view_is)
+
+made : (c : goal.After-push) → IsWorkable (after c c.push.new.self)
+    × Arrives c.self.inside.fabric c.args.node c.args.port c.args.flit (after c c.push.new.self)
+made c =
+    let s = c.self.inside.fabric in
+    subst (λ (t : NetState). IsWorkable t × Arrives s c.args.node c.args.port c.args.flit t) (sym (came c))
+    (arrived s c.args.node c.args.port c.args.flit c.self.invariant
+    (subst (λ (s : NetState). owned s c.args.node ≡ false) (sym c.self.view_is) c.requires.elsewhere)
+    (subst (λ (s : NetState). IsSome (neighbour_of s.mesh c.args.node c.args.port))
+    (sym c.self.view_is) c.requires.linked)
+    (subst (λ (s : NetState). c.args.flit.vc < sum s.channels) (sym c.self.view_is) c.requires.channel)
+    (subst (λ (s : NetState). c.args.flit.lane.dst < node_count s.mesh) (sym c.self.view_is) c.requires.goal))
+
+pub push-requires-clause-room : goal.push-requires-clause-room
+push-requires-clause-room c =
     let s = c.self.inside.fabric in
     let linked =
     subst (λ (s : NetState). IsSome (neighbour_of s.mesh c.args.node c.args.port))
@@ -18,23 +46,16 @@ arrive-requires-clause-room c =
     let empty =
     subst (λ (s : NetState). (link_at s (link_out s c.args.node c.args.port)).flits ≡ [])
     (sym c.self.view_is) c.requires.empty in
-    flit_room s c.args.node c.args.port c.self.invariant.framed linked empty
+    subst (λ (s : NetState). length (link_at s (link_out s c.args.node c.args.port)).flits
+    < (link_at s (link_out s c.args.node c.args.port)).room) (sym (ap (λ (r : Inside). r.fabric) c.self-inside.view_is))
+    (flit_room s c.args.node c.args.port c.self.invariant.framed linked empty)
 
 pub invariant_of-self : goal.invariant_of-self
-invariant_of-self c =
-    rw c.arrive.ensures (arrived c.self.inside.fabric c.args.node c.args.port c.args.flit c.self.invariant
-    (subst (λ (s : NetState). owned s c.args.node ≡ false) (sym c.self.view_is) c.requires.elsewhere)
-    (subst (λ (s : NetState). IsSome (neighbour_of s.mesh c.args.node c.args.port))
-    (sym c.self.view_is) c.requires.linked)
-    (subst (λ (s : NetState). c.args.flit.vc < sum s.channels) (sym c.self.view_is) c.requires.channel)
-    (subst (λ (s : NetState). c.args.flit.lane.dst < node_count s.mesh) (sym c.self.view_is) c.requires.goal)).0
+unfolding after
+invariant_of-self c = (made c).0
 
 pub returns : goal.returns
+unfolding after
 returns c =
-    subst (λ (s : NetState). Arrives s c.args.node c.args.port c.args.flit c.arrive.new.self) c.self.view_is
-    (rw c.arrive.ensures (arrived c.self.inside.fabric c.args.node c.args.port c.args.flit c.self.invariant
-    (subst (λ (s : NetState). owned s c.args.node ≡ false) (sym c.self.view_is) c.requires.elsewhere)
-    (subst (λ (s : NetState). IsSome (neighbour_of s.mesh c.args.node c.args.port))
-    (sym c.self.view_is) c.requires.linked)
-    (subst (λ (s : NetState). c.args.flit.vc < sum s.channels) (sym c.self.view_is) c.requires.channel)
-    (subst (λ (s : NetState). c.args.flit.lane.dst < node_count s.mesh) (sym c.self.view_is) c.requires.goal)).1)
+    subst (λ (s : NetState). Arrives s c.args.node c.args.port c.args.flit
+    (after c c.push.new.self)) c.self.view_is (made c).1

@@ -1,16 +1,44 @@
-use Rattle.std.proofs.Common.{◌≡◌, ◌<◌, false, [], sum, subst, sym}
+use Rattle.std.proofs.Common.{◌≡◌, ◌<◌, ◌∙◌, false, [], ap, length, sum, subst, sym}
 use Rattle.std.specs.Prelude.{IsSome}
 use Rattle.worm_mesh.specs.Address.{neighbour_of}
-use Rattle.worm_region.specs.Edges.{ComesBack}
-use Rattle.worm_region.specs.State.{NetState, link_at}
+use Rattle.worm_wires.specs.Arrivals.{LinksView}
+use Rattle.worm_region.specs.Edges.{ComesBack, after_credit_back}
+use Rattle.worm_region.specs.State.{NetState, link_at, net_state, texts_of}
 use Rattle.worm_region.specs.Moves.{link_into}
-use Rattle.worm_region.specs.Workable.{owned}
+use Rattle.worm_region.specs.Workable.{IsWorkable, owned}
+use Rattle.worm_region.specs.declared.region.Region.TheInside.{Inside}
 use Rattle.worm_region.proofs.EdgeMoves.{credited}
 use Rattle.worm_region.proofs.EmptyLinks.{credit_room}
 use Rattle.worm_region.proofs.region.Region.arrive_credit.Goals as goal
 
-pub arrive_credit-requires-clause-room : goal.arrive_credit-requires-clause-room
-arrive_credit-requires-clause-room c =
+-- the region's lists after it
+after : (c : goal.After-push_credit) → LinksView → NetState
+after c l =
+    let i = c.self-inside.inside.0.0 in net_state l.mesh i.classes i.depth (texts_of i.names.items) i.nodes l.states
+    i.own
+
+came : (c : goal.After-push_credit) → after c c.push_credit.new.self ≡ after_credit_back c.self.inside.fabric
+    c.args.node
+    c.args.port c.args.vc
+unfolding after
+came c =
+    ap (after c) c.push_credit.ensures
+    ∙ ap (λ (s : NetState). after_credit_back s c.args.node c.args.port c.args.vc)
+    (ap (λ (r : Inside). r.fabric) c.self-inside.view_is)
+
+made : (c : goal.After-push_credit) → IsWorkable (after c c.push_credit.new.self)
+    × ComesBack c.self.inside.fabric c.args.node c.args.port c.args.vc (after c c.push_credit.new.self)
+made c =
+    let s = c.self.inside.fabric in
+    subst (λ (t : NetState). IsWorkable t × ComesBack s c.args.node c.args.port c.args.vc t) (sym (came c))
+    (credited s c.args.node c.args.port c.args.vc c.self.invariant
+    (subst (λ (s : NetState). owned s c.args.node ≡ false) (sym c.self.view_is) c.requires.elsewhere)
+    (subst (λ (s : NetState). IsSome (neighbour_of s.mesh c.args.node c.args.port))
+    (sym c.self.view_is) c.requires.linked)
+    (subst (λ (s : NetState). c.args.vc < sum s.channels) (sym c.self.view_is) c.requires.channel))
+
+pub push_credit-requires-clause-room : goal.push_credit-requires-clause-room
+push_credit-requires-clause-room c =
     let s = c.self.inside.fabric in
     let linked =
     subst (λ (s : NetState). IsSome (neighbour_of s.mesh c.args.node c.args.port))
@@ -18,21 +46,18 @@ arrive_credit-requires-clause-room c =
     let empty =
     subst (λ (s : NetState). (link_at s (link_into s c.args.node c.args.port)).credits ≡ [])
     (sym c.self.view_is) c.requires.empty in
-    credit_room s c.args.node c.args.port c.self.invariant.framed linked empty
+    subst (λ (s : NetState). length (link_at s (link_into s c.args.node c.args.port)).credits
+    < (link_at s (link_into s c.args.node c.args.port)).room)
+    (sym (ap (λ (r : Inside). r.fabric) c.self-inside.view_is))
+    (credit_room s c.args.node c.args.port c.self.invariant.framed linked empty)
 
 pub invariant_of-self : goal.invariant_of-self
-invariant_of-self c =
-    rw c.arrive_credit.ensures (credited c.self.inside.fabric c.args.node c.args.port c.args.vc c.self.invariant
-    (subst (λ (s : NetState). owned s c.args.node ≡ false) (sym c.self.view_is) c.requires.elsewhere)
-    (subst (λ (s : NetState). IsSome (neighbour_of s.mesh c.args.node c.args.port))
-    (sym c.self.view_is) c.requires.linked)
-    (subst (λ (s : NetState). c.args.vc < sum s.channels) (sym c.self.view_is) c.requires.channel)).0
+unfolding after
+invariant_of-self c = (made c).0
 
 pub returns : goal.returns
+unfolding after
 returns c =
-    subst (λ (s : NetState). ComesBack s c.args.node c.args.port c.args.vc c.arrive_credit.new.self) c.self.view_is
-    (rw c.arrive_credit.ensures (credited c.self.inside.fabric c.args.node c.args.port c.args.vc c.self.invariant
-    (subst (λ (s : NetState). owned s c.args.node ≡ false) (sym c.self.view_is) c.requires.elsewhere)
-    (subst (λ (s : NetState). IsSome (neighbour_of s.mesh c.args.node c.args.port))
-    (sym c.self.view_is) c.requires.linked)
-    (subst (λ (s : NetState). c.args.vc < sum s.channels) (sym c.self.view_is) c.requires.channel)).1)
+    subst (λ (s : NetState). ComesBack s c.args.node c.args.port c.args.vc
+    (after c c.push_credit.new.self)) c.self.view_is
+    (made c).1
