@@ -13,8 +13,13 @@ use Rattle.wormview.specs.declared.scene.Flit.{Flit}
 use Rattle.wormview.specs.declared.views.Station.{Station}
 use Rattle.wormview.specs.declared.views.NodeView.{NodeView}
 use Rattle.wormview.specs.declared.svg.Svg.{Svg}
+use Rattle.worm_rows.specs.declared.rows.Load.{Load}
+use Rattle.worm_rows.specs.declared.rows.Load.TheVariants.{Close, Word}
 use Rattle.wormview.specs.declared.titles.FlitTitle.{FlitTitle}
-use Rattle.wormview.specs.Titles.{flit_title}
+use Rattle.wormview.specs.declared.ways.Way.{Way}
+use Rattle.wormview.specs.declared.ways.Way.TheVariants as way
+use Rattle.wormview.specs.Titles.{flit_title, load_title}
+use Rattle.wormview.specs.Ways.{way_path}
 use Rattle.wormview.specs.Nodes.{station_flits, view_flits}
 use Rattle.wormview.specs.Picture.{PicturesFlits, names, Names, name_of, flit_name, Adds, lacks}
 
@@ -82,8 +87,8 @@ word a b us h hb = both a b [] us (plain a h) hb
 pub number : (n : ℕ) (b : List ℕ) (us : List (List ℕ)) → Names b us → Names (decimal n ++ b) us
 number n b us hb = word (decimal n) b us (decimal_lacks 60 no_tag n) hb
 
-pub line : (a : List ℕ) → Names a [] → Names (a ++ 10 ∷ []) []
-line a h = both a (10 ∷ []) [] [] h (λ rest. refl)
+pub last_number : (n : ℕ) → Names (decimal n) []
+last_number n = plain (decimal n) (decimal_lacks 60 no_tag n)
 
 -- ---- what is added
 
@@ -106,6 +111,33 @@ pub adds_then : {E : Type 0} (r : Result (Unit {0}) E) (a b c : Svg) (us vs : Li
     → OnOk r (Adds b c vs) → OnOk r (Adds a c (us ++ vs))
 adds_then (Ok done) a b c us vs h k = adds_both a b c us vs h k
 adds_then (Err e) a b c us vs h k = tt
+
+-- ---- what names nothing
+
+pub wrote_none : (old new : Svg) (text : List ℕ) → string_bytes new.text ≡ string_bytes old.text ++ text
+    → Names text [] → Adds old new []
+wrote_none old new text h says = record { text = text; added = h; says = says }
+
+pub none_both : (a b c : Svg) → Adds a b [] → Adds b c [] → Adds a c []
+none_both a b c h k = adds_both a b c [] [] h k
+
+pub none_then : {E : Type 0} (r : Result (Unit {0}) E) (a b c : Svg) → Adds a b [] → OnOk r (Adds b c [])
+    → OnOk r (Adds a c [])
+none_then r a b c h k = adds_then r a b c [] [] h k
+
+-- a way, as a picture draws it
+pub path : (w : Way) → Names (way_path w) []
+path (way.In core level) = number core _ [] (number level _ [] (λ rest. refl))
+path (way.Out core level to) = number core _ [] (number level _ [] (number to _ [] (last_number level)))
+
+load : (l : Load) → Names (load_title l) []
+load Close = λ rest. refl
+load (Word index word) = number index _ [] (last_number word)
+
+-- what hovering over a delivered flit says
+pub arrival : (src class packet : ℕ) (l : Load) → Names (codes "from " ++ (decimal src
+    ++ (codes " class " ++ (decimal class ++ (codes " packet " ++ (decimal packet ++ load_title l)))))) []
+arrival src class packet l = number src _ [] (number class _ [] (number packet _ [] (load l)))
 
 -- ---- a title
 
@@ -208,17 +240,12 @@ one_node r a b c d v stations e opened channels closed =
 
 -- ---- the whole
 
-pub pictures : (before part behind text : List ℕ) (flits : List Flit) (old new : Svg)
-    → text ≡ (before ++ part) ++ behind → string_bytes old.text ≡ [] → part ≡ string_bytes new.text
-    → Adds old new (map flit_name flits) → PicturesFlits text flits
-pictures before part behind text flits old new whole empty same h =
-    let one : part ≡ h.text = same ∙ h.added ∙ ap (λ l. l ++ h.text) empty in
-    let read : names h.text ≡ map flit_name flits =
-    ap names (sym (append-nil h.text)) ∙ h.says [] ∙ append-nil (map flit_name flits) in
-    record {
-      before = before;
-      part = part;
-      behind = behind;
-      whole = whole ∙ append_assoc before part behind;
-      named = ap names one ∙ read;
-    }
+-- what stands before the flits and what comes behind them names none
+pub pictures : (a b c d : Svg) (flits : List Flit) → string_bytes a.text ≡ [] → Adds a b []
+    → Adds b c (map flit_name flits) → Adds c d [] → PicturesFlits (string_bytes d.text) flits
+pictures a b c d flits empty front here behind =
+    let named = map flit_name flits in
+    let all = adds_both a c d named [] (adds_both a b c [] named front here) behind in
+    let text : string_bytes d.text ≡ all.text ++ [] =
+    all.added ∙ ap (λ l. l ++ all.text) empty ∙ sym (append-nil all.text) in
+    ap names text ∙ all.says [] ∙ append-nil (named ++ []) ∙ append-nil named

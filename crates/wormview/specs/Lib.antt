@@ -4,6 +4,7 @@ pub mod Scene
 pub mod Nodes
 pub mod Programs
 pub mod Titles
+pub mod Ways
 pub mod Views
 pub mod Picture
 pub mod Packets

@@ -48,13 +48,9 @@ pub record Adds (old new : Svg) (named : List (List ℕ)) : Type 0 where
 abbrev pub lacks : ℕ → List ℕ → Bool
 lacks k text = list_all (λ c. not (k == c)) text
 
--- A part of the text has these flits, one by one, in this order.
-pub record PicturesFlits (text : List ℕ) (flits : List Flit) : Type 0 where
-  pub before : List ℕ
-  pub part : List ℕ
-  pub behind : List ℕ
-  pub whole : text ≡ before ++ (part ++ behind)
-  pub named : names part ≡ map flit_name flits
+-- The text has these flits, one by one, in this order, and no others.
+abbrev pub PicturesFlits : List ℕ → List Flit → Type 0
+PicturesFlits text flits = names text ≡ map flit_name flits
 
 -- Of all nodes the flits that a report shows, channel by channel, the front first, and no others: of a report all flits
 -- in buffers and on links, each once.

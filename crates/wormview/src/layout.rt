@@ -71,6 +71,11 @@ impl Layout {
             .saturating_add(self.pitch / 2)
     }
 
+    /// From the middle of a node to its counts.
+    pub fn low(&self) -> u32 {
+        self.half.saturating_sub(4)
+    }
+
     /// From the middle of a node to the strip of the next node, where a link ends.
     pub fn reach(&self) -> u32 {
         self.pitch - (self.core + self.long)

@@ -1,5 +1,8 @@
 //! What stands about the mesh: the style, the heading and the legend.
 
+ghost use Rattle.std.specs.Prelude.{[], OnOk};
+ghost use Rattle.wormview.specs.Picture.{Adds};
+
 use crate::svg::Svg;
 use std::alloc::AllocError;
 use std::fmt::Write;
@@ -72,49 +75,71 @@ const NOTES: &str =
 ";
 
 /// How things look, and the shapes of flits.
-pub fn add_style(svg: &mut Svg) -> Result<(), AllocError> {
+pub fn add_style(svg: &mut Svg) -> Result<(), AllocError>
+    ensures { OnOk result (Adds svg.old svg.new []) }
+{
     svg.put(STYLE)
 }
 
+/// What a row tells of the run: the options, or a worker that was stopped.
+fn add_option(svg: &mut Svg, row: &Row) -> Result<(), AllocError>
+    ensures { OnOk result (Adds svg.old svg.new []) }
+{
+    match row {
+        Row::Options {
+            turns,
+            workers,
+            drain,
+        } => write!(svg.text, "turns {turns}, workers {workers}, drain {drain}"),
+        Row::Stopped { worker, turn } => {
+            write!(svg.text, ", worker {worker} stopped in turn {turn}")
+        }
+        _ => Ok(()),
+    }
+}
+
 /// The words of the command line with which the report was made, and which workers were stopped.
-fn add_run(svg: &mut Svg, rows: &[Row]) -> Result<(), AllocError> {
+fn add_run(svg: &mut Svg, rows: &[Row]) -> Result<(), AllocError>
+    ensures { OnOk result (Adds svg.old svg.new []) }
+{
     svg.put("<text class=\"head\" x=\"10\" y=\"20\">")?;
     for row in rows {
-        match row {
-            Row::Options {
-                turns,
-                workers,
-                drain,
-            } => write!(svg.text, "turns {turns}, workers {workers}, drain {drain}")?,
-            Row::Stopped { worker, turn } => {
-                write!(svg.text, ", worker {worker} stopped in turn {turn}")?
-            }
-            _ => {}
-        }
+        add_option(svg, row)?;
     }
     svg.put("</text>\n")
 }
 
-/// What came of the run.
-fn add_sums(svg: &mut Svg, rows: &[Row], moving: u32) -> Result<(), AllocError> {
-    svg.put("<text class=\"note\" x=\"10\" y=\"38\">")?;
-    for row in rows {
-        if let Row::Total {
+/// The sums that a row tells, if it tells them.
+fn add_total(svg: &mut Svg, row: &Row, moving: u32) -> Result<(), AllocError>
+    ensures { OnOk result (Adds svg.old svg.new []) }
+{
+    match row {
+        Row::Total {
             delivered,
             underway,
-        } = row
-        {
-            write!(
-                svg.text,
-                "Flits delivered: {delivered}, under way: {underway}. Packets in buffers and on links: {moving}."
-            )?;
-        }
+        } => write!(
+            svg.text,
+            "Flits delivered: {delivered}, under way: {underway}. Packets in buffers and on links: {moving}."
+        ),
+        _ => Ok(()),
+    }
+}
+
+/// What came of the run.
+fn add_sums(svg: &mut Svg, rows: &[Row], moving: u32) -> Result<(), AllocError>
+    ensures { OnOk result (Adds svg.old svg.new []) }
+{
+    svg.put("<text class=\"note\" x=\"10\" y=\"38\">")?;
+    for row in rows {
+        add_total(svg, row, moving)?;
     }
     svg.put("</text>\n")
 }
 
 /// What run this is, and what came of it, so many times as large as in a small picture.
-pub fn add_heading(svg: &mut Svg, rows: &[Row], moving: u32, scale: u32) -> Result<(), AllocError> {
+pub fn add_heading(svg: &mut Svg, rows: &[Row], moving: u32, scale: u32) -> Result<(), AllocError>
+    ensures { OnOk result (Adds svg.old svg.new []) }
+{
     svg.open_scaled(0, scale)?;
     add_run(svg, rows)?;
     add_sums(svg, rows, moving)?;
@@ -122,7 +147,9 @@ pub fn add_heading(svg: &mut Svg, rows: &[Row], moving: u32, scale: u32) -> Resu
 }
 
 /// The end of a picture: what the signs mean, from this height on, so many times as large as in a small picture.
-pub fn add_legend(svg: &mut Svg, y: u32, scale: u32) -> Result<(), AllocError> {
+pub fn add_legend(svg: &mut Svg, y: u32, scale: u32) -> Result<(), AllocError>
+    ensures { OnOk result (Adds svg.old svg.new []) }
+{
     svg.open_scaled(y, scale)?;
     svg.put(NOTES)?;
     svg.close()?;

@@ -4,16 +4,16 @@
 //! status.
 //!
 //! That the report is read as what it says is proved (`worm_rows`); which flits are shown at which node, in its
-//! buffers and on the links to it, in three groups (`views`; which flit is in which is not proved); what hovering
-//! over a flit says (`titles`); that a part of the picture's text has just these flits, one by one (`picture`); and
-//! what each fault tells (`program`). Not proved is how they look and where they stand, what else is drawn, and the
-//! text of the map.
+//! buffers and on the links to it, in three groups (`views`); what hovering over a flit says (`titles`); that the
+//! picture's text, read as a whole, has just these flits, one by one (`picture`); and what each fault tells
+//! (`program`). Not proved is how they look and where they stand, what else is drawn, and the text of the map.
 #![tactic(auto)]
 
 ghost use Rattle.std.specs.Prelude.{◌≡◌};
 ghost use Rattle.std.specs.Process.{exit_status};
 ghost use Rattle.wormview.specs.Faults.{ended_status, words_status};
 
+mod counts;
 mod fault;
 mod flits;
 mod layout;

@@ -5,14 +5,14 @@ ghost use Rattle.std.specs.List.{flat_map};
 ghost use Rattle.wormview.specs.Nodes.{shown, station_flits, view_flits};
 ghost use Rattle.wormview.specs.Picture.{Adds, PicturesFlits, flit_name};
 
+use crate::counts::add_counts;
 use crate::flits::add_row;
 use crate::layout::{HEADING, LEGEND, Layout, NAME, NARROWEST, SLOT, digit, radix, slices_across};
 use crate::legend::{add_heading, add_legend, add_style};
 use crate::packets::Packets;
 use crate::scene::{Flit, exit_port};
-use crate::signs::{colour_of, exit_of, frame_of, slots_of};
+use crate::signs::{exit_of, frame_of, slots_of};
 use crate::svg::Svg;
-use crate::titles::ArrivalTitle;
 use crate::views::{NodeView, Station};
 use crate::ways::{Way, add_way};
 use std::alloc::{AllocError, Global};
@@ -66,17 +66,18 @@ impl<'a> Scene<'a> {
 
     /// The way of the flit at the front of a buffer through the core: a line in its packet's colour to the port that
     /// it leaves by, and along the link where its packet holds it.
-    fn add_way(&self, svg: &mut Svg, flit: &Flit, y: u32) -> Result<(), AllocError> {
+    fn add_way(&self, svg: &mut Svg, flit: &Flit, y: u32) -> Result<(), AllocError>
+        ensures { OnOk result (Adds svg.old svg.new []) }
+    {
         let mesh = &self.shape.mesh;
         let dims = mesh.dims();
         let Some(exit) = exit_port(mesh, flit) else {
             return Ok(());
         };
-        let colour = colour_of(self.packets.get(flit.packet).number.unwrap_or(0));
-        let class = if flit.index == 0 { "wants" } else { "holds" };
+        let packet = self.packets.get(flit.packet);
         let core = self.layout.core;
         svg.open_frame(frame_of(dims, flit.spot.port))?;
-        add_way(svg, class, colour, Way::In { core, level: y })?;
+        add_way(svg, flit.index, packet, Way::In { core, level: y })?;
         svg.close()?;
         let to = if exit == 2 * dims {
             core
@@ -87,7 +88,7 @@ impl<'a> Scene<'a> {
         };
         let level = if exit == 2 * dims { core } else { 2 + SLOT / 2 };
         svg.open_frame(exit_of(dims, exit))?;
-        add_way(svg, class, colour, Way::Out { core, level, to })?;
+        add_way(svg, flit.index, packet, Way::Out { core, level, to })?;
         svg.close()
     }
 
@@ -112,67 +113,23 @@ impl<'a> Scene<'a> {
         self.offset(station.spot.port).saturating_add(above)
     }
 
-    /// The link to an input port.
-    fn add_link(&self, svg: &mut Svg, port: u8) -> Result<(), AllocError> {
+    /// The link to an input port, where there is one.
+    fn add_link(&self, svg: &mut Svg, node: u8, port: u8) -> Result<(), AllocError>
+        ensures { OnOk result (Adds svg.old svg.new []) }
+    {
         let dims = self.shape.mesh.dims();
-        if port >= 4 || port >= 2 * dims {
+        if port >= 4 || port >= 2 * dims || !self.has_input(node, port) {
             return Ok(());
         }
         let right = self.layout.core + self.layout.long;
-        svg.open_frame(frame_of(dims, port))?;
         let start = self.layout.pitch - self.layout.half;
         let level = 2 + SLOT / 2;
-        writeln!(
-            svg.text,
-            "<path class=\"link\" d=\"M-{start},{level}L-{right},{level}\"/>"
-        )?;
-        svg.close()
-    }
-
-    /// The number of a node, how many flits wait in its source and how many it was delivered, each with what it stands
-    /// for.
-    fn add_counts(&self, svg: &mut Svg, view: &NodeView) -> Result<(), AllocError> {
-        let node = view.node;
-        let waiting = view.waiting;
-        let arrived = view.arrived;
-        let left = self.layout.core + 3;
-        let low = self.layout.half.saturating_sub(4);
-        let core = self.layout.core;
-        if waiting > 0 {
-            writeln!(
-                svg.text,
-                "<text class=\"count\" x=\"-{low}\" y=\"{low}\">+{waiting}<title>{waiting} flits wait in the source of node {node}</title></text>"
-            )?;
-        }
+        svg.open_frame(frame_of(dims, port))?;
         write!(
             svg.text,
-            "<text class=\"node\" x=\"{low}\" y=\"{core}\" dy=\"9\">{node}</text>"
+            "<path class=\"link\" d=\"M-{start},{level}L-{right},{level}\"/>\n"
         )?;
-        if arrived > 0 {
-            write!(
-                svg.text,
-                "<text class=\"done\" x=\"{left}\" y=\"{low}\">{arrived}<title>node {node} was delivered"
-            )?;
-            self.add_deliveries(svg, node)?;
-            svg.put("</title></text>\n")?;
-        }
-        Ok(())
-    }
-
-    /// A line for each flit that was delivered to a node.
-    fn add_deliveries(&self, svg: &mut Svg, node: u8) -> Result<(), AllocError> {
-        for row in self.rows {
-            if let Row::Delivered { packet, load } = row {
-                if packet.lane.dst == node {
-                    let title = ArrivalTitle {
-                        packet: *packet,
-                        load: *load,
-                    };
-                    write!(svg.text, "\n{title}")?;
-                }
-            }
-        }
-        Ok(())
+        svg.close()
     }
 
     /// Whether flits come in at the port.
@@ -203,14 +160,26 @@ impl<'a> Scene<'a> {
     }
 
     /// The ways of the flits at the fronts of a node's buffers.
-    fn add_ways(&self, svg: &mut Svg, view: &NodeView) -> Result<(), AllocError> {
+    fn add_ways(&self, svg: &mut Svg, view: &NodeView) -> Result<(), AllocError>
+        ensures { OnOk result (Adds svg.old svg.new []) }
+    {
         for station in view.stations.as_slice() {
-            if let Some(first) = station.held.as_slice().first() {
-                let y = self.top_of(station).saturating_add(SLOT / 2);
-                self.add_way(svg, first, y)?;
-            }
+            self.add_first_way(svg, station)?;
         }
         Ok(())
+    }
+
+    /// The way of the flit at the front of a channel's buffer, where there is one.
+    fn add_first_way(&self, svg: &mut Svg, station: &Station) -> Result<(), AllocError>
+        ensures { OnOk result (Adds svg.old svg.new []) }
+    {
+        match station.held.as_slice().first() {
+            Some(first) => {
+                let y = self.top_of(station).saturating_add(SLOT / 2);
+                self.add_way(svg, first, y)
+            }
+            None => Ok(()),
+        }
     }
 
     /// The middle of a node.
@@ -260,44 +229,71 @@ impl<'a> Scene<'a> {
     }
 
     /// The names of the slices, where there are several.
-    fn add_names(&self, svg: &mut Svg) -> Result<(), AllocError> {
+    fn add_names(&self, svg: &mut Svg) -> Result<(), AllocError>
+        ensures { OnOk result (Adds svg.old svg.new []) }
+    {
         let slices = radix(&self.shape.mesh, 2);
+        if slices == 1 {
+            return Ok(());
+        }
         for slice in 0..slices {
-            let (x, y) = self.corner_of(slice);
-            if slices > 1 {
-                svg.open_at(x, y)?;
-                writeln!(
-                    svg.text,
-                    "<text class=\"head\" x=\"15\" y=\"0\">Third dimension: {slice}</text>"
-                )?;
-                svg.close()?;
-            }
+            self.add_name(svg, slice)?;
         }
         Ok(())
     }
 
-    /// The border of a node, the links to it, and its counts.
-    fn add_ground(&self, svg: &mut Svg, view: &NodeView) -> Result<(), AllocError> {
-        let (x, y) = self.middle_of(view.node);
-        let half = self.layout.half;
-        let side = 2 * half;
-        let load = self.load_of(view);
+    /// The name of a slice.
+    fn add_name(&self, svg: &mut Svg, slice: u8) -> Result<(), AllocError>
+        ensures { OnOk result (Adds svg.old svg.new []) }
+    {
+        let (x, y) = self.corner_of(slice);
         svg.open_at(x, y)?;
-        writeln!(
+        write!(
             svg.text,
-            "<rect class=\"n{load}\" x=\"-{half}\" y=\"-{half}\" width=\"{side}\" height=\"{side}\" rx=\"4\"/>"
+            "<text class=\"head\" x=\"15\" y=\"0\">Third dimension: {slice}</text>\n"
         )?;
-        for port in 0..4u8 {
-            if self.has_input(view.node, port) {
-                self.add_link(svg, port)?;
-            }
-        }
-        self.add_counts(svg, view)?;
         svg.close()
     }
 
+    /// The border of a node, the links to it, and its counts.
+    fn add_ground(&self, svg: &mut Svg, view: &NodeView) -> Result<(), AllocError>
+        ensures { OnOk result (Adds svg.old svg.new []) }
+    {
+        let (x, y) = self.middle_of(view.node);
+        svg.open_at(x, y)?;
+        self.add_border(svg, view)?;
+        self.add_links(svg, view.node)?;
+        add_counts(svg, &self.layout, self.rows, view)?;
+        svg.close()
+    }
+
+    /// The border of a node, which shows how full it is.
+    fn add_border(&self, svg: &mut Svg, view: &NodeView) -> Result<(), AllocError>
+        ensures { OnOk result (Adds svg.old svg.new []) }
+    {
+        let half = self.layout.half;
+        let side = 2 * half;
+        let load = self.load_of(view);
+        write!(
+            svg.text,
+            "<rect class=\"n{load}\" x=\"-{half}\" y=\"-{half}\" width=\"{side}\" height=\"{side}\" rx=\"4\"/>\n"
+        )
+    }
+
+    /// The links to a node.
+    fn add_links(&self, svg: &mut Svg, node: u8) -> Result<(), AllocError>
+        ensures { OnOk result (Adds svg.old svg.new []) }
+    {
+        for port in 0..4u8 {
+            self.add_link(svg, node, port)?;
+        }
+        Ok(())
+    }
+
     /// The ways of a node's flits.
-    fn add_traces(&self, svg: &mut Svg, view: &NodeView) -> Result<(), AllocError> {
+    fn add_traces(&self, svg: &mut Svg, view: &NodeView) -> Result<(), AllocError>
+        ensures { OnOk result (Adds svg.old svg.new []) }
+    {
         let (x, y) = self.middle_of(view.node);
         svg.open_at(x, y)?;
         self.add_ways(svg, view)?;
@@ -335,7 +331,9 @@ impl<'a> Scene<'a> {
     }
 
     /// The ground: the borders and links of all nodes, and their counts.
-    fn add_grounds(&self, svg: &mut Svg, views: &[NodeView]) -> Result<(), AllocError> {
+    fn add_grounds(&self, svg: &mut Svg, views: &[NodeView]) -> Result<(), AllocError>
+        ensures { OnOk result (Adds svg.old svg.new []) }
+    {
         for view in views {
             self.add_ground(svg, view)?;
         }
@@ -343,7 +341,9 @@ impl<'a> Scene<'a> {
     }
 
     /// The ways of all nodes' flits.
-    fn add_all_traces(&self, svg: &mut Svg, views: &[NodeView]) -> Result<(), AllocError> {
+    fn add_all_traces(&self, svg: &mut Svg, views: &[NodeView]) -> Result<(), AllocError>
+        ensures { OnOk result (Adds svg.old svg.new []) }
+    {
         for view in views {
             self.add_traces(svg, view)?;
         }
@@ -351,13 +351,10 @@ impl<'a> Scene<'a> {
     }
 
     /// What stands before the flits.
-    fn add_front(&self, svg: &mut Svg, views: &[NodeView], page: &Page) -> Result<(), AllocError> {
-        let width = page.width;
-        let height = page.height;
-        writeln!(
-            svg.text,
-            "<svg xmlns=\"http://www.w3.org/2000/svg\" viewBox=\"0 0 {width} {height}\" font-family=\"sans-serif\">"
-        )?;
+    fn add_front(&self, svg: &mut Svg, views: &[NodeView], page: &Page) -> Result<(), AllocError>
+        ensures { OnOk result (Adds svg.old svg.new []) }
+    {
+        page.open(svg)?;
         add_style(svg)?;
         add_heading(svg, self.rows, self.packets.moving(), page.scale)?;
         self.add_names(svg)?;
@@ -371,12 +368,8 @@ impl<'a> Scene<'a> {
     {
         let mut picture = Svg::new(alloc);
         self.add_front(&mut picture, views, page)?;
-        let mut flits = Svg::new(alloc);
-        self.add_nodes(&mut flits, views)?;
-        let mut legend = Svg::new(alloc);
-        add_legend(&mut legend, page.foot, page.scale)?;
-        picture.put(flits.text.as_str())?;
-        picture.put(legend.text.as_str())?;
+        self.add_nodes(&mut picture, views)?;
+        add_legend(&mut picture, page.foot, page.scale)?;
         Ok(picture.text)
     }
 }
@@ -390,6 +383,20 @@ struct Page {
     foot: u32,
     /// How large the heading and the legend are.
     scale: u32,
+}
+
+impl Page {
+    /// The beginning of the picture.
+    fn open(&self, svg: &mut Svg) -> Result<(), AllocError>
+        ensures { OnOk result (Adds svg.old svg.new []) }
+    {
+        let width = self.width;
+        let height = self.height;
+        write!(
+            svg.text,
+            "<svg xmlns=\"http://www.w3.org/2000/svg\" viewBox=\"0 0 {width} {height}\" font-family=\"sans-serif\">\n"
+        )
+    }
 }
 
 /// The picture of these nodes, as the rows show them of a network of this shape with buffers of this depth.

@@ -44,6 +44,13 @@ pub fn slots_of(is_full: bool) -> &'static str
     if is_full { "full" } else { "slots" }
 }
 
+/// How the way of a flit looks: an opening wants it, and any other flit's packet holds it.
+pub fn way_of(index: u8) -> &'static str
+    ensures plain { lacks 60 result.now ≡ true }
+{
+    if index == 0 { "wants" } else { "holds" }
+}
+
 /// The shape of a flit: its part in its packet.
 pub fn shape_of(index: u8, last: u8) -> &'static str
     ensures plain { lacks 60 result.now ≡ true }

@@ -60,10 +60,12 @@ impl Svg {
     }
 
     /// What follows begins at this height and is so many times as large, up to `close`.
-    pub fn open_scaled(&mut self, y: u32, scale: u32) -> Result<(), AllocError> {
-        writeln!(
+    pub fn open_scaled(&mut self, y: u32, scale: u32) -> Result<(), AllocError>
+        ensures { OnOk result (Adds self.old self.new []) }
+    {
+        write!(
             self.text,
-            "<g transform=\"translate(0,{y}) scale({scale})\">"
+            "<g transform=\"translate(0,{y}) scale({scale})\">\n"
         )
     }
 

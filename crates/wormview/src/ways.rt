@@ -1,5 +1,11 @@
 //! The ways of packets through a node: lines in the packet's colour, with a dark edge.
 
+ghost use Rattle.std.specs.Prelude.{[], OnOk, Some};
+ghost use Rattle.wormview.specs.Picture.{Adds};
+ghost use Rattle.wormview.specs.Ways.{way_path};
+
+use crate::packets::Packet;
+use crate::signs::{colour_of, way_of};
 use crate::svg::Svg;
 use std::alloc::AllocError;
 use std::fmt;
@@ -27,6 +33,8 @@ pub enum Way {
 }
 
 impl fmt::Display for Way {
+    ghost output = { λ way. Some (way_path way) };
+
     fn fmt<W: fmt::Write>(&self, f: &mut fmt::Formatter<W>) -> fmt::Result {
         match *self {
             Way::In { core, level } => write!(f, "M-{core},{level}L0,0"),
@@ -35,11 +43,15 @@ impl fmt::Display for Way {
     }
 }
 
-/// A way in its packet's colour.
-pub fn add_way(svg: &mut Svg, class: &str, colour: &str, way: Way) -> Result<(), AllocError> {
-    writeln!(svg.text, "<path class=\"{class} edge\" d=\"{way}\"/>")?;
-    writeln!(
+/// The way of a flit with this place in its packet, in its packet's colour.
+pub fn add_way(svg: &mut Svg, index: u8, packet: Packet, way: Way) -> Result<(), AllocError>
+    ensures { OnOk result (Adds svg.old svg.new []) }
+{
+    let class = way_of(index);
+    let colour = colour_of(packet.number.unwrap_or(0));
+    write!(svg.text, "<path class=\"{class} edge\" d=\"{way}\"/>\n")?;
+    write!(
         svg.text,
-        "<path class=\"{class}\" stroke=\"{colour}\" d=\"{way}\"/>"
+        "<path class=\"{class}\" stroke=\"{colour}\" d=\"{way}\"/>\n"
     )
 }
