@@ -1,22 +1,17 @@
 ghost use Rattle.std.specs.Prelude.{true, false, IfOk, ◌==◌, ◌≡◌, ◌*◌, ◌<◌, ◌≤◌, ◌↔◌};
 ghost use Rattle.std.specs.Prelude.{IsTrue, IsSome, ◌⊎◌, None, Some, OnOk, OnErr, IfErr, IfSome, unwrap_or};
-ghost use Rattle.std.specs.Prelude.{if◌then◌else◌, is_some, length, sum};
+ghost use Rattle.std.specs.Prelude.{if◌then◌else◌, length, sum};
 ghost use Rattle.worm_flit.specs.Channels.{AreChannels};
 ghost use Rattle.worm_region.specs.NewNet.{IsFresh};
-ghost use Rattle.worm_router.specs.Allocation.{after_allocate, switch_grants};
-ghost use Rattle.worm_swalloc.specs.SwAlloc.{AreGranted};
 ghost use Rattle.worm_mesh.specs.Address.{AreRadices, node_count, neighbour_of};
 ghost use Rattle.worm_mesh.specs.Links.{link_count};
-ghost use Rattle.worm_router.specs.Router.{after_accept, after_credit, after_gave, after_grant};
-ghost use Rattle.worm_router.specs.Router.{after_route, can_grant, can_route, input_at, leaving};
-ghost use Rattle.worm_router.specs.Router.{output_at, terminal, width};
+ghost use Rattle.worm_router.specs.Router.{input_at, leaving, terminal};
 ghost use Rattle.worm_term.specs.Source.{after_close, after_offer, classes, front_of, refusal};
 ghost use Rattle.worm_region.specs.State.{IsNetPlace, link_at, node_at, router_at, sink_at, source_at, texts_of};
 ghost use Rattle.worm_region.specs.State.{with_node, with_router, with_source};
-ghost use Rattle.worm_region.specs.Moves.{AreReady, CreditFits, FrontFits, LeavesByLink, Sends, after_getting};
-ghost use Rattle.worm_region.specs.Moves.{after_giving, after_take, can_enter, can_get, can_give, chosen_router};
-ghost use Rattle.worm_region.specs.Moves.{delivered_node, fed_node, front_credit, front_into, has_room, link_into};
-ghost use Rattle.worm_region.specs.Moves.{link_out};
+ghost use Rattle.worm_region.specs.Moves.{CreditFits, FrontFits, LeavesByLink, Sends, after_getting, after_giving};
+ghost use Rattle.worm_region.specs.Moves.{after_take, can_enter, can_get, fed_node, front_credit, front_into};
+ghost use Rattle.worm_region.specs.Moves.{link_into, link_out};
 ghost use Rattle.worm_wires.specs.Wiring.{port_links};
 ghost use Rattle.worm_region.specs.UnderWay.{IsUnderWay, accepted_in, taken_in};
 ghost use Rattle.std.specs.Borrow.{Lends, sem};
@@ -37,7 +32,6 @@ use worm_flit::{ClassChannels, Flit, Lane, Packet};
 use worm_mesh::Mesh;
 use worm_router::Router;
 use worm_term::OfferFault;
-use worm_vcalloc::ChannelSet;
 use worm_wires::{Links, PortLinks};
 
 /// The nodes by number and the links by number, whatever they hold (Dally and Towles, chapters 5, 13 and 16).

@@ -1,12 +1,12 @@
-ghost use Rattle.std.specs.Prelude.{true, false, ◌≡◌, ◌<◌, ◌≤◌, Some, OnOk, OnErr, IfErr, None, length};
-ghost use Rattle.std.specs.Prelude.{unwrap_or, if◌then◌else◌};
+ghost use Rattle.std.specs.Prelude.{true, false, ◌≡◌, ◌<◌, Some, None};
+ghost use Rattle.std.specs.Prelude.{if◌then◌else◌};
 ghost use Rattle.worm_router.specs.Router.{IsPlace, terminal, leaving};
-ghost use Rattle.worm_term.specs.Source.{classes, front_of, refusal, after_offer, after_close};
+ghost use Rattle.worm_term.specs.Source.{classes, front_of};
 ghost use Rattle.worm_region.specs.Moves.{AreUnrouted, FrontFits, can_enter, fed_node, delivered_node};
 
-use worm_flit::{Flit, Lane, Packet};
+use worm_flit::Flit;
 use worm_router::Router;
-use worm_term::{OfferFault, Sink, Source};
+use worm_term::{Sink, Source};
 use worm_vcalloc::ChannelSet;
 
 /// One node: its router, and the two ends of its lanes.

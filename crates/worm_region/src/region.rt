@@ -8,7 +8,6 @@ ghost use Rattle.worm_region.specs.Replies.{Attempts, Replies};
 ghost use Rattle.worm_region.specs.Answers.{accepted_of, moved_of};
 ghost use Rattle.worm_region.specs.NewNet.{IsConfig, IsFresh};
 ghost use Rattle.worm_region.specs.State.{IsNet, shape, router_at, texts_of, with_router};
-ghost use Rattle.worm_region.specs.UnderWay.{IsUnderWay, accepted_in, taken_in};
 ghost use Rattle.worm_region.specs.Owned.{sole};
 ghost use Rattle.worm_wires.specs.Wiring.{port_links};
 ghost use Rattle.worm_region.specs.Workable.{EndsWithin, IsWorkable, owned};

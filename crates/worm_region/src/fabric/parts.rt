@@ -1,19 +1,14 @@
 //! The configuration of a fabric. Its lists have room in themselves, so it takes no memory.
 
-ghost use Rattle.std.specs.Prelude.{◌≡◌, length};
-ghost use Rattle.worm_flit.specs.Channels.{AreChannels};
-ghost use Rattle.worm_mesh.specs.Address.{AreRadices};
-ghost use Rattle.worm_region.specs.Parts.{IsConfigOf, part_state};
-ghost use Rattle.worm_region.specs.UnderWay.{HaveClasses};
+ghost use Rattle.std.specs.Prelude.{◌≡◌};
+ghost use Rattle.worm_region.specs.Parts.{IsConfigOf};
 
 use super::Fabric;
+use crate::Config;
 use crate::config::copy_names;
-use crate::nodes::Nodes;
-use crate::{Config, NetParts, Own};
 use arrayvec::ArrayVec;
 use worm_flit::ClassChannels;
 use worm_mesh::Mesh;
-use worm_wires::Links;
 
 /// The radices of the mesh.
 pub(crate) fn radices_of(mesh: &Mesh) -> ArrayVec<u8, 3>

@@ -1,18 +1,18 @@
 //! What is read of a fabric along a route: its next link, the channels of a class, and what a link holds.
 
-ghost use Rattle.std.specs.Prelude.{[], false, ◌↔◌, ◌≡◌, ◌+◌, ◌<◌, IsSome, MatchOption, length};
+ghost use Rattle.std.specs.Prelude.{◌≡◌, ◌+◌, ◌<◌, IsSome, MatchOption, length};
 ghost use Rattle.std.specs.Prelude.{slice_index};
 ghost use Rattle.worm_flit.specs.Channels.{first_channel};
 ghost use Rattle.worm_mesh.specs.Address.{node_count, neighbour_of};
 ghost use Rattle.worm_mesh.specs.Links.{link_count};
 ghost use Rattle.worm_region.specs.NextLink.{IsNextLink};
 ghost use Rattle.worm_region.specs.State.{link_at};
-ghost use Rattle.worm_region.specs.Moves.{link_into, link_out};
+ghost use Rattle.worm_region.specs.Moves.{link_out};
 
 use super::Fabric;
-use crate::{LinkState, Own};
+use crate::LinkState;
 use std::ops::Range;
-use worm_mesh::{LinkEnds, Mesh};
+use worm_mesh::LinkEnds;
 use worm_route::next_port;
 
 impl Fabric {

@@ -1,16 +1,13 @@
 //! Whether a node is still: its source has nothing to feed, and its router has nothing to do.
 
-ghost use Rattle.std.specs.Prelude.{ℕ, ◌≡◌, ◌<◌, ◌≤◌, IfNone, IfSome, IsTrue, IsSome, None, false, length};
-ghost use Rattle.worm_mesh.specs.Address.{node_count, neighbour_of};
+ghost use Rattle.std.specs.Prelude.{ℕ, ◌≡◌, ◌<◌, ◌≤◌, IfNone, IfSome, IsTrue, None, false, length};
+ghost use Rattle.worm_mesh.specs.Address.{node_count};
 ghost use Rattle.worm_router.specs.Router.{terminal};
 ghost use Rattle.worm_term.specs.Source.{front_of};
-ghost use Rattle.worm_region.specs.Moves.{can_enter, front_credit, front_into};
+ghost use Rattle.worm_region.specs.Moves.{can_enter};
 ghost use Rattle.worm_region.specs.State.{router_at, source_at};
 ghost use Rattle.worm_region.specs.Workable.{IsWorkable};
 ghost use Rattle.worm_region.specs.Still.{IsStill, nth_node};
-ghost use Rattle.worm_region.specs.Replies.{Attempts};
-ghost use Rattle.worm_region.specs.Turns.{ComesInBy, NodePassesBy};
-ghost use Rattle.worm_router.specs.Rest.{IsAtRest};
 
 use super::Fabric;
 
