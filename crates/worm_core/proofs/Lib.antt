@@ -4,7 +4,7 @@ pub mod Pointers
 pub mod TotalsUnderWay
 pub mod NetWays
 pub mod Lifting
-pub mod Idle
+pub mod NetRests
 pub mod Determined
 pub mod ViewLists
 pub mod LanePlaces

@@ -9,7 +9,7 @@ use Rattle.worm_mesh.specs.Links.{sum_below}
 use Rattle.worm_mesh.proofs.Counts.{sum_below_same}
 use Rattle.worm_term.specs.Queue.{QueueState, empty_queue}
 use Rattle.worm_region.specs.State.{NetState, IsNet, node_at, sink_at}
-use Rattle.worm_region.specs.Still.{no_node, nth_node}
+use Rattle.worm_region.specs.Resting.{no_node, nth_node}
 use Rattle.worm_region.specs.Totals.{delivered_total, injected_below, injected_total}
 use Rattle.worm_region.specs.UnderWay.{accepted_by, accepted_in, taken_by, taken_in}
 use Rattle.worm_region.proofs.Resting.{is_nth}

@@ -1,5 +1,5 @@
 pub mod Headline
-pub mod Idle
+pub mod NetRests
 pub mod LaneView
 pub mod LaneSet
 pub mod Acceptable

@@ -4,7 +4,7 @@ ghost use Rattle.worm_region.specs.Runs.{AreAnswered, IsRun, StopsBehind, event_
 ghost use Rattle.worm_region.specs.Answers.{Answers, ArbitersStand};
 ghost use Rattle.worm_theory.specs.Steps.{empty};
 ghost use Rattle.worm_region.specs.NewNet.{IsConfig, IsFresh};
-ghost use Rattle.worm_core.specs.Idle.{IsIdle};
+ghost use Rattle.worm_core.specs.NetRests.{NetRests};
 ghost use Rattle.worm_core.specs.Headline.{DeliversInOrder, NothingFollowsMarks};
 ghost use Rattle.worm_region.specs.State.{IsNet, shape, network_of, queue_of, sink_at, source_at, texts_of};
 ghost use Rattle.worm_region.specs.Turns.{Reaches, Turn};
@@ -24,19 +24,19 @@ use worm_term::{Sink, Source};
 pub struct Net {
     region: Region,
     /// Whether it is known that a turn without entries changes nothing.
-    idle: bool,
+    rests: bool,
 }
 
 impl Model for Net {
     ghost use Rattle.std.specs.Prelude.{◌*◌};
-    ghost use Rattle.worm_core.specs.Idle.{KnowsIdle};
+    ghost use Rattle.worm_core.specs.NetRests.{KnowsNetRests};
     ghost use Rattle.worm_region.specs.State.{NetState, IsNet};
 
     ghost Value = { NetState };
 
     ghost view = { λ n. n.region };
 
-    ghost invariant = { λ n. IsNet n.region × KnowsIdle n.region n.idle };
+    ghost invariant = { λ n. IsNet n.region × KnowsNetRests n.region n.rests };
 }
 
 /// How far a run of steps came.
@@ -85,7 +85,7 @@ impl Net {
         ensures same { result ≡ self }
         ensures sound { IsNet self }
     {
-        let Net { region, idle: _ } = self;
+        let Net { region, rests: _ } = self;
         region
     }
 
@@ -96,7 +96,7 @@ impl Net {
     {
         Net {
             region,
-            idle: false,
+            rests: false,
         }
     }
 
@@ -172,17 +172,17 @@ impl Net {
         // Arbiters are for turns alone.
         ensures pointers { ArbitersStand self.old self.new }
     {
-        self.idle = false;
+        self.rests = false;
         self.region.step(step)
     }
 
     /// Whether it is known that a turn without entries changes nothing, or found: only where no flit is under way are
     /// the nodes asked, since credits travel on.
-    fn finds_idle(&mut self) -> bool
-        ensures idle { IsTrue result → IsIdle self.old }
+    fn finds_rest(&mut self) -> bool
+        ensures rests { IsTrue result → NetRests self.old }
         ensures same { self.new ≡ self.old }
     {
-        self.idle || self.region.fabric().under_way() == Some(0) && self.region.all_rest()
+        self.rests || self.region.fabric().under_way() == Some(0) && self.region.all_rest()
     }
 
     /// The turns of all nodes with these entries, in rising number.
@@ -190,8 +190,8 @@ impl Net {
         ensures exact { Turn entries.now self.old (result_err result) self.new }
         ensures reaches { Reaches self.old self.new }
     {
-        self.idle = entries.is_empty() && self.finds_idle();
-        if self.idle {
+        self.rests = entries.is_empty() && self.finds_rest();
+        if self.rests {
             return Ok(());
         }
         self.region.all_turns(entries)

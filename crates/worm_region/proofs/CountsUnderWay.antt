@@ -15,10 +15,10 @@ use Rattle.worm_term.specs.Queue.{QueueState, empty_queue, one_fed}
 use Rattle.worm_term.specs.Source.{SourceState, after_close, after_offer, next_number, queue_at}
 use Rattle.worm_router.specs.Router.{RouterState}
 use Rattle.worm_region.specs.Moves.{delivered_node, fed_node}
-use Rattle.worm_region.specs.Still.{KnowsStill}
+use Rattle.worm_region.specs.Resting.{KnowsResting}
 use Rattle.worm_region.specs.UnderWay.{IsUnderWay, accepted_by, accepted_in, taken_by, taken_in}
 use Rattle.worm_region.specs.declared.node.Node.{Node}
-use Rattle.worm_region.proofs.KeptStill.{touched}
+use Rattle.worm_region.proofs.KeptResting.{touched}
 
 -- sums of a list with another element
 
@@ -90,7 +90,7 @@ sources_same n t = refl
 -- count is another.
 
 module _ (nodes : List Node) (kept : List Bool) (count : Option ℕ) (i j x : ℕ) (n m : Node)
-    (knows : KnowsStill nodes kept × IsUnderWay (accepted_in nodes) (taken_in nodes) count) (at_i : i ≡ x)
+    (knows : KnowsResting nodes kept × IsUnderWay (accepted_in nodes) (taken_in nodes) count) (at_i : i ≡ x)
     (at_j : j ≡ x) (there : x < length nodes) (read : n ≡ get_or nodes j n) where
   accepted_new : (a : ℕ) → accepted_by m ≡ accepted_by n + a → accepted_in (set nodes j m) ≡ accepted_in nodes + a
   unfolding accepted_in
@@ -100,12 +100,12 @@ module _ (nodes : List Node) (kept : List Bool) (count : Option ℕ) (i j x : �
   unfolding taken_in
   taken_new t e = sum_more taken_by nodes j t m n (omega arith) (e ∙ ap (λ (k : Node). taken_by k + t) read)
 
-  still_new : KnowsStill (set nodes j m) (set kept i false)
+  still_new : KnowsResting (set nodes j m) (set kept i false)
   still_new = rw (at_i, at_j) (touched nodes kept x m knows.0)
 
   pub accepts : (a : ℕ) (new_count : Option ℕ) → accepted_by m ≡ accepted_by n + a → taken_by m ≡ taken_by n
       → ((accepted taken : ℕ) → IsUnderWay accepted taken count → IsUnderWay (accepted + a) taken new_count)
-      → KnowsStill (set nodes j m) (set kept i false)
+      → KnowsResting (set nodes j m) (set kept i false)
       × IsUnderWay (accepted_in (set nodes j m)) (taken_in (set nodes j m)) new_count
   accepts a new_count more same counts =
       let taken : taken_in (set nodes j m) ≡ taken_in nodes = taken_new 0 (same ∙ omega arith) ∙ omega arith in
@@ -113,7 +113,7 @@ module _ (nodes : List Node) (kept : List Bool) (count : Option ℕ) (i j x : �
 
   pub takes : (new_count : Option ℕ) → accepted_by m ≡ accepted_by n → taken_by m ≡ taken_by n + 1
       → ((accepted taken : ℕ) → IsUnderWay accepted taken count → IsUnderWay accepted (taken + 1) new_count)
-      → KnowsStill (set nodes j m) (set kept i false)
+      → KnowsResting (set nodes j m) (set kept i false)
       × IsUnderWay (accepted_in (set nodes j m)) (taken_in (set nodes j m)) new_count
   takes new_count same more counts =
       let accepted : accepted_in (set nodes j m) ≡ accepted_in nodes =
@@ -121,7 +121,7 @@ module _ (nodes : List Node) (kept : List Bool) (count : Option ℕ) (i j x : �
       (still_new, rw (accepted, taken_new 1 more) (counts (accepted_in nodes) (taken_in nodes) knows.1))
 
   pub stays : (accepted_by m ≡ accepted_by n) × (taken_by m ≡ taken_by n)
-      → KnowsStill (set nodes j m) (set kept i false)
+      → KnowsResting (set nodes j m) (set kept i false)
       × IsUnderWay (accepted_in (set nodes j m)) (taken_in (set nodes j m)) count
   stays same =
       let accepted : accepted_in (set nodes j m) ≡ accepted_in nodes =

@@ -32,7 +32,7 @@ pub mod Turning
 pub mod Skipping
 pub mod Routing
 pub mod Resting
-pub mod KeptStill
+pub mod KeptResting
 pub mod CountsUnderWay
 pub mod StepsAt
 pub mod Allocating

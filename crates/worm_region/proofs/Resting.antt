@@ -18,7 +18,7 @@ use Rattle.worm_region.specs.Shape.{net_shape}
 use Rattle.worm_region.specs.State.{NetState, IsFramed, fresh_node, node_at, router_at, source_at, with_router}
 use Rattle.worm_region.specs.Workable.{IsWorkable}
 use Rattle.worm_region.specs.Moves.{NothingComes, can_enter, can_get, chosen_router, front_credit, front_into}
-use Rattle.worm_region.specs.Still.{IsStill, no_node, nth_node}
+use Rattle.worm_region.specs.Resting.{IsResting, no_node, nth_node}
 use Rattle.worm_region.specs.Replies.{Attempts}
 use Rattle.worm_region.specs.Turns.{Each, all_ports, granted_send, SendsGrantedBy, GivesCreditBy, GivesCreditsBy}
 use Rattle.worm_region.specs.Turns.{NodePassesBy, ComesInBy, AreThere, Chooses}
@@ -197,25 +197,25 @@ is_nth s x framed x_in =
     get_or_default s.nodes x no_node (fresh_node s.mesh s.channels s.depth x) (omega arith)
 
 -- a node whose router is at rest, and whose source has nothing to feed
-pub found_still : (s : NetState) (x : ℕ) → IsWorkable s → x < node_count s.mesh → IsAtRest (router_at s x) →
+pub found_resting : (s : NetState) (x : ℕ) → IsWorkable s → x < node_count s.mesh → IsAtRest (router_at s x) →
     ((k : ℕ) → k < length s.channels →
     can_enter (router_at s x) (terminal (router_at s x)) (front_of (source_at s x) k) ≡ false)
-    → IsStill (nth_node s.nodes x)
-found_still s x net x_in rest no_feed =
+    → IsResting (nth_node s.nodes x)
+found_resting s x net x_in rest no_feed =
     let all = net.framed.all_nodes in
     let node = net.framed.each_node x (omega arith) in
-    subst IsStill (sym (is_nth s x net.framed x_in))
+    subst IsResting (sym (is_nth s x net.framed x_in))
     (record { rest = rest; no_feed = λ k below. no_feed k (rw node.source_channels at below) })
 
 -- where no link brings anything, a still node rests
-pub still_rests : (s : NetState) (x : ℕ) → IsWorkable s → x < node_count s.mesh → IsStill (nth_node s.nodes x)
+pub still_rests : (s : NetState) (x : ℕ) → IsWorkable s → x < node_count s.mesh → IsResting (nth_node s.nodes x)
     → ((p : ℕ) → IsSome (neighbour_of s.mesh x p) → front_credit s x p ≡ None)
     → ((p : ℕ) → IsSome (neighbour_of s.mesh x p) → front_into s x p ≡ None)
     → ComesInBy Attempts x s None s × IsAtRest (router_at s x) × NodePassesBy Attempts x s None s
 still_rests s x net x_in still no_credit no_flit =
     let all = net.framed.all_nodes in
     let node = net.framed.each_node x (omega arith) in
-    let here : IsStill (node_at s x) = subst IsStill (is_nth s x net.framed x_in) still in
+    let here : IsResting (node_at s x) = subst IsResting (is_nth s x net.framed x_in) still in
     let nothing : NothingComes s x = record {
       no_credit = no_credit;
       no_flit = no_flit;

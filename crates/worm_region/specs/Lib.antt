@@ -5,7 +5,7 @@ pub mod State
 pub mod Workable
 pub mod Answers
 pub mod Moves
-pub mod Still
+pub mod Resting
 pub mod UnderWay
 pub mod Edges
 pub mod Runs

@@ -4,7 +4,7 @@ use Rattle.std.specs.Prelude.{ℕ, ◌+◌, ◌<◌, ◌≡◌, List, length, Op
 use Rattle.std.specs.List.{sum_by}
 use Rattle.worm_term.specs.Queue.{QueueState}
 use Rattle.worm_term.specs.Source.{classes}
-use Rattle.worm_region.specs.Still.{nth_node}
+use Rattle.worm_region.specs.Resting.{nth_node}
 use Rattle.worm_region.specs.declared.node.Node.{Node}
 
 -- the flits that a node's source accepted, and those that its sink took; kept closed in goals, as the sums are

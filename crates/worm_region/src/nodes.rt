@@ -1,4 +1,4 @@
-//! The nodes of a network by number, which of them are known to be still, so that a turn goes past them, and how many
+//! The nodes of a network by number, which of them are known to rest, so that a turn goes past them, and how many
 //! flits are under way, so that a drain ends without a look at each node.
 
 ghost use Rattle.std.specs.Prelude.{ℕ, ◌≡◌, ◌+◌, ◌<◌, ◌≤◌, IsTrue, IfErr, None, OnErr, OnOk, Some, length, slice_set};
@@ -7,7 +7,7 @@ ghost use Rattle.std.specs.Borrow.{Lends, sem};
 ghost use Rattle.worm_router.specs.Router.{IsPlace, leaving, terminal};
 ghost use Rattle.worm_term.specs.Source.{after_close, after_offer, classes, front_of, refusal};
 ghost use Rattle.worm_region.specs.Moves.{FrontFits, can_enter, delivered_node, fed_node};
-ghost use Rattle.worm_region.specs.Still.{IsStill, nth_node, put_router, put_source};
+ghost use Rattle.worm_region.specs.Resting.{IsResting, nth_node, put_router, put_source};
 ghost use Rattle.worm_region.specs.UnderWay.{HasClasses, HaveClasses, IsUnderWay, accepted_by, accepted_in, taken_in};
 ghost use Rattle.worm_region.specs.contracts.nodes.Nodes.{the_row};
 ghost use Rattle.worm_router.specs.contracts.router.Router.{the_row as router_row};
@@ -23,8 +23,8 @@ use worm_term::OfferFault;
 pub struct Nodes {
     /// The nodes.
     list: Vec<Node>,
-    /// Whether the node of this number is known to be still.
-    still: [bool; 256],
+    /// Whether the node of this number is known to rest.
+    resting: [bool; 256],
     /// How many flits their sources accepted and their sinks have not taken; `None` where that is not known.
     under_way: Option<u64>,
 }
@@ -36,12 +36,12 @@ impl Model for Nodes {
     ghost Value = { List Node };
 
     ghost use Rattle.std.specs.Prelude.{◌*◌};
-    ghost use Rattle.worm_region.specs.Still.{KnowsStill};
+    ghost use Rattle.worm_region.specs.Resting.{KnowsResting};
     ghost use Rattle.worm_region.specs.UnderWay.{IsUnderWay, accepted_in, taken_in};
 
     ghost view = { λ n. n.list.items };
 
-    ghost invariant = { λ n. KnowsStill n.list.items n.still
+    ghost invariant = { λ n. KnowsResting n.list.items n.resting
         × IsUnderWay (accepted_in n.list.items) (taken_in n.list.items) n.under_way };
 }
 
@@ -86,7 +86,7 @@ fn count_under_way(nodes: &[Node], classes: u8) -> Option<u64>
 }
 
 impl Nodes {
-    /// These nodes, whose sources have so many classes. None is known to be still yet.
+    /// These nodes, whose sources have so many classes. None is known to rest yet.
     pub fn new(list: Vec<Node>, classes: u8) -> Nodes
         requires { HaveClasses classes list.items }
         ensures { result ≡ list.items }
@@ -94,7 +94,7 @@ impl Nodes {
         let under_way = count_under_way(list.as_slice(), classes);
         Nodes {
             list,
-            still: [false; 256],
+            resting: [false; 256],
             under_way,
         }
     }
@@ -105,7 +105,7 @@ impl Nodes {
     {
         let Nodes {
             list,
-            still: _,
+            resting: _,
             under_way: _,
         } = self;
         list
@@ -125,25 +125,25 @@ impl Nodes {
         ensures* lends { sem 𝓛 (Lends the_row router_row self.entry result (put_router self.old node)) }
         ensures value { result.now ≡ (nth_node self.old node).router }
     {
-        self.still[usize::from(node)] = false;
+        self.resting[usize::from(node)] = false;
         let here = &mut self.list[usize::from(node)];
         &mut here.router
     }
 
-    /// Whether the node is known to be still.
-    pub fn is_still(&self, node: u8) -> bool
+    /// Whether the node is known to rest.
+    pub fn is_resting(&self, node: u8) -> bool
         requires { node < length self.now }
-        ensures { IsTrue result → IsStill (nth_node self.now node) }
+        ensures { IsTrue result → IsResting (nth_node self.now node) }
     {
-        self.still[usize::from(node)]
+        self.resting[usize::from(node)]
     }
 
-    /// Keeps it that the node is still, until it changes.
-    pub fn settle(&mut self, node: u8)
-        requires { IsStill (nth_node self.old node) }
+    /// Keeps it that the node rests, until it changes.
+    pub fn keep_resting(&mut self, node: u8)
+        requires { IsResting (nth_node self.old node) }
         ensures { self.new ≡ self.old }
     {
-        self.still[usize::from(node)] = true;
+        self.resting[usize::from(node)] = true;
     }
 
     /// How many flits are under way, where it is known.
@@ -167,7 +167,7 @@ impl Nodes {
             then slice_set self.old node (fed_node (nth_node self.old node) class
             (front_of (nth_node self.old node).source class)) else self.old) }
     {
-        self.still[usize::from(node)] = false;
+        self.resting[usize::from(node)] = false;
         let here = &mut self.list[usize::from(node)];
         here.feed(class, port)
     }
@@ -182,7 +182,7 @@ impl Nodes {
         ensures { self.new ≡ (if result then slice_set self.old node
             (delivered_node (nth_node self.old node) port vc flit) else self.old) }
     {
-        self.still[usize::from(node)] = false;
+        self.resting[usize::from(node)] = false;
         let here = &mut self.list[usize::from(node)];
         if !here.deliver(port, vc, out, flit) {
             return false;
@@ -204,7 +204,7 @@ impl Nodes {
     {
         // For the proof, too: a packet has words, and at most 32.
         let flits = packet.words().len() as u64;
-        self.still[usize::from(node)] = false;
+        self.resting[usize::from(node)] = false;
         let here = &mut self.list[usize::from(node)];
         let answer = here.source.offer(packet);
         if answer.is_ok() {
@@ -222,7 +222,7 @@ impl Nodes {
             ≡ unwrap_or (refusal (nth_node self.old node).source lane true) OfferFault.NoMemory) }
         ensures err { OnErr result (self.new ≡ self.old) }
     {
-        self.still[usize::from(node)] = false;
+        self.resting[usize::from(node)] = false;
         let here = &mut self.list[usize::from(node)];
         let answer = here.source.close(lane);
         if answer.is_ok() {

@@ -236,10 +236,10 @@ impl Region {
         ensures passes { IsTrue result → NodePassesBy Attempts node self.old None self.old }
         ensures same { self.new ≡ self.old }
     {
-        if !self.fabric.wires().is_quiet(node) {
+        if !self.fabric.wires().brings_nothing(node) {
             return false;
         }
-        self.fabric.is_still(node)
+        self.fabric.is_resting(node)
     }
 
     pub(crate) fn offer(&mut self, node: u8, packet: &Packet) -> Result<Moved, StepFault>

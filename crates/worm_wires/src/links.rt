@@ -136,7 +136,7 @@ impl Links {
     }
 
     /// Whether nothing comes in at the node. Where nothing does this may not be found.
-    pub fn is_quiet(&self, node: u8) -> bool
+    pub fn brings_nothing(&self, node: u8) -> bool
         ensures flits { IsTrue result → (p : ℕ) → flits_to self.now node p ≡ [] }
         ensures credits { IsTrue result → (o : ℕ) → credits_to self.now node o ≡ [] }
     {

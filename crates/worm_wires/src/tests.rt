@@ -69,7 +69,7 @@ fn what_is_sent_comes_in(rt: HostRuntime) -> Result<(), Fail> {
     states.push(LinkState::new(alloc, 2)?)?;
     states.push(LinkState::new(alloc, 2)?)?;
     let links = Links::new(Mesh::new(&[2])?, states);
-    assert!(rt; links.is_quiet(1));
+    assert!(rt; links.brings_nothing(1));
     assert_eq!(rt; links.next_flit(1, 0), None);
     assert_eq!(rt; links.next_credit(0, 0), None);
     assert_eq!(rt; links.find_out(0, 1), Some(0));
@@ -90,7 +90,7 @@ fn a_link_with_a_flit_is_seen(rt: HostRuntime) -> Result<(), Fail> {
     states.push(back)?;
     let links = Links::new(Mesh::new(&[2])?, states);
     // Link 1 leads from node 1 to node 0; its credits go back to node 1.
-    assert!(rt; !links.is_quiet(0));
+    assert!(rt; !links.brings_nothing(0));
     assert_eq!(rt; links.next_flit(0, 0), Some(1));
     assert_eq!(rt; links.next_credit(0, 0), None);
     assert_eq!(rt; links.next_credit(1, 0), Some(0));

@@ -1,4 +1,4 @@
-//! Whether a node is still: its source has nothing to feed, and its router has nothing to do.
+//! Whether a node rests: its source has nothing to feed, and its router has nothing to do.
 
 ghost use Rattle.std.specs.Prelude.{ℕ, ◌≡◌, ◌<◌, ◌≤◌, IfNone, IfSome, IsTrue, None, false, length};
 ghost use Rattle.worm_mesh.specs.Address.{node_count};
@@ -7,7 +7,7 @@ ghost use Rattle.worm_term.specs.Source.{front_of};
 ghost use Rattle.worm_region.specs.Moves.{can_enter};
 ghost use Rattle.worm_region.specs.State.{router_at, source_at};
 ghost use Rattle.worm_region.specs.Workable.{IsWorkable};
-ghost use Rattle.worm_region.specs.Still.{IsStill, nth_node};
+ghost use Rattle.worm_region.specs.Resting.{IsResting, nth_node};
 
 use super::Fabric;
 
@@ -34,21 +34,21 @@ impl Fabric {
         None
     }
 
-    /// Whether the node is known to be still, or found to be, which is kept until the node changes. Where it is still
+    /// Whether the node is known to rest, or found to, which is kept until the node changes. Where it rests
     /// this may not be found.
-    pub(crate) fn is_still(&mut self, node: u8) -> bool
+    pub(crate) fn is_resting(&mut self, node: u8) -> bool
         requires sound { IsWorkable self.old }
         requires node { node < node_count self.old.mesh }
-        ensures still { IsTrue result → IsStill (nth_node self.old.nodes node) }
+        ensures resting { IsTrue result → IsResting (nth_node self.old.nodes node) }
         ensures same { self.new ≡ self.old }
     {
-        if self.nodes.is_still(node) {
+        if self.nodes.is_resting(node) {
             return true;
         }
         if !self.node(node).router.is_at_rest() || self.next_class(node, 0).is_some() {
             return false;
         }
-        self.nodes.settle(node);
+        self.nodes.keep_resting(node);
         true
     }
 }

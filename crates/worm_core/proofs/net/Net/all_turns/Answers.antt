@@ -16,7 +16,7 @@ invariant_of-self-2 c = (
 pub returns-clause-exact : goal.returns-clause-exact
 returns-clause-exact c =
     let same : c.if-is_empty.self ≡ c.args.self.now = elim c.if-is_empty.branch [
-      | then-is_empty w ↦ w.self-is ∙ w.finds_idle-self-inside.ensures.same
+      | then-is_empty w ↦ w.self-is ∙ w.finds_rest-self-inside.ensures.same
       | else-is_empty w ↦ w.self-is
     ] in
     subst (λ (s : NetState). Turn c.args.entries.now s (result_err c.all_turns.result) c.all_turns.new.self)

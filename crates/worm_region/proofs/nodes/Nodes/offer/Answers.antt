@@ -11,7 +11,7 @@ invariant_of-self c =
     let new = (if_ok c.offer-answer.result _ c.offer-answer.ensures.ok yes).1.2 in
     let there = on_ok c.offer-answer.result _ c.offer-answer.ensures.there yes in
     let words : length c.words.result.now ≡ length c.args.packet.now.words = ap length c.words.ensures.value in
-    accepts c.self.inside.list.items c.self.inside.still c.self.inside.under_way c.from.result c.from-2.result
+    accepts c.self.inside.list.items c.self.inside.resting c.self.inside.under_way c.from.result c.from-2.result
     c.args.node n (record n { source = c.offer-answer.new.self })
     c.self.invariant c.from.ensures c.from-2.ensures (rw c.self.view_is c.requires) c.index_mut-here.ensures.value
     (length c.words.result.now) c.more-self-inside.result
@@ -23,7 +23,7 @@ invariant_of-self-else-is_ok c =
     let n = c.index_mut-here.result.now in
     let same = on_err c.offer-answer.result _ c.offer-answer.ensures.err
     (sym c.is_ok.ensures.value ∙ c.if-is_ok.false) in
-    stays c.self.inside.list.items c.self.inside.still c.self.inside.under_way c.from.result c.from-2.result c.args.node
+    stays c.self.inside.list.items c.self.inside.resting c.self.inside.under_way c.from.result c.from-2.result c.args.node
     n (record n { source = c.offer-answer.new.self })
     c.self.invariant c.from.ensures c.from-2.ensures (rw c.self.view_is c.requires) c.index_mut-here.ensures.value (
       ap (λ (t : SourceState). accepted_by (record n { source = t })) same,

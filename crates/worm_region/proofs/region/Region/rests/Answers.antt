@@ -11,7 +11,7 @@ use Rattle.worm_region.proofs.Resting.{still_rests}
 use Rattle.worm_region.proofs.region.Region.rests.Goals as goal
 
 -- a still node to which nothing comes rests
-rested : (c : goal.After-is_still) → IsTrue c.is_still.result
+rested : (c : goal.After-is_resting) → IsTrue c.is_resting.result
     → ComesInBy Attempts c.args.node c.args.self.now None c.args.self.now × IsAtRest
     (router_at c.args.self.now c.args.node)
     × NodePassesBy Attempts c.args.node c.args.self.now None c.args.self.now
@@ -21,11 +21,11 @@ rested c still =
     subst (λ (s : NetState). ComesInBy Attempts x s None s × IsAtRest (router_at s x) × NodePassesBy Attempts x s None
     s)
     c.self.view_is
-    (still_rests s x c.self.invariant (rw (c.self.view_is) c.requires) (c.is_still.ensures.still still)
+    (still_rests s x c.self.invariant (rw (c.self.view_is) c.requires) (c.is_resting.ensures.resting still)
     (λ p linked. nothing_out (links_of s) x p linked (subst (λ (l : LinksView). credits_to l x p ≡ []) c.wires.ensures
-    (c.is_quiet.ensures.credits c.if-not-is_quiet.false p)))
+    (c.brings_nothing.ensures.credits c.if-not-brings_nothing.false p)))
     (λ p linked. nothing_in (links_of s) x p linked (subst (λ (l : LinksView). flits_to l x p ≡ []) c.wires.ensures
-    (c.is_quiet.ensures.flits c.if-not-is_quiet.false p))))
+    (c.brings_nothing.ensures.flits c.if-not-brings_nothing.false p))))
 
 pub returns-clause-comes : goal.returns-clause-comes
 returns-clause-comes c = λ still. (rested c still).0

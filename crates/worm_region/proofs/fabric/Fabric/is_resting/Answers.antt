@@ -2,31 +2,31 @@ use Rattle.std.proofs.Common.{◌≡◌, Bool, Option, None, Some, arith, false,
 use Rattle.std.specs.Prelude.{IfNone, is_some}
 use Rattle.worm_router.specs.Rest.{IsAtRest}
 use Rattle.worm_region.specs.State.{NetState}
-use Rattle.worm_region.specs.Still.{IsStill, nth_node}
+use Rattle.worm_region.specs.Resting.{IsResting, nth_node}
 use Rattle.worm_region.specs.declared.node.Node.{Node}
-use Rattle.worm_region.proofs.Resting.{found_still}
-use Rattle.worm_region.proofs.fabric.Fabric.is_still.Goals as goal
+use Rattle.worm_region.proofs.Resting.{found_resting}
+use Rattle.worm_region.proofs.fabric.Fabric.is_resting.Goals as goal
 
 where_none : {A : Type 0} (o : Option A) (some : Bool) (P : Type 0) → IfNone o P → some ≡ is_some o → some ≡ false → P
 where_none None some P holds is off = holds
 where_none (Some a) some P holds is off = absurd (cc)
 
-pub returns-then-is_still-clause-still : goal.returns-then-is_still-clause-still
-returns-then-is_still-clause-still c = λ yes.
-    subst (λ (s : NetState). IsStill (nth_node s.nodes c.args.node)) c.self.view_is
-    (c.is_still.ensures c.if-is_still.true)
+pub returns-then-is_resting-clause-resting : goal.returns-then-is_resting-clause-resting
+returns-then-is_resting-clause-resting c = λ yes.
+    subst (λ (s : NetState). IsResting (nth_node s.nodes c.args.node)) c.self.view_is
+    (c.is_resting.ensures c.if-is_resting.true)
 
-pub settle-requires : goal.settle-requires
-settle-requires c =
-    subst (λ (s : NetState). IsStill (nth_node s.nodes c.args.node)) (sym c.self.view_is)
-    (found_still c.args.self.now c.args.node c.requires.sound c.requires.node
+pub keep_resting-requires : goal.keep_resting-requires
+keep_resting-requires c =
+    subst (λ (s : NetState). IsResting (nth_node s.nodes c.args.node)) (sym c.self.view_is)
+    (found_resting c.args.self.now c.args.node c.requires.sound c.requires.node
     (subst (λ (n : Node). IsAtRest n.router) c.node.ensures (c.is_at_rest.ensures c.if-not-is_at_rest.false))
     (λ k below. where_none c.next_class.result c.is_some.result _ c.next_class.ensures.none c.is_some.ensures
     c.if-is_some.false k (omega arith) below))
 
-pub returns-clause-still : goal.returns-clause-still
-returns-clause-still c = λ yes.
-    found_still c.args.self.now c.args.node c.requires.sound c.requires.node
+pub returns-clause-resting : goal.returns-clause-resting
+returns-clause-resting c = λ yes.
+    found_resting c.args.self.now c.args.node c.requires.sound c.requires.node
     (subst (λ (n : Node). IsAtRest n.router) c.node.ensures (c.is_at_rest.ensures c.if-not-is_at_rest.false))
     (λ k below. where_none c.next_class.result c.is_some.result _ c.next_class.ensures.none c.is_some.ensures
     c.if-is_some.false k (omega arith) below)

@@ -1,7 +1,7 @@
 use Rattle.std.proofs.Common.{◌≡◌, ℕ, ◌*◌, ◌≤◌, [], length, arith, rules, subst, sym, ◌∙◌}
 use Rattle.worm_wires.specs.Arrivals.{LinksView, flits_to, credits_to}
 use Rattle.worm_wires.proofs.Looking.{quiet_flits, quiet_credits, true_of}
-use Rattle.worm_wires.proofs.links.Links.is_quiet.Goals as goal
+use Rattle.worm_wires.proofs.links.Links.brings_nothing.Goals as goal
 
 pub returns-then-is_empty-clause-flits : goal.returns-then-is_empty-clause-flits
 returns-then-is_empty-clause-flits c = λ quiet.

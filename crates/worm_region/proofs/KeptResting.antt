@@ -3,7 +3,7 @@ use Rattle.std.proofs.Common.{◌≡◌, ℕ, Bool, true, false, inl, inr, List,
 use Rattle.std.proofs.lemmas.List.{get_or-set_other, get_or-set_same, get_or_past}
 use Rattle.std.proofs.lemmas.Bool.{cases_lt}
 use Rattle.worm_theory.proofs.Places.{number_cases}
-use Rattle.worm_region.specs.Still.{KnowsStill, no_node}
+use Rattle.worm_region.specs.Resting.{KnowsResting, no_node}
 use Rattle.worm_region.specs.declared.node.Node.{Node}
 
 -- a place where false was written has false, there or past the end
@@ -14,8 +14,8 @@ left_out kept x = elim (cases_lt x (length kept)) [
 ]
 
 -- the node that changes is left out; the others are as they were
-pub touched : (nodes : List Node) (kept : List Bool) (x : ℕ) (n : Node) → KnowsStill nodes kept
-    → KnowsStill (set nodes x n) (set kept x false)
+pub touched : (nodes : List Node) (kept : List Bool) (x : ℕ) (n : Node) → KnowsResting nodes kept
+    → KnowsResting (set nodes x n) (set kept x false)
 touched nodes kept x n known = λ y there still. elim (number_cases y x) [
   | inl here ↦ let no : false ≡ true = sym (left_out kept x) ∙ rw here.1 at still in absurd (cc)
   | inr away ↦

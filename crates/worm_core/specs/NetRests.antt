@@ -3,9 +3,9 @@ use Rattle.std.specs.Prelude.{[], None, Bool, IsTrue}
 use Rattle.worm_region.specs.State.{NetState}
 use Rattle.worm_region.specs.Turns.{Turn}
 
-abbrev pub IsIdle : NetState → Type 0
-IsIdle s = Turn [] s None s
+abbrev pub NetRests : NetState → Type 0
+NetRests s = Turn [] s None s
 
 -- where it is known to be one, it is
-abbrev pub KnowsIdle : NetState → Bool → Type 0
-KnowsIdle s known = IsTrue known → IsIdle s
+abbrev pub KnowsNetRests : NetState → Bool → Type 0
+KnowsNetRests s known = IsTrue known → NetRests s

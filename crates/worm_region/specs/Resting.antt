@@ -1,5 +1,5 @@
--- Nodes that are still: where nothing comes in by a link, their turn changes nothing. Which are is kept beside the list
--- of nodes; a node that is not kept may be still as well.
+-- Nodes at rest: where nothing comes in by a link, their turn changes nothing. Which are is kept beside the list
+-- of nodes; a node that is not kept may be at rest as well.
 use Rattle.std.specs.Prelude.{ℕ, ◌≡◌, ◌<◌, Bool, true, false, List, [], length, slice_index_or, slice_set}
 use Rattle.worm_router.specs.Router.{RouterState, terminal}
 use Rattle.worm_router.specs.Rest.{IsAtRest}
@@ -9,7 +9,7 @@ use Rattle.worm_region.specs.Moves.{can_enter}
 use Rattle.worm_region.specs.declared.node.Node.{Node}
 
 -- the router is at rest, and the source has no flit for which there is room
-pub record IsStill (n : Node) : Type 0 where
+pub record IsResting (n : Node) : Type 0 where
   pub rest : IsAtRest n.router
   pub no_feed : (k : ℕ) → k < classes n.source → can_enter n.router (terminal n.router) (front_of n.source k) ≡ false
 
@@ -28,6 +28,6 @@ put_router nodes x r = slice_set nodes x (record (nth_node nodes x) { router = r
 abbrev pub put_source : List Node → ℕ → SourceState → List Node
 put_source nodes x t = slice_set nodes x (record (nth_node nodes x) { source = t })
 
--- each node that is kept as still is
-abbrev pub KnowsStill : List Node → List Bool → Type 0
-KnowsStill nodes kept = (x : ℕ) → x < length nodes → slice_index_or kept x false ≡ true → IsStill (nth_node nodes x)
+-- each node that is kept as resting is
+abbrev pub KnowsResting : List Node → List Bool → Type 0
+KnowsResting nodes kept = (x : ℕ) → x < length nodes → slice_index_or kept x false ≡ true → IsResting (nth_node nodes x)
