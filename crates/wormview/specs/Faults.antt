@@ -1,5 +1,6 @@
 -- The line that the program says of a fault on the standard error, and the status that it ends with.
-use Rattle.std.specs.Prelude.{ℕ, List, ◌++◌, codes, decimal, Result, Ok, Err}
+use Rattle.std.specs.Prelude.{◌≡◌, ◌≢◌, ◌⊎◌, ℕ, List, ◌++◌, codes, decimal, Result, Ok, Err}
+use Rattle.clap.specs.Values.{kind_of}
 use Rattle.clap.specs.declared.error.Error.{Error}
 use Rattle.clap.specs.declared.error.kind.ErrorKind.{ErrorKind}
 use Rattle.clap.specs.declared.error.kind.ErrorKind.TheVariants as clap
@@ -51,3 +52,19 @@ parser_fault _ error = w.Words error
 abbrev pub list_fault : IoErrorKind → WordsFault
 list_fault io.OutOfMemory = w.NoMemory
 list_fault _ = w.NotText
+
+-- a list of texts is refused by what the parser says of it, or for want of memory, which the parser does not say; help
+-- and the version are said where they were asked for, and nowhere else
+abbrev pub IsNoCommand : WordsFault → Type 0
+IsNoCommand (w.Asked answer) = (kind_of answer ≡ clap.DisplayHelp) ⊎ (kind_of answer ≡ clap.DisplayVersion)
+IsNoCommand (w.Words error) =
+    (kind_of error ≢ clap.OutOfMemory) × (kind_of error ≢ clap.DisplayHelp) × (kind_of error ≢ clap.DisplayVersion)
+IsNoCommand w.NotText = ⊥
+IsNoCommand w.NoMemory = Unit {0}
+
+-- before the parser has a list of texts it says nothing
+abbrev pub IsNoList : WordsFault → Type 0
+IsNoList (w.Asked answer) = ⊥
+IsNoList (w.Words error) = ⊥
+IsNoList w.NotText = Unit {0}
+IsNoList w.NoMemory = Unit {0}

@@ -2,8 +2,8 @@
 
 ghost use Rattle.clap.specs.Values.{kind_of};
 ghost use Rattle.std.specs.IoError.{error_kind};
-ghost use Rattle.std.specs.Prelude.{◌≡◌};
-ghost use Rattle.wormview.specs.Faults.{list_fault, parser_fault};
+ghost use Rattle.std.specs.Prelude.{◌≡◌, IfErr};
+ghost use Rattle.wormview.specs.Faults.{list_fault, parser_fault, IsNoCommand, IsNoList};
 
 use clap::error::ErrorKind;
 use clap::{Arg, ArgAction, Command, Error};
@@ -67,7 +67,9 @@ impl From<io::Error> for WordsFault {
 }
 
 /// All words of the command line, the program's name first.
-pub fn all_words<R: Env + AllocGlobal>(rt: &R) -> Result<Vec<String>, WordsFault> {
+pub fn all_words<R: Env + AllocGlobal>(rt: &R) -> Result<Vec<String>, WordsFault>
+    ensures { IfErr result IsNoList }
+{
     let words = std::env::args(rt)?.collect::<Vec<String>>(rt.alloc())?;
     Ok(words)
 }
@@ -91,7 +93,9 @@ fn command<'a>(alloc: Global) -> Result<Command<'a>, AllocError> {
 }
 
 /// Reads the words, the program's name first: `NETWORK [--text]`, in any order, or `--help` or `--version`.
-pub fn read_words<'a>(alloc: Global, words: &'a [&'a str]) -> Result<Words<'a>, WordsFault> {
+pub fn read_words<'a>(alloc: Global, words: &'a [&'a str]) -> Result<Words<'a>, WordsFault>
+    ensures { IfErr result IsNoCommand }
+{
     let mut command = command(alloc)?;
     let matches = command.try_get_matches_from_mut(words)?;
     match matches.get_str("NETWORK") {
