@@ -1,11 +1,9 @@
-use Rattle.std.proofs.Common.{◌≡◌, ◌<◌, ◌∙◌, false, [], ap, length, sum, subst, sym}
-use Rattle.std.specs.Prelude.{IsSome}
-use Rattle.worm_mesh.specs.Address.{neighbour_of, node_count}
+use Rattle.std.proofs.Common.{◌≡◌, ◌<◌, ◌∙◌, ap, length, subst, sym}
 use Rattle.worm_wires.specs.Arrivals.{LinksView}
 use Rattle.worm_region.specs.Edges.{Arrives, after_arriving}
 use Rattle.worm_region.specs.State.{NetState, link_at, net_state, texts_of}
 use Rattle.worm_region.specs.Moves.{link_out}
-use Rattle.worm_region.specs.Workable.{IsWorkable, owned}
+use Rattle.worm_region.specs.Workable.{IsWorkable}
 use Rattle.worm_region.specs.declared.region.Region.TheInside.{Inside}
 use Rattle.worm_region.proofs.EdgeMoves.{arrived}
 use Rattle.worm_region.proofs.EmptyLinks.{flit_room}
@@ -31,24 +29,18 @@ made c =
     let s = c.self.inside.fabric in
     subst (λ (t : NetState). IsWorkable t × Arrives s c.args.node c.args.port c.args.flit t) (sym (came c))
     (arrived s c.args.node c.args.port c.args.flit c.self.invariant
-    (subst (λ (s : NetState). owned s c.args.node ≡ false) (sym c.self.view_is) c.requires.elsewhere)
-    (subst (λ (s : NetState). IsSome (neighbour_of s.mesh c.args.node c.args.port))
-    (sym c.self.view_is) c.requires.linked)
-    (subst (λ (s : NetState). c.args.flit.vc < sum s.channels) (sym c.self.view_is) c.requires.channel)
-    (subst (λ (s : NetState). c.args.flit.lane.dst < node_count s.mesh) (sym c.self.view_is) c.requires.goal))
+    (rw c.self.view_is c.requires.elsewhere)
+    (rw c.self.view_is c.requires.linked)
+    (rw c.self.view_is c.requires.channel)
+    (rw c.self.view_is c.requires.goal))
 
 pub push-requires-clause-room : goal.push-requires-clause-room
 push-requires-clause-room c =
     let s = c.self.inside.fabric in
-    let linked =
-    subst (λ (s : NetState). IsSome (neighbour_of s.mesh c.args.node c.args.port))
-    (sym c.self.view_is) c.requires.linked in
-    let empty =
-    subst (λ (s : NetState). (link_at s (link_out s c.args.node c.args.port)).flits ≡ [])
-    (sym c.self.view_is) c.requires.empty in
     subst (λ (s : NetState). length (link_at s (link_out s c.args.node c.args.port)).flits
     < (link_at s (link_out s c.args.node c.args.port)).room) (sym (ap (λ (r : Inside). r.fabric) c.self-inside.view_is))
-    (flit_room s c.args.node c.args.port c.self.invariant.framed linked empty)
+    (flit_room s c.args.node c.args.port c.self.invariant.framed (rw c.self.view_is c.requires.linked)
+    (rw c.self.view_is c.requires.empty))
 
 pub invariant_of-self : goal.invariant_of-self
 unfolding after

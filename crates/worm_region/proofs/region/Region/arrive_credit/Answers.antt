@@ -1,11 +1,9 @@
-use Rattle.std.proofs.Common.{◌≡◌, ◌<◌, ◌∙◌, false, [], ap, length, sum, subst, sym}
-use Rattle.std.specs.Prelude.{IsSome}
-use Rattle.worm_mesh.specs.Address.{neighbour_of}
+use Rattle.std.proofs.Common.{◌≡◌, ◌<◌, ◌∙◌, ap, length, subst, sym}
 use Rattle.worm_wires.specs.Arrivals.{LinksView}
 use Rattle.worm_region.specs.Edges.{ComesBack, after_credit_back}
 use Rattle.worm_region.specs.State.{NetState, link_at, net_state, texts_of}
 use Rattle.worm_region.specs.Moves.{link_into}
-use Rattle.worm_region.specs.Workable.{IsWorkable, owned}
+use Rattle.worm_region.specs.Workable.{IsWorkable}
 use Rattle.worm_region.specs.declared.region.Region.TheInside.{Inside}
 use Rattle.worm_region.proofs.EdgeMoves.{credited}
 use Rattle.worm_region.proofs.EmptyLinks.{credit_room}
@@ -32,24 +30,18 @@ made c =
     let s = c.self.inside.fabric in
     subst (λ (t : NetState). IsWorkable t × ComesBack s c.args.node c.args.port c.args.vc t) (sym (came c))
     (credited s c.args.node c.args.port c.args.vc c.self.invariant
-    (subst (λ (s : NetState). owned s c.args.node ≡ false) (sym c.self.view_is) c.requires.elsewhere)
-    (subst (λ (s : NetState). IsSome (neighbour_of s.mesh c.args.node c.args.port))
-    (sym c.self.view_is) c.requires.linked)
-    (subst (λ (s : NetState). c.args.vc < sum s.channels) (sym c.self.view_is) c.requires.channel))
+    (rw c.self.view_is c.requires.elsewhere)
+    (rw c.self.view_is c.requires.linked)
+    (rw c.self.view_is c.requires.channel))
 
 pub push_credit-requires-clause-room : goal.push_credit-requires-clause-room
 push_credit-requires-clause-room c =
     let s = c.self.inside.fabric in
-    let linked =
-    subst (λ (s : NetState). IsSome (neighbour_of s.mesh c.args.node c.args.port))
-    (sym c.self.view_is) c.requires.linked in
-    let empty =
-    subst (λ (s : NetState). (link_at s (link_into s c.args.node c.args.port)).credits ≡ [])
-    (sym c.self.view_is) c.requires.empty in
     subst (λ (s : NetState). length (link_at s (link_into s c.args.node c.args.port)).credits
     < (link_at s (link_into s c.args.node c.args.port)).room)
     (sym (ap (λ (r : Inside). r.fabric) c.self-inside.view_is))
-    (credit_room s c.args.node c.args.port c.self.invariant.framed linked empty)
+    (credit_room s c.args.node c.args.port c.self.invariant.framed (rw c.self.view_is c.requires.linked)
+    (rw c.self.view_is c.requires.empty))
 
 pub invariant_of-self : goal.invariant_of-self
 unfolding after
