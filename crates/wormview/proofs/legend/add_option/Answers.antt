@@ -9,5 +9,6 @@ returns-in-Options c =
 
 pub returns-in-Stopped : goal.returns-in-Stopped
 returns-in-Stopped c =
-    adds c.write-in-Stopped.result c.args.svg.now (record { text = c.write-in-Stopped.new.self }) _ [] c.write-in-Stopped.ensures.bytes
+    adds c.write-in-Stopped.result c.args.svg.now (record { text = c.write-in-Stopped.new.self }) _ []
+    c.write-in-Stopped.ensures.bytes
     (number _ _ [] (last_number _))
