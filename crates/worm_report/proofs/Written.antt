@@ -1,7 +1,7 @@
 -- One write after another.
-use Rattle.std.proofs.Common.{◌≡◌, ◌≢◌, ℕ, zero, suc, inl, inr, ◌+◌, ◌-◌, ◌≤◌, ◌<◌, List, [], ◌∷◌, ◌++◌, length, take, drop}
-use Rattle.std.proofs.Common.{map, get_or, Option, Some, None, Result, Ok, Err, refl, sym, ap, subst, ◌∙◌, append_assoc}
-use Rattle.std.proofs.Common.{arith}
+use Rattle.std.proofs.Common.{◌≡◌, ◌≢◌, ℕ, zero, suc, inl, inr, ◌+◌, ◌-◌, ◌≤◌, ◌<◌, List, [], ◌∷◌, ◌++◌, length, take}
+use Rattle.std.proofs.Common.{drop, map, get_or, Option, Some, None, Result, Ok, Err, refl, sym, ap, subst, ◌∙◌}
+use Rattle.std.proofs.Common.{append_assoc, arith}
 use Rattle.std.specs.Prelude.{OnOk, OnErr, IfErr}
 use Rattle.std.specs.Result.{IsErr, result_and}
 use Rattle.std.specs.List.{flat_map, range_with_len}
@@ -238,18 +238,19 @@ both_more (Err e) s rest more h k = λ want none. h (back_empty more rest none)
 pub report_closed : {a b c : Option (List ℕ)} {r s : Answer} (fresh page : List ℕ) (rows : List Row) → fresh ≡ []
     → WritesOrBreaksOff (desk a fresh) (desk b page) r rows → Writes b c s page
     → Writes a c (result_and r s) (rows_text rows)
-report_closed {a = a} {b = b} {c = c} {r = r} {s = s} fresh page rows empty off closed = let made = off.written in record {
-  front = made.front ++ closed.front;
-  rest = closed.rest ++ made.rest;
-  whole =
-      ap (λ (z : List ℕ). z ++ rows_text rows) (sym empty) ∙ made.whole
-      ∙ ap (λ (z : List ℕ). made.front ++ z ++ made.rest) closed.whole
-      ∙ ap (λ (z : List ℕ). z ++ made.rest) (sym (append_assoc made.front closed.front closed.rest))
-      ∙ append_assoc (made.front ++ closed.front) closed.rest made.rest;
-  given = Appends-trans a b c made.front closed.front made.given closed.given;
-  all = both_done r s made.rest closed.rest made.all closed.all;
-  more = both_more r s made.rest closed.rest off.more closed.more;
-}
+report_closed {a = a} {b = b} {c = c} {r = r} {s = s} fresh page rows empty off closed =
+    let made = off.written in record {
+      front = made.front ++ closed.front;
+      rest = closed.rest ++ made.rest;
+      whole =
+          ap (λ (z : List ℕ). z ++ rows_text rows) (sym empty) ∙ made.whole
+          ∙ ap (λ (z : List ℕ). made.front ++ z ++ made.rest) closed.whole
+          ∙ ap (λ (z : List ℕ). z ++ made.rest) (sym (append_assoc made.front closed.front closed.rest))
+          ∙ append_assoc (made.front ++ closed.front) closed.rest made.rest;
+      given = Appends-trans a b c made.front closed.front made.given closed.given;
+      all = both_done r s made.rest closed.rest made.all closed.all;
+      more = both_more r s made.rest closed.rest off.more closed.more;
+    }
 
 given_and_kept : (a b c : Option (List ℕ)) (bytes : List ℕ) → Writes a b done bytes → Keeps b c → Appends a c bytes
 given_and_kept a b c bytes w kept =
