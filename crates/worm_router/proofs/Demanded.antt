@@ -1,7 +1,8 @@
 -- What a router keeps for its channel allocator is what its records say: what a write of one channel leaves of that.
 use Rattle.std.proofs.Common.{◌≡◌, ◌==◌, ℕ, ◌+◌, ◌<◌, ◌≤◌, nat_lt, Bool, true, false, List, [], ◌∷◌, ◌++◌, length}
-use Rattle.std.proofs.Common.{length-append, slice_set, slice_get, slice_index_or, replicate, Option, None, Some, is_none, is_some, All}
-use Rattle.std.proofs.Common.{if◌then◌else◌, Result, Ok, Err, OnOk, IfErr, inl, inr, refl, arith, ap, sym, subst, ◌∙◌}
+use Rattle.std.proofs.Common.{length-append, slice_set, slice_get, slice_index_or, replicate, Option, None, Some}
+use Rattle.std.proofs.Common.{is_none, is_some, All, if◌then◌else◌, Result, Ok, Err, OnOk, IfErr, inl, inr, refl}
+use Rattle.std.proofs.Common.{arith, ap, sym, subst, ◌∙◌}
 use Rattle.std.proofs.lemmas.Grind.{get_or-set_at}
 use Rattle.std.proofs.lemmas.Bool.{cases_Bool, cases_lt, true≢false}
 use Rattle.std.proofs.lemmas.Bool.Decides.{nat_tests}
@@ -252,8 +253,8 @@ pub none_of_keys : (grants : List (List (Option ℕ))) (keys : ℕ)
 none_of_keys grants keys are none = λ p v p_in v_in.
     none_where_not_some (cell grants p v None) (sym (are p v p_in v_in) ∙ has-empty keys p v none)
 
-pub pass_of : (r s : RouterState) (asked : List (List (Option VcRequest))) (free : List (List Bool)) (alloc : VcAllocState)
-    (grants : List (List (Option ℕ))) → r ≡ s → asked ≡ requests r → free ≡ free_channels r
+pub pass_of : (r s : RouterState) (asked : List (List (Option VcRequest))) (free : List (List Bool))
+    (alloc : VcAllocState) (grants : List (List (Option ℕ))) → r ≡ s → asked ≡ requests r → free ≡ free_channels r
     → record { alloc = alloc; grants = grants }
     ≡ vc_pass asked free (record { alloc = r.channel_alloc; grants = replicate 7 (replicate 8 None) })
     → record { alloc = alloc; grants = grants } ≡ channel_pass s

@@ -91,8 +91,8 @@ fold_same_below step x (suc n) from same =
 port_without : (s : RouterState) (grants : List (List (Option ℕ))) (port : ℕ) → width s ≤ 8
     → ((v : ℕ) → v < 8 → cell grants port v None ≡ None) → with_port_grants grants s port ≡ s
 unfolding with_port_grants
-port_without s grants port few none = fold_same_below (λ q vc. written q port vc (cell grants port vc None)) s (width s) 0
-    (λ k below. ap (written s port k) (none k (omega arith)))
+port_without s grants port few none =
+    fold_same_below (λ q vc. written q port vc (cell grants port vc None)) s (width s) 0 (λ k below. ap (written s port k) (none k (omega arith)))
 
 -- ---- the ports that have grants, taken out of a set one by one
 
@@ -114,7 +114,8 @@ writing_begins old grants keys few_ports are = record {
   ahead = λ p v _ p_in v_in. are p v (omega arith) v_in;
 }
 
-module _ (old : RouterState) (grants : List (List (Option ℕ))) (few_ports : terminal old ≤ 6) (few : width old ≤ 8) where
+module _ (old : RouterState) (grants : List (List (Option ℕ))) (few_ports : terminal old ≤ 6)
+    (few : width old ≤ 8) where
   -- ports without a grant are gone past
   past_empty : (here : RouterState) (from n : ℕ)
       → HasWritten old here (fold (with_port_grants grants) old (range_with_len 0 from))

@@ -22,8 +22,8 @@ invariant_of-self-else-is_ok c =
     let n = c.index_mut-here.result.now in
     let same = on_err c.close-answer.result _ c.close-answer.ensures.err
     (sym c.is_ok.ensures.value ∙ c.if-is_ok.false) in
-    stays c.self.inside.list.items c.self.inside.resting c.self.inside.under_way c.from.result c.from-2.result c.args.node
-    n (record n { source = c.close-answer.new.self })
+    stays c.self.inside.list.items c.self.inside.resting c.self.inside.under_way
+    c.from.result c.from-2.result c.args.node n (record n { source = c.close-answer.new.self })
     c.self.invariant c.from.ensures c.from-2.ensures (rw c.self.view_is c.requires) c.index_mut-here.ensures.value (
       ap (λ (t : SourceState). accepted_by (record n { source = t })) same,
       ap (λ (t : SourceState). taken_by (record n { source = t })) same,

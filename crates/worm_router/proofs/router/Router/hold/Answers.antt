@@ -1,6 +1,6 @@
 use Rattle.std.proofs.lemmas.List.Elements.{All-set}
-use Rattle.std.proofs.Common.{◌&&◌, is_none, false, ◌<◌, ◌*◌, ◌∙◌, ap, sym, subst, inl, inr, true, false, ◌≡◌, sum, length}
-use Rattle.std.proofs.Common.{arith}
+use Rattle.std.proofs.Common.{◌&&◌, ◌<◌, ◌*◌, ◌∙◌, ◌≡◌, is_none, true, false, sum, length, arith}
+use Rattle.std.proofs.Common.{ap, sym, subst, inl, inr}
 use Rattle.std.proofs.lemmas.Grind.{common_steps, elements}
 use Rattle.worm_records.specs.declared.InRecord.TheVariants.{Active}
 use Rattle.worm_records.specs.declared.OutRecord.{OutRecord}

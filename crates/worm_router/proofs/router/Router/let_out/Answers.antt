@@ -109,7 +109,8 @@ invariant_of-self c =
           (inl c.file_left.ensures.owing);
       demand = record {
         requests = ap (λ (d : DemandView). d.requests) c.release_if.ensures ∙ c.self.invariant.demand.requests
-            ∙ sym (requests_kept _ _ _ _ _ _ input (asks_nothing _ _ _ waits_not ∙ sym (asks_nothing _ _ _ waited_not)));
+            ∙ sym (requests_kept _ _ _ _ _ _ input
+            (asks_nothing _ _ _ waits_not ∙ sym (asks_nothing _ _ _ waited_not)));
         free = free_left _ _ _ _ _ _ output (closes c.args.flit.kind) _ _ c.self.invariant.busy.few_ports
             c.self.invariant.busy.few_channels c.self.invariant.demand.free
             (ap (λ (d : DemandView). d.free) c.release_if.ensures

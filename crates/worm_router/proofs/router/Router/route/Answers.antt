@@ -32,7 +32,8 @@ invariant_of-self c =
     let front : slice_get c.index_mut-channel.result.now.buffer 0 ≡ Some c.in-Some.front =
     ap (λ (x : ChannelState). slice_get x.buffer 0) (input.was ∙ sym read.was) ∙ sym c.flit_at.ensures ∙ c.in-Some.is in
     let allowed : c.mask-allowed.result ≡ class_bits c.self.inside.classes c.in-Some.front.lane.class =
-    c.mask-allowed.ensures ∙ ap (λ (r : RouterState). class_bits r.channels c.in-Some.front.lane.class) (sym c.self.view_is) in
+    c.mask-allowed.ensures
+    ∙ ap (λ (r : RouterState). class_bits r.channels c.in-Some.front.lane.class) (sym c.self.view_is) in
     record {
       router = record {
         lists = input_set_sound _ _ _ _ _ _ _ _ c.self.invariant.router.lists
@@ -59,6 +60,6 @@ invariant_of-self c =
           (λ o k holds. let unlike = sym (ap (λ (x : ChannelState). x.state) c.set_state.ensures) ∙ holds in
           absurd (cc)) c.self.invariant.holders;
       classes = c.self.invariant.classes;
-      ready = (ready_waiting _ _ _ _ _ _ _ input c.self.invariant.busy.few_ports c.self.invariant.busy.few_channels was_idle
-          (ap is_active c.set_state.ensures) c.self.invariant.ready);
+      ready = ready_waiting _ _ _ _ _ _ _ input c.self.invariant.busy.few_ports c.self.invariant.busy.few_channels
+          was_idle (ap is_active c.set_state.ensures) c.self.invariant.ready;
     }
