@@ -281,3 +281,11 @@ pub written_is : (r s : RouterState) (alloc : VcAllocState) (grants : List (List
 written_is r s alloc grants same pass =
     ap (λ (q : RouterState). with_grants grants (record q { channel_alloc = alloc })) same
     ∙ ap (λ (p : VcPass). with_grants p.grants (record s { channel_alloc = p.alloc })) pass
+
+-- where no channel waits none asks for anything
+pub none_waits : (r : RouterState) (waiting : ℕ) → IsSetOf is_waiting r waiting → (waiting == 0) ≡ true
+    → AreInVain (requests r) (free_channels r)
+none_waits r waiting are none = λ out c p v unheld.
+    cell_has (λ q. may_use q out c ≡ false) r None (request_at r) p v refl (λ place.
+    ap (λ q. may_use q out c) (asks_nothing r.channels (input_at r p v).state (input_at r p v).buffer
+    (sym (are.inside p v place.port_in place.channel_in) ∙ has-empty waiting p v none)))

@@ -1,9 +1,10 @@
 //! One pass of the channel allocator, over what the records state.
 
-ghost use Rattle.std.specs.Prelude.{◌≡◌, ◌+◌, ◌≤◌, ◌<◌, IfSome};
+ghost use Rattle.std.specs.Prelude.{◌≡◌, ◌+◌, ◌≤◌, ◌<◌, IfSome, IsTrue};
 ghost use Rattle.worm_flit.specs.Channels.{class_bits};
 ghost use Rattle.worm_vcalloc.specs.VcAlloc.{IsChannelMatching};
 ghost use Rattle.worm_router.specs.Router.{IsPlace, terminal, width};
+ghost use Rattle.worm_router.specs.Demand.{AreInVain};
 ghost use Rattle.worm_router.specs.Allocation.{requests, free_channels, GrantsWithin, written, channel_pass};
 ghost use Rattle.worm_router.specs.Allocation.{after_allocate, with_port_grants, with_grants, AreHeld, LeavesRest};
 ghost use Rattle.worm_router.specs.Allocation.{IsSameSize};
@@ -62,6 +63,16 @@ impl Router {
         }
     }
 
+    /// Whether a pass would grant nothing: no channel waits, or it is known that those that wait do so in vain.
+    pub(super) fn waits_in_vain(&self) -> bool
+        ensures { IsTrue result → AreInVain (requests self.now) (free_channels self.now) }
+    {
+        if self.waiting().is_empty() {
+            return true;
+        }
+        self.demand.is_in_vain()
+    }
+
     /// One pass of the channel allocator over the waiting channels and the free ones. Each grant is written into
     /// the records of the input channel and of the output channel (Dally and Towles, chapters 16 and 19).
     pub fn allocate(&mut self) -> VcGrants
@@ -73,7 +84,7 @@ impl Router {
         ensures held { AreHeld self.old self.new result }
         ensures rest { LeavesRest self.old self.new result }
     {
-        if self.demand.is_in_vain() {
+        if self.waits_in_vain() {
             return VcGrants::new();
         }
         let grants = self

@@ -33,7 +33,7 @@ impl Router {
     fn allocates_nothing(&self) -> bool
         ensures { IsTrue result → after_allocate self.now ≡ self.now }
     {
-        self.demand.is_in_vain()
+        self.waits_in_vain()
     }
 
     /// True only where no channel may send: a pass of the switch allocator then grants nothing and changes nothing.

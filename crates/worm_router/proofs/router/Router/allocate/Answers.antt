@@ -4,27 +4,24 @@ use Rattle.worm_router.specs.Router.{RouterState, router_state, IsRouter, termin
 use Rattle.worm_router.specs.Allocation.{IsAllocated}
 use Rattle.worm_router.specs.Demand.{AreInVain}
 use Rattle.worm_router.proofs.NothingWaits.{vain_allocated}
-use Rattle.worm_router.proofs.Demanded.{in_vain, vain_router, none_of_keys, pass_of, matching_of, written_is}
+use Rattle.worm_router.proofs.Demanded.{in_vain, none_of_keys, pass_of, matching_of, written_is}
 use Rattle.worm_router.proofs.Granting.{IsPassed, passed_by}
 use Rattle.worm_router.proofs.router.Router.allocate.Goals as goal
 
-pub returns-then-is_in_vain-clause-grants : goal.returns-then-is_in_vain-clause-grants
-returns-then-is_in_vain-clause-grants c =
+pub returns-then-waits_in_vain-clause-grants : goal.returns-then-waits_in_vain-clause-grants
+returns-then-waits_in_vain-clause-grants c =
     (vain_allocated c.args.self.now c.args.self.now c.new.result
-    (vain_router _ c.args.self.now _ c.self.view_is c.self.invariant.demand
-    (c.is_in_vain.ensures c.if-is_in_vain.true)) refl c.new.ensures).grants_are
+    (c.waits_in_vain.ensures c.if-waits_in_vain.true) refl c.new.ensures).grants_are
 
-pub returns-then-is_in_vain-clause-after : goal.returns-then-is_in_vain-clause-after
-returns-then-is_in_vain-clause-after c =
+pub returns-then-waits_in_vain-clause-after : goal.returns-then-waits_in_vain-clause-after
+returns-then-waits_in_vain-clause-after c =
     (vain_allocated c.args.self.now c.args.self.now c.new.result
-    (vain_router _ c.args.self.now _ c.self.view_is c.self.invariant.demand
-    (c.is_in_vain.ensures c.if-is_in_vain.true)) refl c.new.ensures).after
+    (c.waits_in_vain.ensures c.if-waits_in_vain.true) refl c.new.ensures).after
 
-pub returns-then-is_in_vain-clause-matching : goal.returns-then-is_in_vain-clause-matching
-returns-then-is_in_vain-clause-matching c =
+pub returns-then-waits_in_vain-clause-matching : goal.returns-then-waits_in_vain-clause-matching
+returns-then-waits_in_vain-clause-matching c =
     (vain_allocated c.args.self.now c.args.self.now c.new.result
-    (vain_router _ c.args.self.now _ c.self.view_is c.self.invariant.demand
-    (c.is_in_vain.ensures c.if-is_in_vain.true)) refl c.new.ensures).matching
+    (c.waits_in_vain.ensures c.if-waits_in_vain.true) refl c.new.ensures).matching
 
 pub set_in_vain-requires : goal.set_in_vain-requires
 set_in_vain-requires c = λ none.
