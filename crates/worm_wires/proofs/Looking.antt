@@ -1,29 +1,26 @@
--- Which ports a look at what is known of a node finds: flits come in by them, or credits come back.
-use Rattle.std.proofs.Common.{◌≡◌, ◌==◌, ℕ, ◌*◌, ◌<◌, ◌≤◌, Bool, true, false, inl, inr, List, [], length, get_or}
+-- Which ports a look at what is kept of a node finds: flits come in by them, or credits come back.
+use Rattle.std.proofs.Common.{◌≡◌, ◌==◌, ℕ, ◌*◌, ◌<◌, ◌≤◌, Bool, true, false, inl, inr, List, [], ◌∷◌, length, get_or}
 use Rattle.std.proofs.Common.{Option, Some, None, refl, arith, ap, sym, ◌∙◌}
-use Rattle.std.specs.Prelude.{IfNone, IfSome, MatchOption, IsTrue, option_map, IsSome, is_some, slice_get}
+use Rattle.std.specs.Prelude.{IfNone, IfSome, MatchOption, IsTrue, option_map, IsSome, slice_get}
+use Rattle.std.proofs.lemmas.Bool.{cases_lt}
 use Rattle.std.proofs.lemmas.List.{get_or_default}
 use Rattle.worm_mesh.specs.Address.{neighbour_of, opposite_of}
 use Rattle.worm_mesh.specs.Links.{links_before}
 use Rattle.worm_wires.specs.Links.{LinkView, blank_link}
 use Rattle.worm_wires.specs.Wiring.{into_from}
 use Rattle.worm_wires.specs.Ports.{has, IsFirstFrom}
-use Rattle.worm_wires.specs.Arrivals.{LinksView, KnowsAll, credits_of, credits_to, flits_of, flits_to, no_arrivals}
-use Rattle.worm_wires.specs.Arrivals.{number_into, number_out, state_at}
+use Rattle.worm_wires.specs.Arrivals.{LinksView, AreAllArrivals, AreArrivals, AreFronts, credits_of, credits_to, flits_of}
+use Rattle.worm_wires.specs.Arrivals.{flits_to, has_front, no_arrivals, number_into, number_out, on_link, state_at}
 use Rattle.worm_wires.specs.declared.links.Arrivals.{Arrivals}
-use Rattle.std.proofs.lemmas.Bool.{cases_lt}
 use Rattle.worm_wires.proofs.PortSets.{has_none}
 use Rattle.worm_wires.proofs.Wired.{in_none, out_none}
-use Rattle.worm_wires.proofs.Arriving.{front_gone}
 
--- a link of which a look found no flit
-pub found_none : (states : List LinkView) (k i : ℕ) (read : LinkView) (some : Bool) → i ≡ k → i < length states
-    → read ≡ get_or states i read → some ≡ is_some (slice_get read.flits 0) → some ≡ false
-    → flits_of states (Some k) ≡ []
-found_none states k i read some at_i there reads is off =
-    let link : read ≡ get_or states k blank_link =
-    reads ∙ (get_or_default states i read blank_link there ∙ ap (λ (v : ℕ). get_or states v blank_link) at_i) in
-    ap (λ (s : LinkView). s.flits) (sym link) ∙ front_gone read.flits some is off
+-- what a look at a link finds at the front of a list of it
+pub found_front : {A : Type 0} (list : LinkView → List A) (states : List LinkView) (k i : ℕ) (read : LinkView) → i ≡ k
+    → i < length states → read ≡ get_or states i read → list read ≡ on_link list states (Some k)
+found_front list states k i read at_i there reads =
+    ap list (reads ∙ (get_or_default states i read blank_link there
+    ∙ ap (λ (v : ℕ). get_or states v blank_link) at_i))
 
 -- nothing at the front of a list that brings nothing
 
@@ -47,84 +44,80 @@ pub nothing_out : (l : LinksView) (x o : ℕ) → IsSome (neighbour_of l.mesh x 
     → slice_get (state_at l (number_out l x o)).credits 0 ≡ None
 nothing_out l x o linked none = nothing_back l.mesh l.states x o (neighbour_of l.mesh x o) linked none
 
--- nothing comes in by a port that is in no set, nor past the mesh ports
+no_front : {A : Type 0} (xs : List A) → has_front xs ≡ false → xs ≡ []
+no_front [] none = refl
+no_front (x ∷ xs) none = absurd (cc)
 
-pub lacks_flits : (l : LinksView) (kept : List Arrivals) (x i : ℕ) (d : Arrivals) → KnowsAll l kept → length kept ≡ 256
-    → x < 256 → i ≡ x → 2 * length l.mesh ≤ 6 → (p : ℕ) → (p < 8 → has (get_or kept i d).flits p ≡ false)
-    → flits_to l x p ≡ []
-lacks_flits l kept x i d knows all x_in at_i few p none = elim (cases_lt p 6) [
-  | inl mesh_port ↦
-      let entry : get_or kept i d ≡ get_or kept x no_arrivals =
-      get_or_default kept i d no_arrivals (omega arith) ∙ ap (λ (v : ℕ). get_or kept v no_arrivals) at_i in
-      (knows x x_in).flits p mesh_port (ap (λ (a : Arrivals). has a.flits p) (sym entry) ∙ none (omega arith))
-  | inr past ↦ ap (λ (n : Option ℕ). flits_of l.states n) (in_none l.mesh x p (omega arith))
+some_front : {A : Type 0} (xs : List A) → has_front xs ≡ true → xs ≡ [] → ⊥
+some_front [] some none = cc
+some_front (x ∷ xs) some none = cc
+
+-- all ports of a set, from those up to one and those past it
+pub fronts_of : {A : Type 0} (list_to : ℕ → List A) (bits last : ℕ)
+    → ((p : ℕ) → p < last → has bits p ≡ has_front (list_to p)) → ((p : ℕ) → last ≤ p → p < 8 → has bits p ≡ false)
+    → ((p : ℕ) → last ≤ p → list_to p ≡ []) → AreFronts list_to bits
+fronts_of list_to bits last before after none = λ p p_in. elim (cases_lt p last) [
+  | inl below ↦ before p below
+  | inr above ↦ after p above p_in ∙ ap has_front (sym (none p above))
 ]
 
-pub quiet_flits : (l : LinksView) (kept : List Arrivals) (x i : ℕ) (d : Arrivals) → KnowsAll l kept → length kept ≡ 256
-    → x < 256 → i ≡ x → 2 * length l.mesh ≤ 6 → ((get_or kept i d).flits == 0) ≡ true → (p : ℕ) → flits_to l x p ≡ []
-quiet_flits l kept x i d knows all x_in at_i few none p =
-    lacks_flits l kept x i d knows all x_in at_i few p (λ below. has_none (get_or kept i d).flits p none)
+-- where nothing comes in by any port a look finds that
+pub come_by : {A : Type 0} (list_to : ℕ → List A) (bits : ℕ) (empty : Bool) → AreFronts list_to bits
+    → (empty ≡ false → (p : ℕ) × (p < 8) × (has bits p ≡ true)) → ((p : ℕ) → list_to p ≡ []) → empty ≡ true
+come_by list_to bits true are some none = refl
+come_by list_to bits false are some none =
+    let one = some refl in
+    absurd (some_front (list_to one.0) (sym (are one.0 one.1) ∙ one.2) (none one.0))
 
--- from one port on, the first of the set
-pub next_flits : (l : LinksView) (kept : List Arrivals) (x i from : ℕ) (d : Arrivals) (r : Option ℕ) → KnowsAll l kept
-    → length kept ≡ 256 → x < 256 → i ≡ x → 2 * length l.mesh ≤ 6
-    → MatchOption r ((p : ℕ) → from ≤ p → p < 8
-    → has (get_or kept i d).flits p ≡ false) (IsFirstFrom (get_or kept i d).flits from)
-    → (IfSome r (λ port. (from ≤ port) × (port < 2 * length l.mesh) × (port < 6)) × IfSome r (λ port. (p : ℕ) → from ≤ p
-    → p < port → flits_to l x p ≡ [])) × IfNone r ((p : ℕ) → from ≤ p → flits_to l x p ≡ [])
-next_flits l kept x i from d None knows all x_in at_i few none =
-    ((tt, tt), λ p above. lacks_flits l kept x i d knows all x_in at_i few p (λ below. none p above below))
-next_flits l kept x i from d (Some port) knows all x_in at_i few first =
+-- What a port of a set says of a list that comes in by it, where none comes in past the mesh ports
+
+module _ {A : Type 0} (list_to : ℕ → List A) (bits last : ℕ) (are : AreFronts list_to bits) (few : last ≤ 6)
+    (past : (p : ℕ) → last ≤ p → list_to p ≡ []) where
+  lacks : (p : ℕ) → (p < 8 → has bits p ≡ false) → list_to p ≡ []
+  lacks p none = elim (cases_lt p 8) [
+    | inl below ↦ no_front (list_to p) (sym (are p below) ∙ none below)
+    | inr above ↦ past p (omega arith)
+  ]
+
+  -- a port of the set is a mesh port
+  there : (p : ℕ) → p < 8 → has bits p ≡ true → p < last
+  there p p_in on = elim (cases_lt p last) [
+    | inl below ↦ below
+    | inr above ↦ absurd (some_front (list_to p) (sym (are p p_in) ∙ on) (past p above))
+  ]
+
+  pub none_come : (bits == 0) ≡ true → (p : ℕ) → list_to p ≡ []
+  none_come none p = lacks p (λ below. has_none bits p none)
+
+  -- from one port on, the first of the set
+  pub next_come : (from : ℕ) (r : Option ℕ)
+      → MatchOption r ((p : ℕ) → from ≤ p → p < 8 → has bits p ≡ false) (IsFirstFrom bits from)
+      → IfSome r (λ port. (from ≤ port) × (port < last) × (port < 6)) × IfSome r (λ port. list_to port ≡ [] → ⊥)
+      × IfSome r (λ port. (p : ℕ) → from ≤ p → p < port → list_to p ≡ []) × IfNone r ((p : ℕ) → from ≤ p → list_to p ≡ [])
+  next_come from None none = (tt, tt, tt, λ p above. lacks p (λ below. none p above below))
+  next_come from (Some port) first =
+      let port_in = there port first.in_range first.within in (
+        (first.from_there, port_in, omega arith),
+        some_front (list_to port) (sym (are port first.in_range) ∙ first.within),
+        λ p above before. lacks p (λ below. first.none_before p above before),
+        tt,
+      )
+
+-- past the mesh ports nothing comes in
+
+pub flits_past : (l : LinksView) (x p : ℕ) → 2 * length l.mesh ≤ p → flits_to l x p ≡ []
+flits_past l x p above = ap (λ (n : Option ℕ). flits_of l.states n) (in_none l.mesh x p above)
+
+pub credits_past : (l : LinksView) (x o : ℕ) → 2 * length l.mesh ≤ o → credits_to l x o ≡ []
+credits_past l x o above = ap (λ (n : Option ℕ). credits_of l.states n) (out_none l.mesh x o above)
+
+-- what is kept of a node, as a call reads it
+pub entry_at : (l : LinksView) (kept : List Arrivals) (x i : ℕ) (d : Arrivals) → AreAllArrivals l kept
+    → length kept ≡ 256 → x < 256 → i ≡ x → AreArrivals l x (get_or kept i d)
+entry_at l kept x i d are all x_in at_i =
     let entry : get_or kept i d ≡ get_or kept x no_arrivals =
     get_or_default kept i d no_arrivals (omega arith) ∙ ap (λ (v : ℕ). get_or kept v no_arrivals) at_i in
-    let there = (knows x x_in).flit_ports port first.in_range
-    (ap (λ (a : Arrivals). has a.flits port) (sym entry) ∙ first.within) in (
-      (
-        (first.from_there, there, omega arith),
-        λ p above before. lacks_flits l kept x i d knows all x_in at_i few p
-            (λ below. first.none_before p above before),
-      ),
-      tt,
-    )
-
-pub lacks_credits : (l : LinksView) (kept : List Arrivals) (x i : ℕ) (d : Arrivals) → KnowsAll l kept
-    → length kept ≡ 256 → x < 256 → i ≡ x → 2 * length l.mesh ≤ 6 → (o : ℕ)
-    → (o < 8 → has (get_or kept i d).credits o ≡ false) → credits_to l x o ≡ []
-lacks_credits l kept x i d knows all x_in at_i few o none = elim (cases_lt o 6) [
-  | inl mesh_port ↦
-      let entry : get_or kept i d ≡ get_or kept x no_arrivals =
-      get_or_default kept i d no_arrivals (omega arith) ∙ ap (λ (v : ℕ). get_or kept v no_arrivals) at_i in
-      (knows x x_in).credits o mesh_port (ap (λ (a : Arrivals). has a.credits o) (sym entry) ∙ none (omega arith))
-  | inr past ↦ ap (λ (n : Option ℕ). credits_of l.states n) (out_none l.mesh x o (omega arith))
-]
-
-pub quiet_credits : (l : LinksView) (kept : List Arrivals) (x i : ℕ) (d : Arrivals) → KnowsAll l kept
-    → length kept ≡ 256 → x < 256 → i ≡ x → 2 * length l.mesh ≤ 6 → ((get_or kept i d).credits == 0) ≡ true → (o : ℕ)
-    → credits_to l x o ≡ []
-quiet_credits l kept x i d knows all x_in at_i few none o =
-    lacks_credits l kept x i d knows all x_in at_i few o (λ below. has_none (get_or kept i d).credits o none)
-
--- from one port on, the first of the set
-pub next_credits : (l : LinksView) (kept : List Arrivals) (x i from : ℕ) (d : Arrivals) (r : Option ℕ) → KnowsAll l kept
-    → length kept ≡ 256 → x < 256 → i ≡ x → 2 * length l.mesh ≤ 6
-    → MatchOption r ((p : ℕ) → from ≤ p → p < 8
-    → has (get_or kept i d).credits p ≡ false) (IsFirstFrom (get_or kept i d).credits from)
-    → (IfSome r (λ port. (from ≤ port) × (port < 2 * length l.mesh) × (port < 6)) × IfSome r (λ port. (p : ℕ) → from ≤ p
-    → p < port → credits_to l x p ≡ [])) × IfNone r ((p : ℕ) → from ≤ p → credits_to l x p ≡ [])
-next_credits l kept x i from d None knows all x_in at_i few none =
-    ((tt, tt), λ p above. lacks_credits l kept x i d knows all x_in at_i few p (λ below. none p above below))
-next_credits l kept x i from d (Some port) knows all x_in at_i few first =
-    let entry : get_or kept i d ≡ get_or kept x no_arrivals =
-    get_or_default kept i d no_arrivals (omega arith) ∙ ap (λ (v : ℕ). get_or kept v no_arrivals) at_i in
-    let there = (knows x x_in).credit_ports port first.in_range
-    (ap (λ (a : Arrivals). has a.credits port) (sym entry) ∙ first.within) in (
-      (
-        (first.from_there, there, omega arith),
-        λ p above before. lacks_credits l kept x i d knows all x_in at_i few p
-            (λ below. first.none_before p above before),
-      ),
-      tt,
-    )
+    rw entry (are x x_in)
 
 pub true_of : (b : Bool) → IsTrue b → b ≡ true
 true_of true h = refl

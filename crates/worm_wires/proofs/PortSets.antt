@@ -15,6 +15,21 @@ bit_unset n i e = ne_eqb (bit_at n i) 1 (λ one. absurd (omega arith))
 pub has_none : (set p : ℕ) → (set == 0) ≡ true → has set p ≡ false
 has_none set p e = ap (λ s. has s p) (eqb-true set 0 e) ∙ bit_unset 0 p (bit_at_above 0 0 p (omega arith) (omega arith))
 
+-- a set that is not empty has a port
+pub some_port : (bits : ℕ) → bits < 2 ^ 8 → (bits == 0) ≡ false → (p : ℕ) × (p < 8) × (has bits p ≡ true)
+some_port bits fits some =
+    let lowest = bit_at-trailing_zeros w8 bits (grind arith) fits in
+    (
+      trailing_zeros w8 bits,
+      elim (cases_lt (trailing_zeros w8 bits) 8) [
+        | inl below ↦ below
+        | inr above ↦
+            let none : bit_at bits (trailing_zeros w8 bits) ≡ 0 = bit_at_above bits 8 (trailing_zeros w8 bits) fits above in
+            let one = lowest.1 in absurd (omega arith)
+      ],
+      eq-eqb _ 1 lowest.1,
+    )
+
 pub put_in : (bits port : ℕ) → port < 6 → IsPut bits (bit_or bits (1 * 2 ^ port % 2 ^ 8)) port true
 put_in bits port within = record {
   here = eq-eqb _ 1 (bit_at_set_same w8 bits port (omega arith));

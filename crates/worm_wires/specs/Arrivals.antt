@@ -1,8 +1,7 @@
--- The mesh ports of a node at which something may come in: a flit from the link into the port, or a credit from the
--- link out of it (Dally and Towles, chapter 13). A port that is not kept has nothing coming in; one that is kept may
--- have nothing, but is there.
-use Rattle.std.specs.Prelude.{ℕ, ◌≡◌, ◌<◌, ◌*◌, false, true, length, List, [], slice_index_or, slice_set, Option, None}
-use Rattle.std.specs.Prelude.{Some}
+-- The mesh ports of a node at which something comes in: a flit from the link into the port, or a credit from the link
+-- out of it (Dally and Towles, chapter 13).
+use Rattle.std.specs.Prelude.{ℕ, ◌≡◌, ◌<◌, Bool, List, [], slice_get, slice_index_or, slice_set, Option, None, Some}
+use Rattle.std.specs.Prelude.{is_some}
 use Rattle.worm_flit.specs.declared.Flit.{Flit}
 use Rattle.worm_mesh.specs.Address.{neighbour_of}
 use Rattle.worm_mesh.specs.Links.{links_before}
@@ -30,13 +29,15 @@ abbrev pub number_out : LinksView → ℕ → ℕ → ℕ
 number_out l x o = links_before l.mesh x o
 
 -- what is on a link, if it is there
+abbrev pub on_link : {A : Type 0} → (LinkView → List A) → List LinkView → Option ℕ → List A
+on_link list links None = []
+on_link list links (Some k) = list (slice_index_or links k blank_link)
+
 abbrev pub flits_of : List LinkView → Option ℕ → List Flit
-flits_of links None = []
-flits_of links (Some k) = (slice_index_or links k blank_link).flits
+flits_of links number = on_link (λ link. link.flits) links number
 
 abbrev pub credits_of : List LinkView → Option ℕ → List ℕ
-credits_of links None = []
-credits_of links (Some k) = (slice_index_or links k blank_link).credits
+credits_of links number = on_link (λ link. link.credits) links number
 
 -- the flits that come in by a port, and the credits
 abbrev pub flits_to : LinksView → ℕ → ℕ → List Flit
@@ -45,16 +46,22 @@ flits_to l x p = flits_of l.states (in_link l.mesh x p)
 abbrev pub credits_to : LinksView → ℕ → ℕ → List ℕ
 credits_to l x o = credits_of l.states (out_link l.mesh x o)
 
--- what is kept of a node
-pub record KnowsArrivals (l : LinksView) (x : ℕ) (kept : Arrivals) : Type 0 where
-  pub flits : (p : ℕ) → p < 6 → has kept.flits p ≡ false → flits_to l x p ≡ []
-  pub credits : (o : ℕ) → o < 6 → has kept.credits o ≡ false → credits_to l x o ≡ []
-  pub flit_ports : (p : ℕ) → p < 8 → has kept.flits p ≡ true → p < 2 * length l.mesh
-  pub credit_ports : (o : ℕ) → o < 8 → has kept.credits o ≡ true → o < 2 * length l.mesh
+-- a list is not empty
+abbrev pub has_front : {A : Type 0} → List A → Bool
+has_front xs = is_some (slice_get xs 0)
+
+-- a set has the ports whose list is not empty, and no others
+abbrev pub AreFronts : {A : Type 0} → (ℕ → List A) → ℕ → Type 0
+AreFronts list_to set = (p : ℕ) → p < 8 → has set p ≡ has_front (list_to p)
+
+-- what is kept of a node: the ports by which something comes in
+pub record AreArrivals (l : LinksView) (x : ℕ) (kept : Arrivals) : Type 0 where
+  pub flits : AreFronts (flits_to l x) kept.flits
+  pub credits : AreFronts (credits_to l x) kept.credits
 
 abbrev pub no_arrivals : Arrivals
 no_arrivals = record { flits = 0; credits = 0 }
 
 -- what is kept of each node, and of each number that is none's
-abbrev pub KnowsAll : LinksView → List Arrivals → Type 0
-KnowsAll l kept = (x : ℕ) → x < 256 → KnowsArrivals l x (slice_index_or kept x no_arrivals)
+abbrev pub AreAllArrivals : LinksView → List Arrivals → Type 0
+AreAllArrivals l kept = (x : ℕ) → x < 256 → AreArrivals l x (slice_index_or kept x no_arrivals)

@@ -3,12 +3,11 @@
 //!
 //! One idea carries it: a link is seen as two lists, its flits and the credits on their way back over it, and all else
 //! is kept beside them so that a turn searches for nothing: the number of each link out of a node, and by node the
-//! ports at which something comes in. A port that is left out has nothing.
+//! ports at which something comes in.
 //!
 //! Nothing is said of routers or of threads: the queues between two threads are in `worm_links`.
 #![tactic(auto)]
 
-mod line;
 mod link;
 mod links;
 mod port_set;

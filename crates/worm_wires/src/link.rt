@@ -4,8 +4,8 @@ ghost use Rattle.worm_wires.specs.Links.{empty_link};
 ghost use Rattle.std.specs.Prelude.{◌≡◌, [], ◌∷◌, ◌++◌, ◌<◌, ◌≤◌, length, drop, min, slice_get, Some, IfOk};
 ghost use Rattle.std.specs.Prelude.{vec_capacity};
 
-use crate::line::Line;
 use std::alloc::{AllocError, Global};
+use std::collections::VecDeque;
 use std::marker::Model;
 use std::mem::swap;
 use worm_flit::Flit;
@@ -21,22 +21,23 @@ use worm_flit::Flit;
 #[derive(Drop)]
 pub struct LinkState {
     /// The flits, in the order in which they were sent, on whatever channels.
-    flits: Line<Flit>,
+    flits: VecDeque<Flit>,
     /// The channels whose credits are on their way back.
-    credits: Line<u8>,
+    credits: VecDeque<u8>,
     /// How many of each fit without growing; in a network at least the number of channels times the depth.
     room: u16,
 }
 
 impl Model for LinkState {
     ghost use Rattle.std.specs.Prelude.{◌≤◌, ◌*◌};
+    ghost use Rattle.std.specs.VecDeque.{deque_capacity};
     ghost use Rattle.worm_wires.specs.Links.{LinkView};
 
     ghost Value = { LinkView };
 
     ghost view = { λ l. record { flits = l.flits.items; credits = l.credits.items; room = l.room } };
 
-    ghost invariant = { λ l. (l.room ≤ l.flits.room) × (l.room ≤ l.credits.room) };
+    ghost invariant = { λ l. (l.room ≤ deque_capacity l.flits) × (l.room ≤ deque_capacity l.credits) };
 }
 
 /// Makes both the smaller of the two.
@@ -66,8 +67,8 @@ impl LinkState {
         ensures { result ≡ record { flits = flits.items; credits = credits.items; room = room } }
     {
         LinkState {
-            flits: Line::from_list(flits),
-            credits: Line::from_list(credits),
+            flits: VecDeque::from_vec(flits),
+            credits: VecDeque::from_vec(credits),
             room,
         }
     }
@@ -84,7 +85,7 @@ impl LinkState {
             credits,
             room: _,
         } = self;
-        (flits.into_list(), credits.into_list())
+        (flits.into_vec(), credits.into_vec())
     }
 
     /// The room: how many flits, and how many credits, fit without growing.
@@ -98,14 +99,14 @@ impl LinkState {
     pub fn front(&self) -> Option<Flit>
         ensures { result ≡ slice_get self.now.flits 0 }
     {
-        self.flits.front()
+        self.flits.front().copied()
     }
 
     /// How many flits are on it.
     pub fn count(&self) -> usize
         ensures { result ≡ length self.now.flits }
     {
-        self.flits.count()
+        self.flits.len()
     }
 
     /// The flit at place `i`, counted from the front.
@@ -113,14 +114,14 @@ impl LinkState {
         requires { i < length self.now.flits }
         ensures { slice_get self.now.flits i ≡ Some result }
     {
-        self.flits.item(i)
+        self.flits[i]
     }
 
     /// Drops the front flit, if there is one.
     pub fn pop(&mut self)
         ensures { self.new ≡ record self.old { flits = drop 1 self.old.flits } }
     {
-        self.flits.pop();
+        let _front = self.flits.pop_front();
     }
 
     /// Puts the flit at the end.
@@ -128,28 +129,28 @@ impl LinkState {
         requires { length self.old.flits < self.old.room }
         ensures { self.new ≡ record self.old { flits = self.old.flits ++ flit ∷ [] } }
     {
-        self.flits.push(flit);
+        self.flits.push_back_reserved(flit);
     }
 
     /// The channel of the front credit, if there is one.
     pub fn front_credit(&self) -> Option<u8>
         ensures { result ≡ slice_get self.now.credits 0 }
     {
-        self.credits.front()
+        self.credits.front().copied()
     }
 
     /// How many credits are on their way back over it.
     pub fn credit_count(&self) -> usize
         ensures { result ≡ length self.now.credits }
     {
-        self.credits.count()
+        self.credits.len()
     }
 
     /// Drops the front credit, if there is one.
     pub fn pop_credit(&mut self)
         ensures { self.new ≡ record self.old { credits = drop 1 self.old.credits } }
     {
-        self.credits.pop();
+        let _front = self.credits.pop_front();
     }
 
     /// Puts a credit of the channel at the end.
@@ -157,7 +158,7 @@ impl LinkState {
         requires { length self.old.credits < self.old.room }
         ensures { self.new ≡ record self.old { credits = self.old.credits ++ vc ∷ [] } }
     {
-        self.credits.push(vc);
+        self.credits.push_back_reserved(vc);
     }
 
     /// Exchanges the flits on the two links, and neither keeps more room than both had.

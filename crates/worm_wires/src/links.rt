@@ -2,11 +2,11 @@
 //! past all others.
 
 ghost use Rattle.std.specs.Prelude.{◌≡◌, ◌<◌, ◌≤◌, ◌*◌, ◌↔◌, ◌++◌, ◌∷◌, [], ℕ, IfNone, IfSome, IsSome, IsTrue};
-ghost use Rattle.std.specs.Prelude.{Option, Some, false, true, drop, length};
+ghost use Rattle.std.specs.Prelude.{Option, Some, true, drop, length};
 ghost use Rattle.worm_mesh.specs.Address.{AreRadices, neighbour_of};
 ghost use Rattle.worm_mesh.specs.Links.{link_count};
-ghost use Rattle.worm_wires.specs.Arrivals.{KnowsArrivals, LinksView, credits_of, credits_to, flits_of, flits_to};
-ghost use Rattle.worm_wires.specs.Arrivals.{number_into, number_out, state_at, with_state};
+ghost use Rattle.worm_wires.specs.Arrivals.{AreArrivals, LinksView, credits_of, credits_to, flits_of, flits_to};
+ghost use Rattle.worm_wires.specs.Arrivals.{has_front, number_into, number_out, state_at, with_state};
 ghost use Rattle.worm_wires.specs.Wiring.{port_links};
 
 use crate::LinkState;
@@ -16,12 +16,12 @@ use std::marker::Model;
 use worm_flit::Flit;
 use worm_mesh::Mesh;
 
-/// The mesh ports of a node at which something may come in. A port that is left out has nothing.
+/// The mesh ports of a node at which something comes in.
 #[derive(Clone, Copy)]
 pub struct Arrivals {
-    /// Where the link into the port may have a flit.
+    /// Where the link into the port has a flit.
     pub flits: PortSet,
-    /// Where the link out of the port may have a credit on its way back.
+    /// Where the link out of the port has a credit on its way back.
     pub credits: PortSet,
 }
 
@@ -32,24 +32,23 @@ pub struct Links {
     wiring: Wiring,
     /// The links by number.
     states: Vec<LinkState>,
-    /// What may come in, by node number.
+    /// What comes in, by node number.
     arrivals: [Arrivals; 256],
 }
 
 impl Model for Links {
-    ghost use Rattle.worm_wires.specs.Arrivals.{LinksView, KnowsAll};
+    ghost use Rattle.worm_wires.specs.Arrivals.{LinksView, AreAllArrivals};
 
     ghost Value = { LinksView };
 
     ghost view = { λ l. record { mesh = l.wiring; states = l.states.items } };
 
-    ghost invariant = { λ l. KnowsAll (record { mesh = l.wiring; states = l.states.items }) l.arrivals };
+    ghost invariant = { λ l. AreAllArrivals (record { mesh = l.wiring; states = l.states.items }) l.arrivals };
 }
 
 /// Whether the link of this number, if it is there, has a flit.
 fn has_flits(states: &[LinkState], number: Option<u16>) -> bool
-    ensures none { result ≡ false → flits_of states.now number ≡ [] }
-    ensures there { result ≡ true → IsSome number }
+    ensures { result ≡ has_front (flits_of states.now number) }
 {
     let Some(number) = number else {
         return false;
@@ -62,8 +61,7 @@ fn has_flits(states: &[LinkState], number: Option<u16>) -> bool
 
 /// Whether the link of this number, if it is there, has a credit.
 fn has_credits(states: &[LinkState], number: Option<u16>) -> bool
-    ensures none { result ≡ false → credits_of states.now number ≡ [] }
-    ensures there { result ≡ true → IsSome number }
+    ensures { result ≡ has_front (credits_of states.now number) }
 {
     let Some(number) = number else {
         return false;
@@ -76,8 +74,10 @@ fn has_credits(states: &[LinkState], number: Option<u16>) -> bool
 
 /// What comes in at a node.
 fn arrivals_of(wiring: &Wiring, states: &[LinkState], node: u8) -> Arrivals
-    ensures { KnowsArrivals (record { mesh = wiring.now; states = states.now }) node result }
+    ensures { AreArrivals (record { mesh = wiring.now; states = states.now }) node result }
 {
+    // For the proof: a mesh has at most three dimensions.
+    let _terminal = wiring.terminal();
     let mut flits = PortSet::new();
     let mut credits = PortSet::new();
     for port in 0..6u8 {
@@ -135,10 +135,12 @@ impl Links {
         &self.states[usize::from(number)]
     }
 
-    /// Whether nothing comes in at the node. Where nothing does this may not be found.
+    /// Whether nothing comes in at the node.
     pub fn brings_nothing(&self, node: u8) -> bool
         ensures flits { IsTrue result → (p : ℕ) → flits_to self.now node p ≡ [] }
         ensures credits { IsTrue result → (o : ℕ) → credits_to self.now node o ≡ [] }
+        ensures nothing { ((p : ℕ) → flits_to self.now node p ≡ []) → ((o : ℕ) → credits_to self.now node o ≡ [])
+            → result ≡ true }
     {
         // For the proof: a mesh has at most three dimensions.
         let _terminal = self.wiring.terminal();
@@ -146,10 +148,11 @@ impl Links {
         here.flits.is_empty() && here.credits.is_empty()
     }
 
-    /// A mesh port from this one on by which a flit may come in, and before which none does.
+    /// The first mesh port from this one on by which a flit comes in.
     pub fn next_flit(&self, node: u8, from: u8) -> Option<u8>
         requires { from ≤ 6 }
         ensures mesh_port { IfSome result (λ port. (from ≤ port) × (port < 2 * length self.now.mesh) × (port < 6)) }
+        ensures some { IfSome result (λ port. flits_to self.now node port ≡ [] → ⊥) }
         ensures before { IfSome result (λ port. (p : ℕ) → from ≤ p → p < port → flits_to self.now node p ≡ []) }
         ensures none { IfNone result ((p : ℕ) → from ≤ p → flits_to self.now node p ≡ []) }
     {
@@ -159,10 +162,11 @@ impl Links {
         here.flits.first_from(from)
     }
 
-    /// A mesh port from this one on by which a credit may come in, and before which none does.
+    /// The first mesh port from this one on by which a credit comes in.
     pub fn next_credit(&self, node: u8, from: u8) -> Option<u8>
         requires { from ≤ 6 }
         ensures mesh_port { IfSome result (λ port. (from ≤ port) × (port < 2 * length self.now.mesh) × (port < 6)) }
+        ensures some { IfSome result (λ port. credits_to self.now node port ≡ [] → ⊥) }
         ensures before { IfSome result (λ port. (p : ℕ) → from ≤ p → p < port → credits_to self.now node p ≡ []) }
         ensures none { IfNone result ((p : ℕ) → from ≤ p → credits_to self.now node p ≡ []) }
     {
@@ -225,21 +229,13 @@ impl Links {
             (record (state_at self.old (number_into self.old node port))
             { flits = drop 1 (state_at self.old (number_into self.old node port)).flits }) }
     {
+        // For the proof: a mesh has radices within their limits.
+        let _dims = self.wiring.mesh().dims();
         let link = &mut self.states[usize::from(number)];
         link.pop();
-        if link.front().is_none() {
-            self.forget_flits(node, port);
-        }
-    }
-
-    /// Keeps that no flit comes in by this port.
-    fn forget_flits(&mut self, node: u8, port: u8)
-        requires mesh_port { port < 6 }
-        requires none { flits_to self.old node port ≡ [] }
-        ensures { self.new ≡ self.old }
-    {
+        let has_more = link.front().is_some();
         let here = &mut self.arrivals[usize::from(node)];
-        here.flits.remove(port);
+        here.flits.put(port, has_more);
     }
 
     /// Puts the flit at the end of the link out of this port.
@@ -270,21 +266,13 @@ impl Links {
             (record (state_at self.old (number_out self.old node port))
             { credits = drop 1 (state_at self.old (number_out self.old node port)).credits }) }
     {
+        // For the proof: a mesh has radices within their limits.
+        let _dims = self.wiring.mesh().dims();
         let link = &mut self.states[usize::from(number)];
         link.pop_credit();
-        if link.front_credit().is_none() {
-            self.forget_credits(node, port);
-        }
-    }
-
-    /// Keeps that no credit comes in by this port.
-    fn forget_credits(&mut self, node: u8, port: u8)
-        requires mesh_port { port < 6 }
-        requires none { credits_to self.old node port ≡ [] }
-        ensures { self.new ≡ self.old }
-    {
+        let has_more = link.front_credit().is_some();
         let here = &mut self.arrivals[usize::from(node)];
-        here.credits.remove(port);
+        here.credits.put(port, has_more);
     }
 
     /// Puts a credit of the channel at the end of the credits of the link into this port, whose links are these.

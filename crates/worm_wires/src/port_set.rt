@@ -32,7 +32,8 @@ impl PortSet {
 
     /// Whether no port is in the set.
     pub fn is_empty(&self) -> bool
-        ensures { result ≡ (self.now == 0) }
+        ensures value { result ≡ (self.now == 0) }
+        ensures some { result ≡ false → (p : ℕ) × (p < 8) × (has self.now p ≡ true) }
     {
         self.bits == 0
     }

@@ -1,13 +1,13 @@
 use Rattle.std.proofs.Common.{arith, length-set, subst, List}
 use Rattle.worm_wires.specs.Links.{LinkView}
-use Rattle.worm_wires.specs.Arrivals.{KnowsArrivals}
+use Rattle.worm_wires.specs.Arrivals.{AreArrivals}
 use Rattle.worm_wires.proofs.Arriving.{nodes_more}
 use Rattle.worm_wires.proofs.links.Links.new.Goals as goal
 
 pub loop-node-preserved : goal.loop-node-preserved
 loop-node-preserved c =
     let inv = c.loop-node.invariant in
-    let one = subst (λ (states : List LinkView). KnowsArrivals
+    let one = subst (λ (states : List LinkView). AreArrivals
     (record { mesh = c.new-wiring.result; states = states }) c.loop-node.node c.arrivals_of.result)
     c.as_slice.ensures.value c.arrivals_of.ensures in
     record {

@@ -1,26 +1,24 @@
-use Rattle.std.proofs.Common.{ap, sym, ◌∙◌, Option, ℕ}
+use Rattle.std.proofs.Common.{◌≡◌, Bool, Option, ℕ, length, get_or, ap, subst, ◌∙◌, arith, rules}
 use Rattle.std.specs.Prelude.{is_some}
-use Rattle.worm_wires.proofs.Arriving.{empties_credits, front_none, pops_credit}
+use Rattle.worm_mesh.specs.Address.{AreRadices}
+use Rattle.worm_wires.specs.Links.{LinkView}
+use Rattle.worm_wires.specs.Ports.{IsPut}
+use Rattle.worm_wires.proofs.Arriving.{credits_written, out_port, link_there}
 use Rattle.worm_wires.proofs.links.Links.pop_credit.Goals as goal
 
 pub invariant_of-self : goal.invariant_of-self
 invariant_of-self c =
-    pops_credit c.self.inside.wiring c.self.inside.states.items c.args.self.now c.self.inside.arrivals c.args.number
-    c.from.result c.index_mut-link.result.now c.pop_credit.new.self
-    c.self.invariant c.self.view_is c.from.ensures c.requires.there c.requires.links c.index_mut-link.ensures.value
-    c.pop_credit.ensures
-
-pub forget_credits-requires-clause-none : goal.forget_credits-requires-clause-none
-forget_credits-requires-clause-none c =
-    empties_credits c.self.inside.wiring c.self.inside.states.items c.args.self.now c.args.node c.args.port
-    c.args.number c.from.result c.pop_credit.new.self c.self.view_is c.from.ensures c.requires.there
-    c.requires.links c.requires.linked c.requires.number
-    (front_none c.pop_credit.new.self.credits c.is_none.result
-    (sym (ap (λ (o : Option ℕ). is_some o) c.front_credit.ensures) ∙ c.is_none.ensures) c.if-is_none.true)
-
-pub invariant_of-self-else-is_none : goal.invariant_of-self-else-is_none
-invariant_of-self-else-is_none c =
-    pops_credit c.self.inside.wiring c.self.inside.states.items c.args.self.now c.self.inside.arrivals c.args.number
-    c.from.result c.index_mut-link.result.now c.pop_credit.new.self
-    c.self.invariant c.self.view_is c.from.ensures c.requires.there c.requires.links c.index_mut-link.ensures.value
-    c.pop_credit.ensures
+    let all : length c.self.inside.arrivals ≡ 256 = search rules in
+    let radices : AreRadices c.self.inside.wiring = subst AreRadices c.mesh.ensures c.dims-dims.ensures.mesh in
+    credits_written c.self.inside.wiring c.self.inside.states.items c.self.inside.arrivals c.self.invariant all radices
+    c.from.result c.args.node c.args.port c.from-2.result c.from-2.result c.put.new.self c.index-self-from.result
+    c.index_mut-link.result.now c.pop_credit.new.self
+    (link_there c.self.inside.wiring c.self.inside.states.items c.args.self.now c.self.view_is c.args.node c.args.port
+    c.args.number c.from.result c.from.ensures c.requires.there c.requires.links)
+    c.index_mut-link.ensures.value (omega arith) c.from-2.ensures c.from-2.ensures
+    (out_port c.self.inside.wiring c.self.inside.states.items c.args.self.now c.self.view_is c.args.node c.args.port
+    c.args.number c.from.result c.from.ensures c.requires.linked c.requires.number)
+    (ap (λ (s : LinkView). s.flits) c.pop_credit.ensures)
+    (subst (λ (b : Bool).
+    IsPut (get_or c.self.inside.arrivals c.from-2.result c.index-self-from.result).credits c.put.new.self c.args.port b)
+    (c.is_some-has_more.ensures ∙ ap (λ (o : Option ℕ). is_some o) c.front_credit.ensures) c.put.ensures)
