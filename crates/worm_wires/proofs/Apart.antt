@@ -55,8 +55,8 @@ into_one mesh x p y q k radices (Some z) (Some w) e f by same =
     let large = AreLarge-from_radices mesh radices.radices in
     let here = Joins-back mesh x p z (Joins-from mesh x p z large e) in
     let there = Joins-back mesh y q w (Joins-from mesh y q w large f) in
-    let is : ◌≡◌ {A = Option ℕ} (Some (links_before mesh w (opposite_of q))) (Some (links_before mesh z (opposite_of p)))
-        = same ∙ sym by in
+    let there_k : ◌≡◌ {A = Option ℕ} (Some (links_before mesh w (opposite_of q))) (Some k) = same in
+    let here_k : ◌≡◌ {A = Option ℕ} (Some (links_before mesh z (opposite_of p))) (Some k) = by in
     let equal : links_before mesh w (opposite_of q) ≡ links_before mesh z (opposite_of p) = cc in
     let both = one_link mesh large w (opposite_of q) z (opposite_of p) (y, there) (x, here) equal in
     let joined : Joins mesh z (opposite_of p) y = subst (λ (o : ℕ). Joins mesh z o y) both.1

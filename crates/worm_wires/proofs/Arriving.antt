@@ -8,8 +8,8 @@ use Rattle.worm_mesh.specs.Links.{links_before, link_count}
 use Rattle.worm_wires.specs.Links.{LinkView, blank_link}
 use Rattle.worm_wires.specs.Wiring.{in_link, into_from, out_link, port_links}
 use Rattle.worm_wires.specs.Ports.{has, IsPut}
-use Rattle.worm_wires.specs.Arrivals.{LinksView, AreAllArrivals, AreArrivals, AreFronts, has_front, no_arrivals, on_link}
-use Rattle.worm_wires.specs.Arrivals.{number_into, number_out, state_at, with_state}
+use Rattle.worm_wires.specs.Arrivals.{LinksView, AreAllArrivals, AreArrivals, AreFronts, has_front, no_arrivals}
+use Rattle.worm_wires.specs.Arrivals.{number_into, number_out, on_link, state_at, with_state}
 use Rattle.worm_wires.specs.declared.links.Arrivals.{Arrivals}
 use Rattle.worm_wires.specs.declared.wiring.PortLinks.{PortLinks}
 use Rattle.worm_wires.proofs.Apart.{number_cases, in_once, into_beyond, into_is, out_beyond, out_is, out_once}
@@ -127,8 +127,9 @@ wrote_credits l kept k x o bits new radices are by there x_in x_there same put =
       flits = fronts_kept (λ s. s.flits) l.states (set l.states k new) (in_link l.mesh x)
           (get_or kept x no_arrivals).flits
           (λ q. on_same (λ s. s.flits) l.states k new there same (in_link l.mesh x q)) (are x x_in).flits;
-      credits = fronts_put (λ s. s.credits) l.states k new (out_link l.mesh x) o (get_or kept x no_arrivals).credits bits
-          there by (λ q e. (out_once l.mesh x o x q k radices by e).1) put (are x x_in).credits;
+      credits = fronts_put (λ s. s.credits) l.states k new (out_link l.mesh x) o
+          (get_or kept x no_arrivals).credits bits there by (λ q e. (out_once l.mesh x o x q k radices by e).1) put
+          (are x x_in).credits;
     }
     (λ y y_in away. record {
       flits = fronts_kept (λ s. s.flits) l.states (set l.states k new) (in_link l.mesh y)
@@ -145,7 +146,8 @@ wrote_credits l kept k x o bits new radices are by there x_in x_there same put =
 module _ (mesh : List ℕ) (states : List LinkView) (kept : List Arrivals)
     (are : AreAllArrivals (record { mesh = mesh; states = states }) kept) (all : length kept ≡ 256)
     (radices : AreRadices mesh) (m x p i j bits : ℕ) (d : Arrivals) (read new : LinkView)
-    (there : m < length states) (reads : read ≡ get_or states m read) (x_in : x < 256) (at_i : i ≡ x) (at_j : j ≡ x) where
+    (there : m < length states) (reads : read ≡ get_or states m read) (x_in : x < 256) (at_i : i ≡ x)
+    (at_j : j ≡ x) where
   entry : get_or kept i d ≡ get_or kept x no_arrivals
   entry = get_or_default kept i d no_arrivals (omega arith) ∙ ap (λ (v : ℕ). get_or kept v no_arrivals) at_i
 
@@ -174,8 +176,8 @@ module _ (mesh : List ℕ) (states : List LinkView) (kept : List Arrivals)
 
 -- The link of a call, by its number or by what is known of the port
 
-module _ (mesh : List ℕ) (states : List LinkView) (now : LinksView) (same : record { mesh = mesh; states = states } ≡ now)
-    (x p k m : ℕ) (at : m ≡ k) where
+module _ (mesh : List ℕ) (states : List LinkView) (now : LinksView)
+    (same : record { mesh = mesh; states = states } ≡ now) (x p k m : ℕ) (at : m ≡ k) where
   pub into_port : IsSome (neighbour_of now.mesh x p) → k ≡ number_into now x p → in_link mesh x p ≡ Some m
   into_port linked_now number_now =
       let linked : IsSome (neighbour_of mesh x p) =

@@ -9,8 +9,9 @@ use Rattle.worm_mesh.specs.Links.{links_before}
 use Rattle.worm_wires.specs.Links.{LinkView, blank_link}
 use Rattle.worm_wires.specs.Wiring.{into_from}
 use Rattle.worm_wires.specs.Ports.{has, IsFirstFrom}
-use Rattle.worm_wires.specs.Arrivals.{LinksView, AreAllArrivals, AreArrivals, AreFronts, credits_of, credits_to, flits_of}
-use Rattle.worm_wires.specs.Arrivals.{flits_to, has_front, no_arrivals, number_into, number_out, on_link, state_at}
+use Rattle.worm_wires.specs.Arrivals.{LinksView, AreAllArrivals, AreArrivals, AreFronts, credits_of, credits_to}
+use Rattle.worm_wires.specs.Arrivals.{flits_of, flits_to, has_front, no_arrivals, number_into, number_out, on_link}
+use Rattle.worm_wires.specs.Arrivals.{state_at}
 use Rattle.worm_wires.specs.declared.links.Arrivals.{Arrivals}
 use Rattle.worm_wires.proofs.PortSets.{has_none}
 use Rattle.worm_wires.proofs.Wired.{in_none, out_none}
@@ -93,7 +94,8 @@ module _ {A : Type 0} (list_to : ℕ → List A) (bits last : ℕ) (are : AreFro
   pub next_come : (from : ℕ) (r : Option ℕ)
       → MatchOption r ((p : ℕ) → from ≤ p → p < 8 → has bits p ≡ false) (IsFirstFrom bits from)
       → IfSome r (λ port. (from ≤ port) × (port < last) × (port < 6)) × IfSome r (λ port. list_to port ≡ [] → ⊥)
-      × IfSome r (λ port. (p : ℕ) → from ≤ p → p < port → list_to p ≡ []) × IfNone r ((p : ℕ) → from ≤ p → list_to p ≡ [])
+      × IfSome r (λ port. (p : ℕ) → from ≤ p → p < port → list_to p ≡ [])
+      × IfNone r ((p : ℕ) → from ≤ p → list_to p ≡ [])
   next_come from None none = (tt, tt, tt, λ p above. lacks p (λ below. none p above below))
   next_come from (Some port) first =
       let port_in = there port first.in_range first.within in (

@@ -24,7 +24,8 @@ some_port bits fits some =
       elim (cases_lt (trailing_zeros w8 bits) 8) [
         | inl below ↦ below
         | inr above ↦
-            let none : bit_at bits (trailing_zeros w8 bits) ≡ 0 = bit_at_above bits 8 (trailing_zeros w8 bits) fits above in
+            let none : bit_at bits (trailing_zeros w8 bits) ≡ 0 =
+            bit_at_above bits 8 (trailing_zeros w8 bits) fits above in
             let one = lowest.1 in absurd (omega arith)
       ],
       eq-eqb _ 1 lowest.1,

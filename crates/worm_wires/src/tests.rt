@@ -97,3 +97,20 @@ fn a_link_with_a_flit_is_seen(rt: HostRuntime) -> Result<(), Fail> {
     assert_eq!(rt; links.next_flit(1, 0), None);
     Ok(())
 }
+
+#[test]
+fn what_goes_onto_a_link_comes_in_once(rt: HostRuntime) -> Result<(), Fail> {
+    let alloc = rt.alloc();
+    let mut states = Vec::new(alloc);
+    states.push(LinkState::new(alloc, 2)?)?;
+    states.push(LinkState::new(alloc, 2)?)?;
+    let mut links = Links::new(Mesh::new(&[2])?, states);
+    // Link 0 leads from port 1 of node 0 into port 0 of node 1.
+    links.push(0, 1, flit_of(5));
+    assert_eq!(rt; links.next_flit(1, 0), Some(0));
+    assert!(rt; !links.brings_nothing(1));
+    links.pop(1, 0, 0);
+    assert_eq!(rt; links.next_flit(1, 0), None);
+    assert!(rt; links.brings_nothing(1));
+    Ok(())
+}

@@ -36,7 +36,8 @@ loop-port-preserved c =
 pub returns : goal.returns
 returns c =
     let inv = c.loop-port.invariant in
-    let few : 2 * length c.args.wiring.now ≤ 6 = omega (arith, c.terminal-terminal.ensures.value, c.terminal-terminal.ensures.bound) in
+    let few : 2 * length c.args.wiring.now ≤ 6 =
+    omega (arith, c.terminal-terminal.ensures.value, c.terminal-terminal.ensures.bound) in
     record {
       flits = fronts_of (λ p. flits_of c.args.states.now (in_link c.args.wiring.now c.args.node p)) c.loop-port.flits 6
           (λ p below. inv.flits p (omega arith)) (λ p above p_in. inv.flits_after p (omega arith) p_in)

@@ -22,9 +22,10 @@ invariant_of-self c =
     c.requires.links in
     let radices : AreRadices c.self.inside.wiring =
     subst (λ (l : LinksView). AreRadices l.mesh) (sym c.self.view_is) c.requires.mesh in
-    let linked : ◌≡◌ {A = Option PortLinks} (Some c.args.links) (port_links c.self.inside.wiring c.args.node c.args.port) =
-    subst (λ (l : LinksView). ◌≡◌ {A = Option PortLinks} (Some c.args.links) (port_links l.mesh c.args.node c.args.port))
-    (sym c.self.view_is) c.requires.ports in
+    let linked : ◌≡◌ {A = Option PortLinks} (Some c.args.links)
+    (port_links c.self.inside.wiring c.args.node c.args.port) =
+    subst (λ (l : LinksView). ◌≡◌ {A = Option PortLinks} (Some c.args.links)
+    (port_links l.mesh c.args.node c.args.port)) (sym c.self.view_is) c.requires.ports in
     credits_written c.self.inside.wiring c.self.inside.states.items c.self.inside.arrivals c.self.invariant all radices
     c.from.result c.args.links.beyond c.args.links.entered c.from-2.result c.from-2.result c.insert.new.self
     c.index-self-from.result c.index_mut-link.result.now c.push_credit.new.self there c.index_mut-link.ensures.value
