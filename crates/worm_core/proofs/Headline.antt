@@ -11,7 +11,7 @@ use Rattle.worm_shape.proofs.Elsewhere.{nowhere_else}
 use Rattle.worm_region.specs.Shape.{net_shape}
 use Rattle.worm_region.specs.State.{NetState, IsNet, shape, network_of}
 use Rattle.worm_core.specs.Headline.{DeliversInOrder, NothingFollowsMarks}
-use Rattle.worm_region.proofs.Kept.{framed_mesh}
+use Rattle.worm_region.proofs.FrameKept.{framed_mesh}
 
 pub delivers : (s : NetState) → IsNet s → DeliversInOrder s
 unfolding net_shape

@@ -20,13 +20,12 @@ use Rattle.worm_region.specs.State.{NetState, IsNet, IsFramed, shape, network_of
 use Rattle.worm_region.specs.Moves.{chosen_router}
 use Rattle.worm_region.specs.Answers.{Answers}
 use Rattle.worm_region.specs.Replies.{Attempts, Hindered, Replies}
-use Rattle.worm_region.specs.Turns.{ComesIn, Passage, Each, ForEach, ◌and_then◌, Reaches, Tries, Allocates, TakesCredits}
-use Rattle.worm_region.specs.Turns.{TakesFlits, FeedsClasses, RoutesPort, RoutesChannels, SendsGranted, GivesCredit}
-use Rattle.worm_region.specs.Turns.{GivesCredits, NodePasses, NodeTurn, AsksSource, Turn, all_nodes, all_ports}
-use Rattle.worm_region.specs.Turns.{mesh_ports}
-use Rattle.worm_region.specs.Turns.{AsksSourceBy, ComesInBy, FeedsClassesBy, GivesCreditBy, GivesCreditsBy, NodePassesBy}
-use Rattle.worm_region.specs.Turns.{NodeTurnBy, RoutesChannelsBy, RoutesPortBy, SendsGrantedBy, TakesCreditsBy}
-use Rattle.worm_region.specs.Turns.{TakesFlitsBy}
+use Rattle.worm_region.specs.Turns.{ComesIn, Passage, Each, ForEach, ◌and_then◌, Reaches, Tries, Allocates}
+use Rattle.worm_region.specs.Turns.{TakesCredits, TakesFlits, FeedsClasses, RoutesPort, RoutesChannels, SendsGranted}
+use Rattle.worm_region.specs.Turns.{GivesCredit, GivesCredits, NodePasses, NodeTurn, AsksSource, Turn, all_nodes}
+use Rattle.worm_region.specs.Turns.{all_ports, mesh_ports, AsksSourceBy, ComesInBy, FeedsClassesBy, GivesCreditBy}
+use Rattle.worm_region.specs.Turns.{GivesCreditsBy, NodePassesBy, NodeTurnBy, RoutesChannelsBy, RoutesPortBy}
+use Rattle.worm_region.specs.Turns.{SendsGrantedBy, TakesCreditsBy, TakesFlitsBy}
 use Rattle.worm_region.specs.declared.node.Node.{Node}
 use Rattle.worm_region.specs.declared.script.Entry.{Entry}
 use Rattle.worm_region.specs.declared.step.Moved.{Moved}
@@ -34,11 +33,11 @@ use Rattle.worm_region.specs.declared.step.Moved.TheVariants.{Done, Idle}
 use Rattle.worm_region.specs.declared.fault.StepFault.{StepFault}
 use Rattle.worm_region.specs.declared.fault.StepFault.TheVariants.{NoSuchPlace, Refused, NoMemory}
 use Rattle.worm_region.proofs.Allocating.{allocated, chosen}
-use Rattle.worm_region.proofs.Kept.{framed_mesh}
+use Rattle.worm_region.proofs.FrameKept.{framed_mesh}
 use Rattle.worm_region.proofs.NewNet.{workable}
 use Rattle.worm_core.proofs.NetWays.{send_way}
 use Rattle.worm_region.proofs.Reaching.{by_answer}
-use Rattle.worm_region.proofs.StepsAt.{anywhere}
+use Rattle.worm_region.proofs.StaysAtNode.{anywhere}
 
 -- any list of steps keeps a network sound
 pub net_reached : (a b : NetState) → IsNet a → Reaches a b → IsFramed b → IsNet b

@@ -24,7 +24,7 @@ use Rattle.worm_core.specs.declared.view.Place.{Place}
 use Rattle.worm_core.specs.declared.view.Place.TheVariants.{Source, Buffer, Link}
 use Rattle.worm_core.specs.LaneSet.{LaneMarks, lane_line, is_marked, with_mark, AllMarked, KeepsMarks, IsComplete}
 use Rattle.worm_core.specs.LaneSet.{NodesMarked, LinksMarked}
-use Rattle.worm_region.proofs.Bridge.{below_cases}
+use Rattle.worm_region.proofs.NodeWritten.{below_cases}
 use Rattle.worm_region.proofs.NewNet.{input_fresh}
 use Rattle.worm_core.proofs.ViewLists.{take_more, none_each}
 

@@ -14,9 +14,10 @@ use Rattle.worm_theory.proofs.Send.{leading, passing, front_follows}
 use Rattle.worm_region.specs.Shape.{net_shape}
 use Rattle.worm_region.specs.State.{NetState, IsNet, IsFramed, IsNetPlace, shape, network_of, router_at}
 use Rattle.worm_region.specs.Moves.{HasWay}
-use Rattle.worm_region.proofs.Kept.{framed_mesh, net_place}
-use Rattle.worm_region.proofs.SendStep.{may_leave}
-use Rattle.worm_region.proofs.There.{buffer_there, record_there}
+use Rattle.worm_region.proofs.FrameKept.{framed_mesh}
+use Rattle.worm_region.proofs.PlacesThere.{net_place}
+use Rattle.worm_region.proofs.SendAgrees.{may_leave}
+use Rattle.worm_region.proofs.AsListed.{buffer_there, record_there}
 
 -- what leaves for the sink is at home
 at_home : (s : NetState) (x o d n : ℕ) → IsFramed s → x < node_count s.mesh → d < node_count s.mesh →

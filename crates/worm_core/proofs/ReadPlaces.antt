@@ -9,8 +9,8 @@ use Rattle.worm_wires.specs.Links.{LinkView}
 use Rattle.worm_region.specs.Moves.{link_out}
 use Rattle.worm_core.specs.LaneView.{at_place, buffer_held, link_held}
 use Rattle.worm_core.specs.declared.view.Place.TheVariants.{Buffer, Link}
-use Rattle.worm_region.proofs.Bridge.{input_of-there}
-use Rattle.worm_region.proofs.LinkBridge.{link_there}
+use Rattle.worm_region.proofs.NodeWritten.{input_of-there}
+use Rattle.worm_region.proofs.LinkWritten.{link_there}
 
 -- a port and a channel of a framed network are those of its routers
 pub framed_place : (s : NetState) (x p v : ℕ) → IsFramed s → x < node_count s.mesh → p ≤ 2 * length s.mesh

@@ -23,10 +23,10 @@ use Rattle.worm_region.specs.Moves.{after_ready, after_sending, chosen_router}
 use Rattle.worm_region.specs.Answers.{Answers, refusal_of}
 use Rattle.worm_region.specs.Totals.{injected_total, delivered_total}
 use Rattle.worm_core.specs.Acceptable.{EndsForMemory}
-use Rattle.worm_region.specs.Turns.{ComesIn, Passage, Stays, ◌and_then◌, Each, Tries, NodeTurn, AsksSource, TakesCredits}
-use Rattle.worm_region.specs.Turns.{TakesFlits, FeedsClasses, RoutesChannels, RoutesPort, Allocates, SendsGranted}
-use Rattle.worm_region.specs.Turns.{GivesCredit, GivesCredits, Turn, Drains, fault_of, all_nodes, all_ports, all_classes}
-use Rattle.worm_region.specs.Turns.{all_channels, mesh_ports, granted_send, lowest_owed}
+use Rattle.worm_region.specs.Turns.{ComesIn, Passage, Stays, ◌and_then◌, Each, Tries, NodeTurn, AsksSource}
+use Rattle.worm_region.specs.Turns.{TakesCredits, TakesFlits, FeedsClasses, RoutesChannels, RoutesPort, Allocates}
+use Rattle.worm_region.specs.Turns.{SendsGranted, GivesCredit, GivesCredits, Turn, Drains, fault_of, all_nodes}
+use Rattle.worm_region.specs.Turns.{all_ports, all_classes, all_channels, mesh_ports, granted_send, lowest_owed}
 use Rattle.worm_core.proofs.Pointers.{read_over}
 
 pub record Ledger : Type 0 where

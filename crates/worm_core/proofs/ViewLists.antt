@@ -16,7 +16,7 @@ use Rattle.worm_router.specs.Router.{RouterState, ChannelState, IsRouter, IsChan
 use Rattle.worm_core.specs.LaneView.{at_place, channels_of}
 use Rattle.worm_core.specs.declared.view.Held.{Held}
 use Rattle.worm_core.specs.declared.view.Place.{Place}
-use Rattle.worm_region.proofs.Bridge.{below_cases}
+use Rattle.worm_region.proofs.NodeWritten.{below_cases}
 
 -- a list up to its item i, and up to its end
 pub take_more : {A : Type 0} (xs : List A) (i : ℕ) (x : A) → slice_get xs i ≡ Some x

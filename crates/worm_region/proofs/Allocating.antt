@@ -28,8 +28,8 @@ use Rattle.worm_vcalloc.specs.Table.{cell}
 use Rattle.worm_vcalloc.specs.VcAlloc.{VcAllocState}
 use Rattle.worm_region.specs.Shape.{net_shape}
 use Rattle.worm_region.specs.declared.node.Node.{Node}
-use Rattle.worm_region.specs.State.{NetState, IsNetPlace, IsSameConfig, shape, network_of, node_at, router_at, with_node}
-use Rattle.worm_region.specs.State.{with_router, input_of, output_of, link_of}
+use Rattle.worm_region.specs.State.{NetState, IsNetPlace, IsSameConfig, shape, network_of, node_at, router_at}
+use Rattle.worm_region.specs.State.{with_node, with_router, input_of, output_of, link_of}
 use Rattle.worm_region.specs.Workable.{IsWorkable, owned, IsKept, Works}
 use Rattle.worm_region.specs.Answers.{moved_of}
 use Rattle.worm_region.specs.Moves.{IsReady, chosen_router}
@@ -37,11 +37,12 @@ use Rattle.worm_region.specs.Replies.{Replies}
 use Rattle.worm_region.specs.Turns.{ReachesAt, node_of}
 use Rattle.worm_region.specs.declared.step.Moved.{Moved}
 use Rattle.worm_region.specs.declared.fault.StepFault.{StepFault}
-use Rattle.worm_region.proofs.Bridge.{node_at-put, node_kept}
-use Rattle.worm_region.proofs.Kept.{node_framed}
-use Rattle.worm_region.proofs.There.{buffer_there}
-use Rattle.worm_region.proofs.GrantStep.{grant_answers, with_router_same}
-use Rattle.worm_region.proofs.StepsAt.{none_at, joined_at, answered_at}
+use Rattle.worm_region.proofs.NodeWritten.{node_at-put, node_kept}
+use Rattle.worm_region.proofs.FrameKept.{node_framed}
+use Rattle.worm_region.proofs.AsListed.{buffer_there}
+use Rattle.worm_region.proofs.GrantAgrees.{grant_answers}
+use Rattle.worm_region.proofs.NodeWritten.{with_router_same}
+use Rattle.worm_region.proofs.StaysAtNode.{none_at, joined_at, answered_at}
 use Rattle.worm_term.specs.Source.{queue_at}
 
 -- a router written over a router

@@ -1,4 +1,5 @@
--- How many flits are under way, after a change of one node.
+-- A change of one node changes the count of flits under way by what it accepts and takes, and leaves just that node out
+-- of those kept as still.
 use Rattle.std.proofs.Common.{◌≡◌, ℕ, ◌+◌, ◌++◌, ◌∷◌, [], ◌<◌, Bool, true, false, List, length, set, get_or, Option}
 use Rattle.std.proofs.Common.{Some, None, inl, inr, arith, ap, refl, ◌∙◌, length-append}
 use Rattle.std.specs.Prelude.{Result, Ok, Err, IfOk, OnOk, OnErr, is_ok, if◌then◌else◌}
@@ -18,7 +19,10 @@ use Rattle.worm_region.specs.Moves.{delivered_node, fed_node}
 use Rattle.worm_region.specs.Resting.{KnowsResting}
 use Rattle.worm_region.specs.UnderWay.{IsUnderWay, accepted_by, accepted_in, taken_by, taken_in}
 use Rattle.worm_region.specs.declared.node.Node.{Node}
-use Rattle.worm_region.proofs.KeptResting.{touched}
+use Rattle.std.proofs.Common.{length-set, sym}
+use Rattle.std.proofs.lemmas.List.{get_or-set_other, get_or-set_same, get_or_past}
+use Rattle.worm_theory.proofs.Places.{number_cases}
+use Rattle.worm_region.specs.Resting.{no_node}
 
 -- sums of a list with another element
 
@@ -85,6 +89,23 @@ routed_same n r = (refl, refl)
 pub sources_same : (n : Node) (t : SourceState) → taken_by (record n { source = t }) ≡ taken_by n
 unfolding taken_by
 sources_same n t = refl
+
+-- a place where false was written has false, there or past the end
+left_out : (kept : List Bool) (x : ℕ) → get_or (set kept x false) x false ≡ false
+left_out kept x = elim (cases_lt x (length kept)) [
+  | inl there ↦ get_or-set_same kept x false false there
+  | inr past ↦ get_or_past (set kept x false) x false (rw length-set past)
+]
+
+-- the node that changes is left out; the others are as they were
+touched : (nodes : List Node) (kept : List Bool) (x : ℕ) (n : Node) → KnowsResting nodes kept
+    → KnowsResting (set nodes x n) (set kept x false)
+touched nodes kept x n known = λ y there still. elim (number_cases y x) [
+  | inl here ↦ let no : false ≡ true = sym (left_out kept x) ∙ rw here.1 at still in absurd (cc)
+  | inr away ↦
+      rw (get_or-set_other nodes x y n no_node away.1)
+      (known y (rw length-set at there) (sym (get_or-set_other kept x y false false away.1) ∙ still))
+]
 
 -- What is known of the nodes once one of them, read at the place j, has changed: it is not known to be still, and the
 -- count is another.

@@ -22,14 +22,15 @@ use Rattle.worm_region.specs.Workable.{IsWorkableBy, IsSent, Works}
 use Rattle.worm_region.specs.Moves.{link_out}
 use Rattle.worm_wires.specs.Wiring.{into_from}
 use Rattle.worm_region.specs.Edges.{Arrives, ComesBack, LetsOut, LetsGive, after_arriving, after_credit_back}
-use Rattle.worm_region.proofs.Bridge.{put2_same}
-use Rattle.worm_region.proofs.Ends.{feeder, leader}
-use Rattle.worm_region.proofs.GiveStep.{owed_bridge}
-use Rattle.worm_region.proofs.Kept.{framed_mesh, router_framed, net_place, port_below}
-use Rattle.worm_region.proofs.LinkBridge.{link_bridge, link_framed, out_there, credits_there}
-use Rattle.worm_region.proofs.SendBridge.{active_leads, sent_bridge}
-use Rattle.worm_region.proofs.SendStep.{may_leave, may_send, c_within, enabled_by, to_after}
-use Rattle.worm_region.proofs.There.{buffer_there, owed_there, record_there}
+use Rattle.worm_region.proofs.NodeWritten.{put2_same}
+use Rattle.worm_region.proofs.LinksThere.{feeder, leader}
+use Rattle.worm_region.proofs.GiveAgrees.{owed_bridge}
+use Rattle.worm_region.proofs.FrameKept.{framed_mesh, router_framed}
+use Rattle.worm_region.proofs.PlacesThere.{net_place, port_below}
+use Rattle.worm_region.proofs.LinkWritten.{link_bridge, link_framed, out_there, credits_there}
+use Rattle.worm_region.proofs.SentToLink.{active_leads, sent_bridge}
+use Rattle.worm_region.proofs.SendAgrees.{may_leave, may_send, c_within, enabled_by, to_after}
+use Rattle.worm_region.proofs.AsListed.{buffer_there, owed_there, record_there}
 use Rattle.worm_region.proofs.OwnEdges.{AreElsewhere, let_out_works, arrive_works, back_works, gave_works}
 
 -- a flit that comes onto a link

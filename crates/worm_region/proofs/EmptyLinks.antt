@@ -1,7 +1,7 @@
 -- A link has room where nothing is on it, since there is a channel and each buffer has a place.
-use Rattle.std.proofs.Common.{◌≡◌, ℕ, zero, suc, ◌+◌, ◌*◌, ◌<◌, ◌≤◌, List, [], ◌∷◌, length, sum, Bool, true, false}
-use Rattle.std.proofs.Common.{Option, Some, None, is_some, refl, arith, ap, ◌∙◌}
-use Rattle.std.specs.Prelude.{All, IsSome, ◌↔◌, slice_get}
+use Rattle.std.proofs.Common.{◌≡◌, ℕ, zero, suc, ◌+◌, ◌*◌, ◌<◌, ◌≤◌, List, [], ◌∷◌, length, sum}
+use Rattle.std.proofs.Common.{Option, Some, None, refl, arith, ap}
+use Rattle.std.specs.Prelude.{All, IsSome}
 use Rattle.std.proofs.lemmas.List.Elements.{All-head}
 use Rattle.std.proofs.lemmas.List.Sums.{sum_by-cons}
 use Rattle.worm_mesh.specs.Address.{neighbour_of, opposite_of}
@@ -9,16 +9,7 @@ use Rattle.worm_mesh.specs.Links.{links_before}
 use Rattle.worm_region.specs.Moves.{link_into, link_out}
 use Rattle.worm_wires.specs.Wiring.{into_from}
 use Rattle.worm_region.specs.State.{NetState, IsFramed, link_at}
-use Rattle.worm_region.proofs.Ends.{feeder, leader}
-
--- a list has a front, or is empty
-pub front_is : {A : Type 0} (xs : List A) (o : Option A) (some : Bool) → o ≡ slice_get xs 0 → some ≡ is_some o →
-    (some ≡ false) ↔ (xs ≡ [])
-front_is [] o some at is = (λ e. refl, λ e. is ∙ ap is_some at)
-front_is {A} (x ∷ xs) o some at is = (
-  λ e. let yes : some ≡ true = is ∙ ap is_some at in absurd (cc),
-  λ e. let no : ◌≡◌ {A = List A} (x ∷ xs) [] = e in absurd (cc),
-)
+use Rattle.worm_region.proofs.LinksThere.{feeder, leader}
 
 -- each class has a channel, and there is a class
 some_channel : (counts : List ℕ) → 1 ≤ length counts → All (λ n. (1 ≤ n) × (n ≤ 8)) counts → 1 ≤ sum counts

@@ -24,8 +24,8 @@ use Rattle.worm_region.specs.declared.step.Moved.TheVariants.{Done, Idle}
 use Rattle.worm_region.specs.declared.fault.StepFault.{StepFault}
 use Rattle.worm_region.specs.declared.fault.StepFault.TheVariants.{NoSuchPlace, Refused, NoMemory}
 use Rattle.worm_wires.proofs.Looking.{true_of}
-use Rattle.worm_region.proofs.Bridge.{node_at-put, input_of-put, input_of-there}
-use Rattle.worm_region.proofs.Kept.{net_place}
+use Rattle.worm_region.proofs.NodeWritten.{node_at-put, input_of-put, input_of-there}
+use Rattle.worm_region.proofs.PlacesThere.{net_place}
 use Rattle.worm_region.proofs.Passages.{does_for, does_nothing, loop_more, loop_on}
 use Rattle.worm_region.proofs.Skipping.{places_same}
 use Rattle.worm_region.proofs.Turning.{gives_none, owed_lowest, owing_some}

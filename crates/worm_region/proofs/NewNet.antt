@@ -27,12 +27,12 @@ use Rattle.worm_region.specs.Owned.{sole}
 use Rattle.worm_region.specs.declared.node.Node.{Node}
 use Rattle.worm_region.specs.declared.own.Own.{Own}
 use Rattle.worm_wires.specs.Links.{LinkView, blank_link, empty_link}
-use Rattle.worm_region.specs.State.{NetState, net_state, IsNet, IsFramed, IsNodeOf, shape, network_of, node_at, router_at}
-use Rattle.worm_region.specs.State.{link_at, link_of, fresh_node, input_of, output_of, queue_of}
+use Rattle.worm_region.specs.State.{NetState, net_state, IsNet, IsFramed, IsNodeOf, shape, network_of, node_at}
+use Rattle.worm_region.specs.State.{router_at, link_at, link_of, fresh_node, input_of, output_of, queue_of}
 use Rattle.worm_region.specs.NewNet.{IsFresh, AreFresh, IsOneNetwork}
 use Rattle.worm_region.specs.Workable.{IsWorkable}
-use Rattle.worm_region.proofs.Kept.{framed_mesh}
-use Rattle.worm_region.proofs.Working.{sound_works}
+use Rattle.worm_region.proofs.FrameKept.{framed_mesh}
+use Rattle.worm_region.proofs.StaysWorking.{sound_works}
 
 -- a list of one value reads as it at each place, and past its end as the value, too, where that is the default
 pub all_one : {A : Type 0} (n i : ℕ) (v : A) → get_or (replicate n v) i v ≡ v

@@ -1,6 +1,6 @@
 -- What comes and goes over a link of which one end is elsewhere keeps what moves need.
-use Rattle.std.proofs.Common.{◌≡◌, ℕ, ◌<◌, Bool, true, false, ◌⊎◌, inl, inr, refl, List, [], ◌∷◌, ◌++◌, Option, Some, None, arith}
-use Rattle.std.proofs.Common.{sym, subst, ◌∙◌}
+use Rattle.std.proofs.Common.{◌≡◌, ℕ, ◌<◌, Bool, true, false, ◌⊎◌, inl, inr, refl, List, [], ◌∷◌, ◌++◌, Option, Some}
+use Rattle.std.proofs.Common.{None, arith, sym, subst, ◌∙◌}
 use Rattle.std.proofs.lemmas.List.Elements.{All-push}
 use Rattle.worm_flit.specs.declared.Flit.{Flit}
 use Rattle.worm_records.specs.declared.InRecord.TheVariants.{Active}
@@ -11,7 +11,7 @@ use Rattle.worm_theory.proofs.Meshes.{same_start}
 use Rattle.worm_theory.proofs.Places.{place_cases, same-false}
 use Rattle.worm_theory.proofs.Send.{down_sum, up_sum}
 use Rattle.worm_region.specs.Workable.{EndsElsewhere, IsSent, OwnCreditsAdd, Works}
-use Rattle.worm_region.proofs.Working.{send_by}
+use Rattle.worm_region.proofs.StaysWorking.{send_by}
 
 -- what is at the other end of a port's link is elsewhere
 abbrev pub AreElsewhere : Shape → (ℕ → Bool) → ℕ → ℕ → Type 0

@@ -99,19 +99,10 @@ range_split n m below =
 pub does_nothing : (a : NetState) → Does Stays a None a
 does_nothing a = record { exact = (refl, refl); reaches = reached a }
 
--- a passage under another name
-pub does_as : (P Q : Passage) (a b : NetState) (fault : Option StepFault) → (P a fault b → Q a fault b) →
-    Does P a fault b → Does Q a fault b
-does_as P Q a b fault turned done = record { exact = turned done.exact; reaches = done.reaches }
-
 pub does_then : (P Q : Passage) (a b c : NetState) (fault : Option StepFault) → Does P a None b → Does Q b fault c →
     Does (P and_then Q) a fault c
 does_then P Q a b c fault first then =
     record { exact = inr (b, first.exact, then.exact); reaches = joined a b c first.reaches then.reaches }
-
-pub does_cut : (P Q : Passage) (a b : NetState) (fault : StepFault) → Does P a (Some fault) b →
-    Does (P and_then Q) a (Some fault) b
-does_cut P Q a b fault first = record { exact = inl (refl, first.exact); reaches = first.reaches }
 
 pub does_more : {A : Type 0} (P : A → Passage) (xs : List A) (x : A) (a b c : NetState) (fault : Option StepFault) →
     Does (Each P xs) a None b → Does (P x) b fault c → Does (Each P (xs ++ x ∷ [])) a fault c

@@ -20,14 +20,14 @@ use Rattle.worm_region.specs.Workable.{IsWorkable}
 use Rattle.worm_region.specs.Moves.{NothingComes, can_enter, can_get, chosen_router, front_credit, front_into}
 use Rattle.worm_region.specs.Resting.{IsResting, no_node, nth_node}
 use Rattle.worm_region.specs.Replies.{Attempts}
-use Rattle.worm_region.specs.Turns.{Each, all_ports, granted_send, SendsGrantedBy, GivesCreditBy, GivesCreditsBy}
+use Rattle.worm_region.specs.Turns.{Each, all_ports, granted_send, SendsGrantedBy, GivesCreditBy}
 use Rattle.worm_region.specs.Turns.{NodePassesBy, ComesInBy, AreThere, Chooses}
 use Rattle.worm_region.specs.declared.step.Moved.TheVariants.{Idle}
 use Rattle.worm_region.specs.declared.fault.StepFault.TheVariants.{NoSuchPlace}
-use Rattle.worm_region.proofs.GetStep.{get_answers}
-use Rattle.worm_region.proofs.TakeStep.{take_answers}
-use Rattle.worm_region.proofs.FeedStep.{feed_answers}
-use Rattle.worm_region.proofs.GrantStep.{with_router_same}
+use Rattle.worm_region.proofs.GetAgrees.{get_answers}
+use Rattle.worm_region.proofs.TakeAgrees.{take_answers}
+use Rattle.worm_region.proofs.FeedAgrees.{feed_answers}
+use Rattle.worm_region.proofs.NodeWritten.{with_router_same}
 use Rattle.worm_region.proofs.Turning.{gives_none, owed_lowest}
 use Rattle.worm_region.proofs.Skipping.{each_still, numbers_still, node_still}
 
@@ -180,14 +180,6 @@ node_rests s x net x_in rest nothing =
         ),
       ),
     )
-
-pub credits_rest : (s : NetState) (x : ℕ) → IsWorkable s → x < node_count s.mesh → OwesNothing (router_at s x) →
-    GivesCreditsBy Attempts x s None s
-credits_rest s x net x_in owes =
-    let all = net.framed.all_nodes in
-    let node = net.framed.each_node x (omega arith) in
-    numbers_still (GivesCreditBy Attempts x) s (2 * length s.mesh) 0
-    (λ p below. gives_still s x p (rw node.same_mesh (omega arith)) owes)
 
 -- a node that is kept as still
 

@@ -12,7 +12,9 @@ use Rattle.worm_theory.proofs.Places.{number_cases}
 use Rattle.worm_region.specs.Shape.{net_shape}
 use Rattle.worm_region.specs.State.{NetState, shape, network_of, link_at}
 use Rattle.worm_region.specs.Workable.{IsWorkableBy, IsSent}
-use Rattle.worm_region.proofs.LinkBridge.{out_there}
+use Rattle.worm_region.proofs.LinkWritten.{out_there}
+use Rattle.std.specs.List.{count_by}
+use Rattle.worm_theory.proofs.Credit.{count-cons}
 
 -- one of the numbers below n is c, if c is below n
 one_of_none : (n c : ℕ) → n ≤ c → sum_below (λ v. cond (v == c) 1 0) n ≡ 0
@@ -63,6 +65,19 @@ counted n (f ∷ fs) all =
     sum_same (λ v. length (on_channel v (f ∷ fs))) (λ v. cond (v == f.vc) 1 0 + length (on_channel v fs)) n
     (λ v. on_one_more v f fs) in
     let two = sum_add (λ v. cond (v == f.vc) 1 0) (λ v. length (on_channel v fs)) n in
+    split ∙ (two ∙ omega arith)
+
+-- the credits of each channel below n are all credits
+pub credits_counted : (n : ℕ) (cs : List ℕ) → All (λ c. c < n) cs →
+    sum_below (λ v. count_by (λ k. v == k) cs) n ≡ length cs
+credits_counted n [] all = sum_none n
+credits_counted n (c ∷ cs) all =
+    let rest = credits_counted n cs (All-tail (λ (d : ℕ). d < n) c cs all) in
+    let one = one_of n c (All-head (λ (d : ℕ). d < n) c cs all) in
+    let split =
+    sum_same (λ v. count_by (λ k. v == k) (c ∷ cs)) (λ v. cond (v == c) 1 0 + count_by (λ k. v == k) cs) n
+    (λ v. count-cons v c cs) in
+    let two = sum_add (λ v. cond (v == c) 1 0) (λ v. count_by (λ k. v == k) cs) n in
     split ∙ (two ∙ omega arith)
 
 pub bounded : (f : ℕ → ℕ) (n d : ℕ) → ((v : ℕ) → v < n → f v ≤ d) → sum_below f n ≤ n * d

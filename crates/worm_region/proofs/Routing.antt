@@ -24,9 +24,9 @@ use Rattle.worm_region.specs.declared.step.Moved.TheVariants.{Done, Idle}
 use Rattle.worm_region.specs.declared.fault.StepFault.{StepFault}
 use Rattle.worm_region.specs.declared.fault.StepFault.TheVariants.{NoSuchPlace, Refused, NoMemory}
 use Rattle.worm_wires.proofs.Looking.{true_of}
-use Rattle.worm_region.proofs.Bridge.{node_at-put}
+use Rattle.worm_region.proofs.NodeWritten.{node_at-put}
 use Rattle.worm_region.proofs.Giving.{input_elsewhere}
-use Rattle.worm_region.proofs.Kept.{net_place}
+use Rattle.worm_region.proofs.PlacesThere.{net_place}
 use Rattle.worm_region.proofs.Passages.{does_for, does_nothing, does_ranged, loop_more, loop_on}
 use Rattle.worm_region.proofs.Skipping.{each_still, places_same, route_still}
 

@@ -17,7 +17,7 @@ use Rattle.worm_region.specs.Turns.{AreThere, Each, Does, fault_of, granted_send
 use Rattle.worm_region.specs.declared.step.Moved.{Moved}
 use Rattle.worm_region.specs.declared.fault.StepFault.{StepFault}
 use Rattle.worm_region.proofs.Allocating.{there_still}
-use Rattle.worm_region.proofs.Kept.{net_place}
+use Rattle.worm_region.proofs.PlacesThere.{net_place}
 use Rattle.worm_region.proofs.Passages.{loop_cut, loop_more, loop_on}
 use Rattle.worm_region.proofs.Turning.{sends_one, sends_none}
 

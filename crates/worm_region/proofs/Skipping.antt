@@ -21,7 +21,7 @@ use Rattle.worm_region.specs.Replies.{Attempts}
 use Rattle.worm_region.specs.Turns.{Passage, Each, RoutesPortBy, RoutesChannelsBy}
 use Rattle.worm_region.specs.declared.step.Moved.TheVariants.{Idle}
 use Rattle.worm_region.specs.declared.fault.StepFault.TheVariants.{NoSuchPlace}
-use Rattle.worm_region.proofs.RouteStep.{route_answers}
+use Rattle.worm_region.proofs.RouteAgrees.{route_answers}
 
 -- one place of two numbers, or another
 pub places_same : (p q v c : ℕ) → ((p ≡ q) × (v ≡ c)) ⊎ (p ≡ q → v ≡ c → ⊥)

@@ -10,12 +10,12 @@ use Rattle.std.specs.List.{range_with_len, find}
 use Rattle.std.specs.Option.{option_to_list}
 use Rattle.worm_flit.specs.declared.Lane.{Lane}
 use Rattle.worm_router.specs.Router.{RouterState, width, input_at}
-use Rattle.worm_router.specs.Allocation.{after_allocate, switch_grants}
+use Rattle.worm_router.specs.Allocation.{switch_grants}
 use Rattle.worm_swalloc.specs.SwAlloc.{AreGranted}
 use Rattle.worm_swalloc.specs.declared.grant.SwGrant.{SwGrant}
 use Rattle.worm_theory.specs.Steps.{Step, Send, GiveCredit}
 use Rattle.worm_region.specs.Script.{begun_at, lane_of}
-use Rattle.worm_region.specs.State.{NetState, router_at, with_router}
+use Rattle.worm_region.specs.State.{NetState, router_at}
 use Rattle.worm_region.specs.Replies.{Attempts, Replies}
 use Rattle.worm_region.specs.Turns.{Each, Does, Passage, Reaches, ReachesAt, Allocates, ask, fault_of, granted_send}
 use Rattle.worm_region.specs.Turns.{lowest_owed, ◌and_then◌, AsksSourceBy, ComesInBy, GivesCreditBy, GivesCreditsBy}
@@ -26,7 +26,7 @@ use Rattle.worm_region.specs.declared.step.Moved.{Moved}
 use Rattle.worm_region.specs.declared.fault.StepFault.{StepFault}
 use Rattle.worm_theory.proofs.Places.{number_cases}
 use Rattle.worm_region.proofs.Reaching.{joined}
-use Rattle.worm_region.proofs.StepsAt.{asks_at}
+use Rattle.worm_region.proofs.StaysAtNode.{asks_at}
 use Rattle.worm_region.proofs.Passages.{each_flat, does_quietly, does_try, does_more, does_nothing, does_passing}
 use Rattle.worm_region.proofs.Passages.{does_failing, does_part}
 
@@ -246,8 +246,3 @@ owed_lowest r p (Some v) found lowest none =
 owed_lowest r p None found lowest none =
     sym (find_nothing (λ v. nat_lt 0 (input_at r p v).owed) (width r) 0
     (λ k below. owing_none (input_at r p k).owed (none k (omega arith))))
-
--- a pass of the channel allocator
-pub does_allocate : (x : ℕ) (a b : NetState) → b ≡ with_router a x (after_allocate (router_at a x)) → Reaches a b →
-    Does (Allocates x) a None b
-does_allocate x a b same reaches = record { exact = (refl, same); reaches = reaches }

@@ -14,10 +14,10 @@ ghost use Rattle.worm_swalloc.specs.declared.grant.SwGrant.{SwGrant};
 ghost use Rattle.worm_region.specs.State.{router_at};
 ghost use Rattle.worm_theory.specs.Steps.{Route};
 ghost use Rattle.worm_region.specs.Moves.{OwesTheSame, RoutesTheSame};
-ghost use Rattle.worm_region.specs.Turns.{Does, ForEach, ReachesAt, all_nodes, ask, fault_of, lowest_owed, AsksSourceBy};
-ghost use Rattle.worm_region.specs.Turns.{ComesInBy, FeedsClassesBy, GivesCreditBy, GivesCreditsBy, NodePassesBy};
-ghost use Rattle.worm_region.specs.Turns.{NodeTurnBy, RoutesChannelsBy, SendsBy, TakesCreditsBy, TakesFlitsBy};
-ghost use Rattle.worm_region.specs.Turns.{AreGrants, AreThere};
+ghost use Rattle.worm_region.specs.Turns.{Does, ForEach, ReachesAt, all_nodes, ask, fault_of, lowest_owed};
+ghost use Rattle.worm_region.specs.Turns.{AsksSourceBy, ComesInBy, FeedsClassesBy, GivesCreditBy, GivesCreditsBy};
+ghost use Rattle.worm_region.specs.Turns.{NodePassesBy, NodeTurnBy, RoutesChannelsBy, SendsBy, TakesCreditsBy};
+ghost use Rattle.worm_region.specs.Turns.{TakesFlitsBy, AreGrants, AreThere};
 ghost use Rattle.worm_region.specs.Prepared.{Prepares};
 
 use crate::region::Region;

@@ -15,7 +15,7 @@ use Rattle.worm_region.specs.declared.fault.StepFault.TheVariants.{NoSuchPlace, 
 use Rattle.worm_split.specs.PartState.{PartState}
 use Rattle.worm_split.specs.PartTurns.{Within, PullsCredits, PullsFlits, SendsGranted, SendsGrant, Sends, GivesCredits}
 use Rattle.worm_split.specs.PartTurns.{GivesCredit, Gives, NodeTurn, Turn, EachOf, PartPassage, PullsCredit, PullsFlit}
-use Rattle.worm_split.proofs.Told.{Tells, TellsOf, then_tells, each_tells, then_tells_of, each_tells_of}
+use Rattle.worm_split.proofs.PassagesTell.{Tells, TellsOf, then_tells, each_tells, then_tells_of, each_tells_of}
 
 abbrev Placed : Passage
 Placed old fault new = fault ≡ Some NoSuchPlace → ⊥

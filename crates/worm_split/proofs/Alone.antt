@@ -26,7 +26,7 @@ use Rattle.worm_region.specs.declared.step.Moved.{Moved}
 use Rattle.worm_region.specs.declared.step.Moved.TheVariants.{Done, Idle}
 use Rattle.worm_split.specs.Effects.{HaveTheSame, OneMore}
 use Rattle.worm_split.proofs.Accepted.{same_fed, same_source, same_then}
-use Rattle.worm_split.proofs.Told.{Tells, each_tells, then_tells}
+use Rattle.worm_split.proofs.PassagesTell.{Tells, each_tells, then_tells}
 
 -- the node x alone is touched
 pub record Touches (x : ℕ) (old new : NetState) : Type 0 where

@@ -14,11 +14,10 @@ use Rattle.worm_region.specs.Replies.{Attempts}
 use Rattle.worm_region.specs.State.{router_at, with_router}
 use Rattle.worm_region.specs.Turns.{ComesInBy, lowest_owed}
 use Rattle.worm_region.specs.Workable.{IsWorkable}
-use Rattle.worm_region.proofs.GrantStep.{with_router_same}
+use Rattle.worm_region.proofs.NodeWritten.{with_router_same}
 use Rattle.worm_region.proofs.Turning.{owed_lowest}
 use Rattle.worm_split.specs.PartState.{PartState}
-use Rattle.worm_split.specs.PartTurns.{EachOf, Gives, GivesCredit, NodePasses, SendsGrant}
-use Rattle.worm_split.specs.PartTurns.{SendsGranted}
+use Rattle.worm_split.specs.PartTurns.{EachOf, Gives, GivesCredit, NodePasses, SendsGrant, SendsGranted}
 use Rattle.worm_split.proofs.PartLoops.{of_rest}
 
 grant_none : (grants : List (Option SwGrant)) (x i : ℕ) (p : PartState) → grants ≡ replicate 7 None

@@ -19,7 +19,7 @@ use Rattle.worm_split.specs.PartState.{PartState}
 use Rattle.worm_split.specs.PartTurns.{EachOf, NodeTurn, Turn}
 use Rattle.worm_split.proofs.Accepted.{accepted-none}
 use Rattle.worm_split.proofs.Alone.{Touches, no_more}
-use Rattle.worm_split.proofs.Asked.{IsSeated, seated_in}
+use Rattle.worm_split.proofs.FirstAccepted.{IsSeated, seated_in}
 use Rattle.worm_split.proofs.NodeEffects.{NodeDid, NodeRefuses, node_did}
 
 -- the nodes from this one on are there

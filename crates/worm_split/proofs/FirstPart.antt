@@ -23,12 +23,11 @@ use Rattle.worm_region.specs.State.{NetState, IsFramed, IsNet, IsNodeOf, fresh_n
 use Rattle.worm_region.specs.State.{network_of, node_at, shape, sink_at}
 use Rattle.worm_region.specs.Workable.{IsBound, IsKept, IsSent, IsWorkable, Works, owned}
 use Rattle.worm_region.specs.declared.node.Node.{Node}
-use Rattle.worm_region.proofs.Kept.{framed_mesh}
-use Rattle.worm_region.proofs.LinkBridge.{credits_there, out_there}
-use Rattle.worm_region.proofs.NewNet.{workable}
-use Rattle.worm_region.proofs.NewNet.{fresh_is, stands_for}
+use Rattle.worm_region.proofs.FrameKept.{framed_mesh}
+use Rattle.worm_region.proofs.LinkWritten.{credits_there, out_there}
+use Rattle.worm_region.proofs.NewNet.{workable, fresh_is, stands_for}
 use Rattle.worm_region.proofs.Owning.{all_within}
-use Rattle.worm_region.proofs.Working.{sound_works}
+use Rattle.worm_region.proofs.StaysWorking.{sound_works}
 use Rattle.worm_parts.specs.Openings.{past_of}
 use Rattle.worm_parts.specs.Region.{Begins, HasPart}
 use Rattle.worm_parts.proofs.RegionQueues.{first_part}

@@ -15,7 +15,7 @@ use Rattle.worm_theory.proofs.Places.{number_cases}
 use Rattle.worm_region.specs.State.{NetState, IsNet, network_of, shape}
 use Rattle.worm_region.specs.Owned.{owned_by}
 use Rattle.worm_region.specs.declared.own.Own.{Own}
-use Rattle.worm_region.proofs.Kept.{framed_mesh}
+use Rattle.worm_region.proofs.FrameKept.{framed_mesh}
 use Rattle.worm_parts.specs.Join.{Holds}
 use Rattle.worm_parts.specs.Region.{HasPart, Begins}
 use Rattle.worm_parts.specs.Openings.{past_of}

@@ -20,7 +20,8 @@ use Rattle.worm_region.specs.declared.fault.StepFault.{StepFault}
 use Rattle.worm_region.proofs.Allocating.{there_still}
 use Rattle.worm_region.proofs.Sending.{granted_one, granted_none, first_port, walked_there, was_granted}
 use Rattle.worm_split.specs.PartState.{PartState, IsSamePart}
-use Rattle.worm_split.specs.PartTurns.{EachOf, PartPassage, Sends, SendsGrant, SendsGranted, SendsGrants, Within, ◌then◌}
+use Rattle.worm_split.specs.PartTurns.{EachOf, PartPassage, Sends, SendsGrant, SendsGranted, SendsGrants, Within}
+use Rattle.worm_split.specs.PartTurns.{◌then◌}
 use Rattle.worm_split.proofs.PartLoops.{of_more, of_end, of_one, of_rest, same_on, same_still}
 
 -- how far the ports have come

@@ -10,7 +10,7 @@ use Rattle.worm_theory.proofs.Places.{number_cases}
 use Rattle.worm_region.specs.Shape.{net_shape}
 use Rattle.worm_region.specs.State.{IsFramed, link_at, network_of, shape}
 use Rattle.worm_wires.specs.Links.{LinkView, blank_link}
-use Rattle.worm_region.proofs.LinkBridge.{credits_there, out_there}
+use Rattle.worm_region.proofs.LinkWritten.{credits_there, out_there}
 use Rattle.worm_split.specs.declared.ends.End.{End}
 use Rattle.worm_split.specs.declared.ends.End.TheVariants.{Inner, Leaving}
 use Rattle.worm_split.specs.declared.exchange.Kept.{Kept}

@@ -15,10 +15,8 @@ use Rattle.worm_theory.proofs.Places.{bool_cases}
 use Rattle.worm_region.specs.Shape.{net_shape}
 use Rattle.worm_region.specs.State.{NetState}
 use Rattle.worm_wires.specs.Links.{LinkView, blank_link}
-use Rattle.worm_region.specs.State.{network_of}
-use Rattle.worm_region.specs.State.{shape}
-use Rattle.worm_region.proofs.GiveStep.{credits_counted}
-use Rattle.worm_region.proofs.Room.{bounded, counted}
+use Rattle.worm_region.specs.State.{network_of, shape}
+use Rattle.worm_region.proofs.Room.{credits_counted, bounded, counted}
 use Rattle.worm_parts.specs.Join.{Holds}
 use Rattle.worm_parts.specs.Whole.{AreQueues, link_of as link_joined, line_of as line_joined, whole}
 use Rattle.worm_parts.proofs.Regions.{parts_hold}
@@ -26,7 +24,7 @@ use Rattle.worm_split.specs.declared.ends.End.{End}
 use Rattle.worm_split.specs.declared.ends.End.TheVariants.{Inner}
 use Rattle.worm_split.specs.declared.exchange.Kept.{Kept}
 use Rattle.worm_split.specs.Joins.{AreEmptied, AreParts, IsEmptied, IsGathered, owner_of}
-use Rattle.worm_split.specs.PartState.{PartState, end_of, part_network, returned_to, taken_by}
+use Rattle.worm_split.specs.PartState.{PartState, part_network, returned_to, taken_by}
 use Rattle.worm_split.specs.Splits.{part_at}
 use Rattle.worm_split.specs.declared.ends.End.TheVariants.{Leaving, Entering}
 use Rattle.worm_split.proofs.Gathered.{has_part, mesh, was}

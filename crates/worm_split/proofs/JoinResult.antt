@@ -1,6 +1,5 @@
 -- What a join gives: a network, its places as their owners had them, later than the one that was split.
-use Rattle.std.proofs.Common.{◌≡◌, ℕ, ◌%◌, inl, inr, List, length, Some, refl, sym, ap, subst}
-use Rattle.std.proofs.Common.{◌∙◌}
+use Rattle.std.proofs.Common.{◌≡◌, ℕ, ◌%◌, inl, inr, List, length, Some, refl, sym, ap, subst, ◌∙◌}
 use Rattle.std.proofs.lemmas.Bool.{cases_lt}
 use Rattle.std.proofs.lemmas.List.{get_or_past}
 use Rattle.worm_mesh.specs.declared.mesh.LinkEnds.{LinkEnds}
@@ -22,7 +21,7 @@ use Rattle.worm_split.specs.Joins.{AreEmptied, AreOfOne, AreParts, IsBetween, Is
 use Rattle.worm_split.specs.Joins.{IsLinkJoined, owner_of}
 use Rattle.worm_split.specs.PartState.{PartState}
 use Rattle.worm_split.specs.Splits.{part_at}
-use Rattle.worm_split.proofs.Items.{linked_of}
+use Rattle.worm_split.proofs.MadeSoFar.{linked_of}
 use Rattle.worm_split.proofs.JoinLinks.{hold, of_one}
 use Rattle.worm_split.proofs.Gathered.{first, has_part, mesh, owner_below, was}
 use Rattle.worm_split.proofs.JoinNet.{credits_left, flits_left, holds, holds_each, joined, joined_line, joined_out}

@@ -12,10 +12,9 @@ use Rattle.worm_region.specs.Owned.{sole}
 use Rattle.worm_region.specs.Shape.{net_shape}
 use Rattle.worm_region.specs.State.{NetState, IsFramed, IsNodeOf, fresh_node, input_of}
 use Rattle.worm_wires.specs.Links.{LinkView, blank_link}
-use Rattle.worm_region.specs.State.{link_at, net_state, network_of, node_at, output_of, shape, sink_at}
-use Rattle.worm_region.specs.State.{texts_of}
+use Rattle.worm_region.specs.State.{link_at, net_state, network_of, node_at, output_of, shape, sink_at, texts_of}
 use Rattle.worm_region.specs.declared.node.Node.{Node}
-use Rattle.worm_region.proofs.LinkBridge.{credits_there, out_there}
+use Rattle.worm_region.proofs.LinkWritten.{credits_there, out_there}
 use Rattle.worm_split.specs.declared.ends.End.{End}
 use Rattle.worm_split.specs.declared.ends.End.TheVariants.{Inner}
 use Rattle.worm_split.specs.declared.exchange.Kept.{Kept}

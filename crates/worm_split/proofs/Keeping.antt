@@ -6,14 +6,12 @@ use Rattle.std.specs.List.{range_with_len}
 use Rattle.worm_flit.specs.declared.Flit.{Flit}
 use Rattle.worm_theory.specs.Shape.{Shape, IsMesh}
 use Rattle.worm_theory.specs.Network.{Network}
-use Rattle.worm_theory.specs.Steps.{Step, Offer, CloseLane, Feed, Route, Grant, Send, Take, GiveCredit, TakeCredit}
-use Rattle.worm_theory.specs.Steps.{after}
+use Rattle.worm_theory.specs.Steps.{Step, Feed, Route, Take, TakeCredit, after}
 use Rattle.worm_region.specs.Shape.{net_shape}
 use Rattle.worm_region.specs.State.{NetState, IsSameConfig, shape, network_of}
 use Rattle.worm_region.specs.Replies.{Attempts, Replies}
-use Rattle.worm_region.specs.Turns.{Passage, Each, ◌and_then◌, AsksSourceBy, TakesCreditsBy}
-use Rattle.worm_region.specs.Turns.{TakesFlitsBy, FeedsClassesBy, RoutesPortBy, RoutesChannelsBy, ask, all_ports}
-use Rattle.worm_region.specs.Turns.{mesh_ports}
+use Rattle.worm_region.specs.Turns.{Passage, Each, ◌and_then◌, AsksSourceBy, TakesCreditsBy, TakesFlitsBy}
+use Rattle.worm_region.specs.Turns.{FeedsClassesBy, RoutesPortBy, RoutesChannelsBy, ask, all_ports, mesh_ports}
 use Rattle.worm_region.specs.Script.{begun_at}
 use Rattle.worm_region.specs.declared.script.Act.{Act}
 use Rattle.worm_region.specs.declared.script.Act.TheVariants.{Offer as ToOffer, Close as ToClose}

@@ -1,7 +1,7 @@
-pub mod Coming
+pub mod ComesByEnd
 pub mod Crossing
 pub mod EndFacts
-pub mod Going
+pub mod GoesByEnd
 pub mod Granting
 pub mod Inside
 pub mod Keeping
@@ -9,7 +9,7 @@ pub mod PartFacts
 pub mod PartLoops
 pub mod PartMoves
 pub mod Pulls
-pub mod Seen
+pub mod SeenAtEnds
 pub mod Staying
 pub mod Within
 pub mod Swapping
@@ -17,9 +17,9 @@ pub mod Meeting
 pub mod Gathered
 pub mod Emptying
 pub mod JoinLinks
-pub mod Items
+pub mod MadeSoFar
 pub mod JoinNet
-pub mod Lines
+pub mod LinesEmptied
 pub mod JoinState
 pub mod Swapped
 pub mod Gathering
@@ -29,13 +29,13 @@ pub mod FirstEnds
 pub mod SameNodes
 pub mod Dealing
 pub mod FirstPart
-pub mod DealStep
+pub mod DealtSoFar
 pub mod PartLists
 pub mod Accepted
-pub mod Told
+pub mod PassagesTell
 pub mod Alone
 pub mod Grants
-pub mod Asked
+pub mod FirstAccepted
 pub mod SinkSends
 pub mod NodeEffects
 pub mod Effects

@@ -15,8 +15,7 @@ use Rattle.worm_region.specs.Turns.{Allocates, ComesInBy, Passage, lowest_owed, 
 use Rattle.worm_region.specs.declared.fault.StepFault.{StepFault}
 use Rattle.worm_region.specs.declared.fault.StepFault.TheVariants.{Refused}
 use Rattle.worm_region.specs.declared.script.Entry.{Entry}
-use Rattle.worm_split.specs.Effects.{HasAccepted, HasWords, HaveWords, OneMore, Refuses, SourceTakes}
-use Rattle.worm_split.specs.Effects.{after_entries}
+use Rattle.worm_split.specs.Effects.{HasAccepted, HasWords, HaveWords, OneMore, Refuses, SourceTakes, after_entries}
 use Rattle.worm_split.specs.PartState.{PartState}
 use Rattle.worm_split.specs.PartTurns.{◌then◌, Gives, GivesCredit, GivesCredits, NodeTurn, PartPassage}
 use Rattle.worm_split.specs.PartTurns.{PullsCredit, PullsCredits, PullsFlit, PullsFlits, SendsGranted, Within}
@@ -24,9 +23,9 @@ use Rattle.worm_split.proofs.Accepted.{same_source, same_then}
 use Rattle.worm_split.proofs.Alone.{IsQuiet, Passed, Quiet, Touches, allocates_quietly, comes_in_quietly, gives_quietly}
 use Rattle.worm_split.proofs.Alone.{no_more, none_refuses, passed_quietly, quiet_on, quiet_then, router_quiet}
 use Rattle.worm_split.proofs.Alone.{still_quiet, then_quiet, touched_on}
-use Rattle.worm_split.proofs.Asked.{Asked, IsSeated, asked}
+use Rattle.worm_split.proofs.FirstAccepted.{Asked, IsSeated, asked}
 use Rattle.worm_split.proofs.SinkSends.{sends_passed}
-use Rattle.worm_split.proofs.Told.{Tells, TellsOf, each_tells_of}
+use Rattle.worm_split.proofs.PassagesTell.{Tells, TellsOf, each_tells_of}
 
 abbrev IsPassed : ℕ → Passage
 IsPassed x old fault new = x < length old.nodes → Passed x old fault new

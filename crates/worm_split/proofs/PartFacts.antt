@@ -16,7 +16,7 @@ use Rattle.worm_region.specs.Shape.{net_shape}
 use Rattle.worm_region.specs.State.{NetState, IsSameConfig, shape, network_of}
 use Rattle.worm_region.specs.Owned.{owned_by}
 use Rattle.worm_region.specs.declared.own.Own.{Own}
-use Rattle.worm_region.proofs.Kept.{framed_mesh}
+use Rattle.worm_region.proofs.FrameKept.{framed_mesh}
 use Rattle.worm_parts.specs.Region.{HasPart}
 use Rattle.worm_parts.specs.Openings.{past_of}
 use Rattle.worm_split.specs.declared.ends.End.{End}

@@ -1,6 +1,5 @@
 -- What comes and goes over a part's ends keeps it a part.
-use Rattle.std.proofs.Common.{◌≡◌, ℕ, List, [], ◌∷◌, ◌++◌, Some, refl, sym, ap}
-use Rattle.std.proofs.Common.{subst, ◌∙◌}
+use Rattle.std.proofs.Common.{◌≡◌, ℕ, List, [], ◌∷◌, ◌++◌, Some, refl, sym, ap, subst, ◌∙◌}
 use Rattle.worm_flit.specs.declared.Flit.{Flit}
 use Rattle.worm_flit.specs.Stamps.{on_channel, with_channel}
 use Rattle.worm_flit.specs.Worms.{Continues}
@@ -22,8 +21,8 @@ use Rattle.worm_split.specs.PartState.{PartState, IsPart, end_of, owns, part_net
 use Rattle.worm_split.specs.PartTurns.{with_end}
 use Rattle.worm_split.proofs.Crossing.{cross_leaves}
 use Rattle.worm_split.proofs.PartFacts.{mesh_of_part, linked_there, is_leaving, is_entering, part_with_end}
-use Rattle.worm_split.proofs.Seen.{credit_back, credit_returned, credit_takes_none, flit_came, flit_taken}
-use Rattle.worm_split.proofs.Seen.{flit_returns_none, flit_sent, sent_takes, credit_given, given_takes}
+use Rattle.worm_split.proofs.SeenAtEnds.{credit_back, credit_returned, credit_takes_none, flit_came, flit_taken}
+use Rattle.worm_split.proofs.SeenAtEnds.{flit_returns_none, flit_sent, sent_takes, credit_given, given_takes}
 
 module _ (p : PartState) (part : IsPart p) (x o y : ℕ) (linked : (shape p.opening).neighbour x o ≡ Some y)
     (net : NetState) (config : IsSameConfig p.net net) where

@@ -1,6 +1,5 @@
 -- What a part knows where it asks for a flit or a credit, or sends one: the links of a port, and its ends of them.
-use Rattle.std.proofs.Common.{◌≡◌, ℕ, ◌<◌, [], ◌∷◌, ◌++◌, length, Option}
-use Rattle.std.proofs.Common.{Some, refl, arith, sym, ap, ◌∙◌}
+use Rattle.std.proofs.Common.{◌≡◌, ℕ, ◌<◌, [], ◌∷◌, ◌++◌, length, Option, Some, refl, arith, sym, ap, ◌∙◌}
 use Rattle.worm_flit.specs.declared.Flit.{Flit}
 use Rattle.worm_flit.specs.Stamps.{on_channel}
 use Rattle.worm_flit.specs.Worms.{Continues}
@@ -13,7 +12,7 @@ use Rattle.worm_region.specs.State.{IsFramed, network_of, link_at}
 use Rattle.worm_wires.specs.Wiring.{port_links}
 use Rattle.worm_region.specs.Moves.{link_into, link_out}
 use Rattle.worm_wires.specs.declared.wiring.PortLinks.{PortLinks}
-use Rattle.worm_region.proofs.LinkBridge.{out_there, credits_there}
+use Rattle.worm_region.proofs.LinkWritten.{out_there, credits_there}
 use Rattle.worm_wires.proofs.Wired.{parts, ports_within}
 use Rattle.worm_split.specs.declared.ends.End.{End}
 use Rattle.worm_split.specs.declared.ends.End.TheVariants.{Inner, Leaving, Entering}

@@ -6,7 +6,7 @@ use Rattle.std.specs.Prelude.{IsSome, slice_index_or}
 use Rattle.worm_mesh.specs.Address.{neighbour_of, stride_of}
 use Rattle.worm_theory.proofs.Places.{number_cases}
 use Rattle.worm_region.specs.State.{IsFramed, NetState}
-use Rattle.worm_region.proofs.Ends.{leader}
+use Rattle.worm_region.proofs.LinksThere.{leader}
 use Rattle.worm_wires.proofs.Strides.{step_down, step_up}
 use Rattle.worm_split.specs.PartTurns.{AreShared}
 

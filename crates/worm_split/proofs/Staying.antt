@@ -20,13 +20,13 @@ use Rattle.worm_region.specs.declared.step.Moved.{Moved}
 use Rattle.worm_region.specs.declared.step.Moved.TheVariants.{Done, Idle}
 use Rattle.worm_region.specs.declared.fault.StepFault.{StepFault}
 use Rattle.worm_region.specs.declared.fault.StepFault.TheVariants.{NoSuchPlace, Refused, NoMemory}
-use Rattle.worm_region.proofs.Kept.{net_place}
+use Rattle.worm_region.proofs.PlacesThere.{net_place}
 use Rattle.worm_split.specs.declared.ends.End.{End}
 use Rattle.worm_split.specs.declared.ends.End.TheVariants.{Inner, Leaving, Entering}
 use Rattle.worm_split.specs.Ends.{leaves_by, enters_by}
 use Rattle.worm_split.specs.PartState.{PartState, IsPart, end_of, owns, taken_by, returned_to}
 use Rattle.worm_split.specs.PartTurns.{LeavesBy, ComesBy, StaysWithin}
-use Rattle.worm_split.proofs.Going.{ready_at}
+use Rattle.worm_split.proofs.GoesByEnd.{ready_at}
 use Rattle.worm_split.proofs.Inside.{IsInside, inside_now}
 use Rattle.worm_split.proofs.Keeping.{keeps_answer, stays}
 use Rattle.worm_split.proofs.PartFacts.{mesh_of_part, is_leaving, is_entering, is_inner}

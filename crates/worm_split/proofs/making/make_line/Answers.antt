@@ -3,10 +3,10 @@ use Rattle.worm_flit.specs.declared.Flit.{Flit}
 use Rattle.worm_flit.specs.Stamps.{on_channel}
 use Rattle.worm_flit.specs.Worms.{IsWorm}
 use Rattle.worm_region.specs.State.{network_of, shape}
-use Rattle.worm_region.proofs.Kept.{framed_mesh}
+use Rattle.worm_region.proofs.FrameKept.{framed_mesh}
 use Rattle.worm_parts.proofs.Regions.{past_worms}
 use Rattle.worm_split.proofs.Gathered.{net_holds}
-use Rattle.worm_split.proofs.Items.{linked_of}
+use Rattle.worm_split.proofs.MadeSoFar.{linked_of}
 use Rattle.worm_split.proofs.making.make_line.Goals as goal
 
 pub link_after-requires-clause-past : goal.link_after-requires-clause-past

@@ -5,7 +5,7 @@ use Rattle.worm_split.specs.declared.ends.Line.{Line}
 use Rattle.worm_split.specs.Ends.{no_line}
 use Rattle.worm_split.specs.Exchange.{way_at}
 use Rattle.worm_split.specs.Splits.{IsLineMade}
-use Rattle.worm_split.proofs.Items.{each_push}
+use Rattle.worm_split.proofs.MadeSoFar.{each_push}
 use Rattle.worm_split.proofs.making.make_lines.Goals as goal
 
 pub loop-k-preserved : goal.loop-k-preserved

@@ -1,6 +1,6 @@
 use Rattle.std.proofs.Common.{arith, ◌∙◌}
 use Rattle.std.proofs.Math.ListN.{length-set}
-use Rattle.worm_split.proofs.Items.{owner_put}
+use Rattle.worm_split.proofs.MadeSoFar.{owner_put}
 use Rattle.worm_split.proofs.making.owners_of.Goals as goal
 
 pub loop-channel-preserved : goal.loop-channel-preserved

@@ -1,11 +1,10 @@
-use Rattle.std.proofs.Common.{◌≡◌, ℕ, ◌+◌, ◌-◌, ◌<◌, ◌++◌, ◌∷◌, [], List, length, length-append, ap, arith}
-use Rattle.std.proofs.Common.{subst, ◌∙◌}
+use Rattle.std.proofs.Common.{◌≡◌, ℕ, ◌+◌, ◌-◌, ◌<◌, ◌++◌, ◌∷◌, [], List, length, length-append, ap, arith, subst, ◌∙◌}
 use Rattle.std.specs.Prelude.{vec_capacity, vec_len}
 use Rattle.worm_split.specs.declared.making.Seat.{Seat}
 use Rattle.worm_split.specs.PartState.{PartState}
 use Rattle.worm_split.specs.Splits.{IsSeat}
-use Rattle.worm_split.proofs.DealStep.{DealSoFar, all_dealt, all_last, deal_apart, deal_further, deal_is_part}
-use Rattle.worm_split.proofs.DealStep.{deal_works, dealt_state, is_taken, seat_lengths}
+use Rattle.worm_split.proofs.DealtSoFar.{DealSoFar, all_dealt, all_last, deal_apart, deal_further, deal_is_part}
+use Rattle.worm_split.proofs.DealtSoFar.{deal_works, dealt_state, is_taken, seat_lengths}
 use Rattle.worm_split.proofs.splitting.deal.Goals as goal
 
 pub part_of-requires-clause-works : goal.part_of-requires-clause-works

@@ -1,5 +1,5 @@
 use Rattle.std.specs.Prelude.{vec_capacity}
-use Rattle.worm_split.proofs.DealStep.{DealSoFar}
+use Rattle.worm_split.proofs.DealtSoFar.{DealSoFar}
 use Rattle.worm_split.proofs.splitting.deal.Given as goal
 
 abbrev pub invariant-loop-worker : goal.invariant-loop-worker

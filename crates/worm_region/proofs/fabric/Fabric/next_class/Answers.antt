@@ -6,7 +6,7 @@ use Rattle.worm_region.specs.Shape.{net_shape}
 use Rattle.worm_region.specs.State.{NetState}
 use Rattle.worm_region.specs.Moves.{can_enter}
 use Rattle.worm_region.specs.declared.node.Node.{Node}
-use Rattle.worm_region.proofs.FeedStep.{feed_fits}
+use Rattle.worm_region.proofs.FeedAgrees.{feed_fits}
 use Rattle.worm_region.proofs.fabric.Fabric.next_class.Goals as goal
 
 pub can_feed-requires-clause-front : goal.can_feed-requires-clause-front

@@ -3,7 +3,7 @@ use Rattle.worm_region.specs.Replies.{Attempts}
 use Rattle.worm_region.specs.Turns.{◌and_then◌, ComesInBy, Does, FeedsClassesBy, RoutesChannelsBy, TakesCreditsBy}
 use Rattle.worm_region.specs.Turns.{TakesFlitsBy}
 use Rattle.worm_region.proofs.Passages.{does_then}
-use Rattle.worm_region.proofs.StepsAt.{comes_at}
+use Rattle.worm_region.proofs.StaysAtNode.{comes_at}
 use Rattle.worm_region.proofs.region.Region.come_in.Goals as goal
 
 pub returns-clause-does : goal.returns-clause-does

@@ -4,7 +4,7 @@ use Rattle.worm_region.specs.Shape.{net_shape}
 use Rattle.worm_region.specs.State.{NetState, shape}
 use Rattle.worm_region.specs.Replies.{Replies}
 use Rattle.worm_region.specs.Answers.{moved_of}
-use Rattle.worm_region.proofs.FeedStep.{feed_answers, feed_fits}
+use Rattle.worm_region.proofs.FeedAgrees.{feed_answers, feed_fits}
 use Rattle.worm_region.proofs.Reaching.{still_workable}
 use Rattle.worm_region.proofs.region.Region.feed_there.Goals as goal
 

@@ -6,7 +6,7 @@ use Rattle.worm_region.specs.State.{IsNetPlace, NetState, shape, with_router}
 use Rattle.worm_region.specs.Workable.{IsWorkable, owned}
 use Rattle.worm_region.proofs.OwnEdges.{all_elsewhere}
 use Rattle.worm_region.proofs.EdgeMoves.{gave_away}
-use Rattle.worm_region.proofs.Kept.{net_place}
+use Rattle.worm_region.proofs.PlacesThere.{net_place}
 use Rattle.worm_region.proofs.region.Region.gave.Goals as goal
 use Rattle.worm_region.proofs.region.Region.gave.Goals.{After-gave, After-self}
 

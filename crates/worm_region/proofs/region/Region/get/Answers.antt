@@ -6,9 +6,8 @@ use Rattle.worm_region.specs.Shape.{net_shape}
 use Rattle.worm_region.specs.State.{NetState, shape}
 use Rattle.worm_region.specs.Replies.{Replies}
 use Rattle.worm_region.specs.Answers.{moved_of}
-use Rattle.worm_region.proofs.GetStep.{get_answers, credit_fits}
-use Rattle.worm_region.proofs.Lines.{line_back, line_there}
-use Rattle.worm_region.proofs.There.{not_found}
+use Rattle.worm_region.proofs.GetAgrees.{get_answers, credit_fits}
+use Rattle.worm_region.proofs.LinkedPorts.{line_back, line_there, not_found}
 use Rattle.worm_region.proofs.Reaching.{still_workable}
 use Rattle.worm_region.proofs.region.Region.get.Goals as goal
 use Rattle.worm_region.proofs.region.Region.get.Goals.{In-Some}

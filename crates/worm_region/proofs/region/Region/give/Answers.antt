@@ -5,9 +5,9 @@ use Rattle.worm_region.specs.Shape.{net_shape}
 use Rattle.worm_region.specs.State.{NetState, router_at, shape}
 use Rattle.worm_region.specs.Replies.{Replies}
 use Rattle.worm_region.specs.Answers.{moved_of}
-use Rattle.worm_region.proofs.GiveStep.{gave_none}
+use Rattle.worm_region.proofs.GiveAgrees.{gave_none}
 use Rattle.worm_region.specs.declared.node.Node.{Node}
-use Rattle.worm_region.proofs.Lines.{line_back, line_there}
+use Rattle.worm_region.proofs.LinkedPorts.{line_back, line_there}
 use Rattle.worm_region.proofs.Owning.{all_within}
 use Rattle.worm_region.proofs.region.Region.give.Goals as goal
 use Rattle.worm_region.proofs.region.Region.give.Goals.{After-owed_count, then-is_none-via-then-is_none}

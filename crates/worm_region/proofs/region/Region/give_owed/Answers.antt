@@ -8,10 +8,9 @@ use Rattle.worm_region.specs.State.{NetState, router_at, shape}
 use Rattle.worm_region.specs.Replies.{Replies}
 use Rattle.worm_region.specs.Answers.{moved_of}
 use Rattle.worm_region.specs.Workable.{EndsWithin, owned}
-use Rattle.worm_region.proofs.GiveStep.{gave_owed, give_room}
-use Rattle.worm_region.proofs.Kept.{net_place}
-use Rattle.worm_region.proofs.Lines.{line_back, line_there}
-use Rattle.worm_region.proofs.There.{not_found}
+use Rattle.worm_region.proofs.GiveAgrees.{gave_owed, give_room}
+use Rattle.worm_region.proofs.PlacesThere.{net_place}
+use Rattle.worm_region.proofs.LinkedPorts.{line_back, line_there, not_found}
 use Rattle.worm_region.proofs.region.Region.give_owed.Goals as goal
 use Rattle.worm_region.proofs.region.Region.give_owed.Goals.{In-Some}
 

@@ -6,7 +6,7 @@ use Rattle.worm_region.specs.State.{NetState, router_at, shape, with_router}
 use Rattle.worm_region.specs.Replies.{Replies}
 use Rattle.worm_region.specs.Answers.{moved_of}
 use Rattle.worm_region.specs.Workable.{IsWorkable}
-use Rattle.worm_region.proofs.GrantStep.{grant_answers}
+use Rattle.worm_region.proofs.GrantAgrees.{grant_answers}
 use Rattle.worm_region.proofs.Reaching.{still_workable}
 use Rattle.worm_region.proofs.region.Region.grant.Goals as goal
 use Rattle.worm_region.proofs.region.Region.grant.Goals.{After-grant, then-not-has_place-via-then-not-has_place}

@@ -3,7 +3,7 @@ use Rattle.std.specs.Prelude.{slice_get}
 use Rattle.worm_region.specs.State.{NetState, link_at}
 use Rattle.worm_wires.specs.Links.{LinkView}
 use Rattle.worm_region.specs.Moves.{link_out}
-use Rattle.worm_region.proofs.EmptyLinks.{front_is}
+use Rattle.worm_region.proofs.ListFronts.{front_is}
 use Rattle.worm_region.proofs.region.Region.has_flits.Goals as goal
 
 pub returns : goal.returns

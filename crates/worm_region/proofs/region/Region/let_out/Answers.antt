@@ -6,7 +6,7 @@ use Rattle.worm_region.specs.State.{IsNetPlace, NetState, router_at, shape, with
 use Rattle.worm_region.specs.Workable.{IsWorkable, owned}
 use Rattle.worm_region.proofs.OwnEdges.{all_elsewhere}
 use Rattle.worm_region.proofs.EdgeMoves.{left_by}
-use Rattle.worm_region.proofs.Kept.{net_place}
+use Rattle.worm_region.proofs.PlacesThere.{net_place}
 use Rattle.worm_region.proofs.region.Region.let_out.Goals as goal
 use Rattle.worm_region.proofs.region.Region.let_out.Goals.{After-let_out, After-self}
 

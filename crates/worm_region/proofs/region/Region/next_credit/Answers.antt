@@ -6,7 +6,7 @@ use Rattle.worm_region.specs.Replies.{Attempts}
 use Rattle.worm_wires.specs.Arrivals.{LinksView, credits_to}
 use Rattle.worm_wires.proofs.Looking.{none_past, some_before, nothing_out}
 use Rattle.worm_region.proofs.Resting.{credit_still}
-use Rattle.worm_region.proofs.Lines.{links_of}
+use Rattle.worm_region.proofs.LinkedPorts.{links_of}
 use Rattle.worm_region.proofs.region.Region.next_credit.Goals as goal
 
 -- where nothing comes in by a port there is nothing to take there

@@ -6,7 +6,7 @@ use Rattle.worm_region.specs.Replies.{Attempts}
 use Rattle.worm_wires.specs.Arrivals.{LinksView, flits_to}
 use Rattle.worm_wires.proofs.Looking.{none_past, some_before, nothing_in}
 use Rattle.worm_region.proofs.Resting.{flit_still}
-use Rattle.worm_region.proofs.Lines.{links_of}
+use Rattle.worm_region.proofs.LinkedPorts.{links_of}
 use Rattle.worm_region.proofs.region.Region.next_flit.Goals as goal
 
 -- where nothing comes in by a port there is nothing to take there

@@ -4,7 +4,7 @@ use Rattle.worm_region.specs.Shape.{net_shape}
 use Rattle.worm_region.specs.State.{NetState, shape}
 use Rattle.worm_region.specs.Replies.{Replies}
 use Rattle.worm_region.specs.Answers.{accepted_of}
-use Rattle.worm_region.proofs.OfferStep.{offer_answers}
+use Rattle.worm_region.proofs.OfferAgrees.{offer_answers}
 use Rattle.worm_region.proofs.Reaching.{still_workable}
 use Rattle.worm_region.proofs.region.Region.offer.Goals as goal
 

@@ -3,7 +3,7 @@ use Rattle.worm_region.specs.State.{NetState}
 use Rattle.worm_region.specs.Turns.{Chooses}
 use Rattle.worm_region.specs.Workable.{IsWorkable}
 use Rattle.worm_region.proofs.Resting.{none_there}
-use Rattle.worm_region.proofs.StepsAt.{joined_at}
+use Rattle.worm_region.proofs.StaysAtNode.{joined_at}
 use Rattle.worm_region.proofs.region.Region.prepare.Goals as goal
 
 pub returns-then-sends_nothing-clause-prepares : goal.returns-then-sends_nothing-clause-prepares

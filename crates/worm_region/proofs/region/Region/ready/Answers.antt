@@ -3,7 +3,7 @@ use Rattle.worm_router.specs.Router.{IsPlace, leaving}
 use Rattle.worm_theory.specs.Steps.{Send, IsThere}
 use Rattle.worm_region.specs.State.{IsNetPlace, NetState, router_at, shape}
 use Rattle.worm_region.specs.declared.node.Node.{Node}
-use Rattle.worm_region.proofs.Kept.{net_place}
+use Rattle.worm_region.proofs.PlacesThere.{net_place}
 use Rattle.worm_region.proofs.region.Region.ready.Goals as goal
 use Rattle.worm_region.proofs.region.Region.ready.Goals.{After-self}
 

@@ -6,7 +6,7 @@ use Rattle.worm_wires.proofs.Looking.{nothing_in, nothing_out}
 use Rattle.worm_region.specs.State.{NetState, router_at}
 use Rattle.worm_region.specs.Replies.{Attempts}
 use Rattle.worm_region.specs.Turns.{ComesInBy, NodePassesBy}
-use Rattle.worm_region.proofs.Lines.{links_of}
+use Rattle.worm_region.proofs.LinkedPorts.{links_of}
 use Rattle.worm_region.proofs.Resting.{still_rests}
 use Rattle.worm_region.proofs.region.Region.rests.Goals as goal
 

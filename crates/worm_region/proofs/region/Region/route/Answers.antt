@@ -7,9 +7,9 @@ use Rattle.worm_region.specs.State.{NetState, router_at, shape, with_router}
 use Rattle.worm_region.specs.Replies.{Replies}
 use Rattle.worm_region.specs.Answers.{moved_of}
 use Rattle.worm_region.specs.Workable.{IsWorkable}
-use Rattle.worm_region.proofs.GrantStep.{with_router_same}
-use Rattle.worm_region.proofs.Kept.{net_place}
-use Rattle.worm_region.proofs.RouteStep.{route_answers}
+use Rattle.worm_region.proofs.NodeWritten.{with_router_same}
+use Rattle.worm_region.proofs.PlacesThere.{net_place}
+use Rattle.worm_region.proofs.RouteAgrees.{route_answers}
 use Rattle.worm_region.proofs.Reaching.{still_workable}
 use Rattle.worm_region.proofs.region.Region.route.Goals as goal
 use Rattle.worm_region.proofs.region.Region.route.Goals.{After-route}

@@ -10,7 +10,8 @@ use Rattle.worm_region.proofs.region.Region.send_granted.Goals as goal
 pub loop-port-init : goal.loop-port-init
 loop-port-init c =
     let few = c.recall.ensures.framed.radices.few_dims in
-    λ grants _. sent_start c.args.node grants c.args.granted c.args.self.now (omega arith) (does_nothing c.args.self.now)
+    λ grants _. sent_start c.args.node grants c.args.granted c.args.self.now (omega arith)
+    (does_nothing c.args.self.now)
 
 pub send_there-requires-clause-there : goal.send_there-requires-clause-there
 send_there-requires-clause-there c =

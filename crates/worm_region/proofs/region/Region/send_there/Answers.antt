@@ -5,9 +5,9 @@ use Rattle.worm_theory.specs.Steps.{Send, IsThere}
 use Rattle.worm_region.specs.State.{NetState, router_at, shape}
 use Rattle.worm_region.specs.Replies.{Replies}
 use Rattle.worm_region.specs.Workable.{EndsWithin, owned}
-use Rattle.worm_region.proofs.Kept.{net_place}
+use Rattle.worm_region.proofs.PlacesThere.{net_place}
 use Rattle.worm_region.proofs.Reaching.{still_workable}
-use Rattle.worm_region.proofs.SendStep.{send_answers, send_leads}
+use Rattle.worm_region.proofs.SendAgrees.{send_answers, send_leads}
 use Rattle.worm_region.proofs.region.Region.send_there.Goals as goal
 use Rattle.worm_region.proofs.region.Region.send_there.Goals.{After-self}
 

@@ -1,5 +1,5 @@
 use Rattle.std.proofs.Common.{◌≡◌, length, refl, arith}
-use Rattle.worm_split.proofs.Lines.{lines_further, one_queue}
+use Rattle.worm_split.proofs.LinesEmptied.{lines_further, one_queue}
 use Rattle.worm_split.proofs.exchange.Kept.empty_lines.Goals as goal
 
 pub empty_between-requires : goal.empty_between-requires

@@ -1,4 +1,4 @@
-use Rattle.worm_split.proofs.Lines.{LinesSoFar}
+use Rattle.worm_split.proofs.LinesEmptied.{LinesSoFar}
 use Rattle.worm_split.proofs.exchange.Kept.empty_lines.Given as goal
 
 abbrev pub invariant-loop-k : goal.invariant-loop-k

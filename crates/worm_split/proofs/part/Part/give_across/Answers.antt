@@ -5,8 +5,8 @@ use Rattle.worm_region.specs.declared.own.Own.{Own}
 use Rattle.worm_split.specs.Apart.{IsKept}
 use Rattle.worm_split.specs.PartState.{PartState, IsPart, IsSamePart, part_state}
 use Rattle.worm_split.specs.PartTurns.{ComesBy, GivesAcross}
-use Rattle.worm_split.proofs.Going.{into_looked_up, entering_by, owner_elsewhere, may_give, gave_it, owes_still}
-use Rattle.worm_split.proofs.Going.{giving_there}
+use Rattle.worm_split.proofs.GoesByEnd.{into_looked_up, entering_by, owner_elsewhere, may_give, gave_it, owes_still}
+use Rattle.worm_split.proofs.GoesByEnd.{giving_there}
 use Rattle.worm_split.proofs.Pulls.{into_end_bound}
 use Rattle.worm_split.proofs.part.Part.give_across.Goals as goal
 use Rattle.worm_split.proofs.part.Part.give_across.Given as given

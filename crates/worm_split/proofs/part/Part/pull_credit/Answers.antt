@@ -6,7 +6,7 @@ use Rattle.worm_region.specs.declared.own.Own.{Own}
 use Rattle.worm_split.specs.Apart.{IsKept}
 use Rattle.worm_split.specs.PartState.{PartState, IsPart, IsSamePart, part_state}
 use Rattle.worm_split.specs.PartTurns.{CreditComes}
-use Rattle.worm_split.proofs.Coming.{CreditInHand, credit_taken, credit_put, back_is_some}
+use Rattle.worm_split.proofs.ComesByEnd.{CreditInHand, credit_taken, credit_put, back_is_some}
 use Rattle.worm_split.proofs.Pulls.{out_end_bound, beyond_in}
 use Rattle.worm_split.proofs.part.Part.pull_credit.Goals as goal
 
@@ -72,7 +72,8 @@ arrive_credit-requires-clause-channel c = (in_hand c).channel
 put : (c : goal.After-arrive_credit)
     → let i = c.self.inside in
     let p = part_state i.region i.ends.items i.opening.value i.lines.value.items in
-    let new = record p { net = c.arrive_credit.new.self; ends = slice_set p.ends c.from-number.result c.pop_credit.new.end } in
+    let ends = slice_set p.ends c.from-number.result c.pop_credit.new.end in
+    let new = record p { net = c.arrive_credit.new.self; ends = ends } in
     IsPart new × CreditComes c.args.node c.args.port p new × IsSamePart p new
 put c =
     let i = c.self.inside in
@@ -85,7 +86,8 @@ put c =
     c.index_mut.ensures.value
     (c.has_credits.ensures.0 c.if-has_credits.false) c.in-Some-pop_credit.ensures.some in
     credit_put p c.self.invariant.0 framed c.args.node c.args.port c.in-Some.links at c.in-Some-pop_credit.vc
-    c.from-number.result c.pop_credit.new.end c.arrive_credit.new.self c.from-number.ensures hand c.arrive_credit.ensures
+    c.from-number.result c.pop_credit.new.end c.arrive_credit.new.self c.from-number.ensures hand
+    c.arrive_credit.ensures
 
 pub invariant_of-self-2 : goal.invariant_of-self-2
 invariant_of-self-2 c =

@@ -7,7 +7,7 @@ use Rattle.worm_region.specs.declared.own.Own.{Own}
 use Rattle.worm_split.specs.Apart.{IsKept}
 use Rattle.worm_split.specs.PartState.{PartState, IsPart, IsSamePart, part_state}
 use Rattle.worm_split.specs.PartTurns.{LeavesBy, SendsAcross}
-use Rattle.worm_split.proofs.Going.{out_looked_up, ends_elsewhere, may_go, went, stayed}
+use Rattle.worm_split.proofs.GoesByEnd.{out_looked_up, ends_elsewhere, may_go, went, stayed}
 use Rattle.worm_split.proofs.part.Part.send_across.Goals as goal
 use Rattle.worm_split.proofs.part.Part.send_across.Given as given
 

@@ -1,4 +1,4 @@
-use Rattle.std.proofs.Common.{◌≡◌, ◌*◌, vec_len}
+use Rattle.std.proofs.Common.{◌≡◌, vec_len}
 use Rattle.worm_split.specs.Joins.{AreParts}
 use Rattle.worm_split.proofs.tests.turns.take_turns.Given as goal
 

@@ -1,7 +1,6 @@
--- The step Send to a link: what it makes of the functions of places.
+-- A flit that is sent to a link is a change of the functions of places as the theory has it.
 use Rattle.std.proofs.Common.{◌≡◌, ℕ, ◌+◌, ◌-◌, ◌*◌, ◌<◌, ◌≤◌, ◌==◌, true, false, cond, inl, inr, List, [], ◌∷◌, ◌++◌}
-use Rattle.std.proofs.Common.{length, drop, Option, Some, None, is_some, refl, arith, ap, sym, subst, ◌∙◌, Bool}
-use Rattle.std.specs.Prelude.{IsSome}
+use Rattle.std.proofs.Common.{length, drop, Some, None, is_some, refl, arith, ap, sym, subst, ◌∙◌, Bool}
 use Rattle.std.proofs.Math.ListN.{length-set}
 use Rattle.worm_flit.specs.declared.Flit.{Flit}
 use Rattle.worm_flit.specs.Kinds.{closes}
@@ -21,17 +20,14 @@ use Rattle.worm_region.specs.State.{NetState, IsNetPlace, shape, network_of, rou
 use Rattle.worm_wires.specs.Links.{LinkView}
 use Rattle.worm_region.specs.State.{with_link}
 use Rattle.worm_region.specs.Workable.{IsWorkableBy, LeadsOn}
-use Rattle.worm_region.proofs.Bridge.{put2_same, router_bridge, input_of-put, output_of-put}
-use Rattle.worm_region.proofs.Kept.{router_framed}
-use Rattle.worm_region.proofs.LinkBridge.{link_bridge, out_there, credits_there}
+use Rattle.worm_region.proofs.NodeWritten.{put2_same, router_bridge, input_of-put, output_of-put}
+use Rattle.worm_region.proofs.FrameKept.{router_framed}
+use Rattle.worm_region.proofs.LinkWritten.{link_bridge, out_there, credits_there}
 use Rattle.worm_theory.proofs.Places.{bool_cases}
-use Rattle.worm_region.proofs.There.{record_there, holder_there, owed_there, spent_there}
+use Rattle.worm_region.proofs.AsListed.{record_there, holder_there, owed_there, spent_there}
 
 not_same_test : (a b : ℕ) → (a == b) ≡ false → a ≡ b → ⊥
 not_same_test a b e h = grind arith
-
-some_test : {A : Type 0} (o : Option A) → IsSome o → is_some o ≡ true
-some_test o h = h
 
 -- a credit is owed exactly at a port with a neighbour
 pub owes : (s : NetState) (x p a : ℕ) → (router_at s x).mesh ≡ s.mesh → IsPort (shape s) x p

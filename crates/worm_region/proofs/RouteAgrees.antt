@@ -1,4 +1,4 @@
--- The step Route.
+-- A channel is routed just where the theory enables Route, and that makes of the network what Route does.
 use Rattle.std.proofs.Common.{◌≡◌, ℕ, Bool, true, false, ◌&&◌, if◌then◌else◌, List, [], ◌∷◌, Ok, refl, ap, sym, subst}
 use Rattle.std.proofs.Common.{◌∙◌}
 use Rattle.std.proofs.Math.ListN.{length-set}
@@ -16,9 +16,10 @@ use Rattle.worm_region.specs.State.{NetState, IsFramed, IsNetPlace, shape, netwo
 use Rattle.worm_region.specs.Workable.{IsWorkableBy}
 use Rattle.worm_region.specs.Replies.{Replies}
 use Rattle.worm_region.specs.Answers.{moved_of}
-use Rattle.worm_region.proofs.Bridge.{put3_same, input_bridge, input_of-there}
-use Rattle.worm_region.proofs.There.{buffer_there, record_there}
-use Rattle.worm_region.proofs.Kept.{kept, router_framed, net_place}
+use Rattle.worm_region.proofs.NodeWritten.{put3_same, input_bridge, input_of-there}
+use Rattle.worm_region.proofs.AsListed.{buffer_there, record_there}
+use Rattle.worm_region.proofs.FrameKept.{kept, router_framed}
+use Rattle.worm_region.proofs.PlacesThere.{net_place}
 
 -- only the record of an input channel is changed
 pub state_bridge : (s : NetState) (x p v : ℕ) (st : InRecord) → IsFramed s → IsNetPlace s x p v
@@ -93,7 +94,7 @@ route_idle s x p v place (Waiting o) fs e f can h =
 route_idle s x p v place (Active o c) fs e f can h =
     let there = record_there s x p v place in let idle = h.0 in absurd (cc)
 
--- what Net::route leaves and answers
+-- what a route that is tried leaves and answers
 pub route_answers : (s : NetState) (x p v : ℕ) → {own : ℕ → Bool} → IsWorkableBy own s →
     IsThere (shape s) (Route x p v) → (done : Bool) → done ≡ can_route (router_at s x) p v
     → IsWorkableBy own (if done then with_router s x (after_route (router_at s x) p v) else s) ×

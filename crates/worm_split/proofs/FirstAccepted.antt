@@ -1,7 +1,6 @@
 -- What a source does of what it is asked: it accepts the first entries, and where it refuses one, that one is the next.
 use Rattle.std.proofs.Common.{◌≡◌, ℕ, ◌+◌, ◌<◌, ◌≤◌, true, false, ◌⊎◌, inl, inr, List, [], ◌∷◌, ◌++◌, length, map}
-use Rattle.std.proofs.Common.{Option, Some, None, Ok, Err, refl, arith, sym, ap, subst, ◌∙◌}
-use Rattle.std.proofs.Common.{nat_le, nat_lt, ◌&&◌}
+use Rattle.std.proofs.Common.{Option, Some, None, Ok, Err, refl, arith, sym, ap, subst, ◌∙◌, nat_le, nat_lt, ◌&&◌}
 use Rattle.std.specs.Prelude.{All, IsSome, Result, slice_index}
 use Rattle.std.proofs.lemmas.List.Elements.{All-head, All-tail}
 use Rattle.worm_flit.specs.declared.Lane.{Lane}

@@ -1,9 +1,8 @@
--- The step Grant.
+-- A channel is granted just where the theory enables Grant, and that makes of the network what Grant does.
 use Rattle.std.proofs.Common.{◌≡◌, ℕ, ◌*◌, ◌<◌, ◌≤◌, Bool, true, false, ◌&&◌, if◌then◌else◌, List, [], ◌∷◌, length}
 use Rattle.std.proofs.Common.{sum, Ok, Option, Some, None, is_some, refl, arith, ap, sym, subst, ◌∙◌}
 use Rattle.std.specs.Prelude.{is_none}
 use Rattle.std.proofs.Math.ListN.{length-set}
-use Rattle.std.proofs.lemmas.List.{set-get_or}
 use Rattle.worm_flit.specs.declared.Flit.{Flit}
 use Rattle.worm_flit.specs.Channels.{owns}
 use Rattle.worm_records.specs.declared.InRecord.{InRecord}
@@ -15,17 +14,16 @@ use Rattle.worm_theory.specs.Shape.{Owns}
 use Rattle.worm_theory.specs.Network.{put3}
 use Rattle.worm_theory.specs.Steps.{Grant, IsThere, Enabled, FrontIs, IsWaitingAt, after, granted}
 use Rattle.worm_region.specs.Shape.{net_shape}
-use Rattle.worm_region.specs.declared.node.Node.{Node}
 use Rattle.worm_region.specs.State.{NetState, IsFramed, IsNetPlace, shape, network_of, router_at, with_router}
-use Rattle.worm_region.specs.State.{fresh_node}
 use Rattle.worm_region.specs.Workable.{IsWorkableBy, LeadsOn}
 use Rattle.worm_region.specs.Replies.{Replies}
 use Rattle.worm_region.specs.Answers.{moved_of}
-use Rattle.worm_region.proofs.Bridge.{put3_same, router_bridge, input_of-there, input_of-put, output_of-there}
-use Rattle.worm_region.proofs.Bridge.{output_of-put}
+use Rattle.worm_region.proofs.NodeWritten.{put3_same, router_bridge, input_of-there, input_of-put, output_of-there}
+use Rattle.worm_region.proofs.NodeWritten.{output_of-put, with_router_same}
 use Rattle.worm_flit.proofs.Owners.{owner-from_owns, owns-from_owner}
-use Rattle.worm_region.proofs.Kept.{kept, router_framed, net_place, port_below}
-use Rattle.worm_region.proofs.There.{buffer_there, record_there, holder_there}
+use Rattle.worm_region.proofs.FrameKept.{kept, router_framed}
+use Rattle.worm_region.proofs.PlacesThere.{net_place, port_below}
+use Rattle.worm_region.proofs.AsListed.{buffer_there, record_there, holder_there}
 
 -- what waits, waits for a port that is there
 waits_for : (s : NetState) (x p v o : ℕ) → {own : ℕ → Bool} → IsWorkableBy own s → x < length s.nodes →
@@ -193,13 +191,7 @@ grant_idle s x p v k framed place k_in (Waiting q) (g ∷ rest) e f can h =
     (router_at s x).channels g.lane.class k then Some q else None) ≡ None = can in
     absurd (cc)
 
--- a node written back as it was
-pub with_router_same : (s : NetState) (x : ℕ) → x < length s.nodes → with_router s x (router_at s x) ≡ s
-with_router_same s x there =
-    ap (λ (nodes : List Node). record s { nodes = nodes })
-    (set-get_or s.nodes x (fresh_node s.mesh s.channels s.depth x))
-
--- what Net::grant leaves and answers
+-- what a grant that is tried leaves and answers
 grant_answers_by : (s : NetState) (x p v k : ℕ) → {own : ℕ → Bool} → IsWorkableBy own s →
     IsThere (shape s) (Grant x p v k) → (o : Option ℕ) → can_grant (router_at s x) p v k ≡ o
     → IsWorkableBy own (with_router s x (after_granting (router_at s x) p v k o)) ×

@@ -1,4 +1,4 @@
--- The step Send.
+-- A flit is sent just where the theory enables Send and its way is free, and that makes of the network what Send does.
 use Rattle.std.proofs.Common.{◌≡◌, ℕ, ◌*◌, ◌<◌, ◌≤◌, ◌==◌, nat_lt, Bool, true, false, ◌&&◌, ◌||◌}
 use Rattle.std.proofs.Common.{if◌then◌else◌, ◌⊎◌, inl, inr, List, [], ◌∷◌, ◌++◌, length, sum, Ok, Err, Option}
 use Rattle.std.proofs.Common.{Some, None, refl, arith, ap, sym, subst, ◌∙◌}
@@ -9,9 +9,7 @@ use Rattle.worm_flit.specs.Stamps.{with_channel}
 use Rattle.worm_mesh.specs.Address.{neighbour_of, node_count}
 use Rattle.worm_records.specs.declared.InRecord.{InRecord}
 use Rattle.worm_records.specs.declared.InRecord.TheVariants.{Idle, Waiting, Active}
-use Rattle.worm_router.specs.Router.{width, terminal, input_at, output_at}
-use Rattle.worm_router.specs.Router.{leaving, leaving_by}
-use Rattle.worm_router.specs.Router.{after_leaving}
+use Rattle.worm_router.specs.Router.{width, terminal, input_at, output_at, leaving, leaving_by, after_leaving}
 use Rattle.worm_theory.specs.Network.{Network}
 use Rattle.worm_theory.specs.Steps.{Step, Send, IsPort, IsThere, IsActiveAt, MaySend, Enabled, after, sent, sent_by}
 use Rattle.worm_theory.proofs.Places.{bool_cases}
@@ -26,13 +24,14 @@ use Rattle.worm_region.specs.Workable.{EndsWithin, IsWorkableBy}
 use Rattle.worm_region.specs.Replies.{Hindered, IsMade, Replies}
 use Rattle.worm_region.specs.Answers.{Grows}
 use Rattle.worm_region.specs.Moves.{done_step, link_out, after_ready, after_sending, HasWay, LeavesByLink, Sends}
-use Rattle.worm_region.proofs.LinkBridge.{link_framed, below_not_same}
+use Rattle.worm_region.proofs.LinkWritten.{link_framed, below_not_same}
 use Rattle.worm_region.proofs.Room.{link_room}
-use Rattle.worm_region.proofs.There.{buffer_there, record_there, owed_there, spent_there}
-use Rattle.worm_region.proofs.Kept.{kept, framed_mesh, node_framed, node_of, router_framed, net_place}
-use Rattle.worm_region.proofs.Ends.{leader}
-use Rattle.worm_region.proofs.SendBridge.{active_leads, sent_to_link}
-use Rattle.worm_region.proofs.SinkBridge.{delivered_bridge}
+use Rattle.worm_region.proofs.AsListed.{buffer_there, record_there, owed_there, spent_there}
+use Rattle.worm_region.proofs.FrameKept.{kept, framed_mesh, node_framed, node_of, router_framed}
+use Rattle.worm_region.proofs.PlacesThere.{net_place}
+use Rattle.worm_region.proofs.LinksThere.{leader}
+use Rattle.worm_region.proofs.SentToLink.{active_leads, sent_to_link}
+use Rattle.worm_region.proofs.SentToSink.{delivered_bridge}
 
 -- where the front of an active channel goes: into the sink, or over a link
 pub data Way (s : NetState) (x o : ℕ) : Type 0 where
@@ -293,7 +292,7 @@ module _ (s : NetState) (x p v o c : ℕ) (f : Flit) (rest : List Flit) {own : �
       may_leave s x p v o c ≡ true → LeavesByLink s x leaves
   leads_off inner test = by_link_of inner goes.way test
 
--- what Net::send leaves and answers
+-- what a send that is tried leaves and answers
 
 stood : (s : NetState) (step : Step) (new : NetState) → Stands s step new → (Hindered s step → ⊥) →
     new ≡ done_step s step → IsMade s step new

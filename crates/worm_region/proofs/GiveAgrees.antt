@@ -1,16 +1,14 @@
--- The step GiveCredit.
-use Rattle.std.proofs.Common.{◌≡◌, ℕ, ◌+◌, ◌-◌, ◌<◌, ◌≤◌, ◌==◌, cond, Bool, true, false, if◌then◌else◌, inl, inr, List}
+-- A node gives a credit just where the theory enables GiveCredit, and that makes of the network what GiveCredit does.
+use Rattle.std.proofs.Common.{◌≡◌, ℕ, ◌+◌, ◌-◌, ◌<◌, ◌≤◌, ◌==◌, Bool, true, false, if◌then◌else◌, inl, inr, List}
 use Rattle.std.proofs.Common.{[], ◌∷◌, ◌++◌, length, sum, Ok, Option, Some, None, refl, arith, ap, sym, ◌∙◌}
 use Rattle.std.specs.Prelude.{All, IsSome}
 use Rattle.std.specs.List.{count_by}
 use Rattle.std.proofs.Math.ListN.{length-set}
-use Rattle.std.proofs.lemmas.List.Elements.{All-head, All-tail}
 use Rattle.worm_mesh.specs.Address.{neighbour_of, opposite_of}
-use Rattle.worm_mesh.specs.Links.{sum_below, links_before}
+use Rattle.worm_mesh.specs.Links.{links_before}
 use Rattle.worm_router.specs.Router.{ChannelState, input_at, after_gave}
 use Rattle.worm_theory.specs.Network.{Network, put2, put3}
 use Rattle.worm_theory.specs.Steps.{GiveCredit, IsThere, Enabled, after, gave, gave_to}
-use Rattle.worm_theory.proofs.Credit.{count-cons}
 use Rattle.worm_region.specs.Shape.{net_shape}
 use Rattle.worm_region.specs.State.{NetState, IsFramed, IsNetPlace, shape, network_of, router_at, with_router}
 use Rattle.worm_wires.specs.Links.{LinkView}
@@ -20,12 +18,13 @@ use Rattle.worm_region.specs.Replies.{Replies}
 use Rattle.worm_region.specs.Answers.{moved_of}
 use Rattle.worm_region.specs.Moves.{done_step, link_into, can_give, after_giving}
 use Rattle.worm_wires.specs.Wiring.{into_from}
-use Rattle.worm_region.proofs.Bridge.{put2_same, put3_same, input_bridge, input_of-there, below_cases}
-use Rattle.worm_region.proofs.LinkBridge.{link_bridge, link_framed, out_there, credits_there}
-use Rattle.worm_region.proofs.There.{owed_there}
-use Rattle.worm_region.proofs.Room.{one_of, sum_none, sum_add, sum_same, bounded_less}
-use Rattle.worm_region.proofs.Kept.{kept, router_framed, framed_mesh, net_place}
-use Rattle.worm_region.proofs.Ends.{feeder}
+use Rattle.worm_region.proofs.NodeWritten.{put2_same, put3_same, input_bridge, input_of-there, below_cases}
+use Rattle.worm_region.proofs.LinkWritten.{link_bridge, link_framed, out_there, credits_there}
+use Rattle.worm_region.proofs.AsListed.{owed_there}
+use Rattle.worm_region.proofs.Room.{bounded_less, credits_counted}
+use Rattle.worm_region.proofs.FrameKept.{kept, router_framed, framed_mesh}
+use Rattle.worm_region.proofs.PlacesThere.{net_place}
+use Rattle.worm_region.proofs.LinksThere.{feeder}
 use Rattle.worm_region.proofs.Turning.{owing}
 
 -- only what an input channel owes is changed
@@ -58,19 +57,6 @@ owed_bridge s x p v framed place =
     } in
     input_bridge s x p v (record c { owed = c.owed - 1 }) place.node_in place.place
     (framed.each_node x place.node_in).all_inputs ∙ same
-
--- the credits of each channel below n are all credits
-pub credits_counted : (n : ℕ) (cs : List ℕ) → All (λ c. c < n) cs →
-    sum_below (λ v. count_by (λ k. v == k) cs) n ≡ length cs
-credits_counted n [] all = sum_none n
-credits_counted n (c ∷ cs) all =
-    let rest = credits_counted n cs (All-tail (λ (d : ℕ). d < n) c cs all) in
-    let one = one_of n c (All-head (λ (d : ℕ). d < n) c cs all) in
-    let split =
-    sum_same (λ v. count_by (λ k. v == k) (c ∷ cs)) (λ v. cond (v == c) 1 0 + count_by (λ k. v == k) cs) n
-    (λ v. count-cons v c cs) in
-    let two = sum_add (λ v. cond (v == c) 1 0) (λ v. count_by (λ k. v == k) cs) n in
-    split ∙ (two ∙ omega arith)
 
 -- a link has room for a credit that is owed
 credit_room : (s : NetState) (x p v y : ℕ) → {own : ℕ → Bool} → IsWorkableBy own s → (own y ≡ true) × (own x ≡ true) →

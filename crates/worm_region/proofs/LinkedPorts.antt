@@ -1,4 +1,4 @@
--- What the links say of a port that is looked up there, in the words of the whole network.
+-- A port that has a link, of those looked up, is a port of a node of the network that has a neighbour.
 use Rattle.std.proofs.Common.{◌≡◌, ℕ, ◌<◌, List, inl, inr, subst, sym}
 use Rattle.std.specs.Prelude.{IsSome}
 use Rattle.std.proofs.lemmas.Bool.{cases_lt}
@@ -6,11 +6,15 @@ use Rattle.worm_mesh.specs.Address.{neighbour_of, node_count}
 use Rattle.worm_mesh.proofs.Neighbours.{no_node}
 use Rattle.worm_wires.specs.Arrivals.{LinksView}
 use Rattle.worm_region.specs.State.{NetState}
-use Rattle.worm_region.proofs.There.{not_found}
+use Rattle.std.proofs.Common.{None}
 
 -- the mesh, and what is on its links
 abbrev pub links_of : NetState → LinksView
 links_of s = record { mesh = s.mesh; states = s.links }
+
+-- a number that was looked for and is not there
+pub not_found : IsSome {T = ℕ} None → ⊥
+not_found some = absurd (cc)
 
 -- a port with a neighbour is a node's
 of_node : (mesh : List ℕ) (x p : ℕ) → IsSome (neighbour_of mesh x p) → x < node_count mesh

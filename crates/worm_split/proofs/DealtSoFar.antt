@@ -22,7 +22,7 @@ use Rattle.worm_split.specs.Splits.{AreSeats, IsFirstPart, IsOpened, IsSeat, IsS
 use Rattle.worm_split.proofs.Dealing.{AreEmpty, IsDealt, credits_own, dealt_on, ends_own, flits_own, lengths_own}
 use Rattle.worm_split.proofs.Dealing.{node_other, node_own, opened_deals, rooms_own}
 use Rattle.worm_split.proofs.FirstPart.{IsDealtPart, first_begins, first_is_part, first_works, node_mine}
-use Rattle.worm_split.proofs.Items.{each_push}
+use Rattle.worm_split.proofs.MadeSoFar.{each_push}
 
 -- what is dealt, what is yet to deal, and the parts so far
 pub record DealSoFar (O : NetState) (W : ℕ) (lines : List Line) (w : ℕ) (kept : Kept) (seats : List Seat)

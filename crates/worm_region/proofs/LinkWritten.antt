@@ -1,4 +1,4 @@
--- What a write of one link makes of the functions of places.
+-- A link that is written is a change at one place of the theory's functions, and of no other.
 use Rattle.std.proofs.Common.{◌≡◌, ℕ, ◌*◌, ◌<◌, true, false, cond, ◌==◌, inl, inr, length, refl, arith, ap, ◌∙◌}
 use Rattle.std.proofs.Math.ListN.{length-set}
 use Rattle.std.proofs.lemmas.List.{get_or-set_other, get_or-set_same}
@@ -45,7 +45,7 @@ link_of-put s x o l framed there y q =
           rw (none, away) refl
     ]
 
--- THE BRIDGE for links
+-- the fact for links
 pub link_bridge : (s : NetState) (x o : ℕ) (l : LinkView) → IsFramed s → has_neighbour s.mesh x o ≡ true
     → network_of (with_link s (links_before s.mesh x o) l) ≡ record (network_of s) {
       out = put2 (network_of s).out x o l.flits;

@@ -1,10 +1,9 @@
--- What the theory's functions are at a place that is there.
-use Rattle.std.proofs.Common.{◌≡◌, ℕ, ◌<◌, None, ap}
-use Rattle.std.specs.Prelude.{IsSome}
+-- At a place that is there, each of the theory's functions is what the node's lists have.
+use Rattle.std.proofs.Common.{◌≡◌, ℕ, ◌<◌, ap}
 use Rattle.worm_records.specs.declared.OutRecord.{OutRecord}
 use Rattle.worm_router.specs.Router.{ChannelState, width, input_at, output_at}
 use Rattle.worm_region.specs.State.{NetState, IsNetPlace, network_of, router_at}
-use Rattle.worm_region.proofs.Bridge.{input_of-there, output_of-there}
+use Rattle.worm_region.proofs.NodeWritten.{input_of-there, output_of-there}
 
 pub buffer_there : (s : NetState) (x p v : ℕ) → IsNetPlace s x p v
     → (network_of s).buffer x p v ≡ (input_at (router_at s x) p v).buffer
@@ -32,7 +31,3 @@ pub spent_there : (s : NetState) (x o c : ℕ) → c < width (router_at s x)
     → (network_of s).credits x o c ≡ (output_at (router_at s x) o c).credits
 unfolding network_of
 spent_there s x o c within = ap (λ (u : OutRecord). u.credits) (output_of-there (router_at s x) o c within)
-
--- a number that was looked for and is not there
-pub not_found : IsSome {T = ℕ} None → ⊥
-not_found some = absurd (cc)

@@ -15,9 +15,8 @@ use Rattle.worm_theory.specs.Shape.{Shape, IsMesh, Enters, at_source, by_link}
 use Rattle.worm_theory.specs.Network.{Network}
 use Rattle.worm_theory.specs.Worm.{worm_after, lane_at}
 use Rattle.worm_theory.specs.Steps.{Step, Offer, CloseLane, Feed, Route, Grant, Send, Take, GiveCredit, TakeCredit}
-use Rattle.worm_theory.specs.Steps.{FrontIs, IsWaitingAt, IsActiveAt, IsPort, IsThere, MaySend, Enabled, after}
-use Rattle.worm_theory.specs.Steps.{offered, fed, next_number, routed, granted, sent, sent_by, taken, taken_from, gave}
-use Rattle.worm_theory.specs.Steps.{got}
+use Rattle.worm_theory.specs.Steps.{FrontIs, IsWaitingAt, IsActiveAt, IsPort, IsThere, MaySend, Enabled, after, offered}
+use Rattle.worm_theory.specs.Steps.{fed, next_number, routed, granted, sent, sent_by, taken, taken_from, gave, got}
 use Rattle.worm_theory.specs.Sound.{Sound, Agrees, InBuffer, Leaves, IsFrom, Passes}
 use Rattle.worm_theory.proofs.Credit.{give_entries, get_entries}
 use Rattle.worm_theory.proofs.Packets.{packet-all}

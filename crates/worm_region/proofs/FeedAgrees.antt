@@ -1,4 +1,4 @@
--- The step Feed.
+-- A node feeds just where the theory enables Feed, and that makes of the network what Feed does.
 use Rattle.std.proofs.Common.{◌≡◌, ℕ, ◌+◌, ◌*◌, ◌<◌, ◌==◌, Bool, true, false, if◌then◌else◌, inl, inr, List, [], ◌∷◌}
 use Rattle.std.proofs.Common.{◌++◌, length, drop, sum, Ok, Option, Some, None, refl, arith, ap, sym, subst, ◌∙◌}
 use Rattle.std.specs.Prelude.{All, option_map}
@@ -20,11 +20,11 @@ use Rattle.worm_region.specs.Workable.{IsWorkableBy, IsBound}
 use Rattle.worm_region.specs.Replies.{Replies}
 use Rattle.worm_region.specs.Answers.{moved_of}
 use Rattle.worm_region.specs.Moves.{done_step, FrontFits, has_room, can_enter, fed_node}
-use Rattle.worm_region.proofs.Bridge.{put2_same, put3_same, node_bridge, itself3, input_of-put, input_of-there}
-use Rattle.worm_region.proofs.Bridge.{below_cases}
-use Rattle.worm_region.proofs.There.{buffer_there}
-use Rattle.worm_region.proofs.Kept.{kept, framed_mesh, node_framed}
-use Rattle.worm_region.proofs.Ends.{next_of, end_of}
+use Rattle.worm_region.proofs.NodeWritten.{put2_same, put3_same, node_bridge, itself3, input_of-put, input_of-there}
+use Rattle.worm_region.proofs.NodeWritten.{below_cases}
+use Rattle.worm_region.proofs.AsListed.{buffer_there}
+use Rattle.worm_region.proofs.FrameKept.{kept, framed_mesh, node_framed}
+use Rattle.worm_region.proofs.ListFronts.{next_of, end_of}
 use Rattle.worm_region.proofs.Sources.{queue_after, fed_source, within_fed}
 use Rattle.worm_mesh.specs.Address.{node_count}
 

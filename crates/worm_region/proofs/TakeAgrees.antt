@@ -1,4 +1,4 @@
--- The step Take.
+-- A node takes a flit just where the theory enables Take, and that makes of the network what Take does.
 use Rattle.std.proofs.Common.{◌≡◌, ℕ, ◌*◌, ◌<◌, ◌≤◌, Bool, true, false, if◌then◌else◌, inl, inr, List, [], ◌∷◌, ◌++◌}
 use Rattle.std.proofs.Common.{length, drop, sum, Ok, Option, Some, None, refl, arith, ap, sym, subst, ◌∙◌}
 use Rattle.std.specs.Prelude.{All, IsSome, slice_get}
@@ -20,11 +20,12 @@ use Rattle.worm_region.specs.Answers.{moved_of}
 use Rattle.worm_region.specs.Moves.{done_step, link_into, front_into, FrontFits, has_room, can_enter}
 use Rattle.worm_wires.specs.Wiring.{into_from}
 use Rattle.worm_region.specs.Moves.{after_take}
-use Rattle.worm_region.proofs.Ends.{feeder, first_of, none_of}
-use Rattle.worm_region.proofs.Bridge.{put2_same, put3_same, input_bridge, input_of-there, below_cases}
-use Rattle.worm_region.proofs.LinkBridge.{link_bridge, link_framed, out_there, credits_there}
-use Rattle.worm_region.proofs.Kept.{kept, router_framed}
-use Rattle.worm_region.proofs.There.{buffer_there}
+use Rattle.worm_region.proofs.LinksThere.{feeder}
+use Rattle.worm_region.proofs.ListFronts.{first_of, none_of}
+use Rattle.worm_region.proofs.NodeWritten.{put2_same, put3_same, input_bridge, input_of-there, below_cases}
+use Rattle.worm_region.proofs.LinkWritten.{link_bridge, link_framed, out_there, credits_there}
+use Rattle.worm_region.proofs.FrameKept.{kept, router_framed}
+use Rattle.worm_region.proofs.AsListed.{buffer_there}
 
 -- the buffer alone is changed
 buffer_bridge : (s : NetState) (x p : ℕ) (f : Flit) → IsFramed s → IsNetPlace s x p f.vc
@@ -182,7 +183,7 @@ take_idle s x p y net x_in e (Some f) first can h =
       | inr h ↦ let ge = h.1 in let d = node.same_depth in absurd (omega arith)
     ]
 
--- what Net::take leaves and answers, for the link k
+-- what a take that is tried leaves and answers, for the link k
 Outcome : (ℕ → Bool) → NetState → ℕ → ℕ → ℕ → Option Flit → Bool → Type 0
 Outcome own s x p k o b =
     IsWorkableBy own (if b then after_take s x p k o else s) ×

@@ -1,4 +1,5 @@
--- The steps Offer and CloseLane.
+-- A source accepts a packet or a mark just where the theory enables Offer or CloseLane, and that makes of the network
+-- what those do.
 use Rattle.std.proofs.Common.{◌≡◌, ℕ, ◌+◌, ◌*◌, ◌<◌, ◌≤◌, ◌==◌, nat_le, nat_lt, ◌&&◌, Bool, true, false, inl, inr}
 use Rattle.std.proofs.Common.{List, [], ◌∷◌, ◌++◌, length, drop, Ok, Err, Option, Some, None, refl, arith, ap, sym}
 use Rattle.std.proofs.Common.{subst, ◌∙◌}
@@ -35,8 +36,8 @@ use Rattle.worm_region.specs.Workable.{IsWorkableBy}
 use Rattle.worm_region.specs.Moves.{done_step}
 use Rattle.worm_region.specs.Replies.{Hindered, Replies}
 use Rattle.worm_region.specs.Answers.{accepted_of, refusal_of, Grows}
-use Rattle.worm_region.proofs.Bridge.{put2_same, put3_same, node_bridge, itself3, below_cases}
-use Rattle.worm_region.proofs.Kept.{kept, node_framed}
+use Rattle.worm_region.proofs.NodeWritten.{put2_same, put3_same, node_bridge, itself3, below_cases}
+use Rattle.worm_region.proofs.FrameKept.{kept, node_framed}
 use Rattle.worm_region.proofs.Sources.{counted_packets, queue_grown, within_grown, none_refused, refuses_none}
 use Rattle.worm_region.proofs.Sources.{refusal_named}
 

@@ -1,7 +1,6 @@
--- Send to the sink: what it makes of the functions of places.
-use Rattle.std.proofs.Common.{◌≡◌, ℕ, ◌+◌, ◌-◌, ◌*◌, ◌<◌, ◌≤◌, ◌==◌, cond, Bool, true}
-use Rattle.std.proofs.Common.{List, [], ◌∷◌, ◌++◌, length, drop}
-use Rattle.std.proofs.Common.{Some, None, is_some, refl, arith, ap, sym, ◌∙◌}
+-- A flit that is sent to the sink is a change of the functions of places as the theory has it.
+use Rattle.std.proofs.Common.{◌≡◌, ℕ, ◌+◌, ◌-◌, ◌*◌, ◌<◌, ◌≤◌, ◌==◌, cond, Bool, true, List, [], ◌∷◌, ◌++◌, length}
+use Rattle.std.proofs.Common.{drop, Some, None, is_some, refl, arith, ap, sym, ◌∙◌}
 use Rattle.worm_flit.specs.declared.Flit.{Flit}
 use Rattle.worm_flit.specs.Kinds.{closes}
 use Rattle.worm_flit.specs.Stamps.{with_channel}
@@ -9,8 +8,7 @@ use Rattle.worm_mesh.specs.Address.{neighbour_of}
 use Rattle.worm_records.specs.declared.InRecord.TheVariants.{Idle, Active}
 use Rattle.worm_records.specs.declared.OutRecord.{OutRecord}
 use Rattle.worm_router.specs.Router.{ChannelState, RouterState, IsPlace, width, terminal, input_at, output_at}
-use Rattle.worm_router.specs.Router.{with_input, with_output, let_out, passed, credit_of}
-use Rattle.worm_router.specs.Router.{after_leaving}
+use Rattle.worm_router.specs.Router.{with_input, with_output, let_out, passed, credit_of, after_leaving}
 use Rattle.worm_term.specs.Source.{queue_at}
 use Rattle.worm_theory.specs.Network.{put2, put3}
 use Rattle.worm_theory.specs.Steps.{IsPort, sent_by}
@@ -19,9 +17,9 @@ use Rattle.worm_region.specs.declared.node.Node.{Node}
 use Rattle.worm_region.specs.State.{NetState, IsNetPlace, shape, network_of, node_at, router_at}
 use Rattle.worm_region.specs.State.{sink_at, source_at, with_node}
 use Rattle.worm_region.specs.Workable.{IsWorkableBy}
-use Rattle.worm_region.proofs.Bridge.{put2_same, node_bridge, itself2, input_of-put, output_of-put}
-use Rattle.worm_region.proofs.There.{record_there, holder_there, owed_there, spent_there}
-use Rattle.worm_region.proofs.SendBridge.{active_leads, owes, spends}
+use Rattle.worm_region.proofs.NodeWritten.{put2_same, node_bridge, itself2, input_of-put, output_of-put}
+use Rattle.worm_region.proofs.AsListed.{record_there, holder_there, owed_there, spent_there}
+use Rattle.worm_region.proofs.SentToLink.{active_leads, owes, spends}
 
 pub delivered_bridge : (s : NetState) (x p v o c : ℕ) (f : Flit) (rest : List Flit) → {own : ℕ → Bool} →
     IsWorkableBy own s → IsNetPlace s x p v → IsPort (shape s) x p → o ≡ 2 * length s.mesh → c < width (router_at s x)

@@ -1,7 +1,6 @@
 -- What goes by a part's end: a flit over a link that leaves its nodes, a credit over one that enters them.
-use Rattle.std.proofs.Common.{◌≡◌, ℕ, ◌<◌, ◌≤◌, ◌==◌, ◌&&◌, ◌||◌, true, false, inl, inr}
-use Rattle.std.proofs.Common.{List, [], ◌∷◌, ◌++◌, length, sum, get_or, Option, Some, None, refl, arith, sym, ap, subst}
-use Rattle.std.proofs.Common.{◌∙◌}
+use Rattle.std.proofs.Common.{◌≡◌, ℕ, ◌<◌, ◌≤◌, ◌==◌, ◌&&◌, ◌||◌, true, false, inl, inr, List, [], ◌∷◌, ◌++◌, length}
+use Rattle.std.proofs.Common.{sum, get_or, Option, Some, None, refl, arith, sym, ap, subst, ◌∙◌}
 use Rattle.std.specs.Prelude.{slice_set, nat_lt}
 use Rattle.std.proofs.lemmas.List.{get_or_default, set-get_or}
 use Rattle.worm_flit.specs.declared.Flit.{Flit}
@@ -25,8 +24,8 @@ use Rattle.worm_region.specs.Edges.{LetsOut, LetsGive}
 use Rattle.worm_wires.specs.Wiring.{port_links}
 use Rattle.worm_region.specs.Workable.{owned, EndsElsewhere}
 use Rattle.worm_wires.specs.declared.wiring.PortLinks.{PortLinks}
-use Rattle.worm_region.proofs.Kept.{net_place}
-use Rattle.worm_region.proofs.There.{buffer_there, record_there}
+use Rattle.worm_region.proofs.PlacesThere.{net_place}
+use Rattle.worm_region.proofs.AsListed.{buffer_there, record_there}
 use Rattle.worm_parts.specs.Openings.{past_of}
 use Rattle.worm_parts.proofs.Regions.{push_part}
 use Rattle.worm_split.specs.declared.ends.End.{End}
@@ -38,7 +37,7 @@ use Rattle.worm_split.proofs.Crossing.{leaves_cross}
 use Rattle.worm_split.proofs.EndFacts.{IsLeavingEnd, IsEnteringEnd}
 use Rattle.worm_split.proofs.PartFacts.{mesh_of_part, part_shape, is_leaving, is_entering}
 use Rattle.worm_split.proofs.PartMoves.{flit_goes, credit_goes}
-use Rattle.worm_split.proofs.Coming.{linked_then, back_then}
+use Rattle.worm_split.proofs.ComesByEnd.{linked_then, back_then}
 use Rattle.worm_split.proofs.Pulls.{linked, out_is, into_is, out_end_bound, into_end_bound, out_end, into_end}
 
 -- A flit that is ready: the front of a channel that is active.

@@ -1,4 +1,4 @@
--- What a write of one node's router makes of the functions of places.
+-- A node that is written is a change at one place of each of the theory's functions, and of no other.
 use Rattle.std.proofs.Common.{◌≡◌, ℕ, ◌*◌, ◌<◌, ◌≤◌, Bool, true, false, cond, nat_lt, ◌==◌, ◌⊎◌, inl, inr, List, length}
 use Rattle.std.proofs.Common.{drop, refl, arith, ap, sym, ◌∙◌}
 use Rattle.std.proofs.lemmas.List.{get_or-set_other}
@@ -14,8 +14,9 @@ use Rattle.worm_theory.specs.Network.{same, put2, put3}
 use Rattle.worm_theory.proofs.Places.{bool_cases, number_cases, place_cases, place3_cases, same-false}
 use Rattle.worm_theory.proofs.Bridge.{get_or-set, same_network}
 use Rattle.worm_region.specs.declared.node.Node.{Node}
-use Rattle.worm_region.specs.State.{NetState, network_of, node_at, router_at, source_at, sink_at, with_node, with_router}
-use Rattle.worm_region.specs.State.{fresh_node, input_of, output_of, link_of}
+use Rattle.worm_region.specs.State.{NetState, network_of, node_at, router_at, source_at, sink_at, with_node}
+use Rattle.worm_region.specs.State.{with_router, fresh_node, input_of, output_of, link_of}
+use Rattle.std.proofs.lemmas.List.{set-get_or}
 
 pub below_cases : (a b : ℕ) → ((nat_lt a b ≡ true) × (a < b)) ⊎ ((nat_lt a b ≡ false) × (b ≤ a))
 below_cases a b = grind arith
@@ -194,7 +195,7 @@ sink-put s x n there y q =
           rw away.0 (ap (λ (m : Node). cond (q == 2 * length s.mesh) m.sink.delivered (link_of s y q).flits) at)
     ]
 
--- THE BRIDGE for nodes: a node with one input channel, one output channel, one queue and its sink changed is a change
+-- For nodes: a node with one input channel, one output channel, one queue and its sink changed is a change
 -- at one place of each function that reads nodes.
 pub node_bridge : (s : NetState) (x p v o k j : ℕ) (n : Node) (c : ChannelState) (u : OutRecord) (a : QueueState)
     → x < length s.nodes
@@ -226,7 +227,7 @@ node_bridge s x p v o k j n c u a there ins outs queues = same_network _ _ recor
   unfed = queue-put (λ (a : QueueState). drop a.fed a.injected) s x j n a there queues;
 }
 
--- THE BRIDGE for routers: a router with one input channel and one output channel changed is a change at one place of
+-- For routers: a router with one input channel and one output channel changed is a change at one place of
 -- each of the six functions that read routers.
 pub router_bridge : (s : NetState) (x p v o k : ℕ) (r : RouterState) (c : ChannelState) (u : OutRecord)
     → x < length s.nodes
@@ -326,3 +327,9 @@ output_bridge s x o k u there place all =
       unfed = λ y j. node_kept (λ (n : Node). drop (queue_at n.source j).fed (queue_at n.source j).injected) s x n there
           refl y;
     }
+
+-- a node written back as it was
+pub with_router_same : (s : NetState) (x : ℕ) → x < length s.nodes → with_router s x (router_at s x) ≡ s
+with_router_same s x there =
+    ap (λ (nodes : List Node). record s { nodes = nodes })
+    (set-get_or s.nodes x (fresh_node s.mesh s.channels s.depth x))

@@ -1,26 +1,22 @@
--- What a step leaves of a network: its frame, and with the theory its soundness.
-use Rattle.std.proofs.Common.{◌≡◌, ℕ, ◌*◌, ◌<◌, ◌≤◌, inl, inr, List, length, refl, arith, sym, subst, ◌∙◌, Bool}
-use Rattle.std.specs.Prelude.{IsSome, Option, Some, None}
+-- A node that is written leaves the lists their shape, and a step of the theory leaves what the moves need.
+use Rattle.std.proofs.Common.{◌≡◌, ℕ, ◌<◌, inl, inr, List, length, refl, sym, subst, ◌∙◌, Bool}
 use Rattle.std.proofs.Math.ListN.{length-set}
-use Rattle.worm_mesh.specs.Address.{neighbour_of}
-use Rattle.worm_mesh.proofs.Digits.{AreLarge, AreLarge-from_radices}
 use Rattle.worm_flit.specs.declared.Flit.{Flit}
 use Rattle.worm_records.specs.declared.OutRecord.{OutRecord}
 use Rattle.worm_router.specs.Router.{ChannelState}
 use Rattle.worm_theory.specs.Shape.{IsMesh}
 use Rattle.worm_theory.specs.Network.{Network}
-use Rattle.worm_theory.specs.Steps.{Step, IsThere, IsPort, Enabled, after}
+use Rattle.worm_theory.specs.Steps.{Step, IsThere, Enabled, after}
 use Rattle.worm_theory.proofs.Places.{number_cases}
 use Rattle.worm_region.specs.Shape.{net_shape}
 use Rattle.worm_region.specs.declared.node.Node.{Node}
-use Rattle.worm_region.specs.State.{NetState, IsFramed, IsNodeOf, IsNetPlace, shape, network_of, node_at}
+use Rattle.worm_region.specs.State.{NetState, IsFramed, IsNodeOf, shape, network_of, node_at}
 use Rattle.worm_wires.specs.Links.{LinkView}
 use Rattle.worm_region.specs.State.{router_at, with_node, with_router}
 use Rattle.worm_region.specs.Workable.{IsWorkableBy, Works}
-use Rattle.worm_region.proofs.Bridge.{node_at-put}
-use Rattle.worm_region.proofs.Working.{step_works}
+use Rattle.worm_region.proofs.NodeWritten.{node_at-put}
+use Rattle.worm_region.proofs.StaysWorking.{step_works}
 use Rattle.worm_shape.proofs.Shapes.{shape_is_mesh}
-use Rattle.worm_mesh.proofs.Neighbours.{Joins-from}
 
 -- a framed network's shape is what the theory asks for
 pub framed_mesh : (s : NetState) → IsFramed s → IsMesh (shape s)
@@ -97,35 +93,3 @@ router_framed s x ins outs framed there same_ins same_outs =
     there
     (node_of s.mesh s.channels s.depth x (node_at s x) ins outs (node_at s x).sink.delivered
     (framed.each_node x there) same_ins same_outs)
-
--- a port with a neighbour is below the terminal
-pub linked_port : (ks : List ℕ) (x p : ℕ) → AreLarge ks → (o : Option ℕ) → neighbour_of ks x p ≡ o → IsSome o →
-    p < 2 * length ks
-linked_port ks x p l None e some = absurd (cc)
-linked_port ks x p l (Some y) e some = (Joins-from ks x p y l e).mesh_port
-
--- a port of the theory is one of the router
-pub port_below : (s : NetState) (x p : ℕ) → IsFramed s → IsPort (shape s) x p → p ≤ 2 * length s.mesh
-unfolding net_shape
-port_below s x p framed port =
-    let l = AreLarge-from_radices s.mesh framed.radices.radices in
-    elim port [
-      | inl e ↦ let same : p ≡ 2 * length s.mesh = e in omega arith
-      | inr some ↦
-          let below : p < 2 * length s.mesh = linked_port s.mesh x p l (neighbour_of s.mesh x p) refl some in
-          omega arith
-    ]
-
--- a place of the theory is a place of the router
-pub net_place : (s : NetState) (x p v : ℕ) → IsFramed s → x < (shape s).nodes → IsPort (shape s) x p →
-    v < (shape s).channels → IsNetPlace s x p v
-unfolding net_shape
-net_place s x p v framed x_in port v_in =
-    let all = framed.all_nodes in
-    let there : x < length s.nodes = omega arith in
-    let node = framed.each_node x there in
-    let port_in : p ≤ 2 * length s.mesh = port_below s x p framed port in
-    record {
-      node_in = there;
-      place = record { port_in = rw node.same_mesh port_in; channel_in = rw node.same_channels v_in };
-    }

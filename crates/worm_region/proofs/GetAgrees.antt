@@ -1,4 +1,4 @@
--- The step TakeCredit.
+-- A node takes a credit just where the theory enables TakeCredit, and that makes of the network what TakeCredit does.
 use Rattle.std.proofs.Common.{◌≡◌, ℕ, ◌+◌, ◌*◌, ◌<◌, ◌≤◌, ◌==◌, Bool, true, false, if◌then◌else◌, inl, inr, List, []}
 use Rattle.std.proofs.Common.{◌∷◌, length, drop, sum, Ok, Option, Some, None, refl, arith, ap, sym, subst, ◌∙◌}
 use Rattle.std.specs.Prelude.{All, IsSome}
@@ -17,11 +17,12 @@ use Rattle.worm_region.specs.Workable.{IsWorkableBy}
 use Rattle.worm_region.specs.Replies.{Replies}
 use Rattle.worm_region.specs.Answers.{moved_of}
 use Rattle.worm_region.specs.Moves.{done_step, link_out, front_credit, CreditFits, can_get, after_getting}
-use Rattle.worm_region.proofs.Bridge.{put2_same, put3_same, output_bridge}
-use Rattle.worm_region.proofs.LinkBridge.{link_bridge, link_framed, out_there, credits_there}
-use Rattle.worm_region.proofs.There.{holder_there, spent_there}
-use Rattle.worm_region.proofs.Kept.{kept, router_framed}
-use Rattle.worm_region.proofs.Ends.{leader, first_of, none_of}
+use Rattle.worm_region.proofs.NodeWritten.{put2_same, put3_same, output_bridge}
+use Rattle.worm_region.proofs.LinkWritten.{link_bridge, link_framed, out_there, credits_there}
+use Rattle.worm_region.proofs.AsListed.{holder_there, spent_there}
+use Rattle.worm_region.proofs.FrameKept.{kept, router_framed}
+use Rattle.worm_region.proofs.LinksThere.{leader}
+use Rattle.worm_region.proofs.ListFronts.{first_of, none_of}
 
 -- only the credits of an output channel are changed
 credit_bridge : (s : NetState) (x o c : ℕ) → IsFramed s → IsNetPlace s x o c
