@@ -12,6 +12,7 @@ pub record IsLeftBy (had now : ChannelState) : Type 0 where
   pub active : is_active now ≡ is_active had
   pub owing : owes now ≡ owes had
   pub state : now.state ≡ had.state
+  pub owed : now.owed ≡ had.owed
 
 pub put_leaves : (had now : ChannelState) (f : Flit) (put : Result (Unit {0}) Flit) → OnOk put (now ≡ put_in had f)
     → IfErr put (λ g. (g ≡ f) × (now ≡ had)) → IsLeftBy had now
@@ -20,12 +21,14 @@ put_leaves had now f (Ok u) is err = record {
   active = ap is_active is;
   owing = ap owes is;
   state = ap (λ (c : ChannelState). c.state) is;
+  owed = ap (λ (c : ChannelState). c.owed) is;
 }
 put_leaves had now f (Err g) ok is = record {
   waiting = ap is_waiting is.1;
   active = ap is_active is.1;
   owing = ap owes is.1;
   state = ap (λ (c : ChannelState). c.state) is.1;
+  owed = ap (λ (c : ChannelState). c.owed) is.1;
 }
 
 -- behind others

@@ -1,6 +1,6 @@
 -- What filing one channel leaves of the sets of busy channels.
 use Rattle.std.proofs.Common.{ℕ, ◌+◌, ◌*◌, ◌≤◌, ◌<◌, ◌≡◌, List, length, slice_set, slice_index_or, replicate, Bool, ◌⊎◌}
-use Rattle.std.proofs.Common.{true, false, arith, inl, inr, refl, sym, ap, subst, ◌∙◌}
+use Rattle.std.proofs.Common.{true, false, None, arith, inl, inr, refl, sym, ap, subst, ◌∙◌}
 use Rattle.std.proofs.lemmas.Grind.{get_or-set_at}
 use Rattle.std.proofs.lemmas.Bool.{cases_eq}
 use Rattle.std.proofs.lemmas.Nat.{same_from_place, mul-add-lt}
@@ -130,7 +130,7 @@ set_fresh test t w depth count inputs none all counted = record {
 
 pub fresh_busy : (t w depth count : ℕ) (inputs : List ChannelState) (sets : BusyChannels) → t ≤ 6 → w ≤ 8
     → inputs ≡ replicate count (fresh_channel depth) → count ≡ (t + 1) * w
-    → sets ≡ record { occupied = 0; active = 0; owing = 0; ready = 0 }
+    → sets ≡ record { occupied = 0; active = 0; owing = 0; ready = replicate 7 (replicate 8 None) }
     → AreBusy t w depth inputs sets
 fresh_busy t w depth count inputs sets few_ports few_channels all counted none = rw none record {
   few_ports = few_ports;

@@ -1,26 +1,24 @@
 -- A pass of the switch allocator in which no channel may send grants nothing and moves no arbiter.
-use Rattle.std.proofs.Common.{◌≡◌, ℕ, ◌≤◌, true, false, cond, List, [], Option, None, Some, is_some, replicate}
-use Rattle.std.proofs.Common.{slice_index_or, inl, inr, refl, ap, sym, subst, ◌∙◌, arith}
+use Rattle.std.proofs.Common.{◌≡◌, ℕ, ◌≤◌, false, cond, List, [], Option, None, Some, is_some, replicate}
+use Rattle.std.proofs.Common.{slice_index_or, inl, inr, refl, ap, sym, ◌∙◌, arith}
 use Rattle.std.specs.Option.{option_map}
 use Rattle.std.proofs.lemmas.Bool.{cases_lt}
 use Rattle.std.proofs.lemmas.List.{get_or-replicate, length-replicate, get_or_past}
 use Rattle.worm_flit.specs.declared.Flit.{Flit}
 use Rattle.worm_vcalloc.specs.Arbiter.{no_arbiter, after_pick}
 use Rattle.worm_vcalloc.specs.Table.{cell}
-use Rattle.worm_vcalloc.specs.ChannelSet.{has}
-use Rattle.worm_vcalloc.proofs.SetLemmas.{has-zero}
-use Rattle.worm_vcalloc.proofs.TableLemmas.{cell-replicate}
+use Rattle.worm_vcalloc.proofs.TableLemmas.{cell-replicate, IsTable-replicate}
 use Rattle.worm_swalloc.specs.declared.grant.SwGrant.{SwGrant}
 use Rattle.worm_swalloc.specs.Front.{with_front}
-use Rattle.worm_swalloc.specs.SwAlloc.{SwAllocState, IsSwitchMatching, named, all_named, named_channel, request_of}
+use Rattle.worm_swalloc.specs.SwAlloc.{SwAllocState, named, all_named, named_channel, request_of}
 use Rattle.worm_swalloc.specs.SwAlloc.{is_for, granted, if_chosen, sw_grants, sw_after, input_after, output_after}
 use Rattle.worm_swalloc.proofs.FrontLemmas.{with_front_kept, length-with_front}
 use Rattle.worm_router.specs.Router.{RouterState}
-use Rattle.worm_router.specs.Allocation.{ready_at, ready_outs, switch_grants, after_choose}
+use Rattle.worm_router.specs.Allocation.{within, ready_at, ready_outs, switch_grants, after_choose}
 use Rattle.worm_router.specs.Busy.{HasArbiters}
 use Rattle.worm_router.specs.Rest.{SendsNothing}
 use Rattle.worm_router.proofs.NothingWaits.{no_winner}
-use Rattle.worm_router.proofs.SetFilled.{filled_begins, filled_all}
+use Rattle.worm_router.proofs.TableRows.{same_tables, cell_has, IsTable-table}
 
 abbrev none_ready : List (List (Option ℕ))
 none_ready = replicate 7 (replicate 8 None)
@@ -70,12 +68,11 @@ nothing_moves s few has =
 
 pub none_may_send : (r : RouterState) → SendsNothing r → ready_outs r ≡ none_ready
 none_may_send r none =
-    sym (filled_all r (ready_at r) 0 none_ready
-    (filled_begins r (ready_at r) 0
-    (λ p v p_in v_in inside. let no : true ≡ false = sym inside ∙ has-zero p v in absurd (cc))
-    (λ p v place out. ap (λ (o : Option (ℕ × Flit)). option_map (λ leave. leave.0) o)
-    (none p v place.port_in place.channel_in)))
-    refl)
+    same_tables None (ready_outs r) none_ready (IsTable-table (within r None (ready_at r))) (IsTable-replicate None)
+    (λ p v p_in v_in.
+    cell_has (λ o. o ≡ None) r None (ready_at r) p v refl
+    (λ place. ap (λ (o : Option (ℕ × Flit)). option_map (λ leave. leave.0) o) (none p v place.port_in place.channel_in))
+    ∙ sym (cell-replicate 7 8 p v None))
 
 pub idle_grants : (r : RouterState) → r.switch_alloc.ports ≤ 7 → SendsNothing r → switch_grants r ≡ replicate 7 None
 idle_grants r few none = ap (sw_grants r.switch_alloc) (none_may_send r none) ∙ nothing_granted r.switch_alloc few
@@ -95,17 +92,3 @@ arbiters_stay s ready has =
     let ins_has = has.inputs in
     let outs_has = has.outputs in
     record { inputs = omega arith; outputs = omega arith }
-
-pub idle_choice : (r : RouterState) → SendsNothing r → IsSwitchMatching r.switch_alloc (ready_outs r) (replicate 7 None)
-idle_choice r none = subst (λ ready. IsSwitchMatching r.switch_alloc ready (replicate 7 None))
-    (sym (none_may_send r none)) (unmatched r.switch_alloc) where
-      unmatched : (s : SwAllocState) → IsSwitchMatching s none_ready (replicate 7 None)
-      unmatched s = record {
-        requested = λ port g is. let unlike : None ≡ Some g = sym (get_or-replicate_same 7 port None) ∙ is in
-            absurd (cc);
-        once = λ port port' g g' is is' same. let unlike : None ≡ Some g =
-            sym (get_or-replicate_same 7 port None) ∙ is in
-            absurd (cc);
-        complete = λ port g port_in is out_in. let unlike : None ≡ Some g = sym (nothing_named s port) ∙ is in
-            absurd (cc);
-      }

@@ -1,18 +1,20 @@
 -- Where the sets of busy channels show that a router is at rest.
-use Rattle.std.proofs.Common.{◌≡◌, ℕ, ◌&&◌, ◌==◌, true, false, List, [], ◌∷◌, length, not, nat_lt, replicate, None}
-use Rattle.std.proofs.Common.{refl, arith, sym, ◌∙◌, subst}
+use Rattle.std.proofs.Common.{◌≡◌, ℕ, ◌<◌, ◌&&◌, ◌==◌, true, false, List, [], ◌∷◌, length, not, nat_lt, replicate, None}
+use Rattle.std.proofs.Common.{is_some, refl, arith, sym, ◌∙◌, subst}
 use Rattle.std.proofs.lemmas.Bool.Decides.{nat_tests}
 use Rattle.worm_flit.specs.declared.Flit.{Flit}
 use Rattle.worm_records.specs.declared.InRecord.{InRecord}
 use Rattle.worm_records.specs.declared.InRecord.TheVariants.{Idle, Waiting, Active}
+use Rattle.worm_vcalloc.specs.ChannelSet.{has}
+use Rattle.worm_vcalloc.specs.Table.{cell}
 use Rattle.worm_vcalloc.proofs.SetLemmas.{has-empty}
 use Rattle.worm_router.specs.Router.{RouterState, ChannelState, input_at, is_idle, opens_front}
 use Rattle.worm_router.specs.Demand.{DemandView}
 use Rattle.worm_router.specs.Busy.{IsKept, IsSetOf, is_occupied, is_waiting, is_active, owes, waits, holds}
 use Rattle.worm_router.specs.Allocation.{switch_grants, after_choose}
-use Rattle.worm_router.specs.Rest.{OwesNothing}
+use Rattle.worm_router.specs.Rest.{OwesNothing, SendsNothing}
 use Rattle.worm_router.specs.declared.busy.BusyChannels.{BusyChannels}
-use Rattle.worm_router.proofs.ReadySet.{none_ready_of}
+use Rattle.worm_router.proofs.ReadyOuts.{none_ready_of}
 use Rattle.worm_router.proofs.NothingReady.{idle_grants, idle_choose}
 
 -- a channel with a flit that neither waits nor is active is idle; any other has nothing to route
@@ -33,20 +35,22 @@ owes_none r owing is none = λ p v p_in v_in.
     let e : nat_lt 0 (input_at r p v).owed ≡ false = sym (is.inside p v p_in v_in) ∙ has-empty owing p v none in
     grind (arith, nat_tests)
 
-pub chooses_none : (r s : RouterState) (sets : BusyChannels) (asked : DemandView) (masks : List ℕ) → r ≡ s
-    → IsKept r sets asked masks
-    → (sets.ready == 0) ≡ true → after_choose s ≡ s
-chooses_none r s sets asked masks same kept none =
-    let ports = kept.router.allocators.switch_ports in
-    let few = kept.busy.few_ports in
-    subst (λ (q : RouterState). after_choose q ≡ q) same
-    (idle_choose r (omega arith) kept.arbiters (none_ready_of r sets.ready kept.ready none))
+-- a router in which no channel is kept as ready
+pub record IsUnready (r : RouterState) : Type 0 where
+  pub sends : SendsNothing r
+  pub chooses : after_choose r ≡ r
+  pub grants : switch_grants r ≡ replicate 7 None
 
-pub grants_none : (r s : RouterState) (sets : BusyChannels) (asked : DemandView) (masks : List ℕ) → r ≡ s
+pub unready : (r s : RouterState) (sets : BusyChannels) (asked : DemandView) (masks : List ℕ) (keys : ℕ) → r ≡ s
     → IsKept r sets asked masks
-    → (sets.ready == 0) ≡ true → switch_grants s ≡ replicate 7 None
-grants_none r s sets asked masks same kept none =
+    → ((p v : ℕ) → p < 7 → v < 8 → has keys p v ≡ is_some (cell sets.ready p v None)) → (keys == 0) ≡ true
+    → IsUnready s
+unready r s sets asked masks keys same kept members none =
     let ports = kept.router.allocators.switch_ports in
     let few = kept.busy.few_ports in
-    subst (λ (q : RouterState). switch_grants q ≡ replicate 7 None) same
-    (idle_grants r (omega arith) (none_ready_of r sets.ready kept.ready none))
+    let sends = none_ready_of r r sets.ready keys refl few kept.busy.few_channels kept.ready members none in
+    subst IsUnready same (record {
+      sends = sends;
+      chooses = idle_choose r (omega arith) kept.arbiters sends;
+      grants = idle_grants r (omega arith) sends;
+    })

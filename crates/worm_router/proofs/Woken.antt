@@ -1,6 +1,6 @@
 -- Which input channel comes to be ready to send as an output channel has one credit more.
 use Rattle.std.proofs.Common.{◌≡◌, ℕ, ◌+◌, ◌<◌, ◌&&◌, ◌||◌, ◌==◌, Bool, true, false, nat_lt, inl, inr, length}
-use Rattle.std.proofs.Common.{slice_index_or, None, Some, is_some, refl, arith, ap, sym, ◌∙◌, subst}
+use Rattle.std.proofs.Common.{slice_index_or, Option, None, Some, if◌then◌else◌, refl, arith, ap, sym, ◌∙◌, subst}
 use Rattle.std.proofs.lemmas.Grind.{get_or-set_at}
 use Rattle.std.proofs.lemmas.Bool.{cases_eq, cases_Bool, eq-eqb}
 use Rattle.std.proofs.lemmas.Bool.Decides.{nat_tests}
@@ -10,10 +10,11 @@ use Rattle.worm_records.specs.declared.InRecord.{InRecord}
 use Rattle.worm_records.specs.declared.InRecord.TheVariants.{Idle, Waiting, Active}
 use Rattle.worm_records.specs.declared.OutRecord.{OutRecord}
 use Rattle.worm_router.specs.Router.{RouterState, IsRouter, IsPlace, StateFits, terminal, width, line, free_output}
-use Rattle.worm_router.specs.Router.{input_at, output_at, leaving, after_credit}
-use Rattle.worm_router.specs.Busy.{AreHolders, IsHolder, IsWoken, NoneWoken, is_occupied, has_way, is_of}
+use Rattle.worm_router.specs.Router.{input_at, output_at, after_credit}
+use Rattle.worm_router.specs.Allocation.{ready_at}
+use Rattle.worm_router.specs.Busy.{AreHolders, IsHolder, IsWoken, NoneWoken, is_occupied, has_way, is_of, port_held}
 use Rattle.worm_router.proofs.Leaving.{channel_at}
-use Rattle.worm_router.proofs.ReadySet.{ready_parts, ready_out}
+use Rattle.worm_router.proofs.ReadyOuts.{ready_parts, ready_out}
 
 abbrev credited : RouterState → ℕ → ℕ → OutRecord
 credited r out vc = record (output_at r out vc) { credits = (output_at r out vc).credits + 1 }
@@ -21,7 +22,7 @@ credited r out vc = record (output_at r out vc) { credits = (output_at r out vc)
 stays : (r : RouterState) (out vc p v : ℕ) → line r out vc < length r.outputs
     → ((q k : ℕ) → (input_at r p v).state ≡ Active q k → line r q k ≡ line r out vc
     → nat_lt 0 ((output_at r out vc).credits + 1) ≡ nat_lt 0 (output_at r out vc).credits)
-    → is_some (leaving (after_credit r out vc) p v) ≡ is_some (leaving r p v)
+    → ready_at (after_credit r out vc) p v ≡ ready_at r p v
 stays r out vc p v within same = ready_out r (line r out vc) (credited r out vc) p (input_at r p v) within same
 
 -- none, where it has credits
@@ -32,7 +33,7 @@ none_woken r out vc within some = λ p v _. stays r out vc p v within (λ q k _ 
 -- none but its holder
 pub not_woken : (r : RouterState) (out vc p v : ℕ) → line r out vc < length r.outputs → AreHolders r → IsPlace r p v
     → ((output_at r out vc).holder ≡ Some (p, v) → ⊥)
-    → is_some (leaving (after_credit r out vc) p v) ≡ is_some (leaving r p v)
+    → ready_at (after_credit r out vc) p v ≡ ready_at r p v
 not_woken r out vc p v within held place other =
     stays r out vc p v within (λ q k holds at. absurd
     (other (ap (λ j. (slice_index_or r.outputs j (free_output r.depth)).holder) (sym at)
@@ -59,16 +60,18 @@ is_its r q k out vc k_in vc_in at =
     let same = same_from_place q k out vc (width r) k_in vc_in at in
     ap (λ b. b && k == vc) (eq-eqb q out same.0) ∙ eq-eqb k vc same.1
 
-none_of : (x m o : Bool) → (m && o) ≡ false → ((x && m) && o) ≡ false
-none_of true m o e = e
-none_of false m o e = refl
+none_of : (x m o : Bool) (h : Option ℕ) → (m && o) ≡ false → (if o then (if x && m then h else None) else None) ≡ None
+none_of x m false h e = refl
+none_of x true true h e = absurd (cc)
+none_of true false true h e = refl
+none_of false false true h e = refl
 
 -- one that is not due stays as it was
 pub not_due : (r : RouterState) (out vc p v : ℕ) → line r out vc < length r.outputs → IsRouter r → IsPlace r out vc
     → IsPlace r p v
     → ((is_of (input_at r p v).state out vc && (p == terminal r || nat_lt (input_at r p v).owed r.depth)) && is_occupied
     (input_at r p v)) ≡ false
-    → is_some (leaving (after_credit r out vc) p v) ≡ is_some (leaving r p v)
+    → ready_at (after_credit r out vc) p v ≡ ready_at r p v
 not_due r out vc p v within sound there place due = elim (cases_Bool (is_of (input_at r p v).state out vc)) [
   | inl its ↦
       let never : ((p == terminal r || nat_lt (input_at r p v).owed r.depth) && is_occupied (input_at r p v)) ≡ false =
@@ -76,9 +79,10 @@ not_due r out vc p v within sound there place due = elim (cases_Bool (is_of (inp
       its) ∙ due in
       ready_parts (after_credit r out vc) p (input_at r p v) (input_at r p v).state (input_at r p v).buffer
       ∙ none_of (has_way (after_credit r out vc) (input_at r p v).state)
-      (p == terminal r || nat_lt (input_at r p v).owed r.depth) (is_occupied (input_at r p v)) never
+      (p == terminal r || nat_lt (input_at r p v).owed r.depth) (is_occupied (input_at r p v))
+      (port_held (input_at r p v).state) never
       ∙ sym (none_of (has_way r (input_at r p v).state) (p == terminal r || nat_lt (input_at r p v).owed r.depth)
-      (is_occupied (input_at r p v)) never)
+      (is_occupied (input_at r p v)) (port_held (input_at r p v).state) never)
       ∙ sym (ready_parts r p (input_at r p v) (input_at r p v).state (input_at r p v).buffer)
   | inr not ↦ stays r out vc p v within (λ q k holds at.
       let fits : StateFits (terminal r) (width r) (Active q k) =
@@ -92,15 +96,21 @@ either : (b : Bool) → (b || true) ≡ true
 either true = refl
 either false = refl
 
+both_there : (m o : Bool) (h : Option ℕ) → (m && o) ≡ true
+    → (if o then (if true && m then h else None) else None) ≡ h
+both_there true true h e = refl
+both_there true false h e = absurd (cc)
+both_there false o h e = absurd (cc)
+
 all_three : (a b c : Bool) → ((a && b) && c) ≡ true → (a ≡ true) × ((b && c) ≡ true)
 all_three true b c e = (refl, e)
 all_three false b c e = absurd (cc)
 
--- one that is due is ready then
+-- one that is due is ready then, for the output port
 pub due_ready : (r : RouterState) (out vc p v : ℕ) → line r out vc < length r.outputs
     → ((is_of (input_at r p v).state out vc && (p == terminal r || nat_lt (input_at r p v).owed r.depth)) && is_occupied
     (input_at r p v)) ≡ true
-    → is_some (leaving (after_credit r out vc) p v) ≡ true
+    → ready_at (after_credit r out vc) p v ≡ Some out
 due_ready r out vc p v within due =
     let parts = all_three (is_of (input_at r p v).state out vc)
     (p == terminal r || nat_lt (input_at r p v).owed r.depth) (is_occupied (input_at r p v)) due in
@@ -111,8 +121,12 @@ due_ready r out vc p v within due =
     (get_or-set_at r.outputs (line r out vc) (line r out vc) (credited r out vc) (free_output r.depth) refl within)
     ∙ ap (λ b. out == terminal r || b) some ∙ either (out == terminal r) in
     ready_parts (after_credit r out vc) p (input_at r p v) (input_at r p v).state (input_at r p v).buffer
-    ∙ ap (λ b. (b && (p == terminal r || nat_lt (input_at r p v).owed r.depth)) && is_occupied (input_at r p v)) way
-    ∙ parts.1
+    ∙ ap (λ b. if is_occupied (input_at r p v)
+    then (if b && (p == terminal r || nat_lt (input_at r p v).owed r.depth) then port_held (input_at r p v).state
+    else None) else None) way
+    ∙ both_there (p == terminal r || nat_lt (input_at r p v).owed r.depth) (is_occupied (input_at r p v))
+    (port_held (input_at r p v).state) parts.1
+    ∙ ap port_held (its_state (input_at r p v).state out vc parts.0)
 
 -- a holder is there
 pub holder_place : (r : RouterState) (out vc port channel : ℕ) → line r out vc < length r.outputs → AreHolders r
@@ -129,7 +143,7 @@ pub holder_woken : (r : RouterState) (out vc port channel : ℕ) → line r out 
     → ((is_of (input_at r port channel).state out vc &&
     (port == terminal r || nat_lt (input_at r port channel).owed r.depth)) && is_occupied
     (input_at r port channel)) ≡ true
-    → IsWoken r (after_credit r out vc) port channel
+    → IsWoken r (after_credit r out vc) out port channel
 holder_woken r out vc port channel within held is due = record {
   place = holder_place r out vc port channel within held is;
   ready = due_ready r out vc port channel within due;
@@ -148,16 +162,16 @@ pub holder_not_due : (r : RouterState) (out vc port channel : ℕ) → line r ou
 holder_not_due r out vc port channel within sound there held is due = λ p v place. elim (cases_eq p port) [
   | inl a ↦ elim (cases_eq v channel) [
     | inl b ↦
-        ap (λ k. is_some (leaving (after_credit r out vc) k v)) a
-        ∙ ap (λ k. is_some (leaving (after_credit r out vc) port k)) b
+        ap (λ k. ready_at (after_credit r out vc) k v) a
+        ∙ ap (λ k. ready_at (after_credit r out vc) port k) b
         ∙ not_due r out vc port channel within sound there (holder_place r out vc port channel within held is) due
-        ∙ sym (ap (λ k. is_some (leaving r k v)) a ∙ ap (λ k. is_some (leaving r port k)) b)
+        ∙ sym (ap (λ k. ready_at r k v) a ∙ ap (λ k. ready_at r port k) b)
     | inr ne ↦ other p v place (λ same. ne same.1)
   ]
   | inr ne ↦ other p v place (λ same. ne same.0)
 ] where
   other : (p v : ℕ) → IsPlace r p v → (((p ≡ port) × (v ≡ channel)) → ⊥)
-      → is_some (leaving (after_credit r out vc) p v) ≡ is_some (leaving r p v)
+      → ready_at (after_credit r out vc) p v ≡ ready_at r p v
   other p v place ne = not_woken r out vc p v within held place (λ its.
       let both : Some (p, v) ≡ Some (port, channel) = sym its ∙ is in
       let pair : (p, v) ≡ (port, channel) = cc in

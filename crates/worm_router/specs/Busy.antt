@@ -1,16 +1,17 @@
 -- Which input channels have something to do: the sets that a router keeps beside its lists, so that a turn skips all
 -- others.
 use Rattle.std.specs.Prelude.{ℕ, ◌+◌, ◌*◌, ◌<◌, ◌≤◌, ◌≡◌, ◌==◌, ◌&&◌, ◌||◌, nat_lt, Bool, true, false, List, length}
-use Rattle.std.specs.Prelude.{slice_index, slice_index_or, is_some, All, Option, Some, None}
+use Rattle.std.specs.Prelude.{slice_index, slice_index_or, All, Option, Some, None, if◌then◌else◌}
 use Rattle.worm_flit.specs.Channels.{class_bits}
 use Rattle.worm_records.specs.declared.InRecord.{InRecord}
 use Rattle.worm_records.specs.declared.InRecord.TheVariants.{Idle, Waiting, Active}
 use Rattle.worm_vcalloc.specs.ChannelSet.{has}
 use Rattle.worm_swalloc.specs.SwAlloc.{SwAllocState}
+use Rattle.worm_router.specs.Allocation.{ready_at, ready_outs}
 use Rattle.worm_router.specs.Demand.{DemandView, IsDemandOf}
 use Rattle.worm_router.specs.declared.busy.BusyChannels.{BusyChannels}
 use Rattle.worm_router.specs.Router.{ChannelState, RouterState, IsRouter, IsPlace, terminal, width, fresh_channel}
-use Rattle.worm_router.specs.Router.{input_at, output_at, leaving}
+use Rattle.worm_router.specs.Router.{input_at, output_at}
 
 -- an input channel has a flit
 abbrev pub is_occupied : ChannelState → Bool
@@ -73,11 +74,6 @@ pub record AreHolders (r : RouterState) : Type 0 where
       → (output_at r o c).holder ≡ Some (p, v)
   pub fit : All (λ u. IsHolder (terminal r) (width r) u.holder) r.outputs
 
--- a set has the input channels of a router that may send, and no others
-pub record IsReadySet (r : RouterState) (set : ℕ) : Type 0 where
-  pub inside : (port vc : ℕ) → port ≤ terminal r → vc < width r → has set port vc ≡ is_some (leaving r port vc)
-  pub outside : (port vc : ℕ) → port < 7 → vc < 8 → has set port vc ≡ true → (port ≤ terminal r) × (vc < width r)
-
 -- there is a credit for a flit of a channel in this state, at the output channel that it holds
 abbrev pub has_way : RouterState → InRecord → Bool
 has_way r Idle = false
@@ -88,28 +84,31 @@ has_way r (Active o c) = o == terminal r || nat_lt 0 (output_at r o c).credits
 abbrev pub could_send : RouterState → ℕ → InRecord → ℕ → Bool
 could_send r port s owed = has_way r s && (port == terminal r || nat_lt owed r.depth)
 
+-- the output port whose channel an input channel holds
+abbrev pub port_held : InRecord → Option ℕ
+port_held Idle = None
+port_held (Waiting o) = None
+port_held (Active o c) = Some o
+
+-- the output port that a channel of this port could send to, in this state and with so many credits owed
+abbrev pub could_send_to : RouterState → ℕ → InRecord → ℕ → Option ℕ
+could_send_to r port s owed = if could_send r port s owed then port_held s else None
+
 -- it holds this output channel
 abbrev pub is_of : InRecord → ℕ → ℕ → Bool
 is_of Idle out vc = false
 is_of (Waiting o) out vc = false
 is_of (Active o c) out vc = o == out && c == vc
 
--- from one router to the next an input channel comes to be ready, and no other changes in that
-pub record IsWoken (old new : RouterState) (port vc : ℕ) : Type 0 where
+-- from one router to the next an input channel comes to be ready for an output port, and no other changes in that
+pub record IsWoken (old new : RouterState) (out port vc : ℕ) : Type 0 where
   pub place : IsPlace old port vc
-  pub ready : is_some (leaving new port vc) ≡ true
-  pub others : (p v : ℕ) → IsPlace old p v → ((p ≡ port) → (v ≡ vc) → ⊥)
-      → is_some (leaving new p v) ≡ is_some (leaving old p v)
+  pub ready : ready_at new port vc ≡ Some out
+  pub others : (p v : ℕ) → IsPlace old p v → ((p ≡ port) → (v ≡ vc) → ⊥) → ready_at new p v ≡ ready_at old p v
 
 -- none does
 abbrev pub NoneWoken : (old new : RouterState) → Type 0
-NoneWoken old new = (p v : ℕ) → IsPlace old p v → is_some (leaving new p v) ≡ is_some (leaving old p v)
-
--- the output port whose channel an input channel holds
-abbrev pub port_held : InRecord → Option ℕ
-port_held Idle = None
-port_held (Waiting o) = None
-port_held (Active o c) = Some o
+NoneWoken old new = (p v : ℕ) → IsPlace old p v → ready_at new p v ≡ ready_at old p v
 
 -- the channels of each class, as a bit for each
 pub record AreMasks (channels masks : List ℕ) : Type 0 where
@@ -126,7 +125,8 @@ pub record HasArbiters (s : SwAllocState) : Type 0 where
 abbrev pub HasFront : ChannelState → Type 0
 HasFront c = is_waiting c ≡ true → is_occupied c ≡ true
 
--- what a router keeps: what contracts see, and the sets, the requests and the masks of classes beside it
+-- what a router keeps: what contracts see, and the sets, the requests, the ready channels and the masks of classes
+-- beside it
 pub record IsKept (r : RouterState) (sets : BusyChannels) (asked : DemandView) (masks : List ℕ) : Type 0 where
   pub router : IsRouter r
   pub arbiters : HasArbiters r.switch_alloc
@@ -134,5 +134,5 @@ pub record IsKept (r : RouterState) (sets : BusyChannels) (asked : DemandView) (
   pub demand : IsDemandOf r asked
   pub fronts : All HasFront r.inputs
   pub holders : AreHolders r
-  pub ready : IsReadySet r sets.ready
+  pub ready : sets.ready ≡ ready_outs r
   pub classes : AreMasks r.channels masks

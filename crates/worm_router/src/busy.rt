@@ -1,12 +1,15 @@
-ghost use Rattle.std.specs.Prelude.{◌≡◌, ◌<◌, ◌&&◌, ◌||◌, true, false, IfSome, MatchOption};
+ghost use Rattle.std.specs.Prelude.{◌≡◌, ◌<◌, ◌&&◌, ◌||◌, true, false, None, Some, IfSome, MatchOption, replicate};
+ghost use Rattle.std.specs.Prelude.{if◌then◌else◌};
 ghost use Rattle.worm_vcalloc.specs.ChannelSet.{has, IsPut};
+ghost use Rattle.worm_vcalloc.specs.Table.{with_cell};
 ghost use Rattle.worm_router.specs.Busy.{IsFiled, is_occupied, is_active, owes};
 
 use crate::channel::InputChannel;
+use worm_swalloc::ReadyOuts;
 use worm_vcalloc::ChannelSet;
 
 /// Which input channels have something to do, so that a turn skips all others.
-#[derive(Clone, Copy)]
+#[derive(Drop)]
 pub struct BusyChannels {
     /// Those that have a flit.
     pub occupied: ChannelSet,
@@ -14,8 +17,8 @@ pub struct BusyChannels {
     pub active: ChannelSet,
     /// Those that owe a credit.
     pub owing: ChannelSet,
-    /// Those that may send.
-    pub ready: ChannelSet,
+    /// Those that may send, each with the output port that it would send to.
+    pub ready: ReadyOuts,
 }
 
 /// Takes a channel out of a set that it is in, unless it stays.
@@ -48,23 +51,24 @@ impl BusyChannels {
           occupied = 0;
           active = 0;
           owing = 0;
-          ready = 0;
+          ready = replicate 7 (replicate 8 None);
         } }
     {
         BusyChannels {
             occupied: ChannelSet::new(),
             active: ChannelSet::new(),
             owing: ChannelSet::new(),
-            ready: ChannelSet::new(),
+            ready: ReadyOuts::new(),
         }
     }
 
-    /// Files a channel whose buffer was empty until a flit came; `sends` where it can send what flits it has.
-    pub fn file_first(&mut self, port: u8, vc: u8, channel: &InputChannel, sends: bool)
+    /// Files a channel whose buffer was empty until a flit came; `out` is the output port that it could send to.
+    pub fn file_first(&mut self, port: u8, vc: u8, channel: &InputChannel, out: Option<u8>)
         requires port { port < 7 }
         requires vc { vc < 8 }
         ensures occupied { IsPut self.old.occupied self.new.occupied port vc (is_occupied channel.now) }
-        ensures ready { IsPut self.old.ready self.new.ready port vc (sends && is_occupied channel.now) }
+        ensures ready { self.new.ready ≡ with_cell self.old.ready port vc
+            (if is_occupied channel.now then out else None) }
         ensures others { self.new ≡ record self.old {
           occupied = self.new.occupied;
           ready = self.new.ready;
@@ -72,24 +76,24 @@ impl BusyChannels {
     {
         let has_flit = channel.is_occupied();
         self.occupied.put(port, vc, has_flit);
-        self.ready.put(port, vc, sends && has_flit);
+        let sends_to = if has_flit { out } else { None };
+        self.ready.set(port, vc, sends_to);
     }
 
-    /// Files a channel that was granted an output channel; `sends` where it may send now.
-    pub fn file_active(&mut self, port: u8, vc: u8, sends: bool)
+    /// Files a channel that was granted an output channel; `sends_to` is the output port that it may send to now.
+    pub fn file_active(&mut self, port: u8, vc: u8, sends_to: Option<u8>)
         requires port { port < 7 }
         requires vc { vc < 8 }
         ensures active { IsPut self.old.active self.new.active port vc true }
-        ensures ready { IsPut self.old.ready self.new.ready port vc sends }
+        ensures ready { self.new.ready ≡ with_cell self.old.ready port vc sends_to }
         ensures others { self.new ≡ record self.old { active = self.new.active; ready = self.new.ready } }
     {
         self.active.put(port, vc, true);
-        self.ready.put(port, vc, sends);
+        self.ready.set(port, vc, sends_to);
     }
 
-    /// Files a channel that let a flit out by the output channel that it held; `follows` where a next flit has its
-    /// credits.
-    pub fn file_left(&mut self, port: u8, vc: u8, channel: &InputChannel, follows: bool)
+    /// Files a channel that let a flit out by the output port `out`; `follows` where a next flit has its credits.
+    pub fn file_left(&mut self, port: u8, vc: u8, channel: &InputChannel, out: u8, follows: bool)
         requires port { port < 7 }
         requires vc { vc < 8 }
         requires held { has self.old.active port vc ≡ true }
@@ -97,40 +101,44 @@ impl BusyChannels {
         ensures occupied { IsFiled self.old.occupied self.new.occupied port vc (is_occupied channel.now) }
         ensures active { IsFiled self.old.active self.new.active port vc (is_active channel.now) }
         ensures owing { IsFiled self.old.owing self.new.owing port vc (owes channel.now) }
-        ensures ready { IsFiled self.old.ready self.new.ready port vc
-            ((is_active channel.now && is_occupied channel.now) && follows) }
+        ensures ready { self.new.ready ≡ with_cell self.old.ready port vc
+            (if (is_active channel.now && is_occupied channel.now) && follows then Some out else None) }
     {
         let has_more = channel.is_occupied();
         let holds = channel.is_active();
         self.occupied.put(port, vc, has_more);
-        self.ready.put(port, vc, holds && has_more && follows);
+        let sends_to = (holds && has_more && follows).then_some(out);
+        self.ready.set(port, vc, sends_to);
         leave_unless(&mut self.active, port, vc, holds);
         join_if(&mut self.owing, port, vc, channel.owed() > 0);
     }
 
-    /// Files a channel whose credit, one that it owed, has gone out; `woken` where it could not send while it owed
-    /// that.
-    pub fn file_given(&mut self, port: u8, vc: u8, channel: &InputChannel, woken: bool)
+    /// Files a channel whose credit, one that it owed, has gone out; `woken` is the output port that it could not send
+    /// to while it owed that, if it may now.
+    pub fn file_given(&mut self, port: u8, vc: u8, channel: &InputChannel, woken: Option<u8>)
         requires port { port < 7 }
         requires vc { vc < 8 }
         requires owed { has self.old.owing port vc ≡ true }
         ensures owing { IsFiled self.old.owing self.new.owing port vc (owes channel.now) }
-        ensures ready { IsFiled self.old.ready self.new.ready port vc (woken || has self.old.ready port vc) }
+        ensures ready { MatchOption woken (self.new.ready ≡ self.old.ready)
+            (λ out. self.new.ready ≡ with_cell self.old.ready port vc (Some out)) }
         ensures others { self.new ≡ record self.old { owing = self.new.owing; ready = self.new.ready } }
     {
         leave_unless(&mut self.owing, port, vc, channel.owed() > 0);
-        join_if(&mut self.ready, port, vc, woken);
+        if woken.is_some() {
+            self.ready.set(port, vc, woken);
+        }
     }
 
-    /// Files that a credit has come for which this channel waited, if any did.
-    pub fn file_credit(&mut self, woken: Option<(u8, u8)>)
+    /// Files that a credit of the output port `out` has come for which this channel waited, if any did.
+    pub fn file_credit(&mut self, woken: Option<(u8, u8)>, out: u8)
         requires { IfSome woken (λ place. (place.0 < 7) × (place.1 < 8)) }
         ensures ready { MatchOption woken (self.new.ready ≡ self.old.ready)
-            (λ place. IsPut self.old.ready self.new.ready place.0 place.1 true) }
+            (λ place. self.new.ready ≡ with_cell self.old.ready place.0 place.1 (Some out)) }
         ensures others { self.new ≡ record self.old { ready = self.new.ready } }
     {
         if let Some((port, vc)) = woken {
-            self.ready.put(port, vc, true);
+            self.ready.set(port, vc, Some(out));
         }
     }
 }

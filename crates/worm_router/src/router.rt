@@ -12,7 +12,6 @@ ghost use Rattle.worm_router.specs.Busy.{IsSetOf, AreMasks, is_occupied, is_wait
 mod allocation;
 mod readiness;
 mod rest;
-mod switching;
 
 use crate::busy::BusyChannels;
 use crate::channel::InputChannel;
@@ -294,11 +293,15 @@ impl Router {
     {
         let i = self.line(port, flit.vc);
         let was_empty = !self.inputs[i].is_occupied();
-        let sends = was_empty && self.sends_what_comes(port, flit.vc);
+        let out = if was_empty {
+            self.sends_what_comes_to(port, flit.vc)
+        } else {
+            None
+        };
         let channel = &mut self.inputs[i];
         let put = channel.put(flit);
         if was_empty {
-            self.busy.file_first(port, flit.vc, channel, sends);
+            self.busy.file_first(port, flit.vc, channel, out);
         }
         put
     }
@@ -358,10 +361,10 @@ impl Router {
     {
         let i = self.line(port, vc);
         let o = self.line(out, out_vc);
-        let sends = self.sends_by(port, vc, out, out_vc);
+        let sends_to = self.sends_by(port, vc, out, out_vc);
         let channel = &mut self.inputs[i];
         channel.set_state(InRecord::Active { out, out_vc });
-        self.busy.file_active(port, vc, sends);
+        self.busy.file_active(port, vc, sends_to);
         self.demand.meet(port, vc, out, out_vc);
         let output = &mut self.outputs[o];
         output.grant(port, vc);
@@ -391,7 +394,7 @@ impl Router {
         ensures leaves { result ≡ leaving self.now port vc }
         ensures room { IfSome result (MayLeave self.now port vc) }
     {
-        if !self.busy.ready.contains(port, vc) {
+        if !self.busy.ready.keys().contains(port, vc) {
             return None;
         }
         let channel = &self.inputs[self.line(port, vc)];
@@ -431,7 +434,7 @@ impl Router {
         let output = &mut self.outputs[o];
         pass(output, flit, spent);
         let follows = may_follow(channel.owed(), more_owed, output.credits, spent, self.depth);
-        self.busy.file_left(port, vc, channel, follows);
+        self.busy.file_left(port, vc, channel, out, follows);
         self.demand.release_if(is_closing(flit.kind), out, flit.vc);
     }
 
@@ -457,7 +460,11 @@ impl Router {
     {
         let i = self.line(port, vc);
         let owes_all = self.inputs[i].owed() == self.depth;
-        let woken = owes_all && self.waits_to_owe_less(port, vc);
+        let woken = if owes_all {
+            self.waits_to_owe_less(port, vc)
+        } else {
+            None
+        };
         let channel = &mut self.inputs[i];
         channel.give();
         self.busy.file_given(port, vc, channel, woken);
@@ -479,7 +486,7 @@ impl Router {
         let woken = self.waits_for_credit(out_port, vc);
         let output = &mut self.outputs[o];
         output.add_credit(depth);
-        self.busy.file_credit(woken);
+        self.busy.file_credit(woken, out_port);
         Ok(())
     }
 }

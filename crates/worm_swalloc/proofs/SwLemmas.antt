@@ -37,13 +37,14 @@ winner_of_lines a width lines asks wide low same =
     winner_same a (line_requests lines) asks (omega arith) (λ i l. same i (omega arith))
 
 -- the channel that an input arbiter names, from the lines that the code gathers
-pub named_is : (s : SwAllocState) (ready : List (List (Option ℕ))) (port lines : ℕ) (w : Option ℕ)
-    → IsSwAlloc s.ports s.channels s.inputs s.outputs → port < s.ports
+pub named_is : (s : SwAllocState) (ready : List (List (Option ℕ))) (port lines : ℕ) (d : ArbiterState) (w : Option ℕ)
+    → IsSwAlloc s.ports s.channels s.inputs s.outputs → port < s.ports → port < length s.inputs
     → ((line : ℕ) → line < s.channels → line_requests lines line ≡ is_some (cell ready port line None))
-    → w ≡ winner (slice_index_or s.inputs port no_arbiter) (line_requests lines) → w ≡ named_channel s ready port
-named_is s ready port lines w r lp same e =
+    → w ≡ winner (slice_index_or s.inputs port d) (line_requests lines) → w ≡ named_channel s ready port
+named_is s ready port lines d w r lp within same e =
     let few = r.few_ports in
-    e ∙ winner_of_lines (slice_index_or s.inputs port no_arbiter) s.channels lines
+    e ∙ ap (λ a. winner a (line_requests lines)) (get_or_default s.inputs port d no_arbiter within)
+    ∙ winner_of_lines (slice_index_or s.inputs port no_arbiter) s.channels lines
     (λ vc. is_some (cell ready port vc None)) (r.input_width port (omega arith))
     (r.input_pointer port (omega arith)) same
 

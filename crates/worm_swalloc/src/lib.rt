@@ -19,5 +19,4 @@ mod named;
 mod sw_alloc;
 
 pub use grant::{ReadyOuts, SwGrant, SwGrants};
-pub use named::Named;
 pub use sw_alloc::SwAlloc;

@@ -8,14 +8,8 @@ use worm_vcalloc::ChannelSet;
 /// What the input ports name in the first half of a pass: each a ready channel of its own, with its output port. Beside
 /// the list it keeps the input ports filed by the output port that they ask for, so that the second half goes past all
 /// others.
-///
-/// ```text
-/// let mut named = Named::new();
-/// if let Some(vc) = alloc.name(port, ready_lines) { named.put(port, SwGrant { vc, out }); }
-/// let grants = alloc.grant_named(&named);
-/// ```
 #[derive(Drop)]
-pub struct Named {
+pub(crate) struct Named {
     /// By input port.
     requests: [Option<SwGrant>; 7],
     /// The input ports that ask for each output port: a channel stands for an input port here.
@@ -36,7 +30,7 @@ impl Model for Named {
 
 impl Named {
     /// No input port names anything.
-    pub fn new() -> Named
+    pub(crate) fn new() -> Named
         ensures { result ≡ replicate 7 None }
     {
         Named {
@@ -47,7 +41,7 @@ impl Named {
 
     /// An input port that has named nothing names this. A request for an output port past the seventh is kept and never
     /// met.
-    pub fn put(&mut self, port: u8, request: SwGrant)
+    pub(crate) fn put(&mut self, port: u8, request: SwGrant)
         requires port { port < 7 }
         requires none { slice_index_or self.old port None ≡ None }
         ensures { self.new ≡ slice_set self.old port (Some request) }
@@ -59,7 +53,7 @@ impl Named {
     }
 
     /// What an input port names, if anything.
-    pub fn get(&self, port: u8) -> Option<SwGrant>
+    pub(crate) fn get(&self, port: u8) -> Option<SwGrant>
         requires { port < 7 }
         ensures { result ≡ slice_index_or self.now port None }
     {

@@ -4,7 +4,7 @@ ghost use Rattle.worm_vcalloc.specs.Arbiter.{no_arbiter, line_requests, winner, 
 ghost use Rattle.worm_vcalloc.specs.Table.{cell};
 ghost use Rattle.worm_swalloc.specs.Front.{with_front};
 ghost use Rattle.worm_swalloc.specs.SwAlloc.{SwAllocState, IsSwAlloc, IsSwitchMatching, AreChannelsBelow};
-ghost use Rattle.worm_swalloc.specs.SwAlloc.{named, all_named, sole_named, is_for, channel_of, chosen};
+ghost use Rattle.worm_swalloc.specs.SwAlloc.{named, all_named, is_for, channel_of, chosen};
 ghost use Rattle.worm_swalloc.specs.SwAlloc.{granted, sw_grants, sw_after, output_after, after_grant, with_choice};
 ghost use Rattle.worm_swalloc.specs.SwAlloc.{with_move};
 
@@ -65,14 +65,6 @@ impl SwAlloc {
         }
     }
 
-    /// What holds of every allocator, for whoever has one.
-    pub fn recall(&self)
-        ensures { IsSwAlloc self.now.ports self.now.channels self.now.inputs self.now.outputs }
-    {
-        // For the proof: it opens what holds of an allocator.
-        let _ports = self.ports;
-    }
-
     /// One pass over the ready channels: at most one grant for each input port and for each output
     /// port.
     pub fn grant(&mut self, ready: &ReadyOuts) -> SwGrants
@@ -123,25 +115,13 @@ impl SwAlloc {
         ensures { result ≡ named self.now ready.now port }
     {
         let lines = ready_lines(ready, port, self.channels);
-        let vc = self.name(port, lines)?;
+        let vc = self.inputs[port as usize].peek(lines)?;
         ready.get(port, vc).map(|out| SwGrant { vc, out })
-    }
-
-    /// The channel that an input port names among its ready ones, bit `vc` of `lines` for each: the first at its
-    /// arbiter's pointer or after it, cyclically. The pointer stays.
-    pub fn name(&self, port: u8, lines: u64) -> Option<u8>
-        requires port { port < self.now.ports }
-        requires lines { lines < 2 ^ self.now.channels }
-        ensures named { result ≡ winner (slice_index_or self.now.inputs port no_arbiter) (line_requests lines) }
-        ensures within { IfSome result (λ vc. vc < self.now.channels) }
-        ensures sound { IsSwAlloc self.now.ports self.now.channels self.now.inputs self.now.outputs }
-    {
-        self.inputs[port as usize].peek(lines)
     }
 
     /// The second half of a pass: the arbiter of each output port that is asked for chooses among the input ports that
     /// ask for it. It moves, and so does that of the chosen input port, past the channel that it named.
-    pub fn grant_named(&mut self, named: &Named) -> SwGrants
+    fn grant_named(&mut self, named: &Named) -> SwGrants
         requires { AreChannelsBelow self.old.channels named.now }
         ensures grants { result ≡ with_front self.old.ports (granted self.old named.now self.old.ports)
             (replicate 7 None) }
@@ -158,30 +138,6 @@ impl SwAlloc {
             if out < ports {
                 self.choose_for(out, askers.row(out, ports), named, &mut grants);
             }
-        }
-        grants
-    }
-
-    /// The second half of a pass in which one input port alone may name anything: it has no rival, so what it names is
-    /// granted.
-    pub fn grant_sole(&mut self, port: u8, request: Option<SwGrant>) -> SwGrants
-        requires port { port < self.old.ports }
-        requires channel { IfSome request (λ g. g.vc < self.old.channels) }
-        ensures grants { result ≡ with_front self.old.ports (granted self.old (sole_named port request) self.old.ports)
-            (replicate 7 None) }
-        ensures after { self.new ≡ record self.old {
-          inputs = with_front self.old.ports (after_grant self.old result) self.old.inputs;
-          outputs = with_front self.old.ports (output_after self.old (sole_named port request)) self.old.outputs;
-        } }
-    {
-        let ports = self.ports;
-        let mut grants = SwGrants::new();
-        let Some(grant) = request else {
-            return grants;
-        };
-        if grant.out < ports {
-            self.outputs[grant.out as usize].move_past(port);
-            self.commit(port, request, &mut grants);
         }
         grants
     }
@@ -258,16 +214,13 @@ mod tests {
 
     // Ports 0 and 2 both ask for output port 1, and port 1 for output port 0.
     #[test]
-    fn what_is_named_is_granted_once_for_each_output_port(rt: HostRuntime) {
+    fn each_output_port_is_granted_once(rt: HostRuntime) {
         let mut alloc = SwAlloc::new(3, 2);
-        assert_eq!(rt; alloc.name(0, 0b10), Some(1));
-        assert_eq!(rt; alloc.name(0, 0), None);
-        let mut named = Named::new();
-        named.put(0, SwGrant { vc: 1, out: 1 });
-        named.put(1, SwGrant { vc: 0, out: 0 });
-        named.put(2, SwGrant { vc: 0, out: 1 });
-        assert_eq!(rt; named.get(2), Some(SwGrant { vc: 0, out: 1 }));
-        let first = alloc.grant_named(&named);
+        let mut ready = ReadyOuts::new();
+        ready.set(0, 1, Some(1));
+        ready.set(1, 0, Some(0));
+        ready.set(2, 0, Some(1));
+        let first = alloc.grant(&ready);
         assert_eq!(rt; first.get(0), Some(SwGrant { vc: 1, out: 1 }));
         assert_eq!(rt; first.get(1), Some(SwGrant { vc: 0, out: 0 }));
         assert_eq!(rt; first.get(2), None);
@@ -275,23 +228,24 @@ mod tests {
         assert_eq!(rt; granted.pop_first(), Some((0, 1)));
         assert_eq!(rt; granted.pop_first(), Some((1, 0)));
         assert_eq!(rt; granted.pop_first(), None);
-        let second = alloc.grant_named(&named);
+        let second = alloc.grant(&ready);
         assert_eq!(rt; second.get(0), None);
+        assert_eq!(rt; second.get(1), Some(SwGrant { vc: 0, out: 0 }));
         assert_eq!(rt; second.get(2), Some(SwGrant { vc: 0, out: 1 }));
     }
 
-    // Both arbiters move as in a whole pass: after it output port 1 prefers port 2, and port 0 its channel 1.
+    // Both arbiters move: after it output port 1 prefers port 2, and port 0 its channel 1.
     #[test]
-    fn a_sole_request_is_granted(rt: HostRuntime) {
+    fn a_sole_ready_channel_is_granted(rt: HostRuntime) {
         let mut alloc = SwAlloc::new(3, 2);
-        let request = SwGrant { vc: 0, out: 1 };
-        assert_eq!(rt; alloc.grant_sole(0, None).get(0), None);
-        assert_eq!(rt; alloc.grant_sole(0, Some(request)).get(0), Some(request));
-        assert_eq!(rt; alloc.name(0, 0b11), Some(1));
-        let mut named = Named::new();
-        named.put(0, request);
-        named.put(2, request);
-        assert_eq!(rt; alloc.grant_named(&named).get(2), Some(request));
+        let mut ready = ReadyOuts::new();
+        assert_eq!(rt; alloc.grant(&ready).get(0), None);
+        ready.set(0, 0, Some(1));
+        assert_eq!(rt; alloc.grant(&ready).get(0), Some(SwGrant { vc: 0, out: 1 }));
+        ready.set(0, 1, Some(1));
+        ready.set(2, 0, Some(1));
+        assert_eq!(rt; alloc.grant(&ready).get(2), Some(SwGrant { vc: 0, out: 1 }));
+        assert_eq!(rt; alloc.grant(&ready).get(0), Some(SwGrant { vc: 1, out: 1 }));
     }
 
     // Port 0 names its channel 1 in vain while port 2 sends, and names it again in the next pass:

@@ -1,15 +1,17 @@
-//! One pass of the channel allocator, over what the records state.
+//! One pass of each allocator, over what the records state.
 
 ghost use Rattle.std.specs.Prelude.{◌≡◌, ◌+◌, ◌≤◌, ◌<◌, IfSome, IsTrue};
 ghost use Rattle.worm_flit.specs.Channels.{class_bits};
 ghost use Rattle.worm_vcalloc.specs.VcAlloc.{IsChannelMatching};
+ghost use Rattle.worm_swalloc.specs.SwAlloc.{IsSwitchMatching};
 ghost use Rattle.worm_router.specs.Router.{IsPlace, terminal, width};
 ghost use Rattle.worm_router.specs.Demand.{AreInVain};
 ghost use Rattle.worm_router.specs.Allocation.{requests, free_channels, GrantsWithin, written, channel_pass};
 ghost use Rattle.worm_router.specs.Allocation.{after_allocate, with_port_grants, with_grants, AreHeld, LeavesRest};
-ghost use Rattle.worm_router.specs.Allocation.{IsSameSize};
+ghost use Rattle.worm_router.specs.Allocation.{IsSameSize, ready_outs, switch_grants, after_choose};
 
 use crate::router::Router;
+use worm_swalloc::SwGrants;
 use worm_vcalloc::VcGrants;
 
 impl Router {
@@ -93,5 +95,15 @@ impl Router {
         self.demand.set_in_vain(grants.keys().is_empty());
         self.write(&grants);
         grants
+    }
+
+    /// One pass of the switch allocator over the channels that may send now (Dally and Towles, chapter 19). The
+    /// arbiters of the granted ports move on; nothing is sent.
+    pub fn choose(&mut self) -> SwGrants
+        ensures grants { result ≡ switch_grants self.old }
+        ensures after { self.new ≡ after_choose self.old }
+        ensures matching { IsSwitchMatching self.old.switch_alloc (ready_outs self.old) result }
+    {
+        self.switch_alloc.grant(&self.busy.ready)
     }
 }

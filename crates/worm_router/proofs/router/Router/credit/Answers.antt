@@ -7,7 +7,7 @@ use Rattle.worm_router.proofs.Places.{output_of}
 use Rattle.worm_router.specs.declared.busy.BusyChannels.{BusyChannels}
 use Rattle.worm_router.proofs.Filed.{busy_as}
 use Rattle.worm_router.proofs.Holders.{holders_out}
-use Rattle.worm_router.proofs.ReadySet.{ready_credit, credit_as, woken_fits}
+use Rattle.worm_router.proofs.ReadyOuts.{ready_credit, credit_as, woken_fits}
 use Rattle.worm_router.proofs.Demanded.{free_kept}
 use Rattle.worm_router.proofs.router.Router.credit.Goals as goal
 
@@ -50,7 +50,7 @@ invariant_of-self c =
       holders = holders_out _ _ _ _ _ _ output
           (ap (λ (u : OutRecord). u.holder) c.add_credit.ensures) c.self.invariant.holders;
       classes = c.self.invariant.classes;
-      ready = ready_credit at _ _ _ c.waits_for_credit-woken.result refl refl c.self.invariant.busy.few_ports
+      ready = ready_credit at _ _ _ c.args.out_port c.waits_for_credit-woken.result c.self.invariant.busy.few_ports
           c.self.invariant.busy.few_channels (credit_as _ c.args.self.now _ _ _ _ _ c.waits_for_credit-woken.result
           c.self.view_is output c.add_credit.ensures c.waits_for_credit-woken.ensures) c.file_credit.ensures.ready
           c.self.invariant.ready;
@@ -58,7 +58,8 @@ invariant_of-self c =
 
 pub file_credit-requires : goal.file_credit-requires
 file_credit-requires c =
-    woken_fits c.args.self.now (after_credit c.args.self.now c.args.out_port c.args.vc) c.waits_for_credit-woken.result
+    woken_fits c.args.self.now (after_credit c.args.self.now c.args.out_port c.args.vc) c.args.out_port
+    c.waits_for_credit-woken.result
     (subst (λ (r : RouterState). terminal r ≤ 6) c.self.view_is c.self.invariant.busy.few_ports)
     (subst (λ (r : RouterState). width r ≤ 8) c.self.view_is c.self.invariant.busy.few_channels)
     c.waits_for_credit-woken.ensures

@@ -1,5 +1,4 @@
-use Rattle.std.proofs.Common.{◌<◌, subst, arith, ◌||◌, ◌≡◌, sym, ap, ◌∙◌, inl, inr}
-use Rattle.std.proofs.lemmas.Bool.{ne_eqb}
+use Rattle.std.proofs.Common.{◌<◌, subst, arith, ◌≡◌, Some, MatchOption, sym, ap, ◌∙◌, inl, inr}
 use Rattle.worm_router.specs.Router.{RouterState, ChannelState, router_state}
 use Rattle.std.proofs.lemmas.List.Elements.{All-set, All-get_or}
 use Rattle.worm_router.specs.Allocation.{asking}
@@ -10,7 +9,7 @@ use Rattle.worm_router.proofs.Kept.{input_read, input_set_sound, read_sound, giv
 use Rattle.worm_router.proofs.Filed.{busy_filed}
 use Rattle.worm_router.proofs.Demanded.{requests_kept}
 use Rattle.worm_router.proofs.Holders.{holders_in}
-use Rattle.worm_router.proofs.ReadySet.{ready_by, ready_given, gave_wakes}
+use Rattle.worm_router.proofs.ReadyOuts.{ready_by, ready_given, gave_wakes}
 use Rattle.worm_router.proofs.router.Router.gave.Goals as goal
 use Rattle.worm_router.proofs.router.Router.gave.Goals.{then-owes_all, else-owes_all}
 
@@ -33,14 +32,15 @@ invariant_of-self c =
     c.self.invariant.fronts) in
     let owed_some : 0 < c.index_mut-channel.result.now.owed =
     subst (λ (x : ChannelState). 0 < x.owed) (sym here) c.requires.owed in
-    let wakes : (c.if-owes_all.woken || ready_by at c.args.port c.index_mut-channel.result.now)
-    ≡ ready_by at c.args.port c.give.new.self =
+    let wakes : MatchOption c.if-owes_all.woken
+    (ready_by at c.args.port c.give.new.self ≡ ready_by at c.args.port c.index_mut-channel.result.now)
+    (λ out. ready_by at c.args.port c.give.new.self ≡ Some out) =
     gave_wakes at c.args.self.now c.args.port c.args.vc c.line-i.result c.index_mut-channel.result.now c.give.new.self
     c.if-owes_all.woken c.self.view_is input c.give.ensures (omega (arith, owed_some)) had.owed_fits
     (elim c.if-owes_all.branch [
       | then-owes_all w ↦ inl (w.woken-is ∙ w.waits_to_owe_less-woken.ensures)
       | else-owes_all w ↦ inr (
-        w.woken-is ∙ ne_eqb _ _ w.if-owes_all.false,
+        w.woken-is,
         λ full. w.if-owes_all.false (c.owed.ensures ∙ ap (λ (x : ChannelState). x.owed) (read.was ∙ sym input.was)
             ∙ full),
       )

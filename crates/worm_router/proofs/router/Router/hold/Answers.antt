@@ -1,21 +1,22 @@
 use Rattle.std.proofs.lemmas.List.Elements.{All-set}
-use Rattle.std.proofs.Common.{◌&&◌, ◌<◌, ◌*◌, ◌∙◌, ◌≡◌, is_none, true, false, sum, length, arith}
+use Rattle.std.proofs.Common.{None, if◌then◌else◌, ◌<◌, ◌*◌, ◌∙◌, ◌≡◌, is_none, true, false, sum, length, arith}
 use Rattle.std.proofs.Common.{ap, sym, subst, inl, inr}
 use Rattle.std.proofs.lemmas.Grind.{common_steps, elements}
 use Rattle.worm_records.specs.declared.InRecord.TheVariants.{Active}
 use Rattle.worm_records.specs.declared.OutRecord.{OutRecord}
 use Rattle.worm_vcalloc.specs.ChannelSet.{IsPut}
+use Rattle.worm_vcalloc.specs.Table.{with_cell}
 use Rattle.worm_router.specs.Router.{RouterState, ChannelState, router_state, free_output}
 use Rattle.worm_router.specs.Allocation.{asking}
 use Rattle.worm_router.specs.Demand.{DemandView}
-use Rattle.worm_router.specs.Busy.{HasFront, could_send, is_occupied, is_waiting, is_active, owes}
+use Rattle.worm_router.specs.Busy.{HasFront, could_send_to, is_occupied, is_waiting, is_active, owes}
 use Rattle.worm_router.specs.declared.busy.BusyChannels.{BusyChannels}
 use Rattle.worm_router.proofs.Places.{input_of, output_of, output_read}
 use Rattle.worm_router.proofs.Kept.{full_after, full_before, input_read}
 use Rattle.worm_router.proofs.Filed.{busy_filed, filed}
 use Rattle.worm_router.proofs.Holders.{holders_held}
 use Rattle.worm_router.proofs.Demanded.{requests_put, free_put}
-use Rattle.worm_router.proofs.ReadySet.{ready_held}
+use Rattle.worm_router.proofs.ReadyOuts.{ready_held}
 use Rattle.worm_router.proofs.router.Router.hold.Goals as goal
 
 pub invariant_of-self : goal.invariant_of-self
@@ -33,17 +34,16 @@ invariant_of-self c =
     c.self.view_is c.index_mut-output.ensures.value c.line-o.ensures.value c.line-o.ensures.in_outputs in
     let here = input_read _ c.args.self.now c.args.port c.args.vc c.line-i.result c.index_mut-channel.result.now
     c.self.view_is c.index_mut-channel.ensures.value c.line-i.ensures.value c.line-i.ensures.in_inputs in
-    let sends : c.sends_by-sends.result ≡ (could_send at c.args.port
-    (Active c.args.out c.args.out_vc) c.index_mut-channel.result.now.owed && is_occupied
-    c.index_mut-channel.result.now) =
-    c.sends_by-sends.ensures
-    ∙ sym (ap (λ (x : ChannelState). could_send c.args.self.now c.args.port
-    (Active c.args.out c.args.out_vc) x.owed && is_occupied x) here)
-    ∙ sym (ap (λ (r : RouterState). could_send r c.args.port
-    (Active c.args.out c.args.out_vc) c.index_mut-channel.result.now.owed && is_occupied
-    c.index_mut-channel.result.now) c.self.view_is) in
-    let put = subst (IsPut c.self.inside.busy.ready c.file_active.new.self.ready c.args.port c.args.vc) sends
-    c.file_active.ensures.ready in
+    let sends : c.sends_by-sends_to.result ≡ (if is_occupied c.index_mut-channel.result.now
+    then could_send_to at c.args.port (Active c.args.out c.args.out_vc) c.index_mut-channel.result.now.owed else None) =
+    c.sends_by-sends_to.ensures
+    ∙ sym (ap (λ (x : ChannelState). if is_occupied x
+    then could_send_to c.args.self.now c.args.port (Active c.args.out c.args.out_vc) x.owed else None) here)
+    ∙ sym (ap (λ (r : RouterState). if is_occupied c.index_mut-channel.result.now
+    then could_send_to r c.args.port (Active c.args.out c.args.out_vc) c.index_mut-channel.result.now.owed
+    else None) c.self.view_is) in
+    let put = c.file_active.ensures.ready
+    ∙ ap (λ o. with_cell c.self.inside.busy.ready c.args.port c.args.vc o) sends in
     record {
       router = record {
         lists = record {

@@ -16,7 +16,7 @@ use Rattle.worm_router.proofs.Filed.{busy_filed, inside_of}
 use Rattle.worm_router.proofs.Leaving.{may_leave, leaves_active, leaves_by_state, owes_more}
 use Rattle.worm_router.proofs.Demanded.{requests_kept, free_left, asks_nothing, holds_waits_not, waits_not_after}
 use Rattle.worm_router.proofs.Holders.{holders_left}
-use Rattle.worm_router.proofs.ReadySet.{ready_left}
+use Rattle.worm_router.proofs.ReadyOuts.{ready_left}
 use Rattle.worm_router.proofs.router.Router.let_out.Goals as goal
 
 pub pass-requires : goal.pass-requires

@@ -11,7 +11,7 @@ use Rattle.worm_router.proofs.Filed.{busy_filed}
 use Rattle.worm_records.specs.declared.InRecord.TheVariants.{Idle}
 use Rattle.worm_router.proofs.Holders.{holders_in}
 use Rattle.worm_router.proofs.Demanded.{requests_put, asks_by_front, front_there}
-use Rattle.worm_router.proofs.ReadySet.{ready_waiting}
+use Rattle.worm_router.proofs.ReadyOuts.{ready_waiting}
 use Rattle.worm_router.proofs.router.Router.route.Goals as goal
 use Rattle.worm_router.proofs.router.Router.route.Goals.{in-Idle, in_default}
 

@@ -23,7 +23,7 @@ returns-in_err-port c =
     c.index-output.ensures c.line.ensures.value c.line.ensures.in_outputs in
     let held : AreHolders c.args.self.now = subst AreHolders c.self.view_is c.self.invariant.holders in
     subst (λ o. MatchOption o (NoneWoken c.args.self.now (after_credit c.args.self.now c.args.out c.args.vc))
-    (λ place. IsWoken c.args.self.now (after_credit c.args.self.now c.args.out c.args.vc) place.0 place.1))
+    (λ place. IsWoken c.args.self.now (after_credit c.args.self.now c.args.out c.args.vc) c.args.out place.0 place.1))
     (sym c.from_residual.ensures)
     (unheld_woken c.args.self.now c.args.out c.args.vc within held
     (ap (λ (w : OutRecord). w.holder) (sym read) ∙ c.in_err-port.was))

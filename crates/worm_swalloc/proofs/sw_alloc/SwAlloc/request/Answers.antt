@@ -1,4 +1,4 @@
-use Rattle.std.proofs.Common.{◌≡◌, ◌<◌, ◌∙◌, ap, Some, None, slice_index_or, rules, []}
+use Rattle.std.proofs.Common.{◌≡◌, ◌<◌, ◌∙◌, arith, ap, Some, None, slice_index_or, rules, []}
 use Rattle.worm_swalloc.specs.SwAlloc.{SwAllocState, request_of}
 use Rattle.worm_swalloc.proofs.SwLemmas.{named_is}
 use Rattle.worm_swalloc.proofs.sw_alloc.SwAlloc.request.Goals as goal
@@ -15,8 +15,8 @@ returns-in_err-vc c =
     let few = c.self.invariant.few_ports in
     rw (← c.self.view_is)
     (c.from_residual.ensures ∙ ap (request_of (slice_index_or c.args.ready.now c.args.port []))
-    (named_is s c.args.ready.now c.args.port c.ready_lines-lines.result None c.self.invariant port_in
-    c.ready_lines-lines.ensures.lines (rw (← c.self.view_is) at c.in_err-vc.ensures.named)))
+    (named_is s c.args.ready.now c.args.port c.ready_lines-lines.result c.index-self-port.result None c.self.invariant
+    port_in (omega arith) c.ready_lines-lines.ensures.lines c.in_err-vc.ensures.winner))
 
 pub returns : goal.returns
 returns c =
@@ -32,6 +32,5 @@ returns c =
     search rules in
     rw (← c.self.view_is)
     (made ∙ ap (request_of (slice_index_or c.args.ready.now c.args.port []))
-    (named_is s c.args.ready.now c.args.port c.ready_lines-lines.result
-    (Some c.in_ok-vc.vc) c.self.invariant port_in c.ready_lines-lines.ensures.lines
-    (rw (← c.self.view_is) at c.in_ok-vc.ensures.named)))
+    (named_is s c.args.ready.now c.args.port c.ready_lines-lines.result c.index-self-port.result (Some c.in_ok-vc.vc)
+    c.self.invariant port_in (omega arith) c.ready_lines-lines.ensures.lines c.in_ok-vc.ensures.winner))
