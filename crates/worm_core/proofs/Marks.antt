@@ -53,9 +53,6 @@ mark_keeps old lane = record { kept = λ other e. set_keeps old.marks (lane_line
 pub mark_marks : (old : LaneMarks) (lane : Lane) → is_marked (with_mark old lane) lane ≡ true
 mark_marks old lane = set_marks old.marks (lane_line old lane)
 
-pub keeps_self : (set : LaneMarks) → KeepsMarks set set
-keeps_self set = record { kept = λ lane e. e }
-
 pub keeps_then : (old mid new : LaneMarks) → KeepsMarks old mid → KeepsMarks mid new → KeepsMarks old new
 keeps_then old mid new first then = record { kept = λ lane e. then.kept lane (first.kept lane e) }
 

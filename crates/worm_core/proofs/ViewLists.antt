@@ -13,7 +13,7 @@ use Rattle.worm_flit.specs.declared.Flit.{Flit}
 use Rattle.worm_flit.specs.Channels.{first_channel}
 use Rattle.worm_flit.specs.Stamps.{is_of_lane, of_lane, on_channel}
 use Rattle.worm_router.specs.Router.{RouterState, ChannelState, IsRouter, IsChannel, fresh_channel, line, input_at}
-use Rattle.worm_core.specs.LaneView.{at_place, channels_of}
+use Rattle.worm_core.specs.LaneView.{at_place}
 use Rattle.worm_core.specs.declared.view.Held.{Held}
 use Rattle.worm_core.specs.declared.view.Place.{Place}
 use Rattle.worm_region.proofs.NodeWritten.{below_cases}
@@ -117,12 +117,6 @@ none_each f (x ∷ xs) none = rw (none x) (none_each f xs none)
 pub class_within : (counts : List ℕ) (class : ℕ) → class < length counts
     → first_channel counts class + slice_index counts class ≤ sum counts
 class_within counts class there = sum_by_more_le (λ (x : ℕ). x) counts class 0 there
-
-pub channels_are : (counts : List ℕ) (class a b : ℕ) → a ≡ first_channel counts class
-    → b ≡ first_channel counts class + slice_index counts class → range_with_len a (b - a) ≡ channels_of counts class
-channels_are counts class a b first last =
-    let count : b - a ≡ slice_index counts class = omega arith in
-    λ t. range_with_len (first t) (count t)
 
 -- a router's buffers hold at most 16 flits
 pub buffer_few : (r : RouterState) (port vc : ℕ) → IsRouter r → length (input_at r port vc).buffer ≤ 16

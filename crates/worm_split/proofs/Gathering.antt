@@ -62,9 +62,6 @@ module _ (parts : List PartState) (are : AreParts parts) (n : ℕ) (there : n < 
             now ∙ (rw other refl ∙ gathered.nodes x (further_on x from apart) d)
       ]
 
-  way_same : (k : ℕ) → way_at new.ways.items k ≡ way_at kept.ways.items k
-  way_same k = λ t. way_at (same_ways t).items k
-
   new_flits : (k : ℕ) → let x = (way_at kept.ways.items k).to in n ≤ x % W
       → (link_in new.links.items k).flits ≡ (link_at (owner_of parts x).net k).flits
   new_flits k from =

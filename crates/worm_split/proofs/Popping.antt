@@ -44,9 +44,6 @@ last_of parts left rest done p all popped =
 -- what the last part has and keeps
 module _ (parts : List PartState) (are : AreParts parts) (rest : List PartState) (p : PartState)
     (last : IsLastOf parts rest p) (part : IsPart p) (framed : IsFramed p.net) where
-  pub its_own : p.net.own ≡ record { worker = length rest; workers = length parts }
-  its_own = ap (λ (q : PartState). q.net.own) (sym last.is) ∙ are.owns (length rest) last.there
-
   pub its_opening : p.opening ≡ (part_at parts 0).opening
   its_opening = ap (λ (q : PartState). q.opening) (sym last.is) ∙ are.one_opening (length rest) last.there
 

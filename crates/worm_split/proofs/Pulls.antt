@@ -73,12 +73,6 @@ module _ (p : PartState) (part : IsPart p) (framed : IsFramed p.net) (x o : ℕ)
   within : (links.out < link_count p.net.mesh) × (links.into < link_count p.net.mesh)
   within = ports_within p.net.mesh x o links framed.radices at
 
-  pub out_bound : links.out < length p.net.links
-  out_bound = let w = within in let all = framed.all_links in omega (arith, w.0)
-
-  pub into_bound : links.into < length p.net.links
-  into_bound = let w = within in let all = framed.all_links in omega (arith, w.1)
-
   pub out_end_bound : links.out < length p.ends
   out_end_bound = let w = within in let all = part.all_ends in omega (arith, w.0)
 

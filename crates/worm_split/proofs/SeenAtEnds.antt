@@ -1,19 +1,14 @@
 -- What goes over the worker's ends of links, as the theory of a part has it: a change of one end and of the lists is a
 -- change of what was sent, given or came.
-use Rattle.std.proofs.Common.{◌≡◌, ℕ, cond, inl, inr, List, [], ◌∷◌, ◌++◌, refl, ap}
+use Rattle.std.proofs.Common.{◌≡◌, ℕ, inl, inr, List, [], ◌∷◌, ◌++◌, refl, ap}
 use Rattle.worm_flit.specs.declared.Flit.{Flit}
 use Rattle.worm_links.specs.Links.{TxView, RxView, CreditTxView, CreditRxView}
-use Rattle.worm_theory.specs.Network.{Network, same, put2}
+use Rattle.worm_theory.specs.Network.{Network, put2}
 use Rattle.worm_theory.proofs.Places.{place_cases}
 use Rattle.worm_theory.proofs.Bridge.{same_network}
 use Rattle.worm_split.specs.declared.ends.End.{End}
 use Rattle.worm_split.specs.declared.ends.End.TheVariants.{Leaving, Entering}
 use Rattle.worm_split.specs.Ends.{seen_by, sent_on, given_on, taken_on, returned_on}
-
--- a change at one place, looked up: the new value there, and elsewhere what was there
-put2_here : {A : Type 0} (f : ℕ → ℕ → A) (a b : ℕ) (v w : A) → f a b ≡ w → (h : A → A) → (x : ℕ) (y : ℕ)
-    → cond (same x y a b) (h v) (h (f x y)) ≡ h (put2 f a b v x y)
-put2_here f a b v w e h x y = elim (place_cases x y a b) [ inl here ↦ rw here.0 refl | inr away ↦ rw away.0 refl ]
 
 module _ (end : ℕ → ℕ → End) (net : Network) (x o : ℕ) where
   -- a credit comes back over a link that leaves the part

@@ -14,7 +14,7 @@ use Rattle.worm_region.specs.Shape.{net_shape}
 use Rattle.worm_region.specs.State.{NetState, IsFramed, IsSameConfig, shape, network_of, router_at}
 use Rattle.worm_region.specs.Moves.{after_ready}
 use Rattle.worm_region.specs.Replies.{Replies}
-use Rattle.worm_region.specs.Turns.{fault_of, lowest_owed}
+use Rattle.worm_region.specs.Turns.{lowest_owed}
 use Rattle.worm_region.specs.Workable.{owned, EndsWithin}
 use Rattle.worm_region.specs.declared.step.Moved.{Moved}
 use Rattle.worm_region.specs.declared.step.Moved.TheVariants.{Done, Idle}
@@ -137,14 +137,6 @@ module _ (p : PartState) (part : IsPart p) (x : ℕ) (here : owns p x ≡ true) 
       (comes_within o y then stays_in to (end_of p y (opposite_of o)) refl).1) in
       keeps_answer (shape p.opening) (mesh_of_part p part) (network_of p.opening) (owns p) (end_of p) (taken_by p)
       (returned_to p) (GiveCredit x o v) here p.net net answer sees (inside_now p part) replied
-
--- a credit that is given ends no turn
-pub gives_no_fault : (s new : NetState) (x o v : ℕ) (answer : Result Moved StepFault)
-    → Replies s (GiveCredit x o v) answer new → fault_of answer ≡ None
-gives_no_fault s new x o v (Ok moved) replied = refl
-gives_no_fault s new x o v (Err NoSuchPlace) replied = refl
-gives_no_fault s new x o v (Err (Refused why)) replied = let clash = replied.2 in absurd (cc)
-gives_no_fault s new x o v (Err NoMemory) replied = absurd replied.2
 
 -- the test of an end by which flits enter
 pub enters_means : (e : End) (b : Bool) → b ≡ enters_by e
