@@ -24,7 +24,7 @@ use Rattle.worm_router.specs.Router.{free_output, input_at, output_at, leaving, 
 use Rattle.worm_router.specs.Router.{after_credit}
 use Rattle.worm_router.specs.Allocation.{ready_at, ready_outs}
 use Rattle.worm_router.specs.Busy.{AreHolders, IsWoken, NoneWoken, is_active, is_occupied, holds, has_way, could_send}
-use Rattle.worm_router.specs.Busy.{could_send_to, port_held}
+use Rattle.worm_router.specs.Busy.{could_send_to, port_held, with_ready}
 use Rattle.worm_router.specs.Rest.{SendsNothing}
 use Rattle.worm_router.proofs.Accepted.{IsLeftBy}
 use Rattle.worm_router.proofs.NothingReady.{get_or-replicate_same, none_may_send}
@@ -152,32 +152,53 @@ ready_put r outputs port vc i had now old new x input few_ports few_channels put
     ap (λ (c : ChannelState). ready_by (record r { outputs = outputs }) p c)
     (get_or-set_other r.inputs i (line r p v) now (fresh_channel r.depth) apart) ∙ same p v place apart)
 
--- the channel is ready as it was, and what is kept stays
-pub ready_stays : (r : RouterState) (port vc i : ℕ) (had now : ChannelState) (ready : List (List (Option ℕ)))
-    → IsInput r port vc i had → terminal r ≤ 6 → width r ≤ 8 → ready_by r port now ≡ ready_by r port had
-    → ready ≡ ready_outs r → ready ≡ ready_outs (record r { inputs = slice_set r.inputs i now })
-ready_stays r port vc i had now ready input few_ports few_channels same is =
-    ready_put r r.outputs port vc i had now ready ready (cell ready port vc None) input few_ports few_channels
-    (sym (with_cell_same ready port vc None)) (same ∙ sym was) (λ p v _ _. refl) is where
-      was : cell ready port vc None ≡ ready_by r port had
+-- the channel comes to be ready for an output port, or is as it was
+pub ready_wakes : (r : RouterState) (outputs : List OutRecord) (port vc i : ℕ) (had now : ChannelState)
+    (old new : List (List (Option ℕ))) (woken : Option ℕ) → IsInput r port vc i had → terminal r ≤ 6 → width r ≤ 8
+    → new ≡ with_ready old port vc woken
+    → MatchOption woken (ready_by (record r { outputs = outputs }) port now ≡ ready_by r port had)
+    (λ out. ready_by (record r { outputs = outputs }) port now ≡ Some out)
+    → ((p v : ℕ) → IsPlace r p v → ((line r p v ≡ i) → ⊥)
+    → ready_by (record r { outputs = outputs }) p (input_at r p v) ≡ ready_by r p (input_at r p v))
+    → old ≡ ready_outs r → new ≡ ready_outs (record r { inputs = slice_set r.inputs i now; outputs = outputs })
+ready_wakes r outputs port vc i had now old new None input few_ports few_channels put wakes same is =
+    ready_put r outputs port vc i had now old new (cell old port vc None) input few_ports few_channels
+    (put ∙ sym (with_cell_same old port vc None)) (wakes ∙ sym was) same is where
+      was : cell old port vc None ≡ ready_by r port had
       was = ap (λ t. cell t port vc None) is
           ∙ cell_is r None (ready_at r) port vc few_ports few_channels input.place
           ∙ ap (λ (x : ChannelState). ready_by r port x)
           (sym (input.was ∙ ap (λ k. slice_index_or r.inputs k (fresh_channel r.depth)) input.at))
+ready_wakes r outputs port vc i had now old new (Some out) input few_ports few_channels put wakes same is =
+    ready_put r outputs port vc i had now old new (Some out) input few_ports few_channels put wakes same is
+
+pub ready_stays : (r : RouterState) (port vc i : ℕ) (had now : ChannelState) (ready : List (List (Option ℕ)))
+    → IsInput r port vc i had → terminal r ≤ 6 → width r ≤ 8 → ready_by r port now ≡ ready_by r port had
+    → ready ≡ ready_outs r → ready ≡ ready_outs (record r { inputs = slice_set r.inputs i now })
+ready_stays r port vc i had now ready input few_ports few_channels same is =
+    ready_wakes r r.outputs port vc i had now ready ready None input few_ports few_channels refl same (λ p v _ _. refl)
+    is
 
 -- ---- the calls of a router
 
 -- a flit came into an empty buffer
+woken_from : (a b w : Option ℕ) → a ≡ w → b ≡ None → MatchOption w (a ≡ b) (λ out. a ≡ Some out)
+woken_from a b None e none = e ∙ sym none
+woken_from a b (Some out) e none = e
+
 pub ready_first : (r : RouterState) (port vc i : ℕ) (had now : ChannelState) (old new : List (List (Option ℕ)))
-    → IsInput r port vc i had → terminal r ≤ 6 → width r ≤ 8 → IsLeftBy had now
-    → new ≡ with_cell old port vc (if is_occupied now then could_send_to r port had.state had.owed else None)
+    → IsInput r port vc i had → terminal r ≤ 6 → width r ≤ 8 → IsLeftBy had now → is_occupied had ≡ false
+    → new ≡ with_ready old port vc (if is_occupied now then could_send_to r port had.state had.owed else None)
     → old ≡ ready_outs r → new ≡ ready_outs (record r { inputs = slice_set r.inputs i now })
-ready_first r port vc i had now old new input few_ports few_channels left put is =
-    ready_put r r.outputs port vc i had now old new
+ready_first r port vc i had now old new input few_ports few_channels left empty put is =
+    ready_wakes r r.outputs port vc i had now old new
     (if is_occupied now then could_send_to r port had.state had.owed else None) input few_ports few_channels put
+    (woken_from (ready_by r port now) (ready_by r port had) _
     (ready_parts r port now now.state now.buffer
     ∙ ap (λ s. if is_occupied now then could_send_to r port s now.owed else None) left.state
     ∙ ap (λ n. if is_occupied now then could_send_to r port had.state n else None) left.owed)
+    (ready_parts r port had had.state had.buffer
+    ∙ ap (λ b. if b then could_send_to r port had.state had.owed else None) empty))
     (λ p v _ _. refl) is
 
 -- or behind others
@@ -276,19 +297,31 @@ follows_as r port out out_vc owed spent more u s false some is at a b =
     ∙ sym (ap (λ k. if (holds k && some) && ((spent == 0 || nat_lt 0 u.credits) && (more == 0 || nat_lt owed r.depth))
     then Some out else None) is)
 
+-- it was ready, and stays so or is not ready
+left_as : (next : Bool) (out : ℕ) (old new : List (List (Option ℕ))) (port vc : ℕ)
+    → new ≡ (if next then old else with_cell old port vc None) → cell old port vc None ≡ Some out
+    → new ≡ with_cell old port vc (if next then Some out else None)
+left_as true out old new port vc same was =
+    same ∙ sym (with_cell_same old port vc None) ∙ ap (λ o. with_cell old port vc o) was
+left_as false out old new port vc put was = put
+
 pub ready_left : (r : RouterState) (port vc i out out_vc o : ℕ) (had now : ChannelState) (had_out u : OutRecord)
-    (spent more : ℕ) (old new : List (List (Option ℕ))) (closed follows : Bool) → IsInput r port vc i had
+    (spent more : ℕ) (old new : List (List (Option ℕ))) (closed follows : Bool) (f : Flit) → IsInput r port vc i had
     → IsOutput r out out_vc o had_out
-    → terminal r ≤ 6 → width r ≤ 8 → had.state ≡ Active out out_vc → now.state ≡ (if closed then Idle else had.state)
+    → terminal r ≤ 6 → width r ≤ 8 → leaving r port vc ≡ Some (out, f) → had.state ≡ Active out out_vc
+    → now.state ≡ (if closed then Idle else had.state)
     → spent ≡ credit_of r out → more ≡ credit_of r port
     → follows ≡ ((spent == 0 || nat_lt 0 u.credits) && (more == 0 || nat_lt now.owed r.depth))
-    → new ≡ with_cell old port vc (if (is_active now && is_occupied now) && follows then Some out else None)
+    → new ≡ (if (is_active now && is_occupied now) && follows then old else with_cell old port vc None)
     → AreHolders r → old ≡ ready_outs r
     → new ≡ ready_outs (record r { inputs = slice_set r.inputs i now; outputs = slice_set r.outputs o u })
-ready_left r port vc i out out_vc o had now had_out u spent more old new closed follows input output few_ports
-    few_channels held_it after a b follows_is put held is =
+ready_left r port vc i out out_vc o had now had_out u spent more old new closed follows f input output few_ports
+    few_channels leaves held_it after a b follows_is put held is =
     ready_put r (slice_set r.outputs o u) port vc i had now old new
-    (if (is_active now && is_occupied now) && follows then Some out else None) input few_ports few_channels put
+    (if (is_active now && is_occupied now) && follows then Some out else None) input few_ports few_channels
+    (left_as ((is_active now && is_occupied now) && follows) out old new port vc put
+    (ap (λ t. cell t port vc None) is ∙ cell_is r None (ready_at r) port vc few_ports few_channels input.place
+    ∙ ap (option_map (λ leave. leave.0)) leaves))
     (ready_parts (record r { outputs = slice_set r.outputs o u }) port now now.state now.buffer
     ∙ follows_as (record r { outputs = slice_set r.outputs o u }) port out out_vc now.owed spent more u now.state
     closed (is_occupied now) (after ∙ ap (λ s. if closed then Idle else s) held_it)
@@ -314,13 +347,10 @@ ready_left r port vc i out out_vc o had now had_out u spent more old new closed 
 pub ready_given : (r : RouterState) (port vc i : ℕ) (had now : ChannelState) (old new : List (List (Option ℕ)))
     (woken : Option ℕ) → IsInput r port vc i had → terminal r ≤ 6 → width r ≤ 8
     → MatchOption woken (ready_by r port now ≡ ready_by r port had) (λ out. ready_by r port now ≡ Some out)
-    → MatchOption woken (new ≡ old) (λ out. new ≡ with_cell old port vc (Some out)) → old ≡ ready_outs r
+    → new ≡ with_ready old port vc woken → old ≡ ready_outs r
     → new ≡ ready_outs (record r { inputs = slice_set r.inputs i now })
-ready_given r port vc i had now old new None input few_ports few_channels wakes same is =
-    same ∙ ready_stays r port vc i had now old input few_ports few_channels wakes is
-ready_given r port vc i had now old new (Some out) input few_ports few_channels wakes put is =
-    ready_put r r.outputs port vc i had now old new (Some out) input few_ports few_channels put wakes (λ p v _ _. refl)
-    is
+ready_given r port vc i had now old new woken input few_ports few_channels wakes put is =
+    ready_wakes r r.outputs port vc i had now old new woken input few_ports few_channels put wakes (λ p v _ _. refl) is
 
 -- a credit came that makes one channel ready, or none
 pub ready_credit : (r : RouterState) (outputs : List OutRecord) (old new : List (List (Option ℕ))) (out : ℕ)

@@ -6,6 +6,7 @@ use Rattle.worm_flit.specs.Channels.{class_bits}
 use Rattle.worm_records.specs.declared.InRecord.{InRecord}
 use Rattle.worm_records.specs.declared.InRecord.TheVariants.{Idle, Waiting, Active}
 use Rattle.worm_vcalloc.specs.ChannelSet.{has}
+use Rattle.worm_vcalloc.specs.Table.{with_cell}
 use Rattle.worm_swalloc.specs.SwAlloc.{SwAllocState}
 use Rattle.worm_router.specs.Allocation.{ready_at, ready_outs}
 use Rattle.worm_router.specs.Demand.{DemandView, IsDemandOf}
@@ -93,6 +94,11 @@ port_held (Active o c) = Some o
 -- the output port that a channel of this port could send to, in this state and with so many credits owed
 abbrev pub could_send_to : RouterState → ℕ → InRecord → ℕ → Option ℕ
 could_send_to r port s owed = if could_send r port s owed then port_held s else None
+
+-- the ready channels once one that was not among them may send to an output port, if there is one
+abbrev pub with_ready : List (List (Option ℕ)) → ℕ → ℕ → Option ℕ → List (List (Option ℕ))
+with_ready ready port vc None = ready
+with_ready ready port vc (Some out) = with_cell ready port vc (Some out)
 
 -- it holds this output channel
 abbrev pub is_of : InRecord → ℕ → ℕ → Bool

@@ -2,7 +2,7 @@ ghost use Rattle.std.specs.Prelude.{◌≡◌, ◌<◌, ◌&&◌, ◌||◌, true
 ghost use Rattle.std.specs.Prelude.{if◌then◌else◌};
 ghost use Rattle.worm_vcalloc.specs.ChannelSet.{has, IsPut};
 ghost use Rattle.worm_vcalloc.specs.Table.{with_cell};
-ghost use Rattle.worm_router.specs.Busy.{IsFiled, is_occupied, is_active, owes};
+ghost use Rattle.worm_router.specs.Busy.{IsFiled, is_occupied, is_active, owes, with_ready};
 
 use crate::channel::InputChannel;
 use worm_swalloc::ReadyOuts;
@@ -44,6 +44,17 @@ fn join_if(set: &mut ChannelSet, port: u8, vc: u8, comes: bool)
     }
 }
 
+/// Keeps that a channel which could not send may send to this output port, if there is one.
+fn wake(ready: &mut ReadyOuts, port: u8, vc: u8, out: Option<u8>)
+    requires port { port < 7 }
+    requires vc { vc < 8 }
+    ensures { ready.new ≡ with_ready ready.old port vc out }
+{
+    if out.is_some() {
+        ready.set(port, vc, out);
+    }
+}
+
 impl BusyChannels {
     /// No channel has anything to do.
     pub fn new() -> BusyChannels
@@ -67,7 +78,7 @@ impl BusyChannels {
         requires port { port < 7 }
         requires vc { vc < 8 }
         ensures occupied { IsPut self.old.occupied self.new.occupied port vc (is_occupied channel.now) }
-        ensures ready { self.new.ready ≡ with_cell self.old.ready port vc
+        ensures ready { self.new.ready ≡ with_ready self.old.ready port vc
             (if is_occupied channel.now then out else None) }
         ensures others { self.new ≡ record self.old {
           occupied = self.new.occupied;
@@ -77,7 +88,7 @@ impl BusyChannels {
         let has_flit = channel.is_occupied();
         self.occupied.put(port, vc, has_flit);
         let sends_to = if has_flit { out } else { None };
-        self.ready.set(port, vc, sends_to);
+        wake(&mut self.ready, port, vc, sends_to);
     }
 
     /// Files a channel that was granted an output channel; `sends_to` is the output port that it may send to now.
@@ -92,8 +103,9 @@ impl BusyChannels {
         self.ready.set(port, vc, sends_to);
     }
 
-    /// Files a channel that let a flit out by the output port `out`; `follows` where a next flit has its credits.
-    pub fn file_left(&mut self, port: u8, vc: u8, channel: &InputChannel, out: u8, follows: bool)
+    /// Files a channel that could send, and has let a flit out by the output channel that it held; `follows` where a
+    /// next flit has its credits.
+    pub fn file_left(&mut self, port: u8, vc: u8, channel: &InputChannel, follows: bool)
         requires port { port < 7 }
         requires vc { vc < 8 }
         requires held { has self.old.active port vc ≡ true }
@@ -101,14 +113,15 @@ impl BusyChannels {
         ensures occupied { IsFiled self.old.occupied self.new.occupied port vc (is_occupied channel.now) }
         ensures active { IsFiled self.old.active self.new.active port vc (is_active channel.now) }
         ensures owing { IsFiled self.old.owing self.new.owing port vc (owes channel.now) }
-        ensures ready { self.new.ready ≡ with_cell self.old.ready port vc
-            (if (is_active channel.now && is_occupied channel.now) && follows then Some out else None) }
+        ensures ready { self.new.ready ≡ (if (is_active channel.now && is_occupied channel.now) && follows
+            then self.old.ready else with_cell self.old.ready port vc None) }
     {
         let has_more = channel.is_occupied();
         let holds = channel.is_active();
         self.occupied.put(port, vc, has_more);
-        let sends_to = (holds && has_more && follows).then_some(out);
-        self.ready.set(port, vc, sends_to);
+        if !(holds && has_more && follows) {
+            self.ready.set(port, vc, None);
+        }
         leave_unless(&mut self.active, port, vc, holds);
         join_if(&mut self.owing, port, vc, channel.owed() > 0);
     }
@@ -120,14 +133,11 @@ impl BusyChannels {
         requires vc { vc < 8 }
         requires owed { has self.old.owing port vc ≡ true }
         ensures owing { IsFiled self.old.owing self.new.owing port vc (owes channel.now) }
-        ensures ready { MatchOption woken (self.new.ready ≡ self.old.ready)
-            (λ out. self.new.ready ≡ with_cell self.old.ready port vc (Some out)) }
+        ensures ready { self.new.ready ≡ with_ready self.old.ready port vc woken }
         ensures others { self.new ≡ record self.old { owing = self.new.owing; ready = self.new.ready } }
     {
         leave_unless(&mut self.owing, port, vc, channel.owed() > 0);
-        if woken.is_some() {
-            self.ready.set(port, vc, woken);
-        }
+        wake(&mut self.ready, port, vc, woken);
     }
 
     /// Files that a credit of the output port `out` has come for which this channel waited, if any did.

@@ -434,7 +434,7 @@ impl Router {
         let output = &mut self.outputs[o];
         pass(output, flit, spent);
         let follows = may_follow(channel.owed(), more_owed, output.credits, spent, self.depth);
-        self.busy.file_left(port, vc, channel, out, follows);
+        self.busy.file_left(port, vc, channel, follows);
         self.demand.release_if(is_closing(flit.kind), out, flit.vc);
     }
 

@@ -5,7 +5,7 @@ use Rattle.std.proofs.lemmas.List.Elements.{All-set, All-get_or}
 use Rattle.worm_flit.specs.Kinds.{closes}
 use Rattle.worm_records.specs.declared.InRecord.TheVariants.{Active}
 use Rattle.worm_records.specs.declared.OutRecord.{OutRecord}
-use Rattle.worm_router.specs.Router.{credit_of, RouterState, ChannelState, input_at, IsRouter, IsChannel}
+use Rattle.worm_router.specs.Router.{credit_of, leaving, RouterState, ChannelState, input_at, IsRouter, IsChannel}
 use Rattle.worm_router.specs.Router.{free_output, terminal, width}
 use Rattle.worm_router.proofs.Kept.{both_set_sound, input_read, let_out_sound, full_after, full_before, no_credit}
 use Rattle.worm_vcalloc.specs.Table.{with_cell}
@@ -58,6 +58,7 @@ invariant_of-self c =
     ∙ leaves_active c.args.self.now c.args.port (input_at c.args.self.now c.args.port c.args.vc)
     (input_at c.args.self.now c.args.port c.args.vc).state (input_at c.args.self.now c.args.port c.args.vc).buffer
     (c.args.out, c.args.flit) c.requires.ready in
+    let leaves = ap (λ (r : RouterState). leaving r c.args.port c.args.vc) c.self.view_is ∙ c.requires.ready in
     let waited_not : is_waiting c.index_mut-channel.result.now ≡ false =
     holds_waits_not c.index_mut-channel.result.now.state held in
     let waits_not : is_waiting c.let_out.new.self ≡ false =
@@ -125,8 +126,8 @@ invariant_of-self c =
           (ap (λ (u : OutRecord). u.holder) c.pass.ensures) c.self.invariant.holders;
       classes = c.self.invariant.classes;
       ready = ready_left _ _ _ _ _ _ _ _ _ _ _ c.credit_of-spent.result c.credit_of-more_owed.result _ _
-          (closes c.args.flit.kind) c.may_follow-follows.result input output c.self.invariant.busy.few_ports
-          c.self.invariant.busy.few_channels held_it
+          (closes c.args.flit.kind) c.may_follow-follows.result c.args.flit input output
+          c.self.invariant.busy.few_ports c.self.invariant.busy.few_channels leaves held_it
           (ap (λ (x : ChannelState). x.state) c.let_out.ensures)
           (c.credit_of-spent.ensures.value ∙ ap (λ (r : RouterState). credit_of r c.args.out) (sym c.self.view_is))
           (c.credit_of-more_owed.ensures.value ∙ ap (λ (r : RouterState). credit_of r c.args.port) (sym c.self.view_is))
