@@ -23,7 +23,7 @@ use Rattle.worm_region.specs.Moves.{done_step, FrontFits, has_room, can_enter, f
 use Rattle.worm_region.proofs.NodeWritten.{put2_same, put3_same, node_bridge, itself3, input_of-put, input_of-there}
 use Rattle.worm_region.proofs.NodeWritten.{below_cases}
 use Rattle.worm_region.proofs.AsListed.{buffer_there}
-use Rattle.worm_region.proofs.FrameKept.{kept, framed_mesh, node_framed}
+use Rattle.worm_region.proofs.FrameKept.{step_made, framed_mesh, node_framed}
 use Rattle.worm_region.proofs.ListFronts.{next_of, end_of}
 use Rattle.worm_region.proofs.Sources.{queue_after, fed_source, within_fed}
 use Rattle.worm_mesh.specs.Address.{node_count}
@@ -260,18 +260,8 @@ feed_at s x k net x_in k_in there None false next can same = (net, (there, feed_
 feed_at s x k net x_in k_in there (Some f) true next can same =
     let step = feed_done s x k f net x_in k_in next can in
     let new =
-    with_node s x (fed_node (node_at s x) k (Some (with_channel f (first_channel (source_at s x).channels k)))) in (
-      kept s new.nodes new.links (Feed x k) net there step.0 step.2 step.1,
-      record {
-        there = there;
-        enabled = step.0;
-        free = λ hindered. hindered;
-        after_it = step.1;
-        config = record { mesh = refl; channels = refl; depth = refl; names = refl; own = refl };
-        exact = same;
-        framed = step.2;
-      },
-    )
+    with_node s x (fed_node (node_at s x) k (Some (with_channel f (first_channel (source_at s x).channels k)))) in
+    step_made s new.nodes new.links (Feed x k) net there (λ no. no) step same
 feed_at s x k net x_in k_in there (Some f) false next can same =
     (net, (there, feed_full s x k f net x_in k_in next can, refl, refl))
 

@@ -20,7 +20,7 @@ use Rattle.worm_region.specs.Moves.{done_step, link_out, front_credit, CreditFit
 use Rattle.worm_region.proofs.NodeWritten.{put2_same, put3_same, output_bridge}
 use Rattle.worm_region.proofs.LinkWritten.{link_bridge, link_framed, out_there, credits_there}
 use Rattle.worm_region.proofs.AsListed.{holder_there, spent_there}
-use Rattle.worm_region.proofs.FrameKept.{kept, router_framed}
+use Rattle.worm_region.proofs.FrameKept.{step_made, router_framed}
 use Rattle.worm_region.proofs.LinksThere.{leader}
 use Rattle.worm_region.proofs.ListFronts.{first_of, none_of}
 
@@ -155,18 +155,8 @@ unfolding Outcome
 get_at s x o y net x_in there e None true first can same = absurd (cc)
 get_at s x o y net x_in there e (Some c) true first can same =
     let step = get_done s x o y c net x_in e first can in
-    let new = after_getting s x o (Some c) in (
-      kept s new.nodes new.links (TakeCredit x o) net there step.0 step.2 step.1,
-      record {
-        there = there;
-        enabled = step.0;
-        free = λ hindered. hindered;
-        after_it = step.1;
-        config = record { mesh = refl; channels = refl; depth = refl; names = refl; own = refl };
-        exact = same;
-        framed = step.2;
-      },
-    )
+    let new = after_getting s x o (Some c) in
+    step_made s new.nodes new.links (TakeCredit x o) net there (λ no. no) step same
 get_at s x o y net x_in there e c false first can same =
     (net, (there, get_idle s x o y net x_in e c first can, refl, refl))
 

@@ -24,7 +24,7 @@ use Rattle.worm_region.proofs.LinksThere.{feeder}
 use Rattle.worm_region.proofs.ListFronts.{first_of, none_of}
 use Rattle.worm_region.proofs.NodeWritten.{put2_same, put3_same, input_bridge, input_of-there, below_cases}
 use Rattle.worm_region.proofs.LinkWritten.{link_bridge, link_framed, out_there, credits_there}
-use Rattle.worm_region.proofs.FrameKept.{kept, router_framed}
+use Rattle.worm_region.proofs.FrameKept.{step_made, router_framed}
 use Rattle.worm_region.proofs.AsListed.{buffer_there}
 
 -- the buffer alone is changed
@@ -200,18 +200,8 @@ take_at s x p y net x_in there e None false first can same =
     (net, (there, take_idle s x p y net x_in e None first can, refl, refl))
 take_at s x p y net x_in there e (Some f) true first can same =
     let step = take_done s x p y f net x_in e first can in
-    let new = after_take s x p (links_before s.mesh y (opposite_of p)) (Some f) in (
-      kept s new.nodes new.links (Take x p) net there step.0 step.2 step.1,
-      record {
-        there = there;
-        enabled = step.0;
-        free = λ hindered. hindered;
-        after_it = step.1;
-        config = record { mesh = refl; channels = refl; depth = refl; names = refl; own = refl };
-        exact = same;
-        framed = step.2;
-      },
-    )
+    let new = after_take s x p (links_before s.mesh y (opposite_of p)) (Some f) in
+    step_made s new.nodes new.links (Take x p) net there (λ no. no) step same
 take_at s x p y net x_in there e (Some f) false first can same =
     (net, (there, take_idle s x p y net x_in e (Some f) first can, refl, refl))
 
