@@ -23,7 +23,7 @@ use Rattle.worm_region.specs.Moves.{done_step, FrontFits, has_room, can_enter, f
 use Rattle.worm_region.proofs.NodeWritten.{put2_same, put3_same, node_bridge, itself3, input_of-put, input_of-there}
 use Rattle.worm_region.proofs.NodeWritten.{below_cases}
 use Rattle.worm_region.proofs.AsListed.{buffer_there}
-use Rattle.worm_region.proofs.FrameKept.{kept, framed_mesh, node_framed}
+use Rattle.worm_region.proofs.FrameKept.{step_made, framed_mesh, node_framed}
 use Rattle.worm_region.proofs.ListFronts.{next_of, end_of}
 use Rattle.worm_region.proofs.Sources.{queue_after, fed_source, within_fed}
 use Rattle.worm_mesh.specs.Address.{node_count}
@@ -148,65 +148,86 @@ unfed_at : (s : NetState) (x k : ℕ) → (network_of s).unfed x k ≡ drop (que
 unfolding network_of
 unfed_at s x k = refl
 
--- the next flit may enter the injection buffer
-feed_place : (s : NetState) (x k : ℕ) (f : Flit) → {own : ℕ → Bool} → IsWorkableBy own s → x < length s.nodes →
-    k < length s.channels → waiting (queue_of s x k) ≡ Some f
-    → IsNetPlace s x (terminal (router_at s x)) (first_channel (source_at s x).channels k) ×
-    (f.lane.dst < node_count (router_at s x).mesh)
-unfolding net_shape
-feed_place s x k f net x_in k_in next =
-    let node = net.framed.each_node x x_in in
-    let mesh = framed_mesh s net.framed in
-    let first : first_channel s.channels k < sum s.channels = (mesh.first_owned k k_in).0 in
-    let unfed = unfed_at s x k ∙ next_of (queue_of s x k).injected (queue_of s x k).fed f next in
-    let all = subst (λ (fs : List Flit). All (IsBound (shape s)) fs) unfed (net.works.unfed x k) in
-    let from = All-head (IsBound (shape s)) f (drop ((queue_of s x k).fed + 1) (queue_of s x k).injected) all in
-    let same_vc : first_channel (source_at s x).channels k ≡ first_channel s.channels k =
-    ap (λ (cs : List ℕ). first_channel cs k) node.source_channels in (
-      record {
-        node_in = x_in;
-        place = record { port_in = omega arith; channel_in = rw (same_vc, node.same_channels) first };
-      },
-      rw node.same_mesh from,
-    )
+module _ (s : NetState) (x k : ℕ) (f : Flit) {own : ℕ → Bool} (net : IsWorkableBy own s) (x_in : x < length s.nodes)
+    (k_in : k < length s.channels) (next : waiting (queue_of s x k) ≡ Some f) where
+  -- the next flit may enter the injection buffer
+  feed_place : IsNetPlace s x (terminal (router_at s x)) (first_channel (source_at s x).channels k) ×
+      (f.lane.dst < node_count (router_at s x).mesh)
+  unfolding net_shape
+  feed_place =
+      let node = net.framed.each_node x x_in in
+      let mesh = framed_mesh s net.framed in
+      let first : first_channel s.channels k < sum s.channels = (mesh.first_owned k k_in).0 in
+      let unfed = unfed_at s x k ∙ next_of (queue_of s x k).injected (queue_of s x k).fed f next in
+      let all = subst (λ (fs : List Flit). All (IsBound (shape s)) fs) unfed (net.works.unfed x k) in
+      let from = All-head (IsBound (shape s)) f (drop ((queue_of s x k).fed + 1) (queue_of s x k).injected) all in
+      let same_vc : first_channel (source_at s x).channels k ≡ first_channel s.channels k =
+      ap (λ (cs : List ℕ). first_channel cs k) node.source_channels in (
+        record {
+          node_in = x_in;
+          place = record { port_in = omega arith; channel_in = rw (same_vc, node.same_channels) first };
+        },
+        rw node.same_mesh from,
+      )
 
-feed_done : (s : NetState) (x k : ℕ) (f : Flit) → {own : ℕ → Bool} → IsWorkableBy own s → x < length s.nodes →
-    k < length s.channels → waiting (queue_of s x k) ≡ Some f
-    → has_room (router_at s x) (terminal (router_at s x)) (with_channel f (first_channel (source_at s x).channels k)) ≡
-    true
-    → Enabled (shape s) (network_of s) (Feed x k)
-    × (network_of (with_node s x (fed_node (node_at s x) k
-    (Some (with_channel f (first_channel (source_at s x).channels k))))) ≡ after (shape s) (network_of s) (Feed x k))
-    × IsFramed (with_node s x (fed_node (node_at s x) k
-    (Some (with_channel f (first_channel (source_at s x).channels k)))))
-unfolding net_shape
-feed_done s x k f net x_in k_in next room =
-    let N = network_of s in
-    let node = net.framed.each_node x x_in in
-    let r = router_at s x in
-    let vc = first_channel (source_at s x).channels k in
-    let rest = drop ((queue_of s x k).fed + 1) (queue_of s x k).injected in
-    let place = feed_place s x k f net x_in k_in next in
-    let unfed : N.unfed x k ≡ f ∷ rest =
-    unfed_at s x k ∙ next_of (queue_of s x k).injected (queue_of s x k).fed f next in
-    let some : 0 < length (N.unfed x k) = rw unfed (omega arith) in
-    let fits : length (input_at r (terminal r) vc).buffer < s.depth =
-    elim (below_cases (length (input_at r (terminal r) vc).buffer) r.depth) [
-      | inl h ↦ let lt = h.1 in let d = node.same_depth in omega arith
-      | inr h ↦ let no = h.0 in absurd (cc)
-    ] in
-    let same_vc : vc ≡ first_channel s.channels k = ap (λ (cs : List ℕ). first_channel cs k) node.source_channels in
-    let same_port : terminal r ≡ 2 * length s.mesh = ap (λ (m : List ℕ). 2 * length m) node.same_mesh in
-    let here : length (N.buffer x (terminal r) vc) < s.depth = rw (buffer_there s x (terminal r) vc place.0) fits in
-    let theirs : length (N.buffer x (2 * length s.mesh) (first_channel s.channels k)) < s.depth =
-    subst (λ (v : ℕ). length (N.buffer x (2 * length s.mesh) v) < s.depth) same_vc
-    (subst (λ (p : ℕ). length (N.buffer x p vc) < s.depth) same_port here) in
-    let to_after : fed (shape s) N x k (f ∷ rest) ≡ after (shape s) N (Feed x k) =
-    ap (λ (fs : List Flit). fed (shape s) N x k fs) (sym unfed) in (
-      (some, theirs),
-      feed_bridge s x k f net.framed x_in k_in next place.0 ∙ to_after,
-      node_framed s x _ net.framed x_in (new_node s x k f net.framed x_in k_in next),
-    )
+  feed_done : has_room (router_at s x) (terminal (router_at s x))
+      (with_channel f (first_channel (source_at s x).channels k)) ≡ true
+      → Enabled (shape s) (network_of s) (Feed x k)
+      × (network_of (with_node s x (fed_node (node_at s x) k
+      (Some (with_channel f (first_channel (source_at s x).channels k))))) ≡ after (shape s) (network_of s) (Feed x k))
+      × IsFramed (with_node s x (fed_node (node_at s x) k
+      (Some (with_channel f (first_channel (source_at s x).channels k)))))
+  unfolding net_shape
+  feed_done room =
+      let N = network_of s in
+      let node = net.framed.each_node x x_in in
+      let r = router_at s x in
+      let vc = first_channel (source_at s x).channels k in
+      let rest = drop ((queue_of s x k).fed + 1) (queue_of s x k).injected in
+      let place = feed_place in
+      let unfed : N.unfed x k ≡ f ∷ rest =
+      unfed_at s x k ∙ next_of (queue_of s x k).injected (queue_of s x k).fed f next in
+      let some : 0 < length (N.unfed x k) = rw unfed (omega arith) in
+      let fits : length (input_at r (terminal r) vc).buffer < s.depth =
+      elim (below_cases (length (input_at r (terminal r) vc).buffer) r.depth) [
+        | inl h ↦ let lt = h.1 in let d = node.same_depth in omega arith
+        | inr h ↦ let no = h.0 in absurd (cc)
+      ] in
+      let same_vc : vc ≡ first_channel s.channels k = ap (λ (cs : List ℕ). first_channel cs k) node.source_channels in
+      let same_port : terminal r ≡ 2 * length s.mesh = ap (λ (m : List ℕ). 2 * length m) node.same_mesh in
+      let here : length (N.buffer x (terminal r) vc) < s.depth = rw (buffer_there s x (terminal r) vc place.0) fits in
+      let theirs : length (N.buffer x (2 * length s.mesh) (first_channel s.channels k)) < s.depth =
+      subst (λ (v : ℕ). length (N.buffer x (2 * length s.mesh) v) < s.depth) same_vc
+      (subst (λ (p : ℕ). length (N.buffer x p vc) < s.depth) same_port here) in
+      let to_after : fed (shape s) N x k (f ∷ rest) ≡ after (shape s) N (Feed x k) =
+      ap (λ (fs : List Flit). fed (shape s) N x k fs) (sym unfed) in (
+        (some, theirs),
+        feed_bridge s x k f net.framed x_in k_in next place.0 ∙ to_after,
+        node_framed s x _ net.framed x_in (new_node s x k f net.framed x_in k_in next),
+      )
+
+  feed_full : has_room (router_at s x) (terminal (router_at s x))
+      (with_channel f (first_channel (source_at s x).channels k)) ≡ false
+      → Enabled (shape s) (network_of s) (Feed x k) → ⊥
+  unfolding net_shape
+  feed_full room h =
+      let N = network_of s in
+      let node = net.framed.each_node x x_in in
+      let r = router_at s x in
+      let vc = first_channel (source_at s x).channels k in
+      let place = feed_place in
+      let same_vc : vc ≡ first_channel s.channels k = ap (λ (cs : List ℕ). first_channel cs k) node.source_channels in
+      let same_port : terminal r ≡ 2 * length s.mesh = ap (λ (m : List ℕ). 2 * length m) node.same_mesh in
+      let theirs : length (N.buffer x (2 * length s.mesh) (first_channel s.channels k)) < s.depth = h.1 in
+      let here : length (N.buffer x (terminal r) vc) < s.depth =
+      subst (λ (v : ℕ). length (N.buffer x (terminal r) v) < s.depth) (sym same_vc)
+      (subst (λ (p : ℕ). length (N.buffer x p (first_channel s.channels k)) < s.depth) (sym same_port) theirs) in
+      let fits : length (input_at r (terminal r) vc).buffer < s.depth =
+      rw (buffer_there s x (terminal r) vc place.0) at here in
+      elim (below_cases (length (input_at r (terminal r) vc).buffer) r.depth) [
+        | inl lt ↦ let no = lt.0 in absurd (cc)
+        | inr le ↦ let past = le.1 in let d = node.same_depth in absurd (omega arith)
+      ]
 
 feed_none : (s : NetState) (x k : ℕ) → waiting (queue_of s x k) ≡ None → Enabled (shape s) (network_of s) (Feed x k) →
     ⊥
@@ -215,31 +236,6 @@ feed_none s x k none h =
     unfed_at s x k ∙ end_of (queue_of s x k).injected (queue_of s x k).fed none in
     let some : 0 < length ((network_of s).unfed x k) = h.0 in
     absurd (omega (arith, ap (λ (fs : List Flit). length fs) empty))
-
-feed_full : (s : NetState) (x k : ℕ) (f : Flit) → {own : ℕ → Bool} → IsWorkableBy own s → x < length s.nodes →
-    k < length s.channels → waiting (queue_of s x k) ≡ Some f
-    → has_room (router_at s x) (terminal (router_at s x)) (with_channel f (first_channel (source_at s x).channels k)) ≡
-    false
-    → Enabled (shape s) (network_of s) (Feed x k) → ⊥
-unfolding net_shape
-feed_full s x k f net x_in k_in next room h =
-    let N = network_of s in
-    let node = net.framed.each_node x x_in in
-    let r = router_at s x in
-    let vc = first_channel (source_at s x).channels k in
-    let place = feed_place s x k f net x_in k_in next in
-    let same_vc : vc ≡ first_channel s.channels k = ap (λ (cs : List ℕ). first_channel cs k) node.source_channels in
-    let same_port : terminal r ≡ 2 * length s.mesh = ap (λ (m : List ℕ). 2 * length m) node.same_mesh in
-    let theirs : length (N.buffer x (2 * length s.mesh) (first_channel s.channels k)) < s.depth = h.1 in
-    let here : length (N.buffer x (terminal r) vc) < s.depth =
-    subst (λ (v : ℕ). length (N.buffer x (terminal r) v) < s.depth) (sym same_vc)
-    (subst (λ (p : ℕ). length (N.buffer x p (first_channel s.channels k)) < s.depth) (sym same_port) theirs) in
-    let fits : length (input_at r (terminal r) vc).buffer < s.depth =
-    rw (buffer_there s x (terminal r) vc place.0) at here in
-    elim (below_cases (length (input_at r (terminal r) vc).buffer) r.depth) [
-      | inl lt ↦ let no = lt.0 in absurd (cc)
-      | inr le ↦ let past = le.1 in let d = node.same_depth in absurd (omega arith)
-    ]
 
 Outcome : (ℕ → Bool) → NetState → ℕ → ℕ → Option Flit → Bool → Type 0
 Outcome own s x k o b =
@@ -260,18 +256,8 @@ feed_at s x k net x_in k_in there None false next can same = (net, (there, feed_
 feed_at s x k net x_in k_in there (Some f) true next can same =
     let step = feed_done s x k f net x_in k_in next can in
     let new =
-    with_node s x (fed_node (node_at s x) k (Some (with_channel f (first_channel (source_at s x).channels k)))) in (
-      kept s new.nodes new.links (Feed x k) net there step.0 step.2 step.1,
-      record {
-        there = there;
-        enabled = step.0;
-        free = λ hindered. hindered;
-        after_it = step.1;
-        config = record { mesh = refl; channels = refl; depth = refl; names = refl; own = refl };
-        exact = same;
-        framed = step.2;
-      },
-    )
+    with_node s x (fed_node (node_at s x) k (Some (with_channel f (first_channel (source_at s x).channels k)))) in
+    step_made s new.nodes new.links (Feed x k) net there (λ no. no) step same
 feed_at s x k net x_in k_in there (Some f) false next can same =
     (net, (there, feed_full s x k f net x_in k_in next can, refl, refl))
 

@@ -14,6 +14,8 @@ use Rattle.worm_region.specs.State.{NetState, IsFramed, IsNodeOf, shape, network
 use Rattle.worm_wires.specs.Links.{LinkView}
 use Rattle.worm_region.specs.State.{router_at, with_node, with_router}
 use Rattle.worm_region.specs.Workable.{IsWorkableBy, Works}
+use Rattle.worm_region.specs.Moves.{done_step}
+use Rattle.worm_region.specs.Replies.{Hindered, IsMade}
 use Rattle.worm_region.proofs.NodeWritten.{node_at-put}
 use Rattle.worm_region.proofs.StaysWorking.{step_works}
 use Rattle.worm_shape.proofs.Shapes.{shape_is_mesh}
@@ -37,6 +39,28 @@ kept s nodes links step {own} net there enabled framed e =
           subst (λ (n : Network). Works (shape s) own n) (sym e)
           (step_works (shape s) mesh (network_of s) step there enabled net.works);
     }
+
+-- a step that is there, enabled and done is made, and leaves a network that moves can be made in
+pub step_made : (s : NetState) (nodes : List Node) (links : List LinkView) (step : Step) → {own : ℕ → Bool} →
+    IsWorkableBy own s → IsThere (shape s) step → (Hindered s step → ⊥)
+    → Enabled (shape s) (network_of s) step
+    × (network_of (record s { nodes = nodes; links = links }) ≡ after (shape s) (network_of s) step)
+    × IsFramed (record s { nodes = nodes; links = links })
+    → record s { nodes = nodes; links = links } ≡ done_step s step
+    → IsWorkableBy own (record s { nodes = nodes; links = links })
+    × IsMade s step (record s { nodes = nodes; links = links })
+step_made s nodes links step net there free stands same = (
+  kept s nodes links step net there stands.0 stands.2 stands.1,
+  record {
+    there = there;
+    enabled = stands.0;
+    free = free;
+    after_it = stands.1;
+    config = record { mesh = refl; channels = refl; depth = refl; names = refl; own = refl };
+    exact = same;
+    framed = stands.2;
+  },
+)
 
 -- a node's place in the frame, after a write
 pub node_framed : (s : NetState) (x : ℕ) (n : Node) → IsFramed s → x < length s.nodes →

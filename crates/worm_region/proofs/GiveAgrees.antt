@@ -22,7 +22,7 @@ use Rattle.worm_region.proofs.NodeWritten.{put2_same, put3_same, input_bridge, i
 use Rattle.worm_region.proofs.LinkWritten.{link_bridge, link_framed, out_there, credits_there}
 use Rattle.worm_region.proofs.AsListed.{owed_there}
 use Rattle.worm_region.proofs.Room.{bounded_less, credits_counted}
-use Rattle.worm_region.proofs.FrameKept.{kept, router_framed, framed_mesh}
+use Rattle.worm_region.proofs.FrameKept.{step_made, router_framed, framed_mesh}
 use Rattle.worm_region.proofs.PlacesThere.{net_place}
 use Rattle.worm_region.proofs.LinksThere.{feeder}
 use Rattle.worm_region.proofs.Turning.{owing}
@@ -156,19 +156,8 @@ give_at : (s : NetState) (x p v y : ℕ) → {own : ℕ → Bool} → IsWorkable
 unfolding Outcome
 give_at s x p v y net place there e true can same =
     let step = give_done s x p v y net place e can in
-    let new = after_giving s x p v (links_before s.mesh y (opposite_of p)) in (
-      kept s new.nodes new.links (GiveCredit x p v) net there step.0 step.2 step.1,
-      record {
-        there =
-            there;
-        enabled = step.0;
-        free = λ hindered. hindered;
-        after_it = step.1;
-        config = record { mesh = refl; channels = refl; depth = refl; names = refl; own = refl };
-        exact = same;
-        framed = step.2;
-      },
-    )
+    let new = after_giving s x p v (links_before s.mesh y (opposite_of p)) in
+    step_made s new.nodes new.links (GiveCredit x p v) net there (λ no. no) step same
 give_at s x p v y net place there e false can same = (net, (there, give_idle s x p v place can, refl, refl))
 
 give_by : (s : NetState) (x p v : ℕ) → {own : ℕ → Bool} → IsWorkableBy own s → IsNetPlace s x p v →

@@ -21,7 +21,7 @@ use Rattle.worm_region.specs.Answers.{moved_of}
 use Rattle.worm_region.proofs.NodeWritten.{put3_same, router_bridge, input_of-there, input_of-put, output_of-there}
 use Rattle.worm_region.proofs.NodeWritten.{output_of-put, with_router_same}
 use Rattle.worm_flit.proofs.Owners.{owner-from_owns, owns-from_owner}
-use Rattle.worm_region.proofs.FrameKept.{kept, router_framed}
+use Rattle.worm_region.proofs.FrameKept.{step_made, router_framed}
 use Rattle.worm_region.proofs.PlacesThere.{net_place, port_below}
 use Rattle.worm_region.proofs.AsListed.{buffer_there, record_there, holder_there}
 
@@ -203,18 +203,9 @@ grant_answers_by s x p v k net there (Some o) e =
     let step = grant_done s x p v k o net place there.3 c.state c.buffer refl refl e in
     let r = after_granting (router_at s x) p v k (Some o) in
     let framed =
-    router_framed s x r.inputs r.outputs net.framed place.node_in (rw length-set refl) (rw length-set refl) in (
-      kept s (with_router s x r).nodes s.links (Grant x p v k) net there step.0 framed step.1,
-      record {
-        there = there;
-        enabled = step.0;
-        free = λ hindered. hindered;
-        after_it = step.1;
-        config = record { mesh = refl; channels = refl; depth = refl; names = refl; own = refl };
-        exact = ap (λ (g : Option ℕ). with_router s x (after_granting (router_at s x) p v k g)) (sym e);
-        framed = framed;
-      },
-    )
+    router_framed s x r.inputs r.outputs net.framed place.node_in (rw length-set refl) (rw length-set refl) in
+    step_made s (with_router s x r).nodes s.links (Grant x p v k) net there (λ no. no) (step.0, step.1, framed)
+    (ap (λ (g : Option ℕ). with_router s x (after_granting (router_at s x) p v k g)) (sym e))
 grant_answers_by s x p v k {own} net there None e =
     let place = net_place s x p v net.framed there.0 there.1 there.2 in
     let c = input_at (router_at s x) p v in

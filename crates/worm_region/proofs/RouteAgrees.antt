@@ -18,7 +18,7 @@ use Rattle.worm_region.specs.Replies.{Replies}
 use Rattle.worm_region.specs.Answers.{moved_of}
 use Rattle.worm_region.proofs.NodeWritten.{put3_same, input_bridge, input_of-there}
 use Rattle.worm_region.proofs.AsListed.{buffer_there, record_there}
-use Rattle.worm_region.proofs.FrameKept.{kept, router_framed}
+use Rattle.worm_region.proofs.FrameKept.{step_made, router_framed}
 use Rattle.worm_region.proofs.PlacesThere.{net_place}
 
 -- only the record of an input channel is changed
@@ -105,18 +105,8 @@ route_answers s x p v net there true e =
     let c = input_at (router_at s x) p v in
     let step = route_done s x p v net.framed place c.state c.buffer refl refl (sym e) in
     let r = after_route (router_at s x) p v in
-    let framed = router_framed s x r.inputs r.outputs net.framed place.node_in (rw length-set refl) refl in (
-      kept s (with_router s x r).nodes s.links (Route x p v) net there step.0 framed step.1,
-      record {
-        there = there;
-        enabled = step.0;
-        free = λ hindered. hindered;
-        after_it = step.1;
-        config = record { mesh = refl; channels = refl; depth = refl; names = refl; own = refl };
-        exact = refl;
-        framed = framed;
-      },
-    )
+    let framed = router_framed s x r.inputs r.outputs net.framed place.node_in (rw length-set refl) refl in
+    step_made s (with_router s x r).nodes s.links (Route x p v) net there (λ no. no) (step.0, step.1, framed) refl
 route_answers s x p v net there false e =
     let place = net_place s x p v net.framed there.0 there.1 there.2 in
     let c = input_at (router_at s x) p v in

@@ -24,7 +24,7 @@ use Rattle.worm_region.proofs.LinksThere.{feeder}
 use Rattle.worm_region.proofs.ListFronts.{first_of, none_of}
 use Rattle.worm_region.proofs.NodeWritten.{put2_same, put3_same, input_bridge, input_of-there, below_cases}
 use Rattle.worm_region.proofs.LinkWritten.{link_bridge, link_framed, out_there, credits_there}
-use Rattle.worm_region.proofs.FrameKept.{kept, router_framed}
+use Rattle.worm_region.proofs.FrameKept.{step_made, router_framed}
 use Rattle.worm_region.proofs.AsListed.{buffer_there}
 
 -- the buffer alone is changed
@@ -55,165 +55,159 @@ buffer_bridge s x p f framed place =
     } in
     input_bridge s x p f.vc (put_in c f) place.node_in place.place (framed.each_node x place.node_in).all_inputs ∙ same
 
--- the front of a link may go into a buffer of its end
-pub front_place : (s : NetState) (x p y : ℕ) (f : Flit) (rest : List Flit) → {own : ℕ → Bool} → IsWorkableBy own s →
-    x < length s.nodes → neighbour_of s.mesh x p ≡ Some y
-    → (link_at s (links_before s.mesh y (opposite_of p))).flits ≡ f ∷ rest →
-    IsNetPlace s x p f.vc × (f.lane.dst < node_count (router_at s x).mesh)
-unfolding net_shape
-front_place s x p y f rest net x_in e flits =
-    let node = net.framed.each_node x x_in in
-    let fed = feeder s x p y net.framed e in
-    let out = out_there s y (opposite_of p) net.framed fed.has ∙ flits in
-    let all = subst (λ (fs : List Flit). All (IsSent (shape s)) fs) out (net.works.out y (opposite_of p)) in
-    let is_sent = All-head (IsSent (shape s)) f rest all in
-    let port : p < 2 * length s.mesh = fed.port_in in
-    let channel : f.vc < sum s.channels = is_sent.channel in
-    let port_le : p ≤ 2 * length s.mesh = omega arith in (
-      record {
-        node_in = x_in;
-        place = record { port_in = rw node.same_mesh port_le; channel_in = rw node.same_channels channel };
-      },
-      rw node.same_mesh is_sent.goal,
-    )
-
-take_done : (s : NetState) (x p y : ℕ) (f : Flit) → {own : ℕ → Bool} → IsWorkableBy own s → x < length s.nodes →
-    neighbour_of s.mesh x p ≡ Some y
-    → slice_get (link_at s (links_before s.mesh y (opposite_of p))).flits 0 ≡ Some f →
-    has_room (router_at s x) p f ≡ true
-    → Enabled (shape s) (network_of s) (Take x p) ×
-    (network_of (after_take s x p (links_before s.mesh y (opposite_of p)) (Some f)) ≡
-    after (shape s) (network_of s) (Take x p)) ×
-    IsFramed (after_take s x p (links_before s.mesh y (opposite_of p)) (Some f))
-unfolding net_shape
-take_done s x p y f net x_in e first room =
-    let k = links_before s.mesh y (opposite_of p) in
-    let o = opposite_of p in
-    let N = network_of s in
-    let node = net.framed.each_node x x_in in
-    let fed = feeder s x p y net.framed e in
-    let flits = first_of (link_at s k).flits f first in
-    let rest = drop 1 (link_at s k).flits in
-    let place = front_place s x p y f rest net x_in e flits in
-    let out : N.out y o ≡ f ∷ rest = out_there s y o net.framed fed.has ∙ flits in
-    let buffer = buffer_there s x p f.vc place.0 in
-    let fits : length (input_at (router_at s x) p f.vc).buffer < s.depth =
-    elim (below_cases (length (input_at (router_at s x) p f.vc).buffer) (router_at s x).depth) [
-      | inl h ↦ let lt = h.1 in let d = node.same_depth in omega arith
-      | inr h ↦ let no = h.0 in absurd (cc)
-    ] in
-    let theirs : length (N.buffer x p f.vc) < s.depth = rw buffer fits in
-    let front : FrontIs (N.out y o) (λ g. length (N.buffer x p g.vc) < s.depth) =
-    subst (λ (fs : List Flit). FrontIs fs (λ g. length (N.buffer x p g.vc) < s.depth)) (sym out) theirs in
-    let enabled : Enabled (shape s) N (Take x p) =
-    subst (λ (z : Option ℕ). IsLinked z (λ y. FrontIs (N.out y o) (λ g. length (N.buffer x p g.vc) < s.depth)))
-    (sym e) front in
-    let r = after_accept (router_at s x) p f in
-    let mid = with_router s x r in
-    let mid_framed = router_framed s x r.inputs r.outputs net.framed x_in (rw length-set refl) refl in
-    let l : LinkView = record (link_at s k) { flits = rest } in
-    let from_mid = link_bridge mid y o l mid_framed fed.has in
-    let mid_is = buffer_bridge s x p f net.framed place.0 in
-    let linked : record (network_of mid) {
-      out = put2 (network_of mid).out y o rest;
-      credit_list = put2 (network_of mid).credit_list y o (link_at s k).credits;
-    }
-    ≡ record N {
-      buffer = put3 N.buffer x p f.vc (N.buffer x p f.vc ++ f ∷ []);
-      out = put2 N.out y o rest;
-      credit_list = put2 N.credit_list y o (link_at s k).credits;
-    }
-    = ap (λ (n : Network). record n {
-      out = put2 n.out y o rest;
-      credit_list = put2 n.credit_list y o (link_at s k).credits;
-    }) mid_is in
-    let credits = put2_same N.credit_list y o (link_at s k).credits (sym (credits_there s y o net.framed fed.has)) in
-    let same : record N {
-      buffer = put3 N.buffer x p f.vc (N.buffer x p f.vc ++ f ∷ []);
-      out = put2 N.out y o rest;
-      credit_list = put2 N.credit_list y o (link_at s k).credits;
-    }
-    ≡ taken_from N x p y o (f ∷ rest)
-    = λ t. record N {
-      buffer = put3 N.buffer x p f.vc (N.buffer x p f.vc ++ f ∷ []);
-      out = put2 N.out y o rest;
-      credit_list = credits t;
-    } in
-    let to_taken : taken_from N x p y o (f ∷ rest) ≡ taken (shape s) N x p (Some y) =
-    ap (λ (fs : List Flit). taken_from N x p y o fs) (sym out) in
-    let to_after : taken (shape s) N x p (Some y) ≡ after (shape s) N (Take x p) =
-    ap (λ (z : Option ℕ). taken (shape s) N x p z) (sym e) in
-    (enabled, from_mid ∙ (linked ∙ (same ∙ (to_taken ∙ to_after))), link_framed mid k l mid_framed fed.bound refl)
-
-take_idle : (s : NetState) (x p y : ℕ) → {own : ℕ → Bool} → IsWorkableBy own s → x < length s.nodes →
-    neighbour_of s.mesh x p ≡ Some y → (o : Option Flit)
-    → slice_get (link_at s (links_before s.mesh y (opposite_of p))).flits 0 ≡ o → can_enter (router_at s x) p o ≡ false
-    → Enabled (shape s) (network_of s) (Take x p) → ⊥
-unfolding net_shape
-take_idle s x p y net x_in e None first can h =
-    let fed = feeder s x p y net.framed e in
-    let out : (network_of s).out y (opposite_of p) ≡ [] =
-    out_there s y (opposite_of p) net.framed fed.has ∙
-    none_of (link_at s (links_before s.mesh y (opposite_of p))).flits first in
-    let front : FrontIs ((network_of s).out y (opposite_of p))
-    (λ g. length ((network_of s).buffer x p g.vc) < s.depth) =
-    subst (λ (z : Option ℕ). IsLinked z
-    (λ y. FrontIs ((network_of s).out y (opposite_of p)) (λ g. length ((network_of s).buffer x p g.vc) < s.depth))) e
-    h in
-    subst (λ (fs : List Flit). FrontIs fs (λ g. length ((network_of s).buffer x p g.vc) < s.depth)) out front
-take_idle s x p y net x_in e (Some f) first can h =
-    let node = net.framed.each_node x x_in in
-    let fed = feeder s x p y net.framed e in
-    let k = links_before s.mesh y (opposite_of p) in
-    let flits = first_of (link_at s k).flits f first in
-    let place = front_place s x p y f (drop 1 (link_at s k).flits) net x_in e flits in
-    let out : (network_of s).out y (opposite_of p) ≡ f ∷ drop 1 (link_at s k).flits =
-    out_there s y (opposite_of p) net.framed fed.has ∙ flits in
-    let front : FrontIs ((network_of s).out y (opposite_of p))
-    (λ g. length ((network_of s).buffer x p g.vc) < s.depth) =
-    subst (λ (z : Option ℕ). IsLinked z
-    (λ y. FrontIs ((network_of s).out y (opposite_of p)) (λ g. length ((network_of s).buffer x p g.vc) < s.depth))) e
-    h in
-    let theirs : length ((network_of s).buffer x p f.vc) < s.depth =
-    subst (λ (fs : List Flit). FrontIs fs (λ g. length ((network_of s).buffer x p g.vc) < s.depth)) out front in
-    let ours : length (input_at (router_at s x) p f.vc).buffer < s.depth =
-    rw (buffer_there s x p f.vc place.0) at theirs in
-    elim (below_cases (length (input_at (router_at s x) p f.vc).buffer) (router_at s x).depth) [
-      | inl h ↦ let yes_room = h.0 in absurd (cc)
-      | inr h ↦ let ge = h.1 in let d = node.same_depth in absurd (omega arith)
-    ]
-
 -- what a take that is tried leaves and answers, for the link k
 Outcome : (ℕ → Bool) → NetState → ℕ → ℕ → ℕ → Option Flit → Bool → Type 0
 Outcome own s x p k o b =
     IsWorkableBy own (if b then after_take s x p k o else s) ×
     Replies s (Take x p) (Ok (moved_of b)) (if b then after_take s x p k o else s)
 
-take_at : (s : NetState) (x p y : ℕ) → {own : ℕ → Bool} → IsWorkableBy own s → x < length s.nodes →
-    IsThere (shape s) (Take x p) → neighbour_of s.mesh x p ≡ Some y → (o : Option Flit) (b : Bool)
-    → slice_get (link_at s (links_before s.mesh y (opposite_of p))).flits 0 ≡ o → can_enter (router_at s x) p o ≡ b
-    → after_take s x p (links_before s.mesh y (opposite_of p)) o ≡ done_step s (Take x p) →
-    Outcome own s x p (links_before s.mesh y (opposite_of p)) o b
-unfolding Outcome
-take_at s x p y net x_in there e None true first can same = absurd (cc)
-take_at s x p y net x_in there e None false first can same =
-    (net, (there, take_idle s x p y net x_in e None first can, refl, refl))
-take_at s x p y net x_in there e (Some f) true first can same =
-    let step = take_done s x p y f net x_in e first can in
-    let new = after_take s x p (links_before s.mesh y (opposite_of p)) (Some f) in (
-      kept s new.nodes new.links (Take x p) net there step.0 step.2 step.1,
-      record {
-        there = there;
-        enabled = step.0;
-        free = λ hindered. hindered;
-        after_it = step.1;
-        config = record { mesh = refl; channels = refl; depth = refl; names = refl; own = refl };
-        exact = same;
-        framed = step.2;
-      },
-    )
-take_at s x p y net x_in there e (Some f) false first can same =
-    (net, (there, take_idle s x p y net x_in e (Some f) first can, refl, refl))
+module _ (s : NetState) (x p y : ℕ) {own : ℕ → Bool} (net : IsWorkableBy own s) (x_in : x < length s.nodes)
+    (e : neighbour_of s.mesh x p ≡ Some y) where
+  -- the front of a link may go into a buffer of its end
+  front_place : (f : Flit) (rest : List Flit) → (link_at s (links_before s.mesh y (opposite_of p))).flits ≡ f ∷ rest →
+      IsNetPlace s x p f.vc × (f.lane.dst < node_count (router_at s x).mesh)
+  unfolding net_shape
+  front_place f rest flits =
+      let node = net.framed.each_node x x_in in
+      let fed = feeder s x p y net.framed e in
+      let out = out_there s y (opposite_of p) net.framed fed.has ∙ flits in
+      let all = subst (λ (fs : List Flit). All (IsSent (shape s)) fs) out (net.works.out y (opposite_of p)) in
+      let is_sent = All-head (IsSent (shape s)) f rest all in
+      let port : p < 2 * length s.mesh = fed.port_in in
+      let channel : f.vc < sum s.channels = is_sent.channel in
+      let port_le : p ≤ 2 * length s.mesh = omega arith in (
+        record {
+          node_in = x_in;
+          place = record { port_in = rw node.same_mesh port_le; channel_in = rw node.same_channels channel };
+        },
+        rw node.same_mesh is_sent.goal,
+      )
+
+  take_done : (f : Flit) → slice_get (link_at s (links_before s.mesh y (opposite_of p))).flits 0 ≡ Some f →
+      has_room (router_at s x) p f ≡ true
+      → Enabled (shape s) (network_of s) (Take x p) ×
+      (network_of (after_take s x p (links_before s.mesh y (opposite_of p)) (Some f)) ≡
+      after (shape s) (network_of s) (Take x p)) ×
+      IsFramed (after_take s x p (links_before s.mesh y (opposite_of p)) (Some f))
+  unfolding net_shape
+  take_done f first room =
+      let k = links_before s.mesh y (opposite_of p) in
+      let o = opposite_of p in
+      let N = network_of s in
+      let node = net.framed.each_node x x_in in
+      let fed = feeder s x p y net.framed e in
+      let flits = first_of (link_at s k).flits f first in
+      let rest = drop 1 (link_at s k).flits in
+      let place = front_place f rest flits in
+      let out : N.out y o ≡ f ∷ rest = out_there s y o net.framed fed.has ∙ flits in
+      let buffer = buffer_there s x p f.vc place.0 in
+      let fits : length (input_at (router_at s x) p f.vc).buffer < s.depth =
+      elim (below_cases (length (input_at (router_at s x) p f.vc).buffer) (router_at s x).depth) [
+        | inl h ↦ let lt = h.1 in let d = node.same_depth in omega arith
+        | inr h ↦ let no = h.0 in absurd (cc)
+      ] in
+      let theirs : length (N.buffer x p f.vc) < s.depth = rw buffer fits in
+      let front : FrontIs (N.out y o) (λ g. length (N.buffer x p g.vc) < s.depth) =
+      subst (λ (fs : List Flit). FrontIs fs (λ g. length (N.buffer x p g.vc) < s.depth)) (sym out) theirs in
+      let enabled : Enabled (shape s) N (Take x p) =
+      subst (λ (z : Option ℕ). IsLinked z (λ y. FrontIs (N.out y o) (λ g. length (N.buffer x p g.vc) < s.depth)))
+      (sym e) front in
+      let r = after_accept (router_at s x) p f in
+      let mid = with_router s x r in
+      let mid_framed = router_framed s x r.inputs r.outputs net.framed x_in (rw length-set refl) refl in
+      let l : LinkView = record (link_at s k) { flits = rest } in
+      let from_mid = link_bridge mid y o l mid_framed fed.has in
+      let mid_is = buffer_bridge s x p f net.framed place.0 in
+      let linked : record (network_of mid) {
+        out = put2 (network_of mid).out y o rest;
+        credit_list = put2 (network_of mid).credit_list y o (link_at s k).credits;
+      }
+      ≡ record N {
+        buffer = put3 N.buffer x p f.vc (N.buffer x p f.vc ++ f ∷ []);
+        out = put2 N.out y o rest;
+        credit_list = put2 N.credit_list y o (link_at s k).credits;
+      }
+      = ap (λ (n : Network). record n {
+        out = put2 n.out y o rest;
+        credit_list = put2 n.credit_list y o (link_at s k).credits;
+      }) mid_is in
+      let credits = put2_same N.credit_list y o (link_at s k).credits (sym (credits_there s y o net.framed fed.has)) in
+      let same : record N {
+        buffer = put3 N.buffer x p f.vc (N.buffer x p f.vc ++ f ∷ []);
+        out = put2 N.out y o rest;
+        credit_list = put2 N.credit_list y o (link_at s k).credits;
+      }
+      ≡ taken_from N x p y o (f ∷ rest)
+      = λ t. record N {
+        buffer = put3 N.buffer x p f.vc (N.buffer x p f.vc ++ f ∷ []);
+        out = put2 N.out y o rest;
+        credit_list = credits t;
+      } in
+      let to_taken : taken_from N x p y o (f ∷ rest) ≡ taken (shape s) N x p (Some y) =
+      ap (λ (fs : List Flit). taken_from N x p y o fs) (sym out) in
+      let to_after : taken (shape s) N x p (Some y) ≡ after (shape s) N (Take x p) =
+      ap (λ (z : Option ℕ). taken (shape s) N x p z) (sym e) in
+      (enabled, from_mid ∙ (linked ∙ (same ∙ (to_taken ∙ to_after))), link_framed mid k l mid_framed fed.bound refl)
+
+  take_idle : (o : Option Flit) → slice_get (link_at s (links_before s.mesh y (opposite_of p))).flits 0 ≡ o →
+      can_enter (router_at s x) p o ≡ false
+      → Enabled (shape s) (network_of s) (Take x p) → ⊥
+  unfolding net_shape
+  take_idle None first can h =
+      let fed = feeder s x p y net.framed e in
+      let out : (network_of s).out y (opposite_of p) ≡ [] =
+      out_there s y (opposite_of p) net.framed fed.has ∙
+      none_of (link_at s (links_before s.mesh y (opposite_of p))).flits first in
+      let front : FrontIs ((network_of s).out y (opposite_of p))
+      (λ g. length ((network_of s).buffer x p g.vc) < s.depth) =
+      subst (λ (z : Option ℕ). IsLinked z
+      (λ y. FrontIs ((network_of s).out y (opposite_of p)) (λ g. length ((network_of s).buffer x p g.vc) < s.depth))) e
+      h in
+      subst (λ (fs : List Flit). FrontIs fs (λ g. length ((network_of s).buffer x p g.vc) < s.depth)) out front
+  take_idle (Some f) first can h =
+      let node = net.framed.each_node x x_in in
+      let fed = feeder s x p y net.framed e in
+      let k = links_before s.mesh y (opposite_of p) in
+      let flits = first_of (link_at s k).flits f first in
+      let place = front_place f (drop 1 (link_at s k).flits) flits in
+      let out : (network_of s).out y (opposite_of p) ≡ f ∷ drop 1 (link_at s k).flits =
+      out_there s y (opposite_of p) net.framed fed.has ∙ flits in
+      let front : FrontIs ((network_of s).out y (opposite_of p))
+      (λ g. length ((network_of s).buffer x p g.vc) < s.depth) =
+      subst (λ (z : Option ℕ). IsLinked z
+      (λ y. FrontIs ((network_of s).out y (opposite_of p)) (λ g. length ((network_of s).buffer x p g.vc) < s.depth))) e
+      h in
+      let theirs : length ((network_of s).buffer x p f.vc) < s.depth =
+      subst (λ (fs : List Flit). FrontIs fs (λ g. length ((network_of s).buffer x p g.vc) < s.depth)) out front in
+      let ours : length (input_at (router_at s x) p f.vc).buffer < s.depth =
+      rw (buffer_there s x p f.vc place.0) at theirs in
+      elim (below_cases (length (input_at (router_at s x) p f.vc).buffer) (router_at s x).depth) [
+        | inl h ↦ let yes_room = h.0 in absurd (cc)
+        | inr h ↦ let ge = h.1 in let d = node.same_depth in absurd (omega arith)
+      ]
+
+  take_at : IsThere (shape s) (Take x p) → (o : Option Flit) (b : Bool)
+      → slice_get (link_at s (links_before s.mesh y (opposite_of p))).flits 0 ≡ o → can_enter (router_at s x) p o ≡ b
+      → after_take s x p (links_before s.mesh y (opposite_of p)) o ≡ done_step s (Take x p) →
+      Outcome own s x p (links_before s.mesh y (opposite_of p)) o b
+  unfolding Outcome
+  take_at there None true first can same = absurd (cc)
+  take_at there None false first can same =
+      (net, (there, take_idle None first can, refl, refl))
+  take_at there (Some f) true first can same =
+      let step = take_done f first can in
+      let new = after_take s x p (links_before s.mesh y (opposite_of p)) (Some f) in
+      step_made s new.nodes new.links (Take x p) net there (λ no. no) step same
+  take_at there (Some f) false first can same =
+      (net, (there, take_idle (Some f) first can, refl, refl))
+
+  fits_at : (o : Option Flit)
+      → slice_get (link_at s (links_before s.mesh y (opposite_of p))).flits 0 ≡ o → FrontFits (router_at s x) p o
+  fits_at None first = tt
+  fits_at (Some f) first =
+      let k = links_before s.mesh y (opposite_of p) in
+      let place = front_place f (drop 1 (link_at s k).flits) (first_of (link_at s k).flits f first) in
+      (place.0.place, place.1)
 
 take_by : (s : NetState) (x p : ℕ) → {own : ℕ → Bool} → IsWorkableBy own s → x < length s.nodes →
     IsThere (shape s) (Take x p) → (n : Option ℕ) → neighbour_of s.mesh x p ≡ n → IsSome n
@@ -223,7 +217,7 @@ take_by : (s : NetState) (x p : ℕ) → {own : ℕ → Bool} → IsWorkableBy o
     (can_enter (router_at s x) p (slice_get (link_at s (into_from s.mesh p n)).flits 0))
 take_by s x p net x_in there None e some same = absurd (cc)
 take_by s x p net x_in there (Some y) e some same =
-    take_at s x p y net x_in there e (slice_get (link_at s (links_before s.mesh y (opposite_of p))).flits 0)
+    take_at s x p y net x_in e there (slice_get (link_at s (links_before s.mesh y (opposite_of p))).flits 0)
     (can_enter (router_at s x) p (slice_get (link_at s (links_before s.mesh y (opposite_of p))).flits 0)) refl refl
     same
 
@@ -237,15 +231,6 @@ take_answers s x p net there done e =
     let all = net.framed.all_nodes in
     let node_in = there.0 in
     rw e (take_by s x p net (omega arith) there (neighbour_of s.mesh x p) refl there.1 refl)
-
-fits_at : (s : NetState) (x p y : ℕ) → {own : ℕ → Bool} → IsWorkableBy own s → x < length s.nodes →
-    neighbour_of s.mesh x p ≡ Some y → (o : Option Flit)
-    → slice_get (link_at s (links_before s.mesh y (opposite_of p))).flits 0 ≡ o → FrontFits (router_at s x) p o
-fits_at s x p y net x_in e None first = tt
-fits_at s x p y net x_in e (Some f) first =
-    let k = links_before s.mesh y (opposite_of p) in
-    let place = front_place s x p y f (drop 1 (link_at s k).flits) net x_in e (first_of (link_at s k).flits f first) in
-    (place.0.place, place.1)
 
 fits_by : (s : NetState) (x p : ℕ) → {own : ℕ → Bool} → IsWorkableBy own s → x < length s.nodes → (n : Option ℕ) →
     neighbour_of s.mesh x p ≡ n → IsSome n
