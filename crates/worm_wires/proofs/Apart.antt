@@ -60,8 +60,7 @@ into_one mesh x p y q k radices (Some z) (Some w) e f by same =
     let equal : links_before mesh w (opposite_of q) ≡ links_before mesh z (opposite_of p) = cc in
     let both = one_link mesh large w (opposite_of q) z (opposite_of p) (y, there) (x, here) equal in
     let joined : Joins mesh z (opposite_of p) y = subst (λ (o : ℕ). Joins mesh z o y) both.1
-    (subst (λ (v : ℕ). Joins mesh v (opposite_of q) y) both.0 there) in
-    (
+    (subst (λ (v : ℕ). Joins mesh v (opposite_of q) y) both.0 there) in (
       Joins-unique mesh z (opposite_of p) y x large joined here,
       sym (opposite_twice q) ∙ ap opposite_of both.1 ∙ opposite_twice p,
     )

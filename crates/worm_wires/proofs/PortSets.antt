@@ -18,8 +18,7 @@ has_none set p e = ap (λ s. has s p) (eqb-true set 0 e) ∙ bit_unset 0 p (bit_
 -- a set that is not empty has a port
 pub some_port : (bits : ℕ) → bits < 2 ^ 8 → (bits == 0) ≡ false → (p : ℕ) × (p < 8) × (has bits p ≡ true)
 some_port bits fits some =
-    let lowest = bit_at-trailing_zeros w8 bits (grind arith) fits in
-    (
+    let lowest = bit_at-trailing_zeros w8 bits (grind arith) fits in (
       trailing_zeros w8 bits,
       elim (cases_lt (trailing_zeros w8 bits) 8) [
         | inl below ↦ below

@@ -1,4 +1,5 @@
 pub mod Links
+pub mod Line
 pub mod Ports
 pub mod Wiring
 pub mod Arrivals

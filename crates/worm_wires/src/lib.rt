@@ -8,6 +8,7 @@
 //! Nothing is said of routers or of threads: the queues between two threads are in `worm_links`.
 #![tactic(auto)]
 
+mod line;
 mod link;
 mod links;
 mod port_set;

@@ -4,8 +4,8 @@ ghost use Rattle.worm_wires.specs.Links.{empty_link};
 ghost use Rattle.std.specs.Prelude.{◌≡◌, [], ◌∷◌, ◌++◌, ◌<◌, ◌≤◌, length, drop, min, slice_get, Some, IfOk};
 ghost use Rattle.std.specs.Prelude.{vec_capacity};
 
+use crate::line::Line;
 use std::alloc::{AllocError, Global};
-use std::collections::VecDeque;
 use std::marker::Model;
 use std::mem::swap;
 use worm_flit::Flit;
@@ -21,23 +21,22 @@ use worm_flit::Flit;
 #[derive(Drop)]
 pub struct LinkState {
     /// The flits, in the order in which they were sent, on whatever channels.
-    flits: VecDeque<Flit>,
+    flits: Line<Flit>,
     /// The channels whose credits are on their way back.
-    credits: VecDeque<u8>,
+    credits: Line<u8>,
     /// How many of each fit without growing; in a network at least the number of channels times the depth.
     room: u16,
 }
 
 impl Model for LinkState {
     ghost use Rattle.std.specs.Prelude.{◌≤◌, ◌*◌};
-    ghost use Rattle.std.specs.VecDeque.{deque_capacity};
     ghost use Rattle.worm_wires.specs.Links.{LinkView};
 
     ghost Value = { LinkView };
 
     ghost view = { λ l. record { flits = l.flits.items; credits = l.credits.items; room = l.room } };
 
-    ghost invariant = { λ l. (l.room ≤ deque_capacity l.flits) × (l.room ≤ deque_capacity l.credits) };
+    ghost invariant = { λ l. (l.room ≤ l.flits.room) × (l.room ≤ l.credits.room) };
 }
 
 /// Makes both the smaller of the two.
@@ -67,8 +66,8 @@ impl LinkState {
         ensures { result ≡ record { flits = flits.items; credits = credits.items; room = room } }
     {
         LinkState {
-            flits: VecDeque::from_vec(flits),
-            credits: VecDeque::from_vec(credits),
+            flits: Line::from_list(flits),
+            credits: Line::from_list(credits),
             room,
         }
     }
@@ -85,7 +84,7 @@ impl LinkState {
             credits,
             room: _,
         } = self;
-        (flits.into_vec(), credits.into_vec())
+        (flits.into_list(), credits.into_list())
     }
 
     /// The room: how many flits, and how many credits, fit without growing.
@@ -99,14 +98,14 @@ impl LinkState {
     pub fn front(&self) -> Option<Flit>
         ensures { result ≡ slice_get self.now.flits 0 }
     {
-        self.flits.front().copied()
+        self.flits.front()
     }
 
     /// How many flits are on it.
     pub fn count(&self) -> usize
         ensures { result ≡ length self.now.flits }
     {
-        self.flits.len()
+        self.flits.count()
     }
 
     /// The flit at place `i`, counted from the front.
@@ -114,14 +113,14 @@ impl LinkState {
         requires { i < length self.now.flits }
         ensures { slice_get self.now.flits i ≡ Some result }
     {
-        self.flits[i]
+        self.flits.item(i)
     }
 
     /// Drops the front flit, if there is one.
     pub fn pop(&mut self)
         ensures { self.new ≡ record self.old { flits = drop 1 self.old.flits } }
     {
-        let _front = self.flits.pop_front();
+        self.flits.pop();
     }
 
     /// Puts the flit at the end.
@@ -129,28 +128,28 @@ impl LinkState {
         requires { length self.old.flits < self.old.room }
         ensures { self.new ≡ record self.old { flits = self.old.flits ++ flit ∷ [] } }
     {
-        self.flits.push_back_reserved(flit);
+        self.flits.push(flit);
     }
 
     /// The channel of the front credit, if there is one.
     pub fn front_credit(&self) -> Option<u8>
         ensures { result ≡ slice_get self.now.credits 0 }
     {
-        self.credits.front().copied()
+        self.credits.front()
     }
 
     /// How many credits are on their way back over it.
     pub fn credit_count(&self) -> usize
         ensures { result ≡ length self.now.credits }
     {
-        self.credits.len()
+        self.credits.count()
     }
 
     /// Drops the front credit, if there is one.
     pub fn pop_credit(&mut self)
         ensures { self.new ≡ record self.old { credits = drop 1 self.old.credits } }
     {
-        let _front = self.credits.pop_front();
+        self.credits.pop();
     }
 
     /// Puts a credit of the channel at the end.
@@ -158,7 +157,7 @@ impl LinkState {
         requires { length self.old.credits < self.old.room }
         ensures { self.new ≡ record self.old { credits = self.old.credits ++ vc ∷ [] } }
     {
-        self.credits.push_back_reserved(vc);
+        self.credits.push(vc);
     }
 
     /// Exchanges the flits on the two links, and neither keeps more room than both had.

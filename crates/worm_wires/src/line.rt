@@ -1,0 +1,101 @@
+//! One way of a link. Mostly one flit or credit is on it at most, so the front lies apart from the queue.
+
+ghost use Rattle.std.specs.Prelude.{◌≡◌, [], ◌∷◌, ◌++◌, ◌<◌, ◌≤◌, length, drop, slice_get, Some, vec_capacity};
+
+use std::collections::VecDeque;
+use std::marker::Model;
+
+/// What is on one way of a link, front first.
+#[derive(Drop)]
+pub(crate) struct Line<T> {
+    /// The front, which lies here and not in the queue.
+    front: Option<T>,
+    /// What is behind the front, in order.
+    behind: VecDeque<T>,
+}
+
+impl<T> Model for Line<T> {
+    ghost use Rattle.std.specs.Prelude.{◌++◌, option_to_list};
+    ghost use Rattle.std.specs.VecDeque.{deque_capacity};
+    ghost use Rattle.worm_wires.specs.Line.{LineView, IsLed, line_code};
+
+    ghost Value = { LineView T };
+
+    ghost coded = { line_code T.code };
+
+    ghost view = { λ l. record { items = option_to_list l.front ++ l.behind.items; room = deque_capacity l.behind } };
+
+    ghost invariant = { λ l. IsLed l.front l.behind.items (deque_capacity l.behind) };
+}
+
+impl<T: Copy> Line<T> {
+    /// The line with these on it, front first, and the list's room.
+    pub(crate) fn from_list(list: Vec<T>) -> Line<T>
+        ensures { result ≡ record { items = list.items; room = vec_capacity list } }
+    {
+        let mut behind = VecDeque::from_vec(list);
+        let front = behind.pop_front();
+        Line { front, behind }
+    }
+
+    /// What is on it, front first, with at least the line's room.
+    pub(crate) fn into_list(self) -> Vec<T>
+        ensures items { result.items ≡ self.items }
+        ensures room { self.room ≤ vec_capacity result }
+    {
+        let Line { front, mut behind } = self;
+        if let Some(front) = front {
+            behind.push_front_reserved(front);
+        }
+        behind.into_vec()
+    }
+
+    /// The front, if there is one.
+    pub(crate) fn front(&self) -> Option<T>
+        ensures { result ≡ slice_get self.now.items 0 }
+    {
+        // Nothing is behind where there is no front.
+        self.front
+    }
+
+    /// How many are on it.
+    pub(crate) fn count(&self) -> usize
+        ensures { result ≡ length self.now.items }
+    {
+        match self.front {
+            None => 0,
+            Some(_) => 1 + self.behind.len(),
+        }
+    }
+
+    /// The one at place `i`, counted from the front.
+    pub(crate) fn item(&self, i: usize) -> T
+        requires { i < length self.now.items }
+        ensures { slice_get self.now.items i ≡ Some result }
+    {
+        match self.front {
+            Some(front) if i == 0 => front,
+            _ => self.behind[i - 1],
+        }
+    }
+
+    /// Drops the front, if there is one.
+    pub(crate) fn pop(&mut self)
+        ensures { self.new ≡ record self.old { items = drop 1 self.old.items } }
+    {
+        self.front = self.behind.pop_front();
+    }
+
+    /// Puts one at the end.
+    pub(crate) fn push(&mut self, item: T)
+        requires { length self.old.items < self.old.room }
+        ensures items { self.new.items ≡ self.old.items ++ item ∷ [] }
+        ensures room { self.old.room ≤ self.new.room }
+    {
+        if self.front.is_none() {
+            self.front = Some(item);
+        } else {
+            self.behind.push_back_reserved(item);
+        }
+    }
+}
