@@ -181,11 +181,12 @@ ready_stays r port vc i had now ready input few_ports few_channels same is =
 
 -- ---- the calls of a router
 
--- a flit came into an empty buffer
+-- what was not ready comes to be so, or not
 woken_from : (a b w : Option ℕ) → a ≡ w → b ≡ None → MatchOption w (a ≡ b) (λ out. a ≡ Some out)
 woken_from a b None e none = e ∙ sym none
 woken_from a b (Some out) e none = e
 
+-- a flit came into an empty buffer
 pub ready_first : (r : RouterState) (port vc i : ℕ) (had now : ChannelState) (old new : List (List (Option ℕ)))
     → IsInput r port vc i had → terminal r ≤ 6 → width r ≤ 8 → IsLeftBy had now → is_occupied had ≡ false
     → new ≡ with_ready old port vc (if is_occupied now then could_send_to r port had.state had.owed else None)
@@ -247,19 +248,22 @@ ready_out r o u p c within same =
 -- a channel was granted an output channel
 pub ready_held : (r : RouterState) (port vc i out out_vc o : ℕ) (had now : ChannelState) (had_out u : OutRecord)
     (old new : List (List (Option ℕ))) → IsInput r port vc i had → IsOutput r out out_vc o had_out
-    → terminal r ≤ 6 → width r ≤ 8 → now ≡ record had { state = Active out out_vc }
-    → new ≡ with_cell old port vc
+    → terminal r ≤ 6 → width r ≤ 8 → is_active had ≡ false → now ≡ record had { state = Active out out_vc }
+    → new ≡ with_ready old port vc
     (if is_occupied had then could_send_to r port (Active out out_vc) had.owed else None)
     → u.credits ≡ had_out.credits
     → old ≡ ready_outs r
     → new ≡ ready_outs (record r { inputs = slice_set r.inputs i now; outputs = slice_set r.outputs o u })
-ready_held r port vc i out out_vc o had now had_out u old new input output few_ports few_channels is put same kept =
-    ready_put r (slice_set r.outputs o u) port vc i had now old new
+ready_held r port vc i out out_vc o had now had_out u old new input output few_ports few_channels idle is put same
+    kept =
+    ready_wakes r (slice_set r.outputs o u) port vc i had now old new
     (if is_occupied had then could_send_to r port (Active out out_vc) had.owed else None) input few_ports few_channels
     put
+    (woken_from (ready_by (record r { outputs = slice_set r.outputs o u }) port now) (ready_by r port had) _
     (ready_out r o u port now output.within (λ q k _ _. credits)
     ∙ ap (λ (x : ChannelState). ready_by r port x) is
     ∙ ready_parts r port (record had { state = Active out out_vc }) (Active out out_vc) had.buffer)
+    (idle_unready r port had idle))
     (λ p v _ _. ready_out r o u p (input_at r p v) output.within (λ q k _ _. credits)) kept where
       credits : nat_lt 0 u.credits ≡ nat_lt 0 (slice_index_or r.outputs o (free_output r.depth)).credits
       credits = ap (nat_lt 0) same ∙ ap (λ (w : OutRecord). nat_lt 0 w.credits) output.was

@@ -91,16 +91,17 @@ impl BusyChannels {
         wake(&mut self.ready, port, vc, sends_to);
     }
 
-    /// Files a channel that was granted an output channel; `sends_to` is the output port that it may send to now.
+    /// Files a channel that held no output channel and was granted one; `sends_to` is the output port that it may send
+    /// to now.
     pub fn file_active(&mut self, port: u8, vc: u8, sends_to: Option<u8>)
         requires port { port < 7 }
         requires vc { vc < 8 }
         ensures active { IsPut self.old.active self.new.active port vc true }
-        ensures ready { self.new.ready ≡ with_cell self.old.ready port vc sends_to }
+        ensures ready { self.new.ready ≡ with_ready self.old.ready port vc sends_to }
         ensures others { self.new ≡ record self.old { active = self.new.active; ready = self.new.ready } }
     {
         self.active.put(port, vc, true);
-        self.ready.set(port, vc, sends_to);
+        wake(&mut self.ready, port, vc, sends_to);
     }
 
     /// Files a channel that could send, and has let a flit out by the output channel that it held; `follows` where a

@@ -1,6 +1,6 @@
 ghost use Rattle.std.specs.Prelude.{◌≡◌, ◌==◌, ◌&&◌, ◌||◌, ◌+◌, ◌*◌, ◌≤◌, ◌<◌, ◌↔◌, length, IfOk, IfErr};
 ghost use Rattle.std.specs.Prelude.{OnOk, OnErr, IsOk, IsErr, IsSome, IfSome, IfNone, None, Some, ℕ, is_some, nat_lt};
-ghost use Rattle.std.specs.Prelude.{slice_get, replicate, if◌then◌else◌};
+ghost use Rattle.std.specs.Prelude.{slice_get, replicate, if◌then◌else◌, false};
 ghost use Rattle.worm_flit.specs.Channels.{AreChannels};
 ghost use Rattle.worm_mesh.specs.Address.{node_count};
 ghost use Rattle.worm_router.specs.Router.{IsPlace, IsRouter, line, fresh_channel, free_output, fresh_router, input_at};
@@ -338,6 +338,7 @@ impl Router {
         requires out_channel { out_vc < width self.now }
         ensures value { result ≡ can_grant self.now port vc out_vc }
         ensures there { IfSome result (λ out. out ≤ terminal self.now) }
+        ensures idle { IfSome result (λ out. is_active (input_at self.now port vc) ≡ false) }
         ensures free { IfSome result (λ out. (output_at self.now out out_vc).holder ≡ None) }
     {
         let channel = &self.inputs[self.line(port, vc)];
@@ -356,6 +357,7 @@ impl Router {
     fn hold(&mut self, port: u8, vc: u8, out: u8, out_vc: u8)
         requires place { IsPlace self.old port vc }
         requires out_place { IsPlace self.old out out_vc }
+        requires idle { is_active (input_at self.old port vc) ≡ false }
         requires free { (output_at self.old out out_vc).holder ≡ None }
         ensures { self.new ≡ after_granting self.old port vc out_vc (Some out) }
     {

@@ -97,7 +97,7 @@ choice_is s requests grants out lines d new w r lo within same won moved =
 -- ---- the requests
 
 -- where no channel of an input port is ready, it names none
-named_unready : (s : SwAllocState) (ready : List (List (Option ℕ))) (port : ℕ)
+pub named_unready : (s : SwAllocState) (ready : List (List (Option ℕ))) (port : ℕ)
     → IsSwAlloc s.ports s.channels s.inputs s.outputs → port < s.ports
     → ((v : ℕ) → v < 8 → cell ready port v None ≡ None) → named s ready port ≡ None
 named_unready s ready port r lp none =

@@ -83,6 +83,14 @@ abbrev pub AreAskers : List (Option SwGrant) → ℕ → Type 0
 AreAskers requests askers = (out port : ℕ) → out < 7 → port < 8
     → has askers out port ≡ is_for (slice_index_or requests port None) out
 
+-- no other port has ready channels
+abbrev pub IsSolePort : List (List (Option ℕ)) → ℕ → Type 0
+IsSolePort ready port = (p v : ℕ) → p < 7 → v < 8 → ((p ≡ port) → ⊥) → cell ready p v None ≡ None
+
+-- what the input ports name where one of them alone may name anything
+abbrev pub sole_named : ℕ → Option SwGrant → List (Option SwGrant)
+sole_named port request = slice_set (replicate 7 None) port request
+
 -- whether a grant is of this channel
 abbrev pub is_of : Option SwGrant → ℕ → Bool
 is_of None vc = false

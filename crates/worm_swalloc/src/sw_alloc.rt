@@ -4,7 +4,7 @@ ghost use Rattle.worm_vcalloc.specs.Arbiter.{no_arbiter, line_requests, winner, 
 ghost use Rattle.worm_vcalloc.specs.Table.{cell};
 ghost use Rattle.worm_swalloc.specs.Front.{with_front};
 ghost use Rattle.worm_swalloc.specs.SwAlloc.{SwAllocState, IsSwAlloc, IsSwitchMatching, AreChannelsBelow};
-ghost use Rattle.worm_swalloc.specs.SwAlloc.{named, all_named, is_for, channel_of, chosen};
+ghost use Rattle.worm_swalloc.specs.SwAlloc.{named, all_named, sole_named, IsSolePort, is_for, channel_of, chosen};
 ghost use Rattle.worm_swalloc.specs.SwAlloc.{granted, sw_grants, sw_after, output_after, after_grant, with_choice};
 ghost use Rattle.worm_swalloc.specs.SwAlloc.{with_move};
 
@@ -77,9 +77,27 @@ impl SwAlloc {
         if ready.keys().is_empty() {
             return SwGrants::new();
         }
+        if let Some(port) = self.sole_port(ready) {
+            let request = self.request(port, ready);
+            return self.grant_sole(port, request);
+        }
         let mut named = Named::new();
         self.gather(ready, &mut named);
         self.grant_named(&named)
+    }
+
+    /// The port that alone has ready channels, if there is one.
+    fn sole_port(&self, ready: &ReadyOuts) -> Option<u8>
+        ensures within { IfSome result (λ port. port < self.now.ports) }
+        ensures sole { IfSome result (IsSolePort ready.now) }
+    {
+        let mut left = ready.keys();
+        let port = left.pop_port()?;
+        if port < self.ports && left.is_empty() {
+            Some(port)
+        } else {
+            None
+        }
     }
 
     /// Gathers what each input port names.
@@ -138,6 +156,30 @@ impl SwAlloc {
             if out < ports {
                 self.choose_for(out, askers.row(out, ports), named, &mut grants);
             }
+        }
+        grants
+    }
+
+    /// The second half of a pass in which one input port alone may name anything: it has no rival, so what it names is
+    /// granted.
+    fn grant_sole(&mut self, port: u8, request: Option<SwGrant>) -> SwGrants
+        requires port { port < self.old.ports }
+        requires channel { IfSome request (λ g. g.vc < self.old.channels) }
+        ensures grants { result ≡ with_front self.old.ports (granted self.old (sole_named port request) self.old.ports)
+            (replicate 7 None) }
+        ensures after { self.new ≡ record self.old {
+          inputs = with_front self.old.ports (after_grant self.old result) self.old.inputs;
+          outputs = with_front self.old.ports (output_after self.old (sole_named port request)) self.old.outputs;
+        } }
+    {
+        let ports = self.ports;
+        let mut grants = SwGrants::new();
+        let Some(grant) = request else {
+            return grants;
+        };
+        if grant.out < ports {
+            self.outputs[grant.out as usize].move_past(port);
+            self.commit(port, request, &mut grants);
         }
         grants
     }

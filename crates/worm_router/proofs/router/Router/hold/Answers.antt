@@ -5,11 +5,10 @@ use Rattle.std.proofs.lemmas.Grind.{common_steps, elements}
 use Rattle.worm_records.specs.declared.InRecord.TheVariants.{Active}
 use Rattle.worm_records.specs.declared.OutRecord.{OutRecord}
 use Rattle.worm_vcalloc.specs.ChannelSet.{IsPut}
-use Rattle.worm_vcalloc.specs.Table.{with_cell}
 use Rattle.worm_router.specs.Router.{RouterState, ChannelState, router_state, free_output}
 use Rattle.worm_router.specs.Allocation.{asking}
 use Rattle.worm_router.specs.Demand.{DemandView}
-use Rattle.worm_router.specs.Busy.{HasFront, could_send_to, is_occupied, is_waiting, is_active, owes}
+use Rattle.worm_router.specs.Busy.{HasFront, could_send_to, with_ready, is_occupied, is_waiting, is_active, owes}
 use Rattle.worm_router.specs.declared.busy.BusyChannels.{BusyChannels}
 use Rattle.worm_router.proofs.Places.{input_of, output_of, output_read}
 use Rattle.worm_router.proofs.Kept.{full_after, full_before, input_read}
@@ -43,7 +42,7 @@ invariant_of-self c =
     then could_send_to r c.args.port (Active c.args.out c.args.out_vc) c.index_mut-channel.result.now.owed
     else None) c.self.view_is) in
     let put = c.file_active.ensures.ready
-    ∙ ap (λ o. with_cell c.self.inside.busy.ready c.args.port c.args.vc o) sends in
+    ∙ ap (λ o. with_ready c.self.inside.busy.ready c.args.port c.args.vc o) sends in
     record {
       router = record {
         lists = record {
@@ -86,6 +85,6 @@ invariant_of-self c =
           (ap (λ (v : OutRecord). v.holder) c.grant.ensures) c.self.invariant.holders;
       classes = c.self.invariant.classes;
       ready = ready_held _ _ _ _ _ _ _ _ _ _ _ _ _ input output c.self.invariant.busy.few_ports
-          c.self.invariant.busy.few_channels c.set_state.ensures put
+          c.self.invariant.busy.few_channels (ap is_active here ∙ c.requires.idle) c.set_state.ensures put
           (ap (λ (v : OutRecord). v.credits) c.grant.ensures) c.self.invariant.ready;
     }

@@ -3,8 +3,10 @@ use Rattle.worm_vcalloc.specs.Table.{cell}
 use Rattle.worm_vcalloc.proofs.PassLemmas.{none_where_not_some}
 use Rattle.worm_vcalloc.proofs.SetLemmas.{has-empty}
 use Rattle.worm_swalloc.specs.Front.{with_front}
-use Rattle.worm_swalloc.specs.SwAlloc.{SwAllocState, sw_grants, IsSwitchMatching, granted}
+use Rattle.worm_swalloc.specs.SwAlloc.{SwAllocState, IsSwAlloc, sw_grants, IsSwitchMatching, granted, all_named}
+use Rattle.worm_swalloc.specs.SwAlloc.{sole_named}
 use Rattle.worm_swalloc.proofs.SwLemmas.{matching, sw_grants_none, sw_after_none, named_within, pass_is}
+use Rattle.worm_swalloc.proofs.SoleLemmas.{sole_is_all, sole_within}
 use Rattle.worm_swalloc.proofs.sw_alloc.SwAlloc.grant.Goals as goal
 
 -- where no channel is ready
@@ -45,6 +47,44 @@ returns-then-is_empty-clause-matching c =
     rw (← c.self.view_is) (subst (IsSwitchMatching s c.args.ready.now)
     (sw_grants_none s c.args.ready.now c.self.invariant (nothing_ready c) ∙ sym c.new.ensures)
     (matching s c.args.ready.now c.self.invariant))
+
+-- one port alone has ready channels
+
+sound : (c : goal.After-grant_sole)
+    → IsSwAlloc c.args.self.now.ports c.args.self.now.channels c.args.self.now.inputs c.args.self.now.outputs
+sound c = rw (← c.self.view_is) c.self.invariant
+
+sole_named_is : (c : goal.After-grant_sole)
+    → sole_named c.in-Some.port c.request-request.result ≡ all_named c.args.self.now c.args.ready.now
+sole_named_is c = sole_is_all c.args.self.now c.args.ready.now c.in-Some.port c.request-request.result (sound c)
+    c.in-Some.ensures.within c.in-Some.ensures.sole c.request-request.ensures
+
+sole_granted_is : (c : goal.After-grant_sole) → c.grant_sole.result ≡ sw_grants c.args.self.now c.args.ready.now
+sole_granted_is c =
+    c.grant_sole.ensures.grants ∙ ap (λ r. with_front c.args.self.now.ports
+    (granted c.args.self.now r c.args.self.now.ports) (replicate 7 None)) (sole_named_is c)
+
+pub grant_sole-requires-clause-channel : goal.grant_sole-requires-clause-channel
+grant_sole-requires-clause-channel c =
+    sole_within c.args.self.now c.args.ready.now c.in-Some.port c.request-request.result
+    (rw (← c.self.view_is) c.self.invariant) c.in-Some.ensures.within c.in-Some.ensures.sole c.request-request.ensures
+
+pub returns-in-Some-clause-grants : goal.returns-in-Some-clause-grants
+returns-in-Some-clause-grants c = sole_granted_is c
+
+pub returns-in-Some-clause-after : goal.returns-in-Some-clause-after
+returns-in-Some-clause-after c =
+    pass_is c.args.self.now c.grant_sole.new.self c.args.ready.now
+    (sole_named c.in-Some.port c.request-request.result) c.grant_sole.result
+    (rw (← c.self.view_is) (let few = c.self.invariant.few_ports in omega arith)) (sole_named_is c) (sole_granted_is c)
+    c.grant_sole.ensures.after
+
+pub returns-in-Some-clause-matching : goal.returns-in-Some-clause-matching
+returns-in-Some-clause-matching c =
+    subst (IsSwitchMatching c.args.self.now c.args.ready.now) (sym (sole_granted_is c))
+    (matching c.args.self.now c.args.ready.now (sound c))
+
+-- several have
 
 pub grant_named-requires : goal.grant_named-requires
 grant_named-requires c = named_within c.args.self.now c.args.ready.now c.gather.new.asked c.gather.ensures.ready
