@@ -1,5 +1,6 @@
 -- Lemmas on a pass in which one input port alone may name anything.
-use Rattle.std.proofs.Common.{◌≡◌, IfSome, Bool, ℕ, ◌+◌, ◌-◌, zero, suc, ◌<◌, ◌≤◌, true, false, List, Option, Some, None, refl}
+use Rattle.std.proofs.Common.{◌≡◌, IfSome, Bool, ℕ, ◌+◌, ◌-◌, zero, suc, ◌<◌, ◌≤◌, true, false, List, Option, Some}
+use Rattle.std.proofs.Common.{None, refl}
 use Rattle.std.proofs.Common.{sym, ap, ◌∙◌, arith, slice_index_or, slice_set, length, inl, inr, replicate, subst}
 use Rattle.std.proofs.Common.{get_or-set_same, get_or-set_other}
 use Rattle.std.proofs.lemmas.Bool.{cases_eq, eq-eqb, ne_eqb, true≢false}

@@ -52,7 +52,8 @@ is_only id k [] = true
 is_only id zero (r ∷ rs) = list_all (λ x. not (bytes_eq x.id id)) rs
 is_only id (suc k) (r ∷ rs) = not (bytes_eq r.id id) && is_only id k rs
 
-none_has : (id : Text) (rs : List Rule) (j : ℕ) (e : Rule) → list_all (λ x. not (bytes_eq x.id id)) rs ≡ true → j < length rs
+none_has : (id : Text) (rs : List Rule) (j : ℕ) (e : Rule) → list_all (λ x. not (bytes_eq x.id id)) rs ≡ true
+    → j < length rs
     → bytes_eq (slice_index_or rs j e).id id ≡ true → ⊥
 none_has id [] j e none lt has = absurd (omega arith)
 none_has id (r ∷ rs) zero e none lt has = true≢false (sym has ∙ is_false _ (both _ _ none).0)
@@ -64,7 +65,8 @@ only_place id [] k j e only lt has = absurd (omega arith)
 only_place id (r ∷ rs) zero zero e only lt has = refl
 only_place id (r ∷ rs) zero (suc j) e only lt has = absurd (none_has id rs j e only (omega arith) has)
 only_place id (r ∷ rs) (suc k) zero e only lt has = absurd (true≢false (sym has ∙ is_false _ (both _ _ only).0))
-only_place id (r ∷ rs) (suc k) (suc j) e only lt has = ap suc (only_place id rs k j e (both _ _ only).1 (omega arith) has)
+only_place id (r ∷ rs) (suc k) (suc j) e only lt has = ap suc (only_place id rs k j e (both _ _ only).1 (omega arith)
+    has)
 
 has_entry : (xs : List Entry) (id : Text) (i : ℕ) → i < length xs
     → ((d : Entry) → bytes_eq (slice_index_or xs i d).0.now id ≡ true)
@@ -154,7 +156,8 @@ module _ (old : Command) (m : ArgMatches) (p : IsParsedFrom old m) (is : app_of 
   abbrev arg_at : ℕ → Arg
   arg_at k = slice_index_or (args_of old) k any
 
-  rule_at : (k : ℕ) (d : Arg) (e : Rule) → k < 5 → rule_of (slice_index_or (args_of old) k d) ≡ slice_index_or arguments k e
+  rule_at : (k : ℕ) (d : Arg) (e : Rule) → k < 5 → rule_of (slice_index_or (args_of old) k d)
+      ≡ slice_index_or arguments k e
   rule_at k d e lt = place_in_map (args_of old) k d e (omega (arith, five)) ∙ ap (λ rs. slice_index_or rs k e) rules_are
 
   -- the argument at a place follows this rule, and no other has its id
@@ -201,7 +204,8 @@ module _ (old : Command) (m : ArgMatches) (p : IsParsedFrom old m) (is : app_of 
       (ap (λ (x : Rule). x.required) at.rule) (ap (λ (x : Rule). x.action) at.rule)
       (no_delimiter (arg_at k) at.simple) (one_least k (file name) at refl) at.unique at.named at.own in
       let id : (arg_at k).id.now ≡ name = ap (λ (x : Rule). x.id) at.rule in
-      sym (ap is_some (first_value-rows (found_of m) name)) ∙ sym (ap (λ (t : Text). is_some (first_value (found_of m) t)) id) ∙ given
+      sym (ap is_some (first_value-rows (found_of m) name)) ∙ sym (ap (λ (t : Text).
+      is_some (first_value (found_of m) t)) id) ∙ given
 
   number_given : (k : ℕ) (r : Rule) (least most : ℕ) → IsAt k r → r.action ≡ Some Set → r.range ≡ None
       → r.parser ≡ Some (Unsigned least most) → is_some (matched_of (found_of m) (arg_at k).id.now) ≡ true
@@ -214,18 +218,21 @@ module _ (old : Command) (m : ArgMatches) (p : IsParsedFrom old m) (is : app_of 
         parsed = ap (λ (x : Rule). x.parser) at.rule ∙ parsed;
         written = refl;
       } in
-      let given = option_given old m p plain fields.globals k any at.lt at.unique at.named at.own (Unsigned least most) takes some in
+      let given = option_given old m p plain fields.globals k any at.lt at.unique at.named at.own
+      (Unsigned least most) takes some in
       let id : (arg_at k).id.now ≡ r.id = ap (λ (x : Rule). x.id) at.rule in
       let text : one_text (found_of m) (arg_at k).id.now ≡ one_of r.id (rows_of (found_of m)) =
       ap (one_text (found_of m)) id ∙ one_text-rows (found_of m) r.id in
       subst (λ o. IsSomeAnd o (Accepts r.ignore_case (Unsigned least most))) text given
 
-  needed_entry : (k : ℕ) (r : Rule) → IsAt k r → r.required ≡ true → is_some (matched_of (found_of m) (arg_at k).id.now) ≡ true
+  needed_entry : (k : ℕ) (r : Rule) → IsAt k r → r.required ≡ true
+      → is_some (matched_of (found_of m) (arg_at k).id.now) ≡ true
   needed_entry k r at required =
       present_has_entry (found_of m) _ (required_present old m p plain fields.globals keeps_needs k any at.lt
       (ap (λ (x : Rule). x.required) at.rule ∙ required))
 
-  default_entry : (k : ℕ) (r : Rule) (t : Text) → IsAt k r → r.defaults ≡ t ∷ [] → is_some (matched_of (found_of m) (arg_at k).id.now) ≡ true
+  default_entry : (k : ℕ) (r : Rule) (t : Text) → IsAt k r → r.defaults ≡ t ∷ []
+      → is_some (matched_of (found_of m) (arg_at k).id.now) ≡ true
   default_entry k r t at default =
       let some : 0 < length (items_of (arg_at k).default_vals) =
       some_text (items_of (arg_at k).default_vals) t [] (ap (λ (x : Rule). x.defaults) at.rule ∙ default) in
@@ -253,6 +260,8 @@ module _ (old : Command) (m : ArgMatches) (p : IsParsedFrom old m) (is : app_of 
         network = file_given 0 (codes "NETWORK") network_at;
         traffic = file_given 1 (codes "TRAFFIC") traffic_at;
         turns = number_given 2 turns 0 1000000 turns_at refl refl refl (needed_entry 2 turns turns_at refl);
-        workers = number_given 3 workers 1 16 workers_at refl refl refl (default_entry 3 workers (codes "1") workers_at refl);
-        drain = number_given 4 drain 0 1000000 drain_at refl refl refl (default_entry 4 drain (codes "0") drain_at refl);
+        workers = number_given 3 workers 1 16 workers_at refl refl refl (default_entry 3 workers (codes "1")
+            workers_at refl);
+        drain = number_given 4 drain 0 1000000 drain_at refl refl refl (default_entry 4 drain (codes "0") drain_at
+            refl);
       }

@@ -23,7 +23,8 @@ use Rattle.clap.specs.declared.parser.matches.ArgMatches.{ArgMatches}
 use Rattle.clap.specs.declared.parser.matches.MatchedArg.{MatchedArg}
 use Rattle.clap.proofs.CallerLemmas.{entry_by_id, same_rules_by_id}
 
-first_text : (Q : Text → Type 0) (how : Reading) (vs : List (Bor Text)) → how ≡ AsWritten → 0 < length vs → All (λ v. Q v.now) vs
+first_text : (Q : Text → Type 0) (how : Reading) (vs : List (Bor Text)) → how ≡ AsWritten → 0 < length vs
+    → All (λ v. Q v.now) vs
     → IsSomeAnd (option_map (λ s. read_as how s.now) (slice_get vs 0)) Q
 first_text Q how [] written some all = absurd (omega arith)
 first_text Q how (v ∷ vs) written some all = rw written (all 0 v some)
