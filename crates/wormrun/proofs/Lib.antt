@@ -5,3 +5,6 @@ pub mod Scripts
 pub mod ByWorkers
 pub mod CutLemmas
 pub mod OneReport
+pub mod NumbersRead
+pub mod OptionsGiven
+pub mod Complete

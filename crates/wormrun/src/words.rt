@@ -1,11 +1,14 @@
 //! The words of the command line.
 
-ghost use Rattle.clap.specs.Values.{kind_of};
+ghost use Rattle.clap.specs.Words.{app_of, fault_of, found_of, kind_of, matches_of, rows_of, rule_of, takes};
+ghost use Rattle.clap.specs.Walk.{texts};
 ghost use Rattle.std.specs.IoError.{error_kind};
-ghost use Rattle.std.specs.Prelude.{◌≡◌, ◌<◌, length, IfOk, IfErr, IfSome};
+ghost use Rattle.std.specs.Prelude.{◌≡◌, ◌<◌, [], length, true, false, IfOk, IfErr, OnOk};
+ghost use Rattle.wormrun.specs.Commands.{command, file, number, IsComplete, IsRefused, Say};
 ghost use Rattle.wormrun.specs.Faults.{parser_fault, list_fault, IsNoList, IsNoCommand};
 ghost use Rattle.wormrun.specs.Ranges.{InRange};
 
+use clap::builder::ValueParser;
 use clap::error::ErrorKind;
 use clap::{Arg, ArgAction, ArgMatches, Command, Error, value_parser};
 use std::alloc::{AllocError, Global};
@@ -85,71 +88,71 @@ pub fn all_words<R: Env + AllocGlobal>(rt: &R) -> Result<Vec<String>, WordsFault
     Ok(words)
 }
 
-fn command<'a>(alloc: Global) -> Result<Command<'a>, AllocError> {
-    let network = Arg::new(alloc, "NETWORK")
-        .required(true)
-        .action(ArgAction::Set);
-    let traffic = Arg::new(alloc, "TRAFFIC")
-        .required(true)
-        .action(ArgAction::Set);
-    let turns = Arg::new(alloc, "turns")
-        .long("turns")
-        .required(true)
+/// A file, which has to be named.
+fn file<'a>(alloc: Global, name: &'a str) -> Arg<'a>
+    ensures rule { rule_of result ≡ file name.entry.now }
+    ensures local { result.global ≡ false }
+{
+    Arg::new(alloc, name).required(true).action(ArgAction::Set)
+}
+
+/// `--name N`, where N is a number in its range.
+fn number<'a>(alloc: Global, name: &'a str, range: ValueParser<'a>) -> Arg<'a>
+    ensures rule { rule_of result ≡ number name.entry.now range.entry }
+    ensures local { result.global ≡ false }
+{
+    Arg::new(alloc, name)
+        .long(name)
         .action(ArgAction::Set)
-        .value_parser(value_parser!(u64).range(0..=1_000_000));
-    let workers = Arg::new(alloc, "workers")
-        .long("workers")
-        .action(ArgAction::Set)
-        .default_value("1")
-        .value_parser(value_parser!(usize).range(1..=16));
-    let drain = Arg::new(alloc, "drain")
-        .long("drain")
-        .action(ArgAction::Set)
-        .default_value("0")
-        .value_parser(value_parser!(u64).range(0..=1_000_000));
+        .value_parser(range)
+}
+
+/// What the words may be.
+fn command<'a>(alloc: Global) -> Result<Command<'a>, AllocError>
+    ensures { IfOk result (λ c. app_of c ≡ command) }
+{
+    let turns = number(alloc, "turns", value_parser!(u64).range(0..=1_000_000));
+    let workers = number(alloc, "workers", value_parser!(usize).range(1..=16));
+    let drain = number(alloc, "drain", value_parser!(u64).range(0..=1_000_000));
     Command::new(alloc, "wormrun")
         .disable_help_flag(true)
         .disable_version_flag(true)
-        .arg(network)?
-        .arg(traffic)?
-        .arg(turns)?
-        .arg(workers)?
-        .arg(drain)
+        .arg(file(alloc, "NETWORK"))?
+        .arg(file(alloc, "TRAFFIC"))?
+        .arg(turns.required(true))?
+        .arg(workers.default_value("1"))?
+        .arg(drain.default_value("0"))
 }
 
-fn words_in<'a>(matches: &ArgMatches<'a>) -> Option<Words<'a>>
-    ensures { IfSome result (λ w. InRange w.options) }
+/// What a parse that succeeded found: each file is named, and each number is there.
+fn words_in<'a>(matches: &ArgMatches<'a>) -> Words<'a>
+    requires { IsComplete (rows_of (found_of matches.now)) }
+    ensures said { Say (rows_of (found_of matches.now)) result }
+    ensures range { InRange result.options }
 {
-    let turns = matches.get_one::<u64>("turns").filter(|t| *t <= 1_000_000)?;
-    let workers = matches
-        .get_one::<usize>("workers")
-        .filter(|w| 1 <= *w && *w <= 16)?;
-    let drain = matches.get_one::<u64>("drain").filter(|d| *d <= 1_000_000)?;
-    Some(Words {
-        network: matches.get_str("NETWORK")?,
-        traffic: matches.get_str("TRAFFIC")?,
+    Words {
+        network: matches.get_str("NETWORK").unwrap(),
+        traffic: matches.get_str("TRAFFIC").unwrap(),
         options: Options {
-            turns,
-            workers,
-            drain,
+            turns: matches.get_one("turns").unwrap(),
+            workers: matches.get_one("workers").unwrap(),
+            drain: matches.get_one("drain").unwrap(),
         },
-    })
+    }
 }
 
 /// Reads the words, the program's name first: `NETWORK TRAFFIC --turns T [--workers W] [--drain M]`, in any order.
 /// Turns and drain are 0 to 1,000,000, workers are 1 to 16; any other word or number is a fault of the words.
 pub fn read_words<'a>(alloc: Global, words: &'a [&'a str]) -> Result<Words<'a>, WordsFault>
     requires { 0 < length words.now }
+    ensures said { IfOk result (Say (matches_of command (texts words.now))) }
     ensures ok { IfOk result (λ w. InRange w.options) }
+    ensures faultless { OnOk result (fault_of command (texts words.now) ≡ []) }
     ensures err { IfErr result IsNoCommand }
+    ensures refused { IfErr result (IsRefused (fault_of command (texts words.now))) }
+    ensures taken { IfErr result
+        (λ fault. takes command (texts words.now) ≡ true → fault ≡ WordsFault.NoMemory) }
 {
-    let mut command = command(alloc)?;
-    let matches = command.try_get_matches_from_mut(words)?;
-    match words_in(&matches) {
-        Some(words) => Ok(words),
-        None => Err(WordsFault::from(command.error(
-            ErrorKind::ValueValidation,
-            "a number is out of range",
-        )?)),
-    }
+    let matches = command(alloc)?.try_get_matches_from(words)?;
+    Ok(words_in(&matches))
 }
