@@ -27,7 +27,7 @@ use Rattle.clap.proofs.CallerLemmas.{default_present, present_has_entry, require
 use Rattle.clap.proofs.SimpleLemmas.{HasPlainFields, is_false, is_nil, plain_fields}
 use Rattle.clap.proofs.TakesLemmas.{each_rule}
 use Rattle.clap.proofs.WalkLemmas.{both, first_value-rows, one_text-rows}
-use Rattle.wormrun.specs.Commands.{IsComplete, arguments, command, file, number}
+use Rattle.wormrun.specs.Commands.{IsComplete, arguments, command, drain_option, file, turns_option, workers_option}
 use Rattle.wormrun.proofs.OptionsGiven.{TakesValues, option_given}
 
 -- Lists
@@ -53,8 +53,7 @@ is_only id zero (r ∷ rs) = list_all (λ x. not (bytes_eq x.id id)) rs
 is_only id (suc k) (r ∷ rs) = not (bytes_eq r.id id) && is_only id k rs
 
 none_has : (id : Text) (rs : List Rule) (j : ℕ) (e : Rule) → list_all (λ x. not (bytes_eq x.id id)) rs ≡ true
-    → j < length rs
-    → bytes_eq (slice_index_or rs j e).id id ≡ true → ⊥
+    → j < length rs → bytes_eq (slice_index_or rs j e).id id ≡ true → ⊥
 none_has id [] j e none lt has = absurd (omega arith)
 none_has id (r ∷ rs) zero e none lt has = true≢false (sym has ∙ is_false _ (both _ _ none).0)
 none_has id (r ∷ rs) (suc j) e none lt has = none_has id rs j e (both _ _ none).1 (omega arith) has
@@ -65,8 +64,8 @@ only_place id [] k j e only lt has = absurd (omega arith)
 only_place id (r ∷ rs) zero zero e only lt has = refl
 only_place id (r ∷ rs) zero (suc j) e only lt has = absurd (none_has id rs j e only (omega arith) has)
 only_place id (r ∷ rs) (suc k) zero e only lt has = absurd (true≢false (sym has ∙ is_false _ (both _ _ only).0))
-only_place id (r ∷ rs) (suc k) (suc j) e only lt has = ap suc (only_place id rs k j e (both _ _ only).1 (omega arith)
-    has)
+only_place id (r ∷ rs) (suc k) (suc j) e only lt has =
+    ap suc (only_place id rs k j e (both _ _ only).1 (omega arith) has)
 
 has_entry : (xs : List Entry) (id : Text) (i : ℕ) → i < length xs
     → ((d : Entry) → bytes_eq (slice_index_or xs i d).0.now id ≡ true)
@@ -156,9 +155,10 @@ module _ (old : Command) (m : ArgMatches) (p : IsParsedFrom old m) (is : app_of 
   abbrev arg_at : ℕ → Arg
   arg_at k = slice_index_or (args_of old) k any
 
-  rule_at : (k : ℕ) (d : Arg) (e : Rule) → k < 5 → rule_of (slice_index_or (args_of old) k d)
-      ≡ slice_index_or arguments k e
-  rule_at k d e lt = place_in_map (args_of old) k d e (omega (arith, five)) ∙ ap (λ rs. slice_index_or rs k e) rules_are
+  rule_at : (k : ℕ) (d : Arg) (e : Rule) → k < 5
+      → rule_of (slice_index_or (args_of old) k d) ≡ slice_index_or arguments k e
+  rule_at k d e lt =
+      place_in_map (args_of old) k d e (omega (arith, five)) ∙ ap (λ rs. slice_index_or rs k e) rules_are
 
   -- the argument at a place follows this rule, and no other has its id
   record IsAt (k : ℕ) (r : Rule) : Type 0 where
@@ -204,8 +204,8 @@ module _ (old : Command) (m : ArgMatches) (p : IsParsedFrom old m) (is : app_of 
       (ap (λ (x : Rule). x.required) at.rule) (ap (λ (x : Rule). x.action) at.rule)
       (no_delimiter (arg_at k) at.simple) (one_least k (file name) at refl) at.unique at.named at.own in
       let id : (arg_at k).id.now ≡ name = ap (λ (x : Rule). x.id) at.rule in
-      sym (ap is_some (first_value-rows (found_of m) name)) ∙ sym (ap (λ (t : Text).
-      is_some (first_value (found_of m) t)) id) ∙ given
+      sym (ap is_some (first_value-rows (found_of m) name))
+      ∙ sym (ap (λ (t : Text). is_some (first_value (found_of m) t)) id) ∙ given
 
   number_given : (k : ℕ) (r : Rule) (least most : ℕ) → IsAt k r → r.action ≡ Some Set → r.range ≡ None
       → r.parser ≡ Some (Unsigned least most) → is_some (matched_of (found_of m) (arg_at k).id.now) ≡ true
@@ -240,28 +240,20 @@ module _ (old : Command) (m : ArgMatches) (p : IsParsedFrom old m) (is : app_of 
       let has = default_present old m p fields.globals k any at.lt wants in
       has_entry (found_of m).entries.items (arg_at k).id.now has.0 has.1 has.2
 
-  abbrev turns : Rule
-  turns = record (number (codes "turns") (Unsigned 0 1000000)) { required = true }
-
-  abbrev workers : Rule
-  workers = record (number (codes "workers") (Unsigned 1 16)) { defaults = codes "1" ∷ [] }
-
-  abbrev drain : Rule
-  drain = record (number (codes "drain") (Unsigned 0 1000000)) { defaults = codes "0" ∷ [] }
-
   pub complete : IsComplete (rows_of (found_of m))
   complete =
-      let network_at = is_at 0 (file (codes "NETWORK")) (omega arith) refl refl in
-      let traffic_at = is_at 1 (file (codes "TRAFFIC")) (omega arith) refl refl in
-      let turns_at = is_at 2 turns (omega arith) refl refl in
-      let workers_at = is_at 3 workers (omega arith) refl refl in
-      let drain_at = is_at 4 drain (omega arith) refl refl in
+      let network = is_at 0 (file (codes "NETWORK")) (omega arith) refl refl in
+      let traffic = is_at 1 (file (codes "TRAFFIC")) (omega arith) refl refl in
+      let turns = is_at 2 turns_option (omega arith) refl refl in
+      let workers = is_at 3 workers_option (omega arith) refl refl in
+      let drain = is_at 4 drain_option (omega arith) refl refl in
+      let some_turns = needed_entry 2 turns_option turns refl in
+      let some_workers = default_entry 3 workers_option (codes "1") workers refl in
+      let some_drain = default_entry 4 drain_option (codes "0") drain refl in
       record {
-        network = file_given 0 (codes "NETWORK") network_at;
-        traffic = file_given 1 (codes "TRAFFIC") traffic_at;
-        turns = number_given 2 turns 0 1000000 turns_at refl refl refl (needed_entry 2 turns turns_at refl);
-        workers = number_given 3 workers 1 16 workers_at refl refl refl (default_entry 3 workers (codes "1")
-            workers_at refl);
-        drain = number_given 4 drain 0 1000000 drain_at refl refl refl (default_entry 4 drain (codes "0") drain_at
-            refl);
+        network = file_given 0 (codes "NETWORK") network;
+        traffic = file_given 1 (codes "TRAFFIC") traffic;
+        turns = number_given 2 turns_option 0 1000000 turns refl refl refl some_turns;
+        workers = number_given 3 workers_option 1 16 workers refl refl refl some_workers;
+        drain = number_given 4 drain_option 0 1000000 drain refl refl refl some_drain;
       }

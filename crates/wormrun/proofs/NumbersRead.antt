@@ -13,8 +13,8 @@ pub record IsRead (least most : ℕ) (text : Option Text) (read : Option ℕ) : 
   pub high : value ≤ most
 
 -- and that number is the one that stands in the answer
-pub read_there : (least most : ℕ) (text : Option Text) (read : Option ℕ) (n : ℕ) → IsRead least most text read
-    → read ≡ Some n
+pub read_there : (least most : ℕ) (text : Option Text) (read : Option ℕ) (n : ℕ)
+    → IsRead least most text read → read ≡ Some n
     → (option_map (λ t. digits_value 10 (without_leading_plus t)) text ≡ Some n) × (least ≤ n) × (n ≤ most)
 read_there least most text read n r there =
     let is : r.value ≡ n = cc (r.is, there) in

@@ -1,4 +1,4 @@
--- What the words of the command line say: `NETWORK TRAFFIC --turns T [--workers W] [--drain M]`, as `clap` reads them.
+-- What the words `NETWORK TRAFFIC --turns T [--workers W] [--drain M]` of the command line say, as `clap` reads them.
 use Rattle.std.specs.Prelude.{◌≡◌, ℕ, List, [], ◌∷◌, Option, Some, codes, IsSome, IsSomeAnd, option_map, true}
 use Rattle.std.specs.Str.Parse.{digits_value, without_leading_plus}
 use Rattle.clap.specs.Words.{App, IsAmong, IsUnsignedIn, Kinds, Row, Rule, Text, first_of, kind_of, new_app, new_rule}
@@ -21,15 +21,20 @@ file name = record (new_rule name) { action = Some Set; required = true }
 abbrev pub number : Text → ValueParser → Rule
 number name range = record (new_rule name) { long = Some name; action = Some Set; parser = Some range }
 
--- two files; the turns, which have to be said; the workers, of which there is 1 where no other number is said; and the
--- turns of the drain, 0 where no other number is said
+-- the turns, which have to be said
+abbrev pub turns_option : Rule
+turns_option = record (number (codes "turns") (Unsigned 0 1000000)) { required = true }
+
+-- the workers, of which there is 1 where no number is said
+abbrev pub workers_option : Rule
+workers_option = record (number (codes "workers") (Unsigned 1 16)) { defaults = codes "1" ∷ [] }
+
+-- the turns of the drain, 0 where no number is said
+abbrev pub drain_option : Rule
+drain_option = record (number (codes "drain") (Unsigned 0 1000000)) { defaults = codes "0" ∷ [] }
+
 abbrev pub arguments : List Rule
-arguments = file (codes "NETWORK")
-    ∷ file (codes "TRAFFIC")
-    ∷ record (number (codes "turns") (Unsigned 0 1000000)) { required = true }
-    ∷ record (number (codes "workers") (Unsigned 1 16)) { defaults = codes "1" ∷ [] }
-    ∷ record (number (codes "drain") (Unsigned 0 1000000)) { defaults = codes "0" ∷ [] }
-    ∷ []
+arguments = file (codes "NETWORK") ∷ file (codes "TRAFFIC") ∷ turns_option ∷ workers_option ∷ drain_option ∷ []
 
 -- the command has these arguments, and neither `--help` nor `--version`
 unfoldable pub command : App

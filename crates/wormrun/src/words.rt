@@ -150,7 +150,8 @@ pub fn read_words<'a>(alloc: Global, words: &'a [&'a str]) -> Result<Words<'a>, 
     ensures faultless { OnOk result (fault_of command (texts words.now) ≡ []) }
     ensures err { IfErr result IsNoCommand }
     ensures refused { IfErr result (IsRefused (fault_of command (texts words.now))) }
-    ensures taken { IfErr result (λ fault. takes command (texts words.now) ≡ true → fault ≡ WordsFault.NoMemory) }
+    ensures taken { IfErr result
+        (λ fault. takes command (texts words.now) ≡ true → fault ≡ WordsFault.NoMemory) }
 {
     let matches = command(alloc)?.try_get_matches_from(words)?;
     Ok(words_in(&matches))

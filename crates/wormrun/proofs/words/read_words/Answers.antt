@@ -45,8 +45,8 @@ pub returns-in_err-matches-clause-taken : goal.returns-in_err-matches-clause-tak
 returns-in_err-matches-clause-taken c =
     let e = c.in_err-matches.field-0.0 in
     let words = texts c.args.words.now in
-    let passes = subst (λ (a : App). takes a words ≡ true → kind_of e ≡ OutOfMemory) c.in_ok-command.ensures
-    c.in_err-matches.ensures.passes in
+    let passes = subst (λ (a : App). takes a words ≡ true → kind_of e ≡ OutOfMemory)
+    c.in_ok-command.ensures c.in_err-matches.ensures.passes in
     passed_up c.from_residual-in_err-matches.result _ _ c.from_residual-in_err-matches.ensures.1
     (λ taken. ap (λ k. parser_fault k e) (passes taken))
 
@@ -66,6 +66,6 @@ returns-clause-said c =
 pub returns-clause-faultless : goal.returns-clause-faultless
 returns-clause-faultless c =
     let words = texts c.args.words.now in
-    let none = subst (λ (a : App). is_simple_and_free a ≡ true → fault_of a words ≡ []) c.in_ok-command.ensures
-    c.in_ok-matches.ensures.kinds in
+    let none = subst (λ (a : App). is_simple_and_free a ≡ true → fault_of a words ≡ [])
+    c.in_ok-command.ensures c.in_ok-matches.ensures.kinds in
     none free

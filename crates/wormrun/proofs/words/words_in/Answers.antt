@@ -34,21 +34,18 @@ unwrap-requires-2 c =
 
 pub unwrap-requires-3 : goal.unwrap-requires-3
 unwrap-requires-3 c =
-    let r = read 0 1000000 c.args.matches.now (codes "turns") c.get_one.result c.get_one.ensures.value
-    c.requires.turns in
-    ap is_some r.is
+    let m = c.args.matches.now in
+    ap is_some (read 0 1000000 m (codes "turns") c.get_one.result c.get_one.ensures.value c.requires.turns).is
 
 pub unwrap-requires-4 : goal.unwrap-requires-4
 unwrap-requires-4 c =
-    let r = read 1 16 c.args.matches.now (codes "workers") c.get_one-2.result c.get_one-2.ensures.value
-    c.requires.workers in
-    ap is_some r.is
+    let m = c.args.matches.now in
+    ap is_some (read 1 16 m (codes "workers") c.get_one-2.result c.get_one-2.ensures.value c.requires.workers).is
 
 pub unwrap-requires-5 : goal.unwrap-requires-5
 unwrap-requires-5 c =
-    let r = read 0 1000000 c.args.matches.now (codes "drain") c.get_one-3.result c.get_one-3.ensures.value
-    c.requires.drain in
-    ap is_some r.is
+    let m = c.args.matches.now in
+    ap is_some (read 0 1000000 m (codes "drain") c.get_one-3.result c.get_one-3.ensures.value c.requires.drain).is
 
 pub returns-clause-said : goal.returns-clause-said
 returns-clause-said c =
