@@ -1,5 +1,5 @@
 -- A pass of the switch allocator in which no channel may send grants nothing and moves no arbiter.
-use Rattle.std.proofs.Common.{◌≡◌, ℕ, ◌≤◌, false, cond, List, [], Option, None, Some, is_some, replicate}
+use Rattle.std.proofs.Common.{◌≡◌, ℕ, ◌≤◌, cond, List, [], Option, None, is_some, replicate}
 use Rattle.std.proofs.Common.{slice_index_or, inl, inr, refl, ap, sym, ◌∙◌, arith}
 use Rattle.std.specs.Option.{option_map}
 use Rattle.std.proofs.lemmas.Bool.{cases_lt}

@@ -1,5 +1,5 @@
 -- What a router keeps of the input channels that may send is what its records say, and what each call leaves of that.
-use Rattle.std.proofs.Common.{◌≡◌, ℕ, ◌+◌, ◌-◌, ◌*◌, ◌<◌, ◌≤◌, ◌&&◌, ◌||◌, ◌==◌, Bool, true, false, nat_lt}
+use Rattle.std.proofs.Common.{◌≡◌, ℕ, ◌+◌, ◌-◌, ◌<◌, ◌≤◌, ◌&&◌, ◌||◌, ◌==◌, Bool, true, false, nat_lt}
 use Rattle.std.proofs.Common.{if◌then◌else◌, inl, inr, List, [], ◌∷◌, length, slice_get, slice_set, slice_index_or}
 use Rattle.std.proofs.Common.{replicate, Option, None, Some, is_some, IfSome, MatchOption, ◌⊎◌, refl, arith, ap, sym}
 use Rattle.std.proofs.Common.{◌∙◌, subst}

@@ -1,8 +1,7 @@
 -- Lemmas on a pass in which one input port alone may name anything.
 use Rattle.std.proofs.Common.{◌≡◌, IfSome, Bool, ℕ, ◌+◌, ◌-◌, zero, suc, ◌<◌, ◌≤◌, true, false, List, Option, Some}
-use Rattle.std.proofs.Common.{None, refl}
-use Rattle.std.proofs.Common.{sym, ap, ◌∙◌, arith, slice_index_or, slice_set, length, inl, inr, replicate, subst}
-use Rattle.std.proofs.Common.{get_or-set_same, get_or-set_other}
+use Rattle.std.proofs.Common.{None, refl, sym, ap, ◌∙◌, arith, slice_index_or, slice_set, length, inl, inr, replicate}
+use Rattle.std.proofs.Common.{subst, get_or-set_same, get_or-set_other}
 use Rattle.std.proofs.lemmas.Bool.{cases_eq, eq-eqb, ne_eqb, true≢false}
 use Rattle.worm_vcalloc.specs.Arbiter.{ArbiterState, no_arbiter, winner, after_pick}
 use Rattle.worm_vcalloc.proofs.ArbiterLemmas.{winner_none, winner_none_requests, winner_requests}

@@ -1,6 +1,6 @@
 ghost use Rattle.std.specs.Prelude.{◌≡◌, ℕ, ◌^◌, ◌<◌, ◌≤◌, IfSome, None, is_some, replicate, true, slice_index_or};
 ghost use Rattle.std.specs.Prelude.{slice_set};
-ghost use Rattle.worm_vcalloc.specs.Arbiter.{no_arbiter, line_requests, winner, after_pick};
+ghost use Rattle.worm_vcalloc.specs.Arbiter.{no_arbiter, line_requests, after_pick};
 ghost use Rattle.worm_vcalloc.specs.Table.{cell};
 ghost use Rattle.worm_swalloc.specs.Front.{with_front};
 ghost use Rattle.worm_swalloc.specs.SwAlloc.{SwAllocState, IsSwAlloc, IsSwitchMatching, AreChannelsBelow};
@@ -93,7 +93,7 @@ impl SwAlloc {
     {
         let mut left = ready.keys();
         let port = left.pop_port()?;
-        if port < self.ports && left.is_empty() {
+        if left.is_empty() && port < self.ports {
             Some(port)
         } else {
             None

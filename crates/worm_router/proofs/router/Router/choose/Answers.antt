@@ -1,4 +1,4 @@
-use Rattle.std.proofs.Common.{◌≡◌, List, Option, ℕ, refl, ap, subst, ◌∙◌, sym, arith}
+use Rattle.std.proofs.Common.{List, Option, ℕ, ap, subst, ◌∙◌, sym, arith}
 use Rattle.std.proofs.lemmas.Grind.{common_steps}
 use Rattle.worm_swalloc.specs.SwAlloc.{SwAllocState, IsSwitchMatching, sw_grants, sw_after}
 use Rattle.worm_router.specs.Router.{RouterState, router_state}

@@ -1,4 +1,4 @@
-use Rattle.std.proofs.Common.{◌≤◌, ◌<◌, subst, ◌∙◌, sym, arith, refl, ap, ◌*◌, sum, length}
+use Rattle.std.proofs.Common.{◌≤◌, ◌<◌, subst, ◌∙◌, sym, arith, ap, ◌*◌, sum, length}
 use Rattle.std.proofs.lemmas.Grind.{common_steps, elements}
 use Rattle.worm_records.specs.declared.OutRecord.{OutRecord}
 use Rattle.worm_router.specs.Router.{RouterState, router_state, after_credit, terminal, width, free_output}
