@@ -12,8 +12,6 @@ mod busy;
 mod net;
 mod one_thread;
 mod parts;
-#[cfg(test)]
-mod tests;
 mod totals;
 mod view;
 

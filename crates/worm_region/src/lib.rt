@@ -20,8 +20,6 @@ mod parts;
 mod region;
 mod script;
 mod step;
-#[cfg(test)]
-mod tests;
 mod turn;
 
 pub use config::{Config, Name};

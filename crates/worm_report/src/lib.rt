@@ -23,5 +23,3 @@ mod writing;
 pub use report::write_report;
 pub use summary::{ReportFault, Summary};
 
-#[cfg(test)]
-mod tests;

@@ -21,5 +21,3 @@ pub use report::read_report;
 pub use rows::{Load, PacketId, Row};
 pub use shape::Shape;
 
-#[cfg(test)]
-mod tests;

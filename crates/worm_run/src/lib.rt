@@ -9,8 +9,6 @@
 mod gate;
 mod plan;
 mod running;
-#[cfg(test)]
-mod tests;
 mod working;
 
 pub use gate::{FreeGate, Gate};

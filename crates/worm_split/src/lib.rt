@@ -14,8 +14,6 @@ mod joining;
 mod making;
 mod part;
 mod splitting;
-#[cfg(test)]
-mod tests;
 mod turning;
 
 pub use ends::{End, Line};

@@ -28,5 +28,3 @@ pub use format::Format;
 pub use network::read_network;
 pub use traffic::read_traffic;
 
-#[cfg(test)]
-mod tests;

@@ -1,0 +1,11 @@
+//! Worked cases of the public functions of `worm_region` and `worm_core`.
+//!
+//! They stand apart from what they test because a crate with tests is proved twice, with them and without.
+#![tactic(auto)]
+
+#[cfg(test)]
+mod cases;
+#[cfg(test)]
+mod network;
+#[cfg(test)]
+mod region;

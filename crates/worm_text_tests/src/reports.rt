@@ -1,0 +1,5 @@
+//! Whole reports of worked networks, and writers that stop.
+
+mod networks;
+mod whole;
+mod writers;

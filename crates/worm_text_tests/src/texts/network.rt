@@ -1,0 +1,377 @@
+//! Networks that are read, and the faults of their texts.
+
+use std::alloc::Global;
+use std::process::Abort;
+use std::test::Fail;
+use worm_text::{Why, read_network};
+
+/// Two nodes, one class with one channel.
+const TWO_NODES: &str = "wormnet 1\nradix 2\ndims 1\ndepth 2\nclass data\nend\n";
+
+fn is_refused(rt: &impl Abort, text: &[u8], line: u32, why: Why) {
+    match read_network(text) {
+        Ok(_) => assert!(rt; false, "accepted {text:?}"),
+        Err(fault) => {
+            assert_eq!(rt; fault.why, why, "at {text:?}");
+            assert_eq!(rt; fault.line, line, "at {text:?}");
+        }
+    }
+}
+
+fn is_accepted(rt: &impl Abort, text: &str, radices: &[u8], depth: u8, channels: &[u8]) {
+    match read_network(text.as_bytes()) {
+        Ok(config) => {
+            assert_eq!(rt; config.radices.as_slice(), radices);
+            assert_eq!(rt; config.depth, depth);
+            assert_eq!(rt; config.channels.as_slice(), channels);
+            assert_eq!(rt; config.classes.len(), channels.len());
+        }
+        Err(fault) => assert!(rt; false, "refused {text} {fault:?}"),
+    }
+}
+
+#[test]
+fn networks_of_format_one(rt: HostRuntime) {
+    is_accepted(&rt, TWO_NODES, &[2], 2, &[1]);
+    is_accepted(
+        &rt,
+        "wormnet 1\nradix 16\ndims 2\ndepth 2\nclass data\nend\n",
+        &[16, 16],
+        2,
+        &[1],
+    );
+    is_accepted(
+        &rt,
+        "wormnet 1\nradix 2\ndims 1\ndepth 16\nclass data\nend\n",
+        &[2],
+        16,
+        &[1],
+    );
+    is_accepted(
+        &rt,
+        "wormnet 1\nradix 3\ndims 2\ndepth 2\nclass end\nclass class\nclass a\nclass abcdefghijklmn09\nend\n",
+        &[3, 3],
+        2,
+        &[1, 1, 1, 1],
+    );
+}
+
+#[test]
+fn networks_of_format_two(rt: HostRuntime) {
+    is_accepted(
+        &rt,
+        "wormnet 2\ndims 1\nradix 2\ndepth 2\nclass data channels 2\nend\n",
+        &[2],
+        2,
+        &[2],
+    );
+    is_accepted(
+        &rt,
+        "wormnet 2\ndims 1\nradix 2\ndepth 2\nclass a channels 5\nclass b channels 3\nend\n",
+        &[2],
+        2,
+        &[5, 3],
+    );
+    is_accepted(
+        &rt,
+        "wormnet 2\ndims 3\nradix 16 8 2\ndepth 2\nclass data channels 1\nend\n",
+        &[16, 8, 2],
+        2,
+        &[1],
+    );
+    is_accepted(
+        &rt,
+        "wormnet 2\ndims 2\nradix 3 2\ndepth 2\nclass channels channels 8\nend\n",
+        &[3, 2],
+        2,
+        &[8],
+    );
+}
+
+#[test]
+fn names_are_kept(rt: HostRuntime) {
+    match read_network(b"wormnet 1\nradix 2\ndims 1\ndepth 2\nclass data\nclass b7\nend\n") {
+        Ok(config) => {
+            for (name, wanted) in config.classes.as_slice().iter().zip(["data", "b7"]) {
+                assert_eq!(rt; name.as_str(), wanted);
+            }
+            assert_eq!(rt; config.classes.len(), 2);
+        }
+        Err(fault) => assert!(rt; false, "refused {fault:?}"),
+    }
+}
+
+#[test]
+fn worked_faults_of_format_one(rt: HostRuntime) {
+    for (text, line, why) in [
+        ("", 1, Why::NoEnd),
+        (
+            "wormnet 1 \nradix 2\ndims 1\ndepth 2\nclass data\nend\n",
+            1,
+            Why::Header,
+        ),
+        (
+            "wormnet 1\ndims 1\ndepth 2\nclass data\nend\n",
+            2,
+            Why::Missing,
+        ),
+        (
+            "wormnet 1\nradix\ndims 1\ndepth 2\nclass data\nend\n",
+            2,
+            Why::Missing,
+        ),
+        (
+            "wormnet 1\nradix 02\ndims 1\ndepth 2\nclass data\nend\n",
+            2,
+            Why::Number,
+        ),
+        (
+            "wormnet 1\nradix  2\ndims 1\ndepth 2\nclass data\nend\n",
+            2,
+            Why::Number,
+        ),
+        (
+            "wormnet 1\nradix 1\ndims 1\ndepth 2\nclass data\nend\n",
+            2,
+            Why::Range,
+        ),
+        (
+            "wormnet 1\nradix 17\ndims 1\ndepth 2\nclass data\nend\n",
+            2,
+            Why::Range,
+        ),
+        (
+            "wormnet 1\nradix 2 3\ndims 1\ndepth 2\nclass data\nend\n",
+            2,
+            Why::TooMany,
+        ),
+        (
+            "wormnet 1\nradix 7\ndims 3\ndepth 2\nclass data\nend\n",
+            3,
+            Why::Range,
+        ),
+        (
+            "wormnet 1\nradix 2\nradix 2\ndepth 2\nclass data\nend\n",
+            3,
+            Why::Repeated,
+        ),
+        (
+            "wormnet 1\nradix 2\nsize 2\ndepth 2\nclass data\nend\n",
+            3,
+            Why::UnknownWord,
+        ),
+        (
+            "wormnet 1\nradix 2\ndims 1\ndepth 17\nclass data\nend\n",
+            4,
+            Why::Range,
+        ),
+        (
+            "wormnet 1\nradix 2\ndims 1\ndepth 2\nclass Data\nend\n",
+            5,
+            Why::Name,
+        ),
+        (
+            "wormnet 1\nradix 2\ndims 1\ndepth 2\nend\n",
+            5,
+            Why::Missing,
+        ),
+        (
+            "wormnet 1\nradix 2\ndims 1\ndepth 2\nclass data\nclass data\nend\n",
+            6,
+            Why::Repeated,
+        ),
+        (
+            "wormnet 1\nradix 2\ndims 1\ndepth 2\nclass a\nclass b\nclass c\nclass d\nclass e\nend\n",
+            9,
+            Why::TooMany,
+        ),
+        (
+            "wormnet 1\nradix 2\ndims 1\ndepth 2\nclass data\nend",
+            6,
+            Why::NoEnd,
+        ),
+        (
+            "wormnet 1\nradix 2\ndims 1\ndepth 2\nclass data\nend\n\n",
+            7,
+            Why::AfterEnd,
+        ),
+    ] {
+        is_refused(&rt, text.as_bytes(), line, why);
+    }
+}
+
+#[test]
+fn worked_faults_of_format_two(rt: HostRuntime) {
+    for (text, line, why) in [
+        (
+            "wormnet 3\ndims 1\nradix 2\ndepth 2\nclass data channels 2\nend\n",
+            1,
+            Why::Header,
+        ),
+        (
+            "wormnet 2\ndims 1\nradix 2\ndepth 2\nclass data\nend\n",
+            5,
+            Why::Missing,
+        ),
+        (
+            "wormnet 2\ndims 1\nradix 2\ndepth 2\nclass data lanes 2\nend\n",
+            5,
+            Why::UnknownWord,
+        ),
+        (
+            "wormnet 2\ndims 1\nradix 2\ndepth 2\nclass data channels 0\nend\n",
+            5,
+            Why::Range,
+        ),
+        (
+            "wormnet 2\ndims 1\nradix 2\ndepth 2\nclass data channels 9\nend\n",
+            5,
+            Why::Range,
+        ),
+        (
+            "wormnet 2\ndims 1\nradix 2\ndepth 2\nclass a channels 5\nclass b channels 4\nend\n",
+            6,
+            Why::Range,
+        ),
+        (
+            "wormnet 2\ndims 2\nradix 2\ndepth 2\nclass data channels 2\nend\n",
+            3,
+            Why::Missing,
+        ),
+        (
+            "wormnet 2\ndims 1\nradix 2 2\ndepth 2\nclass data channels 2\nend\n",
+            3,
+            Why::TooMany,
+        ),
+        (
+            "wormnet 1\nradix 2\ndims 1\ndepth 2\nclass data channels 1\nend\n",
+            5,
+            Why::TooMany,
+        ),
+        (
+            "wormnet 2\ndims 3\nradix 16 16 2\ndepth 2\nclass data channels 1\nend\n",
+            3,
+            Why::Range,
+        ),
+    ] {
+        is_refused(&rt, text.as_bytes(), line, why);
+    }
+}
+
+/// Fields are judged from the left, each wholly before the next is asked for.
+#[test]
+fn the_first_of_several_faults(rt: HostRuntime) {
+    for (text, line, why) in [
+        ("wormnet 1\nradix 17 3\n", 2, Why::Range),
+        ("wormnet 1\nradix 2 \n", 2, Why::TooMany),
+        ("wormnet 1\n\n", 2, Why::UnknownWord),
+        ("\n", 1, Why::Header),
+        (
+            "wormnet 1\nradix 2\ndims 1\ndepth 2\nclass \n",
+            5,
+            Why::Name,
+        ),
+        (
+            "wormnet 1\nradix 2\ndims 1\ndepth 2\nend x\n",
+            5,
+            Why::Missing,
+        ),
+        (
+            "wormnet 1\nradix 2\ndims 1\ndepth 2\nclass data\nend \n",
+            6,
+            Why::TooMany,
+        ),
+        (
+            "wormnet 1\nradix 2\ndims 1\ndepth 2\nclass abcdefghijklmnopq\n",
+            5,
+            Why::Name,
+        ),
+        (
+            "wormnet 1\nradix 2\ndims 1\ndepth 2\nclass a\nclass b\nclass c\nclass d\nclass E\n",
+            9,
+            Why::TooMany,
+        ),
+        (
+            "wormnet 1\nradix 2\ndims 1\ndepth 2\nclass data\ndepth 2\n",
+            6,
+            Why::Repeated,
+        ),
+        ("wormnet 2\nradix 2\n", 2, Why::Missing),
+        (
+            "wormnet 2\ndims 1\nradix 2\ndepth 2\nclass Data lanes 9\n",
+            5,
+            Why::Name,
+        ),
+        (
+            "wormnet 2\ndims 1\nradix 2\ndepth 2\nclass a channels 5\nclass b channels 4 4\n",
+            6,
+            Why::Range,
+        ),
+    ] {
+        is_refused(&rt, text.as_bytes(), line, why);
+    }
+}
+
+/// At the line in which the text was cut, or that would come next.
+#[test]
+fn a_text_that_is_cut_off_has_no_end(rt: HostRuntime) {
+    let text = TWO_NODES.as_bytes();
+    let mut line = 1;
+    for (at, byte) in text.iter().enumerate() {
+        is_refused(&rt, &text[..at], line, Why::NoEnd);
+        if *byte == b'\n' {
+            line = line.saturating_add(1);
+        }
+    }
+}
+
+#[test]
+fn a_number_of_a_thousand_digits_is_out_of_range(rt: HostRuntime) -> Result<(), Fail> {
+    let mut text = Vec::from_slice(rt.alloc(), b"wormnet 1\nradix ")?;
+    for _digit in 0..1000 {
+        text.push(b'7')?;
+    }
+    text.push(b'\n')?;
+    is_refused(&rt, text.as_slice(), 2, Why::Range);
+    Ok(())
+}
+
+#[test]
+fn bytes_that_no_text_has(rt: HostRuntime) {
+    for (text, line, why) in [
+        (b"wormnet 1\r\nradix 2\r\n".as_slice(), 1, Why::Header),
+        (b"wormnet 1\nradix 2\r\n".as_slice(), 2, Why::Number),
+        (b"wormnet 1\n\x00\n".as_slice(), 2, Why::UnknownWord),
+        (b"wormnet 1\nradix \xff\n".as_slice(), 2, Why::Number),
+        (
+            b"wormnet 1\nradix 2\ndims 1\ndepth 2\nclass a\x00\n".as_slice(),
+            5,
+            Why::Name,
+        ),
+    ] {
+        is_refused(&rt, text, line, why);
+    }
+}
+
+#[test]
+fn faults_in_words(rt: HostRuntime) -> Result<(), Fail> {
+    let alloc: Global = rt.alloc();
+    for (why, words) in [
+        (Why::Header, "header"),
+        (Why::Missing, "missing"),
+        (Why::Number, "number"),
+        (Why::Range, "range"),
+        (Why::Name, "name"),
+        (Why::Repeated, "repeated"),
+        (Why::UnknownWord, "unknown word"),
+        (Why::OrderOfTurns, "order of turns"),
+        (Why::LaneClosed, "lane closed"),
+        (Why::TooMany, "too many"),
+        (Why::NoEnd, "no end"),
+        (Why::AfterEnd, "after end"),
+        (Why::ManyChannels, "many channels"),
+    ] {
+        assert_eq!(rt; format!(in alloc; "{why}")?.as_str(), words);
+    }
+    Ok(())
+}
