@@ -1,8 +1,9 @@
-//! The turns of a wormhole network in plain Rust: what the proved crates do, written apart from them and without a contract, to compare
-//! speed and deliveries with (Dally and Towles, chapters 8, 13, 16, 18 and 19). It is written for speed: sets of channels are words of
-//! bits, a node with nothing to do is gone past, buffers and links are rings in one array. It reads a network text of the first format
-//! and a traffic text of `send` lines alone, neither with a fault, takes turns until all has arrived, prints turns and speed, and writes
-//! to the third file named a line for each flit delivered: node, source, class, packet, word.
+//! The turns of a wormhole network in plain Rust: what the proved crates do, written apart from them and without a
+//! contract, to compare speed and deliveries with (Dally and Towles, chapters 8, 13, 16, 18 and 19). It is written for
+//! speed: sets of channels are words of bits, a node with nothing to do is gone past, buffers and links are rings in
+//! one array. It reads a network text of the first format and a traffic text of `send` lines alone, neither with a
+//! fault, takes turns until all has arrived, prints turns and speed, and writes to the third file named a line for
+//! each flit delivered: node, source, class, packet, word.
 
 use std::collections::HashMap;
 use std::io::{self, BufWriter, Write};
@@ -455,8 +456,8 @@ impl Node {
         self.asked |= 1 << out;
     }
 
-    /// One pass of the channel allocator: a class's packets ask for the channel of its number. Lines are by port, then channel, so
-    /// the order of the set's bits is that of the lines.
+    /// One pass of the channel allocator: a class's packets ask for the channel of its number. Lines are by port, then
+    /// channel, so the order of the set's bits is that of the lines.
     fn allocate(&mut self, classes: usize, terminal: usize, depth: usize) {
         for out in Bits(self.asked & self.free) {
             let place = first_from(self.askers[out], self.channel_pointers[out]) as usize;

@@ -111,7 +111,8 @@ def judge_lane(network, lane, said, came, waits):
         return
     said, came, waits = by_packet(said), by_packet(came), by_packet(waits)
     for packet in set(said) | set(came) | set(waits):
-        judge_sequence(f"lane {lane} packet {packet}", said.get(packet, []), came.get(packet, []), waits.get(packet, []))
+        flits = [table.get(packet, []) for table in (said, came, waits)]
+        judge_sequence(f"lane {lane} packet {packet}", *flits)
 
 
 def judge_lanes(run, delivered, underway):
@@ -134,7 +135,8 @@ def judge_places(network, underway):
             last_lane, last_distance, places = lane, None, route_places(network, lane[0], lane[1])
         distance = places.get(place[:3])
         demand(distance is not None, f"lane {lane} {stamp}: {place} is not on its route")
-        demand(last_distance is None or distance <= last_distance, f"lane {lane} {stamp}: {place} is ahead of the row before")
+        is_behind = last_distance is None or distance <= last_distance
+        demand(is_behind, f"lane {lane} {stamp}: {place} is ahead of the row before")
         last_distance = distance
         if place == ("source",):
             continue
@@ -163,7 +165,8 @@ def judge(run, status, report, errors):
     demand(status == 0, f"status {status}, {errors!r}")
     demand(errors == "", f"on standard error: {errors!r}")
     head, delivered, underway, not_offered, totals = parse(report)
-    demand(head == ["wormreport 1", f"turns {run.turns} workers {run.workers} drain {run.drain}"], f"first lines {head}")
+    opening = ["wormreport 1", f"turns {run.turns} workers {run.workers} drain {run.drain}"]
+    demand(head == opening, f"first lines {head}")
     sinks = [lane[1] for lane, _ in delivered]
     demand(sinks == sorted(sinks), "rows delivered not by rising node")
     most = max(Counter(sinks).values(), default=0)
@@ -173,13 +176,15 @@ def judge(run, status, report, errors):
     later = sum(entry.turn >= run.turns for entry in run.entries)
     demand(not_offered == later, f"not offered {not_offered}, where {later} entries stand behind the last turn")
     injected = sum(map(len, said_flits(run).values()))
-    demand(totals == (injected, len(delivered), len(underway)), f"totals {totals}, injected {injected}, rows {len(delivered)} {len(underway)}")
+    rows = len(delivered), len(underway)
+    demand(totals == (injected, *rows), f"totals {totals}, injected {injected}, rows {rows}")
     demand(run.drain < LARGE_DRAIN or not underway, f"{len(underway)} under way after the drain")
     return injected, len(delivered)
 
 
 def begun_flits(run, stops, most):
-    """What the lanes' entries say, up to the turn in which the source's worker was stopped: without that turn, or with it."""
+    """What the lanes' entries say up to the turn in which the source's worker was stopped: without that turn, or with
+    it."""
     kept = []
     for entry in run.entries:
         end = stops.get(entry.lane[0] % run.workers, run.turns)
@@ -189,8 +194,8 @@ def begun_flits(run, stops, most):
 
 
 def judge_beginnings(run, report):
-    """Judges the report of a run in which some workers were stopped: each lane holds whole packets of its own, in order,
-    at least those of the turns taken and at most those of the turn stopped in. Answers the stops."""
+    """Judges the report of a run in which some workers were stopped: each lane holds whole packets of its own, in
+    order, at least those of the turns taken and at most those of the turn stopped in. Answers the stops."""
     lines = report.split("\n")
     ended = 2
     while STOPPED.fullmatch(lines[ended]):
@@ -198,7 +203,8 @@ def judge_beginnings(run, report):
     stops = {int(found[1]): int(found[2]) for found in map(STOPPED.fullmatch, lines[2:ended])}
     demand(list(stops) == sorted(stops) and all(worker < run.workers for worker in stops), f"stops {stops}")
     head, delivered, underway, not_offered, totals = parse("\n".join(lines[:2] + lines[ended:]))
-    demand(head == ["wormreport 1", f"turns {run.turns} workers {run.workers} drain {run.drain}"], f"first lines {head}")
+    opening = ["wormreport 1", f"turns {run.turns} workers {run.workers} drain {run.drain}"]
+    demand(head == opening, f"first lines {head}")
     least, most = begun_flits(run, stops, False), begun_flits(run, stops, True)
     if not stops and totals == (0, 0, 0):
         least = {}

@@ -270,7 +270,8 @@ impl Mesh {
         ensures twice { opposite_of result ≡ port }
         ensures back { (from : ℕ) (to : ℕ) → Joins self.now from port to → Joins self.now to result from }
     {
-        if port % 2 == 0 { port + 1 } else { port - 1 }
+        // The two ports of a dimension differ in the lowest bit alone.
+        port ^ 1
     }
 
     // How many links leave `node` by a port below `port`.

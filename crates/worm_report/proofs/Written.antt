@@ -263,12 +263,6 @@ pub passed_on : {a b c : Option (List ℕ)} (bytes : List ℕ) → Writes a b do
 passed_on {a = a} {b = b} {c = c} bytes w kept =
     given_all bytes bytes [] refl (sym (append-nil bytes)) (given_and_kept a b c bytes w kept)
 
--- or it did not
-pub not_passed_on : {a b c : Option (List ℕ)} (bytes : List ℕ) → Writes a b done bytes → Keeps b c
-    → Writes a c (Err Write) bytes
-not_passed_on {a = a} {b = b} {c = c} bytes w kept =
-    given_part bytes bytes [] (sym (append-nil bytes)) (given_and_kept a b c bytes w kept)
-
 pub same_rows : {a b : Desk} {r : Answer} (xs ys : List Row) → xs ≡ ys → WritesRows a b r xs → WritesRows a b r ys
 same_rows {a = a} {b = b} {r = r} xs ys e w = subst (λ (rows : List Row). WritesRows a b r rows) e w
 
@@ -326,9 +320,6 @@ below_all f i n e w = same_rows (rows_below f i) (rows_below f n) (ap (rows_belo
 
 -- ---- a loop over a list
 
-pub each_none : {X : Type 0} {a : Desk} (row : X → Row) (xs : List X) → WritesRows a a done (map row (take 0 xs))
-each_none row xs = no_rows
-
 each_last : {X : Type 0} (row : X → Row) (xs : List X) (i : ℕ) (d : X) → i < length xs
     → map row (take (i + 1) xs) ≡ map row (take i xs) ++ row (get_or xs i d) ∷ []
 each_last row xs i d lt = ap (map row) (take_more xs i d lt) ∙ map_push row (take i xs) (get_or xs i d)
@@ -351,7 +342,3 @@ each_stop row xs i d lt e h k =
     ∙ sym (map-append row (take (i + 1) xs) (drop (i + 1) xs)) ∙ ap (map row) (take-append-drop (i + 1) xs) in
     same_rows (front ++ back) (map row xs) parts
     (rows_stop front back e (rows_then (map row (take i xs)) (row (get_or xs i d) ∷ []) h k))
-
-pub each_all : {X : Type 0} {a b : Desk} (row : X → Row) (xs : List X) (i : ℕ) → length xs ≤ i
-    → WritesRows a b done (map row (take i xs)) → WritesRows a b done (map row xs)
-each_all row xs i le w = same_rows (map row (take i xs)) (map row xs) (ap (map row) (take_all i xs le)) w

@@ -22,4 +22,3 @@ mod writing;
 
 pub use report::write_report;
 pub use summary::{ReportFault, Summary};
-

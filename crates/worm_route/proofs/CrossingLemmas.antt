@@ -30,7 +30,8 @@ module _ (ks : List ℕ) (l : AreLarge ks) where
   crosses_first x port s t p q ne h =
       let on = onward ks l s t p q ne in
       let in_mesh = crosses-inside ks x port s t l p h in
-      elim (crossed_first port (address_of ks x) (address_of ks s) (address_of ks t) (crosses-crossed ks x port s t h)) [
+      elim (crossed_first port (address_of ks x) (address_of ks s) (address_of ks t)
+      (crosses-crossed ks x port s t h)) [
         | inl first ↦ inl (same_node ks x s l in_mesh p first.0, first.1)
         | inr later ↦ inr (crossed-crosses ks x port on.to t l in_mesh on.joined.to_node
             (rw (address_of-onward ks l s t p q ne) later))

@@ -92,7 +92,8 @@ port_without : (s : RouterState) (grants : List (List (Option ℕ))) (port : ℕ
     → ((v : ℕ) → v < 8 → cell grants port v None ≡ None) → with_port_grants grants s port ≡ s
 unfolding with_port_grants
 port_without s grants port few none =
-    fold_same_below (λ q vc. written q port vc (cell grants port vc None)) s (width s) 0 (λ k below. ap (written s port k) (none k (omega arith)))
+    fold_same_below (λ q vc. written q port vc (cell grants port vc None)) s (width s) 0
+    (λ k below. ap (written s port k) (none k (omega arith)))
 
 -- ---- the ports that have grants, taken out of a set one by one
 

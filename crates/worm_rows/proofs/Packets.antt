@@ -100,7 +100,8 @@ link_takes s fields place e =
     let c = took_below s.channels b.rest _ place t.1 in
     let o = took_all c.rest _ place c.next in
     let f = spot_chain fields a.rest b.rest c.rest a.n b.n c.n a.fields-are b.fields-are c.fields-are o.0 in
-    subst (λ (q : Place). (codes "link" ∷ fields ≡ place_fields q) × HasPlace s q) (ok_is (Link a.n b.n c.n) place o.1) (
+    subst (λ (q : Place). (codes "link" ∷ fields ≡ place_fields q) × HasPlace s q)
+    (ok_is (Link a.n b.n c.n) place o.1) (
       ap (λ (fs : Fields). codes "link" ∷ fs) f,
       (record { in_mesh = a.small; small = b.small; channel = c.small }, t.0),
     )

@@ -20,4 +20,3 @@ mod standing;
 pub use report::read_report;
 pub use rows::{Load, PacketId, Row};
 pub use shape::Shape;
-

@@ -41,7 +41,8 @@ module _ (script : List Entry) (n : ℕ) (old new : PartState) where
         (taken : List Entry) × ((left : List Entry) × (begun_at x (due n script) ≡ taken ++ left))
         × HasAccepted (source_at old.net x) (begun_at x (due_before n script) ++ taken) (source_at new.net x)
     cut_source fault mid turned stopped =
-        let took = stopped.sources x (there_still old mid x turned.same below) (own_still old mid x turned.same own) in (
+        let took = stopped.sources x (there_still old mid x turned.same below)
+        (own_still old mid x turned.same own) in (
           took.taken,
           (took.left, took.cut),
           accepted-then (source_at old.net x) (source_at mid.net x) (source_at new.net x)

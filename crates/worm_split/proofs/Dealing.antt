@@ -19,7 +19,7 @@ use Rattle.worm_split.specs.declared.exchange.Kept.{Kept}
 use Rattle.worm_split.specs.Apart.{IsApart}
 use Rattle.worm_split.specs.Ends.{end_at, end_made, line_at}
 use Rattle.worm_split.specs.Exchange.{EndsSwapped, LinksSwapped, NodesSwapped, far_of, near_of, way_at}
-use Rattle.worm_split.specs.Splits.{AreLinesMade, IsOpened}
+use Rattle.worm_split.specs.Splits.{AreLinesMade}
 use Rattle.worm_split.proofs.Gathered.{not_same}
 use Rattle.worm_split.proofs.Gathering.{either_way}
 use Rattle.worm_split.proofs.Swapped.{ends_now, link_in, links_now, nodes_now, rooms_now}
@@ -36,18 +36,6 @@ pub record IsDealt (O : NetState) (W : ℕ) (lines : List Line) (from : ℕ) (ke
       → (line_at kept.lines.items k).out ≡ (line_at lines k).out
   pub intos : (k : ℕ) → from ≤ (way_at kept.ways.items k).to % W
       → (line_at kept.lines.items k).into ≡ (line_at lines k).into
-
-pub opened_deals : (O : NetState) (W : ℕ) (lines : List Line) (kept : Kept) → IsOpened O W lines kept
-    → IsDealt O W lines 0 kept
-opened_deals O W lines kept opened = record {
-  apart = opened.apart;
-  made = opened.lines_made;
-  nodes = λ x from n. ap (λ (l : List Node). slice_index_or l x n) opened.nodes;
-  flits = λ k from. ap (λ (l : List LinkView). (link_in l k).flits) opened.links;
-  credits = λ k from. ap (λ (l : List LinkView). (link_in l k).credits) opened.links;
-  outs = λ k from. ap (λ (l : List Line). (line_at l k).out) opened.all_made;
-  intos = λ k from. ap (λ (l : List Line). (line_at l k).into) opened.all_made;
-}
 
 -- the lists of a worker who has nothing yet
 pub record AreEmpty (O : NetState) (nodes : List Node) (links : List LinkView) (ends : List End) : Type 0 where

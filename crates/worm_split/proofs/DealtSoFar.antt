@@ -18,9 +18,9 @@ use Rattle.worm_split.specs.declared.making.Seat.{Seat}
 use Rattle.worm_split.specs.Apart.{IsApart}
 use Rattle.worm_split.specs.Exchange.{EndsSwapped, LinksSwapped, NodesSwapped}
 use Rattle.worm_split.specs.PartState.{PartState, HasConfigOf, IsPart}
-use Rattle.worm_split.specs.Splits.{AreSeats, IsFirstPart, IsOpened, IsSeat, IsSplitOf, no_part, part_at, seat_state}
+use Rattle.worm_split.specs.Splits.{IsFirstPart, IsSeat, IsSplitOf, no_part, part_at, seat_state}
 use Rattle.worm_split.proofs.Dealing.{AreEmpty, IsDealt, credits_own, dealt_on, ends_own, flits_own, lengths_own}
-use Rattle.worm_split.proofs.Dealing.{node_other, node_own, opened_deals, rooms_own}
+use Rattle.worm_split.proofs.Dealing.{node_other, node_own, rooms_own}
 use Rattle.worm_split.proofs.FirstPart.{IsDealtPart, first_begins, first_is_part, first_works, node_mine}
 use Rattle.worm_split.proofs.MadeSoFar.{each_push}
 
@@ -182,20 +182,6 @@ seat_lengths O lines kept seat net apart is =
       apart.ways.all ∙ sym apart.all_links,
       apart.ways.all ∙ sym apart.all_lines,
     )
-
-pub deal_begun : (O : NetState) (W : ℕ) (lines : List Line) (kept : Kept) (seats : List Seat)
-    (parts : List PartState) (room : ℕ)
-    → IsOpened O W lines kept → AreSeats O lines W seats parts room → DealSoFar O W lines 0 kept seats parts room
-deal_begun O W lines kept seats parts room opened are =
-    let count = are.count in
-    record {
-      dealt = opened_deals O W lines kept opened;
-      all = are.all;
-      count = omega arith;
-      long = ap (λ (l : List PartState). length l) are.no_part;
-      each = λ j below. absurd (omega arith);
-      enough = are.for_all;
-    }
 
 pub all_dealt : (O : NetState) (W : ℕ) (lines : List Line) (kept : Kept) (seats : List Seat)
     (parts : List PartState) (room : ℕ)

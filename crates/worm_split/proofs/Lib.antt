@@ -30,7 +30,6 @@ pub mod SameNodes
 pub mod Dealing
 pub mod FirstPart
 pub mod DealtSoFar
-pub mod PartLists
 pub mod Accepted
 pub mod PassagesTell
 pub mod Alone

@@ -1,6 +1,6 @@
 -- The links of a network taken apart are emptied one after another.
 use Rattle.std.proofs.Common.{◌≡◌, ℕ, ◌+◌, ◌<◌, ◌≤◌, ◌%◌, ◌==◌, ◌≢◌, Bool, true, false, eq-eqb, inl, inr, List}
-use Rattle.std.proofs.Common.{length, refl, arith, sym, ap, subst, ◌∙◌}
+use Rattle.std.proofs.Common.{length, arith, sym, ap, subst, ◌∙◌}
 use Rattle.std.specs.Prelude.{slice_index_or, slice_set}
 use Rattle.std.proofs.Math.ListN.{length-set}
 use Rattle.std.proofs.lemmas.Bool.{cases_eq, cases_lt}
@@ -23,17 +23,6 @@ pub record LinesSoFar (workers count : ℕ) (old new : Kept) : Type 0 where
   pub ways : new.ways ≡ old.ways
   pub nodes : new.nodes ≡ old.nodes
   pub config : new.config ≡ old.config
-
-pub lines_begun : (workers : ℕ) (kept : Kept) → LinesSoFar workers 0 kept kept
-lines_begun workers kept = record {
-  emptied = record { same_length = refl; done = λ k below. absurd (omega arith); within = λ k same. refl };
-  ahead = λ k past. refl;
-  lines_ahead = λ k past. refl;
-  lines_length = refl;
-  ways = refl;
-  nodes = refl;
-  config = refl;
-}
 
 module _ (workers k : ℕ) (old now new : Kept) (so_far : LinesSoFar workers k old now) (way : LinkEnds)
     (line new_line : Line) (link new_link : LinkView) (inside : Bool)

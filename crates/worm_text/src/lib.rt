@@ -27,4 +27,3 @@ pub use fields::{Fields, cut_first};
 pub use format::Format;
 pub use network::read_network;
 pub use traffic::read_traffic;
-

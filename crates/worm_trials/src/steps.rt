@@ -3,17 +3,22 @@
 use crate::cases::{NINE_NODES, TWO_NODES, lane, network};
 use crate::seen::Seen;
 use std::alloc::Global;
-use worm_core::{Held, Moved, Net, NoMemory, OfferFault, Place, Step, StepFault};
+use worm_core::{Held, Moved, Net, NoMemory, OfferFault, Place, RunSoFar, Step, StepFault};
 use worm_flit::{Lane, Packet};
+
+/// What a run of the steps says. It has no contract, so that what a run promises is not carried through each trial.
+fn tried(net: &mut Net, steps: &[Step]) -> RunSoFar {
+    net.run(steps)
+}
 
 /// Takes the steps, and what memory stopped once more. Whether memory stopped them.
 fn take(net: &mut Net, steps: &[Step]) -> Result<bool, Seen> {
-    let first = net.run(steps);
+    let first = tried(net, steps);
     match first.fault {
         None if first.done == steps.len() => Ok(false),
         Some(StepFault::NoMemory) if first.done < steps.len() => {
             let rest = &steps[first.done..];
-            let second = net.run(rest);
+            let second = tried(net, rest);
             if second.fault.is_some() || second.done != rest.len() {
                 return Err(Seen::Wrong);
             }
@@ -102,7 +107,7 @@ pub fn closed_lane(alloc: Global) -> Result<Seen, Seen> {
     let Ok(packet) = Packet::new(over, &[5]) else {
         return Err(Seen::Wrong);
     };
-    let late = net.run(&[Step::Offer { node: 0, packet }]);
+    let late = tried(&mut net, &[Step::Offer { node: 0, packet }]);
     let closed = Some(StepFault::Refused(OfferFault::LaneClosed));
     if late.done == 0 && late.fault == closed && net.totals().injected == 1 {
         Ok(Seen::of(refused))

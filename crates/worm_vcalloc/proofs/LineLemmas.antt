@@ -45,16 +45,6 @@ line_set asks n requests b within e = record {
   ];
 }
 
--- the loop's step where line n is set
-pub line_set_at : (asks : ℕ → Bool) (n m requests next : ℕ) → LinesBelow asks n requests → m ≡ n + 1
-    → next ≡ bit_or requests (1 * 2 ^ n % 2 ^ 64) → n < 64 → asks n ≡ true → LinesBelow asks m next
-line_set_at asks n m requests next b em en within e = rw (em, en) (line_set asks n requests b within e)
-
--- the loop's step where it is not
-pub line_unset_at : (asks : ℕ → Bool) (n m requests next : ℕ) → LinesBelow asks n requests → m ≡ n + 1 → next ≡ requests
-    → asks n ≡ false → LinesBelow asks m next
-line_unset_at asks n m requests next b em en e = rw (em, en) (line_unset asks n requests b e)
-
 -- the bits of a row that is shifted
 pub shifted_low : (row n i : ℕ) → i < n → bit_at (row * 2 ^ n) i ≡ 0
 shifted_low row n i below = ap (λ m. bit_at m i) (omega arith) ∙ bit_at_cat_low row n 0 i below ∙ bit_at-zero i

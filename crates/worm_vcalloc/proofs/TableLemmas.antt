@@ -2,7 +2,7 @@
 use Rattle.std.proofs.Common.{◌≡◌, ℕ, ◌<◌, List, [], sym, ap, ◌∙◌, subst, arith, inl, inr, slice_index_or, slice_set}
 use Rattle.std.proofs.Common.{length, replicate, get_or-set_same, get_or-set_other}
 use Rattle.std.proofs.lemmas.Bool.{cases_eq, cases_lt}
-use Rattle.std.proofs.lemmas.List.{ext_get_or, length-set, set_past, set-get_or, length-replicate, get_or-replicate}
+use Rattle.std.proofs.lemmas.List.{length-set, set_past, set-get_or, length-replicate, get_or-replicate}
 use Rattle.std.proofs.lemmas.List.{get_or_past}
 use Rattle.worm_vcalloc.specs.Table.{cell, with_cell, IsTable}
 
@@ -104,13 +104,3 @@ IsTable-replicate x = record {
   rows = length-replicate 7 (replicate 8 x);
   columns = λ i l. ap length (get_or-replicate 7 i (replicate 8 x) [] l) ∙ length-replicate 8 x;
 }
-
--- tables with the same cells are the same
-pub table_same : {X : Type 0} (a b : List (List X)) (d : X) → IsTable a → IsTable b
-    → ((i j : ℕ) → i < 7 → j < 8 → cell a i j d ≡ cell b i j d) → a ≡ b
-table_same a b d ta tb same =
-    ext_get_or [] a b (ta.rows ∙ sym tb.rows)
-    (λ i l.
-    let row : i < 7 = omega (arith, ta.rows) in
-    ext_get_or d (slice_index_or a i []) (slice_index_or b i []) (ta.columns i row ∙ sym (tb.columns i row))
-    (λ j l'. same i j row (omega (arith, ta.columns i row))))

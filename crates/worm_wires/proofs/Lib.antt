@@ -1,6 +1,6 @@
 pub mod PortSets
 pub mod Wired
 pub mod Arriving
-pub mod Strides
+pub mod Steps
 pub mod Looking
 pub mod Apart

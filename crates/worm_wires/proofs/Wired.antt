@@ -83,16 +83,6 @@ pub none_kept : (mesh : List ℕ) (x p : ℕ) → AreRadices mesh → kept_numbe
     → neighbour_of mesh x p ≡ None
 none_kept mesh x p radices kept = none_by mesh x p radices (neighbour_of mesh x p) refl kept
 
-some_by : (mesh : List ℕ) (x p : ℕ) (n : Option ℕ) → neighbour_of mesh x p ≡ n
-    → (kept_number (out_link mesh x p) ≡ 65535 → ⊥) → IsSome n
-some_by mesh x p None e kept = absurd (kept
-    (ap (λ (n : Option ℕ). kept_number (option_map (λ z. links_before mesh x p) n)) e))
-some_by mesh x p (Some y) e kept = refl
-
-pub some_kept : (mesh : List ℕ) (x p : ℕ) → (kept_number (out_link mesh x p) ≡ 65535 → ⊥)
-    → IsSome (neighbour_of mesh x p)
-some_kept mesh x p kept = some_by mesh x p (neighbour_of mesh x p) refl kept
-
 -- the links of a port put together of their parts
 pub joined : (mesh : List ℕ) (x p y k j : ℕ) → AreRadices mesh → Some y ≡ neighbour_of mesh x p
     → k ≡ kept_number (out_link mesh x p) → j ≡ kept_number (out_link mesh y (opposite_of p))
@@ -210,24 +200,6 @@ pub ports_bound : (mesh : List ℕ) (x p : ℕ) → AreRadices mesh
     → IfSome {T = PortLinks} (port_links mesh x p)
     (λ links. (links.out < link_count mesh) × (links.into < link_count mesh))
 ports_bound mesh x p radices = bound_by mesh x p radices (neighbour_of mesh x p) refl
-
--- and each port entered a mesh port
-entered_by : (mesh : List ℕ) (x p : ℕ) → p < 6 → AreRadices mesh → (n : Option ℕ) → neighbour_of mesh x p ≡ n
-    → IfSome {T = PortLinks} (option_map (λ y. record {
-      beyond = y;
-      entered = opposite_of p;
-      out = links_before mesh x p;
-      into = links_before mesh y (opposite_of p);
-    }) n)
-    (λ links. (p < 6) × (links.entered < 6))
-entered_by mesh x p p_in radices None e = tt
-entered_by mesh x p p_in radices (Some y) e =
-    let joins = Joins-from mesh x p y (AreLarge-from_radices mesh radices.radices) e in
-    (p_in, omega (arith, joins.mesh_port, radices.few_dims))
-
-pub ports_entered : (mesh : List ℕ) (x p : ℕ) → p < 6 → AreRadices mesh
-    → IfSome {T = PortLinks} (port_links mesh x p) (λ links. (p < 6) × (links.entered < 6))
-ports_entered mesh x p p_in radices = entered_by mesh x p p_in radices (neighbour_of mesh x p) refl
 
 -- the same of links that are there
 pub ports_within : (mesh : List ℕ) (x p : ℕ) (links : PortLinks) → AreRadices mesh

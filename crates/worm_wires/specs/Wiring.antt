@@ -1,5 +1,6 @@
 -- The neighbours of a node and the numbers of its links, by mesh port (Dally and Towles, chapter 5).
-use Rattle.std.specs.Prelude.{ℕ, ◌≡◌, ◌*◌, ◌<◌, ◌≤◌, length, List, [], slice_index_or, Option, None, Some, option_map}
+use Rattle.std.specs.Prelude.{ℕ, ◌≡◌, ◌+◌, ◌*◌, ◌<◌, ◌≤◌, length, List, [], slice_index_or, Option, None, Some}
+use Rattle.std.specs.Prelude.{option_map}
 use Rattle.worm_mesh.specs.Address.{node_count, neighbour_of, opposite_of, stride_of}
 use Rattle.worm_mesh.specs.Links.{links_before}
 use Rattle.worm_wires.specs.declared.wiring.NodeLinks.{NodeLinks}
@@ -43,15 +44,18 @@ no_links = record { outs = [] }
 abbrev pub AreWired : List ℕ → List NodeLinks → Type 0
 AreWired mesh nodes = (x : ℕ) → x < 256 → AreLinksOf mesh x (slice_index_or nodes x no_links)
 
--- what one step in each dimension adds to a node's number
-abbrev pub AreStrides : List ℕ → List ℕ → Type 0
-AreStrides mesh strides = (d : ℕ) → d < length mesh → slice_index_or strides d 0 ≡ stride_of mesh d
+-- what a step by each port adds to a node's number, modulo 256: a step down by an even port, a step up by an odd one
+abbrev pub AreSteps : List ℕ → List ℕ → Type 0
+AreSteps mesh steps =
+    (d : ℕ) → d < length mesh → (slice_index_or steps (2 * d) 0 + stride_of mesh d ≡ 256)
+    × (slice_index_or steps (2 * d + 1) 0 ≡ stride_of mesh d)
 
--- what is kept of a mesh: how many nodes it has, their terminal port, what a step adds, and the links of each
+-- what is kept of a mesh: how many nodes it has, their terminal port, what a step by each port adds, and the links of
+-- each
 pub record IsWired (mesh : List ℕ) (count terminal : ℕ) (steps : List ℕ) (nodes : List NodeLinks) : Type 0 where
   pub counted : count ≡ node_count mesh
   pub few_nodes : count ≤ 256
   pub last_port : terminal ≡ 2 * length mesh
   pub few_ports : terminal ≤ 6
-  pub strides : AreStrides mesh steps
+  pub steps_by : AreSteps mesh steps
   pub links : AreWired mesh nodes

@@ -3,7 +3,7 @@
 ghost use Rattle.std.specs.Prelude.{◌≡◌, ◌<◌, ◌≤◌, ◌*◌, ℕ, IfSome, IsSome, Some, length};
 ghost use Rattle.worm_mesh.specs.Address.{AreRadices, neighbour_of, node_count, stride_of};
 ghost use Rattle.worm_mesh.specs.Links.{link_count, links_before};
-ghost use Rattle.worm_wires.specs.Wiring.{AreLinksOf, AreStrides, in_link, into_from, kept_number, out_link};
+ghost use Rattle.worm_wires.specs.Wiring.{AreLinksOf, AreSteps, in_link, into_from, kept_number, out_link};
 ghost use Rattle.worm_wires.specs.Wiring.{port_links};
 
 use std::marker::Model;
@@ -41,8 +41,8 @@ pub struct Wiring {
     count: u16,
     /// The terminal port of each node.
     terminal: u8,
-    /// What one step in each dimension adds to a node's number.
-    strides: [u8; 3],
+    /// What a step by each mesh port adds to a node's number, modulo 256.
+    steps: [u8; 6],
     /// By node number; of a node that is not there no links.
     nodes: [NodeLinks; 256],
 }
@@ -56,7 +56,7 @@ impl Model for Wiring {
 
     ghost view = { λ w. w.mesh };
 
-    ghost invariant = { λ w. IsWired w.mesh w.count w.terminal w.strides w.nodes };
+    ghost invariant = { λ w. IsWired w.mesh w.count w.terminal w.steps w.nodes };
 }
 
 /// The number that is kept of the link out of this port.
@@ -95,15 +95,17 @@ fn stride(mesh: &Mesh, dim: u8) -> u8
     }
 }
 
-/// What one step in each dimension adds.
-fn strides(mesh: &Mesh) -> [u8; 3]
-    ensures { AreStrides mesh.now result }
+/// What a step by each mesh port adds, modulo 256: a step down is one up of 256 less.
+fn steps(mesh: &Mesh) -> [u8; 6]
+    ensures { AreSteps mesh.now result }
 {
-    let mut strides = [0; 3];
+    let mut steps = [0; 6];
     for dim in 0..mesh.dims() {
-        strides[usize::from(dim)] = stride(mesh, dim);
+        let stride = stride(mesh, dim);
+        steps[usize::from(2 * dim)] = 0u8.wrapping_sub(stride);
+        steps[usize::from(2 * dim + 1)] = stride;
     }
-    strides
+    steps
 }
 
 impl Wiring {
@@ -118,12 +120,12 @@ impl Wiring {
         }
         let count = mesh.nodes();
         let terminal = 2 * mesh.dims();
-        let strides = strides(&mesh);
+        let steps = steps(&mesh);
         Wiring {
             mesh,
             count,
             terminal,
-            strides,
+            steps,
             nodes,
         }
     }
@@ -169,12 +171,7 @@ impl Wiring {
     {
         // For the proof: a mesh has radices within their limits.
         let _nodes = self.mesh.nodes();
-        let stride = self.strides[usize::from(port / 2)];
-        if port % 2 == 0 {
-            node - stride
-        } else {
-            node + stride
-        }
+        node.wrapping_add(self.steps[usize::from(port)])
     }
 
     /// The links of a port that has a neighbour, where this is the number of the one out of it.

@@ -66,7 +66,8 @@ again tails all (f ∷ flits) = ap (λ (l : List Flit). f ∷ l) (again tails al
 same_flits : (tails : PacketId → ℕ) (flits sorted : List Flit) → sorted ≡ front_first tails flits →
     IsPermutation flits sorted
 same_flits tails flits sorted h = subst (λ l. IsPermutation flits l) (sym h)
-    (subst (λ l. IsPermutation l (front_first tails flits)) (again tails flits flits) (ordered (with_parts tails flits)))
+    (subst (λ l. IsPermutation l (front_first tails flits)) (again tails flits flits)
+    (ordered (with_parts tails flits)))
 
 -- ---- one channel
 

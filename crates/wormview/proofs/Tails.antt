@@ -1,5 +1,6 @@
 -- The tails of packets, row by row.
-use Rattle.std.proofs.Common.{◌≡◌, ℕ, ◌<◌, ◌+◌, ◌==◌, ◌&&◌, List, [], ◌∷◌, ◌++◌, Bool, true, false, cond, Option, Some, None}
+use Rattle.std.proofs.Common.{◌≡◌, ℕ, ◌<◌, ◌+◌, ◌==◌, ◌&&◌, List, [], ◌∷◌, ◌++◌, Bool, true, false, cond, Option, Some}
+use Rattle.std.proofs.Common.{None}
 use Rattle.std.proofs.Common.{fold, take, length, get_or, max, refl, sym, ap, ◌∙◌, arith}
 use Rattle.std.specs.List.{cons_option, filter_map}
 use Rattle.std.specs.Ordering.{is_eq, nat_cmp, ordering_then}
@@ -24,7 +25,8 @@ module _ (packet : PacketId) where
   abbrev over : ℕ → List (PacketId × ℕ) → ℕ
   over last places = fold (λ last f. last_with f.0 f.1 packet last) last places
 
-  one_place : (place : Option (PacketId × ℕ)) (last : ℕ) → over last (cons_option place []) ≡ with_place place packet last
+  one_place : (place : Option (PacketId × ℕ)) (last : ℕ)
+      → over last (cons_option place []) ≡ with_place place packet last
   one_place None last = refl
   one_place (Some f) last = refl
 

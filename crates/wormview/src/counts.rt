@@ -24,7 +24,8 @@ fn add_waiting(svg: &mut Svg, layout: &Layout, view: &NodeView) -> Result<(), Al
     }
     write!(
         svg.text,
-        "<text class=\"count\" x=\"-{low}\" y=\"{low}\">+{waiting}<title>{waiting} flits wait in the source of node {node}</title></text>\n"
+        "<text class=\"count\" x=\"-{low}\" y=\"{low}\">+{waiting}\
+         <title>{waiting} flits wait in the source of node {node}</title></text>\n"
     )
 }
 

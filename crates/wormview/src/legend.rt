@@ -48,7 +48,8 @@ const NOTES: &str =
 <text class=\"note\" x=\"386\" y=\"14\">tail</text>
 <use href=\"#single\" x=\"420\" y=\"10\" fill=\"#56B4E9\"/>
 <text class=\"note\" x=\"431\" y=\"14\">whole packet or close mark</text>
-<text class=\"note\" x=\"10\" y=\"36\">Buffers stand where flits come in, the front towards the middle of the node;</text>
+<text class=\"note\" x=\"10\" y=\"36\">Buffers stand where flits come in, \
+the front towards the middle of the node;</text>
 <text class=\"note\" x=\"470\" y=\"36\">below on the left what is injected.</text>
 <rect class=\"slots\" x=\"10\" y=\"47\" width=\"24\" height=\"12\"/>
 <text class=\"note\" x=\"40\" y=\"58\">a channel of a buffer</text>
@@ -71,7 +72,8 @@ const NOTES: &str =
 <text class=\"note\" x=\"190\" y=\"102\">+3 flits wait in its source</text>
 <text class=\"note\" x=\"400\" y=\"102\" text-decoration=\"underline\">5</text>
 <text class=\"note\" x=\"430\" y=\"102\">flits were delivered to it</text>
-<text class=\"note\" x=\"10\" y=\"124\">A way that ends inside its node leads to the sink. Hover over a flit, or a count, to read what it is.</text>
+<text class=\"note\" x=\"10\" y=\"124\">A way that ends inside its node leads to the sink. \
+Hover over a flit, or a count, to read what it is.</text>
 ";
 
 /// How things look, and the shapes of flits.

@@ -41,8 +41,8 @@ fn drawing_of(alloc: Global, text: bool) -> Option<String> {
 
 #[test]
 fn a_map(rt: HostRuntime) {
-    let wanted =
-        "   .      1<  \n\nThe fullest buffers:\nnode 1 port 2 channel 0: 1 flits, at the front 1 to 0 class 0 packet 0 flit 1, which leaves by port 0 <\n";
+    let wanted = "   .      1<  \n\nThe fullest buffers:\n\
+         node 1 port 2 channel 0: 1 flits, at the front 1 to 0 class 0 packet 0 flit 1, which leaves by port 0 <\n";
     assert!(rt; drawing_of(rt.alloc(), true).is_some_and(|map| map.as_str() == wanted));
 }
 

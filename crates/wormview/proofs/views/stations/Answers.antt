@@ -14,5 +14,6 @@ loop-spot-preserved c =
       spots = one_station_more c.loop-spot.spot-index _ c.args.spots.now stations c.push.new.self.items station
           c.in_ok-push.ensures.items c.loop-spot.invariant.spots within c.in_ok-station_at.ensures.spot;
       each = rw c.in_ok-push.ensures.items (All-push
-          (IsStation (tail_in c.args.packets.now) c.args.flits.now) stations station c.loop-spot.invariant.each c.in_ok-station_at.ensures.flits);
+          (IsStation (tail_in c.args.packets.now) c.args.flits.now) stations station c.loop-spot.invariant.each
+          c.in_ok-station_at.ensures.flits);
     }

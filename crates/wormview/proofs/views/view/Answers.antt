@@ -9,7 +9,8 @@ returns-clause-shown c =
     record {
       spots = c.in_ok-stations.ensures.spots ∙ c.as_slice-2.ensures.value ∙ c.in_ok-spots.ensures
           ∙ ap (λ (d : ℕ). spots_in c.args.node (2 * d + 1) c.args.shape.now.channels) c.dims.ensures.value;
-      stations = subst (λ (flits : List Flit). All (IsStation (tail_in c.args.packets.now) flits) c.in_ok-stations.field-0.items)
+      stations = subst (λ (flits : List Flit). All (IsStation (tail_in c.args.packets.now) flits)
+          c.in_ok-stations.field-0.items)
           (c.as_slice.ensures.value ∙ c.in_ok-here.ensures) c.in_ok-stations.ensures.each;
       waiting = c.queued.ensures;
       arrived = c.delivered.ensures;
