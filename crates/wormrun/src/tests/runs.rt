@@ -1,20 +1,11 @@
 use crate::fault::ProgramFault;
 use crate::joined::network_end;
-use crate::program::{run_alone, run_joined};
 use crate::reading::{MOST_BYTES, ReadFault, read_text};
+use crate::tests::cases::{SHALLOW, TWO_NODES, TWO_WORDS, gives, is_refused, reports, run_reader};
 use std::alloc::Global;
 use std::io;
 use std::io::Read;
-use std::process::Abort;
 use std::test::Fail;
-
-/// Two nodes, one class with one channel.
-pub const TWO_NODES: &[u8] = b"wormnet 1\nradix 2\ndims 1\ndepth 2\nclass data\nend\n";
-
-/// The same with buffers of one flit.
-pub const SHALLOW: &[u8] = b"wormnet 1\nradix 2\ndims 1\ndepth 1\nclass data\nend\n";
-
-pub const TWO_WORDS: &[u8] = b"wormtraffic 1\nsend 0 0 1 data 17 18\nend\n";
 
 /// Gives a number of bytes `x`.
 #[derive(Drop)]
@@ -41,45 +32,15 @@ impl Read for Broken {
     }
 }
 
-/// The report is this one.
-pub fn reports(
-    rt: &impl Abort,
-    alloc: Global,
-    network: &[u8],
-    traffic: &[u8],
-    options: (u64, u64),
-    wanted: &str,
-) {
-    let (turns, drain) = options;
-    let mut network = network;
-    let mut traffic = traffic;
-    let mut out = Vec::new(alloc);
-    let ran = run_alone(alloc, &mut network, &mut traffic, turns, drain, &mut out);
-    assert!(rt; ran.is_ok());
-    assert_eq!(rt; out.as_slice(), wanted.as_bytes());
+/// How many bytes the reader gives up to its end.
+fn length_read<R: Read>(alloc: Global, reader: &mut R) -> Result<usize, ReadFault> {
+    let text = read_text(alloc, reader)?;
+    Ok(text.len())
 }
 
-/// The texts are refused with this status and line, and nothing is written.
-pub fn is_refused(
-    rt: &impl Abort,
-    alloc: Global,
-    network: &[u8],
-    traffic: &[u8],
-    status: u8,
-    line: &str,
-) -> Result<(), Fail> {
-    let mut network = network;
-    let mut traffic = traffic;
-    let mut out = Vec::new(alloc);
-    match run_alone(alloc, &mut network, &mut traffic, 1, 0, &mut out) {
-        Ok(()) => panic!(rt; "not refused"),
-        Err(fault) => {
-            assert_eq!(rt; fault.status(), status);
-            assert_eq!(rt; format!(in alloc; "{fault}")?.as_str(), line);
-        }
-    }
-    assert!(rt; out.is_empty());
-    Ok(())
+/// The place where two texts in one input are cut.
+fn cut_of(text: &[u8]) -> usize {
+    network_end(text)
 }
 
 #[test]
@@ -231,19 +192,17 @@ fn faults_have_status_and_line(rt: HostRuntime) -> Result<(), Fail> {
 
 #[test]
 fn readers_that_fail_give_nothing(rt: HostRuntime) {
-    let mut out = Vec::new(rt.alloc());
-    let ran = run_joined(rt.alloc(), &mut Broken, &mut out);
-    assert_eq!(rt; ran, Err(ProgramFault::ReadNetwork));
+    let ran = run_reader(rt.alloc(), &mut Broken);
+    gives(&rt, &ran, Err(ProgramFault::ReadNetwork), b"");
     assert_eq!(rt; ProgramFault::ReadNetwork.status(), 5);
-    assert!(rt; out.is_empty());
-    match read_text(rt.alloc(), &mut Crosses { left: MOST_BYTES }) {
-        Ok(text) => assert_eq!(rt; text.len(), MOST_BYTES),
+    match length_read(rt.alloc(), &mut Crosses { left: MOST_BYTES }) {
+        Ok(length) => assert_eq!(rt; length, MOST_BYTES),
         Err(fault) => panic!(rt; "{fault:?}"),
     }
     let mut long = Crosses {
         left: MOST_BYTES + 1,
     };
-    match read_text(rt.alloc(), &mut long) {
+    match length_read(rt.alloc(), &mut long) {
         Err(ReadFault::Unreadable) => (),
         _ => panic!(rt; "not refused"),
     }
@@ -251,9 +210,13 @@ fn readers_that_fail_give_nothing(rt: HostRuntime) {
 
 #[test]
 fn joined_texts_are_cut(rt: HostRuntime) {
-    assert_eq!(rt; network_end(b"a\nend\nb\nend\n"), 6);
-    assert_eq!(rt; network_end(b"end\nend\n"), 4);
-    assert_eq!(rt; network_end(b"a\nend \n"), 7);
-    assert_eq!(rt; network_end(b"a\nend"), 5);
-    assert_eq!(rt; network_end(b""), 0);
+    for (text, cut) in [
+        (b"a\nend\nb\nend\n".as_slice(), 6),
+        (b"end\nend\n".as_slice(), 4),
+        (b"a\nend \n".as_slice(), 7),
+        (b"a\nend".as_slice(), 5),
+        (b"".as_slice(), 0),
+    ] {
+        assert_eq!(rt; cut_of(text), cut);
+    }
 }

@@ -1,8 +1,8 @@
 //! The whole program on a runtime of the tests' own: what it opens, prints and says, and its status.
 
 use crate::run;
+use crate::tests::cases::{TWO_NODES, TWO_WORDS, are_bytes};
 use crate::tests::desk::Desk;
-use crate::tests::runs::{TWO_NODES, TWO_WORDS};
 use std::alloc::Global;
 use std::cell::RefCell;
 use std::process::{Abort, ExitCode};
@@ -34,9 +34,22 @@ const A_HUNDRED_TURNS: &str = "wormreport 1\n\
 /// What was kept is this text.
 fn kept(rt: &impl Abort, kept: &RefCell<Vec<u8>>, wanted: &str) {
     match kept.try_borrow() {
-        Ok(kept) => assert_eq!(rt; kept.as_slice(), wanted.as_bytes(), "{wanted}"),
+        Ok(kept) => are_bytes(rt, kept.as_slice(), wanted.as_bytes()),
         Err(_) => panic!(rt; "in use"),
     }
+}
+
+/// How many bytes were kept.
+fn count_kept(rt: &impl Abort, kept: &RefCell<Vec<u8>>) -> usize {
+    match kept.try_borrow() {
+        Ok(kept) => kept.len(),
+        Err(_) => panic!(rt; "in use"),
+    }
+}
+
+/// The program on the desk ends with this status.
+fn ends_with(rt: &(impl Abort + Threads + Wait + Sync), desk: &Desk, status: u8) {
+    assert_eq!(rt; run(desk, rt), ExitCode::from(status));
 }
 
 /// The program on these words, and on both texts as its standard input, ends with this status, and opens, prints and
@@ -51,7 +64,7 @@ fn ends(
     said: &str,
 ) {
     let desk = Desk::new(alloc, words, FILES, JOINED);
-    assert_eq!(rt; run(&desk, rt), ExitCode::from(status));
+    ends_with(rt, &desk, status);
     kept(rt, &desk.opened, opened);
     kept(rt, &desk.printed, printed);
     kept(rt, &desk.said, said);
@@ -168,13 +181,10 @@ fn words_that_are_not_known(rt: HostRuntime) {
     ];
     for words in all {
         let desk = Desk::new(rt.alloc(), words, FILES, JOINED);
-        assert_eq!(rt; run(&desk, &rt), ExitCode::from(2));
+        ends_with(&rt, &desk, 2);
         kept(&rt, &desk.opened, "");
         kept(&rt, &desk.printed, "");
-        match desk.said.try_borrow() {
-            Ok(said) => assert!(rt; !said.is_empty()),
-            Err(_) => panic!(rt; "in use"),
-        }
+        assert!(rt; count_kept(&rt, &desk.said) > 0);
     }
 }
 
@@ -187,12 +197,9 @@ fn an_output_that_is_full(rt: HostRuntime) -> Result<(), Fail> {
     for words in words {
         let desk = Desk::new(rt.alloc(), words, FILES, JOINED);
         desk.room.set(20);
-        assert_eq!(rt; run(&desk, &rt), ExitCode::from(8));
+        ends_with(&rt, &desk, 8);
         kept(&rt, &desk.said, "wormrun: report not written\n");
-        match desk.printed.try_borrow() {
-            Ok(printed) => assert_eq!(rt; printed.len(), 20),
-            Err(_) => panic!(rt; "in use"),
-        }
+        assert_eq!(rt; count_kept(&rt, &desk.printed), 20);
     }
     Ok(())
 }
