@@ -85,6 +85,11 @@ pub fn reports(
     gives(rt, &ran, Ok(()), wanted.as_bytes());
 }
 
+/// The fault has this status.
+pub fn has_status(rt: &impl Abort, fault: ProgramFault, status: u8) {
+    assert_eq!(rt; fault.status(), status);
+}
+
 /// The line of a fault on the standard error.
 fn line_of(alloc: Global, fault: ProgramFault) -> Result<String, AllocError> {
     format!(in alloc; "{fault}")
@@ -98,7 +103,7 @@ pub fn is_told(
     status: u8,
     line: &str,
 ) -> Result<(), Fail> {
-    assert_eq!(rt; fault.status(), status);
+    has_status(rt, fault, status);
     are_bytes(rt, line_of(alloc, fault)?.as_bytes(), line.as_bytes());
     Ok(())
 }

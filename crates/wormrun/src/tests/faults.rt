@@ -41,40 +41,46 @@ impl Read for Sipped {
     }
 }
 
-/// A network reader that fails in this call is asked no more, and the traffic reader not at all.
-fn network_fails_at(rt: &impl Abort, alloc: Global, fails_at: usize) {
-    let mut network = Sipped::new(TWO_NODES, fails_at);
-    let mut traffic = Sipped::new(TWO_WORDS, 0);
-    let ran = run_readers(alloc, &mut network, &mut traffic, (1, 0));
-    gives(rt, &ran, Err(ProgramFault::ReadNetwork), b"");
-    assert_eq!(rt; network.calls, fails_at);
-    assert_eq!(rt; traffic.calls, 0);
+/// A run of two texts that come a byte in a call, and how often each reader was asked.
+#[derive(Drop)]
+struct SippedRun {
+    ran: Ran,
+    network_calls: usize,
+    traffic_calls: usize,
+}
+
+/// Runs two texts that come a byte in a call for so many turns; each reader fails in that call of its own, or in none.
+fn run_sipped(alloc: Global, turns: u64, network_fails: usize, traffic_fails: usize) -> SippedRun {
+    let mut network = Sipped::new(TWO_NODES, network_fails);
+    let mut traffic = Sipped::new(TWO_WORDS, traffic_fails);
+    let ran = run_readers(alloc, &mut network, &mut traffic, (turns, 0));
+    SippedRun {
+        ran,
+        network_calls: network.calls,
+        traffic_calls: traffic.calls,
+    }
 }
 
 /// A failing network reader is asked no more, and the traffic reader not at all.
 #[test]
 fn a_network_that_fails_in_mid_stream(rt: HostRuntime) -> Result<(), Fail> {
     for fails_at in 1..TWO_NODES.len() + 2 {
-        network_fails_at(&rt, rt.alloc(), fails_at);
+        let run = run_sipped(rt.alloc(), 1, fails_at, 0);
+        gives(&rt, &run.ran, Err(ProgramFault::ReadNetwork), b"");
+        assert_eq!(rt; run.network_calls, fails_at);
+        assert_eq!(rt; run.traffic_calls, 0);
     }
-    Ok(())
-}
-
-/// A traffic reader that fails in this call is asked no more.
-fn traffic_fails_at(rt: &impl Abort, alloc: Global, fails_at: usize) -> Result<(), Fail> {
-    let mut network = Sipped::new(TWO_NODES, 0);
-    let mut traffic = Sipped::new(TWO_WORDS, fails_at);
-    let ran = run_readers(alloc, &mut network, &mut traffic, (1, 0));
-    is_fault(rt, alloc, ran.answer, 5, "wormrun: cannot read traffic")?;
-    assert!(rt; ran.report.is_empty());
-    assert_eq!(rt; traffic.calls, fails_at);
     Ok(())
 }
 
 #[test]
 fn traffic_that_fails_in_mid_stream(rt: HostRuntime) -> Result<(), Fail> {
     for fails_at in 1..TWO_WORDS.len() + 2 {
-        traffic_fails_at(&rt, rt.alloc(), fails_at)?;
+        let run = run_sipped(rt.alloc(), 1, 0, fails_at);
+        let answer = run.ran.answer;
+        is_fault(&rt, rt.alloc(), answer, 5, "wormrun: cannot read traffic")?;
+        assert!(rt; run.ran.report.is_empty());
+        assert_eq!(rt; run.traffic_calls, fails_at);
     }
     Ok(())
 }
@@ -87,10 +93,8 @@ fn readers_of_a_byte_a_call_are_read_to_their_end(rt: HostRuntime) {
           delivered 1 from 0 class 0 packet 0 flit 1 word 18\n\
           not offered 0\n\
           total injected 2 delivered 2 underway 0\n";
-    let mut network = Sipped::new(TWO_NODES, 0);
-    let mut traffic = Sipped::new(TWO_WORDS, 0);
-    let ran = run_readers(rt.alloc(), &mut network, &mut traffic, (2, 0));
-    gives(&rt, &ran, Ok(()), wanted);
+    let run = run_sipped(rt.alloc(), 2, 0, 0);
+    gives(&rt, &run.ran, Ok(()), wanted);
 }
 
 /// A reader of both texts that fails in this call is asked no more.

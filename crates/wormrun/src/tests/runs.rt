@@ -1,10 +1,13 @@
 use crate::fault::ProgramFault;
 use crate::joined::network_end;
 use crate::reading::{MOST_BYTES, ReadFault, read_text};
-use crate::tests::cases::{SHALLOW, TWO_NODES, TWO_WORDS, gives, is_refused, reports, run_reader};
+use crate::tests::cases::{
+    SHALLOW, TWO_NODES, TWO_WORDS, gives, has_status, is_refused, reports, run_reader,
+};
 use std::alloc::Global;
 use std::io;
 use std::io::Read;
+use std::process::Abort;
 use std::test::Fail;
 
 /// Gives a number of bytes `x`.
@@ -32,10 +35,15 @@ impl Read for Broken {
     }
 }
 
-/// How many bytes the reader gives up to its end.
-fn length_read<R: Read>(alloc: Global, reader: &mut R) -> Result<usize, ReadFault> {
-    let text = read_text(alloc, reader)?;
+/// How many bytes are read of a reader that has so many.
+fn length_read(alloc: Global, left: usize) -> Result<usize, ReadFault> {
+    let text = read_text(alloc, &mut Crosses { left })?;
     Ok(text.len())
+}
+
+/// A reader that has so many bytes is read with this end.
+fn reads(rt: &impl Abort, alloc: Global, left: usize, wanted: Result<usize, ReadFault>) {
+    assert_eq!(rt; length_read(alloc, left), wanted);
 }
 
 /// The place where two texts in one input are cut.
@@ -194,18 +202,9 @@ fn faults_have_status_and_line(rt: HostRuntime) -> Result<(), Fail> {
 fn readers_that_fail_give_nothing(rt: HostRuntime) {
     let ran = run_reader(rt.alloc(), &mut Broken);
     gives(&rt, &ran, Err(ProgramFault::ReadNetwork), b"");
-    assert_eq!(rt; ProgramFault::ReadNetwork.status(), 5);
-    match length_read(rt.alloc(), &mut Crosses { left: MOST_BYTES }) {
-        Ok(length) => assert_eq!(rt; length, MOST_BYTES),
-        Err(fault) => panic!(rt; "{fault:?}"),
-    }
-    let mut long = Crosses {
-        left: MOST_BYTES + 1,
-    };
-    match length_read(rt.alloc(), &mut long) {
-        Err(ReadFault::Unreadable) => (),
-        _ => panic!(rt; "not refused"),
-    }
+    has_status(&rt, ProgramFault::ReadNetwork, 5);
+    reads(&rt, rt.alloc(), MOST_BYTES, Ok(MOST_BYTES));
+    reads(&rt, rt.alloc(), MOST_BYTES + 1, Err(ReadFault::Unreadable));
 }
 
 #[test]

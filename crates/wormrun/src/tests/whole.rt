@@ -171,15 +171,17 @@ fn a_word_that_is_no_text(rt: HostRuntime) {
     fails(&rt, rt.alloc(), &[b"wormrun", b"\xc3"], 2, "", said);
 }
 
+/// Words that are not the program's.
+const UNKNOWN: &[&[&[u8]]] = &[
+    &[b"wormrun", b"n"],
+    &[b"wormrun", b"n", b"t", b"--turns", b"1", b"--speed", b"1"],
+    &[b"wormrun", b"n", b"t", b"--turns", b"x"],
+];
+
 /// Words that are not the program's: status 2, something is said, nothing is opened or printed.
 #[test]
 fn words_that_are_not_known(rt: HostRuntime) {
-    let all: [&'static [&'static [u8]]; 3] = [
-        &[b"wormrun", b"n"],
-        &[b"wormrun", b"n", b"t", b"--turns", b"1", b"--speed", b"1"],
-        &[b"wormrun", b"n", b"t", b"--turns", b"x"],
-    ];
-    for words in all {
+    for words in UNKNOWN {
         let desk = Desk::new(rt.alloc(), words, FILES, JOINED);
         ends_with(&rt, &desk, 2);
         kept(&rt, &desk.opened, "");
@@ -188,13 +190,12 @@ fn words_that_are_not_known(rt: HostRuntime) {
     }
 }
 
+/// Words of two files, and none.
+const BOTH_WAYS: &[&[&[u8]]] = &[&[b"wormrun", b"n", b"t", b"--turns", b"1"], &[b"wormrun"]];
+
 #[test]
 fn an_output_that_is_full(rt: HostRuntime) -> Result<(), Fail> {
-    let words: [&'static [&'static [u8]]; 2] = [
-        &[b"wormrun", b"n", b"t", b"--turns", b"1"],
-        &[b"wormrun"],
-    ];
-    for words in words {
+    for words in BOTH_WAYS {
         let desk = Desk::new(rt.alloc(), words, FILES, JOINED);
         desk.room.set(20);
         ends_with(&rt, &desk, 8);

@@ -161,7 +161,13 @@ fn a_joined_input_runs_a_hundred_turns(rt: HostRuntime) -> Result<(), Fail> {
 
 /// The line in which, or before which, a text of these bytes was cut.
 fn cut_line(bytes: &[u8]) -> usize {
-    bytes.iter().filter(|byte| **byte == b'\n').count() + 1
+    let mut line: usize = 1;
+    for byte in bytes {
+        if *byte == b'\n' {
+            line = line.saturating_add(1);
+        }
+    }
+    line
 }
 
 /// What the program says of a text that is cut to these bytes.

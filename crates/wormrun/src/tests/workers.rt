@@ -7,8 +7,9 @@ use crate::fault::ProgramFault;
 use crate::program::run_texts;
 use crate::tests::cases::{Ran, TWO_NODES, TWO_WORDS, answers, gives, is_fault, is_told};
 use crate::words::Options;
-use std::alloc::{AllocError, Global};
+use std::alloc::Global;
 use std::io::Write;
+use std::process::Abort;
 use std::sync::Wait;
 use std::sync::atomic::{AtomicBool, Ordering};
 use std::test::Fail;
@@ -112,71 +113,96 @@ fn has(text: &[u8], bytes: &[u8]) -> bool {
 
 const SIXTEEN: &[u8] = b"wormnet 1\nradix 4\ndims 2\ndepth 2\nclass data\nend\n";
 
-/// A word behind those of its packet.
-fn next_word(alloc: Global, word: u32) -> Result<String, AllocError> {
-    format!(in alloc; " {word}")
-}
-
-/// The line of a packet of three words.
-fn send_line(alloc: Global, from: u32, to: u32, words: [u32; 3]) -> Result<String, AllocError> {
-    let mut line = format!(in alloc; "send 0 {from} {to} data")?;
-    for word in &words {
-        let word = next_word(alloc, *word)?;
-        line.push_str(&word)?;
-    }
-    line.push_str("\n")?;
-    Ok(line)
-}
-
 /// Each node sends three words to the node opposite.
-fn opposite(alloc: Global) -> Result<String, AllocError> {
-    let mut text = format!(in alloc; "wormtraffic 1\n")?;
-    for i in 0u32..16 {
-        let line = send_line(alloc, i, 15 - i, [i, 100 + i, 200 + i])?;
-        text.push_str(&line)?;
-    }
-    text.push_str("end\n")?;
-    Ok(text)
-}
-
-/// The end of the line of a word that arrived.
-fn flit_and_word(alloc: Global, flit: usize, word: u32) -> Result<String, AllocError> {
-    format!(in alloc; " flit {flit} word {word}\n")
-}
-
-/// The lines of the words that arrived from a node at the node opposite.
-fn arrived(alloc: Global, to: u32, from: u32, words: [u32; 3]) -> Result<String, AllocError> {
-    let packet = format!(in alloc; "delivered {to} from {from} class 0 packet 0")?;
-    let mut lines = String::new(alloc);
-    for (flit, word) in words.iter().enumerate() {
-        let end = flit_and_word(alloc, flit, *word)?;
-        lines.push_str(&packet)?;
-        lines.push_str(&end)?;
-    }
-    Ok(lines)
-}
+const OPPOSITE: &[u8] = b"wormtraffic 1\n\
+     send 0 0 15 data 0 100 200\n\
+     send 0 1 14 data 1 101 201\n\
+     send 0 2 13 data 2 102 202\n\
+     send 0 3 12 data 3 103 203\n\
+     send 0 4 11 data 4 104 204\n\
+     send 0 5 10 data 5 105 205\n\
+     send 0 6 9 data 6 106 206\n\
+     send 0 7 8 data 7 107 207\n\
+     send 0 8 7 data 8 108 208\n\
+     send 0 9 6 data 9 109 209\n\
+     send 0 10 5 data 10 110 210\n\
+     send 0 11 4 data 11 111 211\n\
+     send 0 12 3 data 12 112 212\n\
+     send 0 13 2 data 13 113 213\n\
+     send 0 14 1 data 14 114 214\n\
+     send 0 15 0 data 15 115 215\n\
+     end\n";
 
 /// All of it has arrived.
-fn all_arrived(alloc: Global) -> Result<String, AllocError> {
-    let mut text = format!(in alloc; "wormreport 1\nturns 50 workers 4 drain 10000\n")?;
-    for j in 0u32..16 {
-        let i = 15 - j;
-        let lines = arrived(alloc, j, i, [i, 100 + i, 200 + i])?;
-        text.push_str(&lines)?;
-    }
-    text.push_str("not offered 0\ntotal injected 48 delivered 48 underway 0\n")?;
-    Ok(text)
-}
+const ALL_ARRIVED: &[u8] = b"wormreport 1\n\
+     turns 50 workers 4 drain 10000\n\
+     delivered 0 from 15 class 0 packet 0 flit 0 word 15\n\
+     delivered 0 from 15 class 0 packet 0 flit 1 word 115\n\
+     delivered 0 from 15 class 0 packet 0 flit 2 word 215\n\
+     delivered 1 from 14 class 0 packet 0 flit 0 word 14\n\
+     delivered 1 from 14 class 0 packet 0 flit 1 word 114\n\
+     delivered 1 from 14 class 0 packet 0 flit 2 word 214\n\
+     delivered 2 from 13 class 0 packet 0 flit 0 word 13\n\
+     delivered 2 from 13 class 0 packet 0 flit 1 word 113\n\
+     delivered 2 from 13 class 0 packet 0 flit 2 word 213\n\
+     delivered 3 from 12 class 0 packet 0 flit 0 word 12\n\
+     delivered 3 from 12 class 0 packet 0 flit 1 word 112\n\
+     delivered 3 from 12 class 0 packet 0 flit 2 word 212\n\
+     delivered 4 from 11 class 0 packet 0 flit 0 word 11\n\
+     delivered 4 from 11 class 0 packet 0 flit 1 word 111\n\
+     delivered 4 from 11 class 0 packet 0 flit 2 word 211\n\
+     delivered 5 from 10 class 0 packet 0 flit 0 word 10\n\
+     delivered 5 from 10 class 0 packet 0 flit 1 word 110\n\
+     delivered 5 from 10 class 0 packet 0 flit 2 word 210\n\
+     delivered 6 from 9 class 0 packet 0 flit 0 word 9\n\
+     delivered 6 from 9 class 0 packet 0 flit 1 word 109\n\
+     delivered 6 from 9 class 0 packet 0 flit 2 word 209\n\
+     delivered 7 from 8 class 0 packet 0 flit 0 word 8\n\
+     delivered 7 from 8 class 0 packet 0 flit 1 word 108\n\
+     delivered 7 from 8 class 0 packet 0 flit 2 word 208\n\
+     delivered 8 from 7 class 0 packet 0 flit 0 word 7\n\
+     delivered 8 from 7 class 0 packet 0 flit 1 word 107\n\
+     delivered 8 from 7 class 0 packet 0 flit 2 word 207\n\
+     delivered 9 from 6 class 0 packet 0 flit 0 word 6\n\
+     delivered 9 from 6 class 0 packet 0 flit 1 word 106\n\
+     delivered 9 from 6 class 0 packet 0 flit 2 word 206\n\
+     delivered 10 from 5 class 0 packet 0 flit 0 word 5\n\
+     delivered 10 from 5 class 0 packet 0 flit 1 word 105\n\
+     delivered 10 from 5 class 0 packet 0 flit 2 word 205\n\
+     delivered 11 from 4 class 0 packet 0 flit 0 word 4\n\
+     delivered 11 from 4 class 0 packet 0 flit 1 word 104\n\
+     delivered 11 from 4 class 0 packet 0 flit 2 word 204\n\
+     delivered 12 from 3 class 0 packet 0 flit 0 word 3\n\
+     delivered 12 from 3 class 0 packet 0 flit 1 word 103\n\
+     delivered 12 from 3 class 0 packet 0 flit 2 word 203\n\
+     delivered 13 from 2 class 0 packet 0 flit 0 word 2\n\
+     delivered 13 from 2 class 0 packet 0 flit 1 word 102\n\
+     delivered 13 from 2 class 0 packet 0 flit 2 word 202\n\
+     delivered 14 from 1 class 0 packet 0 flit 0 word 1\n\
+     delivered 14 from 1 class 0 packet 0 flit 1 word 101\n\
+     delivered 14 from 1 class 0 packet 0 flit 2 word 201\n\
+     delivered 15 from 0 class 0 packet 0 flit 0 word 0\n\
+     delivered 15 from 0 class 0 packet 0 flit 1 word 100\n\
+     delivered 15 from 0 class 0 packet 0 flit 2 word 200\n\
+     not offered 0\n\
+     total injected 48 delivered 48 underway 0\n";
 
 #[test]
 fn four_workers_deliver_all(rt: HostRuntime) -> Result<(), Fail> {
-    let alloc = rt.alloc();
-    let traffic = opposite(alloc)?;
-    let wanted = all_arrived(alloc)?;
-    let texts = (SIXTEEN, traffic.as_bytes());
-    let ran = run_both(&rt, alloc, texts, (50, 4, 10_000), &FreeGate);
-    gives(&rt, &ran, Ok(()), wanted.as_bytes());
+    let ran = run_both(
+        &rt,
+        rt.alloc(),
+        (SIXTEEN, OPPOSITE),
+        (50, 4, 10_000),
+        &FreeGate,
+    );
+    gives(&rt, &ran, Ok(()), ALL_ARRIVED);
     Ok(())
+}
+
+/// The flag is up.
+fn is_up(rt: &impl Abort, flag: &AtomicBool) {
+    assert!(rt; flag.load(Ordering::SeqCst));
 }
 
 #[test]
@@ -195,8 +221,8 @@ fn two_workers_meet(rt: HostRuntime) -> Result<(), Fail> {
             b"\ndelivered 1 from 0 class 0 packet 0 flit 0 word 17\n"
         )
     );
-    assert!(rt; gate.first.load(Ordering::SeqCst));
-    assert!(rt; gate.second.load(Ordering::SeqCst));
+    is_up(&rt, &gate.first);
+    is_up(&rt, &gate.second);
     Ok(())
 }
 

@@ -1,7 +1,7 @@
 //! Whole runs whose writer fails after so many bytes, or takes a byte or a changing number in a call.
 
 use crate::fault::ProgramFault;
-use crate::tests::cases::{Ran, SHALLOW, TWO_NODES, TWO_WORDS, gives};
+use crate::tests::cases::{Ran, SHALLOW, TWO_NODES, TWO_WORDS, gives, has_status};
 use crate::tests::workers::{comes_up, runs};
 use std::alloc::Global;
 use std::io;
@@ -185,7 +185,7 @@ fn writers_that_fail_have_taken_what_fits(rt: HostRuntime) {
     for worked in [HALF_WAY, CLOSED, STOPPED] {
         is_cut_short(&rt, rt.alloc(), &worked);
     }
-    assert_eq!(rt; ProgramFault::Write.status(), 8);
+    has_status(&rt, ProgramFault::Write, 8);
 }
 
 #[test]
