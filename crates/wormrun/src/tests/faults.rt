@@ -142,19 +142,19 @@ const STOPPED_RUN: &[u8] = b"wormreport 1\n\
      total injected 0 delivered 0 underway 0\n";
 
 /// Writes the report of the stopped run, which this fault ended, if any did.
-fn report_stopped(alloc: Global, net: &Net, fault: Option<StepFault>) -> Ran {
+fn report_stopped(rt: &impl Abort, alloc: Global, fault: Option<StepFault>) -> Result<Ran, Fail> {
+    let net = new_network(rt, alloc)?;
     let mut report = Vec::new(alloc);
-    let answer = report_run(alloc, net, &stopped_run(), fault, &mut report);
-    Ran { answer, report }
+    let answer = report_run(alloc, &net, &stopped_run(), fault, &mut report);
+    Ok(Ran { answer, report })
 }
 
 /// Want of memory in a turn is told once the whole report is out.
 #[test]
 fn want_of_memory_in_a_turn(rt: HostRuntime) -> Result<(), Fail> {
-    let net = new_network(&rt, rt.alloc())?;
-    let ran = report_stopped(rt.alloc(), &net, None);
+    let ran = report_stopped(&rt, rt.alloc(), None)?;
     gives(&rt, &ran, Ok(()), STOPPED_RUN);
-    let ran = report_stopped(rt.alloc(), &net, Some(StepFault::NoMemory));
+    let ran = report_stopped(&rt, rt.alloc(), Some(StepFault::NoMemory))?;
     gives(&rt, &ran, Err(ProgramFault::NoMemory), STOPPED_RUN);
     Ok(())
 }

@@ -42,7 +42,7 @@ fn kept(rt: &impl Abort, kept: &RefCell<Vec<u8>>, wanted: &str) {
 /// How many bytes were kept.
 fn count_kept(rt: &impl Abort, kept: &RefCell<Vec<u8>>) -> usize {
     match kept.try_borrow() {
-        Ok(kept) => kept.len(),
+        Ok(kept) => kept.as_slice().len(),
         Err(_) => panic!(rt; "in use"),
     }
 }
