@@ -73,14 +73,18 @@ fn a_network_that_fails_in_mid_stream(rt: HostRuntime) -> Result<(), Fail> {
     Ok(())
 }
 
+/// A traffic reader that fails in this call is asked no more.
+fn traffic_fails_at(rt: &impl Abort, alloc: Global, fails_at: usize) -> Result<(), Fail> {
+    let run = run_sipped(alloc, 1, 0, fails_at);
+    assert!(rt; run.ran.report.is_empty());
+    assert_eq!(rt; run.traffic_calls, fails_at);
+    is_fault(rt, alloc, run.ran.answer, 5, "wormrun: cannot read traffic")
+}
+
 #[test]
 fn traffic_that_fails_in_mid_stream(rt: HostRuntime) -> Result<(), Fail> {
     for fails_at in 1..TWO_WORDS.len() + 2 {
-        let run = run_sipped(rt.alloc(), 1, 0, fails_at);
-        let answer = run.ran.answer;
-        is_fault(&rt, rt.alloc(), answer, 5, "wormrun: cannot read traffic")?;
-        assert!(rt; run.ran.report.is_empty());
-        assert_eq!(rt; run.traffic_calls, fails_at);
+        traffic_fails_at(&rt, rt.alloc(), fails_at)?;
     }
     Ok(())
 }

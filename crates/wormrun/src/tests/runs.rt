@@ -145,57 +145,61 @@ fn a_packet_for_its_own_node_arrives(rt: HostRuntime) {
     );
 }
 
+/// Two texts of which one is refused, with the status and the line of the fault.
+struct Refused {
+    network: &'static [u8],
+    traffic: &'static [u8],
+    status: u8,
+    line: &'static str,
+}
+
+const REFUSED: &[Refused] = &[
+    Refused {
+        network: b"",
+        traffic: TWO_WORDS,
+        status: 3,
+        line: "wormrun: network line 1: no end",
+    },
+    // The last line has no line feed.
+    Refused {
+        network: b"wormnet 1\nradix 2\ndims 1\ndepth 2\nclass data\nend",
+        traffic: TWO_WORDS,
+        status: 3,
+        line: "wormrun: network line 6: no end",
+    },
+    Refused {
+        network: b"wormnet 1\nradix 2\ndims 1\ndepth 2\nclass data\nend\n\n",
+        traffic: TWO_WORDS,
+        status: 3,
+        line: "wormrun: network line 7: after end",
+    },
+    Refused {
+        network: TWO_NODES,
+        traffic: b"wormtraffic 1\nclose 0 0 1 data\nsend 0 0 1 data 5\nend\n",
+        status: 4,
+        line: "wormrun: traffic line 3: lane closed",
+    },
+    Refused {
+        network: TWO_NODES,
+        traffic: b"wormtraffic 1\nsend 0 0 2 data 1\nend\n",
+        status: 4,
+        line: "wormrun: traffic line 2: range",
+    },
+    Refused {
+        network: TWO_NODES,
+        traffic: b"wormtraffic 1\nrecv 0 0 1 data\nend\n",
+        status: 4,
+        line: "wormrun: traffic line 2: unknown word",
+    },
+];
+
 #[test]
 fn faults_have_status_and_line(rt: HostRuntime) -> Result<(), Fail> {
-    let cut = &TWO_NODES[..TWO_NODES.len() - 1];
-    is_refused(
-        &rt,
-        rt.alloc(),
-        b"",
-        TWO_WORDS,
-        3,
-        "wormrun: network line 1: no end",
-    )?;
-    is_refused(
-        &rt,
-        rt.alloc(),
-        cut,
-        TWO_WORDS,
-        3,
-        "wormrun: network line 6: no end",
-    )?;
-    is_refused(
-        &rt,
-        rt.alloc(),
-        b"wormnet 1\nradix 2\ndims 1\ndepth 2\nclass data\nend\n\n",
-        TWO_WORDS,
-        3,
-        "wormrun: network line 7: after end",
-    )?;
-    is_refused(
-        &rt,
-        rt.alloc(),
-        TWO_NODES,
-        b"wormtraffic 1\nclose 0 0 1 data\nsend 0 0 1 data 5\nend\n",
-        4,
-        "wormrun: traffic line 3: lane closed",
-    )?;
-    is_refused(
-        &rt,
-        rt.alloc(),
-        TWO_NODES,
-        b"wormtraffic 1\nsend 0 0 2 data 1\nend\n",
-        4,
-        "wormrun: traffic line 2: range",
-    )?;
-    is_refused(
-        &rt,
-        rt.alloc(),
-        TWO_NODES,
-        b"wormtraffic 1\nrecv 0 0 1 data\nend\n",
-        4,
-        "wormrun: traffic line 2: unknown word",
-    )
+    for case in REFUSED {
+        let (status, line) = (case.status, case.line);
+        is_refused(&rt, rt.alloc(), case.network, case.traffic, status, line)?;
+    }
+    Ok(())
 }
 
 #[test]
@@ -207,15 +211,18 @@ fn readers_that_fail_give_nothing(rt: HostRuntime) {
     reads(&rt, rt.alloc(), MOST_BYTES + 1, Err(ReadFault::Unreadable));
 }
 
+/// Two texts in one input, and the place where they are cut.
+const JOINED: &[(&[u8], usize)] = &[
+    (b"a\nend\nb\nend\n", 6),
+    (b"end\nend\n", 4),
+    (b"a\nend \n", 7),
+    (b"a\nend", 5),
+    (b"", 0),
+];
+
 #[test]
 fn joined_texts_are_cut(rt: HostRuntime) {
-    for (text, cut) in [
-        (b"a\nend\nb\nend\n".as_slice(), 6),
-        (b"end\nend\n".as_slice(), 4),
-        (b"a\nend \n".as_slice(), 7),
-        (b"a\nend".as_slice(), 5),
-        (b"".as_slice(), 0),
-    ] {
-        assert_eq!(rt; cut_of(text), cut);
+    for (text, cut) in JOINED {
+        assert_eq!(rt; cut_of(text), *cut);
     }
 }
