@@ -1,6 +1,7 @@
 //! Worked runs with their whole reports, faults with their statuses and lines, the words of the command line, readers
 //! and writers that fail or give and take little, and the whole program.
 
+mod cases;
 mod desk;
 mod faults;
 mod runs;

@@ -1,20 +1,14 @@
 use crate::fault::ProgramFault;
 use crate::joined::network_end;
-use crate::program::{run_alone, run_joined};
 use crate::reading::{MOST_BYTES, ReadFault, read_text};
+use crate::tests::cases::{
+    SHALLOW, TWO_NODES, TWO_WORDS, gives, has_status, is_refused, reports, run_reader,
+};
 use std::alloc::Global;
 use std::io;
 use std::io::Read;
 use std::process::Abort;
 use std::test::Fail;
-
-/// Two nodes, one class with one channel.
-pub const TWO_NODES: &[u8] = b"wormnet 1\nradix 2\ndims 1\ndepth 2\nclass data\nend\n";
-
-/// The same with buffers of one flit.
-pub const SHALLOW: &[u8] = b"wormnet 1\nradix 2\ndims 1\ndepth 1\nclass data\nend\n";
-
-pub const TWO_WORDS: &[u8] = b"wormtraffic 1\nsend 0 0 1 data 17 18\nend\n";
 
 /// Gives a number of bytes `x`.
 #[derive(Drop)]
@@ -41,45 +35,20 @@ impl Read for Broken {
     }
 }
 
-/// The report is this one.
-pub fn reports(
-    rt: &impl Abort,
-    alloc: Global,
-    network: &[u8],
-    traffic: &[u8],
-    options: (u64, u64),
-    wanted: &str,
-) {
-    let (turns, drain) = options;
-    let mut network = network;
-    let mut traffic = traffic;
-    let mut out = Vec::new(alloc);
-    let ran = run_alone(alloc, &mut network, &mut traffic, turns, drain, &mut out);
-    assert!(rt; ran.is_ok());
-    assert_eq!(rt; out.as_slice(), wanted.as_bytes());
+/// How many bytes are read of a reader that has so many.
+fn length_read(alloc: Global, left: usize) -> Result<usize, ReadFault> {
+    let text = read_text(alloc, &mut Crosses { left })?;
+    Ok(text.len())
 }
 
-/// The texts are refused with this status and line, and nothing is written.
-pub fn is_refused(
-    rt: &impl Abort,
-    alloc: Global,
-    network: &[u8],
-    traffic: &[u8],
-    status: u8,
-    line: &str,
-) -> Result<(), Fail> {
-    let mut network = network;
-    let mut traffic = traffic;
-    let mut out = Vec::new(alloc);
-    match run_alone(alloc, &mut network, &mut traffic, 1, 0, &mut out) {
-        Ok(()) => panic!(rt; "not refused"),
-        Err(fault) => {
-            assert_eq!(rt; fault.status(), status);
-            assert_eq!(rt; format!(in alloc; "{fault}")?.as_str(), line);
-        }
-    }
-    assert!(rt; out.is_empty());
-    Ok(())
+/// A reader that has so many bytes is read with this end.
+fn reads(rt: &impl Abort, alloc: Global, left: usize, wanted: Result<usize, ReadFault>) {
+    assert_eq!(rt; length_read(alloc, left), wanted);
+}
+
+/// The place where two texts in one input are cut.
+fn cut_of(text: &[u8]) -> usize {
+    network_end(text)
 }
 
 #[test]
@@ -176,84 +145,84 @@ fn a_packet_for_its_own_node_arrives(rt: HostRuntime) {
     );
 }
 
+/// Two texts of which one is refused, with the status and the line of the fault.
+struct Refused {
+    network: &'static [u8],
+    traffic: &'static [u8],
+    status: u8,
+    line: &'static str,
+}
+
+const REFUSED: &[Refused] = &[
+    Refused {
+        network: b"",
+        traffic: TWO_WORDS,
+        status: 3,
+        line: "wormrun: network line 1: no end",
+    },
+    // The last line has no line feed.
+    Refused {
+        network: b"wormnet 1\nradix 2\ndims 1\ndepth 2\nclass data\nend",
+        traffic: TWO_WORDS,
+        status: 3,
+        line: "wormrun: network line 6: no end",
+    },
+    Refused {
+        network: b"wormnet 1\nradix 2\ndims 1\ndepth 2\nclass data\nend\n\n",
+        traffic: TWO_WORDS,
+        status: 3,
+        line: "wormrun: network line 7: after end",
+    },
+    Refused {
+        network: TWO_NODES,
+        traffic: b"wormtraffic 1\nclose 0 0 1 data\nsend 0 0 1 data 5\nend\n",
+        status: 4,
+        line: "wormrun: traffic line 3: lane closed",
+    },
+    Refused {
+        network: TWO_NODES,
+        traffic: b"wormtraffic 1\nsend 0 0 2 data 1\nend\n",
+        status: 4,
+        line: "wormrun: traffic line 2: range",
+    },
+    Refused {
+        network: TWO_NODES,
+        traffic: b"wormtraffic 1\nrecv 0 0 1 data\nend\n",
+        status: 4,
+        line: "wormrun: traffic line 2: unknown word",
+    },
+];
+
 #[test]
 fn faults_have_status_and_line(rt: HostRuntime) -> Result<(), Fail> {
-    let cut = &TWO_NODES[..TWO_NODES.len() - 1];
-    is_refused(
-        &rt,
-        rt.alloc(),
-        b"",
-        TWO_WORDS,
-        3,
-        "wormrun: network line 1: no end",
-    )?;
-    is_refused(
-        &rt,
-        rt.alloc(),
-        cut,
-        TWO_WORDS,
-        3,
-        "wormrun: network line 6: no end",
-    )?;
-    is_refused(
-        &rt,
-        rt.alloc(),
-        b"wormnet 1\nradix 2\ndims 1\ndepth 2\nclass data\nend\n\n",
-        TWO_WORDS,
-        3,
-        "wormrun: network line 7: after end",
-    )?;
-    is_refused(
-        &rt,
-        rt.alloc(),
-        TWO_NODES,
-        b"wormtraffic 1\nclose 0 0 1 data\nsend 0 0 1 data 5\nend\n",
-        4,
-        "wormrun: traffic line 3: lane closed",
-    )?;
-    is_refused(
-        &rt,
-        rt.alloc(),
-        TWO_NODES,
-        b"wormtraffic 1\nsend 0 0 2 data 1\nend\n",
-        4,
-        "wormrun: traffic line 2: range",
-    )?;
-    is_refused(
-        &rt,
-        rt.alloc(),
-        TWO_NODES,
-        b"wormtraffic 1\nrecv 0 0 1 data\nend\n",
-        4,
-        "wormrun: traffic line 2: unknown word",
-    )
+    for case in REFUSED {
+        let (status, line) = (case.status, case.line);
+        is_refused(&rt, rt.alloc(), case.network, case.traffic, status, line)?;
+    }
+    Ok(())
 }
 
 #[test]
 fn readers_that_fail_give_nothing(rt: HostRuntime) {
-    let mut out = Vec::new(rt.alloc());
-    let ran = run_joined(rt.alloc(), &mut Broken, &mut out);
-    assert_eq!(rt; ran, Err(ProgramFault::ReadNetwork));
-    assert_eq!(rt; ProgramFault::ReadNetwork.status(), 5);
-    assert!(rt; out.is_empty());
-    match read_text(rt.alloc(), &mut Crosses { left: MOST_BYTES }) {
-        Ok(text) => assert_eq!(rt; text.len(), MOST_BYTES),
-        Err(fault) => panic!(rt; "{fault:?}"),
-    }
-    let mut long = Crosses {
-        left: MOST_BYTES + 1,
-    };
-    match read_text(rt.alloc(), &mut long) {
-        Err(ReadFault::Unreadable) => (),
-        _ => panic!(rt; "not refused"),
-    }
+    let ran = run_reader(rt.alloc(), &mut Broken);
+    gives(&rt, &ran, Err(ProgramFault::ReadNetwork), b"");
+    has_status(&rt, ProgramFault::ReadNetwork, 5);
+    reads(&rt, rt.alloc(), MOST_BYTES, Ok(MOST_BYTES));
+    reads(&rt, rt.alloc(), MOST_BYTES + 1, Err(ReadFault::Unreadable));
 }
+
+/// Two texts in one input, and the place where they are cut.
+const JOINED: &[(&[u8], usize)] = &[
+    (b"a\nend\nb\nend\n", 6),
+    (b"end\nend\n", 4),
+    (b"a\nend \n", 7),
+    (b"a\nend", 5),
+    (b"", 0),
+];
 
 #[test]
 fn joined_texts_are_cut(rt: HostRuntime) {
-    assert_eq!(rt; network_end(b"a\nend\nb\nend\n"), 6);
-    assert_eq!(rt; network_end(b"end\nend\n"), 4);
-    assert_eq!(rt; network_end(b"a\nend \n"), 7);
-    assert_eq!(rt; network_end(b"a\nend"), 5);
-    assert_eq!(rt; network_end(b""), 0);
+    for (text, cut) in JOINED {
+        assert_eq!(rt; cut_of(text), *cut);
+    }
 }

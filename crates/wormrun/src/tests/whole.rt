@@ -1,8 +1,8 @@
 //! The whole program on a runtime of the tests' own: what it opens, prints and says, and its status.
 
 use crate::run;
+use crate::tests::cases::{TWO_NODES, TWO_WORDS, are_bytes};
 use crate::tests::desk::Desk;
-use crate::tests::runs::{TWO_NODES, TWO_WORDS};
 use std::alloc::Global;
 use std::cell::RefCell;
 use std::process::{Abort, ExitCode};
@@ -34,9 +34,22 @@ const A_HUNDRED_TURNS: &str = "wormreport 1\n\
 /// What was kept is this text.
 fn kept(rt: &impl Abort, kept: &RefCell<Vec<u8>>, wanted: &str) {
     match kept.try_borrow() {
-        Ok(kept) => assert_eq!(rt; kept.as_slice(), wanted.as_bytes(), "{wanted}"),
+        Ok(kept) => are_bytes(rt, kept.as_slice(), wanted.as_bytes()),
         Err(_) => panic!(rt; "in use"),
     }
+}
+
+/// How many bytes were kept.
+fn count_kept(rt: &impl Abort, kept: &RefCell<Vec<u8>>) -> usize {
+    match kept.try_borrow() {
+        Ok(kept) => kept.as_slice().len(),
+        Err(_) => panic!(rt; "in use"),
+    }
+}
+
+/// The program on the desk ends with this status.
+fn ends_with(rt: &(impl Abort + Threads + Wait + Sync), desk: &Desk, status: u8) {
+    assert_eq!(rt; run(desk, rt), ExitCode::from(status));
 }
 
 /// The program on these words, and on both texts as its standard input, ends with this status, and opens, prints and
@@ -51,7 +64,7 @@ fn ends(
     said: &str,
 ) {
     let desk = Desk::new(alloc, words, FILES, JOINED);
-    assert_eq!(rt; run(&desk, rt), ExitCode::from(status));
+    ends_with(rt, &desk, status);
     kept(rt, &desk.opened, opened);
     kept(rt, &desk.printed, printed);
     kept(rt, &desk.said, said);
@@ -158,41 +171,36 @@ fn a_word_that_is_no_text(rt: HostRuntime) {
     fails(&rt, rt.alloc(), &[b"wormrun", b"\xc3"], 2, "", said);
 }
 
+/// Words that are not the program's.
+const UNKNOWN: &[&[&[u8]]] = &[
+    &[b"wormrun", b"n"],
+    &[b"wormrun", b"n", b"t", b"--turns", b"1", b"--speed", b"1"],
+    &[b"wormrun", b"n", b"t", b"--turns", b"x"],
+];
+
 /// Words that are not the program's: status 2, something is said, nothing is opened or printed.
 #[test]
 fn words_that_are_not_known(rt: HostRuntime) {
-    let all: [&'static [&'static [u8]]; 3] = [
-        &[b"wormrun", b"n"],
-        &[b"wormrun", b"n", b"t", b"--turns", b"1", b"--speed", b"1"],
-        &[b"wormrun", b"n", b"t", b"--turns", b"x"],
-    ];
-    for words in all {
+    for words in UNKNOWN {
         let desk = Desk::new(rt.alloc(), words, FILES, JOINED);
-        assert_eq!(rt; run(&desk, &rt), ExitCode::from(2));
+        ends_with(&rt, &desk, 2);
         kept(&rt, &desk.opened, "");
         kept(&rt, &desk.printed, "");
-        match desk.said.try_borrow() {
-            Ok(said) => assert!(rt; !said.is_empty()),
-            Err(_) => panic!(rt; "in use"),
-        }
+        assert!(rt; count_kept(&rt, &desk.said) > 0);
     }
 }
 
+/// Words of two files, and none.
+const BOTH_WAYS: &[&[&[u8]]] = &[&[b"wormrun", b"n", b"t", b"--turns", b"1"], &[b"wormrun"]];
+
 #[test]
 fn an_output_that_is_full(rt: HostRuntime) -> Result<(), Fail> {
-    let words: [&'static [&'static [u8]]; 2] = [
-        &[b"wormrun", b"n", b"t", b"--turns", b"1"],
-        &[b"wormrun"],
-    ];
-    for words in words {
+    for words in BOTH_WAYS {
         let desk = Desk::new(rt.alloc(), words, FILES, JOINED);
         desk.room.set(20);
-        assert_eq!(rt; run(&desk, &rt), ExitCode::from(8));
+        ends_with(&rt, &desk, 8);
         kept(&rt, &desk.said, "wormrun: report not written\n");
-        match desk.printed.try_borrow() {
-            Ok(printed) => assert_eq!(rt; printed.len(), 20),
-            Err(_) => panic!(rt; "in use"),
-        }
+        assert_eq!(rt; count_kept(&rt, &desk.printed), 20);
     }
     Ok(())
 }

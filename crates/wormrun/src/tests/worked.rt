@@ -1,8 +1,12 @@
 //! Worked runs, their reports known from the rules of the network.
 
 use crate::fault::ProgramFault;
-use crate::program::{run_alone, run_joined};
-use crate::tests::runs::{TWO_NODES, TWO_WORDS, is_refused, reports};
+use crate::program::run_alone;
+use crate::tests::cases::{
+    TWO_NODES, TWO_WORDS, answers, are_bytes, gives, is_refused, reports, run_pair, run_reader,
+};
+use std::alloc::{AllocError, Global};
+use std::io::Write;
 use std::process::Abort;
 use std::test::Fail;
 
@@ -140,58 +144,80 @@ fn a_joined_input_runs_a_hundred_turns(rt: HostRuntime) -> Result<(), Fail> {
     let mut joined = Vec::new(rt.alloc());
     joined.extend_from_slice(TWO_NODES)?;
     joined.extend_from_slice(TWO_WORDS)?;
-    let mut out = Vec::new(rt.alloc());
-    let ran = run_joined(rt.alloc(), &mut joined.as_slice(), &mut out);
-    assert!(&rt; ran.is_ok());
-    assert_eq!(&rt;
-        out.as_slice(),
+    let ran = run_reader(rt.alloc(), &mut joined.as_slice());
+    gives(
+        &rt,
+        &ran,
+        Ok(()),
         b"wormreport 1\n\
           turns 100 workers 1 drain 0\n\
           delivered 1 from 0 class 0 packet 0 flit 0 word 17\n\
           delivered 1 from 0 class 0 packet 0 flit 1 word 18\n\
           not offered 0\n\
-          total injected 2 delivered 2 underway 0\n"
-            .as_slice()
+          total injected 2 delivered 2 underway 0\n",
     );
     Ok(())
 }
 
 /// The line in which, or before which, a text of these bytes was cut.
 fn cut_line(bytes: &[u8]) -> usize {
-    bytes.iter().filter(|byte| **byte == b'\n').count() + 1
+    let mut line: usize = 1;
+    for byte in bytes {
+        if *byte == b'\n' {
+            line = line.saturating_add(1);
+        }
+    }
+    line
 }
 
-#[test]
-fn a_cut_text_has_no_end(rt: HostRuntime) -> Result<(), Fail> {
+/// What the program says of a text that is cut to these bytes.
+fn no_end(alloc: Global, text: &str, cut: &[u8]) -> Result<String, AllocError> {
+    let line = cut_line(cut);
+    format!(in alloc; "wormrun: {text} line {line}: no end")
+}
+
+/// The network text that is cut before its end is refused.
+fn cut_networks_are_refused(rt: &impl Abort, alloc: Global) -> Result<(), Fail> {
     for length in 0..TWO_NODES.len() {
         let cut = &TWO_NODES[..length];
-        let line = cut_line(cut);
-        let wanted = format!(in rt.alloc(); "wormrun: network line {line}: no end")?;
-        is_refused(&rt, rt.alloc(), cut, TWO_WORDS, 3, wanted.as_str())?;
+        let line = no_end(alloc, "network", cut)?;
+        is_refused(rt, alloc, cut, TWO_WORDS, 3, line.as_str())?;
     }
+    Ok(())
+}
+
+/// The traffic text that is cut before its end is refused.
+fn cut_traffic_is_refused(rt: &impl Abort, alloc: Global) -> Result<(), Fail> {
     for length in 0..TWO_WORDS.len() {
         let cut = &TWO_WORDS[..length];
-        let line = cut_line(cut);
-        let wanted = format!(in rt.alloc(); "wormrun: traffic line {line}: no end")?;
-        is_refused(&rt, rt.alloc(), TWO_NODES, cut, 4, wanted.as_str())?;
+        let line = no_end(alloc, "traffic", cut)?;
+        is_refused(rt, alloc, TWO_NODES, cut, 4, line.as_str())?;
     }
     Ok(())
 }
 
 #[test]
-fn each_short_writer_takes_what_fits(rt: HostRuntime) {
-    let mut whole = Vec::new(rt.alloc());
+fn a_cut_text_has_no_end(rt: HostRuntime) -> Result<(), Fail> {
+    cut_networks_are_refused(&rt, rt.alloc())?;
+    cut_traffic_is_refused(&rt, rt.alloc())
+}
+
+/// What a run of one turn answers to this writer.
+fn run_into<W: Write>(alloc: Global, out: &mut W) -> Result<(), ProgramFault> {
     let mut network = TWO_NODES;
     let mut traffic = TWO_WORDS;
-    let ran = run_alone(rt.alloc(), &mut network, &mut traffic, 1, 0, &mut whole);
-    assert!(&rt; ran.is_ok());
+    run_alone(alloc, &mut network, &mut traffic, 1, 0, out)
+}
+
+#[test]
+fn each_short_writer_takes_what_fits(rt: HostRuntime) {
+    let whole = run_pair(rt.alloc(), TWO_NODES, TWO_WORDS, (1, 0));
+    answers(&rt, whole.answer, Ok(()));
     let mut room = [0u8; 200];
-    for taken in 0..whole.len().min(200) {
-        let mut network = TWO_NODES;
-        let mut traffic = TWO_WORDS;
+    for taken in 0..whole.report.len().min(200) {
         let mut out = &mut room[..taken];
-        let ran = run_alone(rt.alloc(), &mut network, &mut traffic, 1, 0, &mut out);
-        assert_eq!(&rt; ran, Err(ProgramFault::Write));
-        assert_eq!(&rt; &room[..taken], &whole.as_slice()[..taken]);
+        let answer = run_into(rt.alloc(), &mut out);
+        answers(&rt, answer, Err(ProgramFault::Write));
+        are_bytes(&rt, &room[..taken], &whole.report.as_slice()[..taken]);
     }
 }

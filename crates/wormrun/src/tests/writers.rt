@@ -1,7 +1,7 @@
 //! Whole runs whose writer fails after so many bytes, or takes a byte or a changing number in a call.
 
 use crate::fault::ProgramFault;
-use crate::tests::runs::{SHALLOW, TWO_NODES, TWO_WORDS};
+use crate::tests::cases::{Ran, SHALLOW, TWO_NODES, TWO_WORDS, gives, has_status};
 use crate::tests::workers::{comes_up, runs};
 use std::alloc::Global;
 use std::io;
@@ -147,7 +147,7 @@ fn given<R: Threads + Wait + Sync>(
     worked: &Worked,
     room: usize,
     more: usize,
-) -> (Result<(), ProgramFault>, Vec<u8>) {
+) -> Ran {
     let mut out = Taking {
         taken: Vec::new(alloc),
         room,
@@ -157,28 +157,40 @@ fn given<R: Threads + Wait + Sync>(
     let options = (worked.turns, worked.workers, 0);
     let answer = runs(rt, alloc, worked.texts, options, &InTurn::new(), &mut out);
     let Taking { taken, .. } = out;
-    (answer, taken)
+    Ran {
+        answer,
+        report: taken,
+    }
+}
+
+/// A writer that fails within the report has taken what it had room for, however much that is.
+fn is_cut_short(rt: &(impl Abort + Threads + Wait + Sync), alloc: Global, worked: &Worked) {
+    for room in 0..worked.report.len() {
+        let ran = given(rt, alloc, worked, room, 1);
+        let fits = &worked.report.as_bytes()[..room];
+        gives(rt, &ran, Err(ProgramFault::Write), fits);
+    }
+}
+
+/// A writer that takes a byte in each call gets the whole report, and so does one that takes more in each.
+fn is_got_in_pieces(rt: &(impl Abort + Threads + Wait + Sync), alloc: Global, worked: &Worked) {
+    for more in [0, 1] {
+        let ran = given(rt, alloc, worked, usize::MAX, more);
+        gives(rt, &ran, Ok(()), worked.report.as_bytes());
+    }
 }
 
 #[test]
 fn writers_that_fail_have_taken_what_fits(rt: HostRuntime) {
     for worked in [HALF_WAY, CLOSED, STOPPED] {
-        for room in 0..worked.report.len() {
-            let (answer, taken) = given(&rt, rt.alloc(), &worked, room, 1);
-            assert_eq!(rt; answer, Err(ProgramFault::Write));
-            assert_eq!(rt; taken.as_slice(), &worked.report.as_bytes()[..room]);
-        }
+        is_cut_short(&rt, rt.alloc(), &worked);
     }
-    assert_eq!(rt; ProgramFault::Write.status(), 8);
+    has_status(&rt, ProgramFault::Write, 8);
 }
 
 #[test]
 fn writers_that_take_little_get_all(rt: HostRuntime) {
     for worked in [HALF_WAY, CLOSED, STOPPED] {
-        for more in [0, 1] {
-            let (answer, taken) = given(&rt, rt.alloc(), &worked, usize::MAX, more);
-            assert_eq!(rt; answer, Ok(()));
-            assert_eq!(rt; taken.as_slice(), worked.report.as_bytes());
-        }
+        is_got_in_pieces(&rt, rt.alloc(), &worked);
     }
 }
