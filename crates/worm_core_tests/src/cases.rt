@@ -1,7 +1,7 @@
 //! What the networks and scripts of the tests are made from.
 
 use arrayvec::ArrayVec;
-use std::test::Fail;
+use std::process::Abort;
 use worm_core::{Act, Config, Entry, Name};
 use worm_flit::{Lane, Packet};
 
@@ -23,12 +23,20 @@ pub fn config(radices: &[u8], depth: u8, channels: &[u8]) -> Config {
     config
 }
 
+/// The lane of the class from one node to another.
 pub fn lane(src: u8, dst: u8, class: u8) -> Lane {
     Lane { src, dst, class }
 }
 
+/// A packet of these words on the lane.
+pub fn packet(rt: &impl Abort, lane: Lane, words: &[u32]) -> Packet {
+    Packet::new(lane, words).expect(rt, "words of a packet")
+}
+
 /// In this turn the lane's source is offered a packet of these words.
-pub fn to_offer(turn: u32, lane: Lane, words: &[u32]) -> Result<Entry, Fail> {
-    let act = Act::Offer(Packet::new(lane, words)?);
-    Ok(Entry { turn, act })
+pub fn to_offer(rt: &impl Abort, turn: u32, lane: Lane, words: &[u32]) -> Entry {
+    Entry {
+        turn,
+        act: Act::Offer(packet(rt, lane, words)),
+    }
 }

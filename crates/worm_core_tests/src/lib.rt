@@ -9,3 +9,7 @@ mod cases;
 mod network;
 #[cfg(test)]
 mod region;
+#[cfg(test)]
+mod steps;
+#[cfg(test)]
+mod trial;

@@ -1,0 +1,245 @@
+//! A network under test, and what is done with it and read of it.
+//!
+//! Each call of what is tested stands in a method that promises nothing, and a method ends the test where it fails or
+//! finds something else than what is expected. So a test is a few calls of methods: its proof grows with the square of
+//! what it holds, and a test that did all this itself, with a way out of each step, would take a minute to prove.
+
+ghost use Rattle.std.specs.Prelude.{◌<◌};
+
+use crate::cases::{config, to_offer};
+use std::alloc::Global;
+use std::process::Abort;
+use worm_core::{
+    Act, Config, Entry, LaneView, Moved, Net, NetFault, NetParts, Place, RunSoFar, Script,
+    ScriptFault, Step, StepFault, Totals,
+};
+use worm_flit::Lane;
+
+/// A flit of a lane by its packet's number and its index, and where it is.
+pub type Standing = (u16, u8, Place);
+
+/// A network made from the configuration, or why there is none.
+pub fn made(alloc: Global, config: &Config) -> Result<Net, NetFault> {
+    Net::new(alloc, config)
+}
+
+/// Why no network with these radices, depth and classes of so many channels is made, if none is.
+pub fn refusal(alloc: Global, radices: &[u8], depth: u8, channels: &[u8]) -> Option<NetFault> {
+    made(alloc, &config(radices, depth, channels)).err()
+}
+
+/// What the parts of a network are expected to be.
+#[derive(Clone, Copy)]
+pub struct Shape<'a> {
+    pub radices: &'a [u8],
+    pub depth: u8,
+    pub channels: &'a [u8],
+    pub nodes: usize,
+    pub links: usize,
+    /// For how many flits each link has room.
+    pub room: u16,
+}
+
+/// The parts are as expected.
+fn have_shape(rt: &impl Abort, parts: &NetParts, shape: &Shape) {
+    assert_eq!(rt; parts.config.radices.as_slice(), shape.radices);
+    assert_eq!(rt; parts.config.channels.as_slice(), shape.channels);
+    assert_eq!(rt; parts.config.depth, shape.depth);
+    assert_eq!(rt; parts.nodes.len(), shape.nodes);
+    assert_eq!(rt; parts.links.len(), shape.links);
+    let room = shape.room;
+    assert!(rt; parts.links.iter().all(|link| link.room() == room));
+}
+
+/// A network and the script of its turns.
+pub struct Trial<R: Abort + AllocGlobal + Copy> {
+    rt: R,
+    net: Net,
+    script: Script,
+}
+
+impl<R: Abort + AllocGlobal + Copy> Drop for Trial<R> {
+    /// Written out, so that a test that ends calls it: a derived one stands in each test, part by part.
+    fn drop(self) {
+        let Trial {
+            rt: _,
+            net: _,
+            script: _,
+        } = self;
+    }
+}
+
+impl<R: Abort + AllocGlobal + Copy> Trial<R> {
+    /// The network, with a script of no entry.
+    pub fn of(rt: R, net: Net) -> Trial<R> {
+        let script = Script::empty(rt.alloc());
+        Trial { rt, net, script }
+    }
+
+    /// A network with these radices, depth and classes of so many channels, with a script of no entry.
+    pub fn new(rt: R, radices: &[u8], depth: u8, channels: &[u8]) -> Trial<R> {
+        let made = made(rt.alloc(), &config(radices, depth, channels));
+        Trial::of(rt, made.expect(&rt, "a network"))
+    }
+
+    /// Adds the entry to the script, or says why not.
+    pub fn add(&mut self, entry: Entry) -> Result<(), ScriptFault> {
+        self.script.push(entry)
+    }
+
+    /// Adds to the script that in this turn the lane's source is offered a packet of these words.
+    pub fn offer_at(&mut self, turn: u32, lane: Lane, words: &[u32]) {
+        let entry = to_offer(&self.rt, turn, lane, words);
+        self.add(entry).expect(&self.rt, "an entry more");
+    }
+
+    /// Adds to the script that in this turn the lane's source is asked to close it.
+    pub fn close_at(&mut self, turn: u32, lane: Lane) {
+        let act = Act::Close(lane);
+        self.add(Entry { turn, act })
+            .expect(&self.rt, "an entry more");
+    }
+
+    /// One turn, or why it ended.
+    pub fn turn(&mut self, turn: u64) -> Result<(), StepFault> {
+        self.net.turn(turn, &self.script)
+    }
+
+    /// One whole turn.
+    pub fn takes_turn(&mut self, turn: u64) {
+        self.turn(turn).expect(&self.rt, "a whole turn");
+    }
+
+    /// The turns from the first to before the end.
+    pub fn takes_turns(&mut self, first: u64, end: u64) {
+        for turn in first..end {
+            self.takes_turn(turn);
+        }
+    }
+
+    /// The steps are tried one by one, and each has this answer.
+    pub fn answers<const N: usize>(&mut self, steps: [Step; N], answer: Result<Moved, StepFault>) {
+        for step in &steps {
+            assert_eq!(self.rt; self.net.step(step), answer, "{step:?}");
+        }
+    }
+
+    /// Does the steps, each of which can be done.
+    pub fn does<const N: usize>(&mut self, steps: [Step; N]) {
+        self.answers(steps, Ok(Moved::Done));
+    }
+
+    /// How far a run of the steps came.
+    pub fn run<const N: usize>(&mut self, steps: [Step; N]) -> RunSoFar {
+        self.net.run(&steps)
+    }
+
+    /// A run of the steps comes so far.
+    pub fn runs<const N: usize>(&mut self, steps: [Step; N], so_far: RunSoFar) {
+        assert_eq!(self.rt; self.run(steps), so_far);
+    }
+
+    /// The sums over all nodes.
+    pub fn totals(&self) -> Totals {
+        self.net.totals()
+    }
+
+    /// The sums over all nodes are these.
+    pub fn has_totals(&self, totals: Totals) {
+        assert_eq!(self.rt; self.totals(), totals);
+    }
+
+    /// So many packets and marks were accepted.
+    pub fn has_accepted(&self, count: u128) {
+        assert_eq!(self.rt; self.totals().accepted, count);
+    }
+
+    /// So many flits were delivered.
+    pub fn has_delivered(&self, count: u128) {
+        assert_eq!(self.rt; self.totals().delivered, count);
+    }
+
+    /// Whether all that was accepted was delivered.
+    pub fn is_drained(&self) -> bool {
+        self.net.is_drained()
+    }
+
+    /// The number of nodes.
+    pub fn nodes(&self) -> u16 {
+        self.net.nodes()
+    }
+
+    /// The words of the flits that arrived at the node.
+    fn words_at(&self, node: u8) -> Vec<u32> {
+        assert!(self.rt; u16::from(node) < self.net.nodes());
+        let mut words = Vec::new(self.rt.alloc());
+        for flit in self.net.delivered(node) {
+            words.push(flit.word).expect(&self.rt, "memory");
+        }
+        words
+    }
+
+    /// The flits that arrived at the node have these words.
+    pub fn has_words(&self, node: u8, words: &[u32]) {
+        assert_eq!(self.rt; self.words_at(node).as_slice(), words, "at node {node}");
+    }
+
+    /// Whether the lane's mark has arrived at the node.
+    pub fn is_closed(&self, node: u8, lane: Lane) -> bool {
+        assert!(self.rt; u16::from(node) < self.net.nodes());
+        self.net.sink(node).closed(lane)
+    }
+
+    /// Whether the lane may have something under way.
+    pub fn is_busy(&self, lane: Lane) -> bool {
+        let busy = self.net.busy(self.rt.alloc()).expect(&self.rt, "memory");
+        busy.contains(lane)
+    }
+
+    /// What is read of the lane.
+    fn view(&self, lane: Lane) -> LaneView {
+        assert!(self.rt; self.net.has_lane(lane));
+        self.net
+            .lane_view(self.rt.alloc(), lane)
+            .expect(&self.rt, "memory")
+    }
+
+    /// So many of the lane's flits were delivered.
+    pub fn has_come(&self, lane: Lane, count: u64) {
+        assert_eq!(self.rt; self.view(lane).delivered, count);
+    }
+
+    /// Where the lane's flits under way are.
+    fn standings(&self, lane: Lane) -> Vec<Standing> {
+        let mut all = Vec::new(self.rt.alloc());
+        for held in &self.view(lane).underway {
+            let standing = (held.flit.packet, held.flit.index, held.place);
+            all.push(standing).expect(&self.rt, "memory");
+        }
+        all
+    }
+
+    /// The lane's flits under way are at these places.
+    pub fn stands(&self, lane: Lane, places: &[Standing]) {
+        assert_eq!(self.rt; self.standings(lane).as_slice(), places);
+    }
+
+    /// So many of the lane's flits are under way.
+    pub fn has_under_way(&self, lane: Lane, count: usize) {
+        assert_eq!(self.rt; self.view(lane).underway.len(), count);
+    }
+
+    /// The number of classes that are named.
+    pub fn named(&self) -> usize {
+        self.net.config().classes.len()
+    }
+
+    /// The same, once the network was taken apart into parts of this shape and put together again.
+    pub fn through_parts(self, shape: &Shape) -> Trial<R> {
+        let Trial { rt, net, script } = self;
+        let parts = net.into_parts();
+        have_shape(&rt, &parts, shape);
+        let net = Net::from_parts(parts);
+        Trial { rt, net, script }
+    }
+}
