@@ -1,5 +1,6 @@
 //! Whole reports of worked networks, and writers that stop.
 
 mod networks;
+mod steps;
 mod whole;
 mod writers;

@@ -1,12 +1,11 @@
 //! Worked reports: two nodes in a line, one class, one channel.
 
+use crate::cases::TWO_NODES;
 use std::alloc::Global;
 use worm_core::Place;
 use worm_flit::Lane;
 use worm_rows::{Load, PacketId, Row, Shape, read_report};
 use worm_text::{TextFault, Why, read_network};
-
-const NETWORK: &[u8] = b"wormnet 1\nradix 2\ndims 1\ndepth 2\nclass data\nend\n";
 
 const REPORT: &[u8] = b"wormreport 1\n\
       turns 1 workers 1 drain 0\n\
@@ -17,7 +16,7 @@ const REPORT: &[u8] = b"wormreport 1\n\
       total injected 3 delivered 1 underway 2\n";
 
 fn fault_of(alloc: Global, text: &[u8]) -> Option<TextFault> {
-    let config = read_network(NETWORK).ok()?;
+    let config = read_network(TWO_NODES).ok()?;
     match read_report(alloc, text, &Shape::of(&config)) {
         Ok(_) => None,
         Err(fault) => Some(fault),
@@ -25,7 +24,7 @@ fn fault_of(alloc: Global, text: &[u8]) -> Option<TextFault> {
 }
 
 fn rows_of(alloc: Global, text: &[u8]) -> Option<Vec<Row>> {
-    let config = read_network(NETWORK).ok()?;
+    let config = read_network(TWO_NODES).ok()?;
     read_report(alloc, text, &Shape::of(&config)).ok()
 }
 

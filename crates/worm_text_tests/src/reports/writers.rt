@@ -1,9 +1,10 @@
 //! Writers that are full, slow or broken, and memory that runs out.
 
-use super::networks::{lane, network, offer, packet, run, script, summary};
+use super::networks::{Asked, after_turns, ask, at_start, lane, summary, two_nodes};
 use std::alloc::Global;
 use std::io;
 use std::io::{ErrorKind, Write};
+use std::process::Abort;
 use std::test::Fail;
 use worm_core::Net;
 use worm_report::{ReportFault, write_report};
@@ -16,11 +17,30 @@ const TEXT: &[u8] = b"wormreport 1\n\
       not offered 0\n\
       total injected 2 delivered 1 underway 1\n";
 
-fn half_way(alloc: Global) -> Result<Net, Fail> {
-    let mut net = network(alloc, &[2], 2, &[1])?;
-    let script = script(alloc, packet(lane(0, 1, 0), &[17, 18])?)?;
-    run(&mut net, &script, 1)?;
-    Ok(net)
+/// Writes this report.
+fn write_half_way<W: Write>(alloc: Global, out: &mut W) -> Result<Result<(), ReportFault>, Fail> {
+    let asked = [Asked::Packet(lane(0, 1, 0), &[17, 18])];
+    let net = after_turns(alloc, &two_nodes(&asked), 1)?;
+    Ok(write_report(alloc, &net, &summary(1, 0), out))
+}
+
+/// This is the answer to writing it.
+fn answers<W: Write>(
+    rt: &impl Abort,
+    alloc: Global,
+    out: &mut W,
+    wanted: Result<(), ReportFault>,
+) -> Result<(), Fail> {
+    assert_eq!(rt; write_half_way(alloc, out)?, wanted);
+    Ok(())
+}
+
+/// Writes this report into the room. The answer, and how many bytes went out.
+fn fill(alloc: Global, room: &mut [u8]) -> Result<(Result<(), ReportFault>, usize), Fail> {
+    let size = room.len();
+    let mut out = room;
+    let answer = write_half_way(alloc, &mut out)?;
+    Ok((answer, size.saturating_sub(out.len())))
 }
 
 /// Takes one byte in a call.
@@ -98,56 +118,77 @@ impl Write for Pages {
     }
 }
 
-/// A network in which 500 packets of one flit wait at their source, and its report.
-fn many_wait(alloc: Global) -> Result<(Net, Vec<u8>), Fail> {
-    let mut net = network(alloc, &[2], 2, &[1])?;
-    let mut text = Vec::new(alloc);
-    text.extend_from_slice(b"wormreport 1\nturns 0 workers 1 drain 0\n")?;
-    for packet in 0..500 {
-        net.step(&offer(lane(0, 1, 0), &[packet])?)?;
-        let line = format!(in alloc; "underway 0 1 class 0 packet {packet} flit 0 source\n")?;
-        text.extend_from_slice(line.as_bytes())?;
+/// A network in which 500 packets of one flit wait at their source.
+fn many_wait(rt: &impl Abort, alloc: Global) -> Result<Net, Fail> {
+    let mut net = at_start(rt, alloc, &two_nodes(&[]))?;
+    for word in 0..500 {
+        ask(&mut net, &Asked::Packet(lane(0, 1, 0), &[word]))?;
     }
-    let sums = b"not offered 0\ntotal injected 500 delivered 0 underway 500\n";
-    text.extend_from_slice(sums)?;
-    Ok((net, text))
+    Ok(net)
+}
+
+/// The line of one of these packets.
+fn waiting_line(alloc: Global, packet: u32) -> Result<String, Fail> {
+    Ok(format!(in alloc; "underway 0 1 class 0 packet {packet} flit 0 source\n")?)
+}
+
+/// The report of this network.
+fn many_text(alloc: Global) -> Result<Vec<u8>, Fail> {
+    let mut text = Vec::from_slice(alloc, b"wormreport 1\nturns 0 workers 1 drain 0\n")?;
+    for packet in 0..500 {
+        text.extend_from_slice(waiting_line(alloc, packet)?.as_bytes())?;
+    }
+    text.extend_from_slice(b"not offered 0\ntotal injected 500 delivered 0 underway 500\n")?;
+    Ok(text)
+}
+
+/// What became of a report for a writer of pages.
+#[derive(Drop)]
+struct Paged {
+    answer: Result<(), ReportFault>,
+    gone: Vec<u8>,
+    calls: usize,
+}
+
+/// Writes the report of this network for a writer that fails from a call on.
+fn write_pages(rt: &impl Abort, alloc: Global, fails_at: usize) -> Result<Paged, Fail> {
+    let net = many_wait(rt, alloc)?;
+    let mut out = Pages {
+        taken: Vec::new(alloc),
+        calls: 0,
+        fails_at,
+    };
+    let answer = write_report(alloc, &net, &summary(0, 0), &mut out);
+    Ok(Paged {
+        answer,
+        gone: out.taken,
+        calls: out.calls,
+    })
 }
 
 /// A report of 23 kB goes out in three calls; a writer that fails in the second has the first page alone, and is not
 /// asked again.
 #[test]
 fn a_long_report_goes_out_page_by_page(rt: HostRuntime) -> Result<(), Fail> {
-    let (net, text) = many_wait(rt.alloc())?;
-    for (fails_at, wanted) in [(9, Ok(())), (1, Err(ReportFault::Write))] {
-        let mut out = Pages {
-            taken: Vec::new(rt.alloc()),
-            calls: 0,
-            fails_at,
-        };
-        let answer = write_report(rt.alloc(), &net, &summary(0, 0), &mut out);
-        assert_eq!(rt; answer, wanted);
-        let gone = out.taken.len();
-        assert!(rt; gone <= text.len());
-        assert_eq!(rt; out.taken.as_slice(), &text.as_slice()[..gone]);
-        match answer {
-            Ok(()) => assert!(rt; gone == text.len() && out.calls == 3),
-            Err(_) => assert!(rt; 8192 <= gone && gone <= 8448 && out.calls == 2),
-        }
-    }
+    let text = many_text(rt.alloc())?;
+    let whole = write_pages(&rt, rt.alloc(), 9)?;
+    assert_eq!(rt; (whole.answer, whole.calls), (Ok(()), 3));
+    assert_eq!(rt; whole.gone.as_slice(), text.as_slice());
+    let begun = write_pages(&rt, rt.alloc(), 1)?;
+    assert_eq!(rt; (begun.answer, begun.calls), (Err(ReportFault::Write), 2));
+    assert!(rt; text.as_slice().starts_with(begun.gone.as_slice()));
+    assert!(rt; 8192 <= begun.gone.len() && begun.gone.len() <= 8448);
     Ok(())
 }
 
 /// A writer that takes so many bytes and then none is given exactly these.
 #[test]
 fn a_full_writer_has_the_first_bytes(rt: HostRuntime) -> Result<(), Fail> {
-    let net = half_way(rt.alloc())?;
     let mut room = [0u8; 256];
     for size in 0..TEXT.len() {
         assert!(rt; size <= 256);
-        let mut out = &mut room[..size];
-        let answer = write_report(rt.alloc(), &net, &summary(1, 0), &mut out);
-        assert_eq!(rt; answer, Err(ReportFault::Write));
-        assert!(rt; out.is_empty());
+        let (answer, gone) = fill(rt.alloc(), &mut room[..size])?;
+        assert_eq!(rt; (answer, gone), (Err(ReportFault::Write), size));
         assert_eq!(rt; &room[..size], &TEXT[..size]);
     }
     Ok(())
@@ -155,52 +196,44 @@ fn a_full_writer_has_the_first_bytes(rt: HostRuntime) -> Result<(), Fail> {
 
 #[test]
 fn a_writer_that_takes_a_byte_in_a_call_has_all(rt: HostRuntime) -> Result<(), Fail> {
-    let net = half_way(rt.alloc())?;
     let mut out = Sipping {
         taken: Vec::new(rt.alloc()),
     };
-    assert_eq!(rt;
-        write_report(rt.alloc(), &net, &summary(1, 0), &mut out),
-        Ok(())
-    );
+    answers(&rt, rt.alloc(), &mut out, Ok(()))?;
     assert_eq!(rt; out.taken.as_slice(), TEXT);
     Ok(())
 }
 
 #[test]
 fn writers_that_fail(rt: HostRuntime) -> Result<(), Fail> {
-    let net = half_way(rt.alloc())?;
     let failed = Err(ReportFault::Write);
-    assert_eq!(rt;
-        write_report(rt.alloc(), &net, &summary(1, 0), &mut Broken),
-        failed
-    );
-    assert_eq!(rt;
-        write_report(rt.alloc(), &net, &summary(1, 0), &mut Blocked),
-        failed
-    );
-    Ok(())
+    answers(&rt, rt.alloc(), &mut Broken, failed)?;
+    answers(&rt, rt.alloc(), &mut Blocked, failed)
+}
+
+/// A first part of the report, and not all of it, that ends with a line or is empty.
+fn is_begun(part: &[u8]) -> bool {
+    let ends = matches!(part.last().copied(), None | Some(b'\n'));
+    ends && part.len() < TEXT.len() && TEXT.starts_with(part)
+}
+
+/// The answer is that of a report of which this part went out.
+fn is_answer(rt: &impl Abort, answer: Result<(), ReportFault>, part: &[u8]) {
+    match answer {
+        Ok(()) => assert_eq!(rt; part, TEXT),
+        Err(fault) => {
+            assert_eq!(rt; fault, ReportFault::NoMemory);
+            assert!(rt; is_begun(part));
+        }
+    }
 }
 
 /// Where an allocation is refused the answer says so, and the first lines of the report have gone out, not all of them.
 #[test]
 fn memory_may_run_out(rt: HostRuntime) -> Result<(), Fail> {
-    let net = half_way(rt.alloc())?;
     let mut room = [0u8; 256];
-    let mut out = room.as_mut_slice();
-    let answer = write_report(rt.alloc(), &net, &summary(1, 0), &mut out);
-    let left = out.len();
-    assert!(rt; left <= 256);
-    let gone = 256 - left;
-    assert!(rt; gone <= TEXT.len());
-    assert_eq!(rt; &room[..gone], &TEXT[..gone]);
-    match answer {
-        Ok(()) => assert_eq!(rt; gone, TEXT.len()),
-        Err(fault) => {
-            assert_eq!(rt; fault, ReportFault::NoMemory);
-            assert!(rt; gone < TEXT.len());
-            assert!(rt; matches!(TEXT[..gone].last().copied(), None | Some(b'\n')));
-        }
-    }
+    let (answer, gone) = fill(rt.alloc(), &mut room)?;
+    assert!(rt; gone <= 256);
+    is_answer(&rt, answer, &room[..gone]);
     Ok(())
 }

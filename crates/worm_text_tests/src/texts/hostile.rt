@@ -1,101 +1,175 @@
 //! Each byte of a text replaced by each other one: what is still accepted is the text of what was read, written here
 //! from the rules.
 
+use crate::cases::{TWO_NODES, TWO_WORDS, network, traffic};
 use std::alloc::Global;
+use std::fmt::Display;
+use std::process::Abort;
 use std::test::Fail;
-use worm_core::{Act, Config, Script};
-use worm_text::{read_network, read_traffic};
-
-/// Two nodes, one class with one channel.
-const TWO_NODES: &[u8; 48] = b"wormnet 1\nradix 2\ndims 1\ndepth 2\nclass data\nend\n";
-
-const TWO_WORDS: &[u8; 40] = b"wormtraffic 1\nsend 0 0 1 data 17 18\nend\n";
+use worm_core::{Act, Config, Entry, Script};
+use worm_flit::{Lane, Packet};
 
 /// A mesh of three by two nodes, one class with one channel.
-const THREE_BY_TWO: &[u8; 61] =
-    b"wormnet 2\ndims 2\nradix 3 2\ndepth 2\nclass data channels 1\nend\n";
+const THREE_BY_TWO: &[u8] = b"wormnet 2\ndims 2\nradix 3 2\ndepth 2\nclass data channels 1\nend\n";
 
-/// The text of a network in format 2.
-fn second_text(alloc: Global, config: &Config) -> Result<String, Fail> {
+/// What a text says.
+#[derive(Clone, Copy)]
+enum Kind {
+    /// A network in format 1.
+    FirstFormat,
+    /// A network in format 2.
+    SecondFormat,
+    /// Traffic of two nodes.
+    Traffic,
+}
+
+/// The fields, each behind a space.
+fn spaced<T: Display>(alloc: Global, fields: &[T]) -> Result<String, Fail> {
     let mut text = String::new(alloc);
-    let dims = config.radices.len();
-    write!(text, "wormnet 2\ndims {dims}\nradix")?;
-    for radix in &config.radices {
-        write!(text, " {radix}")?;
+    for field in fields {
+        write!(text, " {field}")?;
     }
-    let depth = config.depth;
-    write!(text, "\ndepth {depth}\n")?;
+    Ok(text)
+}
+
+/// The lines of the classes in format 2.
+fn second_classes(alloc: Global, config: &Config) -> Result<String, Fail> {
+    let mut text = String::new(alloc);
     for (name, channels) in config.classes.iter().zip(&config.channels) {
         let name = name.as_str();
         write!(text, "class {name} channels {channels}\n")?;
     }
-    write!(text, "end\n")?;
+    Ok(text)
+}
+
+/// The text of a network in format 2.
+fn second_text(alloc: Global, config: &Config) -> Result<String, Fail> {
+    let dims = config.radices.len();
+    let radices = spaced(alloc, config.radices.as_slice())?;
+    let depth = config.depth;
+    let classes = second_classes(alloc, config)?;
+    let text = format!(in alloc;
+        "wormnet 2\ndims {dims}\nradix{radices}\ndepth {depth}\n{classes}end\n"
+    )?;
+    Ok(text)
+}
+
+/// The lines of the classes in format 1.
+fn first_classes(alloc: Global, config: &Config) -> Result<String, Fail> {
+    let mut text = String::new(alloc);
+    for name in &config.classes {
+        let name = name.as_str();
+        write!(text, "class {name}\n")?;
+    }
     Ok(text)
 }
 
 /// The text of a network in format 1.
 fn first_text(alloc: Global, config: &Config) -> Result<String, Fail> {
-    let mut text = String::new(alloc);
     let radix = config.radices.as_slice().first().copied().unwrap_or(0);
     let dims = config.radices.len();
     let depth = config.depth;
-    write!(
-        text,
-        "wormnet 1\nradix {radix}\ndims {dims}\ndepth {depth}\n"
+    let classes = first_classes(alloc, config)?;
+    let text = format!(in alloc;
+        "wormnet 1\nradix {radix}\ndims {dims}\ndepth {depth}\n{classes}end\n"
     )?;
-    for name in &config.classes {
-        let name = name.as_str();
-        write!(text, "class {name}\n")?;
+    Ok(text)
+}
+
+/// The line that offers a packet.
+fn send_line(alloc: Global, turn: u32, packet: &Packet) -> Result<String, Fail> {
+    let Lane { src, dst, .. } = packet.lane();
+    let words = spaced(alloc, packet.words())?;
+    Ok(format!(in alloc; "send {turn} {src} {dst} data{words}\n")?)
+}
+
+/// The line of an entry.
+fn entry_line(alloc: Global, entry: &Entry) -> Result<String, Fail> {
+    let turn = entry.turn;
+    match &entry.act {
+        Act::Offer(packet) => send_line(alloc, turn, packet),
+        Act::Close(lane) => {
+            let (src, dst) = (lane.src, lane.dst);
+            Ok(format!(in alloc; "close {turn} {src} {dst} data\n")?)
+        }
     }
-    write!(text, "end\n")?;
+}
+
+/// The lines of all entries.
+fn entry_lines(alloc: Global, script: &Script) -> Result<String, Fail> {
+    let mut text = String::new(alloc);
+    for entry in script.entries() {
+        text.push_str(entry_line(alloc, entry)?.as_str())?;
+    }
     Ok(text)
 }
 
 /// The text of traffic for a network whose only class is `data`.
 fn traffic_text(alloc: Global, script: &Script) -> Result<String, Fail> {
-    let mut text = String::new(alloc);
-    write!(text, "wormtraffic 1\n")?;
-    for entry in script.entries() {
-        let turn = entry.turn;
-        match &entry.act {
-            Act::Offer(packet) => {
-                let lane = packet.lane();
-                let (src, dst) = (lane.src, lane.dst);
-                write!(text, "send {turn} {src} {dst} data")?;
-                for word in packet.words() {
-                    write!(text, " {word}")?;
-                }
-                write!(text, "\n")?;
-            }
-            Act::Close(lane) => {
-                let (src, dst) = (lane.src, lane.dst);
-                write!(text, "close {turn} {src} {dst} data\n")?;
-            }
+    let entries = entry_lines(alloc, script)?;
+    Ok(format!(in alloc; "wormtraffic 1\n{entries}end\n")?)
+}
+
+/// The text of what is read from a text; `None` where it is refused.
+fn read_back(alloc: Global, kind: Kind, text: &[u8]) -> Result<Option<String>, Fail> {
+    Ok(match kind {
+        Kind::FirstFormat => match network(text) {
+            Ok(config) => Some(first_text(alloc, &config)?),
+            Err(_) => None,
+        },
+        Kind::SecondFormat => match network(text) {
+            Ok(config) => Some(second_text(alloc, &config)?),
+            Err(_) => None,
+        },
+        Kind::Traffic => match traffic(alloc, TWO_NODES, text)? {
+            Ok(script) => Some(traffic_text(alloc, &script)?),
+            Err(_) => None,
+        },
+    })
+}
+
+/// Whether the text is accepted. It is the text of what is read then.
+fn is_accepted(rt: &impl Abort, alloc: Global, kind: Kind, text: &[u8]) -> Result<bool, Fail> {
+    let Some(back) = read_back(alloc, kind, text)? else {
+        return Ok(false);
+    };
+    assert_eq!(rt; back.as_bytes(), text);
+    Ok(true)
+}
+
+/// How many bytes, its own among them, may stand at this place of the text.
+fn accepted_at(
+    rt: &impl Abort,
+    alloc: Global,
+    kind: Kind,
+    text: &[u8],
+    at: usize,
+) -> Result<u64, Fail> {
+    let mut changed = Vec::from_slice(alloc, text)?;
+    let mut accepted = 0u64;
+    for byte in 0..256u16 {
+        assert!(rt; at < changed.len());
+        changed[at] = byte as u8;
+        if is_accepted(rt, alloc, kind, changed.as_slice())? {
+            accepted = accepted.saturating_add(1);
         }
     }
-    write!(text, "end\n")?;
-    Ok(text)
+    Ok(accepted)
+}
+
+/// The sum of these over all places.
+fn accepted(rt: &impl Abort, alloc: Global, kind: Kind, text: &[u8]) -> Result<u64, Fail> {
+    let mut accepted = 0u64;
+    for at in 0..text.len() {
+        accepted = accepted.saturating_add(accepted_at(rt, alloc, kind, text, at)?);
+    }
+    Ok(accepted)
 }
 
 /// A digit of radix, dims or depth within its range, or another name: 7, 2, 8 and 25 + 3 * 35 ways.
 #[test]
 fn a_byte_of_a_network_is_replaced(rt: HostRuntime) -> Result<(), Fail> {
-    let mut text = *TWO_NODES;
-    let mut accepted = 0u64;
-    for at in 0..48 {
-        let was = text[at];
-        for byte in 0..256u16 {
-            text[at] = byte as u8;
-            if let Ok(config) = read_network(&text) {
-                assert_eq!(rt;
-                    first_text(rt.alloc(), &config)?.as_bytes(),
-                    text.as_slice()
-                );
-                accepted = accepted.saturating_add(1);
-            }
-        }
-        text[at] = was;
-    }
+    let accepted = accepted(&rt, rt.alloc(), Kind::FirstFormat, TWO_NODES)?;
     assert_eq!(rt; accepted, 48 + 147);
     Ok(())
 }
@@ -103,22 +177,7 @@ fn a_byte_of_a_network_is_replaced(rt: HostRuntime) -> Result<(), Fail> {
 /// A digit of a radix, of depth or of channels within its range, or another name: 7 and 7, 8, 7 and 25 + 3 * 35 ways.
 #[test]
 fn a_byte_of_a_network_of_two_radices_is_replaced(rt: HostRuntime) -> Result<(), Fail> {
-    let mut text = *THREE_BY_TWO;
-    let mut accepted = 0u64;
-    for at in 0..61 {
-        let was = text[at];
-        for byte in 0..256u16 {
-            text[at] = byte as u8;
-            if let Ok(config) = read_network(&text) {
-                assert_eq!(rt;
-                    second_text(rt.alloc(), &config)?.as_bytes(),
-                    text.as_slice()
-                );
-                accepted = accepted.saturating_add(1);
-            }
-        }
-        text[at] = was;
-    }
+    let accepted = accepted(&rt, rt.alloc(), Kind::SecondFormat, THREE_BY_TWO)?;
     assert_eq!(rt; accepted, 61 + 159);
     Ok(())
 }
@@ -126,25 +185,7 @@ fn a_byte_of_a_network_of_two_radices_is_replaced(rt: HostRuntime) -> Result<(),
 /// Another turn, node or word, or two words joined by a digit: 9, 1 and 1, 8 + 9 twice, and 10 ways.
 #[test]
 fn a_byte_of_traffic_is_replaced(rt: HostRuntime) -> Result<(), Fail> {
-    let Ok(config) = read_network(TWO_NODES) else {
-        panic!(rt; "no network");
-    };
-    let mut text = *TWO_WORDS;
-    let mut accepted = 0u64;
-    for at in 0..40 {
-        let was = text[at];
-        for byte in 0..256u16 {
-            text[at] = byte as u8;
-            if let Ok(script) = read_traffic(rt.alloc(), &text, &config) {
-                assert_eq!(rt;
-                    traffic_text(rt.alloc(), &script)?.as_bytes(),
-                    text.as_slice()
-                );
-                accepted = accepted.saturating_add(1);
-            }
-        }
-        text[at] = was;
-    }
+    let accepted = accepted(&rt, rt.alloc(), Kind::Traffic, TWO_WORDS)?;
     assert_eq!(rt; accepted, 40 + 55);
     Ok(())
 }

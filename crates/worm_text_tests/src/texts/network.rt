@@ -1,32 +1,41 @@
 //! Networks that are read, and the faults of their texts.
 
+use crate::cases::{TWO_NODES, network};
 use std::alloc::Global;
 use std::process::Abort;
 use std::test::Fail;
-use worm_text::{Why, read_network};
+use worm_core::Config;
+use worm_text::{TextFault, Why};
 
-/// Two nodes, one class with one channel.
-const TWO_NODES: &str = "wormnet 1\nradix 2\ndims 1\ndepth 2\nclass data\nend\n";
-
+/// The text has this fault.
 fn is_refused(rt: &impl Abort, text: &[u8], line: u32, why: Why) {
-    match read_network(text) {
-        Ok(_) => assert!(rt; false, "accepted {text:?}"),
-        Err(fault) => {
-            assert_eq!(rt; fault.why, why, "at {text:?}");
-            assert_eq!(rt; fault.line, line, "at {text:?}");
-        }
+    let fault = network(text).err();
+    assert_eq!(rt; fault, Some(TextFault { line, why }), "at {text:?}");
+}
+
+/// Each text has its fault.
+fn are_refused(rt: &impl Abort, faulty: &[(&str, u32, Why)]) {
+    for (text, line, why) in faulty {
+        is_refused(rt, text.as_bytes(), *line, *why);
     }
 }
 
-fn is_accepted(rt: &impl Abort, text: &str, radices: &[u8], depth: u8, channels: &[u8]) {
-    match read_network(text.as_bytes()) {
-        Ok(config) => {
-            assert_eq!(rt; config.radices.as_slice(), radices);
-            assert_eq!(rt; config.depth, depth);
-            assert_eq!(rt; config.channels.as_slice(), channels);
-            assert_eq!(rt; config.classes.len(), channels.len());
-        }
-        Err(fault) => assert!(rt; false, "refused {text} {fault:?}"),
+/// The network has these radices, this depth and classes of so many channels.
+fn has(rt: &impl Abort, config: &Config, radices: &[u8], depth: u8, channels: &[u8]) {
+    let read = (
+        config.radices.as_slice(),
+        config.depth,
+        config.channels.as_slice(),
+    );
+    assert_eq!(rt; read, (radices, depth, channels));
+    assert_eq!(rt; config.classes.len(), channels.len());
+}
+
+/// The text is of such a network.
+fn is_accepted(rt: &impl Abort, text: &[u8], radices: &[u8], depth: u8, channels: &[u8]) {
+    match network(text) {
+        Ok(config) => has(rt, &config, radices, depth, channels),
+        Err(fault) => assert!(rt; false, "refused {text:?} {fault:?}"),
     }
 }
 
@@ -35,21 +44,21 @@ fn networks_of_format_one(rt: HostRuntime) {
     is_accepted(&rt, TWO_NODES, &[2], 2, &[1]);
     is_accepted(
         &rt,
-        "wormnet 1\nradix 16\ndims 2\ndepth 2\nclass data\nend\n",
+        b"wormnet 1\nradix 16\ndims 2\ndepth 2\nclass data\nend\n",
         &[16, 16],
         2,
         &[1],
     );
     is_accepted(
         &rt,
-        "wormnet 1\nradix 2\ndims 1\ndepth 16\nclass data\nend\n",
+        b"wormnet 1\nradix 2\ndims 1\ndepth 16\nclass data\nend\n",
         &[2],
         16,
         &[1],
     );
     is_accepted(
         &rt,
-        "wormnet 1\nradix 3\ndims 2\ndepth 2\nclass end\nclass class\nclass a\nclass abcdefghijklmn09\nend\n",
+        b"wormnet 1\nradix 3\ndims 2\ndepth 2\nclass end\nclass class\nclass a\nclass abcdefghijklmn09\nend\n",
         &[3, 3],
         2,
         &[1, 1, 1, 1],
@@ -60,50 +69,52 @@ fn networks_of_format_one(rt: HostRuntime) {
 fn networks_of_format_two(rt: HostRuntime) {
     is_accepted(
         &rt,
-        "wormnet 2\ndims 1\nradix 2\ndepth 2\nclass data channels 2\nend\n",
+        b"wormnet 2\ndims 1\nradix 2\ndepth 2\nclass data channels 2\nend\n",
         &[2],
         2,
         &[2],
     );
     is_accepted(
         &rt,
-        "wormnet 2\ndims 1\nradix 2\ndepth 2\nclass a channels 5\nclass b channels 3\nend\n",
+        b"wormnet 2\ndims 1\nradix 2\ndepth 2\nclass a channels 5\nclass b channels 3\nend\n",
         &[2],
         2,
         &[5, 3],
     );
     is_accepted(
         &rt,
-        "wormnet 2\ndims 3\nradix 16 8 2\ndepth 2\nclass data channels 1\nend\n",
+        b"wormnet 2\ndims 3\nradix 16 8 2\ndepth 2\nclass data channels 1\nend\n",
         &[16, 8, 2],
         2,
         &[1],
     );
     is_accepted(
         &rt,
-        "wormnet 2\ndims 2\nradix 3 2\ndepth 2\nclass channels channels 8\nend\n",
+        b"wormnet 2\ndims 2\nradix 3 2\ndepth 2\nclass channels channels 8\nend\n",
         &[3, 2],
         2,
         &[8],
     );
 }
 
-#[test]
-fn names_are_kept(rt: HostRuntime) {
-    match read_network(b"wormnet 1\nradix 2\ndims 1\ndepth 2\nclass data\nclass b7\nend\n") {
-        Ok(config) => {
-            for (name, wanted) in config.classes.as_slice().iter().zip(["data", "b7"]) {
-                assert_eq!(rt; name.as_str(), wanted);
-            }
-            assert_eq!(rt; config.classes.len(), 2);
-        }
-        Err(fault) => assert!(rt; false, "refused {fault:?}"),
+/// The classes have these names.
+fn are_named(rt: &impl Abort, config: &Config, names: &[&str]) {
+    assert_eq!(rt; config.classes.len(), names.len());
+    for (name, wanted) in config.classes.as_slice().iter().zip(names) {
+        assert_eq!(rt; name.as_str(), *wanted);
     }
 }
 
 #[test]
+fn names_are_kept(rt: HostRuntime) -> Result<(), Fail> {
+    let text = b"wormnet 1\nradix 2\ndims 1\ndepth 2\nclass data\nclass b7\nend\n";
+    are_named(&rt, &network(text)?, &["data", "b7"]);
+    Ok(())
+}
+
+#[test]
 fn worked_faults_of_format_one(rt: HostRuntime) {
-    for (text, line, why) in [
+    let faulty = [
         ("", 1, Why::NoEnd),
         (
             "wormnet 1 \nradix 2\ndims 1\ndepth 2\nclass data\nend\n",
@@ -195,14 +206,13 @@ fn worked_faults_of_format_one(rt: HostRuntime) {
             7,
             Why::AfterEnd,
         ),
-    ] {
-        is_refused(&rt, text.as_bytes(), line, why);
-    }
+    ];
+    are_refused(&rt, &faulty);
 }
 
 #[test]
 fn worked_faults_of_format_two(rt: HostRuntime) {
-    for (text, line, why) in [
+    let faulty = [
         (
             "wormnet 3\ndims 1\nradix 2\ndepth 2\nclass data channels 2\nend\n",
             1,
@@ -253,15 +263,14 @@ fn worked_faults_of_format_two(rt: HostRuntime) {
             3,
             Why::Range,
         ),
-    ] {
-        is_refused(&rt, text.as_bytes(), line, why);
-    }
+    ];
+    are_refused(&rt, &faulty);
 }
 
 /// Fields are judged from the left, each wholly before the next is asked for.
 #[test]
 fn the_first_of_several_faults(rt: HostRuntime) {
-    for (text, line, why) in [
+    let faulty = [
         ("wormnet 1\nradix 17 3\n", 2, Why::Range),
         ("wormnet 1\nradix 2 \n", 2, Why::TooMany),
         ("wormnet 1\n\n", 2, Why::UnknownWord),
@@ -307,18 +316,16 @@ fn the_first_of_several_faults(rt: HostRuntime) {
             6,
             Why::Range,
         ),
-    ] {
-        is_refused(&rt, text.as_bytes(), line, why);
-    }
+    ];
+    are_refused(&rt, &faulty);
 }
 
 /// At the line in which the text was cut, or that would come next.
 #[test]
 fn a_text_that_is_cut_off_has_no_end(rt: HostRuntime) {
-    let text = TWO_NODES.as_bytes();
     let mut line = 1;
-    for (at, byte) in text.iter().enumerate() {
-        is_refused(&rt, &text[..at], line, Why::NoEnd);
+    for (at, byte) in TWO_NODES.iter().enumerate() {
+        is_refused(&rt, &TWO_NODES[..at], line, Why::NoEnd);
         if *byte == b'\n' {
             line = line.saturating_add(1);
         }

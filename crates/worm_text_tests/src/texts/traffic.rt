@@ -1,107 +1,104 @@
 //! Traffic that is read, and the faults of its texts.
 
+use crate::cases::{TWO_NODES, TWO_WORDS, traffic};
 use std::alloc::Global;
 use std::process::Abort;
 use std::test::Fail;
-use worm_core::Act;
+use worm_core::{Act, Entry};
 use worm_flit::Lane;
-use worm_text::{Why, read_network, read_traffic};
+use worm_text::{TextFault, Why};
 
-/// Two nodes, one class with one channel.
-const TWO_NODES: &[u8] = b"wormnet 1\nradix 2\ndims 1\ndepth 2\nclass data\nend\n";
-
-/// The same with two channels.
+/// Two nodes, one class with two channels.
 const TWO_CHANNELS: &[u8] = b"wormnet 2\ndims 1\nradix 2\ndepth 2\nclass data channels 2\nend\n";
 
-const TWO_WORDS: &[u8] = b"wormtraffic 1\nsend 0 0 1 data 17 18\nend\n";
+/// How many entries the text has for a network, or its fault.
+fn counted(alloc: Global, network: &[u8], text: &[u8]) -> Result<Result<usize, TextFault>, Fail> {
+    Ok(match traffic(alloc, network, text)? {
+        Ok(script) => Ok(script.entries().len()),
+        Err(fault) => Err(fault),
+    })
+}
 
-fn is_refused(rt: &impl Abort, alloc: Global, network: &[u8], text: &[u8], line: u32, why: Why) {
-    match read_network(network) {
-        Ok(config) => match read_traffic(alloc, text, &config) {
-            Ok(_) => assert!(rt; false, "accepted"),
-            Err(fault) => {
-                assert_eq!(rt; fault.why, why);
-                assert_eq!(rt; fault.line, line);
-            }
-        },
-        Err(_) => assert!(rt; false, "no network"),
+/// The text has this fault, for two nodes with one channel.
+fn is_refused(
+    rt: &impl Abort,
+    alloc: Global,
+    text: &[u8],
+    line: u32,
+    why: Why,
+) -> Result<(), Fail> {
+    let told = counted(alloc, TWO_NODES, text)?;
+    assert_eq!(rt; told, Err(TextFault { line, why }));
+    Ok(())
+}
+
+/// Each text has its fault.
+fn are_refused(rt: &impl Abort, alloc: Global, faulty: &[(&str, u32, Why)]) -> Result<(), Fail> {
+    for (text, line, why) in faulty {
+        is_refused(rt, alloc, text.as_bytes(), *line, *why)?;
+    }
+    Ok(())
+}
+
+/// The text has so many entries.
+fn is_accepted(rt: &impl Abort, alloc: Global, text: &[u8], count: usize) -> Result<(), Fail> {
+    assert_eq!(rt; counted(alloc, TWO_NODES, text)?, Ok(count));
+    Ok(())
+}
+
+/// The entry offers a packet of these words.
+fn offers(rt: &impl Abort, entry: &Entry, turn: u32, lane: Lane, words: &[u32]) {
+    assert_eq!(rt; entry.turn, turn);
+    match &entry.act {
+        Act::Offer(packet) => {
+            assert_eq!(rt; packet.lane(), lane);
+            assert_eq!(rt; packet.words(), words);
+        }
+        Act::Close(_) => assert!(rt; false, "a close"),
     }
 }
 
-fn is_accepted(rt: &impl Abort, alloc: Global, text: &[u8], count: usize) {
-    match read_network(TWO_NODES) {
-        Ok(config) => match read_traffic(alloc, text, &config) {
-            Ok(script) => assert_eq!(rt; script.entries().len(), count),
-            Err(fault) => assert!(rt; false, "refused {fault:?}"),
-        },
-        Err(_) => assert!(rt; false, "no network"),
+/// The entry closes the lane.
+fn closes(rt: &impl Abort, entry: &Entry, turn: u32, lane: Lane) {
+    assert_eq!(rt; entry.turn, turn);
+    match &entry.act {
+        Act::Close(closed) => assert_eq!(rt; *closed, lane),
+        Act::Offer(_) => assert!(rt; false, "an offer"),
     }
+}
+
+/// The lane from one node to another.
+fn lane(src: u8, dst: u8) -> Lane {
+    Lane { src, dst, class: 0 }
 }
 
 #[test]
-fn entries_are_kept(rt: HostRuntime) {
+fn entries_are_kept(rt: HostRuntime) -> Result<(), Fail> {
     let text = b"wormtraffic 1\nsend 0 0 1 data 17 4294967295\nclose 3 1 0 data\nend\n";
-    match read_network(TWO_NODES) {
-        Ok(config) => match read_traffic(rt.alloc(), text, &config) {
-            Ok(script) => match script.entries() {
-                [first, second] => {
-                    assert_eq!(rt; first.turn, 0);
-                    match &first.act {
-                        Act::Offer(packet) => {
-                            assert_eq!(rt;
-                                packet.lane(),
-                                Lane {
-                                    src: 0,
-                                    dst: 1,
-                                    class: 0
-                                }
-                            );
-                            assert_eq!(rt; packet.words(), [17, 4294967295].as_slice());
-                        }
-                        Act::Close(_) => assert!(rt; false, "a close"),
-                    }
-                    assert_eq!(rt; second.turn, 3);
-                    match &second.act {
-                        Act::Close(lane) => assert_eq!(rt;
-                            *lane,
-                            Lane {
-                                src: 1,
-                                dst: 0,
-                                class: 0
-                            }
-                        ),
-                        Act::Offer(_) => assert!(rt; false, "an offer"),
-                    }
-                }
-                _ => assert!(rt; false, "not two entries"),
-            },
-            Err(fault) => assert!(rt; false, "refused {fault:?}"),
-        },
-        Err(_) => assert!(rt; false, "no network"),
+    let script = traffic(rt.alloc(), TWO_NODES, text)??;
+    match script.entries() {
+        [first, second] => {
+            offers(&rt, first, 0, lane(0, 1), &[17, 4294967295]);
+            closes(&rt, second, 3, lane(1, 0));
+        }
+        _ => assert!(rt; false, "not two entries"),
     }
+    Ok(())
 }
 
 #[test]
-fn worked_texts(rt: HostRuntime) {
-    is_accepted(&rt, rt.alloc(), b"wormtraffic 1\nend\n", 0);
-    is_accepted(
-        &rt,
-        rt.alloc(),
-        b"wormtraffic 1\nsend 0 0 1 data 4294967295\nend\n",
-        1,
-    );
-    is_accepted(
-        &rt,
-        rt.alloc(),
-        b"wormtraffic 1\nsend 1000000 1 1 data 0\nend\n",
-        1,
-    );
-    is_accepted(&rt, rt.alloc(), TWO_WORDS, 1);
+fn worked_texts(rt: HostRuntime) -> Result<(), Fail> {
+    is_accepted(&rt, rt.alloc(), b"wormtraffic 1\nend\n", 0)?;
+    let most_word = b"wormtraffic 1\nsend 0 0 1 data 4294967295\nend\n";
+    is_accepted(&rt, rt.alloc(), most_word, 1)?;
+    let most_turn = b"wormtraffic 1\nsend 1000000 1 1 data 0\nend\n";
+    is_accepted(&rt, rt.alloc(), most_turn, 1)?;
+    is_accepted(&rt, rt.alloc(), TWO_WORDS, 1)
 }
 
 #[test]
-fn worked_faults(rt: HostRuntime) {
-    for (text, line, why) in [
+fn worked_faults(rt: HostRuntime) -> Result<(), Fail> {
+    let faulty = [
         ("", 1, Why::NoEnd),
         ("wormtraffic 2\nend\n", 1, Why::Header),
         ("wormtraffic 1\nsend 0 0 1 data\nend\n", 2, Why::Missing),
@@ -141,15 +138,14 @@ fn worked_faults(rt: HostRuntime) {
             Why::TooMany,
         ),
         ("wormtraffic 1\nend\n\n", 3, Why::AfterEnd),
-    ] {
-        is_refused(&rt, rt.alloc(), TWO_NODES, text.as_bytes(), line, why);
-    }
+    ];
+    are_refused(&rt, rt.alloc(), &faulty)
 }
 
 /// Fields are judged from the left, each wholly before the next is asked for.
 #[test]
-fn the_first_of_several_faults(rt: HostRuntime) {
-    for (text, line, why) in [
+fn the_first_of_several_faults(rt: HostRuntime) -> Result<(), Fail> {
+    let faulty = [
         (
             "wormtraffic 1\nsend 3 0 1 data 1\nsend 2\n",
             3,
@@ -173,82 +169,69 @@ fn the_first_of_several_faults(rt: HostRuntime) {
         ),
         ("wormtraffic 1\nend \n", 2, Why::TooMany),
         ("wormtraffic 1\n\n", 2, Why::UnknownWord),
-    ] {
-        is_refused(&rt, rt.alloc(), TWO_NODES, text.as_bytes(), line, why);
-    }
+    ];
+    are_refused(&rt, rt.alloc(), &faulty)
 }
 
 #[test]
-fn a_lane_of_several_channels_is_not_closed(rt: HostRuntime) {
+fn a_lane_of_several_channels_is_not_closed(rt: HostRuntime) -> Result<(), Fail> {
+    let wanted = Err(TextFault {
+        line: 2,
+        why: Why::ManyChannels,
+    });
     for text in [
         "wormtraffic 1\nclose 0 0 1 data\nend\n",
         "wormtraffic 1\nclose 0 0 1 data 5\n",
     ] {
-        is_refused(
-            &rt,
-            rt.alloc(),
-            TWO_CHANNELS,
-            text.as_bytes(),
-            2,
-            Why::ManyChannels,
-        );
+        let told = counted(rt.alloc(), TWO_CHANNELS, text.as_bytes())?;
+        assert_eq!(rt; told, wanted);
     }
+    Ok(())
 }
 
 /// At the line in which the text was cut, or that would come next.
 #[test]
-fn a_text_that_is_cut_off_has_no_end(rt: HostRuntime) {
+fn a_text_that_is_cut_off_has_no_end(rt: HostRuntime) -> Result<(), Fail> {
     let mut line = 1;
     for (at, byte) in TWO_WORDS.iter().enumerate() {
-        is_refused(
-            &rt,
-            rt.alloc(),
-            TWO_NODES,
-            &TWO_WORDS[..at],
-            line,
-            Why::NoEnd,
-        );
+        is_refused(&rt, rt.alloc(), &TWO_WORDS[..at], line, Why::NoEnd)?;
         if *byte == b'\n' {
             line = line.saturating_add(1);
         }
     }
+    Ok(())
+}
+
+/// The traffic of ten thousand entries, without its end.
+fn ten_thousand(alloc: Global) -> Result<Vec<u8>, Fail> {
+    let mut text = Vec::from_slice(alloc, b"wormtraffic 1\n")?;
+    for _entry in 0..10_000 {
+        text.extend_from_slice(b"send 0 0 1 data 1\n")?;
+    }
+    Ok(text)
 }
 
 /// Ten thousand entries are accepted, and one more is refused at its first field.
 #[test]
 fn ten_thousand_entries(rt: HostRuntime) -> Result<(), Fail> {
-    let mut text = Vec::from_slice(rt.alloc(), b"wormtraffic 1\n")?;
-    for _entry in 0..10_000 {
-        text.extend_from_slice(b"send 0 0 1 data 1\n")?;
-    }
-    let full = text.len();
-    text.extend_from_slice(b"end\n")?;
-    is_accepted(&rt, rt.alloc(), text.as_slice(), 10_000);
-    text.truncate(full);
-    text.extend_from_slice(b"send 5 x\n")?;
-    is_refused(
-        &rt,
-        rt.alloc(),
-        TWO_NODES,
-        text.as_slice(),
-        10_002,
-        Why::TooMany,
-    );
-    Ok(())
+    let mut full = ten_thousand(rt.alloc())?;
+    full.extend_from_slice(b"end\n")?;
+    is_accepted(&rt, rt.alloc(), full.as_slice(), 10_000)?;
+    let mut more = ten_thousand(rt.alloc())?;
+    more.extend_from_slice(b"send 5 x\n")?;
+    is_refused(&rt, rt.alloc(), more.as_slice(), 10_002, Why::TooMany)
 }
 
 /// Where an allocation is refused the answer says so, at the line of the entry for which there was no room.
 #[test]
-fn memory_may_run_out(rt: HostRuntime) {
+fn memory_may_run_out(rt: HostRuntime) -> Result<(), Fail> {
     let text = b"wormtraffic 1\nsend 0 0 1 data 17\nclose 0 0 1 data\nend\n";
-    match read_network(TWO_NODES) {
-        Ok(config) => match read_traffic(rt.alloc(), text, &config) {
-            Ok(script) => assert_eq!(rt; script.entries().len(), 2),
-            Err(fault) => {
-                assert_eq!(rt; fault.why, Why::NoMemory);
-                assert!(rt; fault.line == 2 || fault.line == 3);
-            }
-        },
-        Err(_) => assert!(rt; false, "no network"),
+    match counted(rt.alloc(), TWO_NODES, text)? {
+        Ok(count) => assert_eq!(rt; count, 2),
+        Err(fault) => {
+            assert_eq!(rt; fault.why, Why::NoMemory);
+            assert!(rt; fault.line == 2 || fault.line == 3);
+        }
     }
+    Ok(())
 }

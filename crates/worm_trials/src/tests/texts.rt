@@ -16,6 +16,7 @@ const MOST_NODES: &[u8] = b"wormnet 1\nradix 16\ndims 2\ndepth 2\nclass data\nen
 /// The line of a fault, and what is wrong with it.
 type Told = Option<(u32, Why)>;
 
+/// What the reader says of a network's text.
 fn network_fault(text: &[u8]) -> Told {
     match read_network(text) {
         Ok(_) => None,
@@ -23,6 +24,7 @@ fn network_fault(text: &[u8]) -> Told {
     }
 }
 
+/// What the reader says of traffic for a network.
 fn traffic_fault(alloc: Global, network: &[u8], text: &[u8]) -> Result<Told, Fail> {
     let Ok(config) = read_network(network) else {
         return Err("no network".into());
@@ -33,44 +35,67 @@ fn traffic_fault(alloc: Global, network: &[u8], text: &[u8]) -> Result<Told, Fai
     }
 }
 
-/// The text with another line in the place of that of this number.
-fn with_line(alloc: Global, text: &[u8], number: usize, line: &[u8]) -> Result<Vec<u8>, Fail> {
-    let mut changed = Vec::new(alloc);
-    for (at, old) in text.split(|byte| *byte == b'\n').enumerate() {
-        if at + 1 == number {
-            changed.extend_from_slice(line)?;
-        } else {
-            changed.extend_from_slice(old)?;
-        }
-        changed.push(b'\n')?;
+/// The parts of a text, joined.
+fn joined(alloc: Global, parts: &[&[u8]]) -> Result<Vec<u8>, Fail> {
+    let mut whole = Vec::new(alloc);
+    for part in parts {
+        whole.extend_from_slice(part)?;
     }
-    // The text ends with a line feed, behind which there is no line.
-    let _end = changed.pop();
-    Ok(changed)
+    Ok(whole)
 }
 
 /// The text with a byte more at this place.
 fn with_byte(alloc: Global, text: &[u8], place: usize, byte: u8) -> Result<Vec<u8>, Fail> {
     let (front, back) = text.split_at(place.min(text.len()));
-    let mut changed = Vec::from_slice(alloc, front)?;
-    changed.push(byte)?;
-    changed.extend_from_slice(back)?;
-    Ok(changed)
+    joined(alloc, &[front, &[byte], back])
+}
+
+/// Where the line of this number ends: the place of its line feed.
+fn end_of(text: &[u8], number: usize) -> usize {
+    let mut ended = 0usize;
+    for (at, byte) in text.iter().enumerate() {
+        if *byte == b'\n' {
+            ended = ended.saturating_add(1);
+        }
+        if ended == number {
+            return at;
+        }
+    }
+    text.len()
+}
+
+/// The text with another line in the place of that of this number, which is not the first.
+fn with_line(alloc: Global, text: &[u8], number: usize, line: &str) -> Result<Vec<u8>, Fail> {
+    let (front, _) = text.split_at(end_of(text, number.saturating_sub(1)).min(text.len()));
+    let (_, back) = text.split_at(end_of(text, number).min(text.len()));
+    joined(alloc, &[front, b"\n", line.as_bytes(), back])
+}
+
+/// What the reader says of a network's text with this line in the place of another.
+fn network_with(alloc: Global, text: &[u8], number: usize, line: &str) -> Result<Told, Fail> {
+    let changed = with_line(alloc, text, number, line)?;
+    Ok(network_fault(changed.as_slice()))
+}
+
+/// What the reader says of traffic with this line in the place of its only entry.
+fn traffic_with(alloc: Global, network: &[u8], line: &str) -> Result<Told, Fail> {
+    let changed = with_line(alloc, TWO_WORDS, 2, line)?;
+    traffic_fault(alloc, network, changed.as_slice())
+}
+
+/// The line that sends the three words of a node to another.
+fn words_line(alloc: Global, src: u8, dst: u8) -> Result<String, Fail> {
+    let [first, second, third] = words_of(src);
+    Ok(format!(in alloc; "send 0 {src} {dst} data {first} {second} {third}\n")?)
 }
 
 /// The traffic of sixteen nodes that each send three words to the node opposite.
-fn opposite(alloc: Global) -> Result<String, Fail> {
-    let mut text = String::new(alloc);
-    write!(text, "wormtraffic 1\n")?;
+fn opposite(alloc: Global) -> Result<Vec<u8>, Fail> {
+    let mut text = Vec::from_slice(alloc, b"wormtraffic 1\n")?;
     for src in 0u8..16 {
-        let dst = 15 - src;
-        write!(text, "send 0 {src} {dst} data")?;
-        for word in words_of(src) {
-            write!(text, " {word}")?;
-        }
-        write!(text, "\n")?;
+        text.extend_from_slice(words_line(alloc, src, 15 - src)?.as_bytes())?;
     }
-    write!(text, "end\n")?;
+    text.extend_from_slice(b"end\n")?;
     Ok(text)
 }
 
@@ -92,7 +117,7 @@ fn is_cut(rt: &impl Abort, alloc: Global, network: &[u8], text: &[u8]) -> Result
 fn traffic_that_is_cut_off_has_no_end(rt: HostRuntime) -> Result<(), Fail> {
     is_cut(&rt, rt.alloc(), TWO_NODES, WORD_AND_MARK)?;
     let text = opposite(rt.alloc())?;
-    is_cut(&rt, rt.alloc(), SIXTEEN_NODES, text.as_bytes())
+    is_cut(&rt, rt.alloc(), SIXTEEN_NODES, text.as_slice())
 }
 
 #[test]
@@ -122,8 +147,8 @@ fn limits_of_a_network(rt: HostRuntime) -> Result<(), Fail> {
         (THREE_BY_TWO, 4, "depth 17", Some((4, Why::Range))),
         (THREE_BY_TWO, 5, "class data channels 8", None),
     ] {
-        let text = with_line(rt.alloc(), base, number, line.as_bytes())?;
-        assert_eq!(rt; network_fault(text.as_slice()), wanted, "{line}");
+        let told = network_with(rt.alloc(), base, number, line)?;
+        assert_eq!(rt; told, wanted, "{line}");
     }
     Ok(())
 }
@@ -149,29 +174,39 @@ fn limits_of_traffic(rt: HostRuntime) -> Result<(), Fail> {
         (MOST_NODES, "send 0 256 0 data 1", Some((2, Why::Range))),
         (MOST_NODES, "send 0 0 256 data 1", Some((2, Why::Range))),
     ] {
-        let text = with_line(rt.alloc(), TWO_WORDS, 2, line.as_bytes())?;
-        let told = traffic_fault(rt.alloc(), network, text.as_slice())?;
+        let told = traffic_with(rt.alloc(), network, line)?;
         assert_eq!(rt; told, wanted, "{line}");
     }
     Ok(())
 }
 
 /// A line with a number of a thousand digits.
-fn long_line(alloc: Global, front: &str, back: &str) -> Result<Vec<u8>, Fail> {
-    let mut line = Vec::from_slice(alloc, front.as_bytes())?;
+fn long_line(alloc: Global, front: &str, back: &str) -> Result<String, Fail> {
+    let mut line = String::from_str(alloc, front)?;
     for _digit in 0..1000 {
-        line.push(b'7')?;
+        line.push('7')?;
     }
-    line.extend_from_slice(back.as_bytes())?;
+    line.push_str(back)?;
     Ok(line)
+}
+
+/// What the reader says of a network's text with such a line in the place of another.
+fn network_with_long(alloc: Global, text: &[u8], number: usize, front: &str) -> Result<Told, Fail> {
+    let line = long_line(alloc, front, "")?;
+    network_with(alloc, text, number, line.as_str())
+}
+
+/// What the reader says of traffic of two nodes whose only entry is such a line.
+fn traffic_with_long(alloc: Global, front: &str, back: &str) -> Result<Told, Fail> {
+    let line = long_line(alloc, front, back)?;
+    traffic_with(alloc, TWO_NODES, line.as_str())
 }
 
 #[test]
 fn numbers_of_a_thousand_digits_are_out_of_range(rt: HostRuntime) -> Result<(), Fail> {
     for (number, line, front) in [(3, 3, "dims "), (4, 4, "depth ")] {
-        let long = long_line(rt.alloc(), front, "")?;
-        let text = with_line(rt.alloc(), TWO_NODES, number, long.as_slice())?;
-        assert_eq!(rt; network_fault(text.as_slice()), Some((line, Why::Range)));
+        let told = network_with_long(rt.alloc(), TWO_NODES, number, front)?;
+        assert_eq!(rt; told, Some((line, Why::Range)));
     }
     for (front, back) in [
         ("send ", " 0 1 data 1"),
@@ -181,9 +216,7 @@ fn numbers_of_a_thousand_digits_are_out_of_range(rt: HostRuntime) -> Result<(), 
         ("send 0 0 1 data 1 ", ""),
         ("close ", " 0 1 data"),
     ] {
-        let long = long_line(rt.alloc(), front, back)?;
-        let text = with_line(rt.alloc(), TWO_WORDS, 2, long.as_slice())?;
-        let told = traffic_fault(rt.alloc(), TWO_NODES, text.as_slice())?;
+        let told = traffic_with_long(rt.alloc(), front, back)?;
         assert_eq!(rt; told, Some((2, Why::Range)), "{front}");
     }
     Ok(())

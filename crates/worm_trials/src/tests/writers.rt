@@ -72,6 +72,22 @@ impl Write for Uneven {
     }
 }
 
+/// Writes a report for such a writer with so much room. The answer, and what was taken.
+fn write_uneven(
+    alloc: Global,
+    net: &Net,
+    summary: &Summary,
+    room: usize,
+) -> (Result<(), ReportFault>, Vec<u8>) {
+    let mut out = Uneven {
+        taken: Vec::new(alloc),
+        room,
+        calls: 0,
+    };
+    let answer = write_report(alloc, net, summary, &mut out);
+    (answer, out.taken)
+}
+
 /// A writer with so much room takes exactly the first bytes of the report, and all where they fit.
 fn takes_first(
     rt: &impl Abort,
@@ -81,23 +97,14 @@ fn takes_first(
     wanted: &str,
     room: usize,
 ) {
-    let mut out = Uneven {
-        taken: Vec::new(alloc),
-        room,
-        calls: 0,
+    let whole = wanted.as_bytes();
+    let (told, first) = match whole.get(..room) {
+        Some(first) => (Err(ReportFault::Write), first),
+        None => (Ok(()), whole),
     };
-    let answer = write_report(alloc, net, summary, &mut out);
-    let first = wanted.as_bytes().get(..room);
-    match first {
-        Some(first) => {
-            assert_eq!(rt; answer, Err(ReportFault::Write));
-            assert_eq!(rt; out.taken.as_slice(), first);
-        }
-        None => {
-            assert_eq!(rt; answer, Ok(()));
-            assert_eq!(rt; out.taken.as_slice(), wanted.as_bytes());
-        }
-    }
+    let (answer, taken) = write_uneven(alloc, net, summary, room);
+    assert_eq!(rt; answer, told);
+    assert_eq!(rt; taken.as_slice(), first);
 }
 
 /// A report for each room below its length, and for one above.

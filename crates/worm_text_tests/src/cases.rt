@@ -1,0 +1,30 @@
+//! The texts that the tests share, and what the readers say of a text.
+//!
+//! Each call of a reader stands in a function of its own that promises nothing. What a reader promises is long, and a
+//! test that knew it of each text that it reads would take a minute to prove.
+
+use std::alloc::Global;
+use std::test::Fail;
+use worm_core::{Config, Script};
+use worm_text::{TextFault, read_network, read_traffic};
+
+/// Two nodes, one class with one channel.
+pub const TWO_NODES: &[u8] = b"wormnet 1\nradix 2\ndims 1\ndepth 2\nclass data\nend\n";
+
+/// A packet of two words, from node 0 to node 1 of two.
+pub const TWO_WORDS: &[u8] = b"wormtraffic 1\nsend 0 0 1 data 17 18\nend\n";
+
+/// The network of a text, or the text's fault.
+pub fn network(text: &[u8]) -> Result<Config, TextFault> {
+    read_network(text)
+}
+
+/// The traffic of a text for the network of another, or the text's fault.
+pub fn traffic(
+    alloc: Global,
+    network: &[u8],
+    text: &[u8],
+) -> Result<Result<Script, TextFault>, Fail> {
+    let config = read_network(network)?;
+    Ok(read_traffic(alloc, text, &config))
+}
