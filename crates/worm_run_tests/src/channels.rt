@@ -3,15 +3,14 @@
 ghost use Rattle.std.specs.Prelude.{◌≡◌, vec_len};
 ghost use Rattle.worm_split.specs.Joins.{AreParts};
 
-use crate::cases::{lane, net_of, offer};
-use crate::parts::parts_of;
-use std::alloc::Global;
+use crate::cases::lane;
+use crate::parts::{joined, parts_of};
+use crate::trial::Trial;
 use std::process::Abort;
 use std::sync::Wait;
-use std::test::Fail;
-use worm_core::{Net, Script};
+use worm_core::Script;
 use worm_flit::{Flit, Lane};
-use worm_split::{Part, join};
+use worm_split::Part;
 
 /// Every worker takes the turn, one after another. False where a fault ended one.
 fn all_take<R: Wait>(rt: &R, parts: &mut Vec<Part>, turn: u64, script: &Script) -> bool
@@ -49,15 +48,14 @@ fn words_of(src: u8, number: u16) -> [u32; 3] {
 
 /// Nodes in a row, whose class has two channels, and 50 packets of three words for the last of them: in each of 25
 /// turns one from each of the first two.
-fn row(alloc: Global, radix: u8, last: u8) -> Result<(Net, Script), Fail> {
-    let net = net_of(alloc, &[radix], 2, 2)?;
-    let mut script = Script::empty(alloc);
+fn row<R: Abort + AllocGlobal + Copy>(rt: R, radix: u8, last: u8) -> Trial<R> {
+    let mut trial = Trial::new(rt, &[radix], 2, 2);
     for number in 0u16..25 {
         let turn = u32::from(number);
-        script.push(offer(turn, 0, last, &words_of(0, number))?)?;
-        script.push(offer(turn, 1, last, &words_of(1, number))?)?;
+        trial.offer_at(turn, lane(0, last), &words_of(0, number));
+        trial.offer_at(turn, lane(1, last), &words_of(1, number));
     }
-    Ok((net, script))
+    trial
 }
 
 /// Whether the packet's words are there in their order, each once.
@@ -87,44 +85,43 @@ fn are_mixed(flits: &[Flit]) -> bool {
     false
 }
 
-/// The row after 400 turns of each of two workers: each packet came whole to the last node.
-fn all_come_whole<R: Abort + Wait>(
-    rt: &R,
-    alloc: Global,
-    radix: u8,
-    last: u8,
-) -> Result<Net, Fail> {
-    let (net, script) = row(alloc, radix, last)?;
-    let mut parts = parts_of(alloc, net, 2)?;
-    assert!(rt; all_take_turns(rt, &mut parts, 400, &script));
-    let net = join(rt, parts);
-    if u16::from(last) >= net.nodes() {
-        return Err("too few nodes".into());
-    }
-    let flits = net.delivered(last);
-    assert_eq!(rt; flits.len(), 150);
+/// The network after so many turns of each of two workers.
+fn both_took<R: Abort + AllocGlobal + Copy + Wait>(trial: Trial<R>, turns: u64) -> Trial<R> {
+    let (rt, net, script) = trial.into_inner();
+    let mut parts = parts_of(&rt, net, 2);
+    assert!(rt; all_take_turns(&rt, &mut parts, turns, &script));
+    let net = joined(&rt, parts);
+    Trial { rt, net, script }
+}
+
+/// Whether all of the row's 50 packets are there, each whole.
+fn all_came_whole(flits: &[Flit], last: u8) -> bool {
     for number in 0u16..25 {
-        assert!(rt; came_whole(flits, lane(0, last), number));
-        assert!(rt; came_whole(flits, lane(1, last), number));
+        let first = came_whole(flits, lane(0, last), number);
+        if !first || !came_whole(flits, lane(1, last), number) {
+            return false;
+        }
     }
-    Ok(net)
+    true
+}
+
+/// The row after 400 turns of each of two workers: each packet came whole to the last node.
+fn all_come_whole<R: Abort + AllocGlobal + Copy + Wait>(rt: R, radix: u8, last: u8) -> Trial<R> {
+    let trial = both_took(row(rt, radix, last), 400);
+    let flits = trial.flits_at(last);
+    assert_eq!(rt; flits.len(), 150);
+    assert!(rt; all_came_whole(flits, last));
+    trial
 }
 
 #[test]
-fn each_packet_comes_whole(rt: HostRuntime) -> Result<(), Fail> {
-    let alloc = rt.alloc();
-    let net = all_come_whole(&rt, alloc, 4, 3)?;
-    if net.nodes() < 4 {
-        return Err("too few nodes".into());
-    }
-    assert!(rt; are_mixed(net.delivered(3)));
-    Ok(())
+fn each_packet_comes_whole(rt: HostRuntime) {
+    let trial = all_come_whole(rt, 4, 3);
+    assert!(rt; are_mixed(trial.flits_at(3)));
 }
 
 #[test]
-fn each_packet_comes_whole_to_its_neighbour(rt: HostRuntime) -> Result<(), Fail> {
-    let alloc = rt.alloc();
-    let net = all_come_whole(&rt, alloc, 2, 1)?;
-    assert_eq!(rt; net.totals().delivered, 150);
-    Ok(())
+fn each_packet_comes_whole_to_its_neighbour(rt: HostRuntime) {
+    let trial = all_come_whole(rt, 2, 1);
+    trial.has_delivered(150);
 }

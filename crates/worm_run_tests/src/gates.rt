@@ -1,12 +1,12 @@
 //! That two workers run beside each other, and that a refused entry stops one.
 
-use crate::cases::{net_of, offer, pair, ran, words_at};
+use crate::cases::{lane, pair};
+use crate::trial::Trial;
 use std::process::Abort;
 use std::sync::atomic::{AtomicBool, Ordering};
-use std::test::Fail;
 use std::thread;
-use worm_core::{OfferFault, Script};
-use worm_run::{FreeGate, Gate, RunPlan, Stop, StopWhy};
+use worm_core::OfferFault;
+use worm_run::{FreeGate, Gate, Stop, StopWhy};
 
 /// How often a worker looks for the other before it gives up.
 const LOOKS: u32 = 10_000_000;
@@ -44,42 +44,24 @@ impl Gate for Meeting {
 }
 
 #[test]
-fn two_workers_meet(rt: HostRuntime) -> Result<(), Fail> {
-    let alloc = rt.alloc();
-    let (net, script) = pair(alloc, 2, &[17, 18])?;
-    let plan = RunPlan {
-        turns: 4,
-        workers: 2,
-    };
+fn two_workers_meet(rt: HostRuntime) {
     let gate = Meeting {
         first: AtomicBool::new(false),
         second: AtomicBool::new(false),
     };
-    let end = ran(&rt, alloc, net, &script, plan, &gate)?;
-    assert!(rt; end.stops.is_empty());
-    assert_eq!(rt; end.ended.as_slice(), [4, 4].as_slice());
-    let words = words_at(alloc, &end.net, 1)?;
-    assert_eq!(rt; words.get(0), Some(&17u32));
-    Ok(())
+    let ran = pair(rt, 2, &[17, 18]).run(2, 4, &gate);
+    let trial = ran.ended(&[], &[4, 4]);
+    assert_eq!(rt; trial.words_at(1).get(0), Some(&17u32));
 }
 
 #[test]
-fn a_refused_entry_stops_its_worker(rt: HostRuntime) -> Result<(), Fail> {
-    let alloc = rt.alloc();
-    let net = net_of(alloc, &[2], 2, 1)?;
-    let mut script = Script::empty(alloc);
-    script.push(offer(1, 0, 5, &[1])?)?;
-    let plan = RunPlan {
-        turns: 3,
-        workers: 2,
-    };
-    let end = ran(&rt, alloc, net, &script, plan, &FreeGate)?;
+fn a_refused_entry_stops_its_worker(rt: HostRuntime) {
+    let mut trial = Trial::new(rt, &[2], 2, 1);
+    trial.offer_at(1, lane(0, 5), &[1]);
     let stop = Stop {
         worker: 0,
         turn: 1,
         why: StopWhy::Refused(OfferFault::NoSuchNode),
     };
-    assert_eq!(rt; end.stops.as_slice(), [stop].as_slice());
-    assert_eq!(rt; end.ended.as_slice(), [1, 3].as_slice());
-    Ok(())
+    trial.run(2, 3, &FreeGate).ended(&[stop], &[1, 3]);
 }

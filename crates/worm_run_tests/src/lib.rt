@@ -16,4 +16,6 @@ mod runs;
 #[cfg(test)]
 mod stops;
 #[cfg(test)]
+mod trial;
+#[cfg(test)]
 mod turns;

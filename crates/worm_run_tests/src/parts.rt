@@ -1,34 +1,43 @@
 //! A network is split and joined.
 
-ghost use Rattle.std.specs.Prelude.{◌≡◌, ◌*◌, IfOk, length};
+ghost use Rattle.std.specs.Prelude.{◌≡◌, ◌*◌, length};
 ghost use Rattle.worm_split.specs.Joins.{AreParts};
 
 use crate::cases::{lane, opposite};
-use std::alloc::Global;
-use std::test::Fail;
+use crate::trial::Trial;
+use std::process::Abort;
+use std::sync::Wait;
 use worm_core::{LaneView, Net};
-use worm_flit::Lane;
 use worm_split::{Part, join, split};
 
 /// The parts of the network, for so many workers.
-pub fn parts_of(alloc: Global, net: Net, workers: usize) -> Result<Vec<Part>, Fail>
-    ensures { IfOk result (λ parts. AreParts parts.items × (length parts.items ≡ workers)) }
+pub fn parts_of<R: Abort + AllocGlobal>(rt: &R, net: Net, workers: usize) -> Vec<Part>
+    ensures { AreParts result.items × (length result.items ≡ workers) }
 {
-    if workers == 0 || workers > 16 || workers > usize::from(net.nodes()) {
-        return Err("no such workers".into());
-    }
-    match split(alloc, net, workers) {
-        Ok(parts) => Ok(parts),
-        Err((_net, _)) => Err("no memory".into()),
+    assert!(rt; workers > 0 && workers <= 16 && workers <= usize::from(net.nodes()));
+    match split(rt.alloc(), net, workers) {
+        Ok(parts) => parts,
+        Err((_net, _)) => panic!(rt; "no memory"),
     }
 }
 
-/// The view of a lane that the network has.
-pub fn view_of(alloc: Global, net: &Net, lane: Lane) -> Result<LaneView, Fail> {
-    if !net.has_lane(lane) {
-        return Err("no such lane".into());
-    }
-    Ok(net.lane_view(alloc, lane)?)
+/// The network of the parts.
+pub fn joined<R: Wait>(rt: &R, parts: Vec<Part>) -> Net
+    requires { AreParts parts.items }
+{
+    join(rt, parts)
+}
+
+/// The same network once it was split for so many workers and joined.
+fn split_and_joined<R: Abort + AllocGlobal + Copy + Wait>(
+    trial: Trial<R>,
+    workers: usize,
+) -> Trial<R> {
+    let (rt, net, script) = trial.into_inner();
+    let parts = parts_of(&rt, net, workers);
+    assert_eq!(rt; parts.len(), workers);
+    let net = joined(&rt, parts);
+    Trial { rt, net, script }
 }
 
 fn same_view(a: &LaneView, b: &LaneView) -> bool {
@@ -46,17 +55,16 @@ fn same_view(a: &LaneView, b: &LaneView) -> bool {
     true
 }
 
-fn views(alloc: Global, net: &Net) -> Result<Vec<LaneView>, Fail> {
-    let mut views = Vec::new(alloc);
+/// What is read of each lane of sixteen nodes.
+fn views<R: Abort + AllocGlobal + Copy>(trial: &Trial<R>) -> Vec<LaneView> {
+    let mut views = Vec::new(trial.rt.alloc());
     for src in 0u8..16 {
         for dst in 0u8..16 {
-            let here = lane(src, dst);
-            if net.has_lane(here) {
-                views.push(net.lane_view(alloc, here)?)?;
-            }
+            let view = trial.view(lane(src, dst));
+            views.push(view).expect(&trial.rt, "memory");
         }
     }
-    Ok(views)
+    views
 }
 
 fn same_views(a: &Vec<LaneView>, b: &Vec<LaneView>) -> bool {
@@ -75,21 +83,15 @@ fn same_views(a: &Vec<LaneView>, b: &Vec<LaneView>) -> bool {
 }
 
 #[test]
-fn to_split_and_join_changes_nothing(rt: HostRuntime) -> Result<(), Fail> {
-    let alloc = rt.alloc();
-    let (mut net, script) = opposite(alloc, &[4, 4], 15)?;
+fn to_split_and_join_changes_nothing(rt: HostRuntime) {
+    let mut trial = opposite(rt, &[4, 4], 15);
     for turn in 0u64..21 {
-        net.turn(turn, &script)?;
-        let before = views(alloc, &net)?;
+        trial.turn(turn);
+        let before = views(&trial);
         for workers in [1usize, 2, 4, 16] {
-            let parts = parts_of(alloc, net, workers)?;
-            assert_eq!(rt; parts.len(), workers);
-            net = join(&rt, parts);
-            let after = views(alloc, &net)?;
-            assert!(rt; same_views(&before, &after));
+            trial = split_and_joined(trial, workers);
+            assert!(rt; same_views(&before, &views(&trial)));
         }
     }
-    let totals = net.totals();
-    assert_eq!(rt; totals.delivered, 48);
-    Ok(())
+    trial.has_delivered(48);
 }

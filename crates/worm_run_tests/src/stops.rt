@@ -1,13 +1,11 @@
 //! A gate stops one worker: nothing is lost wherever it does, and the network goes on, on one thread and by workers.
 
-use crate::cases::{opposite, pair, ran, settle, words_at, words_to};
-use std::alloc::Global;
+use crate::cases::{opposite, pair, words_of};
+use crate::trial::Trial;
 use std::process::Abort;
 use std::sync::Wait;
-use std::test::Fail;
 use std::thread::Threads;
-use worm_core::{Net, Script};
-use worm_run::{FreeGate, Gate, RunEnd, RunPlan, Stop, StopWhy};
+use worm_run::{FreeGate, Gate, Stop, StopWhy};
 
 /// Stops one worker at one turn.
 #[derive(Clone, Copy, Debug)]
@@ -39,109 +37,77 @@ impl Gate for StopsAt {
 
 /// What each of sixteen nodes sent is on its way or there, in order: three words, but that a node of a worker that was
 /// stopped before its first turn has sent none.
-fn all_cut(alloc: Global, net: &Net, gate: StopsAt) -> Result<bool, Fail> {
+fn all_cut<R: Abort + AllocGlobal + Copy>(trial: &Trial<R>, gate: StopsAt) -> bool {
     for src in 0u8..16 {
-        let words = words_to(alloc, net, src, 15 - src)?;
-        let n = u32::from(src);
+        let words = trial.words_to(src, 15 - src);
         let silent = gate.turn == 0 && usize::from(src % 4) == gate.worker;
-        let sent = words.as_slice() == [n, 100 + n, 200 + n].as_slice();
+        let sent = words.as_slice() == words_of(src).as_slice();
         let good = if silent { words.is_empty() } else { sent };
         if !good {
-            return Ok(false);
+            return false;
         }
     }
-    Ok(true)
+    true
 }
 
-/// Sixteen nodes run by four workers of which one is stopped.
-fn one_stopped<R: Threads + Wait + Sync>(
-    rt: &R,
-    alloc: Global,
-    gate: StopsAt,
-) -> Result<RunEnd, Fail> {
-    let (net, script) = opposite(alloc, &[4, 4], 15)?;
-    let plan = RunPlan {
-        turns: 50,
-        workers: 4,
-    };
-    ran(rt, alloc, net, &script, plan, &gate)
+/// How many turns each of four workers ends of 50, of which the gate stops one before its turn.
+fn turns_until(gate: StopsAt) -> [u64; 4] {
+    let mut turns = [50; 4];
+    if gate.worker < turns.len() {
+        turns[gate.worker] = gate.turn;
+    }
+    turns
+}
+
+/// Sixteen nodes run by four workers of which one is stopped: it alone stops, and nothing is lost.
+fn one_stops<R: Abort + AllocGlobal + Copy + Threads + Wait + Sync>(rt: R, gate: StopsAt) {
+    let ran = opposite(rt, &[4, 4], 15).run(4, 50, &gate);
+    let trial = ran.ended(&[gate.stop()], &turns_until(gate));
+    assert!(rt; all_cut(&trial, gate), "{gate:?}");
+    let sent = if gate.turn == 0 { 36 } else { 48 };
+    let totals = trial.settled().totals();
+    assert_eq!(rt; totals.injected, sent, "{gate:?}");
+    assert_eq!(rt; totals.delivered, sent, "{gate:?}");
 }
 
 #[test]
-fn each_worker_stops_at_each_turn(rt: HostRuntime) -> Result<(), Fail> {
-    let alloc = rt.alloc();
+fn each_worker_stops_at_each_turn(rt: HostRuntime) {
     for worker in 0usize..4 {
         for turn in 0u64..=20 {
-            let gate = StopsAt { worker, turn };
-            let RunEnd {
-                mut net,
-                stops,
-                ended,
-            } = one_stopped(&rt, alloc, gate)?;
-            assert_eq!(rt; stops.as_slice(), [gate.stop()].as_slice(), "{gate:?}");
-            let mut wanted = [50u64; 4];
-            wanted[worker] = turn;
-            assert_eq!(rt; ended.as_slice(), wanted.as_slice(), "{gate:?}");
-            assert!(rt; all_cut(alloc, &net, gate)?, "{gate:?}");
-            settle(alloc, &mut net)?;
-            let sent = if turn == 0 { 36 } else { 48 };
-            let totals = net.totals();
-            assert_eq!(rt; totals.injected, sent, "{gate:?}");
-            assert_eq!(rt; totals.delivered, sent, "{gate:?}");
+            one_stops(rt, StopsAt { worker, turn });
         }
     }
-    Ok(())
 }
 
 /// Four words for the second of two nodes, whose worker is stopped at turn 2: the network, of which two words at most
 /// were delivered.
-fn stopped_early<R: Abort + Threads + Wait + Sync>(rt: &R, alloc: Global) -> Result<Net, Fail> {
-    let (net, script) = pair(alloc, 1, &[1, 2, 3, 4])?;
-    let plan = RunPlan {
-        turns: 10,
-        workers: 2,
-    };
+fn stopped_early<R: Abort + AllocGlobal + Copy + Threads + Wait + Sync>(rt: R) -> Trial<R> {
     let gate = StopsAt { worker: 1, turn: 2 };
-    let end = ran(rt, alloc, net, &script, plan, &gate)?;
-    assert_eq!(rt; end.stops.as_slice(), [gate.stop()].as_slice());
-    assert_eq!(rt; end.ended.as_slice(), [10, 2].as_slice());
-    assert!(rt; words_at(alloc, &end.net, 1)?.len() <= 2);
-    let words = words_to(alloc, &end.net, 0, 1)?;
-    assert_eq!(rt; words.as_slice(), [1, 2, 3, 4].as_slice());
-    Ok(end.net)
+    let ran = pair(rt, 1, &[1, 2, 3, 4]).run(2, 10, &gate);
+    let trial = ran.ended(&[gate.stop()], &[10, 2]);
+    assert!(rt; trial.words_at(1).len() <= 2);
+    assert_eq!(rt; trial.words_to(0, 1).as_slice(), [1, 2, 3, 4].as_slice());
+    trial
 }
 
 /// A hundred turns on one thread, without traffic, deliver the four words.
-fn hundred_turns_deliver<R: Abort>(rt: &R, alloc: Global, mut net: Net) -> Result<(), Fail> {
-    let none = Script::empty(alloc);
-    for turn in 0u64..100 {
-        net.turn(turn, &none)?;
-    }
-    let words = words_at(alloc, &net, 1)?;
-    assert_eq!(rt; words.as_slice(), [1, 2, 3, 4].as_slice());
-    Ok(())
+fn hundred_turns_deliver<R: Abort + AllocGlobal + Copy>(trial: Trial<R>) {
+    let mut trial = trial.without_traffic();
+    trial.turns(0, 100);
+    trial.has_words(1, &[1, 2, 3, 4]);
 }
 
 #[test]
-fn a_stopped_network_goes_on(rt: HostRuntime) -> Result<(), Fail> {
-    let alloc = rt.alloc();
-    let net = stopped_early(&rt, alloc)?;
-    hundred_turns_deliver(&rt, alloc, net)
+fn a_stopped_network_goes_on(rt: HostRuntime) {
+    hundred_turns_deliver(stopped_early(rt));
 }
 
 #[test]
-fn a_stopped_network_is_run_again(rt: HostRuntime) -> Result<(), Fail> {
-    let alloc = rt.alloc();
-    let net = stopped_early(&rt, alloc)?;
-    let before = words_at(alloc, &net, 1)?;
-    let plan = RunPlan {
-        turns: 100,
-        workers: 2,
-    };
-    let none = Script::empty(alloc);
-    let end = ran(&rt, alloc, net, &none, plan, &FreeGate)?;
-    assert!(rt; end.stops.is_empty());
-    let after = words_at(alloc, &end.net, 1)?;
+fn a_stopped_network_is_run_again(rt: HostRuntime) {
+    let trial = stopped_early(rt).without_traffic();
+    let before = trial.words_at(1);
+    let trial = trial.run(2, 100, &FreeGate).ended(&[], &[100, 100]);
+    let after = trial.words_at(1);
     assert!(rt; after.as_slice().starts_with(before.as_slice()));
-    hundred_turns_deliver(&rt, alloc, end.net)
+    hundred_turns_deliver(trial);
 }

@@ -3,13 +3,13 @@
 ghost use Rattle.std.specs.Prelude.{◌≡◌, ◌<◌, vec_len};
 ghost use Rattle.worm_split.specs.Joins.{AreParts};
 
-use crate::cases::{lane, net_of, offer};
-use crate::parts::{parts_of, view_of};
-use std::alloc::Global;
+use crate::cases::{lane, pair};
+use crate::parts::{joined, parts_of};
+use crate::trial::Trial;
+use std::process::Abort;
 use std::sync::Wait;
-use std::test::Fail;
-use worm_core::{Held, Net, Place, Script};
-use worm_split::{Part, join};
+use worm_core::{Place, Script};
+use worm_split::Part;
 
 /// The worker takes these turns, from turn 0 on. False where one was ended by a fault.
 fn take_turns<R: Wait>(
@@ -33,32 +33,38 @@ fn take_turns<R: Wait>(
     true
 }
 
-/// A network of two nodes whose buffers hold one flit, and the script of one packet of four words from node 0 to node
-/// 1.
-fn pair(alloc: Global) -> Result<(Net, Script), Fail> {
-    let net = net_of(alloc, &[2], 1, 1)?;
-    let mut script = Script::empty(alloc);
-    script.push(offer(0, 0, 1, &[1, 2, 3, 4])?)?;
-    Ok((net, script))
+/// The network after so many turns of the first of two workers alone.
+fn first_took<R: Abort + AllocGlobal + Copy + Wait>(trial: Trial<R>, turns: u64) -> Trial<R> {
+    let (rt, net, script) = trial.into_inner();
+    let mut parts = parts_of(&rt, net, 2);
+    assert!(rt; take_turns(&rt, &mut parts, 0, turns, &script));
+    let net = joined(&rt, parts);
+    Trial { rt, net, script }
 }
 
-fn is_held(held: Option<&Held>, index: u8, place: Place) -> bool {
-    match held {
-        Some(held) => held.flit.index == index && held.place == place,
-        None => false,
+/// The network after so many turns of the first of two workers, and then as many of the second.
+fn both_took<R: Abort + AllocGlobal + Copy + Wait>(trial: Trial<R>, turns: u64) -> Trial<R> {
+    let (rt, net, script) = trial.into_inner();
+    let mut parts = parts_of(&rt, net, 2);
+    assert!(rt; take_turns(&rt, &mut parts, 0, turns, &script));
+    assert!(rt; take_turns(&rt, &mut parts, 1, turns, &script));
+    let net = joined(&rt, parts);
+    Trial { rt, net, script }
+}
+
+/// The number of credits on the first link, and the channel of the front one.
+fn credits<R: Abort + AllocGlobal + Copy>(trial: Trial<R>) -> (usize, Option<u8>) {
+    let (rt, net, _script) = trial.into_inner();
+    let parts = net.into_parts();
+    match parts.links.get(0) {
+        Some(link) => (link.credit_count(), link.front_credit()),
+        None => panic!(rt; "no link"),
     }
 }
 
 #[test]
-fn a_part_alone_fills_the_link(rt: HostRuntime) -> Result<(), Fail> {
-    let alloc = rt.alloc();
-    let (net, script) = pair(alloc)?;
-    let mut parts = parts_of(alloc, net, 2)?;
-    assert!(rt; take_turns(&rt, &mut parts, 0, 3, &script));
-    let net = join(&rt, parts);
-    let view = view_of(alloc, &net, lane(0, 1))?;
-    assert_eq!(rt; view.delivered, 0);
-    assert_eq!(rt; view.underway.len(), 4);
+fn a_part_alone_fills_the_link(rt: HostRuntime) {
+    let trial = first_took(pair(rt, 1, &[1, 2, 3, 4]), 3);
     let link = Place::Link {
         node: 0,
         port: 1,
@@ -69,37 +75,26 @@ fn a_part_alone_fills_the_link(rt: HostRuntime) -> Result<(), Fail> {
         port: 2,
         vc: 0,
     };
-    assert!(rt; is_held(view.underway.get(0), 0, link));
-    assert!(rt; is_held(view.underway.get(1), 1, buffer));
-    assert!(rt; is_held(view.underway.get(2), 2, Place::Source));
-    assert!(rt; is_held(view.underway.get(3), 3, Place::Source));
-    Ok(())
+    let expected = [
+        (0, link),
+        (1, buffer),
+        (2, Place::Source),
+        (3, Place::Source),
+    ];
+    trial.has_come(lane(0, 1), 0);
+    trial.stands(lane(0, 1), &expected);
 }
 
 #[test]
-fn the_other_part_takes_what_came(rt: HostRuntime) -> Result<(), Fail> {
-    let alloc = rt.alloc();
-    let (net, script) = pair(alloc)?;
-    let mut parts = parts_of(alloc, net, 2)?;
-    assert!(rt; take_turns(&rt, &mut parts, 0, 3, &script));
-    assert!(rt; take_turns(&rt, &mut parts, 1, 3, &script));
-    let net = join(&rt, parts);
-    let view = view_of(alloc, &net, lane(0, 1))?;
-    assert_eq!(rt; view.delivered, 1);
-    assert_eq!(rt; view.underway.len(), 3);
+fn the_other_part_takes_what_came(rt: HostRuntime) {
+    let trial = both_took(pair(rt, 1, &[1, 2, 3, 4]), 3);
     let buffer = Place::Buffer {
         node: 0,
         port: 2,
         vc: 0,
     };
-    assert!(rt; is_held(view.underway.get(0), 1, buffer));
-    assert!(rt; is_held(view.underway.get(1), 2, Place::Source));
-    assert!(rt; is_held(view.underway.get(2), 3, Place::Source));
-    let parts = net.into_parts();
-    let Some(link) = parts.links.get(0) else {
-        return Err("no link".into());
-    };
-    assert_eq!(rt; link.credit_count(), 1);
-    assert_eq!(rt; link.front_credit(), Some(0));
-    Ok(())
+    let expected = [(1, buffer), (2, Place::Source), (3, Place::Source)];
+    trial.has_come(lane(0, 1), 1);
+    trial.stands(lane(0, 1), &expected);
+    assert_eq!(rt; credits(trial), (1, Some(0)));
 }
