@@ -14,6 +14,12 @@ pub const TWO_NODES: &[u8] = b"wormnet 1\nradix 2\ndims 1\ndepth 2\nclass data\n
 /// A packet of two words, from node 0 to node 1 of two.
 pub const TWO_WORDS: &[u8] = b"wormtraffic 1\nsend 0 0 1 data 17 18\nend\n";
 
+/// Four nodes by four.
+pub const SIXTEEN_NODES: &[u8] = b"wormnet 1\nradix 4\ndims 2\ndepth 2\nclass data\nend\n";
+
+/// A word, and then the mark that closes its lane.
+pub const WORD_AND_MARK: &[u8] = b"wormtraffic 1\nsend 0 0 1 data 5\nclose 0 0 1 data\nend\n";
+
 /// The network of a text, or the text's fault.
 pub fn network(text: &[u8]) -> Result<Config, TextFault> {
     read_network(text)

@@ -2,5 +2,6 @@
 
 mod networks;
 mod steps;
+mod uneven;
 mod whole;
 mod writers;

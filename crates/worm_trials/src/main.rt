@@ -3,7 +3,7 @@
 //!
 //! A trial judges each answer by itself: a call is done or says that there was no memory, and what it leaves is what
 //! is worked out, or what its contract says of a refusal. The program ends with 0 where it was so, and then says
-//! `refused` where a call wanted memory, else `whole`. The tests of the crate are of texts and writers.
+//! `refused` where a call wanted memory, else `whole`.
 #![tactic(auto)]
 
 mod asked;
@@ -12,8 +12,6 @@ mod parts;
 mod reports;
 mod seen;
 mod steps;
-#[cfg(test)]
-mod tests;
 mod trials;
 mod turns;
 mod workers;

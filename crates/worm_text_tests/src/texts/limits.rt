@@ -1,7 +1,6 @@
 //! What both readers say of texts that are cut, at their limits and past them, huge, or hold bytes that no text has.
 
-use super::{TWO_NODES, WORD_AND_MARK};
-use crate::cases::{SIXTEEN_NODES, TWO_WORDS, words_of};
+use crate::cases::{SIXTEEN_NODES, TWO_NODES, TWO_WORDS, WORD_AND_MARK};
 use std::alloc::Global;
 use std::process::Abort;
 use std::test::Fail;
@@ -85,7 +84,8 @@ fn traffic_with(alloc: Global, network: &[u8], line: &str) -> Result<Told, Fail>
 
 /// The line that sends the three words of a node to another.
 fn words_line(alloc: Global, src: u8, dst: u8) -> Result<String, Fail> {
-    let [first, second, third] = words_of(src);
+    let first = u32::from(src);
+    let (second, third) = (100 + first, 200 + first);
     Ok(format!(in alloc; "send 0 {src} {dst} data {first} {second} {third}\n")?)
 }
 

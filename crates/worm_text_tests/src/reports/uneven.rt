@@ -1,7 +1,6 @@
 //! Reports for writers that fail after so many bytes, or take now more and now less.
 
-use super::{TWO_NODES, WORD_AND_MARK, after};
-use crate::reports::summary;
+use super::networks::{Asked, Given, after_turns, lane, summary, two_nodes};
 use std::alloc::Global;
 use std::io;
 use std::io::{ErrorKind, Write};
@@ -9,11 +8,6 @@ use std::process::Abort;
 use std::test::Fail;
 use worm_core::Net;
 use worm_report::{ReportFault, Summary, write_report};
-
-/// Two nodes whose buffers hold one flit.
-const SHALLOW: &[u8] = b"wormnet 1\nradix 2\ndims 1\ndepth 1\nclass data\nend\n";
-
-const FOUR_WORDS: &[u8] = b"wormtraffic 1\nsend 0 0 1 data 1 2 3 4\nend\n";
 
 /// The word arrived, and the mark waits.
 const MARK_WAITS: &str = "wormreport 1\n\
@@ -117,17 +111,24 @@ fn goes_out(rt: &impl Abort, alloc: Global, net: &Net, summary: &Summary, wanted
 
 #[test]
 fn a_mark_for_uneven_writers(rt: HostRuntime) -> Result<(), Fail> {
+    let over = lane(0, 1, 0);
+    let asked = [Asked::Packet(over, &[5]), Asked::Mark(over)];
     for (turns, wanted) in [(1, MARK_WAITS), (2, MARK_ARRIVED)] {
-        let net = after(rt.alloc(), TWO_NODES, WORD_AND_MARK, turns)?;
-        goes_out(&rt, rt.alloc(), &net, &summary(turns, 1, 0), wanted);
+        let net = after_turns(rt.alloc(), &two_nodes(&asked), turns)?;
+        goes_out(&rt, rt.alloc(), &net, &summary(turns, 0), wanted);
     }
     Ok(())
 }
 
 #[test]
 fn a_stop_for_uneven_writers(rt: HostRuntime) -> Result<(), Fail> {
-    let net = after(rt.alloc(), SHALLOW, FOUR_WORDS, 2)?;
-    let mut summary = summary(10, 2, 0);
+    // Buffers hold one flit.
+    let asked = [Asked::Packet(lane(0, 1, 0), &[1, 2, 3, 4])];
+    let mut given = two_nodes(&asked);
+    given.depth = 1;
+    let net = after_turns(rt.alloc(), &given, 2)?;
+    let mut summary = summary(10, 0);
+    summary.workers = 2;
     summary.stops[1] = Some(2);
     goes_out(&rt, rt.alloc(), &net, &summary, STOPPED);
     Ok(())
