@@ -6,7 +6,7 @@ mod view;
 
 use crate::cases::lane;
 use crate::steps::{close, feed, grant, offer, route, send, take};
-use crate::trial::{Trial, refusal};
+use crate::trial::{Trial, is_refused};
 use worm_core::{Moved, NetFault, OfferFault, RunSoFar, StepFault, Totals};
 
 #[test]
@@ -63,8 +63,7 @@ fn places_that_are_not_there(rt: HostRuntime) {
         take(0, 2),
     ];
     trial.answers(steps, Err(StepFault::NoSuchPlace));
-    let deep = refusal(rt.alloc(), &[2], 17, &[1]);
-    assert_eq!(rt; deep, Some(NetFault::BadConfig));
+    is_refused(&rt, rt.alloc(), &[2], 17, &[1], NetFault::BadConfig);
 }
 
 #[test]

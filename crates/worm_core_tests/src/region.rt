@@ -6,7 +6,7 @@ use crate::cases::{config, lane, to_offer};
 use std::alloc::Global;
 use std::process::Abort;
 use worm_flit::Lane;
-use worm_region::{Config, Entry, NetFault, Region, Script, ScriptFault};
+use worm_region::{Config, NetFault, Region, Script, ScriptFault};
 
 /// The script of an entry in each of these turns: a word for the node of the turn's number.
 fn script_of_turns(rt: &impl Abort, alloc: Global, turns: &[u8]) -> Script {
@@ -18,9 +18,15 @@ fn script_of_turns(rt: &impl Abort, alloc: Global, turns: &[u8]) -> Script {
     script
 }
 
-/// Why the script does not take the entry.
-fn refusal(script: &mut Script, entry: Entry) -> Option<ScriptFault> {
-    script.push(entry).err()
+/// The script does not take an entry of this turn.
+fn is_past(rt: &impl Abort, script: &mut Script, turn: u8) {
+    let late = to_offer(rt, u32::from(turn), lane(0, turn, 0), &[1]);
+    assert_eq!(rt; script.push(late), Err(ScriptFault::TurnFalls));
+}
+
+/// The script has so many entries.
+fn has_entries(rt: &impl Abort, script: &Script, count: usize) {
+    assert_eq!(rt; script.entries().len(), count);
 }
 
 /// The turn has so many entries.
@@ -28,26 +34,24 @@ fn has_due(rt: &impl Abort, script: &Script, turn: u64, count: usize) {
     assert_eq!(rt; script.due(turn).len(), count, "turn {turn}");
 }
 
-/// The lane of the first entry of the turn.
-fn first_due(script: &Script, turn: u64) -> Option<Lane> {
-    match script.due(turn).first() {
-        Some(entry) => Some(entry.act.lane()),
-        None => None,
-    }
+/// The first entry of the turn is of this lane.
+fn begins_with(rt: &impl Abort, script: &Script, turn: u64, lane: Lane) {
+    let due = script.due(turn);
+    assert!(rt; !due.is_empty());
+    assert_eq!(rt; due[0].act.lane(), lane);
 }
 
 #[test]
 fn the_entries_of_a_turn(rt: HostRuntime) {
     let mut script = script_of_turns(&rt, rt.alloc(), &[0, 2, 2, 5]);
-    let early = refusal(&mut script, to_offer(&rt, 4, lane(0, 4, 0), &[1]));
-    assert_eq!(rt; early, Some(ScriptFault::TurnFalls));
-    assert_eq!(rt; script.entries().len(), 4);
+    is_past(&rt, &mut script, 4);
+    has_entries(&rt, &script, 4);
     has_due(&rt, &script, 0, 1);
     has_due(&rt, &script, 1, 0);
     has_due(&rt, &script, 2, 2);
     has_due(&rt, &script, 5, 1);
+    begins_with(&rt, &script, 5, lane(0, 5, 0));
     has_due(&rt, &script, 1_000_000_000_000, 0);
-    assert_eq!(rt; first_due(&script, 5), Some(lane(0, 5, 0)));
 }
 
 /// A number of the configuration is out of its range.
@@ -77,8 +81,7 @@ fn numbers_out_of_their_range(rt: HostRuntime) {
     are_bad(&rt, alloc, &[2], 2, &[9]);
     unnamed_is_bad(&rt, alloc);
     let widest = Ground::new(rt, &[16, 16], 16, &[2, 2, 2, 2]);
-    assert_eq!(rt; widest.nodes(), 256);
-    assert_eq!(rt; widest.links(), 960);
+    widest.has_size(256, 960);
 }
 
 /// A region under test.
@@ -102,20 +105,18 @@ impl<R: Abort + AllocGlobal + Copy> Ground<R> {
         Ground { rt, region }
     }
 
-    /// The number of nodes.
-    fn nodes(&self) -> u16 {
-        self.region.nodes()
+    /// There are so many nodes and links.
+    fn has_size(&self, nodes: u16, links: u16) {
+        assert_eq!(self.rt; self.region.nodes(), nodes);
+        assert_eq!(self.rt; self.region.fabric().links(), links);
     }
 
-    /// The number of links.
-    fn links(&self) -> u16 {
-        self.region.fabric().links()
-    }
-
-    /// The numbers of nodes, of the terminal port and of the channels of a port, as the lists have them.
-    fn counts(&self) -> (u16, u8, u8) {
+    /// The lists have so many nodes, this terminal port, and so many channels of a port.
+    fn has_lists(&self, nodes: u16, terminal: u8, channels: u8) {
         let fabric = self.region.fabric();
-        (fabric.nodes(), fabric.terminal(), fabric.channels())
+        assert_eq!(self.rt; fabric.nodes(), nodes);
+        assert_eq!(self.rt; fabric.terminal(), terminal);
+        assert_eq!(self.rt; fabric.channels(), channels);
     }
 
     /// The way on from the node to the other: the port out of it, the next node and the port into that.
@@ -134,12 +135,13 @@ impl<R: Abort + AllocGlobal + Copy> Ground<R> {
         assert_eq!(self.rt; self.way_on(node, dst), way);
     }
 
-    /// The first channel of the class, and the first past it.
-    fn channels_of(&self, class: u8) -> (u8, u8) {
+    /// These are the first channel of the class, and the first past it.
+    fn has_channels(&self, class: u8, first: u8, end: u8) {
         let fabric = self.region.fabric();
         assert!(self.rt; class < fabric.classes());
         let channels = fabric.channels_of(class);
-        (channels.start, channels.end)
+        assert_eq!(self.rt; channels.start, first);
+        assert_eq!(self.rt; channels.end, end);
     }
 
     /// The lane's source is offered a packet of these words, and accepts it.
@@ -149,12 +151,12 @@ impl<R: Abort + AllocGlobal + Copy> Ground<R> {
         answer.expect(&self.rt, "an accepted packet");
     }
 
-    /// Where the node may send from once it is prepared: the first two places.
-    fn sendable(&mut self, node: u8) -> [Option<(u8, u8)>; 2] {
+    /// Once the node is prepared it may send from this place alone; none where it may not send.
+    fn may_send(&mut self, node: u8, place: Option<(u8, u8)>) {
         assert!(self.rt; u16::from(node) < self.region.nodes());
         let mut granted = self.region.prepare(node);
-        let first = granted.pop_first();
-        [first, granted.pop_first()]
+        assert_eq!(self.rt; granted.pop_first(), place);
+        assert_eq!(self.rt; granted.pop_first(), None);
     }
 }
 
@@ -162,11 +164,11 @@ impl<R: Abort + AllocGlobal + Copy> Ground<R> {
 #[test]
 fn where_a_route_goes_on(rt: HostRuntime) {
     let ground = Ground::new(rt, &[3, 2], 2, &[1, 3]);
-    assert_eq!(rt; ground.counts(), (6, 4, 4));
+    ground.has_lists(6, 4, 4);
     ground.goes_on(0, 5, Some((1, 1, 0)));
     ground.goes_on(2, 5, Some((3, 5, 2)));
     ground.goes_on(5, 5, None);
-    assert_eq!(rt; ground.channels_of(1), (1, 4));
+    ground.has_channels(1, 1, 4);
 }
 
 /// A packet that its source accepted is fed, routed and granted a channel by one call, and its head may be sent from
@@ -175,6 +177,6 @@ fn where_a_route_goes_on(rt: HostRuntime) {
 fn what_a_node_may_send(rt: HostRuntime) {
     let mut ground = Ground::new(rt, &[2], 2, &[1]);
     ground.offer(lane(0, 1, 0), &[7, 8]);
-    assert_eq!(rt; ground.sendable(0), [Some((2, 0)), None]);
-    assert_eq!(rt; ground.sendable(1), [None, None]);
+    ground.may_send(0, Some((2, 0)));
+    ground.may_send(1, None);
 }

@@ -23,9 +23,17 @@ pub fn made(alloc: Global, config: &Config) -> Result<Net, NetFault> {
     Net::new(alloc, config)
 }
 
-/// Why no network with these radices, depth and classes of so many channels is made, if none is.
-pub fn refusal(alloc: Global, radices: &[u8], depth: u8, channels: &[u8]) -> Option<NetFault> {
-    made(alloc, &config(radices, depth, channels)).err()
+/// No network with these radices, depth and classes of so many channels is made, for this fault.
+pub fn is_refused(
+    rt: &impl Abort,
+    alloc: Global,
+    radices: &[u8],
+    depth: u8,
+    channels: &[u8],
+    fault: NetFault,
+) {
+    let refusal = made(alloc, &config(radices, depth, channels)).err();
+    assert_eq!(rt; refusal, Some(fault));
 }
 
 /// What the parts of a network are expected to be.
@@ -164,9 +172,9 @@ impl<R: Abort + AllocGlobal + Copy> Trial<R> {
         self.net.is_drained()
     }
 
-    /// The number of nodes.
-    pub fn nodes(&self) -> u16 {
-        self.net.nodes()
+    /// There are so many nodes.
+    pub fn has_nodes(&self, count: u16) {
+        assert_eq!(self.rt; self.net.nodes(), count);
     }
 
     /// The words of the flits that arrived at the node.
@@ -229,9 +237,9 @@ impl<R: Abort + AllocGlobal + Copy> Trial<R> {
         assert_eq!(self.rt; self.view(lane).underway.len(), count);
     }
 
-    /// The number of classes that are named.
-    pub fn named(&self) -> usize {
-        self.net.config().classes.len()
+    /// So many classes have names.
+    pub fn has_names(&self, count: usize) {
+        assert_eq!(self.rt; self.net.config().classes.len(), count);
     }
 
     /// The same, once the network was taken apart into parts of this shape and put together again.

@@ -18,6 +18,6 @@ fn parts_make_the_same_network(rt: HostRuntime) {
         room: 6,
     };
     let trial = trial.through_parts(&shape);
-    assert_eq!(rt; trial.named(), 2);
+    trial.has_names(2);
     trial.has_under_way(far, 1);
 }
