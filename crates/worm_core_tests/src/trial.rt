@@ -48,15 +48,22 @@ pub struct Shape<'a> {
     pub room: u16,
 }
 
-/// The parts are as expected.
-fn have_shape(rt: &impl Abort, parts: &NetParts, shape: &Shape) {
+/// The parts were made from what is expected.
+fn have_config(rt: &impl Abort, parts: &NetParts, shape: &Shape) {
     assert_eq!(rt; parts.config.radices.as_slice(), shape.radices);
     assert_eq!(rt; parts.config.channels.as_slice(), shape.channels);
     assert_eq!(rt; parts.config.depth, shape.depth);
+}
+
+/// The parts are as many as expected.
+fn have_counts(rt: &impl Abort, parts: &NetParts, shape: &Shape) {
     assert_eq!(rt; parts.nodes.len(), shape.nodes);
     assert_eq!(rt; parts.links.len(), shape.links);
-    let room = shape.room;
-    assert!(rt; parts.links.iter().all(|link| link.room() == room));
+}
+
+/// Whether each link has room for so many flits.
+fn have_room(parts: &NetParts, room: u16) -> bool {
+    parts.links.iter().all(|link| link.room() == room)
 }
 
 /// A network and the script of its turns.
@@ -246,7 +253,9 @@ impl<R: Abort + AllocGlobal + Copy> Trial<R> {
     pub fn through_parts(self, shape: &Shape) -> Trial<R> {
         let Trial { rt, net, script } = self;
         let parts = net.into_parts();
-        have_shape(&rt, &parts, shape);
+        have_config(&rt, &parts, shape);
+        have_counts(&rt, &parts, shape);
+        assert!(rt; have_room(&parts, shape.room));
         let net = Net::from_parts(parts);
         Trial { rt, net, script }
     }
