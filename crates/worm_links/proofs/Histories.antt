@@ -6,24 +6,10 @@ use Rattle.std.proofs.lemmas.List.{map-append, length-map}
 use mathlib.Core.Option.{some, some-ne-none, some-injective}
 use lib.ListN.{get_elem?}
 use Rattle.crossbeam_queue.specs.Fifo.{Pushes, Pops, Forks, Merges, Learns}
-use Rattle.crossbeam_queue.specs.Passes.{Pass}
 use Rattle.crossbeam_queue.proofs.Lists.{at_set, at_snoc}
 use Rattle.worm_links.specs.declared.history.Known.{Known}
-use Rattle.worm_links.specs.History.{queue_of, known, sender, taker, whole, Fits, IsKept, Pushed, Popped, HoldsSent}
+use Rattle.worm_links.specs.History.{known, sender, taker, whole, Fits, IsKept, Pushed, Popped, HoldsSent}
 use Rattle.worm_links.specs.History.{HoldsRest}
-
--- passes of one queue have one name
-pub same_name : {T V : Type 0} (p q : Pass T V) → p.table_id ≡ q.table_id → queue_of p ≡ queue_of q
-same_name p q e =
-    λ i. record {
-      words = (e i).words;
-      slots = (e i).slots;
-      views_name = (e i).views_name;
-      atom = (e i).atom;
-      block = (e i).block;
-      offset = (e i).offset;
-      slot_names = (e i).slot_names;
-    }
 
 off : false ≡ true → ⊥
 off e = true≢false (sym e)

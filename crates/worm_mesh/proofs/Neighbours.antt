@@ -90,15 +90,6 @@ no_node ks x port n = and_left _ _ (le-ltb x (node_count ks) n)
 pub no_port : (ks : List ℕ) (x port : ℕ) → 2 * length ks ≤ port → has_neighbour ks x port ≡ false
 no_port ks x port h = and_right (ltb x (node_count ks)) _ (and_left _ _ (le-ltb port (2 * length ks) h))
 
-pub no_up : (ks : List ℕ) (x port : ℕ) → port % 2 ≡ 1 → get_or ks (port / 2) 0 ≤ digit_of ks x (port / 2) + 1
-    → has_neighbour ks x port ≡ false
-no_up ks x port odd r =
-    and_right (ltb x (node_count ks)) _ (and_right (ltb port (2 * length ks)) _ (rw odd (le-ltb _ _ r)))
-
-pub no_down : (ks : List ℕ) (x port : ℕ) → port % 2 ≡ 0 → digit_of ks x (port / 2) ≤ 0 → has_neighbour ks x port ≡ false
-no_down ks x port even r =
-    and_right (ltb x (node_count ks)) _ (and_right (ltb port (2 * length ks)) _ (rw even (le-ltb _ _ r)))
-
 odd_or_even : (port : ℕ) → (port % 2 ≡ 0) ⊎ (port % 2 ≡ 1)
 odd_or_even port = ⊎_elim inl (λ ne. inr (omega arith)) (cases_eq (port % 2) 0)
 

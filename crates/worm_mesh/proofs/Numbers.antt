@@ -14,9 +14,6 @@ count_below_yes test n e = rw (add-one, e) refl
 pub count_below_no : (test : ℕ → Bool) (n : ℕ) → test n ≡ false → count_below test (n + 1) ≡ count_below test n
 count_below_no test n e = rw (add-one, e) (omega arith)
 
-pub sum_below_more : (f : ℕ → ℕ) (n : ℕ) → sum_below f (n + 1) ≡ sum_below f n + f n
-sum_below_more f n = rw add-one refl
-
 pub count_below-le : (test : ℕ → Bool) (n : ℕ) → count_below test n ≤ n
 count_below-le test zero = omega arith
 count_below-le test (suc n) = elim (test n) as

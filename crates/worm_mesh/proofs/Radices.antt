@@ -1,13 +1,10 @@
 -- The limits on radices: what is stored is small, and what is refused is no mesh.
-use Rattle.std.proofs.Common.{ℕ, ◌≡◌, ◌-◌, ◌*◌, ◌^◌, ◌<◌, ◌≤◌, ⊎_elim, List, take, drop, replicate, arith}
+use Rattle.std.proofs.Common.{ℕ, ◌≡◌, ◌-◌, ◌*◌, ◌^◌, ◌<◌, ◌≤◌, List, take, drop, replicate, arith}
 use Rattle.std.proofs.Common.{take-append-drop}
 use Rattle.std.specs.Prelude.{All}
 use Rattle.std.proofs.lemmas.Nat.{mul-le}
 use Rattle.std.proofs.lemmas.List.Elements.{All-append, All-replicate, All-weaker}
-use Rattle.worm_mesh.specs.Address.{IsRadix, AreRadices}
-use Rattle.worm_mesh.specs.Faults.{IsFault}
-use Rattle.worm_mesh.specs.declared.mesh.MeshFault.{MeshFault}
-use Rattle.worm_mesh.specs.declared.mesh.MeshFault.TheVariants.{Radix, Dims, TooManyNodes}
+use Rattle.worm_mesh.specs.Address.{IsRadix}
 
 abbrev pub IsSmall : ℕ → Type 0
 IsSmall k = (1 ≤ k) × (k ≤ 16)
@@ -22,15 +19,3 @@ small_stored xs dims h e =
 
 pub product_small : (a b c : ℕ) → a ≤ 16 → b ≤ 16 → c ≤ 16 → a * b * c < 2 ^ 16
 product_small a b c p q r = omega (arith, mul-le a b 16 16 p q, mul-le (a * b) c 256 16 (mul-le a b 16 16 p q) r)
-
--- what is refused keeps not all limits
-pub no_IsMesh : (ks : List ℕ) (fault : MeshFault) → IsFault ks fault → AreRadices ks → ⊥
-no_IsMesh ks Radix h mesh = h mesh.radices
-no_IsMesh ks Dims h mesh =
-    let some = mesh.some_dims in
-    let few = mesh.few_dims in
-    ⊎_elim (λ none. omega arith) (λ many. omega arith) h.1
-no_IsMesh ks TooManyNodes h mesh =
-    let few = mesh.few_nodes in
-    let many = h.3 in
-    omega arith

@@ -2,8 +2,7 @@
 -- of those kept as still.
 use Rattle.std.proofs.Common.{◌≡◌, ℕ, ◌+◌, ◌++◌, ◌∷◌, [], ◌<◌, Bool, true, false, List, length, set, get_or, Option}
 use Rattle.std.proofs.Common.{Some, None, inl, inr, arith, ap, refl, ◌∙◌, length-append}
-use Rattle.std.specs.Prelude.{Result, Ok, Err, IfOk, OnOk, OnErr, is_ok, if◌then◌else◌}
-use Rattle.worm_term.specs.declared.fault.OfferFault.{OfferFault}
+use Rattle.std.specs.Prelude.{if◌then◌else◌}
 use Rattle.std.specs.List.{sum_by}
 use Rattle.std.proofs.lemmas.List.{set_past}
 use Rattle.std.proofs.lemmas.List.Sums.{sum_by-set}
@@ -149,16 +148,3 @@ module _ (nodes : List Node) (kept : List Bool) (count : Option ℕ) (i j x : �
       accepted_new 0 (same.0 ∙ omega arith) ∙ omega arith in
       let taken : taken_in (set nodes j m) ≡ taken_in nodes = taken_new 0 (same.1 ∙ omega arith) ∙ omega arith in
       (still_new, rw (accepted, taken) knows.1)
-
--- what an answer says of its two cases
-pub on_ok : (r : Result ℕ OfferFault) (P : Type 0) → OnOk r P → is_ok r ≡ true → P
-on_ok (Ok n) P holds is = holds
-on_ok (Err fault) P holds is = absurd (cc)
-
-pub if_ok : (r : Result ℕ OfferFault) (P : ℕ → Type 0) → IfOk r P → is_ok r ≡ true → (n : ℕ) × P n
-if_ok (Ok n) P holds is = (n, holds)
-if_ok (Err fault) P holds is = absurd (cc)
-
-pub on_err : (r : Result ℕ OfferFault) (P : Type 0) → OnErr r P → is_ok r ≡ false → P
-on_err (Ok n) P holds is = absurd (cc)
-on_err (Err fault) P holds is = holds

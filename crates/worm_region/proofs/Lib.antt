@@ -34,6 +34,7 @@ pub mod Turning
 pub mod Skipping
 pub mod Routing
 pub mod Resting
+pub mod Covering
 pub mod CountsUnderWay
 pub mod StaysAtNode
 pub mod Allocating

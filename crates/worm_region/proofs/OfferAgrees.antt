@@ -271,7 +271,7 @@ err_answers s x lane is_last step after_it {own} net there judges (Some fault) e
 
 answers : (s : NetState) (x : ℕ) (lane : Lane) (is_last : Bool) (step : Step) (after_it : NetState) →
     {own : ℕ → Bool} → IsWorkableBy own s → IsThere (shape s) step → Judges own s x lane is_last step after_it
-    → (answer : Result ℕ OfferFault) (new : NetState)
+    → (answer : Result (Unit {0}) OfferFault) (new : NetState)
     → OnOk answer ((refusal (source_at s x) lane is_last ≡ None) × (new ≡ after_it)) →
     IfErr answer (λ e. e ≡ unwrap_or (refusal (source_at s x) lane is_last) NoRoom) → OnErr answer (new ≡ s)
     → Outcome own s step (accepted_of answer) new
@@ -385,7 +385,7 @@ module _ (s : NetState) (x : ℕ) {own : ℕ → Bool} (net : IsWorkableBy own s
       }
 
   pub offer_answers : (p : PacketState) → 1 ≤ length p.words → length p.words ≤ 32 → x < (shape s).nodes →
-      (answer : Result ℕ OfferFault) (new : NetState)
+      (answer : Result (Unit {0}) OfferFault) (new : NetState)
       → OnOk answer ((refusal (source_at s x) p.lane false ≡ None) ×
       (new ≡ with_source s x (after_offer (source_at s x) p))) →
       IfErr answer (λ e. e ≡ unwrap_or (refusal (source_at s x) p.lane false) NoRoom) → OnErr answer (new ≡ s)
@@ -395,7 +395,7 @@ module _ (s : NetState) (x : ℕ) {own : ℕ → Bool} (net : IsWorkableBy own s
       answers s x p.lane false (Offer x p.lane p.words) (with_source s x (after_offer (source_at s x) p)) net there
       (offer_judges p some few there) answer new ok fault err
 
-  pub close_answers : (lane : Lane) → x < (shape s).nodes → (answer : Result ℕ OfferFault) (new : NetState)
+  pub close_answers : (lane : Lane) → x < (shape s).nodes → (answer : Result (Unit {0}) OfferFault) (new : NetState)
       → OnOk answer ((refusal (source_at s x) lane true ≡ None) ×
       (new ≡ with_source s x (after_close (source_at s x) lane))) →
       IfErr answer (λ e. e ≡ unwrap_or (refusal (source_at s x) lane true) NoRoom) → OnErr answer (new ≡ s)

@@ -1,7 +1,7 @@
 -- Where nothing can come into a node and its router is at rest, what the node does in a turn changes nothing.
 use Rattle.std.proofs.Common.{◌≡◌, ℕ, zero, suc, ◌*◌, ◌<◌, ◌≤◌, true, false, List, [], ◌∷◌, length, replicate, get_or}
 use Rattle.std.proofs.Common.{Option, Some, None, Ok, Err, inr, refl, arith, ap, sym, subst, ◌∙◌}
-use Rattle.std.specs.Prelude.{IfNone, IfSome, IsSome, option_map}
+use Rattle.std.specs.Prelude.{IfSome, IsSome, option_map}
 use Rattle.std.specs.List.{flat_map}
 use Rattle.std.specs.Option.{option_to_list}
 use Rattle.std.proofs.lemmas.List.{get_or_default}
@@ -62,25 +62,6 @@ feed_still : (s : NetState) (x k : ℕ) → IsWorkable s → x < node_count s.me
     Attempts (Feed x k) s None s
 unfolding net_shape
 feed_still s x k net x_in k_in nothing = (Ok Idle, (feed_answers s x k net (x_in, k_in) false (sym nothing)).1, refl)
-
--- the classes that are passed where the next one to feed is looked for
-
-abbrev pub FeedsNone : NetState → ℕ → ℕ → Type 0
-FeedsNone s x k = can_enter (router_at s x) (terminal (router_at s x)) (front_of (source_at s x) k) ≡ false
-
-pub feeds_before : (s : NetState) (x from : ℕ) (o : Option ℕ) → IsWorkable s → x < node_count s.mesh →
-    IfSome o (λ class. (from ≤ class) × (class < length s.channels) × (class < 4))
-    → IfSome o (λ class. (k : ℕ) → from ≤ k → k < class → FeedsNone s x k) →
-    IfSome o (λ class. (k : ℕ) → from ≤ k → k < class → Attempts (Feed x k) s None s)
-feeds_before s x from None net x_in there none = tt
-feeds_before s x from (Some class) net x_in there none =
-    λ k above below. feed_still s x k net x_in (let within = there.1 in omega arith) (none k above below)
-
-pub feeds_past : (s : NetState) (x from : ℕ) (o : Option ℕ) → IsWorkable s → x < node_count s.mesh
-    → IfNone o ((k : ℕ) → from ≤ k → k < length s.channels → FeedsNone s x k) →
-    IfNone o ((k : ℕ) → from ≤ k → k < length s.channels → Attempts (Feed x k) s None s)
-feeds_past s x from None net x_in none = λ k above below. feed_still s x k net x_in below (none k above below)
-feeds_past s x from (Some class) net x_in none = tt
 
 -- the allocators
 

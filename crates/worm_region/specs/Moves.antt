@@ -13,6 +13,7 @@ use Rattle.worm_vcalloc.specs.ChannelSet.{has}
 use Rattle.worm_term.specs.Sink.{after_take as after_sink}
 use Rattle.worm_term.specs.Source.{front_of, after_offer, after_close, after_fed}
 use Rattle.worm_theory.specs.Steps.{Step, Offer, CloseLane, Feed, Route, Grant, Send, Take, GiveCredit, TakeCredit}
+use Rattle.worm_wires.specs.Ports.{has as has_port}
 use Rattle.worm_wires.specs.Wiring.{into_from}
 use Rattle.worm_region.specs.State.{NetState, node_at, router_at, source_at, link_at, with_node, with_router}
 use Rattle.worm_region.specs.State.{with_source, with_link}
@@ -135,11 +136,23 @@ after_getting s x o (Some c) =
     with_link (with_router s x (after_credit (router_at s x) o c)) (link_out s x o)
     (record (link_at s (link_out s x o)) { credits = drop 1 (link_at s (link_out s x o)).credits })
 
+-- by the port no credit comes back, or no flit comes in
+abbrev pub NoCredit : NetState → ℕ → ℕ → Type 0
+NoCredit s x p = IsSome (neighbour_of s.mesh x p) → front_credit s x p ≡ None
+
+abbrev pub NoFlit : NetState → ℕ → ℕ → Type 0
+NoFlit s x p = IsSome (neighbour_of s.mesh x p) → front_into s x p ≡ None
+
+-- a set of the mesh ports, of which there are so many, and at each that is left out there is none
+pub record Covers (NoneAt : ℕ → Type 0) (ports set : ℕ) : Type 0 where
+  pub rest : (p : ℕ) → p < ports → has_port set p ≡ false → NoneAt p
+  pub places : (p : ℕ) → p < 8 → has_port set p ≡ true → p < ports
+
 -- Nothing can come into a node: no credit is on a link out of it, no flit on a link into it, and its source has no
 -- flit for which there is room.
 pub record NothingComes (s : NetState) (x : ℕ) : Type 0 where
-  pub no_credit : (p : ℕ) → IsSome (neighbour_of s.mesh x p) → front_credit s x p ≡ None
-  pub no_flit : (p : ℕ) → IsSome (neighbour_of s.mesh x p) → front_into s x p ≡ None
+  pub no_credit : (p : ℕ) → NoCredit s x p
+  pub no_flit : (p : ℕ) → NoFlit s x p
   pub no_feed : (k : ℕ) → k < length s.channels →
       can_enter (router_at s x) (terminal (router_at s x)) (front_of (source_at s x) k) ≡ false
 

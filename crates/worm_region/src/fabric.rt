@@ -196,7 +196,7 @@ impl Fabric {
     }
 
     /// Hands the packet to the node's source.
-    pub(crate) fn offer(&mut self, node: u8, packet: &Packet) -> Result<u16, OfferFault>
+    pub(crate) fn offer(&mut self, node: u8, packet: &Packet) -> Result<(), OfferFault>
         requires { node < length self.old.nodes }
         ensures ok { OnOk result ((refusal (source_at self.old node) packet.now.lane false ≡ None) ×
             (self.new ≡ with_source self.old node (after_offer (source_at self.old node) packet.now))) }
@@ -210,7 +210,7 @@ impl Fabric {
     }
 
     /// Hands the lane's close mark to the node's source.
-    pub(crate) fn close(&mut self, node: u8, lane: Lane) -> Result<u16, OfferFault>
+    pub(crate) fn close(&mut self, node: u8, lane: Lane) -> Result<(), OfferFault>
         requires { node < length self.old.nodes }
         ensures ok { OnOk result ((refusal (source_at self.old node) lane true ≡ None) ×
             (self.new ≡ with_source self.old node (after_close (source_at self.old node) lane))) }

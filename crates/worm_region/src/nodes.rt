@@ -192,7 +192,7 @@ impl Nodes {
     }
 
     /// Hands the packet to the node's source.
-    pub fn offer(&mut self, node: u8, packet: &Packet) -> Result<u16, OfferFault>
+    pub fn offer(&mut self, node: u8, packet: &Packet) -> Result<(), OfferFault>
         requires { node < length self.old }
         ensures ok { OnOk result ((refusal (nth_node self.old node).source packet.now.lane false ≡ None)
             × (self.new ≡ put_source self.old node (after_offer (nth_node self.old node).source packet.now))) }
@@ -206,15 +206,13 @@ impl Nodes {
         let flits = packet.words().len() as u64;
         self.resting[usize::from(node)] = false;
         let here = &mut self.list[usize::from(node)];
-        let answer = here.source.offer(packet);
-        if answer.is_ok() {
-            self.under_way = more(self.under_way, flits);
-        }
-        answer
+        let _number = here.source.offer(packet)?;
+        self.under_way = more(self.under_way, flits);
+        Ok(())
     }
 
     /// Hands the lane's close mark to the node's source.
-    pub fn close(&mut self, node: u8, lane: Lane) -> Result<u16, OfferFault>
+    pub fn close(&mut self, node: u8, lane: Lane) -> Result<(), OfferFault>
         requires { node < length self.old }
         ensures ok { OnOk result ((refusal (nth_node self.old node).source lane true ≡ None)
             × (self.new ≡ put_source self.old node (after_close (nth_node self.old node).source lane))) }
@@ -224,10 +222,8 @@ impl Nodes {
     {
         self.resting[usize::from(node)] = false;
         let here = &mut self.list[usize::from(node)];
-        let answer = here.source.close(lane);
-        if answer.is_ok() {
-            self.under_way = more(self.under_way, 1);
-        }
-        answer
+        let _number = here.source.close(lane)?;
+        self.under_way = more(self.under_way, 1);
+        Ok(())
     }
 }

@@ -1,6 +1,6 @@
 //! The lists of a network with what its moves need of them, and the moves: small steps, each of which keeps that.
 
-ghost use Rattle.std.specs.Prelude.{None, Some, ◌≡◌, ◌≤◌, ◌<◌, ◌*◌, ℕ, Result, IsTrue, IfNone, Ok};
+ghost use Rattle.std.specs.Prelude.{None, Some, ◌≡◌, ◌≤◌, ◌<◌, ◌*◌, ℕ, Result, IsTrue, Ok};
 ghost use Rattle.std.specs.Prelude.{sum, length, IfSome, IfOk, Err, ◌↔◌};
 ghost use Rattle.worm_theory.specs.Steps.{IsThere, Step as Event};
 ghost use Rattle.worm_region.specs.Runs.{event_of};
@@ -16,7 +16,7 @@ ghost use Rattle.worm_mesh.specs.Address.{node_count};
 ghost use Rattle.worm_router.specs.Router.{input_at, leaving};
 ghost use Rattle.worm_router.specs.Rest.{IsAtRest};
 ghost use Rattle.worm_router.specs.Allocation.{after_allocate};
-ghost use Rattle.worm_region.specs.Moves.{AreOwing, RoutesWithin};
+ghost use Rattle.worm_region.specs.Moves.{AreOwing, Covers, NoCredit, NoFlit, RoutesWithin};
 
 mod edges;
 mod parts;
@@ -30,7 +30,7 @@ use worm_flit::{Lane, Packet, are_channels};
 use worm_mesh::Mesh;
 use worm_term::OfferFault;
 use worm_vcalloc::ChannelSet;
-use worm_wires::PortLinks;
+use worm_wires::{PortLinks, PortSet};
 
 /// The nodes and links of a network, some nodes or all owned by whoever has it: what a move of a node needs holds of
 /// it, and each move keeps that. Of the nodes that are not owned it has others in their places, which whoever has it
@@ -57,11 +57,11 @@ fn moved(done: bool) -> Moved
     if done { Moved::Done } else { Moved::Idle }
 }
 
-fn accepted(answer: Result<u16, OfferFault>) -> Result<Moved, StepFault>
+fn accepted(answer: Result<(), OfferFault>) -> Result<Moved, StepFault>
     ensures { result ≡ accepted_of answer }
 {
     match answer {
-        Ok(_number) => Ok(Moved::Done),
+        Ok(()) => Ok(Moved::Done),
         Err(OfferFault::NoMemory) => Err(StepFault::NoMemory),
         Err(fault) => Err(StepFault::Refused(fault)),
     }
@@ -171,42 +171,20 @@ impl Region {
         self.fabric.node(node).unrouted()
     }
 
-    /// A mesh port from this one on by which a credit may come in; before it there is none to take, and where there is
-    /// none, past it.
-    pub(crate) fn next_credit(&self, node: u8, from: u8) -> Option<u8>
-        requires node { node < node_count self.now.mesh }
-        requires from { from ≤ 6 }
-        ensures mesh_port { IfSome result (λ port. (from ≤ port) × (port < 2 * length self.now.mesh) × (port < 6)) }
-        ensures before { IfSome result (λ port. (p : ℕ) → from ≤ p → p < port →
-            Attempts (Event.TakeCredit node p) self.now None self.now) }
-        ensures none { IfNone result ((p : ℕ) → from ≤ p → Attempts (Event.TakeCredit node p) self.now None self.now) }
+    /// The mesh ports of the node by which a credit comes back.
+    pub(crate) fn credits_in(&self, node: u8) -> PortSet
+        ensures ports { Covers (NoCredit self.now node) (2 * length self.now.mesh) result }
+        ensures sound { IsWorkable self.now }
     {
-        self.fabric.wires().next_credit(node, from)
+        self.fabric.wires().credits_in(node)
     }
 
-    /// The same of flits.
-    pub(crate) fn next_flit(&self, node: u8, from: u8) -> Option<u8>
-        requires node { node < node_count self.now.mesh }
-        requires from { from ≤ 6 }
-        ensures mesh_port { IfSome result (λ port. (from ≤ port) × (port < 2 * length self.now.mesh) × (port < 6)) }
-        ensures before { IfSome result (λ port. (p : ℕ) → from ≤ p → p < port →
-            Attempts (Event.Take node p) self.now None self.now) }
-        ensures none { IfNone result ((p : ℕ) → from ≤ p → Attempts (Event.Take node p) self.now None self.now) }
+    /// The mesh ports of the node by which a flit comes in.
+    pub(crate) fn flits_in(&self, node: u8) -> PortSet
+        ensures ports { Covers (NoFlit self.now node) (2 * length self.now.mesh) result }
+        ensures sound { IsWorkable self.now }
     {
-        self.fabric.wires().next_flit(node, from)
-    }
-
-    /// A class from this one on of which the node may feed a flit; before it there is none to feed, and where there
-    /// is none, past it. Where none can be fed this may not be found.
-    pub(crate) fn next_class(&self, node: u8, from: u8) -> Option<u8>
-        requires { node < node_count self.now.mesh }
-        ensures class { IfSome result (λ class. (from ≤ class) × (class < length self.now.channels) × (class < 4)) }
-        ensures before { IfSome result (λ class. (k : ℕ) → from ≤ k → k < class →
-            Attempts (Event.Feed node k) self.now None self.now) }
-        ensures none { IfNone result ((k : ℕ) → from ≤ k → k < length self.now.channels →
-            Attempts (Event.Feed node k) self.now None self.now) }
-    {
-        self.fabric.next_class(node, from)
+        self.fabric.wires().flits_in(node)
     }
 
     /// The channels of the node that owe a credit.

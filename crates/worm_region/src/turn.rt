@@ -12,8 +12,8 @@ ghost use Rattle.worm_router.specs.Router.{input_at, width};
 ghost use Rattle.worm_swalloc.specs.SwAlloc.{AreGranted};
 ghost use Rattle.worm_swalloc.specs.declared.grant.SwGrant.{SwGrant};
 ghost use Rattle.worm_region.specs.State.{router_at};
-ghost use Rattle.worm_theory.specs.Steps.{Route};
-ghost use Rattle.worm_region.specs.Moves.{OwesTheSame, RoutesTheSame};
+ghost use Rattle.worm_theory.specs.Steps.{Route, Take, TakeCredit};
+ghost use Rattle.worm_region.specs.Moves.{NoCredit, NoFlit, OwesTheSame, RoutesTheSame};
 ghost use Rattle.worm_region.specs.Turns.{Does, ForEach, ReachesAt, all_nodes, ask, fault_of, lowest_owed};
 ghost use Rattle.worm_region.specs.Turns.{AsksSourceBy, ComesInBy, FeedsClassesBy, GivesCreditBy, GivesCreditsBy};
 ghost use Rattle.worm_region.specs.Turns.{NodePassesBy, NodeTurnBy, RoutesChannelsBy, SendsBy, TakesCreditsBy};
@@ -84,16 +84,37 @@ impl Region {
         Ok(())
     }
 
+    /// Takes the credit that comes back by the port, and by no other.
+    fn take_credit(&mut self, node: u8, port: u8)
+        ensures taken { Does (Attempts (TakeCredit node port)) self.old None self.new }
+        ensures others { (p : ℕ) → (p ≡ port → ⊥) → NoCredit self.old node p → NoCredit self.new node p }
+        ensures sound { IsWorkable self.new }
+    {
+        self.recall();
+        let _moved = self.get(node, port);
+        self.recall();
+    }
+
     /// Takes a credit from each link out of the node, ports rising.
     fn take_credits(&mut self, node: u8)
         requires { node < node_count self.old.mesh }
         ensures { Does (TakesCreditsBy Attempts node) self.old None self.new }
     {
-        let mut from = 0;
-        while let Some(port) = self.next_credit(node, from) {
-            let _moved = self.get(node, port);
-            from = port + 1;
+        let mut left = self.credits_in(node);
+        while let Some(port) = left.pop_first() {
+            self.take_credit(node, port);
         }
+    }
+
+    /// Takes the flit that comes in by the port, and by no other.
+    fn take_flit(&mut self, node: u8, port: u8)
+        ensures taken { Does (Attempts (Take node port)) self.old None self.new }
+        ensures others { (p : ℕ) → (p ≡ port → ⊥) → NoFlit self.old node p → NoFlit self.new node p }
+        ensures sound { IsWorkable self.new }
+    {
+        self.recall();
+        let _moved = self.take(node, port);
+        self.recall();
     }
 
     /// Takes a flit from each link into the node, ports rising.
@@ -101,10 +122,9 @@ impl Region {
         requires { node < node_count self.old.mesh }
         ensures { Does (TakesFlitsBy Attempts node) self.old None self.new }
     {
-        let mut from = 0;
-        while let Some(port) = self.next_flit(node, from) {
-            let _moved = self.take(node, port);
-            from = port + 1;
+        let mut left = self.flits_in(node);
+        while let Some(port) = left.pop_first() {
+            self.take_flit(node, port);
         }
     }
 
@@ -113,10 +133,8 @@ impl Region {
         requires { node < node_count self.old.mesh }
         ensures { Does (FeedsClassesBy Attempts node) self.old None self.new }
     {
-        let mut from = 0;
-        while let Some(class) = self.next_class(node, from) {
+        for class in 0..self.fabric().classes() {
             let _fed = self.feed_there(node, class);
-            from = class + 1;
         }
     }
 

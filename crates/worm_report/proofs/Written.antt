@@ -61,21 +61,6 @@ if_fault : (r : Answer) (P : Type 0) → P → IfErr r (λ fault. fault ≡ NoMe
 if_fault (Ok u) P h = tt
 if_fault (Err x) P h = λ want. h
 
-is_write : (P : Type 0) → Write ≡ NoMemory → P
-is_write P e = absurd (cc)
-
--- so many of the bytes were given, and then the writer failed
-pub given_part : {a b : Option (List ℕ)} (bytes front rest : List ℕ) → bytes ≡ front ++ rest → Appends a b front
-    → Writes a b (Err Write) bytes
-given_part bytes front rest whole given = record {
-  front = front;
-  rest = rest;
-  whole = whole;
-  given = given;
-  all = tt;
-  more = is_write (rest ≢ []);
-}
-
 pub given_all : {a b : Option (List ℕ)} (bytes front rest : List ℕ) → length rest ≡ 0 → bytes ≡ front ++ rest
     → Appends a b front → Writes a b done bytes
 given_all bytes front [] none whole given =

@@ -220,9 +220,5 @@ module _ (ks : List ℕ) (l : AreLarge ks) where
             ∙ sym on.route)
       ]
 
--- a loop over the digits, past the last one
-pub port_from-past : (port n : ℕ) (s t : List ℕ) → length s ≤ n → port_from port (drop n s) (drop n t) ≡ port
-port_from-past port n s t h = rw (drop_all n s h) refl
-
 pub distance_of-past : (n : ℕ) (s t : List ℕ) → length s ≤ n → distance_of (drop n s) (drop n t) ≡ 0
 distance_of-past n s t h = rw (drop_all n s h) refl

@@ -1,7 +1,7 @@
 -- What a pass of the channel allocator grants is held after it, and all else is as it was: an invariant of the grants
 -- written one by one.
 use Rattle.std.proofs.Common.{◌≡◌, ℕ, zero, suc, ◌+◌, ◌*◌, ◌<◌, ◌≤◌, ◌&&◌, Bool, true, false, is_none, if◌then◌else◌}
-use Rattle.std.proofs.Common.{inl, inr, List, [], ◌∷◌, length, slice_set, slice_index_or, replicate, fold, Option}
+use Rattle.std.proofs.Common.{inl, inr, List, [], ◌∷◌, length, slice_set, slice_index_or, fold, Option}
 use Rattle.std.proofs.Common.{None, Some, refl, arith, ap, sym, subst, ◌∙◌}
 use Rattle.std.specs.List.{range_with_len}
 use Rattle.std.proofs.lemmas.Bool.{cases_eq, and_from, and_parts, eqb-true, true≢false}
@@ -18,7 +18,6 @@ use Rattle.worm_vcalloc.specs.VcRequest.{may_use}
 use Rattle.worm_vcalloc.specs.Table.{cell}
 use Rattle.worm_vcalloc.specs.VcAlloc.{VcAllocState, HasWon, IsChannelMatching}
 use Rattle.worm_vcalloc.proofs.PassLemmas.{fold-range_more}
-use Rattle.worm_vcalloc.proofs.TableLemmas.{cell-replicate}
 use Rattle.worm_router.specs.Router.{RouterState, ChannelState, IsRouter, IsPlace, terminal, width, places, line}
 use Rattle.worm_router.specs.Router.{fresh_channel, free_output, in_state, input_at, output_at, granting, can_grant}
 use Rattle.worm_router.specs.Router.{after_granting}
@@ -418,21 +417,3 @@ passed_by old new grants few_ports few sound pass =
       held = far_held old (channel_pass old).alloc given few_ports few matching all.0 all.1 all.3;
       rest = far_rest old (channel_pass old).alloc given few_ports few matching all.0 all.1 all.3;
     }))
-
--- where nothing was granted nothing is to be held, and all is as it was
-pub none_passed : (old new : RouterState) (grants : List (List (Option ℕ))) → new ≡ old
-    → grants ≡ replicate 7 (replicate 8 None) → IsPassed old new grants
-none_passed old new grants same none =
-    subst (λ (s : RouterState). IsPassed old s grants) (sym same) (record {
-      held = λ p v c granted.
-          let clash : None ≡ Some c = sym (cell-replicate 7 8 p v None) ∙ ap (λ t. cell t p v None) (sym none)
-          ∙ granted in
-          absurd (cc);
-      rest = record {
-        router = refl;
-        inputs = λ p v place. refl;
-        ungranted = λ p v place ungranted. refl;
-        outputs = λ o c place. refl;
-        free = λ o c place nobody. refl;
-      };
-    })

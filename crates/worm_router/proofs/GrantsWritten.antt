@@ -1,6 +1,6 @@
 -- Grants written one by one change no port and no channel of the router.
 use Rattle.std.proofs.Common.{◌≡◌, ℕ, zero, suc, true, false, is_some, arith, subst, ◌+◌, ◌-◌, ◌<◌, ◌≤◌, List, Option}
-use Rattle.std.proofs.Common.{None, Some, fold, IfSome, inl, inr, refl, ap, sym, ◌∙◌}
+use Rattle.std.proofs.Common.{None, Some, fold, inl, inr, refl, ap, sym, ◌∙◌}
 use Rattle.std.specs.List.{range_with_len}
 use Rattle.std.proofs.lemmas.Bool.{cases_eq, cases_lt}
 use Rattle.worm_vcalloc.specs.ChannelSet.{has, IsFirstPort}
@@ -8,7 +8,7 @@ use Rattle.worm_vcalloc.specs.Table.{cell}
 use Rattle.worm_vcalloc.proofs.PassLemmas.{fold-range_more, none_where_not_some}
 use Rattle.worm_vcalloc.proofs.SetLemmas.{has-zero}
 use Rattle.worm_router.specs.Router.{RouterState, IsPlace, terminal, width, after_granting, can_grant}
-use Rattle.worm_router.specs.Allocation.{written, with_port_grants, with_grants, GrantsWithin, IsSameSize}
+use Rattle.worm_router.specs.Allocation.{written, with_port_grants, with_grants, IsSameSize}
 
 pub stays : (r : RouterState) → IsSameSize r r
 stays r = record { same_mesh = refl; same_channels = refl }
@@ -65,12 +65,6 @@ place_stays old new port vc same port_in vc_in = record {
   port_in = rw same.same_mesh port_in;
   channel_in = rw same.same_channels vc_in;
 }
-
-pub granted_within : (old new : RouterState) (grants : List (List (Option ℕ))) (port vc : ℕ) (granted : Option ℕ)
-    → IsSameSize old new → GrantsWithin (width old) grants
-    → granted ≡ cell grants port vc None → IfSome granted (λ c. c < width new)
-granted_within old new grants port vc None same within is = tt
-granted_within old new grants port vc (Some c) same within is = rw same.same_channels (within port vc c (sym is))
 
 pub written_port : (old new : RouterState) (grants : List (List (Option ℕ))) (port n : ℕ) → n ≡ width old
     → HasWritten old new (fold (λ s v. written s port v (cell grants port v None)) old (range_with_len 0 n))

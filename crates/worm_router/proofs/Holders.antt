@@ -1,6 +1,6 @@
 -- Each channel that holds an output channel is its holder, and what keeps that so.
-use Rattle.std.proofs.Common.{◌≡◌, ℕ, ◌+◌, ◌*◌, ◌<◌, ◌≤◌, Bool, true, false, if◌then◌else◌, inl, inr, slice_set}
-use Rattle.std.proofs.Common.{slice_index_or, replicate, Option, None, Some, All, IfSome, arith, ap, sym, ◌∙◌, subst}
+use Rattle.std.proofs.Common.{◌≡◌, ℕ, ◌+◌, ◌*◌, Bool, true, false, if◌then◌else◌, inl, inr, slice_set}
+use Rattle.std.proofs.Common.{slice_index_or, replicate, None, Some, All, ap, sym, ◌∙◌, subst}
 use Rattle.std.proofs.lemmas.Grind.{get_or-set_at}
 use Rattle.std.proofs.lemmas.Bool.{cases_eq}
 use Rattle.std.proofs.lemmas.Nat.{same_from_place}
@@ -150,16 +150,3 @@ holders_left r port vc i out out_vc o had now had_out u false input output held_
       was = output.was;
     }) kept
     (holders_in r port vc i had now input (λ q c holds. sym same ∙ holds) are)
-
--- the places of holders are there
-pub holder_places : (r : RouterState) (out vc o : ℕ) (had : OutRecord) (was_out : Bool) → IsOutput r out vc o had
-    → AreHolders r → terminal r ≤ 6 → width r ≤ 8
-    → IfSome (if was_out then had.holder else None) (λ h. (h.0 < 7) × (h.1 < 8))
-holder_places r out vc o had false output are few_ports few_channels = tt
-holder_places r out vc o had true output are few_ports few_channels =
-    by_holder had.holder (subst (IsHolder (terminal r) (width r)) (sym (ap (λ (w : OutRecord). w.holder) output.was))
-    (All-get_or (λ (w : OutRecord). IsHolder (terminal r) (width r) w.holder) r.outputs o
-    (free_output r.depth) output.within are.fit)) where
-      by_holder : (h : Option (ℕ × ℕ)) → IsHolder (terminal r) (width r) h → IfSome h (λ h. (h.0 < 7) × (h.1 < 8))
-      by_holder None fits = tt
-      by_holder (Some h) fits = let a = fits.0 in let b = fits.1 in (omega arith, omega arith)

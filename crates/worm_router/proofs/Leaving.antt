@@ -1,7 +1,6 @@
 -- What is there for a flit that may leave.
-use Rattle.std.proofs.Common.{ap, sym, ◌∙◌, length, slice_get, ◌+◌, ℕ, ◌≤◌, ◌<◌, ◌≡◌, ◌==◌, ◌&&◌, ◌||◌, nat_lt, List}
+use Rattle.std.proofs.Common.{ap, sym, ◌∙◌, slice_get, ◌+◌, ℕ, ◌≤◌, ◌<◌, ◌≡◌, ◌==◌, ◌&&◌, ◌||◌, nat_lt, List}
 use Rattle.std.proofs.Common.{[], ◌∷◌, All, Bool, true, false, Some, None, arith, refl, subst, if◌then◌else◌}
-use Rattle.std.proofs.lemmas.Bool.{eq-eqb, ne_eqb}
 use Rattle.std.proofs.lemmas.Bool.Decides.{nat_tests}
 use Rattle.std.proofs.lemmas.List.Elements.{All-get_or}
 use Rattle.worm_flit.specs.declared.Flit.{Flit}
@@ -77,14 +76,6 @@ leaves_by_state r port c (Active o v) (f ∷ fs) d is =
       by_test true e = let pair : (o, with_channel f v) ≡ d = cc in ap (λ (k : ℕ × Flit). Active k.0 k.1.vc) pair
       by_test false e = absurd (cc)
 
--- and has a flit
-pub leaves_flit : (r : RouterState) (port : ℕ) (c : ChannelState) (s : InRecord) (fs : List Flit) (d : ℕ × Flit)
-    → leaving_by r port c s fs ≡ Some d → nat_lt 0 (length fs) ≡ true
-leaves_flit r port c Idle fs d is = absurd (cc)
-leaves_flit r port c (Waiting o) fs d is = absurd (cc)
-leaves_flit r port c (Active o v) [] d is = absurd (cc)
-leaves_flit r port c (Active o v) (f ∷ fs) d is = grind (arith, nat_tests)
-
 -- what may leave an active channel, by its front and its two tests
 pub leaving_is : (r : RouterState) (port vc out out_vc : ℕ) (c : ChannelState) (front : Flit) (credit owe : Bool)
     → c ≡ input_at r port vc → c.state ≡ Active out out_vc
@@ -111,9 +102,3 @@ not_both a b x e = ap (λ k. if k then Some x else None) e
 
 pub owes_more : (owed more : ℕ) → nat_lt 0 owed ≡ true → nat_lt 0 (owed + more) ≡ true
 owes_more owed more some = grind (arith, nat_tests)
-
-pub either_first : (a b : ℕ) (k : Bool) → a ≡ b → true ≡ (a == b || k)
-either_first a b k same = sym (ap (λ t. t || k) (eq-eqb a b same))
-
-pub either_second : (a b : ℕ) (k : Bool) → (a ≡ b → ⊥) → k ≡ (a == b || k)
-either_second a b k other = sym (ap (λ t. t || k) (ne_eqb a b other))

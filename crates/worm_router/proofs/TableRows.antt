@@ -1,64 +1,15 @@
 -- Tables filled cell by cell and row by row are the table of what they were filled with.
 use Rattle.std.proofs.Common.{◌≡◌, ℕ, ◌+◌, ◌<◌, ◌≤◌, ◌&&◌, Bool, true, false, nat_le, nat_lt, if◌then◌else◌, inl, inr}
-use Rattle.std.proofs.Common.{List, [], length, map, replicate, slice_index_or, refl, arith, ap, sym, ◌∙◌, subst}
+use Rattle.std.proofs.Common.{List, [], length, map, slice_index_or, refl, arith, ap, sym, ◌∙◌, subst}
 use Rattle.std.specs.List.{range_with_len}
 use Rattle.std.proofs.lemmas.Bool.{cases_eq, cases_lt}
 use Rattle.std.proofs.lemmas.List.{ext_get_or, get_or_past}
 use Rattle.std.proofs.lemmas.List.FromFn.{get_or-map-range_with_len, length-map-range_with_len}
 use Rattle.worm_vcalloc.specs.Table.{cell, with_cell, IsTable}
 use Rattle.worm_vcalloc.proofs.TableLemmas.{cell-with_cell_same, cell-with_cell_other, IsTable-with_cell}
-use Rattle.worm_vcalloc.proofs.TableLemmas.{cell-replicate, IsTable-replicate}
 use Rattle.worm_router.specs.Router.{RouterState, IsPlace, terminal, width}
-use Rattle.worm_router.specs.Tables.{table, PutsRow, PutsRows}
+use Rattle.worm_router.specs.Tables.{table, PutsRows}
 use Rattle.worm_router.specs.Allocation.{within}
-
-module _ {X : Type 0} (d : X) where
-  pub row_begins : (f : ℕ → X) (row : ℕ) (old : List (List X)) → IsTable old → PutsRow d f 0 row old old
-  row_begins f row old shape = record {
-    shape = shape;
-    here = λ v below. absurd (omega (arith, below));
-    elsewhere = λ p v other. refl;
-  }
-
-  -- one cell more
-  pub row_goes_on : (f : ℕ → X) (n m row : ℕ) (old here now : List (List X)) (x : X) → PutsRow d f n row old here
-      → m ≡ n + 1 → row < 7 → n < 8
-      → x ≡ f n → now ≡ with_cell here row n x → PutsRow d f m row old now
-  row_goes_on f n m row old here now x puts next row_in n_in is after = record {
-    shape = subst IsTable (sym after) (IsTable-with_cell here row n x puts.shape);
-    here = λ v below.
-        ap (λ (t : List (List X)). cell t row v d) after ∙
-        elim (cases_eq v n) [
-          | inl e ↦ ap (λ k. cell (with_cell here row n x) row k d) e
-              ∙ cell-with_cell_same here row n x d puts.shape row_in n_in ∙ is ∙ ap f (sym e)
-          | inr ne ↦ cell-with_cell_other here row n row v x d (λ p q. ne q) ∙ puts.here v (omega arith)
-        ];
-    elsewhere = λ p v other.
-        ap (λ (t : List (List X)). cell t p v d) after ∙
-        (cell-with_cell_other here row n p v x d (λ a b. other a (omega arith))
-        ∙ puts.elsewhere p v (λ a b. other a (omega arith)));
-  }
-
-  pub rows_begin : (f : ℕ → ℕ → X) (w : ℕ) → PutsRows d f w 0 (replicate 7 (replicate 8 d))
-  rows_begin f w = record {
-    shape = IsTable-replicate d;
-    here = λ p v below. absurd (omega (arith, below));
-    elsewhere = λ p v other. cell-replicate 7 8 p v d;
-  }
-
-  -- one row more
-  pub rows_go_on : (f : ℕ → ℕ → X) (w n m : ℕ) (here now : List (List X)) → PutsRows d f w n here → m ≡ n + 1
-      → PutsRow d (f n) w n here now → PutsRows d f w m now
-  rows_go_on f w n m here now puts next row = record {
-    shape = row.shape;
-    here = λ p v below inside.
-        elim (cases_eq p n) [
-          | inl e ↦ ap (λ k. cell now k v d) e ∙ row.here v inside ∙ ap (λ k. f k v) (sym e)
-          | inr ne ↦ row.elsewhere p v (λ a b. ne a) ∙ puts.here p v (omega arith) inside
-        ];
-    elsewhere = λ p v other.
-        row.elsewhere p v (λ a b. other (omega arith) b) ∙ puts.elsewhere p v (λ a b. other (omega arith) b);
-  }
 
 -- two tables with the same cells are one
 pub same_tables : {X : Type 0} (d : X) (s t : List (List X)) → IsTable s → IsTable t

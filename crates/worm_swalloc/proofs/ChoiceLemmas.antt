@@ -289,13 +289,6 @@ pub choosing_start : (s : SwAllocState) (requests grants : List (Option SwGrant)
 choosing_start s requests grants askers few long e =
     record { next = 0; walked = walked_start askers s.ports; chosen_are = chosen_none s requests grants few long e }
 
--- the allocator keeps its size in the meantime
-pub choosing_size : (s : SwAllocState) (requests : List (Option SwGrant)) (askers left : ℕ) (now : SwAllocState)
-    (grants : List (Option SwGrant)) → ChoosingBelow s requests askers left now grants
-    → (now.ports ≡ s.ports) × (now.channels ≡ s.channels)
-choosing_size s requests askers left now grants b =
-    (ap (λ (t : SwAllocState). t.ports) b.chosen_are.state, ap (λ (t : SwAllocState). t.channels) b.chosen_are.state)
-
 -- those that ask for the next output port have no grant
 pub not_granted : (s : SwAllocState) (requests : List (Option SwGrant)) (askers left left' out port : ℕ)
     (now : SwAllocState) (grants : List (Option SwGrant))

@@ -1,20 +1,19 @@
 -- Lemmas on a pass of the switch allocator.
 use Rattle.std.proofs.Common.{◌≡◌, ℕ, ◌+◌, ◌<◌, ◌≤◌, Bool, true, false, List, [], Option, Some, None, IfSome, is_some}
 use Rattle.std.proofs.Common.{refl, sym, ap, ◌∙◌, arith, slice_index_or, slice_set, length, inl, inr, ltb, cond}
-use Rattle.std.proofs.Common.{replicate, ◌&&◌, subst, get_or-set_same, get_or-set_other}
+use Rattle.std.proofs.Common.{replicate, ◌&&◌, subst}
 use Rattle.std.specs.Option.{option_map}
-use Rattle.std.proofs.lemmas.Bool.{cases_eq, cases_lt, cases_Bool, lt-ltb, ltb-true, eqb-true, eq-eqb, ne_eqb}
+use Rattle.std.proofs.lemmas.Bool.{cases_lt, cases_Bool, lt-ltb, ltb-true, eqb-true, eq-eqb}
 use Rattle.std.proofs.lemmas.Bool.{and_parts, and_from, true≢false}
 use Rattle.std.proofs.lemmas.List.{get_or-replicate, length-replicate, get_or_past, get_or_default}
-use Rattle.worm_vcalloc.specs.ChannelSet.{has, IsPut, IsFirstPort}
-use Rattle.worm_vcalloc.proofs.SetLemmas.{has-zero}
+use Rattle.worm_vcalloc.specs.ChannelSet.{has, IsFirstPort}
 use Rattle.worm_vcalloc.proofs.PassLemmas.{none_where_not_some}
 use Rattle.worm_vcalloc.specs.Arbiter.{ArbiterState, no_arbiter, winner, after_pick, line_requests}
 use Rattle.worm_vcalloc.specs.Table.{cell}
 use Rattle.worm_vcalloc.proofs.ArbiterLemmas.{winner_same, winner_none, winner_requests, winner_none_requests}
 use Rattle.worm_swalloc.specs.declared.grant.SwGrant.{SwGrant}
 use Rattle.worm_swalloc.specs.Front.{with_front}
-use Rattle.worm_swalloc.specs.SwAlloc.{SwAllocState, IsSwAlloc, IsSwitchMatching, AreChannelsBelow, AreAskers}
+use Rattle.worm_swalloc.specs.SwAlloc.{SwAllocState, IsSwAlloc, IsSwitchMatching, AreChannelsBelow}
 use Rattle.worm_swalloc.specs.SwAlloc.{request_of, named_channel, named, all_named, is_for, chosen, with_choice}
 use Rattle.worm_swalloc.specs.SwAlloc.{is_line, if_chosen, granted, sw_grants, sw_after, output_after, input_after}
 use Rattle.worm_swalloc.specs.SwAlloc.{channel_of, with_move, after_grant}
@@ -115,35 +114,6 @@ pub record AskedBelow (s : SwAllocState) (ready : List (List (Option ℕ))) (key
   pub next : ℕ
   pub walked : IsWalked keys left next s.ports
   pub requests_are : requests ≡ with_front next (named s ready) (replicate 7 None)
-
--- no input port asks
-pub askers_none : (requests : List (Option SwGrant)) (askers : ℕ) → requests ≡ replicate 7 None → askers ≡ 0
-    → AreAskers requests askers
-askers_none requests askers e e' out port _ _ =
-    ap (λ n. has n out port) e' ∙ has-zero out port
-    ∙ sym (ap (λ o. is_for o out) (ap (λ xs. slice_index_or xs port None) e ∙ get_or-replicate_same 7 port None))
-
--- one more asks
-pub askers_more : (requests : List (Option SwGrant)) (askers askers' port : ℕ) (g : SwGrant) → port < length requests
-    → slice_index_or requests port None ≡ None
-    → AreAskers requests askers → IsPut askers askers' g.out port true
-    → AreAskers (slice_set requests port (Some g)) askers'
-askers_more requests askers askers' port g within none b put out p lo lp =
-    elim (cases_eq p port) [
-      | inl same ↦
-          (elim (cases_eq out g.out) [
-            | inl here ↦ ap (λ k. has askers' k p) here ∙ ap (has askers' g.out) same ∙ put.here
-                ∙ sym (eq-eqb g.out out (sym here))
-            | inr there ↦
-                put.elsewhere out p lo lp (λ e _. there e) ∙ b out p lo lp
-                ∙ ap (λ k. is_for (slice_index_or requests k None) out) same ∙ ap (λ o. is_for o out) none
-                ∙ sym (ne_eqb g.out out (λ e. there (sym e)))
-          ])
-          ∙ sym (ap (λ o. is_for o out) (ap (λ k. slice_index_or (slice_set requests port (Some g)) k None) same
-          ∙ get_or-set_same requests port (Some g) None within))
-      | inr other ↦ put.elsewhere out p lo lp (λ _ e. other e) ∙ b out p lo lp
-          ∙ ap (λ o. is_for o out) (sym (get_or-set_other requests port p (Some g) None other))
-    ]
 
 -- the requests as far as the next port that has a ready channel
 asked_to : (s : SwAllocState) (ready : List (List (Option ℕ))) (keys left n m : ℕ)

@@ -1,14 +1,14 @@
 -- Which ports a look at what is kept of a node finds: flits come in by them, or credits come back.
 use Rattle.std.proofs.Common.{◌≡◌, ◌==◌, ℕ, ◌*◌, ◌<◌, ◌≤◌, Bool, true, false, inl, inr, List, [], ◌∷◌, length, get_or}
 use Rattle.std.proofs.Common.{Option, Some, None, refl, arith, ap, sym, ◌∙◌}
-use Rattle.std.specs.Prelude.{IfNone, IfSome, MatchOption, IsTrue, option_map, IsSome, slice_get}
+use Rattle.std.specs.Prelude.{IsTrue, option_map, IsSome, slice_get}
 use Rattle.std.proofs.lemmas.Bool.{cases_lt}
 use Rattle.std.proofs.lemmas.List.{get_or_default}
 use Rattle.worm_mesh.specs.Address.{neighbour_of, opposite_of}
 use Rattle.worm_mesh.specs.Links.{links_before}
 use Rattle.worm_wires.specs.Links.{LinkView, blank_link}
 use Rattle.worm_wires.specs.Wiring.{into_from}
-use Rattle.worm_wires.specs.Ports.{has, IsFirstFrom}
+use Rattle.worm_wires.specs.Ports.{has}
 use Rattle.worm_wires.specs.Arrivals.{LinksView, AreAllArrivals, AreArrivals, AreFronts, credits_of, credits_to}
 use Rattle.worm_wires.specs.Arrivals.{flits_of, flits_to, has_front, no_arrivals, number_into, number_out, on_link}
 use Rattle.worm_wires.specs.Arrivals.{state_at}
@@ -74,36 +74,21 @@ come_by list_to bits false are some none =
 
 module _ {A : Type 0} (list_to : ℕ → List A) (bits last : ℕ) (are : AreFronts list_to bits) (few : last ≤ 6)
     (past : (p : ℕ) → last ≤ p → list_to p ≡ []) where
-  lacks : (p : ℕ) → (p < 8 → has bits p ≡ false) → list_to p ≡ []
+  pub lacks : (p : ℕ) → (p < 8 → has bits p ≡ false) → list_to p ≡ []
   lacks p none = elim (cases_lt p 8) [
     | inl below ↦ no_front (list_to p) (sym (are p below) ∙ none below)
     | inr above ↦ past p (omega arith)
   ]
 
   -- a port of the set is a mesh port
-  there : (p : ℕ) → p < 8 → has bits p ≡ true → p < last
-  there p p_in on = elim (cases_lt p last) [
+  pub is_below : (p : ℕ) → p < 8 → has bits p ≡ true → p < last
+  is_below p p_in on = elim (cases_lt p last) [
     | inl below ↦ below
     | inr above ↦ absurd (some_front (list_to p) (sym (are p p_in) ∙ on) (past p above))
   ]
 
   pub none_come : (bits == 0) ≡ true → (p : ℕ) → list_to p ≡ []
   none_come none p = lacks p (λ below. has_none bits p none)
-
-  -- from one port on, the first of the set
-  pub next_come : (from : ℕ) (r : Option ℕ)
-      → MatchOption r ((p : ℕ) → from ≤ p → p < 8 → has bits p ≡ false) (IsFirstFrom bits from)
-      → IfSome r (λ port. (from ≤ port) × (port < last) × (port < 6)) × IfSome r (λ port. list_to port ≡ [] → ⊥)
-      × IfSome r (λ port. (p : ℕ) → from ≤ p → p < port → list_to p ≡ [])
-      × IfNone r ((p : ℕ) → from ≤ p → list_to p ≡ [])
-  next_come from None none = (tt, tt, tt, λ p above. lacks p (λ below. none p above below))
-  next_come from (Some port) first =
-      let port_in = there port first.in_range first.within in (
-        (first.from_there, port_in, omega arith),
-        some_front (list_to port) (sym (are port first.in_range) ∙ first.within),
-        λ p above before. lacks p (λ below. first.none_before p above before),
-        tt,
-      )
 
 -- past the mesh ports nothing comes in
 
@@ -124,15 +109,3 @@ entry_at l kept x i d are all x_in at_i =
 pub true_of : (b : Bool) → IsTrue b → b ≡ true
 true_of true h = refl
 true_of false h = absurd (cc)
-
--- what holds of each port up to one, or of all from one on, under another name
-
-pub some_before : (o : Option ℕ) (from : ℕ) (A B : ℕ → Type 0) → ((p : ℕ) → A p → B p)
-    → IfSome o (λ port. (p : ℕ) → from ≤ p → p < port → A p) → IfSome o (λ port. (p : ℕ) → from ≤ p → p < port → B p)
-some_before None from A B turned had = tt
-some_before (Some port) from A B turned had = λ p above below. turned p (had p above below)
-
-pub none_past : (o : Option ℕ) (from : ℕ) (A B : ℕ → Type 0) → ((p : ℕ) → A p → B p)
-    → IfNone o ((p : ℕ) → from ≤ p → A p) → IfNone o ((p : ℕ) → from ≤ p → B p)
-none_past None from A B turned had = λ p above. turned p (had p above)
-none_past (Some port) from A B turned had = tt

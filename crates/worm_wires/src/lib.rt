@@ -18,4 +18,5 @@ mod wiring;
 
 pub use link::LinkState;
 pub use links::Links;
+pub use port_set::PortSet;
 pub use wiring::{PortLinks, Wiring};

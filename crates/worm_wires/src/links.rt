@@ -1,12 +1,12 @@
 //! The links of a mesh with what is on them, and by node the ports at which something comes in, so that a turn goes
 //! past all others.
 
-ghost use Rattle.std.specs.Prelude.{◌≡◌, ◌<◌, ◌≤◌, ◌*◌, ◌↔◌, ◌++◌, ◌∷◌, [], ℕ, IfNone, IfSome, IsSome, IsTrue};
+ghost use Rattle.std.specs.Prelude.{◌≡◌, ◌<◌, ◌↔◌, ◌++◌, ◌∷◌, [], ℕ, IfSome, IsSome, IsTrue};
 ghost use Rattle.std.specs.Prelude.{Option, Some, true, drop, length};
 ghost use Rattle.worm_mesh.specs.Address.{AreRadices, neighbour_of};
 ghost use Rattle.worm_mesh.specs.Links.{link_count};
-ghost use Rattle.worm_wires.specs.Arrivals.{AreArrivals, LinksView, credits_of, credits_to, flits_of, flits_to};
-ghost use Rattle.worm_wires.specs.Arrivals.{has_front, number_into, number_out, state_at, with_state};
+ghost use Rattle.worm_wires.specs.Arrivals.{AreArrivals, AreFronts, LinksView, credits_of, credits_to, flits_of};
+ghost use Rattle.worm_wires.specs.Arrivals.{flits_to, has_front, number_into, number_out, state_at, with_state};
 ghost use Rattle.worm_wires.specs.Wiring.{port_links};
 
 use crate::LinkState;
@@ -148,32 +148,18 @@ impl Links {
         here.flits.is_empty() && here.credits.is_empty()
     }
 
-    /// The first mesh port from this one on by which a flit comes in.
-    pub fn next_flit(&self, node: u8, from: u8) -> Option<u8>
-        requires { from ≤ 6 }
-        ensures mesh_port { IfSome result (λ port. (from ≤ port) × (port < 2 * length self.now.mesh) × (port < 6)) }
-        ensures some { IfSome result (λ port. flits_to self.now node port ≡ [] → ⊥) }
-        ensures before { IfSome result (λ port. (p : ℕ) → from ≤ p → p < port → flits_to self.now node p ≡ []) }
-        ensures none { IfNone result ((p : ℕ) → from ≤ p → flits_to self.now node p ≡ []) }
+    /// The mesh ports of the node by which a flit comes in.
+    pub fn flits_in(&self, node: u8) -> PortSet
+        ensures { AreFronts (flits_to self.now node) result }
     {
-        let here = &self.arrivals[usize::from(node)];
-        // For the proof: a mesh has at most three dimensions.
-        let _terminal = self.wiring.terminal();
-        here.flits.first_from(from)
+        self.arrivals[usize::from(node)].flits
     }
 
-    /// The first mesh port from this one on by which a credit comes in.
-    pub fn next_credit(&self, node: u8, from: u8) -> Option<u8>
-        requires { from ≤ 6 }
-        ensures mesh_port { IfSome result (λ port. (from ≤ port) × (port < 2 * length self.now.mesh) × (port < 6)) }
-        ensures some { IfSome result (λ port. credits_to self.now node port ≡ [] → ⊥) }
-        ensures before { IfSome result (λ port. (p : ℕ) → from ≤ p → p < port → credits_to self.now node p ≡ []) }
-        ensures none { IfNone result ((p : ℕ) → from ≤ p → credits_to self.now node p ≡ []) }
+    /// The mesh ports of the node by which a credit comes back.
+    pub fn credits_in(&self, node: u8) -> PortSet
+        ensures { AreFronts (credits_to self.now node) result }
     {
-        let here = &self.arrivals[usize::from(node)];
-        // For the proof: a mesh has at most three dimensions.
-        let _terminal = self.wiring.terminal();
-        here.credits.first_from(from)
+        self.arrivals[usize::from(node)].credits
     }
 
     /// The number of the link that comes into this port, if there is one.

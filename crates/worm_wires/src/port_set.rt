@@ -1,11 +1,16 @@
 //! Sets of the mesh ports of a node.
 
-ghost use Rattle.std.specs.Prelude.{ℕ, ◌≡◌, ◌==◌, ◌<◌, ◌≤◌, MatchOption, false, true};
-ghost use Rattle.worm_wires.specs.Ports.{has, IsFirstFrom, IsPut};
+ghost use Rattle.std.specs.Prelude.{ℕ, ◌≡◌, ◌==◌, ◌<◌, MatchOption, false, true};
+ghost use Rattle.worm_wires.specs.Ports.{has, IsFirst, IsPut};
 
 use std::marker::Model;
 
 /// A set of the mesh ports of a node, of which there are up to 6.
+///
+/// ```text
+/// let mut left = links.flits_in(node);
+/// while let Some(port) = left.pop_first() { .. }
+/// ```
 #[derive(Clone, Copy)]
 pub struct PortSet {
     /// Bit `port` is 1 where the port is in the set.
@@ -24,34 +29,34 @@ impl Model for PortSet {
 
 impl PortSet {
     /// The set without a port.
-    pub fn new() -> Self
+    pub(crate) fn new() -> Self
         ensures { result ≡ 0 }
     {
         PortSet { bits: 0 }
     }
 
     /// Whether no port is in the set.
-    pub fn is_empty(&self) -> bool
+    pub(crate) fn is_empty(&self) -> bool
         ensures value { result ≡ (self.now == 0) }
         ensures some { result ≡ false → (p : ℕ) × (p < 8) × (has self.now p ≡ true) }
     {
         self.bits == 0
     }
 
-    /// The first port of the set from this one on, if there is one.
-    pub fn first_from(&self, from: u8) -> Option<u8>
-        requires { from < 8 }
-        ensures { MatchOption result ((p : ℕ) → from ≤ p → p < 8 → has self.now p ≡ false) (IsFirstFrom self.now from) }
+    /// Takes out the first port; None where the set is empty.
+    pub fn pop_first(&mut self) -> Option<u8>
+        ensures { MatchOption result ((self.old ≡ 0) × (self.new ≡ 0)) (IsFirst self.old self.new) }
     {
-        let rest = self.bits >> from;
-        if rest == 0 {
+        if self.bits == 0 {
             return None;
         }
-        Some(from + rest.trailing_zeros() as u8)
+        let port = self.bits.trailing_zeros() as u8;
+        self.bits &= !(1 << port);
+        Some(port)
     }
 
     /// Puts the port into the set.
-    pub fn insert(&mut self, port: u8)
+    pub(crate) fn insert(&mut self, port: u8)
         requires { port < 6 }
         ensures { IsPut self.old self.new port true }
     {
@@ -59,7 +64,7 @@ impl PortSet {
     }
 
     /// Takes the port out of the set.
-    pub fn remove(&mut self, port: u8)
+    pub(crate) fn remove(&mut self, port: u8)
         requires { port < 6 }
         ensures { IsPut self.old self.new port false }
     {
@@ -67,7 +72,7 @@ impl PortSet {
     }
 
     /// Puts the port into the set, or takes it out where `within` is false.
-    pub fn put(&mut self, port: u8, within: bool)
+    pub(crate) fn put(&mut self, port: u8, within: bool)
         requires { port < 6 }
         ensures { IsPut self.old self.new port within }
     {
@@ -90,8 +95,10 @@ mod tests {
         set.put(5, true);
         set.put(2, true);
         set.put(5, false);
-        assert_eq!(rt; set.first_from(0), Some(2));
-        assert_eq!(rt; set.first_from(3), None);
+        set.put(3, true);
+        assert_eq!(rt; set.pop_first(), Some(2));
         assert!(rt; !set.is_empty());
+        assert_eq!(rt; set.pop_first(), Some(3));
+        assert_eq!(rt; set.pop_first(), None);
     }
 }

@@ -1,6 +1,6 @@
 //! Worked values: the links of a mesh of three by two nodes, and what goes over one.
 
-use crate::{LinkState, Links, Wiring};
+use crate::{LinkState, Links, PortSet, Wiring};
 use std::test::Fail;
 use worm_flit::{Flit, Kind, Lane};
 use worm_mesh::Mesh;
@@ -18,6 +18,11 @@ fn flit_of(word: u32) -> Flit {
         vc: 0,
         word,
     }
+}
+
+/// The first port of the set.
+fn first(mut ports: PortSet) -> Option<u8> {
+    ports.pop_first()
 }
 
 #[test]
@@ -70,8 +75,8 @@ fn what_is_sent_comes_in(rt: HostRuntime) -> Result<(), Fail> {
     states.push(LinkState::new(alloc, 2)?)?;
     let links = Links::new(Mesh::new(&[2])?, states);
     assert!(rt; links.brings_nothing(1));
-    assert_eq!(rt; links.next_flit(1, 0), None);
-    assert_eq!(rt; links.next_credit(0, 0), None);
+    assert_eq!(rt; first(links.flits_in(1)), None);
+    assert_eq!(rt; first(links.credits_in(0)), None);
     assert_eq!(rt; links.find_out(0, 1), Some(0));
     assert_eq!(rt; links.find_into(0, 1), Some(1));
     let states = links.into_states();
@@ -91,10 +96,10 @@ fn a_link_with_a_flit_is_seen(rt: HostRuntime) -> Result<(), Fail> {
     let links = Links::new(Mesh::new(&[2])?, states);
     // Link 1 leads from node 1 to node 0; its credits go back to node 1.
     assert!(rt; !links.brings_nothing(0));
-    assert_eq!(rt; links.next_flit(0, 0), Some(1));
-    assert_eq!(rt; links.next_credit(0, 0), None);
-    assert_eq!(rt; links.next_credit(1, 0), Some(0));
-    assert_eq!(rt; links.next_flit(1, 0), None);
+    assert_eq!(rt; first(links.flits_in(0)), Some(1));
+    assert_eq!(rt; first(links.credits_in(0)), None);
+    assert_eq!(rt; first(links.credits_in(1)), Some(0));
+    assert_eq!(rt; first(links.flits_in(1)), None);
     Ok(())
 }
 
@@ -107,10 +112,10 @@ fn what_goes_onto_a_link_comes_in_once(rt: HostRuntime) -> Result<(), Fail> {
     let mut links = Links::new(Mesh::new(&[2])?, states);
     // Link 0 leads from port 1 of node 0 into port 0 of node 1.
     links.push(0, 1, flit_of(5));
-    assert_eq!(rt; links.next_flit(1, 0), Some(0));
+    assert_eq!(rt; first(links.flits_in(1)), Some(0));
     assert!(rt; !links.brings_nothing(1));
     links.pop(1, 0, 0);
-    assert_eq!(rt; links.next_flit(1, 0), None);
+    assert_eq!(rt; first(links.flits_in(1)), None);
     assert!(rt; links.brings_nothing(1));
     Ok(())
 }

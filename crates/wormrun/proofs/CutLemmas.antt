@@ -36,15 +36,6 @@ pub record IsWalked (text : List ℕ) (start at : ℕ) : Type 0 where
   pub front : take start text ≡ finished lines
   pub open_line : IsOneLine (take (at - start) (drop start text))
 
-pub not_walked : (text : List ℕ) → IsWalked text 0 0
-not_walked text = record {
-  lines = [];
-  others = All-nil IsOther;
-  begun = omega arith;
-  front = refl;
-  open_line = All-nil (λ (b : ℕ). b ≢ newline);
-}
-
 -- with the line end at this place
 up_to : (text : List ℕ) (start at : ℕ) → at < length text → start ≤ at → get_or text at 0 ≡ 10 →
     take (at + 1) text ≡ take start text ++ (take (at - start) (drop start text) ++ newline ∷ [])

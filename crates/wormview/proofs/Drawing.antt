@@ -4,7 +4,7 @@ use Rattle.std.specs.Io.KnownBytes.{Appends}
 use Rattle.wormview.specs.declared.fault.ViewFault.{ViewFault}
 use Rattle.wormview.specs.declared.fault.ViewFault.TheVariants.{Network, Report, ReadNetwork, ReadReport, NoMemory}
 use Rattle.wormview.specs.declared.fault.ViewFault.TheVariants.{Write}
-use Rattle.wormview.specs.Picture.{PicturesRows}
+use Rattle.worm_picture.specs.Picture.{PicturesRows}
 use Rattle.wormview.specs.Programs.{Stream, Accepts, DrawsTexts, FailsTexts, FailsToDraw, GaveBoth}
 
 pub drew : (as_map : Bool) (network report drawing : List ℕ) (out : Stream) (result : Result (Unit {0}) ViewFault)

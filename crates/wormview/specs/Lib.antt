@@ -1,10 +1,4 @@
 pub mod Reading
 pub mod Faults
-pub mod Scene
-pub mod Nodes
 pub mod Programs
-pub mod Titles
-pub mod Ways
 pub mod Views
-pub mod Picture
-pub mod Packets

@@ -6,7 +6,7 @@ use Rattle.worm_rows.specs.declared.shape.Shape.{Shape}
 use Rattle.worm_rows.specs.declared.rows.Row.{Row}
 use Rattle.wormview.specs.declared.fault.ViewFault.{ViewFault}
 use Rattle.wormview.specs.declared.fault.ViewFault.TheVariants as f
-use Rattle.wormview.specs.Picture.{PicturesRows}
+use Rattle.worm_picture.specs.Picture.{PicturesRows}
 use Rattle.wormview.specs.Reading.{GaveText}
 use Rattle.wormview.specs.Views.{IsAccepted, IsRefused}
 

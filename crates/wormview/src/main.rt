@@ -3,32 +3,17 @@
 //! The picture is SVG; with `--text` it is a map for a terminal. A fault is one line on the standard error and a
 //! status.
 //!
-//! That the report is read as what it says is proved (`worm_rows`); which flits are shown at which node, in its
-//! buffers and on the links to it, in three groups (`views`); what hovering over a flit says (`titles`); that the
-//! picture's text, read as a whole, has just these flits, one by one (`picture`); and what each fault tells
-//! (`program`). Not proved is how they look and where they stand, what else is drawn, and the text of the map.
+//! That the report is read as what it says is proved (`worm_rows`), what the picture shows (`worm_picture`), and what
+//! each fault tells (`program`).
 #![tactic(auto)]
 
 ghost use Rattle.std.specs.Prelude.{◌≡◌};
 ghost use Rattle.std.specs.Process.{exit_status};
 ghost use Rattle.wormview.specs.Faults.{ended_status, words_status};
 
-mod counts;
 mod fault;
-mod flits;
-mod layout;
-mod legend;
-mod map;
-mod packets;
-mod picture;
 mod program;
 mod reading;
-mod scene;
-mod signs;
-mod svg;
-mod titles;
-mod views;
-mod ways;
 mod words;
 
 use fault::ViewFault;

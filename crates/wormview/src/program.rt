@@ -1,22 +1,18 @@
 //! The program over readers and a writer.
 
-ghost use Rattle.std.specs.Prelude.{◌≡◌, IfOk, IfErr, OnOk, false, string_bytes};
+ghost use Rattle.std.specs.Prelude.{◌≡◌, IfOk, IfErr, OnOk};
 ghost use Rattle.std.specs.Io.KnownBytes.{Appends};
 ghost use Rattle.worm_text.specs.Network.{view};
-ghost use Rattle.wormview.specs.Picture.{PicturesRows};
 ghost use Rattle.wormview.specs.Views.{IsAccepted, IsRefused};
 ghost use Rattle.wormview.specs.Programs.{Draws, DrawsTexts, FailsTexts, FailsToDraw, GaveBoth, ReadsNot, stream};
 ghost use Rattle.wormview.specs.declared.fault.ViewFault.TheVariants.{Write};
 
 use crate::fault::ViewFault;
-use crate::map::map;
-use crate::packets::Packets;
-use crate::picture::picture;
 use crate::reading::{ReadFault, read_text};
-use crate::views::views;
-use std::alloc::{AllocError, Global};
+use std::alloc::Global;
 use std::io::{Read, Write};
 use worm_core::Config;
+use worm_picture::draw;
 use worm_rows::{Row, Shape, read_report};
 use worm_text::{Why, read_network};
 
@@ -84,23 +80,6 @@ fn read_both<N: Read, R: Read>(
     Ok(Texts { network, report })
 }
 
-/// The picture of what was accepted, or its map.
-pub fn drawn(alloc: Global, accepted: &Accepted, text: bool) -> Result<String, AllocError>
-    ensures { IfOk result (λ drawing. text ≡ false
-        → PicturesRows accepted.now.shape accepted.now.rows.items (string_bytes drawing)) }
-{
-    let shape = &accepted.shape;
-    let rows = accepted.rows.as_slice();
-    let depth = accepted.config.depth;
-    let packets = Packets::of(alloc, rows)?;
-    let views = views(alloc, shape, rows, &packets)?;
-    if text {
-        map(alloc, &shape.mesh, depth, views.as_slice())
-    } else {
-        picture(alloc, shape, depth, rows, &packets, views.as_slice())
-    }
-}
-
 /// Gives the writer a drawing.
 fn write_drawing<W: Write>(out: &mut W, drawing: &str) -> Result<(), ViewFault>
     ensures all { OnOk result (Appends (W.contents out.old) (W.contents out.new) drawing.now) }
@@ -125,7 +104,8 @@ fn draw_texts<W: Write>(
     ensures err { IfErr result (FailsTexts network.now report.now (stream (W.contents out.old) (W.contents out.new))) }
 {
     let accepted = accept(alloc, network, report)?;
-    let Ok(drawing) = drawn(alloc, &accepted, text) else {
+    let rows = accepted.rows.as_slice();
+    let Ok(drawing) = draw(alloc, &accepted.shape, accepted.config.depth, rows, text) else {
         return Err(ViewFault::NoMemory);
     };
     write_drawing(out, drawing.as_str())

@@ -1,10 +1,11 @@
 //! The program on worked reports, with readers and writers that fail.
 
 use crate::fault::ViewFault;
-use crate::program::{accept, drawn, run_view};
+use crate::program::{accept, run_view};
 use std::alloc::Global;
 use std::io;
 use std::io::{ErrorKind, Read, Write};
+use worm_picture::draw;
 use worm_text::{TextFault, Why};
 
 const NETWORK: &[u8] = b"wormnet 1\nradix 2\ndims 1\ndepth 2\nclass data\nend\n";
@@ -36,7 +37,8 @@ impl Read for Failing {
 
 fn drawing_of(alloc: Global, text: bool) -> Option<String> {
     let accepted = accept(alloc, NETWORK, REPORT).ok()?;
-    drawn(alloc, &accepted, text).ok()
+    let rows = accepted.rows.as_slice();
+    draw(alloc, &accepted.shape, accepted.config.depth, rows, text).ok()
 }
 
 #[test]

@@ -1,6 +1,6 @@
 //! Whether a node rests: its source has nothing to feed, and its router has nothing to do.
 
-ghost use Rattle.std.specs.Prelude.{ℕ, ◌≡◌, ◌<◌, ◌≤◌, IfNone, IfSome, IsTrue, None, false, length};
+ghost use Rattle.std.specs.Prelude.{ℕ, ◌≡◌, ◌<◌, IsTrue, false, length};
 ghost use Rattle.worm_mesh.specs.Address.{node_count};
 ghost use Rattle.worm_router.specs.Router.{terminal};
 ghost use Rattle.worm_term.specs.Source.{front_of};
@@ -12,26 +12,22 @@ ghost use Rattle.worm_region.specs.Resting.{IsResting, nth_node};
 use super::Fabric;
 
 impl Fabric {
-    /// The first class from this one on of which the node's source has a flit, and for that there is room.
-    pub(crate) fn next_class(&self, node: u8, from: u8) -> Option<u8>
+    /// Whether the node's source has no flit for which there is room.
+    fn feeds_nothing(&self, node: u8) -> bool
         requires sound { IsWorkable self.now }
         requires node { node < node_count self.now.mesh }
-        ensures class { IfSome result (λ class. (from ≤ class) × (class < length self.now.channels) × (class < 4)) }
-        ensures before { IfSome result (λ class. (k : ℕ) → from ≤ k → k < class →
+        ensures { IsTrue result → (k : ℕ) → k < length self.now.channels →
             can_enter (router_at self.now node) (terminal (router_at self.now node))
-            (front_of (source_at self.now node) k) ≡ false) }
-        ensures none { IfNone result ((k : ℕ) → from ≤ k → k < length self.now.channels →
-            can_enter (router_at self.now node) (terminal (router_at self.now node))
-            (front_of (source_at self.now node) k) ≡ false) }
+            (front_of (source_at self.now node) k) ≡ false }
     {
         let terminal = self.terminal();
         let here = self.node(node);
-        for class in from..self.classes.classes() {
+        for class in 0..self.classes.classes() {
             if here.can_feed(class, terminal) {
-                return Some(class);
+                return false;
             }
         }
-        None
+        true
     }
 
     /// Whether the node is known to rest, or found to, which is kept until the node changes. Where it rests
@@ -45,7 +41,7 @@ impl Fabric {
         if self.nodes.is_resting(node) {
             return true;
         }
-        if !self.node(node).router.is_at_rest() || self.next_class(node, 0).is_some() {
+        if !self.node(node).router.is_at_rest() || !self.feeds_nothing(node) {
             return false;
         }
         self.nodes.keep_resting(node);

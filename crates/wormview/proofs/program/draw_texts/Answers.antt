@@ -1,6 +1,7 @@
-use Rattle.std.proofs.Common.{◌≡◌, ℕ, List, false, sym, subst}
-use Rattle.wormview.specs.Picture.{PicturesRows}
+use Rattle.std.proofs.Common.{◌≡◌, ℕ, List, false, sym, subst, string_bytes}
+use Rattle.worm_picture.specs.Picture.{PicturesRows}
 use Rattle.worm_text.specs.Network.{view}
+use Rattle.worm_rows.specs.declared.rows.Row.{Row}
 use Rattle.wormview.specs.Programs.{Accepts, stream}
 use Rattle.wormview.proofs.Drawing.{drew, failed}
 use Rattle.wormview.proofs.program.draw_texts.Goals as goal
@@ -17,7 +18,8 @@ returns-clause-ok g c =
     } in
     let pictured : c.args.text ≡ false → PicturesRows accepted.shape accepted.rows.items c.as_str.result.now =
     λ asked. subst (λ (l : List ℕ). PicturesRows accepted.shape accepted.rows.items l) (sym c.as_str.ensures.value)
-    (c.in-Ok.ensures asked) in
+    (subst (λ (rows : List Row). PicturesRows accepted.shape rows (string_bytes c.in-Ok.drawing))
+    c.as_slice-rows.ensures.value (c.in-Ok.ensures asked)) in
     drew c.args.text c.args.network.now c.args.report.now c.as_str.result.now
     (stream (g.W.Write.contents c.args.out.now) (g.W.Write.contents c.write_drawing.new.out)) c.write_drawing.result
     accepts pictured

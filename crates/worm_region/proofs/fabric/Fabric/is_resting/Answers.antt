@@ -1,15 +1,10 @@
-use Rattle.std.proofs.Common.{◌≡◌, Bool, Option, None, Some, arith, false, sym, subst}
-use Rattle.std.specs.Prelude.{IfNone, is_some}
+use Rattle.std.proofs.Common.{sym, subst}
 use Rattle.worm_router.specs.Rest.{IsAtRest}
 use Rattle.worm_region.specs.State.{NetState}
 use Rattle.worm_region.specs.Resting.{IsResting, nth_node}
 use Rattle.worm_region.specs.declared.node.Node.{Node}
 use Rattle.worm_region.proofs.Resting.{found_resting}
 use Rattle.worm_region.proofs.fabric.Fabric.is_resting.Goals as goal
-
-where_none : {A : Type 0} (o : Option A) (some : Bool) (P : Type 0) → IfNone o P → some ≡ is_some o → some ≡ false → P
-where_none None some P holds is off = holds
-where_none (Some a) some P holds is off = absurd (cc)
 
 pub returns-then-is_resting-clause-resting : goal.returns-then-is_resting-clause-resting
 returns-then-is_resting-clause-resting c = λ yes.
@@ -21,12 +16,10 @@ keep_resting-requires c =
     subst (λ (s : NetState). IsResting (nth_node s.nodes c.args.node)) (sym c.self.view_is)
     (found_resting c.args.self.now c.args.node c.requires.sound c.requires.node
     (subst (λ (n : Node). IsAtRest n.router) c.node.ensures (c.is_at_rest.ensures c.if-not-is_at_rest.false))
-    (λ k below. where_none c.next_class.result c.is_some.result _ c.next_class.ensures.none c.is_some.ensures
-    c.if-is_some.false k (omega arith) below))
+    (c.feeds_nothing.ensures c.if-not-feeds_nothing.false))
 
 pub returns-clause-resting : goal.returns-clause-resting
 returns-clause-resting c = λ yes.
     found_resting c.args.self.now c.args.node c.requires.sound c.requires.node
     (subst (λ (n : Node). IsAtRest n.router) c.node.ensures (c.is_at_rest.ensures c.if-not-is_at_rest.false))
-    (λ k below. where_none c.next_class.result c.is_some.result _ c.next_class.ensures.none c.is_some.ensures
-    c.if-is_some.false k (omega arith) below)
+    (c.feeds_nothing.ensures c.if-not-feeds_nothing.false)

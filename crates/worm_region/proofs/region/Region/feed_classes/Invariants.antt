@@ -1,4 +1,4 @@
-use Rattle.std.proofs.Common.{◌-◌, ◌≤◌, None, length}
+use Rattle.std.proofs.Common.{◌≤◌, None, length}
 use Rattle.std.specs.List.{range_with_len}
 use Rattle.worm_theory.specs.Steps.{Feed}
 use Rattle.worm_region.specs.Replies.{Attempts}
@@ -7,10 +7,6 @@ use Rattle.worm_region.proofs.region.Region.feed_classes.Given as goal
 
 abbrev pub invariant-loop-class : goal.invariant-loop-class
 invariant-loop-class l = record {
-  passed : Does (Each (λ i. Attempts (Feed l.node i)) (range_with_len 0 l.from)) l.initial.self None l.self;
-  class : l.from ≤ length l.self.channels;
-  few : l.from ≤ 4;
+  passed : Does (Each (λ i. Attempts (Feed l.node i)) (range_with_len 0 l.class)) l.initial.self None l.self;
+  class_in : l.class ≤ length l.initial.self.channels;
 }
-
-abbrev pub decreases-loop-class : goal.decreases-loop-class
-decreases-loop-class l = 4 - l.from

@@ -1,39 +1,33 @@
-use Rattle.std.proofs.Common.{◌*◌, List, ℕ, None, ap, arith, length, map, refl}
+use Rattle.std.proofs.Common.{◌+◌, map, refl}
 use Rattle.worm_theory.specs.Steps.{TakeCredit}
-use Rattle.worm_region.specs.Replies.{Attempts}
+use Rattle.worm_region.specs.Moves.{NoCredit}
 use Rattle.worm_region.specs.Turns.{mesh_ports}
-use Rattle.worm_region.proofs.Passages.{loop_more, loop_on, does_quietly, does_ranged}
+use Rattle.worm_region.proofs.Covering.{covered_all, covered_more, covered_start, no_credit_still}
 use Rattle.worm_region.proofs.region.Region.take_credits.Goals as goal
+
+pub loop-port-init : goal.loop-port-init
+loop-port-init c =
+    let set = c.credits_in-left in
+    let x = c.args.node in (
+      0,
+      covered_start x (TakeCredit x) (λ s. NoCredit s x) c.args.self.now set.result c.requires set.ensures.sound
+          set.ensures.ports,
+    )
 
 pub loop-port-preserved : goal.loop-port-preserved
 loop-port-preserved c =
     let inv = c.loop-port.invariant in
-    let port = c.in-Some.ensures.mesh_port in
-    let on =
-    loop_on (λ i. Attempts (TakeCredit c.args.node i)) c.loop-port.from c.in-Some.port c.args.self.now c.loop-port.self
-    port.0 inv.passed c.in-Some.ensures.before in
-    let more =
-    loop_more (λ i. Attempts (TakeCredit c.args.node i)) c.in-Some.port c.args.self.now c.loop-port.self
-    c.get-moved.new.self None on
-    (does_quietly c.loop-port.self c.get-moved.new.self (TakeCredit c.args.node c.in-Some.port) c.get-moved.result refl
-    (λ grows. grows) c.get-moved.ensures) in
-    let before = ap (λ (m : List ℕ). length m) inv.passed.reaches.config.mesh in
-    let after = ap (λ (m : List ℕ). length m) more.reaches.config.mesh in
-    record {
-      passed = more;
-      mesh_port = omega (arith, port.1);
-      few = omega (arith, port.2);
-    }
+    let one = c.take_credit.ensures in
+    let x = c.args.node in (
+      c.in-Some.port + 1,
+      covered_more x (TakeCredit x) (λ s. NoCredit s x) (no_credit_still x) c.args.self.now c.loop-port.self
+          c.take_credit.new.self c.loop-port.left c.pop_first.new.self inv.0 c.in-Some.port inv.1
+          c.in-Some.ensures one.taken one.others one.sound,
+    )
 
 pub returns : goal.returns
 returns c =
     let inv = c.loop-port.invariant in
-    let same = ap (λ (m : List ℕ). length m) inv.passed.reaches.config.mesh in
-    let none = c.in_default.ensures.none in
-    let on =
-    loop_on (λ i. Attempts (TakeCredit c.args.node i)) c.loop-port.from
-    (2 * length c.loop-port.self.mesh) c.args.self.now c.loop-port.self inv.mesh_port inv.passed
-    (λ p above below. none p above) in
-    does_ranged (λ s. map (TakeCredit c.args.node) (mesh_ports s)) (TakeCredit c.args.node)
-    (2 * length c.args.self.now.mesh) (2 * length c.loop-port.self.mesh) c.args.self.now c.loop-port.self refl
-    (omega arith) on
+    let x = c.args.node in
+    covered_all x (TakeCredit x) (λ s. NoCredit s x) (no_credit_still x) c.args.self.now c.loop-port.self
+    (λ s. map (TakeCredit x) (mesh_ports s)) c.loop-port.left inv.0 inv.1 c.in_default.ensures.0 refl

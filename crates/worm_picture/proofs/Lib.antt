@@ -1,0 +1,6 @@
+mod Taken
+mod Shown
+mod InMesh
+mod Steps
+mod Names
+mod Tails

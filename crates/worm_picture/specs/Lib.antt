@@ -1,0 +1,6 @@
+pub mod Scene
+pub mod Nodes
+pub mod Titles
+pub mod Ways
+pub mod Picture
+pub mod Packets

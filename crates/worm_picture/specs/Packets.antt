@@ -1,0 +1,53 @@
+-- What is known of a report's packets, and the tail of each.
+use Rattle.std.specs.Prelude.{ℕ, ◌&&◌, Bool, ◌==◌, if◌then◌else◌, List, Option, Some, None, max, fold}
+use Rattle.std.specs.Option.{unwrap_or}
+use Rattle.std.specs.List.{filter_map}
+use Rattle.std.specs.Ordering.{nat_cmp, ordering_then}
+use Rattle.std.specs.BTreeMap as tree
+use Rattle.std.specs.declared.cmp.Ordering.{Ordering}
+use Rattle.worm_flit.specs.declared.Lane.{Lane}
+use Rattle.worm_rows.specs.declared.rows.Load.{Load}
+use Rattle.worm_rows.specs.declared.rows.Load.TheVariants.{Close, Word}
+use Rattle.worm_rows.specs.declared.rows.PacketId.{PacketId}
+use Rattle.worm_rows.specs.declared.rows.Row.{Row}
+use Rattle.worm_rows.specs.declared.rows.Row.TheVariants.{Delivered, Underway}
+use Rattle.worm_picture.specs.declared.packets.Packet.{Packet}
+use Rattle.worm_picture.specs.declared.packets.Packets.{Packets}
+
+abbrev pub same_packet : PacketId → PacketId → Bool
+same_packet a b =
+    ((a.lane.src == b.lane.src) && ((a.lane.dst == b.lane.dst) && (a.lane.class == b.lane.class)))
+    && (a.number == b.number)
+
+abbrev pub lane_cmp : Lane → Lane → Ordering
+lane_cmp a b = ordering_then (nat_cmp a.src b.src) (ordering_then (nat_cmp a.dst b.dst) (nat_cmp a.class b.class))
+
+-- packets in order: by lane, and then by number
+abbrev pub packet_cmp : PacketId → PacketId → Ordering
+packet_cmp a b = ordering_then (lane_cmp a.lane b.lane) (nat_cmp a.number b.number)
+
+-- what is known of a packet: nothing, where none of its flits was noted
+abbrev pub known : Packets → PacketId → Packet
+known p packet = unwrap_or (tree.get packet_cmp p.packets packet) (record { last = 0; number = None })
+
+abbrev pub tail_in : Packets → PacketId → ℕ
+tail_in p packet = (known p packet).last
+
+-- the place of a delivered flit in its packet; a close mark is a packet of its own
+abbrev pub place_in : Load → ℕ
+place_in Close = 0
+place_in (Word index word) = index
+
+-- the packet of a row's flit, and the flit's place in it
+abbrev pub place_of : Row → Option (PacketId × ℕ)
+place_of (Delivered packet load) = Some (packet, place_in load)
+place_of (Underway packet index place) = Some (packet, index)
+place_of _ = None
+
+-- the greatest index so far of a packet's flits, with this flit
+abbrev pub last_with : PacketId → ℕ → PacketId → ℕ → ℕ
+last_with packet index other last = if same_packet other packet then max last index else last
+
+-- The greatest index of a packet's flits in the rows: its tail, since a packet is injected whole and loses no flit.
+abbrev pub tail_of : List Row → PacketId → ℕ
+tail_of rows packet = fold (λ last f. last_with f.0 f.1 packet last) 0 (filter_map place_of rows)

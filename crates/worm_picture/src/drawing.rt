@@ -1,0 +1,31 @@
+//! A drawing of a report's rows.
+
+ghost use Rattle.std.specs.Prelude.{◌≡◌, IfOk, false, string_bytes};
+ghost use Rattle.worm_picture.specs.Picture.{PicturesRows};
+
+use crate::map::map;
+use crate::packets::Packets;
+use crate::picture::picture;
+use crate::views::views;
+use std::alloc::{AllocError, Global};
+use worm_rows::{Row, Shape};
+
+/// The picture of a report's rows, of a network of this shape with buffers of `depth` flits, 1 to 16; or its map for a
+/// terminal, whose text no clause tells.
+pub fn draw(
+    alloc: Global,
+    shape: &Shape,
+    depth: u8,
+    rows: &[Row],
+    as_map: bool,
+) -> Result<String, AllocError>
+    ensures { IfOk result (λ drawing. as_map ≡ false → PicturesRows shape.now rows.now (string_bytes drawing)) }
+{
+    let packets = Packets::of(alloc, rows)?;
+    let views = views(alloc, shape, rows, &packets)?;
+    if as_map {
+        map(alloc, &shape.mesh, depth, views.as_slice())
+    } else {
+        picture(alloc, shape, depth, rows, &packets, views.as_slice())
+    }
+}

@@ -1,0 +1,73 @@
+//! The flits of a picture: each an element that begins with its title.
+
+ghost use Rattle.std.specs.Prelude.{[], ◌∷◌, map, OnOk};
+ghost use Rattle.worm_picture.specs.Picture.{Adds, flit_name, name_of};
+
+use crate::layout::SLOT;
+use crate::packets::{Packet, Packets};
+use crate::scene::Flit;
+use crate::signs::{colour_of, mark_of, shape_of};
+use crate::svg::Svg;
+use crate::titles::FlitTitle;
+use std::alloc::AllocError;
+use std::fmt::Write;
+
+/// The beginning of a flit, and what hovering over it says.
+fn add_title(svg: &mut Svg, title: FlitTitle) -> Result<(), AllocError>
+    ensures { OnOk result (Adds svg.old svg.new (name_of title.packet title.index ∷ [])) }
+{
+    write!(svg.text, "<g><title>{title}</title>")
+}
+
+/// The shape of a flit with its middle there, in its packet's colour.
+fn add_shape(svg: &mut Svg, index: u8, packet: Packet, x: u32, y: u32) -> Result<(), AllocError>
+    ensures { OnOk result (Adds svg.old svg.new []) }
+{
+    let shape = shape_of(index, packet.last);
+    let colour = colour_of(packet.number.unwrap_or(0));
+    write!(
+        svg.text,
+        "<use href=\"#{shape}\" x=\"-{x}\" y=\"{y}\" fill=\"{colour}\"/>"
+    )
+}
+
+/// The mark of a packet on a flit with its middle there.
+fn add_mark(svg: &mut Svg, packet: Packet, x: u32, y: u32) -> Result<(), AllocError>
+    ensures { OnOk result (Adds svg.old svg.new []) }
+{
+    let mark = mark_of(packet.number.unwrap_or(0));
+    write!(svg.text, "<use href=\"#{mark}\" x=\"-{x}\" y=\"{y}\"/>")
+}
+
+/// A flit with its middle there, and what hovering over it says.
+fn add_flit(svg: &mut Svg, flit: &Flit, packet: Packet, x: u32, y: u32) -> Result<(), AllocError>
+    ensures { OnOk result (Adds svg.old svg.new (flit_name flit.now ∷ [])) }
+{
+    let title = FlitTitle {
+        packet: flit.packet,
+        index: flit.index,
+        last: packet.last,
+    };
+    add_title(svg, title)?;
+    add_shape(svg, flit.index, packet, x, y)?;
+    add_mark(svg, packet, x, y)?;
+    svg.close()
+}
+
+/// Flits one behind the other, the first with its middle there.
+pub fn add_row(
+    svg: &mut Svg,
+    packets: &Packets,
+    flits: &[Flit],
+    first: u32,
+    y: u32,
+) -> Result<(), AllocError>
+    ensures { OnOk result (Adds svg.old svg.new (map flit_name flits.now)) }
+{
+    let mut x = first;
+    for flit in flits {
+        add_flit(svg, flit, packets.get(flit.packet), x, y)?;
+        x = x.saturating_add(SLOT);
+    }
+    Ok(())
+}

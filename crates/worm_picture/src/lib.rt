@@ -1,0 +1,24 @@
+//! The picture of a report: what a network's flits and counts are at the end of a run, drawn as SVG, or as a map for a
+//! terminal.
+//!
+//! Proved is which flits are shown at which node, in its buffers and on the links to it, in three groups (`views`);
+//! what hovering over a flit says (`titles`); and that the picture's text, read as a whole, has just these flits, one
+//! by one (`picture`). Not proved is how they look and where they stand, what else is drawn, and the text of the map.
+#![tactic(auto)]
+
+mod counts;
+mod drawing;
+mod flits;
+mod layout;
+mod legend;
+mod map;
+mod packets;
+mod picture;
+mod scene;
+mod signs;
+mod svg;
+mod titles;
+mod views;
+mod ways;
+
+pub use drawing::draw;

@@ -1,0 +1,102 @@
+//! The packets of a report: which flit of each is its last, and how each is coloured.
+
+ghost use Rattle.std.specs.Prelude.{◌≡◌, IfOk, OnOk};
+ghost use Rattle.std.specs.Option.{option_map};
+ghost use Rattle.worm_rows.specs.declared.rows.PacketId.{PacketId};
+ghost use Rattle.worm_picture.specs.Packets.{known, last_with, place_of, tail_in, tail_of};
+
+use std::alloc::{AllocError, Global};
+use std::collections::BTreeMap;
+use worm_core::Place;
+use worm_rows::{Load, PacketId, Row};
+
+/// What is known of a packet.
+#[derive(Clone, Copy, Debug, PartialEq, Eq, Drop)]
+pub struct Packet {
+    /// The greatest index of its flits in the report. A packet is injected whole and loses no flit, so this is its
+    /// tail.
+    pub last: u8,
+    /// Its number among the packets with a flit in a buffer or on a link, in the report's order.
+    pub number: Option<u32>,
+}
+
+/// The packets of a report, by lane and number.
+#[derive(Drop)]
+pub struct Packets {
+    packets: BTreeMap<PacketId, Packet>,
+    moving: u32,
+}
+
+/// The packet of a row and the place of its flit in it, and whether the flit is in a buffer or on a link.
+fn flit_of(row: &Row) -> Option<(PacketId, u8, bool)>
+    ensures { option_map (λ f. (f.0, f.1)) result ≡ place_of row.now }
+{
+    match row {
+        Row::Delivered { packet, load } => Some((
+            *packet,
+            match load {
+                Load::Close => 0,
+                Load::Word { index, .. } => *index,
+            },
+            false,
+        )),
+        Row::Underway {
+            packet,
+            index,
+            place,
+        } => Some((*packet, *index, *place != Place::Source)),
+        _ => None,
+    }
+}
+
+impl Packets {
+    /// The packets of these rows.
+    pub fn of(alloc: Global, rows: &[Row]) -> Result<Packets, AllocError>
+        ensures tails { IfOk result (λ p. (packet : PacketId) → tail_in p packet ≡ tail_of rows.now packet) }
+    {
+        let mut packets = Packets {
+            packets: BTreeMap::new(alloc),
+            moving: 0,
+        };
+        for row in rows {
+            match flit_of(row) {
+                Some((packet, index, moves)) => packets.note(packet, index, moves)?,
+                None => {}
+            }
+        }
+        Ok(packets)
+    }
+
+    /// One flit more of the packet.
+    fn note(&mut self, packet: PacketId, index: u8, moves: bool) -> Result<(), AllocError>
+        ensures tails { OnOk result ((other : PacketId)
+            → tail_in self.new other ≡ last_with packet index other (tail_in self.old other)) }
+    {
+        let mut known = self.get(packet);
+        known.last = known.last.max(index);
+        if moves && known.number.is_none() {
+            known.number = Some(self.moving);
+            self.moving = self.moving.saturating_add(1);
+        }
+        self.packets.insert(packet, known)?;
+        Ok(())
+    }
+
+    /// What is known of a packet.
+    pub fn get(&self, packet: PacketId) -> Packet
+        ensures { result ≡ known self.now packet }
+    {
+        match self.packets.get(&packet) {
+            Some(known) => *known,
+            None => Packet {
+                last: 0,
+                number: None,
+            },
+        }
+    }
+
+    /// How many packets have a flit in a buffer or on a link.
+    pub fn moving(&self) -> u32 {
+        self.moving
+    }
+}

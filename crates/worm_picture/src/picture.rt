@@ -1,0 +1,433 @@
+//! The picture of a report, as SVG.
+
+ghost use Rattle.std.specs.Prelude.{[], map, IfOk, OnOk, string_bytes};
+ghost use Rattle.std.specs.List.{flat_map};
+ghost use Rattle.worm_picture.specs.Nodes.{shown, station_flits, view_flits};
+ghost use Rattle.worm_picture.specs.Picture.{Adds, PicturesFlits, flit_name};
+
+use crate::counts::add_counts;
+use crate::flits::add_row;
+use crate::layout::{HEADING, LEGEND, Layout, NAME, NARROWEST, SLOT, digit, radix, slices_across};
+use crate::legend::{add_heading, add_legend, add_style};
+use crate::packets::Packets;
+use crate::scene::{Flit, exit_port};
+use crate::signs::{exit_of, frame_of, slots_of};
+use crate::svg::Svg;
+use crate::views::{NodeView, Station};
+use crate::ways::{Way, add_way};
+use std::alloc::{AllocError, Global};
+use std::fmt::Write;
+use worm_rows::{Row, Shape};
+
+/// What a picture is drawn from.
+#[derive(Drop)]
+struct Scene<'a> {
+    shape: &'a Shape,
+    depth: u8,
+    rows: &'a [Row],
+    packets: &'a Packets,
+    layout: Layout,
+    head: u32,
+}
+
+impl<'a> Scene<'a> {
+    /// How far the channels of a port stand from the middle of its node's core, across the way of its flits.
+    fn offset(&self, port: u8) -> u32 {
+        if port < 4 && port < 2 * self.shape.mesh.dims() {
+            2
+        } else {
+            self.layout.core + 4
+        }
+    }
+
+    /// The slots of a channel, marked where all are taken.
+    fn add_slots(&self, svg: &mut Svg, count: usize, top: u32) -> Result<(), AllocError>
+        ensures { OnOk result (Adds svg.old svg.new []) }
+    {
+        let long = self.layout.long;
+        let left = self.layout.core + long;
+        let class = slots_of(count >= usize::from(self.depth));
+        write!(
+            svg.text,
+            "<rect class=\"{class}\" x=\"-{left}\" y=\"{top}\" width=\"{long}\" height=\"12\"/>\n"
+        )
+    }
+
+    /// The buffer of a channel, where there is such a channel.
+    fn add_buffer(&self, svg: &mut Svg, station: &Station, top: u32) -> Result<(), AllocError>
+        ensures { OnOk result (Adds svg.old svg.new []) }
+    {
+        if self.has_input(station.spot.node, station.spot.port) {
+            self.add_slots(svg, station.held.len(), top)
+        } else {
+            Ok(())
+        }
+    }
+
+    /// The way of the flit at the front of a buffer through the core: a line in its packet's colour to the port that
+    /// it leaves by, and along the link where its packet holds it.
+    fn add_way(&self, svg: &mut Svg, flit: &Flit, y: u32) -> Result<(), AllocError>
+        ensures { OnOk result (Adds svg.old svg.new []) }
+    {
+        let mesh = &self.shape.mesh;
+        let dims = mesh.dims();
+        let Some(exit) = exit_port(mesh, flit) else {
+            return Ok(());
+        };
+        let packet = self.packets.get(flit.packet);
+        let core = self.layout.core;
+        svg.open_frame(frame_of(dims, flit.spot.port))?;
+        add_way(svg, flit.index, packet, Way::In { core, level: y })?;
+        svg.close()?;
+        let to = if exit == 2 * dims {
+            core
+        } else if flit.index == 0 || exit >= 4 {
+            self.layout.half
+        } else {
+            self.layout.reach()
+        };
+        let level = if exit == 2 * dims { core } else { 2 + SLOT / 2 };
+        svg.open_frame(exit_of(dims, exit))?;
+        add_way(svg, flit.index, packet, Way::Out { core, level, to })?;
+        svg.close()
+    }
+
+    /// A channel of an input port: its slots, and what is in them and on its link.
+    fn add_channel(&self, svg: &mut Svg, station: &Station) -> Result<(), AllocError>
+        ensures { OnOk result (Adds svg.old svg.new (map flit_name (station_flits station.now))) }
+    {
+        let top = self.top_of(station);
+        let y = top.saturating_add(SLOT / 2);
+        let front = self.layout.core + SLOT / 2;
+        let behind = front + self.layout.long + SLOT / 2;
+        svg.open_frame(frame_of(self.shape.mesh.dims(), station.spot.port))?;
+        self.add_buffer(svg, station, top)?;
+        add_row(svg, self.packets, station.held.as_slice(), front, y)?;
+        add_row(svg, self.packets, station.coming.as_slice(), behind, y)?;
+        svg.close()
+    }
+
+    /// How far a channel stands from the middle of its node's core, across the way of its flits.
+    fn top_of(&self, station: &Station) -> u32 {
+        let above = u32::from(station.spot.vc).saturating_mul(SLOT);
+        self.offset(station.spot.port).saturating_add(above)
+    }
+
+    /// The link to an input port, where there is one.
+    fn add_link(&self, svg: &mut Svg, node: u8, port: u8) -> Result<(), AllocError>
+        ensures { OnOk result (Adds svg.old svg.new []) }
+    {
+        let dims = self.shape.mesh.dims();
+        if port >= 4 || port >= 2 * dims || !self.has_input(node, port) {
+            return Ok(());
+        }
+        let right = self.layout.core + self.layout.long;
+        let start = self.layout.pitch - self.layout.half;
+        let level = 2 + SLOT / 2;
+        svg.open_frame(frame_of(dims, port))?;
+        write!(
+            svg.text,
+            "<path class=\"link\" d=\"M-{start},{level}L-{right},{level}\"/>\n"
+        )?;
+        svg.close()
+    }
+
+    /// Whether flits come in at the port.
+    fn has_input(&self, node: u8, port: u8) -> bool {
+        port == 2 * self.shape.mesh.dims() || self.shape.mesh.neighbour(node, port).is_some()
+    }
+
+    /// How full the buffers of a node are, in five steps.
+    fn load_of(&self, view: &NodeView) -> u8 {
+        let ports = (0..7u8)
+            .filter(|port| *port <= 2 * self.shape.mesh.dims() && self.has_input(view.node, *port))
+            .count();
+        let room = ports
+            .saturating_mul(usize::from(self.shape.channels))
+            .saturating_mul(usize::from(self.depth));
+        let held = view.held();
+        if held == 0 {
+            0
+        } else if held.saturating_mul(4) <= room {
+            1
+        } else if held.saturating_mul(2) <= room {
+            2
+        } else if held.saturating_mul(4) <= room.saturating_mul(3) {
+            3
+        } else {
+            4
+        }
+    }
+
+    /// The ways of the flits at the fronts of a node's buffers.
+    fn add_ways(&self, svg: &mut Svg, view: &NodeView) -> Result<(), AllocError>
+        ensures { OnOk result (Adds svg.old svg.new []) }
+    {
+        for station in view.stations.as_slice() {
+            self.add_first_way(svg, station)?;
+        }
+        Ok(())
+    }
+
+    /// The way of the flit at the front of a channel's buffer, where there is one.
+    fn add_first_way(&self, svg: &mut Svg, station: &Station) -> Result<(), AllocError>
+        ensures { OnOk result (Adds svg.old svg.new []) }
+    {
+        match station.held.as_slice().first() {
+            Some(first) => {
+                let y = self.top_of(station).saturating_add(SLOT / 2);
+                self.add_way(svg, first, y)
+            }
+            None => Ok(()),
+        }
+    }
+
+    /// The middle of a node.
+    fn middle_of(&self, node: u8) -> (u32, u32) {
+        let mesh = &self.shape.mesh;
+        let (left, top) = self.corner_of(digit(mesh, node, 2));
+        let x = self.layout.middle(digit(mesh, node, 0));
+        let y = self.layout.middle(digit(mesh, node, 1));
+        (x.saturating_add(left), y.saturating_add(top))
+    }
+
+    /// The upper left corner of a slice: all nodes with that digit in the third dimension.
+    fn corner_of(&self, slice: u8) -> (u32, u32) {
+        let across = slices_across(&self.shape.mesh);
+        let (width, height) = self.slice_size();
+        let left = width.saturating_mul(u32::from(slice) % across);
+        let top = height.saturating_mul(u32::from(slice) / across);
+        let name = height.saturating_sub(self.nodes_height());
+        (left, top.saturating_add(name).saturating_add(self.head))
+    }
+
+    /// The height of the nodes of a slice.
+    fn nodes_height(&self) -> u32 {
+        u32::from(radix(&self.shape.mesh, 1)).saturating_mul(self.layout.pitch)
+    }
+
+    /// The width and the height of a slice, with its name where there are several.
+    fn slice_size(&self) -> (u32, u32) {
+        let mesh = &self.shape.mesh;
+        let columns = u32::from(radix(mesh, 0));
+        let name = if radix(mesh, 2) > 1 { NAME } else { 0 };
+        (
+            columns
+                .saturating_mul(self.layout.pitch)
+                .saturating_add(SLOT),
+            self.nodes_height().saturating_add(name),
+        )
+    }
+
+    /// The width and the height of all slices.
+    fn size(&self) -> (u32, u32) {
+        let mesh = &self.shape.mesh;
+        let across = slices_across(mesh);
+        let down = u32::from(radix(mesh, 2)).div_ceil(across);
+        let (width, height) = self.slice_size();
+        (width.saturating_mul(across), height.saturating_mul(down))
+    }
+
+    /// The names of the slices, where there are several.
+    fn add_names(&self, svg: &mut Svg) -> Result<(), AllocError>
+        ensures { OnOk result (Adds svg.old svg.new []) }
+    {
+        let slices = radix(&self.shape.mesh, 2);
+        if slices == 1 {
+            return Ok(());
+        }
+        for slice in 0..slices {
+            self.add_name(svg, slice)?;
+        }
+        Ok(())
+    }
+
+    /// The name of a slice.
+    fn add_name(&self, svg: &mut Svg, slice: u8) -> Result<(), AllocError>
+        ensures { OnOk result (Adds svg.old svg.new []) }
+    {
+        let (x, y) = self.corner_of(slice);
+        svg.open_at(x, y)?;
+        write!(
+            svg.text,
+            "<text class=\"head\" x=\"15\" y=\"0\">Third dimension: {slice}</text>\n"
+        )?;
+        svg.close()
+    }
+
+    /// The border of a node, the links to it, and its counts.
+    fn add_ground(&self, svg: &mut Svg, view: &NodeView) -> Result<(), AllocError>
+        ensures { OnOk result (Adds svg.old svg.new []) }
+    {
+        let (x, y) = self.middle_of(view.node);
+        svg.open_at(x, y)?;
+        self.add_border(svg, view)?;
+        self.add_links(svg, view.node)?;
+        add_counts(svg, &self.layout, self.rows, view)?;
+        svg.close()
+    }
+
+    /// The border of a node, which shows how full it is.
+    fn add_border(&self, svg: &mut Svg, view: &NodeView) -> Result<(), AllocError>
+        ensures { OnOk result (Adds svg.old svg.new []) }
+    {
+        let half = self.layout.half;
+        let side = 2 * half;
+        let load = self.load_of(view);
+        write!(
+            svg.text,
+            "<rect class=\"n{load}\" x=\"-{half}\" y=\"-{half}\" width=\"{side}\" height=\"{side}\" rx=\"4\"/>\n"
+        )
+    }
+
+    /// The links to a node.
+    fn add_links(&self, svg: &mut Svg, node: u8) -> Result<(), AllocError>
+        ensures { OnOk result (Adds svg.old svg.new []) }
+    {
+        for port in 0..4u8 {
+            self.add_link(svg, node, port)?;
+        }
+        Ok(())
+    }
+
+    /// The ways of a node's flits.
+    fn add_traces(&self, svg: &mut Svg, view: &NodeView) -> Result<(), AllocError>
+        ensures { OnOk result (Adds svg.old svg.new []) }
+    {
+        let (x, y) = self.middle_of(view.node);
+        svg.open_at(x, y)?;
+        self.add_ways(svg, view)?;
+        svg.close()
+    }
+
+    /// The channels of a node, with what is in them and on their links.
+    fn add_channels(&self, svg: &mut Svg, stations: &[Station]) -> Result<(), AllocError>
+        ensures { OnOk result (Adds svg.old svg.new (map flit_name (flat_map station_flits stations.now))) }
+    {
+        for station in stations {
+            self.add_channel(svg, station)?;
+        }
+        Ok(())
+    }
+
+    /// The flits in a node's buffers and on the links to it.
+    fn add_node(&self, svg: &mut Svg, view: &NodeView) -> Result<(), AllocError>
+        ensures { OnOk result (Adds svg.old svg.new (map flit_name (view_flits view.now))) }
+    {
+        let (x, y) = self.middle_of(view.node);
+        svg.open_at(x, y)?;
+        self.add_channels(svg, view.stations.as_slice())?;
+        svg.close()
+    }
+
+    /// The flits of all nodes.
+    fn add_nodes(&self, svg: &mut Svg, views: &[NodeView]) -> Result<(), AllocError>
+        ensures { OnOk result (Adds svg.old svg.new (map flit_name (shown views.now))) }
+    {
+        for view in views {
+            self.add_node(svg, view)?;
+        }
+        Ok(())
+    }
+
+    /// The ground: the borders and links of all nodes, and their counts.
+    fn add_grounds(&self, svg: &mut Svg, views: &[NodeView]) -> Result<(), AllocError>
+        ensures { OnOk result (Adds svg.old svg.new []) }
+    {
+        for view in views {
+            self.add_ground(svg, view)?;
+        }
+        Ok(())
+    }
+
+    /// The ways of all nodes' flits.
+    fn add_all_traces(&self, svg: &mut Svg, views: &[NodeView]) -> Result<(), AllocError>
+        ensures { OnOk result (Adds svg.old svg.new []) }
+    {
+        for view in views {
+            self.add_traces(svg, view)?;
+        }
+        Ok(())
+    }
+
+    /// What stands before the flits.
+    fn add_front(&self, svg: &mut Svg, views: &[NodeView], page: &Page) -> Result<(), AllocError>
+        ensures { OnOk result (Adds svg.old svg.new []) }
+    {
+        page.open(svg)?;
+        add_style(svg)?;
+        add_heading(svg, self.rows, self.packets.moving(), page.scale)?;
+        self.add_names(svg)?;
+        self.add_grounds(svg, views)?;
+        self.add_all_traces(svg, views)
+    }
+
+    /// The flits between what stands before them and what comes behind.
+    fn text(&self, alloc: Global, views: &[NodeView], page: &Page) -> Result<String, AllocError>
+        ensures { IfOk result (λ text. PicturesFlits (string_bytes text) (shown views.now)) }
+    {
+        let mut picture = Svg::new(alloc);
+        self.add_front(&mut picture, views, page)?;
+        self.add_nodes(&mut picture, views)?;
+        add_legend(&mut picture, page.foot, page.scale)?;
+        Ok(picture.text)
+    }
+}
+
+/// The sizes of a picture.
+#[derive(Clone, Copy, Debug, PartialEq, Eq)]
+struct Page {
+    width: u32,
+    height: u32,
+    /// Where the legend begins.
+    foot: u32,
+    /// How large the heading and the legend are.
+    scale: u32,
+}
+
+impl Page {
+    /// The beginning of the picture.
+    fn open(&self, svg: &mut Svg) -> Result<(), AllocError>
+        ensures { OnOk result (Adds svg.old svg.new []) }
+    {
+        let width = self.width;
+        let height = self.height;
+        write!(
+            svg.text,
+            "<svg xmlns=\"http://www.w3.org/2000/svg\" viewBox=\"0 0 {width} {height}\" font-family=\"sans-serif\">\n"
+        )
+    }
+}
+
+/// The picture of these nodes, as the rows show them of a network of this shape with buffers of this depth.
+pub fn picture(
+    alloc: Global,
+    shape: &Shape,
+    depth: u8,
+    rows: &[Row],
+    packets: &Packets,
+    views: &[NodeView],
+) -> Result<String, AllocError>
+    ensures { IfOk result (λ text. PicturesFlits (string_bytes text) (shown views.now)) }
+{
+    let mut scene = Scene {
+        shape,
+        depth,
+        rows,
+        packets,
+        layout: Layout::new(depth, shape.channels),
+        head: 0,
+    };
+    let (mesh_width, mesh_height) = scene.size();
+    let width = mesh_width.max(NARROWEST);
+    let scale = width / NARROWEST;
+    scene.head = HEADING.saturating_mul(scale);
+    let foot = mesh_height.saturating_add(scene.head);
+    let page = Page {
+        width,
+        height: foot.saturating_add(LEGEND.saturating_mul(scale)),
+        foot,
+        scale,
+    };
+    scene.text(alloc, views, &page)
+}

@@ -1,0 +1,221 @@
+-- What comes in at a node is taken port by port: at each port of a set, and at the others there is none.
+use Rattle.std.proofs.Common.{◌≡◌, ℕ, ◌+◌, ◌*◌, ◌<◌, ◌≤◌, true, false, inl, inr, List, drop, length, map, None, Some}
+use Rattle.std.proofs.Common.{Ok, Err, Option, refl, arith, ap, sym, subst, ◌∙◌}
+use Rattle.std.specs.Prelude.{IsSome, Result, slice_get}
+use Rattle.std.specs.List.{range_with_len}
+use Rattle.std.proofs.lemmas.Bool.{cases_lt}
+use Rattle.std.proofs.lemmas.List.{get_or-set_other}
+use Rattle.worm_mesh.specs.Address.{AreRadices, neighbour_of, node_count}
+use Rattle.worm_mesh.specs.Links.{links_before}
+use Rattle.worm_theory.specs.Steps.{Step, Take, TakeCredit}
+use Rattle.worm_theory.proofs.Places.{number_cases}
+use Rattle.worm_wires.specs.Links.{LinkView, blank_link}
+use Rattle.worm_wires.specs.Ports.{has, IsFirst}
+use Rattle.worm_wires.specs.Wiring.{into_from}
+use Rattle.worm_wires.proofs.Apart.{in_once, into_is, out_is, out_once}
+use Rattle.worm_wires.specs.Arrivals.{AreFronts, credits_to, flits_to}
+use Rattle.worm_wires.proofs.PortSets.{has_none}
+use Rattle.worm_wires.proofs.Looking.{credits_past, flits_past, is_below, lacks, nothing_in, nothing_out}
+use Rattle.worm_region.specs.Shape.{net_shape}
+use Rattle.worm_region.specs.State.{NetState, link_at, with_link}
+use Rattle.worm_region.specs.Moves.{Covers, NoCredit, NoFlit, after_getting, after_take, front_credit, front_into}
+use Rattle.worm_region.specs.Moves.{link_into, link_out}
+use Rattle.worm_region.specs.Workable.{IsWorkable}
+use Rattle.worm_region.specs.Replies.{Attempts, Replies}
+use Rattle.worm_region.specs.Turns.{Does, Each, ForEach}
+use Rattle.worm_region.specs.declared.step.Moved.{Moved}
+use Rattle.worm_region.specs.declared.step.Moved.TheVariants.{Done, Idle}
+use Rattle.worm_region.specs.declared.fault.StepFault.{StepFault}
+use Rattle.worm_region.specs.declared.fault.StepFault.TheVariants.{NoSuchPlace, Refused, NoMemory}
+use Rattle.worm_flit.specs.declared.Flit.{Flit}
+use Rattle.worm_region.proofs.LinkedPorts.{links_of}
+use Rattle.worm_region.proofs.Resting.{credit_still, flit_still}
+use Rattle.worm_region.proofs.Passages.{does_nothing, does_ranged, loop_more, loop_on}
+
+-- how far the ports have come: all below `port` are done, and of the others there is none but at those of the set
+pub record Covered (x : ℕ) (E : ℕ → Step) (NoneAt : NetState → ℕ → Type 0) (a b : NetState) (set port : ℕ)
+    : Type 0 where
+  pub passed : Does (Each (λ p. Attempts (E p)) (range_with_len 0 port)) a None b
+  pub there : x < node_count b.mesh
+  pub sound : IsWorkable b
+  pub port_in : port ≤ 2 * length b.mesh
+  pub later : (p : ℕ) → p < port → has set p ≡ false
+  pub rest : (p : ℕ) → port ≤ p → p < 2 * length b.mesh → has set p ≡ false → NoneAt b p
+  pub places : (p : ℕ) → p < 8 → has set p ≡ true → p < 2 * length b.mesh
+
+pub covered_start : (x : ℕ) (E : ℕ → Step) (NoneAt : NetState → ℕ → Type 0) (a : NetState) (set : ℕ)
+    → x < node_count a.mesh → IsWorkable a → Covers (NoneAt a) (2 * length a.mesh) set → Covered x E NoneAt a a set 0
+covered_start x E NoneAt a set there sound covers = record {
+  passed = does_nothing a;
+  there = there;
+  sound = sound;
+  port_in = omega arith;
+  later = λ p below. absurd (omega arith);
+  rest = λ p above p_in none. covers.rest p p_in none;
+  places = covers.places;
+}
+
+module _ (x : ℕ) (E : ℕ → Step) (NoneAt : NetState → ℕ → Type 0)
+    (still : (s : NetState) (p : ℕ) → IsWorkable s → x < node_count s.mesh → NoneAt s p → Attempts (E p) s None s) where
+  -- ports at which there is none are passed
+  along : (a b : NetState) (set port to : ℕ) → Covered x E NoneAt a b set port → port ≤ to → to ≤ 2 * length b.mesh
+      → ((p : ℕ) → port ≤ p → p < to → has set p ≡ false)
+      → Does (Each (λ p. Attempts (E p)) (range_with_len 0 to)) a None b
+  along a b set port to covered less to_in none =
+      loop_on (λ p. Attempts (E p)) port to a b less covered.passed
+      (λ p above below. still b p covered.sound covered.there
+      (covered.rest p above (omega arith) (none p above below)))
+
+  pub covered_more : (a b c : NetState) (set new port q : ℕ) → Covered x E NoneAt a b set port → IsFirst set new q
+      → Does (Attempts (E q)) b None c → ((p : ℕ) → (p ≡ q → ⊥) → NoneAt b p → NoneAt c p) → IsWorkable c
+      → Covered x E NoneAt a c new (q + 1)
+  covered_more a b c set new port q covered first taken others sound =
+      let above : port ≤ q = elim (cases_lt q port) [
+        | inl below ↦ let off = covered.later q below in let on = first.was_in in absurd (cc)
+        | inr above ↦ above
+      ] in
+      let q_in : q < 2 * length b.mesh = covered.places q first.in_range first.was_in in
+      let up_to = along a b set port q covered above (omega arith) (λ p from below. first.none_before p below) in
+      let few = covered.sound.framed.radices.few_dims in
+      let config = taken.reaches.config in
+      let mesh = ap (λ (m : List ℕ). length m) config.mesh in
+      let nodes = ap node_count config.mesh in
+      record {
+        passed = loop_more (λ p. Attempts (E p)) q a b c None up_to taken;
+        there = omega (arith, covered.there);
+        sound = sound;
+        port_in = omega arith;
+        later = λ p before. elim (number_cases p q) [
+          | inl same ↦ ap (has new) same.1 ∙ first.taken.here
+          | inr away ↦
+              let differs = away.1 in
+              first.taken.elsewhere p (omega (arith, first.in_range)) differs ∙ first.none_before p (omega arith)
+        ];
+        rest = λ p from p_in none.
+            let differs : p ≡ q → ⊥ = λ e. omega arith in
+            others p differs (covered.rest p (omega arith) (omega arith)
+            (sym (first.taken.elsewhere p (omega (arith, few)) differs) ∙ none));
+        places = λ p p_few some. elim (number_cases p q) [
+          | inl same ↦ absurd (let off = ap (has new) same.1 ∙ first.taken.here in cc)
+          | inr away ↦
+              let was = covered.places p p_few (sym (first.taken.elsewhere p p_few away.1) ∙ some) in omega arith
+        ];
+      }
+
+  pub covered_all : (a b : NetState) (list : NetState → List Step) (set port : ℕ) → Covered x E NoneAt a b set port
+      → set ≡ 0 → list a ≡ map E (range_with_len 0 (2 * length a.mesh)) → Does (ForEach list Attempts) a None b
+  covered_all a b list set port covered none is =
+      let whole = along a b set port (2 * length b.mesh) covered covered.port_in (omega arith)
+      (λ p above below. ap (λ (s : ℕ). has s p) none ∙ has_none 0 p refl) in
+      let mesh = ap (λ (m : List ℕ). length m) whole.reaches.config.mesh in
+      does_ranged list E (2 * length a.mesh) (2 * length b.mesh) a b is (omega arith) whole
+
+-- the links of two ports are two
+
+out_apart : (mesh : List ℕ) (x p q : ℕ) → AreRadices mesh → IsSome (neighbour_of mesh x p)
+    → IsSome (neighbour_of mesh x q) → links_before mesh x p ≡ links_before mesh x q → p ≡ q
+out_apart mesh x p q radices at_p at_q same =
+    let here = out_is mesh x q (neighbour_of mesh x q) at_q in
+    let there = out_is mesh x p (neighbour_of mesh x p) at_p in
+    (out_once mesh x q x p (links_before mesh x q) radices here (there ∙ ap (λ (k : ℕ). Some k) same)).1
+
+in_apart : (mesh : List ℕ) (x p q : ℕ) → AreRadices mesh → IsSome (neighbour_of mesh x p)
+    → IsSome (neighbour_of mesh x q)
+    → into_from mesh p (neighbour_of mesh x p) ≡ into_from mesh q (neighbour_of mesh x q) → p ≡ q
+in_apart mesh x p q radices at_p at_q same =
+    let here = into_is mesh q (neighbour_of mesh x q) at_q in
+    let there = into_is mesh p (neighbour_of mesh x p) at_p in
+    (in_once mesh x q x p (into_from mesh q (neighbour_of mesh x q)) radices here
+    (there ∙ ap (λ (k : ℕ). Some k) same)).1
+
+-- what is taken by one port is not there by another, nor was it
+
+link_elsewhere : (s : NetState) (k j : ℕ) (l : LinkView) → (j ≡ k → ⊥) → link_at (with_link s k l) j ≡ link_at s j
+link_elsewhere s k j l away = get_or-set_other s.links k j l blank_link away
+
+credit_kept : (s : NetState) (x q p : ℕ) (c : Option ℕ) → AreRadices s.mesh → IsSome (neighbour_of s.mesh x q)
+    → (p ≡ q → ⊥) → NoCredit s x p → NoCredit (after_getting s x q c) x p
+credit_kept s x q p None radices at_q away none = none
+credit_kept s x q p (Some c) radices at_q away none = λ at_p.
+    ap (λ (l : LinkView). slice_get l.credits 0)
+    (link_elsewhere s (link_out s x q) (link_out s x p)
+    (record (link_at s (link_out s x q)) { credits = drop 1 (link_at s (link_out s x q)).credits })
+    (λ e. away (out_apart s.mesh x p q radices at_p at_q e)))
+    ∙ none at_p
+
+flit_kept : (s : NetState) (x q p : ℕ) (f : Option Flit) → AreRadices s.mesh → IsSome (neighbour_of s.mesh x q)
+    → (p ≡ q → ⊥) → NoFlit s x p → NoFlit (after_take s x q (link_into s x q) f) x p
+flit_kept s x q p None radices at_q away none = none
+flit_kept s x q p (Some f) radices at_q away none = λ at_p.
+    ap (λ (l : LinkView). slice_get l.flits 0)
+    (link_elsewhere s (link_into s x q) (link_into s x p)
+    (record (link_at s (link_into s x q)) { flits = drop 1 (link_at s (link_into s x q)).flits })
+    (λ e. away (in_apart s.mesh x p q radices at_p at_q e)))
+    ∙ none at_p
+
+pub credit_elsewhere : (a b : NetState) (x q : ℕ) (answer : Result Moved StepFault) → IsWorkable a
+    → Replies a (TakeCredit x q) answer b → (p : ℕ) → (p ≡ q → ⊥) → NoCredit a x p → NoCredit b x p
+unfolding net_shape
+credit_elsewhere a b x q (Ok Done) net done p away none =
+    subst (λ (s : NetState). NoCredit s x p) (sym done.exact)
+    (credit_kept a x q p (front_credit a x q) net.framed.radices done.there.1 away none)
+credit_elsewhere a b x q (Ok Idle) net idle p away none = subst (λ (s : NetState). NoCredit s x p) (sym idle.3) none
+credit_elsewhere a b x q (Err NoSuchPlace) net refused p away none =
+    subst (λ (s : NetState). NoCredit s x p) (sym refused.1) none
+credit_elsewhere a b x q (Err (Refused why)) net refused p away none =
+    subst (λ (s : NetState). NoCredit s x p) (sym refused.3) none
+credit_elsewhere a b x q (Err NoMemory) net refused p away none =
+    subst (λ (s : NetState). NoCredit s x p) (sym refused.3) none
+
+pub flit_elsewhere : (a b : NetState) (x q : ℕ) (answer : Result Moved StepFault) → IsWorkable a
+    → Replies a (Take x q) answer b → (p : ℕ) → (p ≡ q → ⊥) → NoFlit a x p → NoFlit b x p
+unfolding net_shape
+flit_elsewhere a b x q (Ok Done) net done p away none =
+    subst (λ (s : NetState). NoFlit s x p) (sym done.exact)
+    (flit_kept a x q p (front_into a x q) net.framed.radices done.there.1 away none)
+flit_elsewhere a b x q (Ok Idle) net idle p away none = subst (λ (s : NetState). NoFlit s x p) (sym idle.3) none
+flit_elsewhere a b x q (Err NoSuchPlace) net refused p away none =
+    subst (λ (s : NetState). NoFlit s x p) (sym refused.1) none
+flit_elsewhere a b x q (Err (Refused why)) net refused p away none =
+    subst (λ (s : NetState). NoFlit s x p) (sym refused.3) none
+flit_elsewhere a b x q (Err NoMemory) net refused p away none =
+    subst (λ (s : NetState). NoFlit s x p) (sym refused.3) none
+
+-- where there is none a step takes none
+pub no_credit_still : (x : ℕ) (s : NetState) (p : ℕ) → IsWorkable s → x < node_count s.mesh → NoCredit s x p
+    → Attempts (TakeCredit x p) s None s
+no_credit_still x s p net x_in none = credit_still s x p (neighbour_of s.mesh x p) net x_in refl none
+
+pub no_flit_still : (x : ℕ) (s : NetState) (p : ℕ) → IsWorkable s → x < node_count s.mesh → NoFlit s x p
+    → Attempts (Take x p) s None s
+no_flit_still x s p net x_in none = flit_still s x p (neighbour_of s.mesh x p) net x_in refl none
+
+-- the sets that the links keep
+
+pub credits_cover : (s : NetState) (x set : ℕ) → IsWorkable s → AreFronts (credits_to (links_of s) x) set
+    → Covers (NoCredit s x) (2 * length s.mesh) set
+credits_cover s x set net fronts =
+    let few = net.framed.radices.few_dims in
+    let last = 2 * length s.mesh in
+    let six : last ≤ 6 = omega arith in
+    let past = credits_past (links_of s) x in
+    record {
+      rest = λ p p_in none linked.
+          nothing_out (links_of s) x p linked
+          (lacks (credits_to (links_of s) x) set last fronts six past p (λ below. none));
+      places = λ p p_in on. is_below (credits_to (links_of s) x) set last fronts six past p p_in on;
+    }
+
+pub flits_cover : (s : NetState) (x set : ℕ) → IsWorkable s → AreFronts (flits_to (links_of s) x) set
+    → Covers (NoFlit s x) (2 * length s.mesh) set
+flits_cover s x set net fronts =
+    let few = net.framed.radices.few_dims in
+    let last = 2 * length s.mesh in
+    let six : last ≤ 6 = omega arith in
+    let past = flits_past (links_of s) x in
+    record {
+      rest = λ p p_in none linked.
+          nothing_in (links_of s) x p linked
+          (lacks (flits_to (links_of s) x) set last fronts six past p (λ below. none));
+      places = λ p p_in on. is_below (flits_to (links_of s) x) set last fronts six past p p_in on;
+    }

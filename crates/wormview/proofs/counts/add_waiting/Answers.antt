@@ -1,8 +1,0 @@
-use Rattle.std.proofs.Common.{[], refl}
-use Rattle.wormview.proofs.Names.{adds, number}
-use Rattle.wormview.proofs.counts.add_waiting.Goals as goal
-
-pub returns : goal.returns
-returns c =
-    adds c.write.result c.args.svg.now (record { text = c.write.new.self }) _ [] c.write.ensures.bytes
-    (number _ _ [] (number _ _ [] (number _ _ [] (number _ _ [] (number _ _ [] (λ rest. refl))))))

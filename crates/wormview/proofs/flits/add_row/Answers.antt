@@ -1,9 +1,0 @@
-use Rattle.std.proofs.Common.{rules, ◌<◌, length}
-use Rattle.wormview.proofs.Names.{one_flit_more}
-use Rattle.wormview.proofs.flits.add_row.Goals as goal
-
-pub loop-flit-preserved : goal.loop-flit-preserved
-loop-flit-preserved c =
-    let within : c.loop-flit.flit-index < length c.args.flits.now = search rules in
-    one_flit_more c.loop-flit.flit-index _ c.args.flits.now c.args.svg.now c.loop-flit.svg c.add_flit.new.svg within
-    c.loop-flit.invariant c.in_ok-add_flit.ensures

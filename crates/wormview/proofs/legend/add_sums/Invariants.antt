@@ -1,6 +1,0 @@
-use Rattle.std.proofs.Common.{[]}
-use Rattle.wormview.specs.Picture.{Adds}
-use Rattle.wormview.proofs.legend.add_sums.Given as goal
-
-abbrev pub invariant-loop-row : goal.invariant-loop-row
-invariant-loop-row l = Adds l.fn.svg l.svg []

@@ -1,5 +1,0 @@
-use Rattle.wormview.proofs.Names.{none_both}
-use Rattle.wormview.proofs.picture.Scene.add_all_traces.Goals as goal
-
-pub loop-view-preserved : goal.loop-view-preserved
-loop-view-preserved c = none_both _ _ _ c.loop-view.invariant c.in_ok-add_traces.ensures

@@ -1,8 +1,0 @@
-use Rattle.std.proofs.Common.{map, take, flat_map}
-use Rattle.wormview.specs.Nodes.{station_flits}
-use Rattle.wormview.specs.Picture.{Adds, flit_name}
-use Rattle.wormview.proofs.picture.Scene.add_channels.Given as goal
-
-abbrev pub invariant-loop-station : goal.invariant-loop-station
-invariant-loop-station l = Adds l.fn.svg l.svg
-    (map flit_name (flat_map station_flits (take l.station-index l.stations)))

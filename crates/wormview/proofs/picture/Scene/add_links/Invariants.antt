@@ -1,6 +1,0 @@
-use Rattle.std.proofs.Common.{[]}
-use Rattle.wormview.specs.Picture.{Adds}
-use Rattle.wormview.proofs.picture.Scene.add_links.Given as goal
-
-abbrev pub invariant-loop-port : goal.invariant-loop-port
-invariant-loop-port l = Adds l.fn.svg l.svg []

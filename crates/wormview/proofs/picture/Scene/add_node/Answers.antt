@@ -1,7 +1,0 @@
-use Rattle.wormview.proofs.Names.{one_node}
-use Rattle.wormview.proofs.picture.Scene.add_node.Goals as goal
-
-pub returns : goal.returns
-returns c =
-    one_node c.close.result _ _ _ _ c.args.view.now c.as_slice.result.now c.as_slice.ensures.value
-    c.in_ok-open_at.ensures c.in_ok-add_channels.ensures c.close.ensures

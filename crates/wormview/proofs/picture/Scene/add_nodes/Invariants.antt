@@ -1,7 +1,0 @@
-use Rattle.std.proofs.Common.{map, take, flat_map}
-use Rattle.wormview.specs.Nodes.{view_flits}
-use Rattle.wormview.specs.Picture.{Adds, flit_name}
-use Rattle.wormview.proofs.picture.Scene.add_nodes.Given as goal
-
-abbrev pub invariant-loop-view : goal.invariant-loop-view
-invariant-loop-view l = Adds l.fn.svg l.svg (map flit_name (flat_map view_flits (take l.view-index l.views)))

@@ -1,7 +1,0 @@
-use Rattle.wormview.proofs.Names.{none_both, none_then}
-use Rattle.wormview.proofs.picture.Scene.add_traces.Goals as goal
-
-pub returns : goal.returns
-returns c =
-    none_then c.close.result _ _ _ (none_both _ _ _ c.in_ok-open_at.ensures c.in_ok-add_ways.ensures)
-    c.close.ensures
