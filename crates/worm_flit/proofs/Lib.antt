@@ -3,3 +3,5 @@ pub mod Worming
 pub mod Owners
 pub mod Masks
 pub mod Packed
+pub mod LowestBit
+pub mod SmallSets

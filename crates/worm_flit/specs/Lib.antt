@@ -4,3 +4,4 @@ pub mod Packets
 pub mod Worms
 pub mod Channels
 pub mod Packing
+pub mod SmallSet

@@ -1,5 +1,6 @@
 //! What travels through the network: flits, the packets that they are cut from, the words that links carry
-//! them as, and the channels that message classes own (Dally and Towles, chapters 12 and 13).
+//! them as, and the channels that message classes own (Dally and Towles, chapters 12 and 13); and sets of
+//! small numbers, such as classes or ports.
 //!
 //! A packet is one `Single` flit, or a `Head`, any number of `Body` flits and a `Tail`; a mark that closes a
 //! lane is a packet of one `Close` flit. Each flit carries a stamp (its lane, its packet's number in the lane,
@@ -16,12 +17,14 @@ ghost use Rattle.worm_flit.specs.Kinds.{opens, closes};
 mod channels;
 mod packet;
 mod packing;
+mod small_set;
 #[cfg(test)]
 mod tests;
 
 pub use channels::{ClassChannels, are_channels};
 pub use packet::{Packet, PacketFault, close_flit, flit_at};
 pub use packing::{pack, unpack};
+pub use small_set::SmallSet;
 
 /// A source node, a destination node and a message class: whose flits arrive in the order in which they were
 /// offered, where the class owns one channel. The packets of a lane are numbered from 0.

@@ -1,6 +1,6 @@
 use crate::{
-    ClassChannels, Flit, Kind, Lane, Packet, PacketFault, are_channels, close_flit, flit_at,
-    is_closing, is_opening, pack, unpack,
+    ClassChannels, Flit, Kind, Lane, Packet, PacketFault, SmallSet, are_channels, close_flit,
+    flit_at, is_closing, is_opening, pack, unpack,
 };
 
 const LANE: Lane = Lane {
@@ -138,4 +138,22 @@ fn classes_own_channels(rt: HostRuntime) {
     assert_eq!(rt; (channels.first(1), channels.count(1)), (5, 3));
     assert_eq!(rt; (channels.owner(4), channels.owner(5)), (0, 1));
     assert!(rt; channels.owns(1, 7) && !channels.owns(0, 7) && !channels.owns(2, 7));
+}
+
+#[test]
+fn small_numbers_go_in_and_out(rt: HostRuntime) {
+    let mut set = SmallSet::new();
+    assert!(rt; set.is_empty());
+    set.put(5, true);
+    set.put(0, true);
+    set.put(7, true);
+    set.put(5, false);
+    set.put(3, true);
+    assert!(rt; set.contains(7));
+    assert!(rt; !set.contains(5));
+    assert_eq!(rt; set.pop_first(), Some(0));
+    assert_eq!(rt; set.pop_first(), Some(3));
+    assert!(rt; !set.is_empty());
+    assert_eq!(rt; set.pop_first(), Some(7));
+    assert_eq!(rt; set.pop_first(), None);
 }

@@ -1,4 +1,5 @@
--- What comes in at a node is taken port by port: at each port of a set, and at the others there is none.
+-- What comes in at a node is taken port by port, and fed class by class: at each number of a set, and at the others
+-- there is none.
 use Rattle.std.proofs.Common.{◌≡◌, ℕ, ◌+◌, ◌*◌, ◌<◌, ◌≤◌, true, false, inl, inr, List, drop, length, map, None, Some}
 use Rattle.std.proofs.Common.{Ok, Err, Option, refl, arith, ap, sym, subst, ◌∙◌}
 use Rattle.std.specs.Prelude.{IsSome, Result, slice_get}
@@ -10,14 +11,14 @@ use Rattle.worm_mesh.specs.Links.{links_before}
 use Rattle.worm_theory.specs.Steps.{Step, Take, TakeCredit}
 use Rattle.worm_theory.proofs.Places.{number_cases}
 use Rattle.worm_wires.specs.Links.{LinkView, blank_link}
-use Rattle.worm_wires.specs.Ports.{has, IsFirst}
+use Rattle.worm_flit.specs.SmallSet.{has, IsFirst}
+use Rattle.worm_flit.proofs.SmallSets.{has_none}
 use Rattle.worm_wires.specs.Wiring.{into_from}
 use Rattle.worm_wires.proofs.Apart.{in_once, into_is, out_is, out_once}
 use Rattle.worm_wires.specs.Arrivals.{AreFronts, credits_to, flits_to}
-use Rattle.worm_wires.proofs.PortSets.{has_none}
 use Rattle.worm_wires.proofs.Looking.{credits_past, flits_past, is_below, lacks, nothing_in, nothing_out}
 use Rattle.worm_region.specs.Shape.{net_shape}
-use Rattle.worm_region.specs.State.{NetState, link_at, with_link}
+use Rattle.worm_region.specs.State.{IsSameConfig, NetState, link_at, with_link}
 use Rattle.worm_region.specs.Moves.{Covers, NoCredit, NoFlit, after_getting, after_take, front_credit, front_into}
 use Rattle.worm_region.specs.Moves.{link_into, link_out}
 use Rattle.worm_region.specs.Workable.{IsWorkable}
@@ -32,59 +33,85 @@ use Rattle.worm_region.proofs.LinkedPorts.{links_of}
 use Rattle.worm_region.proofs.Resting.{credit_still, flit_still}
 use Rattle.worm_region.proofs.Passages.{does_nothing, does_ranged, loop_more, loop_on}
 
--- how far the ports have come: all below `port` are done, and of the others there is none but at those of the set
-pub record Covered (x : ℕ) (E : ℕ → Step) (NoneAt : NetState → ℕ → Type 0) (a b : NetState) (set port : ℕ)
-    : Type 0 where
-  pub passed : Does (Each (λ p. Attempts (E p)) (range_with_len 0 port)) a None b
+-- how many mesh ports or classes there are
+abbrev pub port_count : NetState → ℕ
+port_count s = 2 * length s.mesh
+
+abbrev pub class_count : NetState → ℕ
+class_count s = length s.channels
+
+pub few_ports : (s : NetState) → IsWorkable s → port_count s ≤ 8
+few_ports s net = let few = net.framed.radices.few_dims in omega arith
+
+pub few_classes : (s : NetState) → IsWorkable s → class_count s ≤ 8
+few_classes s net = let few = net.framed.classes.few in omega arith
+
+pub same_ports : (a b : NetState) → IsSameConfig a b → port_count b ≡ port_count a
+same_ports a b config = ap (λ (m : List ℕ). 2 * length m) config.mesh
+
+pub same_classes : (a b : NetState) → IsSameConfig a b → class_count b ≡ class_count a
+same_classes a b config = ap (λ (counts : List ℕ). length counts) config.channels
+
+-- how far they have come, of which there are so many: all below `next` are done, and of the others there is none but at
+-- those of the set
+pub record Covered (x : ℕ) (size : NetState → ℕ) (E : ℕ → Step) (NoneAt : NetState → ℕ → Type 0) (a b : NetState)
+    (set next : ℕ) : Type 0 where
+  pub passed : Does (Each (λ p. Attempts (E p)) (range_with_len 0 next)) a None b
   pub there : x < node_count b.mesh
   pub sound : IsWorkable b
-  pub port_in : port ≤ 2 * length b.mesh
-  pub later : (p : ℕ) → p < port → has set p ≡ false
-  pub rest : (p : ℕ) → port ≤ p → p < 2 * length b.mesh → has set p ≡ false → NoneAt b p
-  pub places : (p : ℕ) → p < 8 → has set p ≡ true → p < 2 * length b.mesh
+  pub few : size b ≤ 8
+  pub next_in : next ≤ size b
+  pub later : (p : ℕ) → p < next → has set p ≡ false
+  pub rest : (p : ℕ) → next ≤ p → p < size b → has set p ≡ false → NoneAt b p
+  pub places : (p : ℕ) → p < 8 → has set p ≡ true → p < size b
 
-pub covered_start : (x : ℕ) (E : ℕ → Step) (NoneAt : NetState → ℕ → Type 0) (a : NetState) (set : ℕ)
-    → x < node_count a.mesh → IsWorkable a → Covers (NoneAt a) (2 * length a.mesh) set → Covered x E NoneAt a a set 0
-covered_start x E NoneAt a set there sound covers = record {
+pub covered_start : (x : ℕ) (size : NetState → ℕ) (E : ℕ → Step) (NoneAt : NetState → ℕ → Type 0) (a : NetState)
+    (set : ℕ) → x < node_count a.mesh → IsWorkable a → size a ≤ 8 → Covers (NoneAt a) (size a) set
+    → Covered x size E NoneAt a a set 0
+covered_start x size E NoneAt a set there sound few covers = record {
   passed = does_nothing a;
   there = there;
   sound = sound;
-  port_in = omega arith;
+  few = few;
+  next_in = omega arith;
   later = λ p below. absurd (omega arith);
   rest = λ p above p_in none. covers.rest p p_in none;
   places = covers.places;
 }
 
-module _ (x : ℕ) (E : ℕ → Step) (NoneAt : NetState → ℕ → Type 0)
-    (still : (s : NetState) (p : ℕ) → IsWorkable s → x < node_count s.mesh → NoneAt s p → Attempts (E p) s None s) where
-  -- ports at which there is none are passed
-  along : (a b : NetState) (set port to : ℕ) → Covered x E NoneAt a b set port → port ≤ to → to ≤ 2 * length b.mesh
-      → ((p : ℕ) → port ≤ p → p < to → has set p ≡ false)
+module _ (x : ℕ) (size : NetState → ℕ) (same : (a b : NetState) → IsSameConfig a b → size b ≡ size a) (E : ℕ → Step)
+    (NoneAt : NetState → ℕ → Type 0)
+    (still : (s : NetState) (p : ℕ) → IsWorkable s → x < node_count s.mesh → p < size s → NoneAt s p
+    → Attempts (E p) s None s) where
+  -- numbers at which there is none are passed
+  along : (a b : NetState) (set next to : ℕ) → Covered x size E NoneAt a b set next → next ≤ to → to ≤ size b
+      → ((p : ℕ) → next ≤ p → p < to → has set p ≡ false)
       → Does (Each (λ p. Attempts (E p)) (range_with_len 0 to)) a None b
-  along a b set port to covered less to_in none =
-      loop_on (λ p. Attempts (E p)) port to a b less covered.passed
-      (λ p above below. still b p covered.sound covered.there
+  along a b set next to covered less to_in none =
+      loop_on (λ p. Attempts (E p)) next to a b less covered.passed
+      (λ p above below. still b p covered.sound covered.there (omega arith)
       (covered.rest p above (omega arith) (none p above below)))
 
-  pub covered_more : (a b c : NetState) (set new port q : ℕ) → Covered x E NoneAt a b set port → IsFirst set new q
-      → Does (Attempts (E q)) b None c → ((p : ℕ) → (p ≡ q → ⊥) → NoneAt b p → NoneAt c p) → IsWorkable c
-      → Covered x E NoneAt a c new (q + 1)
-  covered_more a b c set new port q covered first taken others sound =
-      let above : port ≤ q = elim (cases_lt q port) [
+  pub covered_more : (a b c : NetState) (set new next q : ℕ) → Covered x size E NoneAt a b set next
+      → IsFirst set new q → Does (Attempts (E q)) b None c → ((p : ℕ) → (p ≡ q → ⊥) → NoneAt b p → NoneAt c p)
+      → IsWorkable c → Covered x size E NoneAt a c new (q + 1)
+  covered_more a b c set new next q covered first taken others sound =
+      let above : next ≤ q = elim (cases_lt q next) [
         | inl below ↦ let off = covered.later q below in let on = first.was_in in absurd (cc)
         | inr above ↦ above
       ] in
-      let q_in : q < 2 * length b.mesh = covered.places q first.in_range first.was_in in
-      let up_to = along a b set port q covered above (omega arith) (λ p from below. first.none_before p below) in
-      let few = covered.sound.framed.radices.few_dims in
+      let q_in : q < size b = covered.places q first.in_range first.was_in in
+      let up_to = along a b set next q covered above (omega arith) (λ p from below. first.none_before p below) in
+      let few = covered.few in
       let config = taken.reaches.config in
-      let mesh = ap (λ (m : List ℕ). length m) config.mesh in
+      let sizes : size c ≡ size b = same b c config in
       let nodes = ap node_count config.mesh in
       record {
         passed = loop_more (λ p. Attempts (E p)) q a b c None up_to taken;
         there = omega (arith, covered.there);
         sound = sound;
-        port_in = omega arith;
+        few = omega arith;
+        next_in = omega arith;
         later = λ p before. elim (number_cases p q) [
           | inl same ↦ ap (has new) same.1 ∙ first.taken.here
           | inr away ↦
@@ -94,7 +121,7 @@ module _ (x : ℕ) (E : ℕ → Step) (NoneAt : NetState → ℕ → Type 0)
         rest = λ p from p_in none.
             let differs : p ≡ q → ⊥ = λ e. omega arith in
             others p differs (covered.rest p (omega arith) (omega arith)
-            (sym (first.taken.elsewhere p (omega (arith, few)) differs) ∙ none));
+            (sym (first.taken.elsewhere p (omega arith) differs) ∙ none));
         places = λ p p_few some. elim (number_cases p q) [
           | inl same ↦ absurd (let off = ap (has new) same.1 ∙ first.taken.here in cc)
           | inr away ↦
@@ -102,13 +129,12 @@ module _ (x : ℕ) (E : ℕ → Step) (NoneAt : NetState → ℕ → Type 0)
         ];
       }
 
-  pub covered_all : (a b : NetState) (list : NetState → List Step) (set port : ℕ) → Covered x E NoneAt a b set port
-      → set ≡ 0 → list a ≡ map E (range_with_len 0 (2 * length a.mesh)) → Does (ForEach list Attempts) a None b
-  covered_all a b list set port covered none is =
-      let whole = along a b set port (2 * length b.mesh) covered covered.port_in (omega arith)
+  pub covered_all : (a b : NetState) (list : NetState → List Step) (set next : ℕ) → Covered x size E NoneAt a b set next
+      → set ≡ 0 → list a ≡ map E (range_with_len 0 (size a)) → Does (ForEach list Attempts) a None b
+  covered_all a b list set next covered none is =
+      let whole = along a b set next (size b) covered covered.next_in (omega arith)
       (λ p above below. ap (λ (s : ℕ). has s p) none ∙ has_none 0 p refl) in
-      let mesh = ap (λ (m : List ℕ). length m) whole.reaches.config.mesh in
-      does_ranged list E (2 * length a.mesh) (2 * length b.mesh) a b is (omega arith) whole
+      does_ranged list E (size a) (size b) a b is (sym (same a b whole.reaches.config)) whole
 
 -- the links of two ports are two
 
@@ -182,13 +208,13 @@ flit_elsewhere a b x q (Err NoMemory) net refused p away none =
     subst (λ (s : NetState). NoFlit s x p) (sym refused.3) none
 
 -- where there is none a step takes none
-pub no_credit_still : (x : ℕ) (s : NetState) (p : ℕ) → IsWorkable s → x < node_count s.mesh → NoCredit s x p
-    → Attempts (TakeCredit x p) s None s
-no_credit_still x s p net x_in none = credit_still s x p (neighbour_of s.mesh x p) net x_in refl none
+pub no_credit_still : (x : ℕ) (s : NetState) (p : ℕ) → IsWorkable s → x < node_count s.mesh → p < port_count s
+    → NoCredit s x p → Attempts (TakeCredit x p) s None s
+no_credit_still x s p net x_in p_in none = credit_still s x p (neighbour_of s.mesh x p) net x_in refl none
 
-pub no_flit_still : (x : ℕ) (s : NetState) (p : ℕ) → IsWorkable s → x < node_count s.mesh → NoFlit s x p
-    → Attempts (Take x p) s None s
-no_flit_still x s p net x_in none = flit_still s x p (neighbour_of s.mesh x p) net x_in refl none
+pub no_flit_still : (x : ℕ) (s : NetState) (p : ℕ) → IsWorkable s → x < node_count s.mesh → p < port_count s
+    → NoFlit s x p → Attempts (Take x p) s None s
+no_flit_still x s p net x_in p_in none = flit_still s x p (neighbour_of s.mesh x p) net x_in refl none
 
 -- the sets that the links keep
 

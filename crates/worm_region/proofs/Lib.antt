@@ -35,6 +35,7 @@ pub mod Skipping
 pub mod Routing
 pub mod Resting
 pub mod Covering
+pub mod Feeding
 pub mod CountsUnderWay
 pub mod StaysAtNode
 pub mod Allocating

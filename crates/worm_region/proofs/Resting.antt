@@ -57,7 +57,7 @@ flit_still s x p (Some y) net x_in e none =
 flit_still s x p None net x_in e none =
     (Err NoSuchPlace, (λ there. let no : IsSome {T = ℕ} None = subst IsSome e there.1 in absurd (cc), refl), refl)
 
-feed_still : (s : NetState) (x k : ℕ) → IsWorkable s → x < node_count s.mesh → k < length s.channels →
+pub feed_still : (s : NetState) (x k : ℕ) → IsWorkable s → x < node_count s.mesh → k < length s.channels →
     can_enter (router_at s x) (terminal (router_at s x)) (front_of (source_at s x) k) ≡ false →
     Attempts (Feed x k) s None s
 unfolding net_shape

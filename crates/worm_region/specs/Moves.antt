@@ -3,6 +3,7 @@ use Rattle.std.specs.Prelude.{ℕ, ◌*◌, ◌<◌, ◌≤◌, ◌≡◌, ◌==
 use Rattle.std.specs.Prelude.{◌++◌, length, sum, drop, slice_get, slice_index_or, Option, Some, None, IsSome, Result}
 use Rattle.std.specs.Prelude.{Ok, Err}
 use Rattle.worm_flit.specs.declared.Flit.{Flit}
+use Rattle.worm_flit.specs.SmallSet.{has as has_small}
 use Rattle.worm_mesh.specs.Address.{node_count, neighbour_of}
 use Rattle.worm_mesh.specs.Links.{links_before}
 use Rattle.worm_router.specs.Router.{RouterState, IsPlace, terminal, width, input_at, output_at, leaving, after_accept}
@@ -13,7 +14,6 @@ use Rattle.worm_vcalloc.specs.ChannelSet.{has}
 use Rattle.worm_term.specs.Sink.{after_take as after_sink}
 use Rattle.worm_term.specs.Source.{front_of, after_offer, after_close, after_fed}
 use Rattle.worm_theory.specs.Steps.{Step, Offer, CloseLane, Feed, Route, Grant, Send, Take, GiveCredit, TakeCredit}
-use Rattle.worm_wires.specs.Ports.{has as has_port}
 use Rattle.worm_wires.specs.Wiring.{into_from}
 use Rattle.worm_region.specs.State.{NetState, node_at, router_at, source_at, link_at, with_node, with_router}
 use Rattle.worm_region.specs.State.{with_source, with_link}
@@ -143,10 +143,14 @@ NoCredit s x p = IsSome (neighbour_of s.mesh x p) → front_credit s x p ≡ Non
 abbrev pub NoFlit : NetState → ℕ → ℕ → Type 0
 NoFlit s x p = IsSome (neighbour_of s.mesh x p) → front_into s x p ≡ None
 
--- a set of the mesh ports, of which there are so many, and at each that is left out there is none
-pub record Covers (NoneAt : ℕ → Type 0) (ports set : ℕ) : Type 0 where
-  pub rest : (p : ℕ) → p < ports → has_port set p ≡ false → NoneAt p
-  pub places : (p : ℕ) → p < 8 → has_port set p ≡ true → p < ports
+-- the source has no flit of the class that was not fed
+abbrev pub NoFeed : NetState → ℕ → ℕ → Type 0
+NoFeed s x k = front_of (source_at s x) k ≡ None
+
+-- a set of mesh ports or of classes, of which there are so many, and at each that is left out there is none
+pub record Covers (NoneAt : ℕ → Type 0) (count set : ℕ) : Type 0 where
+  pub rest : (n : ℕ) → n < count → has_small set n ≡ false → NoneAt n
+  pub places : (n : ℕ) → n < 8 → has_small set n ≡ true → n < count
 
 -- Nothing can come into a node: no credit is on a link out of it, no flit on a link into it, and its source has no
 -- flit for which there is room.

@@ -16,7 +16,7 @@ ghost use Rattle.worm_mesh.specs.Address.{node_count};
 ghost use Rattle.worm_router.specs.Router.{input_at, leaving};
 ghost use Rattle.worm_router.specs.Rest.{IsAtRest};
 ghost use Rattle.worm_router.specs.Allocation.{after_allocate};
-ghost use Rattle.worm_region.specs.Moves.{AreOwing, Covers, NoCredit, NoFlit, RoutesWithin};
+ghost use Rattle.worm_region.specs.Moves.{AreOwing, Covers, NoCredit, NoFeed, NoFlit, RoutesWithin};
 
 mod edges;
 mod parts;
@@ -26,11 +26,11 @@ use crate::fabric::Fabric;
 use crate::{Config, Moved, NetFault, Step, StepFault};
 use std::alloc::Global;
 use std::marker::Model;
-use worm_flit::{Lane, Packet, are_channels};
+use worm_flit::{Lane, Packet, SmallSet, are_channels};
 use worm_mesh::Mesh;
 use worm_term::OfferFault;
 use worm_vcalloc::ChannelSet;
-use worm_wires::{PortLinks, PortSet};
+use worm_wires::PortLinks;
 
 /// The nodes and links of a network, some nodes or all owned by whoever has it: what a move of a node needs holds of
 /// it, and each move keeps that. Of the nodes that are not owned it has others in their places, which whoever has it
@@ -172,7 +172,7 @@ impl Region {
     }
 
     /// The mesh ports of the node by which a credit comes back.
-    pub(crate) fn credits_in(&self, node: u8) -> PortSet
+    pub(crate) fn credits_in(&self, node: u8) -> SmallSet
         ensures ports { Covers (NoCredit self.now node) (2 * length self.now.mesh) result }
         ensures sound { IsWorkable self.now }
     {
@@ -180,11 +180,20 @@ impl Region {
     }
 
     /// The mesh ports of the node by which a flit comes in.
-    pub(crate) fn flits_in(&self, node: u8) -> PortSet
+    pub(crate) fn flits_in(&self, node: u8) -> SmallSet
         ensures ports { Covers (NoFlit self.now node) (2 * length self.now.mesh) result }
         ensures sound { IsWorkable self.now }
     {
         self.fabric.wires().flits_in(node)
+    }
+
+    /// The classes of which the node's source has a flit that was not fed.
+    pub(crate) fn unfed(&self, node: u8) -> SmallSet
+        requires { node < node_count self.now.mesh }
+        ensures classes { Covers (NoFeed self.now node) (length self.now.channels) result }
+        ensures sound { IsWorkable self.now }
+    {
+        self.fabric.node(node).source.unfed()
     }
 
     /// The channels of the node that owe a credit.

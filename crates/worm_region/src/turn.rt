@@ -1,6 +1,6 @@
 //! The turn of a node, and the turns of all nodes in rising number.
 
-ghost use Rattle.std.specs.Prelude.{ℕ, List, [], ◌≡◌, ◌<◌, ◌*◌, Option, None, Some, IsTrue, true, false, sum};
+ghost use Rattle.std.specs.Prelude.{ℕ, List, [], ◌≡◌, ◌<◌, ◌*◌, Option, None, Some, IsTrue, true, false, length, sum};
 ghost use Rattle.std.specs.Result.{result_err};
 ghost use Rattle.worm_mesh.specs.Address.{node_count};
 ghost use Rattle.worm_region.specs.Replies.{Attempts, Replies};
@@ -12,8 +12,8 @@ ghost use Rattle.worm_router.specs.Router.{input_at, width};
 ghost use Rattle.worm_swalloc.specs.SwAlloc.{AreGranted};
 ghost use Rattle.worm_swalloc.specs.declared.grant.SwGrant.{SwGrant};
 ghost use Rattle.worm_region.specs.State.{router_at};
-ghost use Rattle.worm_theory.specs.Steps.{Route, Take, TakeCredit};
-ghost use Rattle.worm_region.specs.Moves.{NoCredit, NoFlit, OwesTheSame, RoutesTheSame};
+ghost use Rattle.worm_theory.specs.Steps.{Feed, Route, Take, TakeCredit};
+ghost use Rattle.worm_region.specs.Moves.{NoCredit, NoFeed, NoFlit, OwesTheSame, RoutesTheSame};
 ghost use Rattle.worm_region.specs.Turns.{Does, ForEach, ReachesAt, all_nodes, ask, fault_of, lowest_owed};
 ghost use Rattle.worm_region.specs.Turns.{AsksSourceBy, ComesInBy, FeedsClassesBy, GivesCreditBy, GivesCreditsBy};
 ghost use Rattle.worm_region.specs.Turns.{NodePassesBy, NodeTurnBy, RoutesChannelsBy, SendsBy, TakesCreditsBy};
@@ -128,13 +128,27 @@ impl Region {
         }
     }
 
+    /// Feeds a flit of the class, and of no other.
+    fn feed_class(&mut self, node: u8, class: u8)
+        requires node { node < node_count self.old.mesh }
+        requires class { class < length self.old.channels }
+        ensures fed { Does (Attempts (Feed node class)) self.old None self.new }
+        ensures others { (k : ℕ) → (k ≡ class → ⊥) → NoFeed self.old node k → NoFeed self.new node k }
+        ensures sound { IsWorkable self.new }
+    {
+        self.recall();
+        let _fed = self.feed_there(node, class);
+        self.recall();
+    }
+
     /// Feeds a flit of each class, rising.
     fn feed_classes(&mut self, node: u8)
         requires { node < node_count self.old.mesh }
         ensures { Does (FeedsClassesBy Attempts node) self.old None self.new }
     {
-        for class in 0..self.fabric().classes() {
-            let _fed = self.feed_there(node, class);
+        let mut left = self.unfed(node);
+        while let Some(class) = left.pop_first() {
+            self.feed_class(node, class);
         }
     }
 

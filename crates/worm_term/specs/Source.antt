@@ -10,6 +10,7 @@ use Rattle.worm_term.specs.declared.fault.OfferFault.{OfferFault}
 use Rattle.worm_term.specs.declared.fault.OfferFault.TheVariants.{WrongSource, NoSuchNode, NoSuchClass, ManyChannels}
 use Rattle.worm_term.specs.declared.fault.OfferFault.TheVariants.{LaneClosed, LaneFull}
 use Rattle.worm_term.specs.declared.source.LaneState.{LaneState}
+use Rattle.worm_flit.specs.SmallSet.{has}
 use Rattle.worm_flit.specs.Stamps.{of_lane, with_channel}
 use Rattle.worm_term.specs.Lanes.{lane_of, IsPackets}
 use Rattle.worm_term.specs.Queue.{QueueState, empty_queue, appended, waiting, one_fed}
@@ -123,8 +124,7 @@ pub record AreFirsts (channels firsts : List ℕ) : Type 0 where
   pub few : length channels ≤ 4
   pub each : (class : ℕ) → class < length channels → slice_index firsts class ≡ first_channel channels class
 
--- what is kept of each class is whether it has a flit that was not fed
-pub record KnowsUnfed (queues : List QueueState) (unfed : List Bool) : Type 0 where
-  pub all : length unfed ≡ 4
-  pub each : (class : ℕ) → class < length queues
-      → slice_index_or unfed class false ≡ is_some (waiting (slice_index_or queues class empty_queue))
+-- a set has the classes with a flit that was not fed, and no others
+abbrev pub AreUnfed : List QueueState → ℕ → Type 0
+AreUnfed queues set =
+    (class : ℕ) → class < 8 → has set class ≡ is_some (waiting (slice_index_or queues class empty_queue))

@@ -6,13 +6,13 @@ ghost use Rattle.worm_flit.specs.Stamps.{of_lane};
 ghost use Rattle.worm_term.specs.Lanes.{IsPackets, lane_of};
 ghost use Rattle.worm_term.specs.Source.{SourceState, fresh_lane, fresh_source, lane_at, lane_line, queue_at, refusal};
 ghost use Rattle.worm_term.specs.Source.{next_number, after_offer, after_close, front_of, after_fed, classes, IsOpen};
-ghost use Rattle.worm_term.specs.Source.{IsFrom, AreFirsts};
+ghost use Rattle.worm_term.specs.Source.{AreFirsts, AreUnfed, IsFrom};
 
 use crate::fault::{NoMemory, OfferFault};
 use crate::queue::Queue;
 use std::alloc::{AllocError, Global};
 use std::marker::Model;
-use worm_flit::{ClassChannels, Flit, Lane, Packet, close_flit};
+use worm_flit::{ClassChannels, Flit, Lane, Packet, SmallSet, close_flit};
 
 /// How far a lane has come.
 #[derive(Clone, Copy, Debug, PartialEq, Eq)]
@@ -38,20 +38,20 @@ pub struct Source {
     lanes: Vec<LaneState>,
     /// The first channel of each class.
     firsts: [u8; 4],
-    /// Whether the class of this number has a flit that was not fed. This and `firsts` stand last, since a turn mostly
-    /// reads them alone and goes on with what stands behind the source.
-    unfed: [bool; 4],
+    /// The classes that have a flit that was not fed. This and `firsts` stand last, since a turn mostly reads them
+    /// alone and goes on with what stands behind the source.
+    unfed: SmallSet,
 }
 
 impl Model for Source {
-    ghost use Rattle.worm_term.specs.Source.{SourceState, IsSource, AreFirsts, KnowsUnfed, source_state};
+    ghost use Rattle.worm_term.specs.Source.{SourceState, IsSource, AreFirsts, AreUnfed, source_state};
 
     ghost Value = { SourceState };
 
     ghost view = { λ s. source_state s.node s.nodes s.classes s.queues.items s.lanes.items };
 
     ghost invariant = { λ s. IsSource (source_state s.node s.nodes s.classes s.queues.items s.lanes.items)
-        × AreFirsts s.classes s.firsts × KnowsUnfed s.queues.items s.unfed };
+        × AreFirsts s.classes s.firsts × AreUnfed s.queues.items s.unfed };
 }
 
 /// The first channel of each class; past the last class 0.
@@ -109,7 +109,7 @@ impl Source {
             queues,
             lanes,
             firsts,
-            unfed: [false; 4],
+            unfed: SmallSet::new(),
         })
     }
 
@@ -171,7 +171,7 @@ impl Source {
         if queue.append_packet(packet, number).is_err() {
             return Err(OfferFault::NoMemory);
         }
-        self.unfed[usize::from(lane.class)] = true;
+        self.unfed.put(lane.class, true);
         self.lanes[i] = LaneState {
             next: number + 1,
             closed: false,
@@ -195,7 +195,7 @@ impl Source {
         if queue.append(close_flit(lane, number)).is_err() {
             return Err(OfferFault::NoMemory);
         }
-        self.unfed[usize::from(lane.class)] = true;
+        self.unfed.put(lane.class, true);
         self.lanes[i] = LaneState {
             closed: true,
             next: number + 1,
@@ -211,12 +211,19 @@ impl Source {
         self.firsts[usize::from(class)]
     }
 
+    /// The classes that have a flit that was not fed.
+    pub fn unfed(&self) -> SmallSet
+        ensures { AreUnfed self.now.queues result }
+    {
+        self.unfed
+    }
+
     /// The channel on which the class's next flit would be fed, 0 to 7; `None` where all were fed.
     pub fn next_channel(&self, class: u8) -> Option<u8>
         requires { class < classes self.now }
         ensures { result ≡ option_map (λ f. f.vc) (front_of self.now class) }
     {
-        if !self.unfed[usize::from(class)] {
+        if !self.unfed.contains(class) {
             return None;
         }
         Some(self.first_channel(class))
@@ -239,7 +246,8 @@ impl Source {
         ensures { self.new ≡ after_fed self.old class }
     {
         let queue = &mut self.queues[usize::from(class)];
-        self.unfed[usize::from(class)] = queue.feed();
+        let has_more = queue.feed();
+        self.unfed.put(class, has_more);
     }
 
     /// All flits of the class that were accepted, in order.

@@ -13,6 +13,7 @@ use Rattle.std.proofs.lemmas.Nat.Bits.{bit_at-trailing_zeros}
 use Rattle.std.proofs.Math.Pow.{pow_mono, shl_lt}
 use Rattle.worm_vcalloc.specs.Arbiter.{line_requests}
 use Rattle.worm_vcalloc.specs.ChannelSet.{has, IsPut, IsFirst, IsFirstPort}
+use Rattle.worm_flit.proofs.LowestBit.{lowest_cleared}
 use Rattle.worm_vcalloc.proofs.LineLemmas.{shifted_low, shifted_high}
 
 -- ---- tests of bits
@@ -147,10 +148,10 @@ lowest_within bits some fits =
       | inr g ↦ let none = bit_at_above bits 56 (trailing_zeros w64 bits) fits g in absurd (omega (arith, lowest.1))
     ]
 
-pub first_taken : (bits : ℕ) → 0 < bits → bits < 2 ^ 56
+first_cleared : (bits : ℕ) → 0 < bits → bits < 2 ^ 56
     → IsFirst bits (bit_and bits (bit_not w64 (1 * 2 ^ trailing_zeros w64 bits % 2 ^ 64))) (trailing_zeros w64 bits / 8)
     (trailing_zeros w64 bits % 8)
-first_taken bits some fits = record {
+first_cleared bits some fits = record {
   port_in = let low = within in omega arith;
   channel_in = omega arith;
   was_in = ap (λ i. bit_at bits i == 1) same ∙ bit_set bits (trailing_zeros w64 bits) lowest.1;
@@ -177,6 +178,10 @@ first_taken bits some fits = record {
 
   same : 8 * (trailing_zeros w64 bits / 8) + trailing_zeros w64 bits % 8 ≡ trailing_zeros w64 bits
   same = omega arith
+
+pub first_taken : (bits : ℕ) → 0 < bits → bits < 2 ^ 56
+    → IsFirst bits (bit_and bits (bits - 1)) (trailing_zeros w64 bits / 8) (trailing_zeros w64 bits % 8)
+first_taken bits some fits = rw (lowest_cleared w64 bits some (omega arith)) (first_cleared bits some fits)
 
 -- ---- the first port
 

@@ -71,7 +71,8 @@ impl ChannelSet {
             return None;
         }
         let bit = self.bits.trailing_zeros() as u8;
-        self.bits &= !(1 << bit);
+        // The number before has all the bits but the lowest.
+        self.bits &= self.bits - 1;
         Some((bit / 8, bit % 8))
     }
 

@@ -7,7 +7,7 @@ use Rattle.worm_mesh.specs.Address.{AreRadices, neighbour_of}
 use Rattle.worm_mesh.specs.Links.{links_before, link_count}
 use Rattle.worm_wires.specs.Links.{LinkView, blank_link}
 use Rattle.worm_wires.specs.Wiring.{in_link, into_from, out_link, port_links}
-use Rattle.worm_wires.specs.Ports.{has, IsPut}
+use Rattle.worm_flit.specs.SmallSet.{has, IsPut}
 use Rattle.worm_wires.specs.Arrivals.{LinksView, AreAllArrivals, AreArrivals, AreFronts, has_front, no_arrivals}
 use Rattle.worm_wires.specs.Arrivals.{number_into, number_out, on_link, state_at, with_state}
 use Rattle.worm_wires.specs.declared.links.Arrivals.{Arrivals}

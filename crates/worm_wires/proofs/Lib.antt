@@ -1,4 +1,3 @@
-pub mod PortSets
 pub mod Wired
 pub mod Arriving
 pub mod Steps

@@ -8,12 +8,12 @@ use Rattle.worm_mesh.specs.Address.{neighbour_of, opposite_of}
 use Rattle.worm_mesh.specs.Links.{links_before}
 use Rattle.worm_wires.specs.Links.{LinkView, blank_link}
 use Rattle.worm_wires.specs.Wiring.{into_from}
-use Rattle.worm_wires.specs.Ports.{has}
+use Rattle.worm_flit.specs.SmallSet.{has}
 use Rattle.worm_wires.specs.Arrivals.{LinksView, AreAllArrivals, AreArrivals, AreFronts, credits_of, credits_to}
 use Rattle.worm_wires.specs.Arrivals.{flits_of, flits_to, has_front, no_arrivals, number_into, number_out, on_link}
 use Rattle.worm_wires.specs.Arrivals.{state_at}
 use Rattle.worm_wires.specs.declared.links.Arrivals.{Arrivals}
-use Rattle.worm_wires.proofs.PortSets.{has_none}
+use Rattle.worm_flit.proofs.SmallSets.{has_none}
 use Rattle.worm_wires.proofs.Wired.{in_none, out_none}
 
 -- what a look at a link finds at the front of a list of it

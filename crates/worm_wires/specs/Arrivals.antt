@@ -7,7 +7,7 @@ use Rattle.worm_mesh.specs.Address.{neighbour_of}
 use Rattle.worm_mesh.specs.Links.{links_before}
 use Rattle.worm_wires.specs.Links.{LinkView, blank_link}
 use Rattle.worm_wires.specs.Wiring.{in_link, into_from, out_link}
-use Rattle.worm_wires.specs.Ports.{has}
+use Rattle.worm_flit.specs.SmallSet.{has}
 use Rattle.worm_wires.specs.declared.links.Arrivals.{Arrivals}
 
 -- a mesh, and what is on each of its links

@@ -11,12 +11,10 @@
 mod line;
 mod link;
 mod links;
-mod port_set;
 #[cfg(test)]
 mod tests;
 mod wiring;
 
 pub use link::LinkState;
 pub use links::Links;
-pub use port_set::PortSet;
 pub use wiring::{PortLinks, Wiring};

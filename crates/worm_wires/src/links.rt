@@ -10,19 +10,18 @@ ghost use Rattle.worm_wires.specs.Arrivals.{flits_to, has_front, number_into, nu
 ghost use Rattle.worm_wires.specs.Wiring.{port_links};
 
 use crate::LinkState;
-use crate::port_set::PortSet;
 use crate::wiring::{PortLinks, Wiring};
 use std::marker::Model;
-use worm_flit::Flit;
+use worm_flit::{Flit, SmallSet};
 use worm_mesh::Mesh;
 
 /// The mesh ports of a node at which something comes in.
 #[derive(Clone, Copy)]
 pub struct Arrivals {
     /// Where the link into the port has a flit.
-    pub flits: PortSet,
+    pub flits: SmallSet,
     /// Where the link out of the port has a credit on its way back.
-    pub credits: PortSet,
+    pub credits: SmallSet,
 }
 
 /// A mesh, and its links by number with what is on them.
@@ -78,8 +77,8 @@ fn arrivals_of(wiring: &Wiring, states: &[LinkState], node: u8) -> Arrivals
 {
     // For the proof: a mesh has at most three dimensions.
     let _terminal = wiring.terminal();
-    let mut flits = PortSet::new();
-    let mut credits = PortSet::new();
+    let mut flits = SmallSet::new();
+    let mut credits = SmallSet::new();
     for port in 0..6u8 {
         flits.put(port, has_flits(states, wiring.link_into(node, port)));
         credits.put(port, has_credits(states, wiring.link_out(node, port)));
@@ -95,8 +94,8 @@ impl Links {
     {
         let wiring = Wiring::new(mesh);
         let mut arrivals = [Arrivals {
-            flits: PortSet::new(),
-            credits: PortSet::new(),
+            flits: SmallSet::new(),
+            credits: SmallSet::new(),
         }; 256];
         for node in 0..256u16 {
             arrivals[usize::from(node)] = arrivals_of(&wiring, states.as_slice(), node as u8);
@@ -149,14 +148,14 @@ impl Links {
     }
 
     /// The mesh ports of the node by which a flit comes in.
-    pub fn flits_in(&self, node: u8) -> PortSet
+    pub fn flits_in(&self, node: u8) -> SmallSet
         ensures { AreFronts (flits_to self.now node) result }
     {
         self.arrivals[usize::from(node)].flits
     }
 
     /// The mesh ports of the node by which a credit comes back.
-    pub fn credits_in(&self, node: u8) -> PortSet
+    pub fn credits_in(&self, node: u8) -> SmallSet
         ensures { AreFronts (credits_to self.now node) result }
     {
         self.arrivals[usize::from(node)].credits
@@ -238,7 +237,7 @@ impl Links {
         let link = &mut self.states[usize::from(links.out)];
         link.push(flit);
         let there = &mut self.arrivals[usize::from(links.beyond)];
-        there.flits.insert(links.entered);
+        there.flits.put(links.entered, true);
     }
 
     /// Drops the front credit of the link out of this port, which is that of this number.
@@ -275,6 +274,6 @@ impl Links {
         let link = &mut self.states[usize::from(links.into)];
         link.push_credit(vc);
         let there = &mut self.arrivals[usize::from(links.beyond)];
-        there.credits.insert(links.entered);
+        there.credits.put(links.entered, true);
     }
 }

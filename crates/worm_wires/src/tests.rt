@@ -1,8 +1,8 @@
 //! Worked values: the links of a mesh of three by two nodes, and what goes over one.
 
-use crate::{LinkState, Links, PortSet, Wiring};
+use crate::{LinkState, Links, Wiring};
 use std::test::Fail;
-use worm_flit::{Flit, Kind, Lane};
+use worm_flit::{Flit, Kind, Lane, SmallSet};
 use worm_mesh::Mesh;
 
 fn flit_of(word: u32) -> Flit {
@@ -21,7 +21,7 @@ fn flit_of(word: u32) -> Flit {
 }
 
 /// The first port of the set.
-fn first(mut ports: PortSet) -> Option<u8> {
+fn first(mut ports: SmallSet) -> Option<u8> {
     ports.pop_first()
 }
 

@@ -1,10 +1,10 @@
 use Rattle.std.proofs.Common.{◌*◌, ◌≤◌, ℕ, Option, arith, length, refl, ap, ◌∙◌}
 use Rattle.worm_wires.specs.Arrivals.{credits_of, flits_of, has_front}
-use Rattle.worm_wires.specs.Ports.{has}
+use Rattle.worm_flit.specs.SmallSet.{has}
 use Rattle.worm_wires.specs.Wiring.{in_link, out_link}
 use Rattle.worm_wires.proofs.Arriving.{port_more, none_after}
 use Rattle.worm_wires.proofs.Looking.{fronts_of}
-use Rattle.worm_wires.proofs.PortSets.{has_none}
+use Rattle.worm_flit.proofs.SmallSets.{has_none}
 use Rattle.worm_wires.proofs.Wired.{in_none, out_none}
 use Rattle.worm_wires.proofs.links.arrivals_of.Goals as goal
 

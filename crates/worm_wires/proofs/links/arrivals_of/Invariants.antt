@@ -1,5 +1,5 @@
 use Rattle.std.proofs.Common.{◌≡◌, ℕ, ◌<◌, ◌≤◌, false}
-use Rattle.worm_wires.specs.Ports.{has}
+use Rattle.worm_flit.specs.SmallSet.{has}
 use Rattle.worm_wires.specs.Arrivals.{credits_of, flits_of, has_front}
 use Rattle.worm_wires.specs.Wiring.{in_link, out_link}
 use Rattle.worm_wires.proofs.links.arrivals_of.Given as goal

@@ -2,7 +2,8 @@ use Rattle.std.proofs.Common.{◌+◌, map, refl}
 use Rattle.worm_theory.specs.Steps.{Take}
 use Rattle.worm_region.specs.Moves.{NoFlit}
 use Rattle.worm_region.specs.Turns.{mesh_ports}
-use Rattle.worm_region.proofs.Covering.{covered_all, covered_more, covered_start, no_flit_still}
+use Rattle.worm_region.proofs.Covering.{covered_all, covered_more, covered_start, few_ports, port_count, same_ports}
+use Rattle.worm_region.proofs.Covering.{no_flit_still}
 use Rattle.worm_region.proofs.region.Region.take_flits.Goals as goal
 
 pub loop-port-init : goal.loop-port-init
@@ -10,8 +11,8 @@ loop-port-init c =
     let set = c.flits_in-left in
     let x = c.args.node in (
       0,
-      covered_start x (Take x) (λ s. NoFlit s x) c.args.self.now set.result c.requires set.ensures.sound
-          set.ensures.ports,
+      covered_start x port_count (Take x) (λ s. NoFlit s x) c.args.self.now set.result c.requires set.ensures.sound
+          (few_ports c.args.self.now set.ensures.sound) set.ensures.ports,
     )
 
 pub loop-port-preserved : goal.loop-port-preserved
@@ -20,7 +21,7 @@ loop-port-preserved c =
     let one = c.take_flit.ensures in
     let x = c.args.node in (
       c.in-Some.port + 1,
-      covered_more x (Take x) (λ s. NoFlit s x) (no_flit_still x) c.args.self.now c.loop-port.self
+      covered_more x port_count same_ports (Take x) (λ s. NoFlit s x) (no_flit_still x) c.args.self.now c.loop-port.self
           c.take_flit.new.self c.loop-port.left c.pop_first.new.self inv.0 c.in-Some.port inv.1
           c.in-Some.ensures one.taken one.others one.sound,
     )
@@ -29,5 +30,5 @@ pub returns : goal.returns
 returns c =
     let inv = c.loop-port.invariant in
     let x = c.args.node in
-    covered_all x (Take x) (λ s. NoFlit s x) (no_flit_still x) c.args.self.now c.loop-port.self
+    covered_all x port_count same_ports (Take x) (λ s. NoFlit s x) (no_flit_still x) c.args.self.now c.loop-port.self
     (λ s. map (Take x) (mesh_ports s)) c.loop-port.left inv.0 inv.1 c.in_default.ensures.0 refl

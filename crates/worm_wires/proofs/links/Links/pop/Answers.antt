@@ -3,7 +3,7 @@ use Rattle.std.specs.Prelude.{is_some}
 use Rattle.worm_flit.specs.declared.Flit.{Flit}
 use Rattle.worm_mesh.specs.Address.{AreRadices}
 use Rattle.worm_wires.specs.Links.{LinkView}
-use Rattle.worm_wires.specs.Ports.{IsPut}
+use Rattle.worm_flit.specs.SmallSet.{IsPut}
 use Rattle.worm_wires.proofs.Arriving.{flits_written, into_port, link_there}
 use Rattle.worm_wires.proofs.links.Links.pop.Goals as goal
 

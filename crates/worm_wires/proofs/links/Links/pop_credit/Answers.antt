@@ -2,7 +2,7 @@ use Rattle.std.proofs.Common.{◌≡◌, Bool, Option, ℕ, length, get_or, ap, 
 use Rattle.std.specs.Prelude.{is_some}
 use Rattle.worm_mesh.specs.Address.{AreRadices}
 use Rattle.worm_wires.specs.Links.{LinkView}
-use Rattle.worm_wires.specs.Ports.{IsPut}
+use Rattle.worm_flit.specs.SmallSet.{IsPut}
 use Rattle.worm_wires.proofs.Arriving.{credits_written, out_port, link_there}
 use Rattle.worm_wires.proofs.links.Links.pop_credit.Goals as goal
 

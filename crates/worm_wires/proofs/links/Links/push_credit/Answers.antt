@@ -2,16 +2,17 @@ use Rattle.std.proofs.Common.{◌≡◌, Bool, Option, Some, length, get_or, ap,
 use Rattle.worm_mesh.specs.Address.{AreRadices}
 use Rattle.worm_wires.specs.Arrivals.{LinksView, has_front}
 use Rattle.worm_wires.specs.Links.{LinkView}
-use Rattle.worm_wires.specs.Ports.{IsPut}
+use Rattle.worm_flit.specs.SmallSet.{IsPut}
 use Rattle.worm_wires.specs.Wiring.{port_links}
 use Rattle.worm_wires.specs.declared.wiring.PortLinks.{PortLinks}
 use Rattle.worm_wires.proofs.Arriving.{credits_written, link_there, more_than_none, out_entered}
 use Rattle.worm_wires.proofs.Wired.{entered_within, ports_within}
 use Rattle.worm_wires.proofs.links.Links.push_credit.Goals as goal
 
-pub insert-requires : goal.insert-requires
-insert-requires c = entered_within c.args.self.now.mesh c.args.node c.args.port c.args.links c.requires.mesh
-    c.requires.ports
+pub put-requires : goal.put-requires
+put-requires c =
+    let within = entered_within c.args.self.now.mesh c.args.node c.args.port c.args.links c.requires.mesh
+    c.requires.ports in omega arith
 
 pub invariant_of-self : goal.invariant_of-self
 invariant_of-self c =
@@ -27,12 +28,12 @@ invariant_of-self c =
     subst (λ (l : LinksView). ◌≡◌ {A = Option PortLinks} (Some c.args.links)
     (port_links l.mesh c.args.node c.args.port)) (sym c.self.view_is) c.requires.ports in
     credits_written c.self.inside.wiring c.self.inside.states.items c.self.inside.arrivals c.self.invariant all radices
-    c.from.result c.args.links.beyond c.args.links.entered c.from-2.result c.from-2.result c.insert.new.self
+    c.from.result c.args.links.beyond c.args.links.entered c.from-2.result c.from-2.result c.put.new.self
     c.index-self-from.result c.index_mut-link.result.now c.push_credit.new.self there c.index_mut-link.ensures.value
     (omega arith) c.from-2.ensures c.from-2.ensures
     (out_entered c.self.inside.wiring c.args.node c.args.port c.from.result c.args.links radices linked c.from.ensures)
     (ap (λ (s : LinkView). s.flits) c.push_credit.ensures)
     (subst (λ (b : Bool). IsPut (get_or c.self.inside.arrivals c.from-2.result c.index-self-from.result).credits
-    c.insert.new.self c.args.links.entered b)
+    c.put.new.self c.args.links.entered b)
     (sym (ap (λ (s : LinkView). has_front s.credits) c.push_credit.ensures
-    ∙ more_than_none c.index_mut-link.result.now.credits c.args.vc)) c.insert.ensures)
+    ∙ more_than_none c.index_mut-link.result.now.credits c.args.vc)) c.put.ensures)

@@ -1,6 +1,6 @@
 use Rattle.std.proofs.Common.{arith}
-use Rattle.worm_wires.proofs.PortSets.{first_taken}
-use Rattle.worm_wires.proofs.port_set.PortSet.pop_first.Goals as goal
+use Rattle.worm_flit.proofs.SmallSets.{first_taken}
+use Rattle.worm_flit.proofs.small_set.SmallSet.pop_first.Goals as goal
 
 pub returns : goal.returns
 returns c = rw (← c.self.view_is) (first_taken c.self.inside.bits (omega arith) (omega arith))

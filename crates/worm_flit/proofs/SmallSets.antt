@@ -1,23 +1,24 @@
--- Sets of ports: what a write of one port makes of them.
-use Rattle.std.proofs.Common.{◌≡◌, ℕ, ◌*◌, ◌%◌, ◌^◌, ◌<◌, inl, inr, true, false, ◌==◌, bit_and}
+-- Small sets: what a write of one number makes of them.
+use Rattle.std.proofs.Common.{◌≡◌, ℕ, ◌*◌, ◌%◌, ◌^◌, ◌<◌, ◌-◌, inl, inr, true, false, ◌==◌, bit_and}
 use Rattle.std.proofs.Common.{bit_or, ap, ◌∙◌, arith}
 use Rattle.std.specs.Int.{bit_at, bit_not, trailing_zeros, w8}
 use Rattle.std.proofs.lemmas.Bool.{cases_eq, cases_lt, eq-eqb, eqb-true, ne_eqb}
 use Rattle.std.proofs.lemmas.Nat.Bits.{bit_at_set_same, bit_at_set_other, bit_at_clear_same, bit_at_clear_other}
 use Rattle.std.proofs.lemmas.Nat.Bits.{bit_at_above, bit_at-trailing_zeros}
 use Rattle.std.proofs.lemmas.Nat.{and_le_l}
-use Rattle.worm_wires.specs.Ports.{has, IsFirst, IsPut}
+use Rattle.worm_flit.specs.SmallSet.{has, IsFirst, IsPut}
+use Rattle.worm_flit.proofs.LowestBit.{lowest_cleared}
 
 bit_unset : (n i : ℕ) → bit_at n i ≡ 0 → (bit_at n i == 1) ≡ false
 bit_unset n i e = ne_eqb (bit_at n i) 1 (λ one. absurd (omega arith))
 
--- no port is in a set that is tested to be empty
+-- no number is in a set that is tested to be empty
 pub has_none : (set p : ℕ) → (set == 0) ≡ true → has set p ≡ false
 has_none set p e = ap (λ s. has s p) (eqb-true set 0 e) ∙ bit_unset 0 p (bit_at_above 0 0 p (omega arith) (omega arith))
 
--- a set that is not empty has a port
-pub some_port : (bits : ℕ) → bits < 2 ^ 8 → (bits == 0) ≡ false → (p : ℕ) × (p < 8) × (has bits p ≡ true)
-some_port bits fits some =
+-- a set that is not empty has a number
+pub some_number : (bits : ℕ) → bits < 2 ^ 8 → (bits == 0) ≡ false → (p : ℕ) × (p < 8) × (has bits p ≡ true)
+some_number bits fits some =
     let lowest = bit_at-trailing_zeros w8 bits (grind arith) fits in (
       trailing_zeros w8 bits,
       elim (cases_lt (trailing_zeros w8 bits) 8) [
@@ -30,24 +31,24 @@ some_port bits fits some =
       eq-eqb _ 1 lowest.1,
     )
 
-pub put_in : (bits port : ℕ) → port < 6 → IsPut bits (bit_or bits (1 * 2 ^ port % 2 ^ 8)) port true
-put_in bits port within = record {
-  here = eq-eqb _ 1 (bit_at_set_same w8 bits port (omega arith));
-  elsewhere = λ p _ apart. ap (λ b. b == 1) (bit_at_set_other w8 bits port (omega arith) p (λ e. apart (omega arith)));
+pub put_in : (bits n : ℕ) → n < 8 → IsPut bits (bit_or bits (1 * 2 ^ n % 2 ^ 8)) n true
+put_in bits n within = record {
+  here = eq-eqb _ 1 (bit_at_set_same w8 bits n (omega arith));
+  elsewhere = λ p _ apart. ap (λ b. b == 1) (bit_at_set_other w8 bits n (omega arith) p (λ e. apart (omega arith)));
 }
 
-pub put_out : (bits port : ℕ) → port < 8 → IsPut bits (bit_and bits (bit_not w8 (1 * 2 ^ port % 2 ^ 8))) port false
-put_out bits port within = record {
-  here = bit_unset _ _ (bit_at_clear_same w8 bits port (omega arith));
+pub put_out : (bits n : ℕ) → n < 8 → IsPut bits (bit_and bits (bit_not w8 (1 * 2 ^ n % 2 ^ 8))) n false
+put_out bits n within = record {
+  here = bit_unset _ _ (bit_at_clear_same w8 bits n (omega arith));
   elsewhere = λ p p_in apart. ap (λ b. b == 1)
-      (bit_at_clear_other w8 bits port (omega arith) p (omega arith) (λ e. apart (omega arith)));
+      (bit_at_clear_other w8 bits n (omega arith) p (omega arith) (λ e. apart (omega arith)));
 }
 
--- the first port
+-- the least number
 
-pub first_taken : (bits : ℕ) → 0 < bits → bits < 2 ^ 8
+first_cleared : (bits : ℕ) → 0 < bits → bits < 2 ^ 8
     → IsFirst bits (bit_and bits (bit_not w8 (1 * 2 ^ trailing_zeros w8 bits % 2 ^ 8))) (trailing_zeros w8 bits)
-first_taken bits some fits = record {
+first_cleared bits some fits = record {
   in_range = lowest.0;
   was_in = eq-eqb _ 1 lowest.1;
   none_before = λ p before. bit_unset bits p (lowest.2 p (omega arith));
@@ -63,3 +64,7 @@ first_taken bits some fits = record {
   lowest : (trailing_zeros w8 bits < 8) × (bit_at bits (trailing_zeros w8 bits) ≡ 1) × ((i : ℕ)
       → i < trailing_zeros w8 bits → bit_at bits i ≡ 0)
   lowest = bit_at-trailing_zeros w8 bits some fits
+
+pub first_taken : (bits : ℕ) → 0 < bits → bits < 2 ^ 8
+    → IsFirst bits (bit_and bits (bits - 1)) (trailing_zeros w8 bits)
+first_taken bits some fits = rw (lowest_cleared w8 bits some fits) (first_cleared bits some fits)
