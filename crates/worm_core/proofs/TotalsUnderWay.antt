@@ -12,7 +12,7 @@ use Rattle.worm_region.specs.State.{NetState, IsNet, node_at, sink_at}
 use Rattle.worm_region.specs.Resting.{no_node, nth_node}
 use Rattle.worm_region.specs.Totals.{delivered_total, injected_below, injected_total}
 use Rattle.worm_region.specs.UnderWay.{accepted_by, accepted_in, taken_by, taken_in}
-use Rattle.worm_region.proofs.Resting.{is_nth}
+use Rattle.worm_region.proofs.FrameKept.{is_nth}
 
 below_is : {A : Type 0} (f : A → ℕ) (d : A) (xs : List A) (n : ℕ) → n ≤ length xs →
     sum_below (λ x. f (get_or xs x d)) n ≡ sum_by f (take n xs)

@@ -1,7 +1,7 @@
 -- A node feeds just where the theory enables Feed, and that makes of the network what Feed does.
 use Rattle.std.proofs.Common.{◌≡◌, ℕ, ◌+◌, ◌*◌, ◌<◌, ◌==◌, Bool, true, false, if◌then◌else◌, inl, inr, List, [], ◌∷◌}
 use Rattle.std.proofs.Common.{◌++◌, length, drop, sum, Ok, Option, Some, None, refl, arith, ap, sym, subst, ◌∙◌}
-use Rattle.std.specs.Prelude.{All, option_map}
+use Rattle.std.specs.Prelude.{All, option_map, slice_set}
 use Rattle.std.proofs.Math.ListN.{length-set}
 use Rattle.std.proofs.lemmas.List.Elements.{All-head}
 use Rattle.worm_flit.specs.declared.Flit.{Flit}
@@ -12,6 +12,7 @@ use Rattle.worm_term.specs.Queue.{waiting, one_fed}
 use Rattle.worm_term.specs.Source.{front_of}
 use Rattle.worm_theory.specs.Network.{put2, put3}
 use Rattle.worm_theory.specs.Steps.{Feed, IsThere, Enabled, after, fed}
+use Rattle.worm_region.specs.Resting.{nth_node}
 use Rattle.worm_region.specs.Shape.{net_shape}
 use Rattle.worm_region.specs.declared.node.Node.{Node}
 use Rattle.worm_region.specs.State.{NetState, IsFramed, IsNodeOf, IsNetPlace, shape, network_of, node_at, router_at}
@@ -23,7 +24,7 @@ use Rattle.worm_region.specs.Moves.{done_step, FrontFits, has_room, can_enter, f
 use Rattle.worm_region.proofs.NodeWritten.{put2_same, put3_same, node_bridge, itself3, input_of-put, input_of-there}
 use Rattle.worm_region.proofs.NodeWritten.{below_cases}
 use Rattle.worm_region.proofs.AsListed.{buffer_there}
-use Rattle.worm_region.proofs.FrameKept.{step_made, framed_mesh, node_framed}
+use Rattle.worm_region.proofs.FrameKept.{is_nth, step_made, framed_mesh, node_framed}
 use Rattle.worm_region.proofs.ListFronts.{next_of, end_of}
 use Rattle.worm_region.proofs.Sources.{queue_after, fed_source, within_fed}
 use Rattle.worm_mesh.specs.Address.{node_count}
@@ -288,3 +289,39 @@ feed_fits s x k net there =
     let all = net.framed.all_nodes in
     let node_in = there.0 in
     fits_by s x k net (omega arith) there.1 (waiting (queue_of s x k)) refl
+
+-- the same where a node is read and written within the list
+pub nth_fits : (s : NetState) (x k : ℕ) → {own : ℕ → Bool} → IsWorkableBy own s → IsThere (shape s) (Feed x k) →
+    FrontFits (nth_node s.nodes x).router (terminal (nth_node s.nodes x).router)
+    (front_of (nth_node s.nodes x).source k)
+unfolding net_shape
+nth_fits s x k net there =
+    subst (λ (n : Node). FrontFits n.router (terminal n.router) (front_of n.source k))
+    (sym (is_nth s x net.framed there.0)) (feed_fits s x k net there)
+
+fed_list : (s : NetState) (x k : ℕ) → Bool → Node → List Node
+fed_list s x k done n = if done then slice_set s.nodes x (fed_node n k (front_of n.source k)) else s.nodes
+
+list_answers : (s : NetState) (x k : ℕ) → {own : ℕ → Bool} → IsWorkableBy own s → IsThere (shape s) (Feed x k) →
+    (done : Bool) → done ≡ can_enter (router_at s x) (terminal (router_at s x)) (front_of (source_at s x) k)
+    → IsWorkableBy own (record s { nodes = fed_list s x k done (node_at s x) })
+    × Replies s (Feed x k) (Ok (moved_of done)) (record s { nodes = fed_list s x k done (node_at s x) })
+unfolding fed_list
+list_answers s x k net there true e = feed_answers s x k net there true e
+list_answers s x k net there false e = feed_answers s x k net there false e
+
+pub nth_answers : (s : NetState) (x k : ℕ) → {own : ℕ → Bool} → IsWorkableBy own s → IsThere (shape s) (Feed x k) →
+    (done : Bool) (nodes : List Node)
+    → done ≡ can_enter (nth_node s.nodes x).router (terminal (nth_node s.nodes x).router)
+    (front_of (nth_node s.nodes x).source k)
+    → nodes ≡ (if done then slice_set s.nodes x (fed_node (nth_node s.nodes x) k
+    (front_of (nth_node s.nodes x).source k)) else s.nodes)
+    → IsWorkableBy own (record s { nodes = nodes })
+    × Replies s (Feed x k) (Ok (moved_of done)) (record s { nodes = nodes })
+unfolding net_shape fed_list
+nth_answers s x k {own} net there done nodes e after =
+    let same = is_nth s x net.framed there.0 in
+    let enters = subst (λ (n : Node). done ≡ can_enter n.router (terminal n.router) (front_of n.source k)) same e in
+    subst (λ (ns : List Node). IsWorkableBy own (record s { nodes = ns })
+    × Replies s (Feed x k) (Ok (moved_of done)) (record s { nodes = ns }))
+    (sym (after ∙ ap (fed_list s x k done) same)) (list_answers s x k net there done enters)

@@ -1,6 +1,7 @@
 -- A node that is written leaves the lists their shape, and a step of the theory leaves what the moves need.
-use Rattle.std.proofs.Common.{◌≡◌, ℕ, ◌<◌, inl, inr, List, length, refl, sym, subst, ◌∙◌, Bool}
+use Rattle.std.proofs.Common.{◌≡◌, ℕ, ◌<◌, inl, inr, List, length, arith, refl, sym, subst, ◌∙◌, Bool}
 use Rattle.std.proofs.Math.ListN.{length-set}
+use Rattle.std.proofs.lemmas.List.{get_or_default}
 use Rattle.worm_flit.specs.declared.Flit.{Flit}
 use Rattle.worm_records.specs.declared.OutRecord.{OutRecord}
 use Rattle.worm_router.specs.Router.{ChannelState}
@@ -8,11 +9,13 @@ use Rattle.worm_theory.specs.Shape.{IsMesh}
 use Rattle.worm_theory.specs.Network.{Network}
 use Rattle.worm_theory.specs.Steps.{Step, IsThere, Enabled, after}
 use Rattle.worm_theory.proofs.Places.{number_cases}
+use Rattle.worm_mesh.specs.Address.{node_count}
+use Rattle.worm_region.specs.Resting.{no_node, nth_node}
 use Rattle.worm_region.specs.Shape.{net_shape}
 use Rattle.worm_region.specs.declared.node.Node.{Node}
 use Rattle.worm_region.specs.State.{NetState, IsFramed, IsNodeOf, shape, network_of, node_at}
 use Rattle.worm_wires.specs.Links.{LinkView}
-use Rattle.worm_region.specs.State.{router_at, with_node, with_router}
+use Rattle.worm_region.specs.State.{fresh_node, router_at, with_node, with_router}
 use Rattle.worm_region.specs.Workable.{IsWorkableBy, Works}
 use Rattle.worm_region.specs.Moves.{done_step}
 use Rattle.worm_region.specs.Replies.{Hindered, IsMade}
@@ -24,6 +27,12 @@ use Rattle.worm_shape.proofs.Shapes.{shape_is_mesh}
 pub framed_mesh : (s : NetState) → IsFramed s → IsMesh (shape s)
 unfolding net_shape
 framed_mesh s framed = shape_is_mesh s.mesh s.channels s.depth framed.radices framed.classes
+
+-- a node of the list is the network's
+pub is_nth : (s : NetState) (x : ℕ) → IsFramed s → x < node_count s.mesh → nth_node s.nodes x ≡ node_at s x
+is_nth s x framed x_in =
+    let all = framed.all_nodes in
+    get_or_default s.nodes x no_node (fresh_node s.mesh s.channels s.depth x) (omega arith)
 
 -- a network whose lists stand for what the theory makes of one that moves can be made in is such a one
 pub kept : (s : NetState) (nodes : List Node) (links : List LinkView) (step : Step) → {own : ℕ → Bool} →

@@ -56,6 +56,12 @@ by_answer old new step (Err NoSuchPlace) a = subst (λ (s : NetState). Reaches o
 by_answer old new step (Err (Refused fault)) a = subst (λ (s : NetState). Reaches old s) (sym a.3) (reached old)
 by_answer old new step (Err NoMemory) a = subst (λ (s : NetState). Reaches old s) (sym a.3) (reached old)
 
+-- the network before a step under another name
+pub replies_from : (inside old new : NetState) (step : Step) (answer : Result Moved StepFault) → inside ≡ old →
+    Replies inside step answer new → Replies old step answer new
+replies_from inside old new step answer same replies =
+    subst (λ (s : NetState). Replies s step answer new) same replies
+
 -- what is answered leaves a region to whoever has it
 pub still_workable : (s new : NetState) (step : Step) (answer : Result Moved StepFault)
     → IsWorkableBy (owned s) new × Replies s step answer new → IsWorkable new

@@ -4,7 +4,6 @@ use Rattle.std.proofs.Common.{Option, Some, None, Ok, Err, inr, refl, arith, ap,
 use Rattle.std.specs.Prelude.{IfSome, IsSome, option_map}
 use Rattle.std.specs.List.{flat_map}
 use Rattle.std.specs.Option.{option_to_list}
-use Rattle.std.proofs.lemmas.List.{get_or_default}
 use Rattle.worm_mesh.specs.Address.{node_count, neighbour_of}
 use Rattle.worm_router.specs.Router.{RouterState, terminal}
 use Rattle.worm_router.specs.Allocation.{after_allocate, after_choose, switch_grants}
@@ -18,7 +17,7 @@ use Rattle.worm_region.specs.Shape.{net_shape}
 use Rattle.worm_region.specs.State.{NetState, IsFramed, fresh_node, node_at, router_at, source_at, with_router}
 use Rattle.worm_region.specs.Workable.{IsWorkable}
 use Rattle.worm_region.specs.Moves.{NothingComes, can_enter, can_get, chosen_router, front_credit, front_into}
-use Rattle.worm_region.specs.Resting.{IsResting, no_node, nth_node}
+use Rattle.worm_region.specs.Resting.{IsResting, nth_node}
 use Rattle.worm_region.specs.Replies.{Attempts}
 use Rattle.worm_region.specs.Turns.{Each, all_ports, granted_send, SendsGrantedBy, GivesCreditBy}
 use Rattle.worm_region.specs.Turns.{NodePassesBy, ComesInBy, AreThere, Chooses}
@@ -27,6 +26,7 @@ use Rattle.worm_region.specs.declared.fault.StepFault.TheVariants.{NoSuchPlace}
 use Rattle.worm_region.proofs.GetAgrees.{get_answers}
 use Rattle.worm_region.proofs.TakeAgrees.{take_answers}
 use Rattle.worm_region.proofs.FeedAgrees.{feed_answers}
+use Rattle.worm_region.proofs.FrameKept.{is_nth}
 use Rattle.worm_region.proofs.NodeWritten.{with_router_same}
 use Rattle.worm_region.proofs.Turning.{gives_none, owed_lowest}
 use Rattle.worm_region.proofs.Skipping.{each_still, numbers_still, node_still}
@@ -161,13 +161,6 @@ node_rests s x net x_in rest nothing =
         ),
       ),
     )
-
--- a node that is kept as still
-
-pub is_nth : (s : NetState) (x : ℕ) → IsFramed s → x < node_count s.mesh → nth_node s.nodes x ≡ node_at s x
-is_nth s x framed x_in =
-    let all = framed.all_nodes in
-    get_or_default s.nodes x no_node (fresh_node s.mesh s.channels s.depth x) (omega arith)
 
 -- a node whose router is at rest, and whose source has nothing to feed
 pub found_resting : (s : NetState) (x : ℕ) → IsWorkable s → x < node_count s.mesh → IsAtRest (router_at s x) →

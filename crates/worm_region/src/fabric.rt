@@ -117,12 +117,11 @@ impl Fabric {
 
     /// Moves the front of the link into a port, which is that of this number, to the buffer of its channel (Dally and
     /// Towles, chapter 13).
-    pub(crate) fn take(&mut self, node: u8, port: u8, number: u16) -> bool
+    pub(crate) fn take_flit(&mut self, node: u8, port: u8, number: u16) -> bool
         requires node { node < length self.old.nodes }
         requires number { number ≡ link_into self.old node port }
         requires there { number < link_count self.old.mesh }
         requires mesh_port { port < 6 }
-        requires links { length self.old.links ≡ link_count self.old.mesh }
         requires linked { IsSome (neighbour_of self.old.mesh node port) }
         requires front { FrontFits (router_at self.old node) port (front_into self.old node port) }
         ensures enabled { result ≡ can_enter (router_at self.old node) port (front_into self.old node port) }
@@ -155,7 +154,6 @@ impl Fabric {
     /// where the sink cannot take it; idle where none is ready, or where one for the terminal is not at home.
     pub(crate) fn send(&mut self, node: u8, port: u8, vc: u8) -> Result<Moved, StepFault>
         requires place { IsNetPlace self.old node port vc }
-        requires links { length self.old.links ≡ link_count self.old.mesh }
         requires way { LeavesByLink self.old node (leaving (router_at self.old node) port vc) }
         requires sink { (sink_at self.old node).node ≡ node }
         ensures { Sends self.old node port vc (leaving (router_at self.old node) port vc) result self.new }
@@ -179,55 +177,12 @@ impl Fabric {
         Ok(Moved::Done)
     }
 
-    /// Moves the source's next flit of the class into the injection buffer.
-    pub(crate) fn feed(&mut self, node: u8, class: u8) -> bool
-        requires node { node < length self.old.nodes }
-        requires mesh { (router_at self.old node).mesh ≡ self.old.mesh }
-        requires class { class < classes (source_at self.old node) }
-        requires front { FrontFits (router_at self.old node) (terminal (router_at self.old node))
-            (front_of (source_at self.old node) class) }
-        ensures enabled { result ≡ can_enter (router_at self.old node) (terminal (router_at self.old node))
-            (front_of (source_at self.old node) class) }
-        ensures after { self.new ≡ (if result then with_node self.old node
-            (fed_node (node_at self.old node) class (front_of (source_at self.old node) class)) else self.old) }
-    {
-        let terminal = self.terminal();
-        self.nodes.feed(node, class, terminal)
-    }
-
-    /// Hands the packet to the node's source.
-    pub(crate) fn offer(&mut self, node: u8, packet: &Packet) -> Result<(), OfferFault>
-        requires { node < length self.old.nodes }
-        ensures ok { OnOk result ((refusal (source_at self.old node) packet.now.lane false ≡ None) ×
-            (self.new ≡ with_source self.old node (after_offer (source_at self.old node) packet.now))) }
-        ensures fault { IfErr result (λ e. e ≡ unwrap_or
-            (refusal (source_at self.old node) packet.now.lane false) OfferFault.NoMemory) }
-        ensures err { OnErr result (self.new ≡ self.old) }
-        ensures some { 1 ≤ length packet.now.words }
-        ensures few { length packet.now.words ≤ 32 }
-    {
-        self.nodes.offer(node, packet)
-    }
-
-    /// Hands the lane's close mark to the node's source.
-    pub(crate) fn close(&mut self, node: u8, lane: Lane) -> Result<(), OfferFault>
-        requires { node < length self.old.nodes }
-        ensures ok { OnOk result ((refusal (source_at self.old node) lane true ≡ None) ×
-            (self.new ≡ with_source self.old node (after_close (source_at self.old node) lane))) }
-        ensures fault { IfErr result (λ e. e ≡ unwrap_or
-            (refusal (source_at self.old node) lane true) OfferFault.NoMemory) }
-        ensures err { OnErr result (self.new ≡ self.old) }
-    {
-        self.nodes.close(node, lane)
-    }
-
     /// Gives a credit that the input channel owes to the link into its port, whose links are these (Dally and Towles,
     /// chapter 13).
-    pub(crate) fn give(&mut self, node: u8, port: u8, vc: u8, links: PortLinks)
+    pub(crate) fn give_credit(&mut self, node: u8, port: u8, vc: u8, links: PortLinks)
         requires place { IsNetPlace self.old node port vc }
         requires mesh { AreRadices self.old.mesh }
         requires ports { Some links ≡ port_links self.old.mesh node port }
-        requires links { length self.old.links ≡ link_count self.old.mesh }
         requires owed { 0 < (input_at (router_at self.old node) port vc).owed }
         requires room { length (link_at self.old (link_into self.old node port)).credits <
             (link_at self.old (link_into self.old node port)).room }
@@ -239,12 +194,11 @@ impl Fabric {
 
     /// Takes the front credit of the link out of this port, which is that of this number, into its channel's count
     /// (Dally and Towles, chapter 13).
-    pub(crate) fn get(&mut self, node: u8, port: u8, number: u16) -> bool
+    pub(crate) fn take_credit(&mut self, node: u8, port: u8, number: u16) -> bool
         requires node { node < length self.old.nodes }
         requires number { number ≡ link_out self.old node port }
         requires there { number < link_count self.old.mesh }
         requires mesh_port { port < 6 }
-        requires links { length self.old.links ≡ link_count self.old.mesh }
         requires linked { IsSome (neighbour_of self.old.mesh node port) }
         requires front { CreditFits (router_at self.old node) port (front_credit self.old node port) }
         ensures enabled { result ≡ can_get (router_at self.old node) port (front_credit self.old node port) }

@@ -5,7 +5,7 @@ ghost use Rattle.std.specs.Prelude.{ℕ, ◌≡◌, ◌+◌, ◌<◌, ◌≤◌,
 ghost use Rattle.std.specs.Prelude.{true, false, unwrap_or, if◌then◌else◌, IfSome};
 ghost use Rattle.std.specs.Borrow.{Lends, sem};
 ghost use Rattle.worm_router.specs.Router.{IsPlace, leaving, terminal};
-ghost use Rattle.worm_term.specs.Source.{after_close, after_offer, classes, front_of, refusal};
+ghost use Rattle.worm_term.specs.Source.{IsAnswered, after_close, after_offer, classes, front_of, refusal};
 ghost use Rattle.worm_region.specs.Moves.{FrontFits, can_enter, delivered_node, fed_node};
 ghost use Rattle.worm_region.specs.Resting.{IsResting, nth_node, put_router, put_source};
 ghost use Rattle.worm_region.specs.UnderWay.{HasClasses, HaveClasses, IsUnderWay, accepted_by, accepted_in, taken_in};
@@ -194,11 +194,8 @@ impl Nodes {
     /// Hands the packet to the node's source.
     pub fn offer(&mut self, node: u8, packet: &Packet) -> Result<(), OfferFault>
         requires { node < length self.old }
-        ensures ok { OnOk result ((refusal (nth_node self.old node).source packet.now.lane false ≡ None)
-            × (self.new ≡ put_source self.old node (after_offer (nth_node self.old node).source packet.now))) }
-        ensures fault { IfErr result (λ e. e
-            ≡ unwrap_or (refusal (nth_node self.old node).source packet.now.lane false) OfferFault.NoMemory) }
-        ensures err { OnErr result (self.new ≡ self.old) }
+        ensures answer { IsAnswered (refusal (nth_node self.old node).source packet.now.lane false) result self.old
+            (put_source self.old node (after_offer (nth_node self.old node).source packet.now)) self.new }
         ensures some { 1 ≤ length packet.now.words }
         ensures few { length packet.now.words ≤ 32 }
     {
@@ -214,11 +211,8 @@ impl Nodes {
     /// Hands the lane's close mark to the node's source.
     pub fn close(&mut self, node: u8, lane: Lane) -> Result<(), OfferFault>
         requires { node < length self.old }
-        ensures ok { OnOk result ((refusal (nth_node self.old node).source lane true ≡ None)
-            × (self.new ≡ put_source self.old node (after_close (nth_node self.old node).source lane))) }
-        ensures fault { IfErr result (λ e. e
-            ≡ unwrap_or (refusal (nth_node self.old node).source lane true) OfferFault.NoMemory) }
-        ensures err { OnErr result (self.new ≡ self.old) }
+        ensures { IsAnswered (refusal (nth_node self.old node).source lane true) result self.old
+            (put_source self.old node (after_close (nth_node self.old node).source lane)) self.new }
     {
         self.resting[usize::from(node)] = false;
         let here = &mut self.list[usize::from(node)];

@@ -235,7 +235,7 @@ impl Region {
         if !self.fabric.has_node(node) {
             return Err(StepFault::NoSuchPlace);
         }
-        accepted(self.fabric.offer(node, packet))
+        accepted(self.fabric.nodes.offer(node, packet))
     }
 
     pub(crate) fn close(&mut self, node: u8, lane: Lane) -> Result<Moved, StepFault>
@@ -244,7 +244,7 @@ impl Region {
         if !self.fabric.has_node(node) {
             return Err(StepFault::NoSuchPlace);
         }
-        accepted(self.fabric.close(node, lane))
+        accepted(self.fabric.nodes.close(node, lane))
     }
 
     pub(crate) fn feed(&mut self, node: u8, class: u8) -> Result<Moved, StepFault>
@@ -262,7 +262,8 @@ impl Region {
         requires class { class < length self.old.channels }
         ensures { Replies self.old (Event.Feed node class) (Ok (moved_of result)) self.new }
     {
-        self.fabric.feed(node, class)
+        let terminal = self.fabric.terminal();
+        self.fabric.nodes.feed(node, class, terminal)
     }
 
     pub(crate) fn route(&mut self, node: u8, port: u8, vc: u8) -> Result<Moved, StepFault>
@@ -303,16 +304,16 @@ impl Region {
         self.fabric.send(node, port, vc)
     }
 
-    pub(crate) fn take(&mut self, node: u8, port: u8) -> Result<Moved, StepFault>
+    pub(crate) fn take_flit(&mut self, node: u8, port: u8) -> Result<Moved, StepFault>
         ensures { Replies self.old (Event.Take node port) result self.new }
     {
         let Some(number) = self.fabric.wires().find_into(node, port) else {
             return Err(StepFault::NoSuchPlace);
         };
-        Ok(moved(self.fabric.take(node, port, number)))
+        Ok(moved(self.fabric.take_flit(node, port, number)))
     }
 
-    fn give(&mut self, node: u8, port: u8, vc: u8) -> Result<Moved, StepFault>
+    fn give_credit(&mut self, node: u8, port: u8, vc: u8) -> Result<Moved, StepFault>
         requires { self.old.own ≡ sole }
         ensures { Replies self.old (Event.GiveCredit node port vc) result self.new }
     {
@@ -335,17 +336,17 @@ impl Region {
         let Some(links) = self.fabric.wires().links_at(node, port) else {
             return Err(StepFault::NoSuchPlace);
         };
-        self.fabric.give(node, port, vc, links);
+        self.fabric.give_credit(node, port, vc, links);
         Ok(Moved::Done)
     }
 
-    pub(crate) fn get(&mut self, node: u8, port: u8) -> Result<Moved, StepFault>
+    pub(crate) fn take_credit(&mut self, node: u8, port: u8) -> Result<Moved, StepFault>
         ensures { Replies self.old (Event.TakeCredit node port) result self.new }
     {
         let Some(number) = self.fabric.wires().find_out(node, port) else {
             return Err(StepFault::NoSuchPlace);
         };
-        Ok(moved(self.fabric.get(node, port, number)))
+        Ok(moved(self.fabric.take_credit(node, port, number)))
     }
 
     /// One step, where all nodes are owned.
@@ -365,9 +366,9 @@ impl Region {
                 out_vc,
             } => self.grant(*node, *port, *vc, *out_vc),
             Step::Send { node, port, vc } => self.send(*node, *port, *vc),
-            Step::Take { node, port } => self.take(*node, *port),
-            Step::GiveCredit { node, port, vc } => self.give(*node, *port, *vc),
-            Step::TakeCredit { node, port } => self.get(*node, *port),
+            Step::Take { node, port } => self.take_flit(*node, *port),
+            Step::GiveCredit { node, port, vc } => self.give_credit(*node, *port, *vc),
+            Step::TakeCredit { node, port } => self.take_credit(*node, *port),
         }
     }
 }

@@ -85,13 +85,13 @@ impl Region {
     }
 
     /// Takes the credit that comes back by the port, and by no other.
-    fn take_credit(&mut self, node: u8, port: u8)
+    fn take_credit_at(&mut self, node: u8, port: u8)
         ensures taken { Does (Attempts (TakeCredit node port)) self.old None self.new }
         ensures others { (p : ℕ) → (p ≡ port → ⊥) → NoCredit self.old node p → NoCredit self.new node p }
         ensures sound { IsWorkable self.new }
     {
         self.recall();
-        let _moved = self.get(node, port);
+        let _moved = self.take_credit(node, port);
         self.recall();
     }
 
@@ -102,18 +102,18 @@ impl Region {
     {
         let mut left = self.credits_in(node);
         while let Some(port) = left.pop_first() {
-            self.take_credit(node, port);
+            self.take_credit_at(node, port);
         }
     }
 
     /// Takes the flit that comes in by the port, and by no other.
-    fn take_flit(&mut self, node: u8, port: u8)
+    fn take_flit_at(&mut self, node: u8, port: u8)
         ensures taken { Does (Attempts (Take node port)) self.old None self.new }
         ensures others { (p : ℕ) → (p ≡ port → ⊥) → NoFlit self.old node p → NoFlit self.new node p }
         ensures sound { IsWorkable self.new }
     {
         self.recall();
-        let _moved = self.take(node, port);
+        let _moved = self.take_flit(node, port);
         self.recall();
     }
 
@@ -124,7 +124,7 @@ impl Region {
     {
         let mut left = self.flits_in(node);
         while let Some(port) = left.pop_first() {
-            self.take_flit(node, port);
+            self.take_flit_at(node, port);
         }
     }
 
@@ -192,7 +192,7 @@ impl Region {
     }
 
     /// Gives a credit that a channel of the port owes to the link into it.
-    fn give_credit(&mut self, node: u8, port: u8, vc: u8)
+    fn give_credit_at(&mut self, node: u8, port: u8, vc: u8)
         requires channel { vc < sum self.old.channels }
         requires owed { 0 < (input_at (router_at self.old node) port vc).owed }
         requires whole { self.old.own ≡ sole }
@@ -223,7 +223,7 @@ impl Region {
             }
             // A port has given one already where a lower channel of it owed one, too.
             if from <= port {
-                self.give_credit(node, port, vc);
+                self.give_credit_at(node, port, vc);
                 from = port + 1;
             }
         }

@@ -1,14 +1,14 @@
 -- What a contract sees of a source, and what each call makes of it.
 use Rattle.std.specs.Prelude.{ℕ, ◌+◌, ◌*◌, ◌≤◌, ◌<◌, ◌≡◌, ◌==◌, Bool, true, false, ◌&&◌, not, nat_lt, nat_le}
 use Rattle.std.specs.Prelude.{if◌then◌else◌, List, [], ◌∷◌, length, slice_index, slice_index_or, slice_set, replicate}
-use Rattle.std.specs.Prelude.{All, Option, None, Some, is_some, option_map}
+use Rattle.std.specs.Prelude.{All, Option, None, Some, is_some, option_map, unwrap_or, Result, OnOk, OnErr, IfErr}
 use Rattle.worm_flit.specs.declared.Lane.{Lane}
 use Rattle.worm_flit.specs.declared.Flit.{Flit}
 use Rattle.worm_flit.specs.Channels.{first_channel}
 use Rattle.worm_flit.specs.Packets.{PacketState, packet_flits, mark}
 use Rattle.worm_term.specs.declared.fault.OfferFault.{OfferFault}
 use Rattle.worm_term.specs.declared.fault.OfferFault.TheVariants.{WrongSource, NoSuchNode, NoSuchClass, ManyChannels}
-use Rattle.worm_term.specs.declared.fault.OfferFault.TheVariants.{LaneClosed, LaneFull}
+use Rattle.worm_term.specs.declared.fault.OfferFault.TheVariants.{LaneClosed, LaneFull, NoMemory}
 use Rattle.worm_term.specs.declared.source.LaneState.{LaneState}
 use Rattle.worm_flit.specs.SmallSet.{has}
 use Rattle.worm_flit.specs.Stamps.{of_lane, with_channel}
@@ -59,6 +59,14 @@ refusal s lane is_mark =
     else (if (lane_at s lane).closed then Some LaneClosed
     else (if nat_le 65535 (lane_at s lane).next then Some LaneFull
     else None)))))
+
+-- what is answered to a packet or a mark, and what is then there: what comes of it where there is no reason to refuse
+-- it, and else what was there; the answer names the reason, or want of memory where there is none
+pub record IsAnswered {A S : Type 0} (reason : Option OfferFault) (answer : Result A OfferFault) (old after new : S)
+    : Type 0 where
+  pub ok : OnOk answer ((reason ≡ None) × (new ≡ after))
+  pub fault : IfErr answer (λ e. e ≡ unwrap_or reason NoMemory)
+  pub err : OnErr answer (new ≡ old)
 
 -- the source has the lane, and the lane has a number left
 pub record IsOpen (s : SourceState) (lane : Lane) : Type 0 where

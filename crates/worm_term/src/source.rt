@@ -6,7 +6,7 @@ ghost use Rattle.worm_flit.specs.Stamps.{of_lane};
 ghost use Rattle.worm_term.specs.Lanes.{IsPackets, lane_of};
 ghost use Rattle.worm_term.specs.Source.{SourceState, fresh_lane, fresh_source, lane_at, lane_line, queue_at, refusal};
 ghost use Rattle.worm_term.specs.Source.{next_number, after_offer, after_close, front_of, after_fed, classes, IsOpen};
-ghost use Rattle.worm_term.specs.Source.{AreFirsts, AreUnfed, IsFrom};
+ghost use Rattle.worm_term.specs.Source.{AreFirsts, AreUnfed, IsAnswered, IsFrom};
 
 use crate::fault::{NoMemory, OfferFault};
 use crate::queue::Queue;
@@ -158,10 +158,9 @@ impl Source {
     /// order: `WrongSource`, `NoSuchNode`, `NoSuchClass`, `LaneClosed`, `LaneFull`, `NoMemory`; the source is
     /// then as it was.
     pub fn offer(&mut self, packet: &Packet) -> Result<u16, OfferFault>
-        ensures ok { IfOk result (λ n. (refusal self.old packet.now.lane false ≡ None)
-            × (n ≡ next_number self.old packet.now.lane) × (self.new ≡ after_offer self.old packet.now)) }
-        ensures fault { IfErr result (λ e. e ≡ unwrap_or (refusal self.old packet.now.lane false) OfferFault.NoMemory) }
-        ensures err { OnErr result (self.new ≡ self.old) }
+        ensures answer { IsAnswered (refusal self.old packet.now.lane false) result self.old
+            (after_offer self.old packet.now) self.new }
+        ensures number { IfOk result (λ n. n ≡ next_number self.old packet.now.lane) }
         ensures there { OnOk result (packet.now.lane.class < length self.old.queues) }
     {
         let lane = packet.lane();
@@ -183,10 +182,8 @@ impl Source {
     /// refuses it, in this order: `WrongSource`, `NoSuchNode`, `NoSuchClass`, `ManyChannels`, `LaneClosed`,
     /// `LaneFull`, `NoMemory`; the source is then as it was.
     pub fn close(&mut self, lane: Lane) -> Result<u16, OfferFault>
-        ensures ok { IfOk result (λ n. (refusal self.old lane true ≡ None) × (n ≡ next_number self.old lane)
-            × (self.new ≡ after_close self.old lane)) }
-        ensures fault { IfErr result (λ e. e ≡ unwrap_or (refusal self.old lane true) OfferFault.NoMemory) }
-        ensures err { OnErr result (self.new ≡ self.old) }
+        ensures answer { IsAnswered (refusal self.old lane true) result self.old (after_close self.old lane) self.new }
+        ensures number { IfOk result (λ n. n ≡ next_number self.old lane) }
         ensures there { OnOk result (lane.class < length self.old.queues) }
     {
         let i = self.admit(lane, true)?;

@@ -1,6 +1,6 @@
 -- What comes in at each node, after a write of one link.
 use Rattle.std.proofs.Common.{◌≡◌, ◌≢◌, ℕ, ◌+◌, ◌<◌, ◌≤◌, below_more, Bool, true, false, inl, inr, List, [], ◌∷◌}
-use Rattle.std.proofs.Common.{◌++◌, length, get_or, set, Option, Some, None, refl, arith, ap, sym, subst, ◌∙◌}
+use Rattle.std.proofs.Common.{◌++◌, length, length-set, get_or, set, Option, Some, None, refl, arith, ap, sym, subst, ◌∙◌}
 use Rattle.std.specs.Prelude.{IsSome}
 use Rattle.std.proofs.lemmas.List.{get_or_default, get_or-set_other, get_or-set_same}
 use Rattle.worm_mesh.specs.Address.{AreRadices, neighbour_of}
@@ -8,7 +8,8 @@ use Rattle.worm_mesh.specs.Links.{links_before, link_count}
 use Rattle.worm_wires.specs.Links.{LinkView, blank_link}
 use Rattle.worm_wires.specs.Wiring.{in_link, into_from, out_link, port_links}
 use Rattle.worm_flit.specs.SmallSet.{has, IsPut}
-use Rattle.worm_wires.specs.Arrivals.{LinksView, AreAllArrivals, AreArrivals, AreFronts, has_front, no_arrivals}
+use Rattle.worm_wires.specs.Arrivals.{LinksView, AreAllArrivals, AreArrivals, AreFronts, AreKept, has_front}
+use Rattle.worm_wires.specs.Arrivals.{no_arrivals}
 use Rattle.worm_wires.specs.Arrivals.{number_into, number_out, on_link, state_at, with_state}
 use Rattle.worm_wires.specs.declared.links.Arrivals.{Arrivals}
 use Rattle.worm_wires.specs.declared.wiring.PortLinks.{PortLinks}
@@ -144,7 +145,7 @@ wrote_credits l kept k x o bits new radices are by there x_in x_there same put =
 -- The same as the calls write them: the node's entry read at one place and written at another, and the link likewise
 
 module _ (mesh : List ℕ) (states : List LinkView) (kept : List Arrivals)
-    (are : AreAllArrivals (record { mesh = mesh; states = states }) kept) (all : length kept ≡ 256)
+    (are : AreKept (record { mesh = mesh; states = states }) kept) (all : length kept ≡ 256)
     (radices : AreRadices mesh) (m x p i j bits : ℕ) (d : Arrivals) (read new : LinkView)
     (there : m < length states) (reads : read ≡ get_or states m read) (x_in : x < 256) (at_i : i ≡ x)
     (at_j : j ≡ x) where
@@ -156,23 +157,31 @@ module _ (mesh : List ℕ) (states : List LinkView) (kept : List Arrivals)
 
   pub flits_written : in_link mesh x p ≡ Some m → new.credits ≡ read.credits
       → IsPut (get_or kept i d).flits bits p (has_front new.flits)
-      → AreAllArrivals (record { mesh = mesh; states = set states m new })
+      → AreKept (record { mesh = mesh; states = set states m new })
       (set kept j (record { flits = bits; credits = (get_or kept i d).credits }))
   flits_written by same put =
       let put_here : IsPut (get_or kept x no_arrivals).flits bits p (has_front new.flits) =
       subst (λ (a : Arrivals). IsPut a.flits bits p (has_front new.flits)) entry put in
-      rw (at_j, entry) (wrote_flits (record { mesh = mesh; states = states }) kept m x p bits new radices are by there
-      x_in (omega arith) (same ∙ ap (λ (s : LinkView). s.credits) link) put_here)
+      record {
+        all = rw length-set are.all;
+        known =
+            rw (at_j, entry) (wrote_flits (record { mesh = mesh; states = states }) kept m x p bits new radices
+            are.known by there x_in (omega arith) (same ∙ ap (λ (s : LinkView). s.credits) link) put_here);
+      }
 
   pub credits_written : out_link mesh x p ≡ Some m → new.flits ≡ read.flits
       → IsPut (get_or kept i d).credits bits p (has_front new.credits)
-      → AreAllArrivals (record { mesh = mesh; states = set states m new })
+      → AreKept (record { mesh = mesh; states = set states m new })
       (set kept j (record { flits = (get_or kept i d).flits; credits = bits }))
   credits_written by same put =
       let put_here : IsPut (get_or kept x no_arrivals).credits bits p (has_front new.credits) =
       subst (λ (a : Arrivals). IsPut a.credits bits p (has_front new.credits)) entry put in
-      rw (at_j, entry) (wrote_credits (record { mesh = mesh; states = states }) kept m x p bits new radices are by there
-      x_in (omega arith) (same ∙ ap (λ (s : LinkView). s.flits) link) put_here)
+      record {
+        all = rw length-set are.all;
+        known =
+            rw (at_j, entry) (wrote_credits (record { mesh = mesh; states = states }) kept m x p bits new radices
+            are.known by there x_in (omega arith) (same ∙ ap (λ (s : LinkView). s.flits) link) put_here);
+      }
 
 -- The link of a call, by its number or by what is known of the port
 
@@ -193,9 +202,9 @@ module _ (mesh : List ℕ) (states : List LinkView) (now : LinksView)
       let number : k ≡ links_before mesh x p = subst (λ (v : LinksView). k ≡ number_out v x p) (sym same) number_now in
       out_is mesh x p (neighbour_of mesh x p) linked ∙ ap (λ (v : ℕ). Some v) (sym (at ∙ number))
 
-  pub link_there : k < link_count now.mesh → length now.states ≡ link_count now.mesh → m < length states
+  pub link_there : k < link_count now.mesh → length states ≡ link_count mesh → m < length states
   link_there below full =
-      let counted : length states ≡ link_count now.mesh = ap (λ (v : LinksView). length v.states) same ∙ full in
+      let counted : link_count mesh ≡ link_count now.mesh = ap (λ (v : LinksView). link_count v.mesh) same in
       omega arith
 
 -- the links of a port, against those of the port beyond it

@@ -36,13 +36,13 @@ pub struct Links {
 }
 
 impl Model for Links {
-    ghost use Rattle.worm_wires.specs.Arrivals.{LinksView, AreAllArrivals};
+    ghost use Rattle.worm_wires.specs.Arrivals.{LinksView, AreKept};
 
     ghost Value = { LinksView };
 
     ghost view = { λ l. record { mesh = l.wiring; states = l.states.items } };
 
-    ghost invariant = { λ l. AreAllArrivals (record { mesh = l.wiring; states = l.states.items }) l.arrivals };
+    ghost invariant = { λ l. AreKept (record { mesh = l.wiring; states = l.states.items }) l.arrivals };
 }
 
 /// Whether the link of this number, if it is there, has a flit.
@@ -89,7 +89,8 @@ fn arrivals_of(wiring: &Wiring, states: &[LinkState], node: u8) -> Arrivals
 impl Links {
     /// The links of the mesh, in these states by number.
     pub fn new(mesh: Mesh, states: Vec<LinkState>) -> Links
-        requires { AreRadices mesh }
+        requires mesh { AreRadices mesh }
+        requires states { length states.items ≡ link_count mesh }
         ensures { result ≡ record { mesh = mesh; states = states.items } }
     {
         let wiring = Wiring::new(mesh);
@@ -128,9 +129,11 @@ impl Links {
 
     /// The link of this number.
     pub fn link(&self, number: u16) -> &LinkState
-        requires { number < length self.now.states }
+        requires { number < link_count self.now.mesh }
         ensures { result.now ≡ state_at self.now number }
     {
+        // For the proof: the list has a state for each link.
+        let _arrivals = &self.arrivals;
         &self.states[usize::from(number)]
     }
 
@@ -208,7 +211,6 @@ impl Links {
         requires number { number ≡ number_into self.old node port }
         requires there { number < link_count self.old.mesh }
         requires mesh_port { port < 6 }
-        requires links { length self.old.states ≡ link_count self.old.mesh }
         requires linked { IsSome (neighbour_of self.old.mesh node port) }
         ensures { self.new ≡ with_state self.old (number_into self.old node port)
             (record (state_at self.old (number_into self.old node port))
@@ -225,7 +227,6 @@ impl Links {
 
     /// Puts the flit at the end of the link out of this port.
     pub fn push(&mut self, node: u8, port: u8, flit: Flit)
-        requires links { length self.old.states ≡ link_count self.old.mesh }
         requires linked { IsSome (neighbour_of self.old.mesh node port) }
         requires room { length (state_at self.old (number_out self.old node port)).flits
             < (state_at self.old (number_out self.old node port)).room }
@@ -245,7 +246,6 @@ impl Links {
         requires number { number ≡ number_out self.old node port }
         requires there { number < link_count self.old.mesh }
         requires mesh_port { port < 6 }
-        requires links { length self.old.states ≡ link_count self.old.mesh }
         requires linked { IsSome (neighbour_of self.old.mesh node port) }
         ensures { self.new ≡ with_state self.old (number_out self.old node port)
             (record (state_at self.old (number_out self.old node port))
@@ -264,7 +264,6 @@ impl Links {
     pub fn push_credit(&mut self, node: u8, port: u8, links: PortLinks, vc: u8)
         requires mesh { AreRadices self.old.mesh }
         requires ports { Some links ≡ port_links self.old.mesh node port }
-        requires links { length self.old.states ≡ link_count self.old.mesh }
         requires room { length (state_at self.old (number_into self.old node port)).credits
             < (state_at self.old (number_into self.old node port)).room }
         ensures { self.new ≡ with_state self.old (number_into self.old node port)

@@ -47,8 +47,7 @@ impl Fabric {
 
     /// The link out of the node by this port.
     pub fn link_from(&self, node: u8, port: u8) -> &LinkState
-        requires links { length self.now.links ≡ link_count self.now.mesh }
-        requires linked { IsSome (neighbour_of self.now.mesh node port) }
+        requires { IsSome (neighbour_of self.now.mesh node port) }
         ensures { result.now ≡ link_at self.now (link_out self.now node port) }
     {
         self.links.link(self.links.number_out(node, port))
@@ -63,7 +62,7 @@ impl Fabric {
 
     /// The link of this number.
     pub fn link(&self, number: u16) -> &LinkState
-        requires { number < length self.now.links }
+        requires { number < link_count self.now.mesh }
         ensures { result.now ≡ link_at self.now number }
     {
         self.links.link(number)

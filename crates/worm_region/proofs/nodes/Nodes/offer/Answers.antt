@@ -7,7 +7,7 @@ pub invariant_of-self-2 : goal.invariant_of-self-2
 invariant_of-self-2 c =
     let n = c.index_mut-here.result.now in
     let accepted = c.in_ok-_number.ensures in
-    let new = accepted.ok.2 in
+    let new = accepted.answer.ok.1 in
     let words : length c.words.result.now ≡ length c.args.packet.now.words = ap length c.words.ensures.value in
     accepts c.self.inside.list.items c.self.inside.resting c.self.inside.under_way c.from.result c.from-2.result
     c.args.node n (record n { source = c.offer.new.self })

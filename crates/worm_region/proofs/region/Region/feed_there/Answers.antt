@@ -1,35 +1,37 @@
-use Rattle.std.proofs.Common.{Ok, subst}
+use Rattle.std.proofs.Common.{Ok, ap, subst, sym, ◌∙◌}
 use Rattle.worm_theory.specs.Steps.{Feed, IsThere}
 use Rattle.worm_region.specs.Shape.{net_shape}
 use Rattle.worm_region.specs.State.{NetState, shape}
-use Rattle.worm_region.specs.Replies.{Replies}
+use Rattle.worm_region.specs.Workable.{IsWorkable}
 use Rattle.worm_region.specs.Answers.{moved_of}
-use Rattle.worm_region.proofs.FeedAgrees.{feed_answers, feed_fits}
-use Rattle.worm_region.proofs.Reaching.{still_workable}
+use Rattle.worm_region.proofs.FeedAgrees.{nth_answers, nth_fits}
+use Rattle.worm_region.proofs.Reaching.{replies_from, still_workable}
 use Rattle.worm_region.proofs.region.Region.feed_there.Goals as goal
 
 pub feed-requires-clause-front : goal.feed-requires-clause-front
 unfolding net_shape
 feed-requires-clause-front c =
-    feed_fits c.self.inside.fabric c.args.node c.args.class c.self.invariant
-    (rw c.self.view_is (c.requires.node, c.requires.class))
+    let same = ap (λ i. i.fabric) c.self-inside.view_is in
+    nth_fits _ c.args.node c.args.class (subst IsWorkable (sym same) c.self.invariant)
+    (subst (λ (s : NetState). IsThere (shape s) (Feed c.args.node c.args.class)) (sym (same ∙ c.self.view_is))
+    (c.requires.node, c.requires.class))
 
 pub invariant_of-self : goal.invariant_of-self
 unfolding net_shape
 invariant_of-self c =
-    let there : IsThere (shape c.self.inside.fabric) (Feed c.args.node c.args.class) =
-    rw c.self.view_is (c.requires.node, c.requires.class) in
-    still_workable c.self.inside.fabric c.feed.new.self (Feed c.args.node c.args.class) (Ok (moved_of c.feed.result))
-    (rw c.feed.ensures.after (feed_answers c.self.inside.fabric c.args.node c.args.class c.self.invariant there
-    c.feed.result c.feed.ensures.enabled))
+    let same = ap (λ i. i.fabric) c.self-inside.view_is in
+    let there = subst (λ (s : NetState). IsThere (shape s) (Feed c.args.node c.args.class))
+    (sym (same ∙ c.self.view_is)) (c.requires.node, c.requires.class) in
+    still_workable _ _ (Feed c.args.node c.args.class) (Ok (moved_of c.feed.result))
+    (nth_answers _ c.args.node c.args.class (subst IsWorkable (sym same) c.self.invariant) there c.feed.result
+    c.feed.new.self c.feed.ensures.enabled c.feed.ensures.after)
 
 pub returns : goal.returns
 unfolding net_shape
 returns c =
-    let a =
-    (feed_answers c.self.inside.fabric c.args.node c.args.class c.self.invariant
-    (rw c.self.view_is (c.requires.node, c.requires.class)) c.feed.result c.feed.ensures.enabled).1 in
-    let moved : Replies c.self.inside.fabric (Feed c.args.node c.args.class)
-    (Ok (moved_of c.feed.result)) c.feed.new.self = rw c.feed.ensures.after a in
-    subst (λ (s : NetState). Replies s (Feed c.args.node c.args.class) (Ok (moved_of c.feed.result)) c.feed.new.self)
-    c.self.view_is moved
+    let same = ap (λ i. i.fabric) c.self-inside.view_is in
+    let there = subst (λ (s : NetState). IsThere (shape s) (Feed c.args.node c.args.class))
+    (sym (same ∙ c.self.view_is)) (c.requires.node, c.requires.class) in
+    replies_from _ _ _ (Feed c.args.node c.args.class) (Ok (moved_of c.feed.result)) (same ∙ c.self.view_is)
+    (nth_answers _ c.args.node c.args.class (subst IsWorkable (sym same) c.self.invariant) there c.feed.result
+    c.feed.new.self c.feed.ensures.enabled c.feed.ensures.after).1

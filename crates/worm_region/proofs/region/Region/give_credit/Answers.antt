@@ -1,17 +1,64 @@
-use Rattle.worm_region.proofs.Giving.{give_elsewhere}
-use Rattle.worm_region.proofs.Turning.{gives_one}
+use Rattle.std.proofs.Common.{◌≡◌, ◌<◌, Ok, ap, arith, not, refl, subst, sym, ◌∙◌, false}
+use Rattle.worm_theory.specs.Steps.{GiveCredit, IsThere}
+use Rattle.worm_router.specs.Router.{input_at}
+use Rattle.worm_region.specs.Shape.{net_shape}
+use Rattle.worm_region.specs.State.{NetState, router_at, shape}
+use Rattle.worm_region.specs.Replies.{Replies}
+use Rattle.worm_region.specs.Answers.{moved_of}
+use Rattle.worm_region.proofs.GiveAgrees.{gave_none}
+use Rattle.worm_region.specs.declared.node.Node.{Node}
+use Rattle.worm_region.proofs.LinkedPorts.{line_back, line_there}
 use Rattle.worm_region.proofs.Owning.{all_within}
 use Rattle.worm_region.proofs.region.Region.give_credit.Goals as goal
+use Rattle.worm_region.proofs.region.Region.give_credit.Goals.{After-owed_count, then-is_none-via-then-is_none}
+use Rattle.worm_region.proofs.region.Region.give_credit.Goals.{then-is_none-via-else-is_none+then-vc-channels}
 
-pub returns-clause-given : goal.returns-clause-given
-returns-clause-given c = λ lowest.
-    gives_one c.args.node c.args.port c.args.vc c.args.self.now c.give_owed-moved.new.self c.give_owed-moved.result
-    lowest c.give_owed-moved.ensures
+pub returns-then-is_none : goal.returns-then-is_none
+unfolding net_shape
+returns-then-is_none c = (
+  subst (λ (s : NetState). IsThere (shape s) (GiveCredit c.args.node c.args.port c.args.vc) → ⊥) c.self.view_is
+      (λ there. elim c.then-is_none.branch [
+        | then-is_none-via-then-is_none w ↦
+            let found = c.links_at.ensures.there.1 (line_back c.self.inside.fabric c.wires.result.now c.args.node
+            c.args.port c.wires.ensures there.1) in
+            let missing = c.is_none.ensures ∙ ap not w.if-is_none.true in
+            absurd (cc)
+        | then-is_none-via-else-is_none+then-vc-channels w ↦
+            let past = w.if-vc-channels.true in absurd (omega (arith, there.2, w.channels.ensures))
+      ]),
+  refl,
+)
 
-pub returns-clause-others : goal.returns-clause-others
-returns-clause-others c =
-    give_elsewhere c.args.self.now c.give_owed-moved.new.self c.args.node c.args.port c.args.vc
-    c.give_owed-moved.result c.recall.ensures c.give_owed-moved.ensures
+-- where the step is
+there : (c : goal.After-owed_count) → IsThere (shape c.self.inside.fabric)
+    (GiveCredit c.args.node c.args.port c.args.vc)
+unfolding net_shape
+there c =
+    let some = c.links_at.ensures.there.0 (c.is_none.ensures ∙ ap not c.if-is_none.false) in
+    let line = line_there c.self.inside.fabric c.wires.result.now c.args.node c.args.port c.wires.ensures some in
+    let few = c.if-vc-channels.false in
+    (line.0, line.1, omega (arith, c.channels.ensures))
 
-pub give_owed-moved-requires-clause-within : goal.give_owed-moved-requires-clause-within
-give_owed-moved-requires-clause-within c = all_within c.args.self.now c.args.node c.args.port c.requires.whole
+-- what the channel owes
+owed : (c : goal.After-owed_count)
+    → c.owed_count.result ≡ (input_at (router_at c.self.inside.fabric c.args.node) c.args.port c.args.vc).owed
+owed c = c.owed_count.ensures ∙ ap (λ (n : Node). (input_at n.router c.args.port c.args.vc).owed) c.node.ensures
+
+pub returns-then-owed_count-eq0 : goal.returns-then-owed_count-eq0
+unfolding net_shape
+returns-then-owed_count-eq0 c =
+    let at = (goal.at.returns-then-owed_count-eq0 c).After-owed_count in
+    subst (λ (s : NetState). Replies s (GiveCredit c.args.node c.args.port c.args.vc) (Ok (moved_of false)) s)
+    c.self.view_is
+    (gave_none c.self.inside.fabric c.args.node c.args.port c.args.vc c.self.invariant (there at)
+    (let none = sym (owed at) ∙ c.if-owed_count-eq0.true in grind arith))
+
+pub give_owed-requires-clause-owed : goal.give_owed-requires-clause-owed
+give_owed-requires-clause-owed c =
+    let at = (goal.at.give_owed-requires-clause-owed c).After-owed_count in
+    let some : 0 < (input_at (router_at c.self.inside.fabric c.args.node) c.args.port c.args.vc).owed =
+    let none = c.if-owed_count-eq0.false in omega (arith, owed at) in
+    subst (λ (s : NetState). 0 < (input_at (router_at s c.args.node) c.args.port c.args.vc).owed) c.self.view_is some
+
+pub give_owed-requires-clause-within : goal.give_owed-requires-clause-within
+give_owed-requires-clause-within c = all_within c.args.self.now c.args.node c.args.port c.requires

@@ -29,17 +29,17 @@ returns-in_default c = (
   refl,
 )
 
-pub give-requires-clause-place : goal.give-requires-clause-place
+pub give_credit-requires-clause-place : goal.give_credit-requires-clause-place
 unfolding net_shape
-give-requires-clause-place c =
-    let found = found (goal.at.give-requires-clause-place c).In-Some in
+give_credit-requires-clause-place c =
+    let found = found (goal.at.give_credit-requires-clause-place c).In-Some in
     net_place c.self.inside.fabric c.args.node c.args.port c.args.vc c.self.invariant.framed found.0 (inr found.1)
     (rw c.self.view_is c.requires.channel)
 
-pub give-requires-clause-room : goal.give-requires-clause-room
+pub give_credit-requires-clause-room : goal.give_credit-requires-clause-room
 unfolding net_shape
-give-requires-clause-room c =
-    let found = found (goal.at.give-requires-clause-room c).In-Some in
+give_credit-requires-clause-room c =
+    let found = found (goal.at.give_credit-requires-clause-room c).In-Some in
     let owed =
     subst (λ (s : NetState). 0 < (input_at (router_at s c.args.node) c.args.port c.args.vc).owed)
     (sym c.self.view_is) c.requires.owed in
@@ -56,7 +56,7 @@ invariant_of-self c =
     let owed =
     subst (λ (s : NetState). 0 < (input_at (router_at s c.args.node) c.args.port c.args.vc).owed)
     (sym c.self.view_is) c.requires.owed in
-    rw c.give.ensures (gave_owed c.self.inside.fabric c.args.node c.args.port c.args.vc c.self.invariant
+    rw c.give_credit.ensures (gave_owed c.self.inside.fabric c.args.node c.args.port c.args.vc c.self.invariant
     (found.0, found.1, rw c.self.view_is c.requires.channel) owed).0
 
 pub returns : goal.returns
@@ -69,6 +69,6 @@ returns c =
     (subst (λ (s : NetState). 0 < (input_at (router_at s c.args.node) c.args.port c.args.vc).owed)
     (sym c.self.view_is) c.requires.owed)).1 in
     let given : Replies c.self.inside.fabric (GiveCredit c.args.node c.args.port c.args.vc)
-    (Ok (moved_of true)) c.give.new.self = rw c.give.ensures a in
+    (Ok (moved_of true)) c.give_credit.new.self = rw c.give_credit.ensures a in
     subst (λ (s : NetState). Replies s (GiveCredit c.args.node c.args.port c.args.vc)
-    (Ok (moved_of true)) c.give.new.self) c.self.view_is given
+    (Ok (moved_of true)) c.give_credit.new.self) c.self.view_is given

@@ -1,11 +1,12 @@
-use Rattle.std.proofs.Common.{refl, subst}
+use Rattle.std.proofs.Common.{ap, refl, subst, sym, ◌∙◌, ◌<◌}
+use Rattle.worm_mesh.specs.Address.{node_count}
 use Rattle.worm_theory.specs.Steps.{Offer, IsThere}
 use Rattle.worm_region.specs.Shape.{net_shape}
 use Rattle.worm_region.specs.State.{NetState, shape}
-use Rattle.worm_region.specs.Replies.{Replies}
+use Rattle.worm_region.specs.Workable.{IsWorkable}
 use Rattle.worm_region.specs.Answers.{accepted_of}
 use Rattle.worm_region.proofs.OfferAgrees.{offer_answers}
-use Rattle.worm_region.proofs.Reaching.{still_workable}
+use Rattle.worm_region.proofs.Reaching.{replies_from, still_workable}
 use Rattle.worm_region.proofs.region.Region.offer.Goals as goal
 
 pub returns-then-not-has_node : goal.returns-then-not-has_node
@@ -20,23 +21,22 @@ returns-then-not-has_node c = (
 pub invariant_of-self : goal.invariant_of-self
 unfolding net_shape
 invariant_of-self c =
-    still_workable c.self.inside.fabric c.offer.new.self
-    (Offer c.args.node c.args.packet.now.lane c.args.packet.now.words)
-    (accepted_of c.offer.result)
-    (offer_answers c.self.inside.fabric c.args.node c.self.invariant c.args.packet.now c.offer.ensures.some
-    c.offer.ensures.few
-    (c.has_node.ensures.0 c.if-not-has_node.false) c.offer.result c.offer.new.self
-    c.offer.ensures.ok c.offer.ensures.fault c.offer.ensures.err)
+    let same = ap (λ i. i.fabric) c.self-inside.view_is in
+    let net = subst IsWorkable (sym same) c.self.invariant in
+    let there = subst (λ (s : NetState). c.args.node < node_count s.mesh) (sym same)
+    (c.has_node.ensures.0 c.if-not-has_node.false) in
+    still_workable _ _ (Offer c.args.node c.args.packet.now.lane c.args.packet.now.words) (accepted_of c.offer.result)
+    (offer_answers _ c.args.node net c.args.packet.now c.offer.ensures.some c.offer.ensures.few there
+    c.offer.result c.offer.new.self c.offer.ensures.answer)
 
 pub returns : goal.returns
 unfolding net_shape
 returns c =
-    let a =
-    (offer_answers c.self.inside.fabric c.args.node c.self.invariant c.args.packet.now c.offer.ensures.some
-    c.offer.ensures.few (c.has_node.ensures.0 c.if-not-has_node.false) c.offer.result c.offer.new.self
-    c.offer.ensures.ok c.offer.ensures.fault c.offer.ensures.err).1 in
-    let answer : Replies c.self.inside.fabric
-    (Offer c.args.node c.args.packet.now.lane c.args.packet.now.words) c.accepted.result c.offer.new.self =
-    rw c.accepted.ensures a in
-    subst (λ (s : NetState). Replies s (Offer c.args.node c.args.packet.now.lane c.args.packet.now.words)
-    c.accepted.result c.offer.new.self) c.self.view_is answer
+    let same = ap (λ i. i.fabric) c.self-inside.view_is in
+    let net = subst IsWorkable (sym same) c.self.invariant in
+    let there = subst (λ (s : NetState). c.args.node < node_count s.mesh) (sym same)
+    (c.has_node.ensures.0 c.if-not-has_node.false) in
+    let replies = (offer_answers _ c.args.node net c.args.packet.now c.offer.ensures.some c.offer.ensures.few there
+    c.offer.result c.offer.new.self c.offer.ensures.answer).1 in
+    rw c.accepted.ensures (replies_from _ _ _ (Offer c.args.node c.args.packet.now.lane c.args.packet.now.words)
+    (accepted_of c.offer.result) (same ∙ c.self.view_is) replies)

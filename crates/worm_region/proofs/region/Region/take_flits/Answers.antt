@@ -18,11 +18,11 @@ loop-port-init c =
 pub loop-port-preserved : goal.loop-port-preserved
 loop-port-preserved c =
     let inv = c.loop-port.invariant in
-    let one = c.take_flit.ensures in
+    let one = c.take_flit_at.ensures in
     let x = c.args.node in (
       c.in-Some.port + 1,
       covered_more x port_count same_ports (Take x) (λ s. NoFlit s x) (no_flit_still x) c.args.self.now c.loop-port.self
-          c.take_flit.new.self c.loop-port.left c.pop_first.new.self inv.0 c.in-Some.port inv.1
+          c.take_flit_at.new.self c.loop-port.left c.pop_first.new.self inv.0 c.in-Some.port inv.1
           c.in-Some.ensures one.taken one.others one.sound,
     )
 

@@ -11,7 +11,7 @@ returns-then-is_empty-clause-flits c = λ nothing.
     let all : length c.self.inside.arrivals ≡ 256 = search rules in
     let kept : Arrivals = get_or c.self.inside.arrivals c.from.result c.index-self-from.result in
     let links : LinksView = record { mesh = c.self.inside.wiring; states = c.self.inside.states.items } in
-    let here = entry_at links c.self.inside.arrivals c.args.node c.from.result c.index-self-from.result c.self.invariant
+    let here = entry_at links c.self.inside.arrivals c.args.node c.from.result c.index-self-from.result c.self.invariant.known
     all (omega arith) c.from.ensures in
     subst (λ (l : LinksView). (p : ℕ) → flits_to l c.args.node p ≡ []) c.self.view_is
     (none_come (flits_to links c.args.node) kept.flits (2 * length c.self.inside.wiring) here.flits few
@@ -24,7 +24,7 @@ returns-then-is_empty-clause-credits c = λ nothing.
     let all : length c.self.inside.arrivals ≡ 256 = search rules in
     let kept : Arrivals = get_or c.self.inside.arrivals c.from.result c.index-self-from.result in
     let links : LinksView = record { mesh = c.self.inside.wiring; states = c.self.inside.states.items } in
-    let here = entry_at links c.self.inside.arrivals c.args.node c.from.result c.index-self-from.result c.self.invariant
+    let here = entry_at links c.self.inside.arrivals c.args.node c.from.result c.index-self-from.result c.self.invariant.known
     all (omega arith) c.from.ensures in
     subst (λ (l : LinksView). (o : ℕ) → credits_to l c.args.node o ≡ []) c.self.view_is
     (none_come (credits_to links c.args.node) kept.credits (2 * length c.self.inside.wiring)
@@ -36,7 +36,7 @@ returns-then-is_empty-clause-nothing c = λ no_flits no_credits.
     let all : length c.self.inside.arrivals ≡ 256 = search rules in
     let kept : Arrivals = get_or c.self.inside.arrivals c.from.result c.index-self-from.result in
     let links : LinksView = record { mesh = c.self.inside.wiring; states = c.self.inside.states.items } in
-    let here = entry_at links c.self.inside.arrivals c.args.node c.from.result c.index-self-from.result c.self.invariant
+    let here = entry_at links c.self.inside.arrivals c.args.node c.from.result c.index-self-from.result c.self.invariant.known
     all (omega arith) c.from.ensures in
     come_by (credits_to links c.args.node) kept.credits c.is_empty-then-is_empty.result here.credits
     c.is_empty-then-is_empty.ensures.some
@@ -47,7 +47,7 @@ returns-else-is_empty-clause-nothing c = λ no_flits no_credits.
     let all : length c.self.inside.arrivals ≡ 256 = search rules in
     let kept : Arrivals = get_or c.self.inside.arrivals c.from.result c.index-self-from.result in
     let links : LinksView = record { mesh = c.self.inside.wiring; states = c.self.inside.states.items } in
-    let here = entry_at links c.self.inside.arrivals c.args.node c.from.result c.index-self-from.result c.self.invariant
+    let here = entry_at links c.self.inside.arrivals c.args.node c.from.result c.index-self-from.result c.self.invariant.known
     all (omega arith) c.from.ensures in
     come_by (flits_to links c.args.node) kept.flits c.is_empty.result here.flits
     c.is_empty.ensures.some

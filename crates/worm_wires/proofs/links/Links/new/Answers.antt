@@ -19,3 +19,9 @@ loop-node-preserved c =
           }) c.loop-node.arrivals c.loop-node.node c.arrivals_of.result
           (omega (arith, inv.all)) one inv.known);
     }
+
+pub invariant_of-result : goal.invariant_of-result
+invariant_of-result c = record {
+  all = rw c.new-wiring.ensures c.requires.states;
+  known = λ x x_in. c.loop-node.invariant.known x (omega (arith, c.loop-node-test.false));
+}

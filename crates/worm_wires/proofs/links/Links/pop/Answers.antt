@@ -15,7 +15,7 @@ invariant_of-self c =
     c.from.result c.args.node c.args.port c.from-2.result c.from-2.result c.put.new.self c.index-self-from.result
     c.index_mut-link.result.now c.pop.new.self
     (link_there c.self.inside.wiring c.self.inside.states.items c.args.self.now c.self.view_is c.args.node c.args.port
-    c.args.number c.from.result c.from.ensures c.requires.there c.requires.links)
+    c.args.number c.from.result c.from.ensures c.requires.there c.self.invariant.all)
     c.index_mut-link.ensures.value (omega arith) c.from-2.ensures c.from-2.ensures
     (into_port c.self.inside.wiring c.self.inside.states.items c.args.self.now c.self.view_is c.args.node c.args.port
     c.args.number c.from.result c.from.ensures c.requires.linked c.requires.number)

@@ -20,7 +20,7 @@ invariant_of-self c =
     let there = link_there c.self.inside.wiring c.self.inside.states.items c.args.self.now c.self.view_is c.args.node
     c.args.port c.args.links.into c.from.result c.from.ensures
     (ports_within c.args.self.now.mesh c.args.node c.args.port c.args.links c.requires.mesh c.requires.ports).1
-    c.requires.links in
+    c.self.invariant.all in
     let radices : AreRadices c.self.inside.wiring =
     subst (λ (l : LinksView). AreRadices l.mesh) (sym c.self.view_is) c.requires.mesh in
     let linked : ◌≡◌ {A = Option PortLinks} (Some c.args.links)
