@@ -14,7 +14,7 @@ use Rattle.worm_vcalloc.proofs.SetLemmas.{has-zero}
 use Rattle.worm_term.specs.Source.{front_of}
 use Rattle.worm_theory.specs.Steps.{Step, Feed, Send, Take, TakeCredit}
 use Rattle.worm_region.specs.Shape.{net_shape}
-use Rattle.worm_region.specs.State.{NetState, IsFramed, fresh_node, node_at, router_at, source_at, with_router}
+use Rattle.worm_region.specs.State.{NetState, node_at, router_at, source_at, with_router}
 use Rattle.worm_region.specs.Workable.{IsWorkable}
 use Rattle.worm_region.specs.Moves.{NothingComes, can_enter, can_get, chosen_router, front_credit, front_into}
 use Rattle.worm_region.specs.Resting.{IsResting, nth_node}
