@@ -11,8 +11,8 @@
 //! steps that may fail on the list of a line's fields. The code follows the second, by a cursor that contracts see as
 //! the fields that are left.
 //!
-//! Reading a network takes no memory. Nothing here opens a file or joins texts, and nothing is known of what a network
-//! then does.
+//! A text is read to its end first, from any reader (`read_text`). Reading a network takes no memory. Nothing here opens
+//! a file or joins texts, and nothing is known of what a network then does.
 #![tactic(auto)]
 
 mod fault;
@@ -20,10 +20,12 @@ mod fields;
 mod format;
 mod key;
 mod network;
+mod reading;
 mod traffic;
 
 pub use fault::{TextFault, Why};
 pub use fields::{Fields, cut_first};
 pub use format::Format;
 pub use network::read_network;
+pub use reading::{ReadFault, read_text};
 pub use traffic::read_traffic;

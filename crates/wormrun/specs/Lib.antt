@@ -3,5 +3,4 @@ pub mod Faults
 pub mod Joined
 pub mod Programs
 pub mod Ranges
-pub mod Reading
 pub mod Together

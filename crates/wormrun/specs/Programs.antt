@@ -26,7 +26,7 @@ use Rattle.wormrun.specs.declared.fault.ProgramFault.{ProgramFault}
 use Rattle.wormrun.specs.declared.fault.ProgramFault.TheVariants as f
 use Rattle.wormrun.specs.declared.turns.Ending.{Ending}
 use Rattle.wormrun.specs.Joined.{IsCut}
-use Rattle.wormrun.specs.Reading.{GaveText}
+use Rattle.worm_text.specs.Whole.{IsWhole}
 
 -- the turns below this one had no fault, and this one had
 abbrev pub StopsAt : List Entry → ℕ → NetState → StepFault → NetState → Type 0
@@ -172,10 +172,14 @@ Fails network traffic turns drain out (f.NotStarted w) = ⊥
 
 -- Readers
 
+-- a reader gave this text, of 8 MiB at most, to its end
+abbrev pub GaveText : Stream → List ℕ → Type 0
+GaveText reader text = IsWhole 8388608 reader.old reader.new text
+
 -- both readers gave their texts to the end
 pub record GaveBoth (first second : Stream) (network traffic : List ℕ) : Type 0 where
-  pub of_network : GaveText first.old first.new network
-  pub of_traffic : GaveText second.old second.new traffic
+  pub of_network : GaveText first network
+  pub of_traffic : GaveText second traffic
 
 -- both readers gave their texts, and the report of them was written
 pub record ReportsAlone (turns drain : ℕ) (first second out : Stream) : Type 0 where
@@ -201,7 +205,7 @@ FailsReading Holds first second out (f.Traffic t) =
     FailsBoth (λ network traffic. Holds network traffic (f.Traffic t)) first second
 FailsReading Holds first second out f.ReadNetwork = Keeps second.old second.new × Keeps out.old out.new
 FailsReading Holds first second out f.ReadTraffic =
-    ((network : List ℕ) × GaveText first.old first.new network) × Keeps out.old out.new
+    ((network : List ℕ) × GaveText first network) × Keeps out.old out.new
 FailsReading Holds first second out f.NoMemory =
     Keeps out.old out.new ⊎ FailsBoth (λ network traffic. Holds network traffic f.NoMemory) first second
 FailsReading Holds first second out (f.NotStarted w) =
@@ -216,7 +220,7 @@ FailsAlone turns drain first second out =
 -- what a fault of reading tells; the traffic is not read before the network is
 abbrev pub ReadsNot : Stream → Stream → ProgramFault → Type 0
 ReadsNot first second f.ReadNetwork = Keeps second.old second.new
-ReadsNot first second f.ReadTraffic = (network : List ℕ) × GaveText first.old first.new network
+ReadsNot first second f.ReadTraffic = (network : List ℕ) × GaveText first network
 ReadsNot first second f.NoMemory = Unit {0}
 ReadsNot first second (f.Network t) = ⊥
 ReadsNot first second (f.Traffic t) = ⊥
@@ -228,7 +232,7 @@ ReadsNot first second (f.NotStarted w) = ⊥
 -- drain was written.
 pub record ReportsJoined (input out : Stream) : Type 0 where
   pub joined : List ℕ
-  pub gave : GaveText input.old input.new joined
+  pub gave : GaveText input joined
   pub at : ℕ
   pub cut : IsCut joined at
   pub reports : Reports (take at joined) (drop at joined) 100 0 out
@@ -236,7 +240,7 @@ pub record ReportsJoined (input out : Stream) : Type 0 where
 -- the reader gave both texts in one, cut there, and they failed thus
 pub record FailsCut (input out : Stream) (fault : ProgramFault) : Type 0 where
   pub joined : List ℕ
-  pub gave : GaveText input.old input.new joined
+  pub gave : GaveText input joined
   pub at : ℕ
   pub cut : IsCut joined at
   pub fails : Fails (take at joined) (drop at joined) 100 0 out fault

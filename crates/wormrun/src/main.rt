@@ -12,7 +12,6 @@ ghost use Rattle.wormrun.specs.Ranges.{InRange};
 mod fault;
 mod joined;
 mod program;
-mod reading;
 mod together;
 mod turns;
 mod words;

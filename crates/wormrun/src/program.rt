@@ -19,7 +19,6 @@ ghost use Rattle.wormrun.specs.Programs.{summary_of};
 
 use crate::fault::ProgramFault;
 use crate::joined::network_end;
-use crate::reading::{ReadFault, read_text};
 use crate::together::run_together;
 use crate::turns::{Ending, run_script};
 use crate::words::Options;
@@ -31,7 +30,10 @@ use worm_core::{Config, Net, NetFault, Script, StepFault};
 use worm_mesh::Mesh;
 use worm_report::{ReportFault, Summary, write_report};
 use worm_run::{Gate, RunPlan};
-use worm_text::{Why, read_network, read_traffic};
+use worm_text::{ReadFault, Why, read_network, read_text, read_traffic};
+
+/// The bytes that a text may have.
+pub const MOST_BYTES: usize = 8_388_608;
 
 /// The two texts, read to their end.
 #[derive(Drop)]
@@ -59,12 +61,12 @@ fn read_both<N: Read, F: Read>(
         (ReadsNot (stream (N.remaining network.old) (N.remaining network.new))
         (stream (F.remaining traffic.old) (F.remaining traffic.new))) }
 {
-    let network = match read_text(alloc, network) {
+    let network = match read_text(alloc, network, MOST_BYTES) {
         Ok(text) => text,
         Err(ReadFault::Unreadable) => return Err(ProgramFault::ReadNetwork),
         Err(ReadFault::NoMemory) => return Err(ProgramFault::NoMemory),
     };
-    let traffic = match read_text(alloc, traffic) {
+    let traffic = match read_text(alloc, traffic, MOST_BYTES) {
         Ok(text) => text,
         Err(ReadFault::Unreadable) => return Err(ProgramFault::ReadTraffic),
         Err(ReadFault::NoMemory) => return Err(ProgramFault::NoMemory),
@@ -331,7 +333,7 @@ pub fn run_joined<R: Read, W: Write>(
     ensures err { IfErr result (FailsJoined (stream (R.remaining input.old) (R.remaining input.new))
         (stream (W.contents out.old) (W.contents out.new))) }
 {
-    let joined = match read_text(alloc, input) {
+    let joined = match read_text(alloc, input, MOST_BYTES) {
         Ok(text) => text,
         Err(ReadFault::Unreadable) => return Err(ProgramFault::ReadNetwork),
         Err(ReadFault::NoMemory) => return Err(ProgramFault::NoMemory),

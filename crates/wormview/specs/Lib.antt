@@ -1,4 +1,3 @@
-pub mod Reading
 pub mod Faults
 pub mod Programs
 pub mod Views

@@ -7,7 +7,7 @@ use Rattle.worm_rows.specs.declared.rows.Row.{Row}
 use Rattle.wormview.specs.declared.fault.ViewFault.{ViewFault}
 use Rattle.wormview.specs.declared.fault.ViewFault.TheVariants as f
 use Rattle.worm_picture.specs.Picture.{PicturesRows}
-use Rattle.wormview.specs.Reading.{GaveText}
+use Rattle.worm_text.specs.Whole.{IsWhole}
 use Rattle.wormview.specs.Views.{IsAccepted, IsRefused}
 
 -- what a reader had left and has left, or what a writer held and holds
@@ -18,10 +18,14 @@ pub record Stream : Type 0 where
 abbrev pub stream : Option (List ℕ) → Option (List ℕ) → Stream
 stream old new = record { old = old; new = new }
 
+-- a reader gave this text, of 64 MiB at most, to its end
+abbrev pub GaveText : Stream → List ℕ → Type 0
+GaveText reader text = IsWhole 67108864 reader.old reader.new text
+
 -- both readers gave their texts to the end
 pub record GaveBoth (first second : Stream) (network report : List ℕ) : Type 0 where
-  pub of_network : GaveText first.old first.new network
-  pub of_report : GaveText second.old second.new report
+  pub of_network : GaveText first network
+  pub of_report : GaveText second report
 
 -- Texts at hand
 
@@ -73,14 +77,14 @@ FailsToDraw first second out (f.Report t) =
     FailsBoth (λ network report. FailsTexts network report out (f.Report t)) first second
 FailsToDraw first second out f.ReadNetwork = Keeps second.old second.new × Keeps out.old out.new
 FailsToDraw first second out f.ReadReport =
-    ((network : List ℕ) × GaveText first.old first.new network) × Keeps out.old out.new
+    ((network : List ℕ) × GaveText first network) × Keeps out.old out.new
 FailsToDraw first second out f.NoMemory = Keeps out.old out.new
 FailsToDraw first second out f.Write = FailsBoth (λ network report. FailsTexts network report out f.Write) first second
 
 -- what a fault of reading tells
 abbrev pub ReadsNot : Stream → Stream → ViewFault → Type 0
 ReadsNot first second f.ReadNetwork = Keeps second.old second.new
-ReadsNot first second f.ReadReport = (network : List ℕ) × GaveText first.old first.new network
+ReadsNot first second f.ReadReport = (network : List ℕ) × GaveText first network
 ReadsNot first second f.NoMemory = Unit {0}
 ReadsNot first second (f.Network t) = ⊥
 ReadsNot first second (f.Report t) = ⊥

@@ -13,7 +13,6 @@ ghost use Rattle.wormview.specs.Faults.{ended_status, words_status};
 
 mod fault;
 mod program;
-mod reading;
 mod words;
 
 use fault::ViewFault;

@@ -8,13 +8,15 @@ ghost use Rattle.wormview.specs.Programs.{Draws, DrawsTexts, FailsTexts, FailsTo
 ghost use Rattle.wormview.specs.declared.fault.ViewFault.TheVariants.{Write};
 
 use crate::fault::ViewFault;
-use crate::reading::{ReadFault, read_text};
 use std::alloc::Global;
 use std::io::{Read, Write};
 use worm_core::Config;
 use worm_picture::draw;
 use worm_rows::{Row, Shape, read_report};
-use worm_text::{Why, read_network};
+use worm_text::{ReadFault, Why, read_network, read_text};
+
+/// The bytes that a text may have.
+pub const MOST_BYTES: usize = 67_108_864;
 
 /// What two accepted texts say.
 #[derive(Drop)]
@@ -67,12 +69,12 @@ fn read_both<N: Read, R: Read>(
         (ReadsNot (stream (N.remaining network.old) (N.remaining network.new))
         (stream (R.remaining report.old) (R.remaining report.new))) }
 {
-    let network = match read_text(alloc, network) {
+    let network = match read_text(alloc, network, MOST_BYTES) {
         Ok(text) => text,
         Err(ReadFault::Unreadable) => return Err(ViewFault::ReadNetwork),
         Err(ReadFault::NoMemory) => return Err(ViewFault::NoMemory),
     };
-    let report = match read_text(alloc, report) {
+    let report = match read_text(alloc, report, MOST_BYTES) {
         Ok(text) => text,
         Err(ReadFault::Unreadable) => return Err(ViewFault::ReadReport),
         Err(ReadFault::NoMemory) => return Err(ViewFault::NoMemory),

@@ -1,6 +1,6 @@
 use crate::fault::ProgramFault;
 use crate::joined::network_end;
-use crate::reading::{MOST_BYTES, ReadFault, read_text};
+use crate::program::MOST_BYTES;
 use crate::tests::cases::{
     SHALLOW, TWO_NODES, TWO_WORDS, gives, has_status, is_refused, reports, run_reader,
 };
@@ -9,6 +9,7 @@ use std::io;
 use std::io::Read;
 use std::process::Abort;
 use std::test::Fail;
+use worm_text::{ReadFault, read_text};
 
 /// Gives a number of bytes `x`.
 #[derive(Drop)]
@@ -37,7 +38,7 @@ impl Read for Broken {
 
 /// How many bytes are read of a reader that has so many.
 fn length_read(alloc: Global, left: usize) -> Result<usize, ReadFault> {
-    let text = read_text(alloc, &mut Crosses { left })?;
+    let text = read_text(alloc, &mut Crosses { left }, MOST_BYTES)?;
     Ok(text.len())
 }
 

@@ -1,16 +1,13 @@
 //! Reading a text to its end, under limits.
 
 ghost use Rattle.std.specs.Prelude.{IfOk};
-ghost use Rattle.wormrun.specs.Reading.{GaveText};
+ghost use Rattle.worm_text.specs.Whole.{IsWhole};
 
 use std::alloc::{AllocError, Global};
 use std::io::Read;
 
-/// The bytes that a text may have.
-pub const MOST_BYTES: usize = 8_388_608;
-
 /// The calls of `read` that a text may take.
-pub const MOST_READS: u32 = 10_000_000;
+const MOST_READS: u32 = 10_000_000;
 
 /// Why a text was not read to its end.
 #[derive(Clone, Copy, PartialEq, Eq, Debug)]
@@ -23,7 +20,7 @@ pub enum ReadFault {
 
 impl From<AllocError> for ReadFault {
     ghost use Rattle.std.specs.Prelude.{◌≡◌};
-    ghost use Rattle.wormrun.specs.declared.reading.ReadFault.TheVariants.{NoMemory};
+    ghost use Rattle.worm_text.specs.declared.reading.ReadFault.TheVariants.{NoMemory};
 
     ghost from_gives = { λ _ fault. fault ≡ NoMemory };
 
@@ -32,9 +29,14 @@ impl From<AllocError> for ReadFault {
     }
 }
 
-/// The bytes that the reader gives up to its end. An error of a read, or a limit passed, makes it unreadable.
-pub fn read_text<R: Read>(alloc: Global, reader: &mut R) -> Result<Vec<u8>, ReadFault>
-    ensures { IfOk result (λ text. GaveText (R.remaining reader.old) (R.remaining reader.new) text.items) }
+/// The bytes that the reader gives up to its end, so many at most. `Unreadable` where a read fails, where there are
+/// more, or where the end does not come within 10,000,000 reads; `NoMemory` where there is none for them.
+pub fn read_text<R: Read>(
+    alloc: Global,
+    reader: &mut R,
+    most_bytes: usize,
+) -> Result<Vec<u8>, ReadFault>
+    ensures { IfOk result (λ text. IsWhole most_bytes (R.remaining reader.old) (R.remaining reader.new) text.items) }
 {
     let mut text = Vec::new(alloc);
     let mut chunk = [0u8; 4096];
@@ -45,7 +47,7 @@ pub fn read_text<R: Read>(alloc: Global, reader: &mut R) -> Result<Vec<u8>, Read
         if count == 0 {
             return Ok(text);
         }
-        if count > MOST_BYTES - text.len() {
+        if count > most_bytes - text.len() {
             return Err(ReadFault::Unreadable);
         }
         text.extend_from_slice(&chunk[..count])?;
