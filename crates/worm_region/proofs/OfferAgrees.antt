@@ -399,7 +399,8 @@ module _ (s : NetState) (x : ℕ) {own : ℕ → Bool} (net : IsWorkableBy own s
       answers s x p.lane false (Offer x p.lane p.words) (with_source s x (after_offer (source_at s x) p)).nodes nodes
       net there (offer_judges p some few there) answer
       (subst (λ (n : Node). IsAnswered (refusal n.source p.lane false) answer s.nodes
-      (slice_set s.nodes x (record n { source = after_offer n.source p })) nodes) (is_nth s x net.framed there) answered)
+      (slice_set s.nodes x (record n { source = after_offer n.source p })) nodes)
+      (is_nth s x net.framed there) answered)
 
   pub close_answers : (lane : Lane) → x < (shape s).nodes → (answer : Result (Unit {0}) OfferFault)
       (nodes : List Node)
@@ -412,4 +413,5 @@ module _ (s : NetState) (x : ℕ) {own : ℕ → Bool} (net : IsWorkableBy own s
       answers s x lane true (CloseLane x lane) (with_source s x (after_close (source_at s x) lane)).nodes nodes
       net there (close_judges lane there) answer
       (subst (λ (n : Node). IsAnswered (refusal n.source lane true) answer s.nodes
-      (slice_set s.nodes x (record n { source = after_close n.source lane })) nodes) (is_nth s x net.framed there) answered)
+      (slice_set s.nodes x (record n { source = after_close n.source lane })) nodes)
+      (is_nth s x net.framed there) answered)

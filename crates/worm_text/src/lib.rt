@@ -11,8 +11,8 @@
 //! steps that may fail on the list of a line's fields. The code follows the second, by a cursor that contracts see as
 //! the fields that are left.
 //!
-//! A text is read to its end first, from any reader (`read_text`). Reading a network takes no memory. Nothing here opens
-//! a file or joins texts, and nothing is known of what a network then does.
+//! A text is read to its end first, from any reader (`read_text`). Reading a network takes no memory. Nothing here
+//! opens a file or joins texts, and nothing is known of what a network then does.
 #![tactic(auto)]
 
 mod fault;

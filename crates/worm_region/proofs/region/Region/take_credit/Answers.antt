@@ -49,7 +49,8 @@ returns c =
     let a =
     (get_answers c.self.inside.fabric c.args.node c.args.port c.self.invariant
     (found (goal.at.returns c).In-Some) c.take_credit.result c.take_credit.ensures.enabled).1 in
-    let moved : Replies c.self.inside.fabric (TakeCredit c.args.node c.args.port) (Ok c.moved.result) c.take_credit.new.self =
+    let moved : Replies c.self.inside.fabric (TakeCredit c.args.node c.args.port) (Ok c.moved.result)
+    c.take_credit.new.self =
     rw (c.moved.ensures, c.take_credit.ensures.after) a in
     subst (λ (s : NetState). Replies s (TakeCredit c.args.node c.args.port) (Ok c.moved.result) c.take_credit.new.self)
     c.self.view_is moved

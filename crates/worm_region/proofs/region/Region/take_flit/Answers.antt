@@ -38,7 +38,8 @@ unfolding net_shape
 invariant_of-self c =
     let there =
     found (goal.at.invariant_of-self c).In-Some in
-    still_workable c.self.inside.fabric c.take_flit.new.self (Take c.args.node c.args.port) (Ok (moved_of c.take_flit.result))
+    still_workable c.self.inside.fabric c.take_flit.new.self (Take c.args.node c.args.port)
+    (Ok (moved_of c.take_flit.result))
     (rw c.take_flit.ensures.after (take_answers c.self.inside.fabric c.args.node c.args.port c.self.invariant there
     c.take_flit.result c.take_flit.ensures.enabled))
 

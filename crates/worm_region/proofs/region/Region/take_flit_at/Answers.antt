@@ -11,5 +11,5 @@ returns-clause-taken c =
 
 pub returns-clause-others : goal.returns-clause-others
 returns-clause-others c =
-    flit_elsewhere c.args.self.now c.take_flit-moved.new.self c.args.node c.args.port c.take_flit-moved.result c.recall.ensures
-    c.take_flit-moved.ensures
+    flit_elsewhere c.args.self.now c.take_flit-moved.new.self c.args.node c.args.port c.take_flit-moved.result
+    c.recall.ensures c.take_flit-moved.ensures

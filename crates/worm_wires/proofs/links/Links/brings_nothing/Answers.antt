@@ -11,8 +11,8 @@ returns-then-is_empty-clause-flits c = λ nothing.
     let all : length c.self.inside.arrivals ≡ 256 = search rules in
     let kept : Arrivals = get_or c.self.inside.arrivals c.from.result c.index-self-from.result in
     let links : LinksView = record { mesh = c.self.inside.wiring; states = c.self.inside.states.items } in
-    let here = entry_at links c.self.inside.arrivals c.args.node c.from.result c.index-self-from.result c.self.invariant.known
-    all (omega arith) c.from.ensures in
+    let here = entry_at links c.self.inside.arrivals c.args.node c.from.result c.index-self-from.result
+    c.self.invariant.known all (omega arith) c.from.ensures in
     subst (λ (l : LinksView). (p : ℕ) → flits_to l c.args.node p ≡ []) c.self.view_is
     (none_come (flits_to links c.args.node) kept.flits (2 * length c.self.inside.wiring) here.flits few
     (flits_past links c.args.node) (sym c.is_empty.ensures.value ∙ c.if-is_empty.true))
@@ -24,8 +24,8 @@ returns-then-is_empty-clause-credits c = λ nothing.
     let all : length c.self.inside.arrivals ≡ 256 = search rules in
     let kept : Arrivals = get_or c.self.inside.arrivals c.from.result c.index-self-from.result in
     let links : LinksView = record { mesh = c.self.inside.wiring; states = c.self.inside.states.items } in
-    let here = entry_at links c.self.inside.arrivals c.args.node c.from.result c.index-self-from.result c.self.invariant.known
-    all (omega arith) c.from.ensures in
+    let here = entry_at links c.self.inside.arrivals c.args.node c.from.result c.index-self-from.result
+    c.self.invariant.known all (omega arith) c.from.ensures in
     subst (λ (l : LinksView). (o : ℕ) → credits_to l c.args.node o ≡ []) c.self.view_is
     (none_come (credits_to links c.args.node) kept.credits (2 * length c.self.inside.wiring)
     here.credits few (credits_past links c.args.node)
@@ -36,8 +36,8 @@ returns-then-is_empty-clause-nothing c = λ no_flits no_credits.
     let all : length c.self.inside.arrivals ≡ 256 = search rules in
     let kept : Arrivals = get_or c.self.inside.arrivals c.from.result c.index-self-from.result in
     let links : LinksView = record { mesh = c.self.inside.wiring; states = c.self.inside.states.items } in
-    let here = entry_at links c.self.inside.arrivals c.args.node c.from.result c.index-self-from.result c.self.invariant.known
-    all (omega arith) c.from.ensures in
+    let here = entry_at links c.self.inside.arrivals c.args.node c.from.result c.index-self-from.result
+    c.self.invariant.known all (omega arith) c.from.ensures in
     come_by (credits_to links c.args.node) kept.credits c.is_empty-then-is_empty.result here.credits
     c.is_empty-then-is_empty.ensures.some
     (subst (λ (l : LinksView). (o : ℕ) → credits_to l c.args.node o ≡ []) (sym c.self.view_is) no_credits)
@@ -47,8 +47,8 @@ returns-else-is_empty-clause-nothing c = λ no_flits no_credits.
     let all : length c.self.inside.arrivals ≡ 256 = search rules in
     let kept : Arrivals = get_or c.self.inside.arrivals c.from.result c.index-self-from.result in
     let links : LinksView = record { mesh = c.self.inside.wiring; states = c.self.inside.states.items } in
-    let here = entry_at links c.self.inside.arrivals c.args.node c.from.result c.index-self-from.result c.self.invariant.known
-    all (omega arith) c.from.ensures in
+    let here = entry_at links c.self.inside.arrivals c.args.node c.from.result c.index-self-from.result
+    c.self.invariant.known all (omega arith) c.from.ensures in
     come_by (flits_to links c.args.node) kept.flits c.is_empty.result here.flits
     c.is_empty.ensures.some
     (subst (λ (l : LinksView). (p : ℕ) → flits_to l c.args.node p ≡ []) (sym c.self.view_is) no_flits)

@@ -8,6 +8,6 @@ pub returns : goal.returns
 returns c =
     let kept : Arrivals = get_or c.self.inside.arrivals c.from.result c.index-self-from.result in
     let links : LinksView = record { mesh = c.self.inside.wiring; states = c.self.inside.states.items } in
-    let here = entry_at links c.self.inside.arrivals c.args.node c.from.result c.index-self-from.result c.self.invariant.known
-    c.self.told (omega arith) c.from.ensures in
+    let here = entry_at links c.self.inside.arrivals c.args.node c.from.result c.index-self-from.result
+    c.self.invariant.known c.self.told (omega arith) c.from.ensures in
     subst (λ (l : LinksView). AreFronts (credits_to l c.args.node) kept.credits) c.self.view_is here.credits
