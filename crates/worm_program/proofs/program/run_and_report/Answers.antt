@@ -1,0 +1,35 @@
+use Rattle.std.proofs.Common.{ap}
+use Rattle.worm_text.specs.Network.{view}
+use Rattle.worm_report.specs.Seen.{seen}
+use Rattle.worm_report.specs.Report.{report}
+use Rattle.worm_program.specs.Programs.{stream}
+use Rattle.worm_core.proofs.NeverRefused.{never_refused}
+use Rattle.worm_program.proofs.Scripts.{accepted_script}
+use Rattle.worm_program.proofs.Reporting.{reported_so}
+use Rattle.worm_program.proofs.program.run_and_report.Goals as goal
+
+pub returns : goal.returns
+returns g c =
+    reported_so c.args.network.now c.args.traffic.now c.args.turns c.args.drain c.run_script-ending.result
+    (stream (g.W.Write.contents c.args.out.now) (g.W.Write.contents c.report_run.new.out))
+    (report (seen c.run_script-ending.new.net) c.summary_of-summary.result) c.report_run.result
+    (record {
+      config = view c.in_ok-accepted.accepted.config;
+      of_network = c.in_ok-accepted.ensures.network;
+      script = c.in_ok-accepted.accepted.script;
+      of_traffic = c.in_ok-accepted.ensures.traffic;
+      opening = c.in-Some.net;
+      fresh = c.in-Some.ensures;
+      closing = c.run_script-ending.new.net;
+      run = c.run_script-ending.ensures;
+      reported = ap (report (seen c.run_script-ending.new.net)) c.summary_of-summary.ensures;
+    })
+    (never_refused c.in_ok-accepted.accepted.config.radices.items c.in_ok-accepted.accepted.config.channels.items
+    c.in_ok-accepted.accepted.script
+    (accepted_script c.in_ok-accepted.ensures.network.format
+    (view c.in_ok-accepted.accepted.config) c.in_ok-accepted.accepted.script
+    c.in_ok-accepted.ensures.network.keeps c.in_ok-accepted.ensures.traffic.keeps
+    c.in_ok-accepted.ensures.in_order)
+    c.in_ok-accepted.accepted.config.depth _ c.in-Some.net c.run_script-ending.new.net c.in-Some.ensures c.args.turns
+    c.args.drain c.run_script-ending.result.stopped c.run_script-ending.result.fault c.run_script-ending.ensures)
+    c.report_run.ensures

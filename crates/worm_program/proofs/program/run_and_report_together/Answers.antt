@@ -1,0 +1,36 @@
+use Rattle.std.proofs.Common.{ap}
+use Rattle.worm_report.specs.Seen.{seen}
+use Rattle.worm_report.specs.Report.{report}
+use Rattle.worm_text.specs.Network.{view}
+use Rattle.worm_program.specs.Programs.{stream}
+use Rattle.worm_program.specs.Ranges.{plan_of}
+use Rattle.worm_program.specs.Together.{summary_with}
+use Rattle.worm_program.proofs.ByWorkers.{together_so}
+use Rattle.worm_program.proofs.Scripts.{accepted_script}
+use Rattle.worm_program.proofs.program.run_and_report_together.Goals as goal
+
+pub returns : goal.returns
+returns g c =
+    let may = g.G.Gate.may_stop c.args.gate.now in
+    let options = c.args.options.now in
+    let accepted = c.in_ok-accepted.accepted in
+    let said = c.in_ok-accepted.ensures in
+    let ended = c.in-Ok.ended in
+    let told = report (seen ended.net) in
+    together_so may c.args.network.now c.args.traffic.now (plan_of options) options.drain
+    (stream (g.W.Write.contents c.args.out.now) (g.W.Write.contents c.report_run.new.out)) ended.fault
+    (told (summary_with (plan_of options) options.drain ended.stops c.not_offered.result))
+    (record {
+      config = view accepted.config;
+      script = accepted.script;
+      accepted = record { of_network = said.network; of_traffic = said.traffic };
+      opening = c.in-Some.net;
+      fresh = c.in-Some.ensures;
+      closing = ended.net;
+      table = ended.stops;
+      leads = c.in-Ok.ensures.ended;
+      reported = ap (λ n. told (summary_with (plan_of options) options.drain ended.stops n)) c.not_offered.ensures;
+    })
+    (accepted_script said.network.format (view accepted.config) accepted.script said.network.keeps said.traffic.keeps
+    said.in_order)
+    c.report_run.result c.report_run.ensures

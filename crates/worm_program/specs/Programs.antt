@@ -1,0 +1,257 @@
+-- What the program makes of two texts on one thread: the report of the run of the script that the one says, on the
+-- network that the other says.
+use Rattle.std.specs.Prelude.{ℕ, ◌≡◌, ◌≢◌, ◌-◌, ◌⊎◌, List, [], ◌∷◌, ◌++◌, length, take, drop, replicate, Option, None}
+use Rattle.std.specs.Prelude.{Some, Result, Ok, Err}
+use Rattle.std.specs.Io.KnownBytes.{Keeps, Appends}
+use Rattle.worm_region.specs.declared.script.Entry.{Entry}
+use Rattle.worm_region.specs.declared.fault.StepFault.{StepFault}
+use Rattle.worm_region.specs.declared.fault.StepFault.TheVariants.{NoMemory as NoRoom}
+use Rattle.worm_region.specs.State.{NetState}
+use Rattle.worm_region.specs.NewNet.{IsFresh}
+use Rattle.worm_region.specs.Totals.{accepted_total}
+use Rattle.worm_core.specs.Acceptable.{EndsForMemory}
+use Rattle.worm_region.specs.Script.{due}
+use Rattle.worm_region.specs.Turns.{Turns, Turn, OneThreadRun}
+use Rattle.worm_text.specs.declared.format.Format.{Format}
+use Rattle.worm_text.specs.Network.{Network, Keeps as KeepsRules, text}
+use Rattle.worm_text.specs.Reader.{network_of, IsFaultLine}
+use Rattle.worm_text.specs.Traffic.{Said, traffic_of}
+use Rattle.worm_text.specs.TrafficText.{AreEntries, traffic_text}
+use Rattle.worm_text.specs.TrafficFaults.{IsTrafficFaultLine}
+use Rattle.worm_text.specs.ScriptView.{said_of}
+use Rattle.worm_report.specs.declared.summary.Summary.{Summary}
+use Rattle.worm_report.specs.Seen.{seen}
+use Rattle.worm_report.specs.Report.{report}
+use Rattle.worm_program.specs.declared.fault.ProgramFault.{ProgramFault}
+use Rattle.worm_program.specs.declared.fault.ProgramFault.TheVariants as f
+use Rattle.worm_program.specs.declared.turns.Ending.{Ending}
+use Rattle.worm_program.specs.Joined.{IsCut}
+use Rattle.worm_text.specs.Whole.{IsWhole}
+
+-- the turns below this one had no fault, and this one had
+abbrev pub StopsAt : List Entry → ℕ → NetState → StepFault → NetState → Type 0
+StopsAt script turn old fault new = (mid : NetState) × Turns script turn old None mid
+    × Turn (due turn script) mid (Some fault) new
+
+-- Texts
+
+-- a network text is one of this configuration
+pub record SaysNetwork (bytes : List ℕ) (config : Network) : Type 0 where
+  pub format : Format
+  pub keeps : KeepsRules format config
+  pub spelled : bytes ≡ text format config
+
+-- a traffic text is that of these entries
+pub record SaysTraffic (config : Network) (bytes : List ℕ) (entries : List Said) : Type 0 where
+  pub keeps : AreEntries config [] entries
+  pub spelled : bytes ≡ traffic_text config entries
+
+-- one of the two texts is refused: the first fault of the network text, or, where that one is accepted, of the traffic
+-- text
+abbrev pub IsRefusedAs : List ℕ → List ℕ → ProgramFault → Type 0
+IsRefusedAs network traffic (f.Network t) = (network_of network ≡ Err t) × IsFaultLine network t.line
+IsRefusedAs network traffic (f.Traffic t) =
+    (config : Network) × SaysNetwork network config × (traffic_of config traffic ≡ Err t)
+    × IsTrafficFaultLine config traffic t.line
+IsRefusedAs network traffic f.ReadNetwork = ⊥
+IsRefusedAs network traffic f.ReadTraffic = ⊥
+IsRefusedAs network traffic f.NoMemory = ⊥
+IsRefusedAs network traffic f.Write = ⊥
+IsRefusedAs network traffic f.Workers = ⊥
+IsRefusedAs network traffic (f.NotStarted w) = ⊥
+
+-- the texts are not both accepted, or memory ran out
+abbrev pub IsNotAccepted : List ℕ → List ℕ → ProgramFault → Type 0
+IsNotAccepted network traffic (f.Network t) = IsRefusedAs network traffic (f.Network t)
+IsNotAccepted network traffic (f.Traffic t) = IsRefusedAs network traffic (f.Traffic t)
+IsNotAccepted network traffic f.ReadNetwork = ⊥
+IsNotAccepted network traffic f.ReadTraffic = ⊥
+IsNotAccepted network traffic f.NoMemory = Unit {0}
+IsNotAccepted network traffic f.Write = ⊥
+IsNotAccepted network traffic f.Workers = ⊥
+IsNotAccepted network traffic (f.NotStarted w) = ⊥
+
+-- Runs
+
+-- what a report tells of a run beside its network
+abbrev pub summary_of : ℕ → ℕ → Ending → ℕ → Summary
+summary_of turns drain ending not_offered =
+    record {
+      turns = turns;
+      workers = 1;
+      drain = drain;
+      stops = ending.stopped ∷ replicate 15 None;
+      not_offered = not_offered;
+    }
+
+-- Both texts are accepted, and these bytes are the report of the run of the script on the network, from nothing
+-- offered, that ended thus.
+pub record IsReported (network traffic : List ℕ) (turns drain : ℕ) (ending : Ending) (bytes : List ℕ) : Type 0 where
+  pub config : Network
+  pub of_network : SaysNetwork network config
+  pub script : List Entry
+  pub of_traffic : SaysTraffic config traffic (said_of script)
+  pub opening : NetState
+  pub fresh : IsFresh config.radices config.channels config.depth config.classes opening
+  pub closing : NetState
+  pub run : OneThreadRun script turns drain opening ending.stopped ending.fault closing
+  pub reported : bytes ≡ report (seen closing) (summary_of turns drain ending (length script - accepted_total closing))
+
+-- what a reader had left and has left, or what a writer held and holds
+pub record Stream : Type 0 where
+  pub old : Option (List ℕ)
+  pub new : Option (List ℕ)
+
+abbrev pub stream : Option (List ℕ) → Option (List ℕ) → Stream
+stream old new = record { old = old; new = new }
+
+-- a first part of the bytes was written
+pub record WritesFront (out : Stream) (bytes : List ℕ) : Type 0 where
+  pub front : List ℕ
+  pub rest : List ℕ
+  pub parts : bytes ≡ front ++ rest
+  pub written : Appends out.old out.new front
+
+-- some of a report is still to come, unless memory had run out in its run
+abbrev pub IsCutShort : Option StepFault → List ℕ → Type 0
+IsCutShort fault rest = rest ≡ [] → fault ≡ Some NoRoom
+
+-- memory ran out: a first part of the bytes was written, and all of them only where it ran out in the run
+pub record WritesShort (out : Stream) (fault : Option StepFault) (bytes : List ℕ) : Type 0 where
+  pub part : WritesFront out bytes
+  pub short : IsCutShort fault part.rest
+
+-- What a call wrote of the report of a run that ended with this fault, or with none. Want of memory in the run is told
+-- where the report is out.
+abbrev pub WritesReport : Stream → Option StepFault → Result (Unit {0}) ProgramFault → List ℕ → Type 0
+WritesReport out fault (Ok _) bytes = (fault ≢ Some NoRoom) × Appends out.old out.new bytes
+WritesReport out fault (Err f.NoMemory) bytes = WritesShort out fault bytes
+WritesReport out fault (Err f.Write) bytes = WritesFront out bytes
+WritesReport out fault (Err (f.Network t)) bytes = ⊥
+WritesReport out fault (Err (f.Traffic t)) bytes = ⊥
+WritesReport out fault (Err f.ReadNetwork) bytes = ⊥
+WritesReport out fault (Err f.ReadTraffic) bytes = ⊥
+WritesReport out fault (Err f.Workers) bytes = ⊥
+WritesReport out fault (Err (f.NotStarted w)) bytes = ⊥
+
+-- a run that no fault stopped or ended
+abbrev pub whole_run : Ending
+whole_run = record { stopped = None; fault = None }
+
+-- the report of the whole run was written, all of it: the one report that the texts have
+pub record Reports (network traffic : List ℕ) (turns drain : ℕ) (out : Stream) : Type 0 where
+  pub bytes : List ℕ
+  pub reported : IsReported network traffic turns drain whole_run bytes
+  pub only : (other : List ℕ) → IsReported network traffic turns drain whole_run other → other ≡ bytes
+  pub written : Appends out.old out.new bytes
+
+-- a first part of the report of a run was written; no source refused an entry: nothing but want of memory ended the run
+pub record ReportsPart (network traffic : List ℕ) (turns drain : ℕ) (out : Stream) : Type 0 where
+  pub ending : Ending
+  pub for_memory : EndsForMemory ending.fault
+  pub bytes : List ℕ
+  pub reported : IsReported network traffic turns drain ending bytes
+  pub written : WritesFront out bytes
+
+-- the same where memory ran out: all of the report only where it ran out in the run
+pub record ReportsShort (network traffic : List ℕ) (turns drain : ℕ) (out : Stream) : Type 0 where
+  pub part : ReportsPart network traffic turns drain out
+  pub short : IsCutShort part.ending.fault part.written.rest
+
+-- what a fault tells of two texts at hand
+abbrev pub Fails : List ℕ → List ℕ → ℕ → ℕ → Stream → ProgramFault → Type 0
+Fails network traffic turns drain out (f.Network t) = IsRefusedAs network traffic (f.Network t) × Keeps out.old out.new
+Fails network traffic turns drain out (f.Traffic t) = IsRefusedAs network traffic (f.Traffic t) × Keeps out.old out.new
+Fails network traffic turns drain out f.ReadNetwork = ⊥
+Fails network traffic turns drain out f.ReadTraffic = ⊥
+Fails network traffic turns drain out f.NoMemory =
+    Keeps out.old out.new ⊎ ReportsShort network traffic turns drain out
+Fails network traffic turns drain out f.Write = ReportsPart network traffic turns drain out
+Fails network traffic turns drain out f.Workers = ⊥
+Fails network traffic turns drain out (f.NotStarted w) = ⊥
+
+-- Readers
+
+-- a reader gave this text, of 8 MiB at most, to its end
+abbrev pub GaveText : Stream → List ℕ → Type 0
+GaveText reader text = IsWhole 8388608 reader.old reader.new text
+
+-- both readers gave their texts to the end
+pub record GaveBoth (first second : Stream) (network traffic : List ℕ) : Type 0 where
+  pub of_network : GaveText first network
+  pub of_traffic : GaveText second traffic
+
+-- both readers gave their texts, and the report of them was written
+pub record ReportsAlone (turns drain : ℕ) (first second out : Stream) : Type 0 where
+  pub network : List ℕ
+  pub traffic : List ℕ
+  pub gave : GaveBoth first second network traffic
+  pub reports : Reports network traffic turns drain out
+
+-- both readers gave their texts, of which this holds
+pub record FailsBoth (Holds : List ℕ → List ℕ → Type 0) (first second : Stream) : Type 0 where
+  pub network : List ℕ
+  pub traffic : List ℕ
+  pub gave : GaveBoth first second network traffic
+  pub fails : Holds network traffic
+
+-- what a fault tells where two readers give the texts, by what it tells of two texts at hand
+abbrev pub FailsReading : (List ℕ → List ℕ → ProgramFault → Type 0) → Stream → Stream → Stream → ProgramFault → Type 0
+FailsReading Holds first second out f.Workers =
+    FailsBoth (λ network traffic. Holds network traffic f.Workers) first second
+FailsReading Holds first second out (f.Network t) =
+    FailsBoth (λ network traffic. Holds network traffic (f.Network t)) first second
+FailsReading Holds first second out (f.Traffic t) =
+    FailsBoth (λ network traffic. Holds network traffic (f.Traffic t)) first second
+FailsReading Holds first second out f.ReadNetwork = Keeps second.old second.new × Keeps out.old out.new
+FailsReading Holds first second out f.ReadTraffic =
+    ((network : List ℕ) × GaveText first network) × Keeps out.old out.new
+FailsReading Holds first second out f.NoMemory =
+    Keeps out.old out.new ⊎ FailsBoth (λ network traffic. Holds network traffic f.NoMemory) first second
+FailsReading Holds first second out (f.NotStarted w) =
+    FailsBoth (λ network traffic. Holds network traffic (f.NotStarted w)) first second
+FailsReading Holds first second out f.Write = FailsBoth (λ network traffic. Holds network traffic f.Write) first second
+
+-- the same on one thread
+abbrev pub FailsAlone : ℕ → ℕ → Stream → Stream → Stream → ProgramFault → Type 0
+FailsAlone turns drain first second out =
+    FailsReading (λ network traffic. Fails network traffic turns drain out) first second out
+
+-- what a fault of reading tells; the traffic is not read before the network is
+abbrev pub ReadsNot : Stream → Stream → ProgramFault → Type 0
+ReadsNot first second f.ReadNetwork = Keeps second.old second.new
+ReadsNot first second f.ReadTraffic = (network : List ℕ) × GaveText first network
+ReadsNot first second f.NoMemory = Unit {0}
+ReadsNot first second (f.Network t) = ⊥
+ReadsNot first second (f.Traffic t) = ⊥
+ReadsNot first second f.Write = ⊥
+ReadsNot first second f.Workers = ⊥
+ReadsNot first second (f.NotStarted w) = ⊥
+
+-- The reader gave both texts in one, cut behind its first line that is `end`, and the report of 100 turns without a
+-- drain was written.
+pub record ReportsJoined (input out : Stream) : Type 0 where
+  pub joined : List ℕ
+  pub gave : GaveText input joined
+  pub at : ℕ
+  pub cut : IsCut joined at
+  pub reports : Reports (take at joined) (drop at joined) 100 0 out
+
+-- the reader gave both texts in one, cut there, and they failed thus
+pub record FailsCut (input out : Stream) (fault : ProgramFault) : Type 0 where
+  pub joined : List ℕ
+  pub gave : GaveText input joined
+  pub at : ℕ
+  pub cut : IsCut joined at
+  pub fails : Fails (take at joined) (drop at joined) 100 0 out fault
+
+-- what a fault tells where one reader gives both texts
+abbrev pub FailsJoined : Stream → Stream → ProgramFault → Type 0
+FailsJoined input out (f.Network t) = FailsCut input out (f.Network t)
+FailsJoined input out (f.Traffic t) = FailsCut input out (f.Traffic t)
+FailsJoined input out f.ReadNetwork = Keeps out.old out.new
+FailsJoined input out f.ReadTraffic = ⊥
+FailsJoined input out f.NoMemory = Keeps out.old out.new ⊎ FailsCut input out f.NoMemory
+FailsJoined input out f.Write = FailsCut input out f.Write
+FailsJoined input out f.Workers = ⊥
+FailsJoined input out (f.NotStarted w) = ⊥

@@ -1,0 +1,15 @@
+-- The range of the program's options, and what they ask of a run.
+use Rattle.std.specs.Prelude.{◌≤◌}
+use Rattle.worm_run.specs.declared.plan.RunPlan.{RunPlan}
+use Rattle.worm_program.specs.declared.words.Options.{Options}
+
+-- the options are in the program's range
+pub record InRange (o : Options) : Type 0 where
+  pub turns : o.turns ≤ 1000000
+  pub some_worker : 1 ≤ o.workers
+  pub few_workers : o.workers ≤ 16
+  pub drain : o.drain ≤ 1000000
+
+-- what the workers are asked for
+abbrev pub plan_of : Options → RunPlan
+plan_of o = record { turns = o.turns; workers = o.workers }

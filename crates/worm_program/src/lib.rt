@@ -1,0 +1,132 @@
+//! What `wormrun` does: a network text and a traffic text in, a report out, over a runtime that gives the words, the
+//! files and the standard streams.
+//!
+//! With no words both texts come one after the other on the standard input; with words they are the two files
+//! named, and `--turns T` says how many turns to take. A fault is one line on the standard error and a status.
+//!
+//! It is a library, and the program calls its `run`: so who tests it gives a runtime of his own, and what a contract
+//! says of it is judged without the code of all that lies below.
+#![tactic(auto)]
+
+ghost use Rattle.std.specs.Prelude.{◌≡◌};
+ghost use Rattle.std.specs.Process.{exit_status};
+ghost use Rattle.worm_program.specs.Faults.{ended_status, words_status, IsStatus};
+ghost use Rattle.worm_program.specs.Ranges.{InRange};
+
+mod fault;
+mod joined;
+mod program;
+mod together;
+mod turns;
+mod words;
+
+pub use fault::ProgramFault;
+pub use joined::network_end;
+pub use program::{MOST_BYTES, report_run, run_alone, run_joined, run_texts};
+pub use words::{Options, Words, WordsFault, all_words, read_words};
+
+use std::alloc::Global;
+use std::process::ExitCode;
+use std::rt::{Env, Files};
+use std::sync::Wait;
+use std::thread::Threads;
+use std::{fs, io};
+use worm_run::FreeGate;
+
+/// Opens both files, the network first, and runs on them.
+fn run_files<R: Files + Print + AllocGlobal, T: Threads + Wait + Sync>(
+    rt: &R,
+    threads: &T,
+    words: &Words<'_>,
+) -> Result<(), ProgramFault>
+    requires { InRange words.now.options }
+{
+    let Ok(mut network) = fs::open(rt, words.network) else {
+        return Err(ProgramFault::ReadNetwork);
+    };
+    let Ok(mut traffic) = fs::open(rt, words.traffic) else {
+        return Err(ProgramFault::ReadTraffic);
+    };
+    let mut out = io::writer(rt);
+    run_texts(
+        threads,
+        rt.alloc(),
+        &mut network,
+        &mut traffic,
+        &words.options,
+        &FreeGate,
+        &mut out,
+    )
+}
+
+/// Says the fault on the standard error, and gives its status.
+fn end<R: Eprint>(rt: &R, ended: Result<(), ProgramFault>) -> ExitCode
+    ensures { exit_status result ≡ ended_status ended }
+{
+    match ended {
+        Ok(()) => ExitCode::SUCCESS,
+        Err(fault) => {
+            let _ = rt.eprintln(fault);
+            ExitCode::from(fault.status())
+        }
+    }
+}
+
+/// Says what is wrong with the words on the standard error, and gives the status of that.
+fn refuse<R: Print + Eprint>(rt: &R, fault: WordsFault) -> ExitCode
+    ensures { exit_status result ≡ words_status fault }
+{
+    match fault {
+        WordsFault::NoMemory => end(rt, Err(ProgramFault::NoMemory)),
+        WordsFault::NotText => {
+            let _ = rt.eprintln("wormrun: a word is not UTF-8");
+            ExitCode::from(2)
+        }
+        WordsFault::Words(error) => {
+            let _ = error.print(rt);
+            ExitCode::from(2)
+        }
+    }
+}
+
+/// Reads the words, the program's name first, and runs the program that they ask for.
+fn run_words<R: Files + Input + Print + Eprint + AllocGlobal, T: Threads + Wait + Sync>(
+    rt: &R,
+    threads: &T,
+    words: &[&str],
+) -> ExitCode
+    ensures { IsStatus (exit_status result) }
+{
+    if words.len() < 2 {
+        let mut input = rt.reader();
+        let mut out = io::writer(rt);
+        return end(rt, run_joined(rt.alloc(), &mut input, &mut out));
+    }
+    match read_words(rt.alloc(), words) {
+        Ok(words) => end(rt, run_files(rt, threads, &words)),
+        Err(fault) => refuse(rt, fault),
+    }
+}
+
+/// Runs the program on the words of the command line. Workers take their threads from `threads`. The status is 0 where
+/// the whole report is out, 2 for wrong words, and else that of the fault that was said.
+pub fn run<R: Env + Files + Input + Print + Eprint + AllocGlobal, T: Threads + Wait + Sync>(
+    rt: &R,
+    threads: &T,
+) -> ExitCode
+    ensures { IsStatus (exit_status result) }
+{
+    let all = match all_words(rt) {
+        Ok(all) => all,
+        Err(fault) => return refuse(rt, fault),
+    };
+    let alloc: Global = rt.alloc();
+    let Ok(words) = all
+        .iter()
+        .map(|word| word.as_str())
+        .collect::<Vec<&str>>(alloc)
+    else {
+        return refuse(rt, WordsFault::NoMemory);
+    };
+    run_words(rt, threads, words.as_slice())
+}

@@ -1,0 +1,12 @@
+//! `wormrun`: worked runs with their whole reports, faults with their statuses and lines, the words of the command
+//! line, readers and writers that fail or give and take little, and the whole program.
+
+mod cases;
+mod desk;
+mod faults;
+mod runs;
+mod whole;
+mod words;
+mod worked;
+mod workers;
+mod writers;

@@ -1,0 +1,136 @@
+//! What the tests share: the texts, runs of two texts on this thread, and what a run answers, says and writes.
+//!
+//! No helper has a contract: so what is known of a whole run ends at the helper that takes it, and each test is proved
+//! in little time.
+
+use std::alloc::{AllocError, Global};
+use std::io::Read;
+use std::process::Abort;
+use std::test::Fail;
+use worm_program::{ProgramFault, run_alone, run_joined};
+
+/// Two nodes, one class with one channel.
+pub const TWO_NODES: &[u8] = b"wormnet 1\nradix 2\ndims 1\ndepth 2\nclass data\nend\n";
+
+/// The same with buffers of one flit.
+pub const SHALLOW: &[u8] = b"wormnet 1\nradix 2\ndims 1\ndepth 1\nclass data\nend\n";
+
+pub const TWO_WORDS: &[u8] = b"wormtraffic 1\nsend 0 0 1 data 17 18\nend\n";
+
+/// What a run answered, and what it wrote.
+#[derive(Drop)]
+pub struct Ran {
+    pub answer: Result<(), ProgramFault>,
+    pub report: Vec<u8>,
+}
+
+/// Runs the texts of two readers with so many turns and turns of drain.
+pub fn run_readers<N: Read, F: Read>(
+    alloc: Global,
+    network: &mut N,
+    traffic: &mut F,
+    options: (u64, u64),
+) -> Ran {
+    let (turns, drain) = options;
+    let mut report = Vec::new(alloc);
+    let answer = run_alone(alloc, network, traffic, turns, drain, &mut report);
+    Ran { answer, report }
+}
+
+/// Runs the two texts of one reader.
+pub fn run_reader<R: Read>(alloc: Global, input: &mut R) -> Ran {
+    let mut report = Vec::new(alloc);
+    let answer = run_joined(alloc, input, &mut report);
+    Ran { answer, report }
+}
+
+/// Runs two texts with so many turns and turns of drain.
+pub fn run_pair(alloc: Global, network: &[u8], traffic: &[u8], options: (u64, u64)) -> Ran {
+    let mut network = network;
+    let mut traffic = traffic;
+    run_readers(alloc, &mut network, &mut traffic, options)
+}
+
+/// The answer of a run is this one.
+pub fn answers(
+    rt: &impl Abort,
+    answer: Result<(), ProgramFault>,
+    wanted: Result<(), ProgramFault>,
+) {
+    assert_eq!(rt; answer, wanted);
+}
+
+/// The bytes are these.
+pub fn are_bytes(rt: &impl Abort, bytes: &[u8], wanted: &[u8]) {
+    assert_eq!(rt; bytes, wanted);
+}
+
+/// The run answered this, and wrote this report.
+pub fn gives(rt: &impl Abort, ran: &Ran, answer: Result<(), ProgramFault>, report: &[u8]) {
+    answers(rt, ran.answer, answer);
+    are_bytes(rt, ran.report.as_slice(), report);
+}
+
+/// The two texts give this report.
+pub fn reports(
+    rt: &impl Abort,
+    alloc: Global,
+    network: &[u8],
+    traffic: &[u8],
+    options: (u64, u64),
+    wanted: &str,
+) {
+    let ran = run_pair(alloc, network, traffic, options);
+    gives(rt, &ran, Ok(()), wanted.as_bytes());
+}
+
+/// The fault has this status.
+pub fn has_status(rt: &impl Abort, fault: ProgramFault, status: u8) {
+    assert_eq!(rt; fault.status(), status);
+}
+
+/// The line of a fault on the standard error.
+fn line_of(alloc: Global, fault: ProgramFault) -> Result<String, AllocError> {
+    format!(in alloc; "{fault}")
+}
+
+/// The fault has this status and this line.
+pub fn is_told(
+    rt: &impl Abort,
+    alloc: Global,
+    fault: ProgramFault,
+    status: u8,
+    line: &str,
+) -> Result<(), Fail> {
+    has_status(rt, fault, status);
+    are_bytes(rt, line_of(alloc, fault)?.as_bytes(), line.as_bytes());
+    Ok(())
+}
+
+/// The answer is a fault with this status and this line.
+pub fn is_fault(
+    rt: &impl Abort,
+    alloc: Global,
+    answer: Result<(), ProgramFault>,
+    status: u8,
+    line: &str,
+) -> Result<(), Fail> {
+    match answer {
+        Ok(()) => panic!(rt; "not refused"),
+        Err(fault) => is_told(rt, alloc, fault, status, line),
+    }
+}
+
+/// The texts are refused with this status and line, and nothing is written.
+pub fn is_refused(
+    rt: &impl Abort,
+    alloc: Global,
+    network: &[u8],
+    traffic: &[u8],
+    status: u8,
+    line: &str,
+) -> Result<(), Fail> {
+    let ran = run_pair(alloc, network, traffic, (1, 0));
+    assert!(rt; ran.report.is_empty());
+    is_fault(rt, alloc, ran.answer, status, line)
+}

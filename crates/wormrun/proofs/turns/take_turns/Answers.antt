@@ -1,7 +1,0 @@
-use Rattle.std.proofs.Common.{None}
-use Rattle.worm_region.proofs.Passages.{turns_more}
-use Rattle.wormrun.proofs.turns.take_turns.Goals as goal
-
-pub loop-turn-preserved : goal.loop-turn-preserved
-loop-turn-preserved c = turns_more c.args.script.now c.loop-turn.turn c.args.net.now c.loop-turn.net c.turn.new.self
-    None c.loop-turn.invariant c.in_default.ensures.exact
