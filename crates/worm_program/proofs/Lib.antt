@@ -8,3 +8,4 @@ pub mod OneReport
 pub mod NumbersRead
 pub mod OptionsGiven
 pub mod Complete
+pub mod Statuses

@@ -1,5 +1,5 @@
 -- The line that the program says of a fault on the standard error, and the status that it ends with.
-use Rattle.std.specs.Prelude.{◌≡◌, ◌≤◌, ◌×◌, ◌⊎◌, ℕ, List, ◌++◌, codes, decimal, Result, Ok, Err}
+use Rattle.std.specs.Prelude.{◌≡◌, ◌≤◌, ◌⊎◌, ℕ, List, ◌++◌, codes, decimal, Result, Ok, Err}
 use Rattle.clap.specs.Values.{kind_of}
 use Rattle.clap.specs.declared.error.Error.{Error}
 use Rattle.clap.specs.declared.error.kind.ErrorKind.{ErrorKind}

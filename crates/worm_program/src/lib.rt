@@ -23,14 +23,13 @@ mod words;
 pub use fault::ProgramFault;
 pub use joined::network_end;
 pub use program::{MOST_BYTES, report_run, run_alone, run_joined, run_texts};
-pub use words::{Options, Words, WordsFault, all_words, read_words};
-
 use std::alloc::Global;
 use std::process::ExitCode;
 use std::rt::{Env, Files};
 use std::sync::Wait;
 use std::thread::Threads;
 use std::{fs, io};
+pub use words::{Options, Words, WordsFault, all_words, read_words};
 use worm_run::FreeGate;
 
 /// Opens both files, the network first, and runs on them.
@@ -90,6 +89,7 @@ fn refuse<R: Print + Eprint>(rt: &R, fault: WordsFault) -> ExitCode
 }
 
 /// Reads the words, the program's name first, and runs the program that they ask for.
+#[tactic(auto, using(crate::proofs::Statuses::of_ended, crate::proofs::Statuses::of_words))]
 fn run_words<R: Files + Input + Print + Eprint + AllocGlobal, T: Threads + Wait + Sync>(
     rt: &R,
     threads: &T,
@@ -110,6 +110,7 @@ fn run_words<R: Files + Input + Print + Eprint + AllocGlobal, T: Threads + Wait 
 
 /// Runs the program on the words of the command line. Workers take their threads from `threads`. The status is 0 where
 /// the whole report is out, 2 for wrong words, and else that of the fault that was said.
+#[tactic(auto, using(crate::proofs::Statuses::of_words))]
 pub fn run<R: Env + Files + Input + Print + Eprint + AllocGlobal, T: Threads + Wait + Sync>(
     rt: &R,
     threads: &T,
