@@ -1,6 +1,7 @@
 //! Lanes, flits, meshes and printed texts that several tests share.
 
 ghost use Rattle.std.specs.Prelude.{◌≡◌};
+ghost use Rattle.worm_mesh.specs.Address.{AreRadices};
 
 use std::fmt::Debug;
 use std::process::Abort;
@@ -30,7 +31,8 @@ pub fn single(packet: u16, word: u32) -> Flit
 
 /// The mesh with these radices.
 pub fn mesh_of(rt: &impl Abort, radices: &[u8]) -> Mesh
-    ensures { result ≡ radices.now }
+    ensures value { result ≡ radices.now }
+    ensures mesh { AreRadices result }
 {
     Mesh::new(radices).expect(rt, "a mesh")
 }

@@ -9,12 +9,20 @@ mod cases;
 #[cfg(test)]
 mod flit;
 #[cfg(test)]
+mod links;
+#[cfg(test)]
 mod mesh;
 #[cfg(test)]
 mod records;
 #[cfg(test)]
 mod route;
 #[cfg(test)]
+mod router;
+#[cfg(test)]
 mod swalloc;
 #[cfg(test)]
+mod term;
+#[cfg(test)]
 mod vcalloc;
+#[cfg(test)]
+mod wires;

@@ -2,6 +2,7 @@
 
 ghost use Rattle.std.specs.Prelude.{◌<◌};
 
+use crate::vcalloc::has_channels;
 use std::process::Abort;
 use worm_swalloc::{ReadyOuts, SwAlloc, SwGrant, SwGrants};
 
@@ -16,12 +17,12 @@ fn ready_of(rt: &impl Abort, channels: &[(u8, u8, u8)]) -> ReadyOuts {
 }
 
 /// The channel may send to the output port.
-fn sends(vc: u8, out: u8) -> Option<SwGrant> {
+pub fn sends(vc: u8, out: u8) -> Option<SwGrant> {
     Some(SwGrant { vc, out })
 }
 
 /// Each of these input ports was granted this, or nothing.
-fn are_granted(rt: &impl Abort, grants: &SwGrants, granted: &[(u8, Option<SwGrant>)]) {
+pub fn are_chosen(rt: &impl Abort, grants: &SwGrants, granted: &[(u8, Option<SwGrant>)]) {
     for (port, grant) in granted {
         assert!(rt; *port < 7);
         assert_eq!(rt; grants.get(*port), *grant, "at {port}");
@@ -35,7 +36,7 @@ fn passes(
     ready: &ReadyOuts,
     granted: &[(u8, Option<SwGrant>)],
 ) {
-    are_granted(rt, &alloc.grant(ready), granted);
+    are_chosen(rt, &alloc.grant(ready), granted);
 }
 
 #[test]
@@ -47,15 +48,6 @@ fn grants_go_round(rt: HostRuntime) {
     passes(&rt, &mut alloc, &ready, &[(0, sends(1, 1)), (2, None)]);
 }
 
-/// These are the channels that may send.
-fn have_channels(rt: &impl Abort, grants: &SwGrants, places: &[(u8, u8)]) {
-    let mut left = grants.channels();
-    for place in places {
-        assert_eq!(rt; left.pop_first(), Some(*place));
-    }
-    assert_eq!(rt; left.pop_first(), None);
-}
-
 /// Ports 0 and 2 both ask for output port 1, and port 1 for output port 0.
 #[test]
 fn each_output_port_is_granted_once(rt: HostRuntime) {
@@ -63,8 +55,8 @@ fn each_output_port_is_granted_once(rt: HostRuntime) {
     let ready = ready_of(&rt, &[(0, 1, 1), (1, 0, 0), (2, 0, 1)]);
     let first = alloc.grant(&ready);
     let granted = [(0, sends(1, 1)), (1, sends(0, 0)), (2, None)];
-    are_granted(&rt, &first, &granted);
-    have_channels(&rt, &first, &[(0, 1), (1, 0)]);
+    are_chosen(&rt, &first, &granted);
+    has_channels(&rt, first.channels(), &[(0, 1), (1, 0)]);
     let granted = [(0, None), (1, sends(0, 0)), (2, sends(0, 1))];
     passes(&rt, &mut alloc, &ready, &granted);
 }

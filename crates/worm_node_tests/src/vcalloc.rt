@@ -3,7 +3,9 @@
 ghost use Rattle.std.specs.Prelude.{◌<◌};
 
 use std::process::Abort;
-use worm_vcalloc::{Arbiter, ChannelSet, FreeChannels, VcAlloc, VcRequest, VcRequests};
+use worm_vcalloc::{
+    Arbiter, ChannelSet, FreeChannels, VcAlloc, VcGrants, VcRequest, VcRequests,
+};
 
 /// Each channel comes into the set, or goes out of it where it is false.
 fn put_all(rt: &impl Abort, set: &mut ChannelSet, changes: &[(u8, u8, bool)]) {
@@ -29,6 +31,14 @@ fn gives_port(rt: &impl Abort, set: &mut ChannelSet, port: Option<u8>) {
     assert_eq!(rt; set.pop_port(), port);
 }
 
+/// These are the channels of the set, in this order.
+pub fn has_channels(rt: &impl Abort, mut set: ChannelSet, places: &[(u8, u8)]) {
+    for place in places {
+        gives(rt, &mut set, Some(*place));
+    }
+    gives(rt, &mut set, None);
+}
+
 #[test]
 fn channels_come_out_in_order(rt: HostRuntime) {
     let mut set = ChannelSet::new();
@@ -37,9 +47,7 @@ fn channels_come_out_in_order(rt: HostRuntime) {
     put_all(&rt, &mut set, &changes);
     holds(&rt, &set, 4, 1, true);
     holds(&rt, &set, 4, 0, false);
-    gives(&rt, &mut set, Some((0, 6)));
-    gives(&rt, &mut set, Some((4, 1)));
-    gives(&rt, &mut set, None);
+    has_channels(&rt, set, &[(0, 6), (4, 1)]);
 }
 
 #[test]
@@ -126,6 +134,14 @@ fn free_of(rt: &impl Abort, out: u8, channels: &[u8]) -> FreeChannels {
     free
 }
 
+/// Each of these input channels was granted this channel, or none.
+pub fn are_granted(rt: &impl Abort, grants: &VcGrants, granted: &[(u8, u8, Option<u8>)]) {
+    for (port, vc, channel) in granted {
+        assert!(rt; *port < 7 && *vc < 8);
+        assert_eq!(rt; grants.get(*port, *vc), *channel, "at {port} {vc}");
+    }
+}
+
 /// In one pass each of these input channels is granted this channel, or none.
 fn passes(
     rt: &impl Abort,
@@ -134,11 +150,7 @@ fn passes(
     free: &FreeChannels,
     granted: &[(u8, u8, Option<u8>)],
 ) {
-    let grants = alloc.grant(waiting, free);
-    for (port, vc, channel) in granted {
-        assert!(rt; *port < 7 && *vc < 8);
-        assert_eq!(rt; grants.get(*port, *vc), *channel, "at {port} {vc}");
-    }
+    are_granted(rt, &alloc.grant(waiting, free), granted);
 }
 
 #[test]
@@ -168,11 +180,7 @@ fn a_granted_channel_gets_no_second(rt: HostRuntime) {
 fn finds(rt: &impl Abort, waiting: &VcRequests, out: u8, channels: &[u8], found: &[(u8, u8)]) {
     let mut alloc = VcAlloc::new(7, 8);
     let grants = alloc.grant(waiting, &free_of(rt, out, channels));
-    let mut left = grants.keys();
-    for place in found {
-        gives(rt, &mut left, Some(*place));
-    }
-    gives(rt, &mut left, None);
+    has_channels(rt, grants.keys(), found);
 }
 
 /// The input channel waits for this; none where it waits for nothing.
