@@ -1,0 +1,120 @@
+//! Meshes: their faults, neighbours and links.
+
+ghost use Rattle.std.specs.Prelude.{◌<◌};
+
+use crate::cases::{mesh_of, reads};
+use std::process::Abort;
+use worm_mesh::{LinkEnds, Mesh, MeshFault};
+
+/// Radices make no mesh, for this fault.
+fn are_refused(rt: &impl Abort, radices: &[u8], fault: MeshFault) {
+    assert_eq!(rt; Mesh::new(radices), Err(fault), "at {radices:?}");
+}
+
+/// The mesh with these radices has so many nodes.
+fn have_nodes(rt: &impl Abort, radices: &[u8], nodes: u16) {
+    assert_eq!(rt; mesh_of(rt, radices).nodes(), nodes, "at {radices:?}");
+}
+
+#[test]
+fn refuses_radices_in_order(rt: HostRuntime) {
+    are_refused(&rt, &[1], MeshFault::Radix);
+    are_refused(&rt, &[17], MeshFault::Radix);
+    are_refused(&rt, &[2, 2, 2, 1], MeshFault::Radix);
+    are_refused(&rt, &[16, 16, 17], MeshFault::Radix);
+    are_refused(&rt, &[2, 2, 2, 2], MeshFault::Dims);
+    are_refused(&rt, &[16, 16, 16, 16], MeshFault::Dims);
+    are_refused(&rt, &[], MeshFault::Dims);
+    are_refused(&rt, &[7, 7, 7], MeshFault::TooManyNodes);
+    are_refused(&rt, &[16, 16, 2], MeshFault::TooManyNodes);
+    have_nodes(&rt, &[16, 8, 2], 256);
+    have_nodes(&rt, &[16, 16], 256);
+    have_nodes(&rt, &[2], 2);
+    have_nodes(&rt, &[3, 2], 6);
+}
+
+#[test]
+fn prints_a_fault_by_its_name(rt: HostRuntime) {
+    let alloc = rt.alloc();
+    reads(&rt, format!(in alloc; "{}", MeshFault::Radix), "Radix");
+    reads(&rt, format!(in alloc; "{}", MeshFault::Dims), "Dims");
+    reads(&rt, format!(in alloc; "{}", MeshFault::TooManyNodes), "TooManyNodes");
+}
+
+/// The node beyond the port; none where there is no link.
+fn leads_to(rt: &impl Abort, mesh: &Mesh, node: u8, port: u8, beyond: Option<u8>) {
+    assert_eq!(rt; mesh.neighbour(node, port), beyond, "at {node} {port}");
+}
+
+/// The link that leaves the node by the port has this number; none where there is no link.
+fn is_numbered(rt: &impl Abort, mesh: &Mesh, node: u8, port: u8, number: Option<u16>) {
+    assert_eq!(rt; mesh.link_number(node, port), number, "at {node} {port}");
+}
+
+/// There is no link at the port.
+fn is_edge(rt: &impl Abort, mesh: &Mesh, node: u8, port: u8) {
+    leads_to(rt, mesh, node, port, None);
+    is_numbered(rt, mesh, node, port, None);
+}
+
+#[test]
+fn a_square_of_four(rt: HostRuntime) {
+    let mesh = mesh_of(&rt, &[4, 4]);
+    assert_eq!(rt; mesh.links(), 48);
+    leads_to(&rt, &mesh, 1, 1, Some(2));
+    leads_to(&rt, &mesh, 2, 3, Some(6));
+    leads_to(&rt, &mesh, 14, 2, Some(10));
+    is_edge(&rt, &mesh, 14, 3);
+    is_edge(&rt, &mesh, 15, 1);
+    is_edge(&rt, &mesh, 16, 0);
+    is_edge(&rt, &mesh, 1, 4);
+    is_edge(&rt, &mesh, 255, 255);
+}
+
+#[test]
+fn a_line_of_two(rt: HostRuntime) {
+    let mesh = mesh_of(&rt, &[2]);
+    assert_eq!(rt; mesh.dims(), 1);
+    is_numbered(&rt, &mesh, 0, 1, Some(0));
+    is_numbered(&rt, &mesh, 1, 0, Some(1));
+    let second = LinkEnds {
+        from: 1,
+        out_port: 0,
+        to: 0,
+        in_port: 1,
+    };
+    assert_eq!(rt; mesh.link_ends(1), Some(second));
+    assert_eq!(rt; mesh.link_ends(2), None);
+}
+
+/// The dimension has this radix, and the node this digit in it.
+fn has_digit(rt: &impl Abort, mesh: &Mesh, dim: u8, radix: u8, node: u8, digit: u8) {
+    assert!(rt; dim < mesh.dims() && u16::from(node) < mesh.nodes());
+    assert_eq!(rt; (mesh.radix(dim), mesh.digit(node, dim)), (radix, digit));
+}
+
+/// What leaves by the port enters by the other.
+pub fn is_opposite(rt: &impl Abort, mesh: &Mesh, port: u8, other: u8) {
+    assert!(rt; port < 2 * mesh.dims());
+    assert_eq!(rt; mesh.opposite(port), other);
+}
+
+/// The mesh is the one with these radices, and not the other.
+fn is_mesh(rt: &impl Abort, mesh: &Mesh, radices: &[u8], others: &[u8]) {
+    assert!(rt; *mesh == mesh_of(rt, radices) && *mesh != mesh_of(rt, others));
+}
+
+#[test]
+fn three_by_two(rt: HostRuntime) {
+    let mesh = mesh_of(&rt, &[3, 2]);
+    assert_eq!(rt; (mesh.links(), mesh.nodes(), mesh.dims()), (14, 6, 2));
+    is_numbered(&rt, &mesh, 0, 3, Some(1));
+    is_numbered(&rt, &mesh, 1, 3, Some(4));
+    has_digit(&rt, &mesh, 0, 3, 5, 2);
+    has_digit(&rt, &mesh, 1, 2, 5, 1);
+    is_opposite(&rt, &mesh, 1, 0);
+    is_opposite(&rt, &mesh, 2, 3);
+    is_mesh(&rt, &mesh, &[3, 2], &[2, 3]);
+    let text = "Mesh { radices: [3, 2, 1], dims: 2 }";
+    reads(&rt, format!(in rt.alloc(); "{mesh:?}"), text);
+}

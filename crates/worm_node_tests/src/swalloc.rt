@@ -1,0 +1,95 @@
+//! The allocator of the switch.
+
+ghost use Rattle.std.specs.Prelude.{◌<◌};
+
+use crate::vcalloc::has_channels;
+use std::process::Abort;
+use worm_swalloc::{ReadyOuts, SwAlloc, SwGrant, SwGrants};
+
+/// These input channels, each by port and channel, would send to these output ports.
+fn ready_of(rt: &impl Abort, channels: &[(u8, u8, u8)]) -> ReadyOuts {
+    let mut ready = ReadyOuts::new();
+    for (port, vc, out) in channels {
+        assert!(rt; *port < 7 && *vc < 8);
+        ready.set(*port, *vc, Some(*out));
+    }
+    ready
+}
+
+/// The channel may send to the output port.
+pub fn sends(vc: u8, out: u8) -> Option<SwGrant> {
+    Some(SwGrant { vc, out })
+}
+
+/// Each of these input ports was granted this, or nothing.
+pub fn are_chosen(rt: &impl Abort, grants: &SwGrants, granted: &[(u8, Option<SwGrant>)]) {
+    for (port, grant) in granted {
+        assert!(rt; *port < 7);
+        assert_eq!(rt; grants.get(*port), *grant, "at {port}");
+    }
+}
+
+/// In one pass each of these input ports is granted this, or nothing.
+fn passes(
+    rt: &impl Abort,
+    alloc: &mut SwAlloc,
+    ready: &ReadyOuts,
+    granted: &[(u8, Option<SwGrant>)],
+) {
+    are_chosen(rt, &alloc.grant(ready), granted);
+}
+
+#[test]
+fn grants_go_round(rt: HostRuntime) {
+    let mut alloc = SwAlloc::new(3, 2);
+    let ready = ready_of(&rt, &[(0, 0, 1), (0, 1, 1), (2, 0, 1)]);
+    passes(&rt, &mut alloc, &ready, &[(0, sends(0, 1)), (2, None)]);
+    passes(&rt, &mut alloc, &ready, &[(0, None), (2, sends(0, 1))]);
+    passes(&rt, &mut alloc, &ready, &[(0, sends(1, 1)), (2, None)]);
+}
+
+/// Ports 0 and 2 both ask for output port 1, and port 1 for output port 0.
+#[test]
+fn each_output_port_is_granted_once(rt: HostRuntime) {
+    let mut alloc = SwAlloc::new(3, 2);
+    let ready = ready_of(&rt, &[(0, 1, 1), (1, 0, 0), (2, 0, 1)]);
+    let first = alloc.grant(&ready);
+    let granted = [(0, sends(1, 1)), (1, sends(0, 0)), (2, None)];
+    are_chosen(&rt, &first, &granted);
+    has_channels(&rt, first.channels(), &[(0, 1), (1, 0)]);
+    let granted = [(0, None), (1, sends(0, 0)), (2, sends(0, 1))];
+    passes(&rt, &mut alloc, &ready, &granted);
+}
+
+/// Both arbiters move: after it output port 1 prefers port 2, and port 0 its channel 1.
+#[test]
+fn a_sole_ready_channel_is_granted(rt: HostRuntime) {
+    let mut alloc = SwAlloc::new(3, 2);
+    passes(&rt, &mut alloc, &ready_of(&rt, &[]), &[(0, None)]);
+    let sole = ready_of(&rt, &[(0, 0, 1)]);
+    passes(&rt, &mut alloc, &sole, &[(0, sends(0, 1))]);
+    let ready = ready_of(&rt, &[(0, 0, 1), (0, 1, 1), (2, 0, 1)]);
+    passes(&rt, &mut alloc, &ready, &[(2, sends(0, 1))]);
+    passes(&rt, &mut alloc, &ready, &[(0, sends(1, 1))]);
+}
+
+/// With both channels ready and no rival, port 0 would send this one: its arbiter asks that first. The allocator is a
+/// copy, and the other does not move.
+fn prefers(rt: &impl Abort, mut alloc: SwAlloc, vc: u8) {
+    let ready = ready_of(rt, &[(0, 0, 1), (0, 1, 1)]);
+    passes(rt, &mut alloc, &ready, &[(0, sends(vc, 1))]);
+}
+
+/// Port 0 names its channel 1 in vain while port 2 sends, and names it again in the next pass: with its pointer moved
+/// it would name channel 0.
+#[test]
+fn an_ungranted_request_is_named_again(rt: HostRuntime) {
+    let mut alloc = SwAlloc::new(3, 2);
+    let mut ready = ready_of(&rt, &[(0, 0, 1), (0, 1, 1), (2, 0, 1)]);
+    passes(&rt, &mut alloc, &ready, &[]);
+    prefers(&rt, alloc, 1);
+    passes(&rt, &mut alloc, &ready, &[(0, None)]);
+    prefers(&rt, alloc, 1);
+    ready.set(2, 0, None);
+    passes(&rt, &mut alloc, &ready, &[(0, sends(1, 1))]);
+}

@@ -1,0 +1,133 @@
+//! The ends of lanes: sources and sinks.
+
+ghost use Rattle.std.specs.Prelude.{◌≡◌, ◌<◌, length};
+
+use crate::cases::lane;
+use std::alloc::Global;
+use std::process::Abort;
+use worm_flit::{Flit, Kind, Lane, Packet, are_channels};
+use worm_term::{OfferFault, Sink, Source};
+
+/// The source of the node, one of two, with so many channels for each class.
+fn source_of(rt: &impl Abort, alloc: Global, node: u8, channels: &[u8]) -> Source
+    ensures { result.channels ≡ channels.now }
+{
+    assert!(rt; node < 2 && are_channels(channels));
+    Source::new(alloc, node, 2, channels).expect(rt, "a source")
+}
+
+/// A packet of these words on the lane.
+fn packet_of(rt: &impl Abort, lane: Lane, words: &[u32]) -> Packet {
+    Packet::new(lane, words).expect(rt, "1 to 32 words")
+}
+
+/// The source numbers packets of one lane up to the last number of all.
+fn accepts_all(rt: &impl Abort, source: &mut Source) {
+    let packet = packet_of(rt, lane(0, 1, 0), &[7]);
+    for number in 0..65_535u16 {
+        assert_eq!(rt; source.offer(&packet), Ok(number));
+    }
+}
+
+/// The source refuses a packet of the lane, for this fault.
+fn refuses(rt: &impl Abort, source: &mut Source, lane: Lane, fault: OfferFault) {
+    assert_eq!(rt; source.offer(&packet_of(rt, lane, &[7])), Err(fault));
+}
+
+/// The source gives this answer where it is asked to close the lane.
+fn closes(rt: &impl Abort, source: &mut Source, lane: Lane, answer: Result<u16, OfferFault>) {
+    assert_eq!(rt; source.close(lane), answer);
+}
+
+#[test]
+fn a_lane_has_65535_numbers(rt: HostRuntime) {
+    let mut source = source_of(&rt, rt.alloc(), 0, &[1]);
+    accepts_all(&rt, &mut source);
+    refuses(&rt, &mut source, lane(0, 1, 0), OfferFault::LaneFull);
+    closes(&rt, &mut source, lane(0, 1, 0), Err(OfferFault::LaneFull));
+    refuses(&rt, &mut source, lane(1, 0, 0), OfferFault::WrongSource);
+    refuses(&rt, &mut source, lane(0, 2, 0), OfferFault::NoSuchNode);
+    refuses(&rt, &mut source, lane(0, 1, 1), OfferFault::NoSuchClass);
+    let mut fresh = source_of(&rt, rt.alloc(), 1, &[1]);
+    closes(&rt, &mut fresh, lane(1, 0, 0), Ok(0));
+    closes(&rt, &mut fresh, lane(1, 0, 0), Err(OfferFault::LaneClosed));
+}
+
+#[test]
+fn a_sink_keeps_what_comes(rt: HostRuntime) {
+    let flit = Flit {
+        lane: lane(0, 1, 0),
+        packet: 0,
+        index: 0,
+        kind: Kind::Close,
+        vc: 0,
+        word: 0,
+    };
+    let mut sink = Sink::new(rt.alloc(), 1);
+    assert!(rt; !sink.closed(lane(0, 1, 0)));
+    assert_eq!(rt; sink.take(flit), Ok(()));
+    assert_eq!(rt; sink.delivered(), [flit].as_slice());
+    assert!(rt; sink.closed(lane(0, 1, 0)));
+}
+
+/// The source gives the packet this number.
+fn accepts(rt: &impl Abort, source: &mut Source, packet: &Packet, number: u16)
+    ensures { source.new.channels ≡ source.old.channels }
+{
+    match source.offer(packet) {
+        Ok(given) => assert_eq!(rt; given, number),
+        Err(fault) => panic!(rt; "{fault:?}"),
+    }
+}
+
+/// The class's next flit has this word, and would be fed on this channel.
+fn is_next(rt: &impl Abort, source: &Source, class: u8, word: u32, vc: u8)
+    requires { class < length source.now.channels }
+{
+    let front = source.front(class).expect(rt, "a flit waits");
+    assert_eq!(rt; (front.word, front.vc), (word, vc));
+    assert_eq!(rt; source.next_channel(class), Some(vc));
+}
+
+/// No flit of the class waits.
+fn has_none(rt: &impl Abort, source: &Source, class: u8)
+    requires { class < length source.now.channels }
+{
+    assert_eq!(rt; (source.front(class), source.next_channel(class)), (None, None));
+}
+
+/// The class's front is fed.
+fn feed(rt: &impl Abort, source: &mut Source, class: u8)
+    requires { class < length source.old.channels }
+    ensures { source.new.channels ≡ source.old.channels }
+{
+    assert!(rt; source.front(class).is_some());
+    source.fed(class);
+}
+
+/// So many flits of the class were fed, of so many that were accepted.
+fn has_fed(rt: &impl Abort, source: &Source, class: u8, fed: usize, accepted: usize)
+    requires { class < length source.now.channels }
+{
+    assert_eq!(rt; source.fed_count(class), fed);
+    assert_eq!(rt; source.injected(class).len(), accepted);
+}
+
+#[test]
+fn packets_are_fed_in_order(rt: HostRuntime) {
+    let mut source = source_of(&rt, rt.alloc(), 0, &[2, 3]);
+    let first = packet_of(&rt, lane(0, 1, 1), &[1, 2]);
+    has_none(&rt, &source, 1);
+    accepts(&rt, &mut source, &first, 0);
+    accepts(&rt, &mut source, &packet_of(&rt, lane(0, 0, 1), &[3]), 0);
+    accepts(&rt, &mut source, &first, 1);
+    has_none(&rt, &source, 0);
+    is_next(&rt, &source, 1, 1, 2);
+    feed(&rt, &mut source, 1);
+    is_next(&rt, &source, 1, 2, 2);
+    feed(&rt, &mut source, 1);
+    is_next(&rt, &source, 1, 3, 2);
+    has_fed(&rt, &source, 1, 2, 5);
+    has_fed(&rt, &source, 0, 0, 0);
+    closes(&rt, &mut source, lane(0, 1, 1), Err(OfferFault::ManyChannels));
+}

@@ -1,0 +1,204 @@
+//! Sets of channels, arbiters, and the allocator of output channels.
+
+ghost use Rattle.std.specs.Prelude.{◌<◌};
+
+use std::process::Abort;
+use worm_vcalloc::{
+    Arbiter, ChannelSet, FreeChannels, VcAlloc, VcGrants, VcRequest, VcRequests,
+};
+
+/// Each channel comes into the set, or goes out of it where it is false.
+fn put_all(rt: &impl Abort, set: &mut ChannelSet, changes: &[(u8, u8, bool)]) {
+    for (port, channel, within) in changes {
+        assert!(rt; *port < 7 && *channel < 8);
+        set.put(*port, *channel, *within);
+    }
+}
+
+/// Whether the channel is in the set.
+fn holds(rt: &impl Abort, set: &ChannelSet, port: u8, channel: u8, within: bool) {
+    assert!(rt; port < 7 && channel < 8);
+    assert_eq!(rt; set.contains(port, channel), within, "at {port} {channel}");
+}
+
+/// The first channel of the set is this, and goes out of it; none where the set is empty.
+fn gives(rt: &impl Abort, set: &mut ChannelSet, place: Option<(u8, u8)>) {
+    assert_eq!(rt; set.pop_first(), place);
+}
+
+/// The first port of the set is this, and its channels go out of it; none where the set is empty.
+fn gives_port(rt: &impl Abort, set: &mut ChannelSet, port: Option<u8>) {
+    assert_eq!(rt; set.pop_port(), port);
+}
+
+/// These are the channels of the set, in this order.
+pub fn has_channels(rt: &impl Abort, mut set: ChannelSet, places: &[(u8, u8)]) {
+    for place in places {
+        gives(rt, &mut set, Some(*place));
+    }
+    gives(rt, &mut set, None);
+}
+
+#[test]
+fn channels_come_out_in_order(rt: HostRuntime) {
+    let mut set = ChannelSet::new();
+    assert!(rt; set.is_empty());
+    let changes = [(4, 1, true), (0, 6, true), (4, 0, true), (4, 0, false)];
+    put_all(&rt, &mut set, &changes);
+    holds(&rt, &set, 4, 1, true);
+    holds(&rt, &set, 4, 0, false);
+    has_channels(&rt, set, &[(0, 6), (4, 1)]);
+}
+
+#[test]
+fn ports_come_out_in_order(rt: HostRuntime) {
+    let mut set = ChannelSet::new();
+    put_all(&rt, &mut set, &[(4, 1, true), (4, 7, true), (6, 0, true)]);
+    gives_port(&rt, &mut set, Some(4));
+    holds(&rt, &set, 6, 0, true);
+    gives_port(&rt, &mut set, Some(6));
+    gives_port(&rt, &mut set, None);
+}
+
+/// Of 3 ports by 2 channels, the set is these lines.
+fn are_lines(rt: &impl Abort, set: ChannelSet, lines: u64) {
+    assert_eq!(rt; set.lines(3, 2), lines);
+}
+
+/// Of 3 ports by 2 channels, channel 1 of port 0 is line 1 and channel 0 of port 1 line 2.
+#[test]
+fn sets_become_lines(rt: HostRuntime) {
+    let mut some = ChannelSet::new();
+    put_all(&rt, &mut some, &[(0, 1, true), (1, 0, true), (2, 2, true)]);
+    let mut other = ChannelSet::new();
+    put_all(&rt, &mut other, &[(1, 0, true)]);
+    are_lines(&rt, some, 0b000110);
+    assert_eq!(rt; some.row(2, 3), 0b100);
+    are_lines(&rt, some.intersection(&other), 0b000100);
+    are_lines(&rt, some.difference(&other), 0b000010);
+    put_all(&rt, &mut other, &[(2, 1, true)]);
+    are_lines(&rt, some.union(&other), 0b100110);
+}
+
+/// The arbiter was seen to choose this line.
+fn is_line(rt: &impl Abort, chosen: Option<u8>, line: Option<u8>) {
+    assert_eq!(rt; chosen, line);
+}
+
+/// The arbiter asks this line first.
+fn points_to(rt: &impl Abort, arbiter: &Arbiter, line: u8) {
+    assert_eq!(rt; arbiter.pointer(), line);
+}
+
+#[test]
+fn winners_go_round(rt: HostRuntime) {
+    let mut arbiter = Arbiter::new(3);
+    is_line(&rt, arbiter.pick(0b101), Some(0));
+    points_to(&rt, &arbiter, 1);
+    is_line(&rt, arbiter.peek(0b101), Some(2));
+    is_line(&rt, arbiter.pick(0b101), Some(2));
+    points_to(&rt, &arbiter, 0);
+    is_line(&rt, arbiter.pick(0), None);
+    points_to(&rt, &arbiter, 0);
+    is_line(&rt, arbiter.pick(0b010), Some(1));
+    points_to(&rt, &arbiter, 2);
+    arbiter.move_past(2);
+    points_to(&rt, &arbiter, 0);
+    arbiter.move_past(0);
+    points_to(&rt, &arbiter, 1);
+}
+
+/// These input channels, each by port and channel, wait for one of the allowed channels of an output port.
+fn waiting_of(rt: &impl Abort, asks: &[(u8, u8, VcRequest)]) -> VcRequests {
+    let mut waiting = VcRequests::new();
+    for (port, vc, request) in asks {
+        assert!(rt; *port < 7 && *vc < 8);
+        waiting.set(*port, *vc, Some(*request));
+    }
+    waiting
+}
+
+/// A request for one of the allowed channels of the output port.
+fn asks(out: u8, allowed: u8) -> VcRequest {
+    VcRequest { out, allowed }
+}
+
+/// These channels of the output port are free, and no others.
+fn free_of(rt: &impl Abort, out: u8, channels: &[u8]) -> FreeChannels {
+    let mut free = [[false; 8]; 7];
+    assert!(rt; out < 7);
+    for channel in channels {
+        assert!(rt; *channel < 8);
+        free[usize::from(out)][usize::from(*channel)] = true;
+    }
+    free
+}
+
+/// Each of these input channels was granted this channel, or none.
+pub fn are_granted(rt: &impl Abort, grants: &VcGrants, granted: &[(u8, u8, Option<u8>)]) {
+    for (port, vc, channel) in granted {
+        assert!(rt; *port < 7 && *vc < 8);
+        assert_eq!(rt; grants.get(*port, *vc), *channel, "at {port} {vc}");
+    }
+}
+
+/// In one pass each of these input channels is granted this channel, or none.
+fn passes(
+    rt: &impl Abort,
+    alloc: &mut VcAlloc,
+    waiting: &VcRequests,
+    free: &FreeChannels,
+    granted: &[(u8, u8, Option<u8>)],
+) {
+    are_granted(rt, &alloc.grant(waiting, free), granted);
+}
+
+#[test]
+fn one_channel_goes_round(rt: HostRuntime) {
+    let mut alloc = VcAlloc::new(3, 2);
+    let request = asks(1, 1);
+    let asking = [(0, 0, request), (0, 1, request), (2, 0, request)];
+    let waiting = waiting_of(&rt, &asking);
+    let free = free_of(&rt, 1, &[0]);
+    let first = [(0, 0, Some(0)), (0, 1, None), (2, 0, None)];
+    passes(&rt, &mut alloc, &waiting, &free, &first);
+    passes(&rt, &mut alloc, &waiting, &free, &[(0, 1, Some(0))]);
+    passes(&rt, &mut alloc, &waiting, &free, &[(2, 0, Some(0))]);
+    passes(&rt, &mut alloc, &waiting, &free, &[(0, 0, Some(0))]);
+}
+
+#[test]
+fn a_granted_channel_gets_no_second(rt: HostRuntime) {
+    let mut alloc = VcAlloc::new(3, 2);
+    let waiting = waiting_of(&rt, &[(0, 0, asks(1, 3)), (2, 1, asks(1, 3))]);
+    let free = [[true; 8]; 7];
+    let granted = [(0, 0, Some(0)), (2, 1, Some(1))];
+    passes(&rt, &mut alloc, &waiting, &free, &granted);
+}
+
+/// Of those that wait, a fresh allocator finds these for the free channels of the output port, and no others.
+fn finds(rt: &impl Abort, waiting: &VcRequests, out: u8, channels: &[u8], found: &[(u8, u8)]) {
+    let mut alloc = VcAlloc::new(7, 8);
+    let grants = alloc.grant(waiting, &free_of(rt, out, channels));
+    has_channels(rt, grants.keys(), found);
+}
+
+/// The input channel waits for this; none where it waits for nothing.
+fn waits_for(rt: &impl Abort, waiting: &VcRequests, port: u8, vc: u8, request: Option<VcRequest>) {
+    assert!(rt; port < 7 && vc < 8);
+    assert_eq!(rt; waiting.get(port, vc), request);
+}
+
+/// An allocator finds a waiting channel at the port that it asks for, and there by the channels that it takes.
+#[test]
+fn requests_are_found_by_what_they_ask(rt: HostRuntime) {
+    let request = asks(2, 0b10);
+    let mut waiting = waiting_of(&rt, &[(1, 3, request), (0, 5, asks(2, 0b01))]);
+    waits_for(&rt, &waiting, 1, 3, Some(request));
+    finds(&rt, &waiting, 3, &[0, 1, 2, 3, 4, 5, 6, 7], &[]);
+    finds(&rt, &waiting, 2, &[1], &[(1, 3)]);
+    finds(&rt, &waiting, 2, &[0, 1], &[(0, 5), (1, 3)]);
+    waiting.set(1, 3, None);
+    finds(&rt, &waiting, 2, &[0, 1], &[(0, 5)]);
+    gives(&rt, &mut waiting.waiting(), Some((0, 5)));
+}

@@ -1,0 +1,198 @@
+//! The links of a mesh of three by two nodes, and what goes over one.
+
+ghost use Rattle.std.specs.Prelude.{◌<◌};
+
+use crate::cases::{mesh_of, single};
+use std::alloc::Global;
+use std::process::Abort;
+use worm_flit::{Flit, SmallSet};
+use worm_wires::{LinkState, Links, Wiring};
+
+/// The wiring of the mesh with these radices.
+fn wiring_of(rt: &impl Abort, radices: &[u8]) -> Wiring {
+    Wiring::new(mesh_of(rt, radices))
+}
+
+/// The node beyond a port, the port that is entered there, and the numbers of the links out of the port and into it.
+type Way = (u8, u8, u16, u16);
+
+/// The way on by the port; none where there is no neighbour.
+fn way_by(wiring: &Wiring, node: u8, port: u8) -> Option<Way> {
+    match wiring.links_at(node, port) {
+        Some(links) => Some((links.beyond, links.entered, links.out, links.into)),
+        None => None,
+    }
+}
+
+/// This is the way on by the port; none where there is no neighbour.
+fn leads(rt: &impl Abort, wiring: &Wiring, node: u8, port: u8, way: Option<Way>) {
+    assert_eq!(rt; way_by(wiring, node, port), way, "at {node} {port}");
+}
+
+#[test]
+fn links_are_numbered_by_node_and_port(rt: HostRuntime) {
+    let wiring = wiring_of(&rt, &[3, 2]);
+    assert_eq!(rt; (wiring.nodes(), wiring.terminal()), (6, 4));
+    // Out of nodes 0 to 5 go 2, 3, 2, 2, 3 and 2 links.
+    leads(&rt, &wiring, 4, 1, Some((5, 0, 10, 12)));
+    leads(&rt, &wiring, 2, 1, None);
+    leads(&rt, &wiring, 5, 6, None);
+    assert_eq!(rt; wiring.link_out(1, 3), Some(4));
+    assert_eq!(rt; wiring.link_into(1, 3), Some(9 + 2));
+}
+
+/// A link with this room, onto which flits of these words came, and credits of these channels.
+fn link_with(rt: &impl Abort, alloc: Global, room: u16, words: &[u32], credits: &[u8]) -> LinkState {
+    let mut link = LinkState::new(alloc, room).expect(rt, "memory");
+    for word in words {
+        assert!(rt; link.count() < usize::from(link.room()));
+        link.push(single(0, *word));
+    }
+    for vc in credits {
+        assert!(rt; link.credit_count() < usize::from(link.room()));
+        link.push_credit(*vc);
+    }
+    link
+}
+
+/// The link again, once it was taken apart into these flits and these credits.
+fn through_lists(rt: &impl Abort, link: LinkState, flits: &[Flit], credits: &[u8]) -> LinkState {
+    let room = link.room();
+    let (flits_on, credits_on) = link.into_lists();
+    assert_eq!(rt; flits_on.as_slice(), flits);
+    assert_eq!(rt; credits_on.as_slice(), credits);
+    LinkState::from_lists(flits_on, credits_on, room)
+}
+
+/// So many flits are on the link, and this one at this place.
+fn has_flit(rt: &impl Abort, link: &LinkState, count: usize, place: usize, flit: Flit) {
+    assert_eq!(rt; link.count(), count);
+    assert!(rt; place < link.count());
+    assert_eq!(rt; link.flit(place), flit);
+}
+
+/// The front credit is of this channel, and is dropped; none where there is no credit.
+fn gives_credit(rt: &impl Abort, link: &mut LinkState, vc: Option<u8>) {
+    assert_eq!(rt; link.front_credit(), vc);
+    link.pop_credit();
+}
+
+#[test]
+fn a_link_gives_its_lists(rt: HostRuntime) {
+    let mut link = link_with(&rt, rt.alloc(), 3, &[5, 6, 7], &[0, 2]);
+    link.pop();
+    has_flit(&rt, &link, 2, 1, single(0, 7));
+    let flits = [single(0, 6), single(0, 7)];
+    let mut link = through_lists(&rt, link, &flits, &[0, 2]);
+    assert_eq!(rt; link.front(), Some(single(0, 6)));
+    gives_credit(&rt, &mut link, Some(0));
+    gives_credit(&rt, &mut link, Some(2));
+    gives_credit(&rt, &mut link, None);
+}
+
+/// The first port of the set.
+fn first(mut ports: SmallSet) -> Option<u8> {
+    ports.pop_first()
+}
+
+/// The two links between two nodes: link 0 leads from port 1 of node 0 into port 0 of node 1, and link 1 back.
+struct Pair<R: Abort + AllocGlobal + Copy> {
+    rt: R,
+    links: Links,
+}
+
+impl<R: Abort + AllocGlobal + Copy> Drop for Pair<R> {
+    /// Written out, so that a test that ends calls it: a derived one stands in each test, part by part.
+    fn drop(self) {
+        let Pair { rt: _, links: _ } = self;
+    }
+}
+
+impl<R: Abort + AllocGlobal + Copy> Pair<R> {
+    /// Nothing on link 0, and flits of these words and credits of these channels on link 1; each has room for two.
+    fn new(rt: R, words: &[u32], credits: &[u8]) -> Pair<R> {
+        let alloc = rt.alloc();
+        let there = link_with(&rt, alloc, 2, &[], &[]);
+        let back = link_with(&rt, alloc, 2, words, credits);
+        let states = Vec::from_array(alloc, [there, back]).expect(&rt, "memory");
+        let mesh = mesh_of(&rt, &[2]);
+        assert!(rt; states.len() == usize::from(mesh.links()));
+        let links = Links::new(mesh, states);
+        Pair { rt, links }
+    }
+
+    /// Whether nothing comes in at the node.
+    fn brings_nothing(&self, node: u8, nothing: bool) {
+        assert_eq!(self.rt; self.links.brings_nothing(node), nothing, "at {node}");
+    }
+
+    /// The first port of the node at which a flit comes in; none where none does.
+    fn brings_flit(&self, node: u8, port: Option<u8>) {
+        assert_eq!(self.rt; first(self.links.flits_in(node)), port, "at {node}");
+    }
+
+    /// The first port of the node at which a credit comes back; none where none does.
+    fn brings_credit(&self, node: u8, port: Option<u8>) {
+        assert_eq!(self.rt; first(self.links.credits_in(node)), port, "at {node}");
+    }
+
+    /// These are the numbers of the links out of the port and into it.
+    fn are_numbered(&self, node: u8, port: u8, out: u16, into: u16) {
+        assert_eq!(self.rt; self.links.find_out(node, port), Some(out));
+        assert_eq!(self.rt; self.links.find_into(node, port), Some(into));
+    }
+
+    /// The flit goes onto the link out of the port.
+    fn send(&mut self, node: u8, port: u8, flit: Flit) {
+        assert!(self.rt; self.links.find_out(node, port).is_some());
+        let link = self.links.link(self.links.number_out(node, port));
+        assert!(self.rt; link.count() < usize::from(link.room()));
+        self.links.push(node, port, flit);
+    }
+
+    /// The front flit of the link into the port is dropped; the link has this number.
+    fn take(&mut self, node: u8, port: u8, number: u16) {
+        let found = self.links.find_into(node, port);
+        let found = found.expect(&self.rt, "a link into the port");
+        assert_eq!(self.rt; found, number);
+        self.links.pop(node, port, found);
+    }
+
+    /// There are so many links.
+    fn has_links(self, count: usize) {
+        let Pair { rt, links } = self;
+        assert_eq!(rt; links.into_states().len(), count);
+    }
+}
+
+#[test]
+fn what_is_sent_comes_in(rt: HostRuntime) {
+    let pair = Pair::new(rt, &[], &[]);
+    pair.brings_nothing(1, true);
+    pair.brings_flit(1, None);
+    pair.brings_credit(0, None);
+    pair.are_numbered(0, 1, 0, 1);
+    pair.has_links(2);
+}
+
+/// Link 1 leads from node 1 to node 0; its credits go back to node 1.
+#[test]
+fn a_link_with_a_flit_is_seen(rt: HostRuntime) {
+    let pair = Pair::new(rt, &[5], &[0]);
+    pair.brings_nothing(0, false);
+    pair.brings_flit(0, Some(1));
+    pair.brings_credit(0, None);
+    pair.brings_credit(1, Some(0));
+    pair.brings_flit(1, None);
+}
+
+#[test]
+fn what_goes_onto_a_link_comes_in_once(rt: HostRuntime) {
+    let mut pair = Pair::new(rt, &[], &[]);
+    pair.send(0, 1, single(0, 5));
+    pair.brings_flit(1, Some(0));
+    pair.brings_nothing(1, false);
+    pair.take(1, 0, 0);
+    pair.brings_flit(1, None);
+    pair.brings_nothing(1, true);
+}
