@@ -8,7 +8,7 @@ use crate::seen::Seen;
 use std::alloc::Global;
 use worm_core::{Act, Config, Entry, Net, NetFault, Script, ScriptFault};
 use worm_flit::{Lane, Packet};
-use worm_text::{Why, read_network, read_traffic};
+use worm_text::{TextFault, Why, read_network, read_traffic};
 
 /// Two nodes, one class with one channel.
 pub const TWO_NODES: &[u8] = b"wormnet 1\nradix 2\ndims 1\ndepth 2\nclass data\nend\n";
@@ -78,9 +78,9 @@ fn with_script(alloc: Global, text: &[u8], script: Script) -> Result<Case, Seen>
     }
 }
 
-/// The script of a text for the network of a configuration.
-fn traffic(alloc: Global, text: &[u8], config: &Config) -> Result<Script, Seen> {
-    match read_traffic(alloc, text, config) {
+/// The script that was read, or what was seen in its place.
+fn script_in(read: Result<Script, TextFault>) -> Result<Script, Seen> {
+    match read {
         Ok(script) => Ok(script),
         Err(fault) if fault.why == Why::NoMemory => Err(Seen::Refused),
         Err(_) => Err(Seen::Wrong),
@@ -90,7 +90,7 @@ fn traffic(alloc: Global, text: &[u8], config: &Config) -> Result<Script, Seen> 
 /// The script of two words for the second of two nodes.
 fn script_of_two(alloc: Global) -> Result<Script, Seen> {
     match read_network(TWO_NODES) {
-        Ok(config) => traffic(alloc, TWO_WORDS, &config),
+        Ok(config) => script_in(read_traffic(alloc, TWO_WORDS, &config)),
         Err(_) => Err(Seen::Wrong),
     }
 }
