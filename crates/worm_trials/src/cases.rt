@@ -1,6 +1,6 @@
 //! Worked cases: networks, and what is offered to them.
 
-ghost use Rattle.std.specs.Prelude.{◌≡◌, IfErr, IfOk, length};
+ghost use Rattle.std.specs.Prelude.{◌≡◌, ◌<◌, IfErr, IfOk, length};
 ghost use Rattle.worm_region.specs.NewNet.{IsConfig, IsFresh};
 ghost use Rattle.worm_region.specs.State.{texts_of};
 
@@ -8,7 +8,7 @@ use crate::seen::Seen;
 use std::alloc::Global;
 use worm_core::{Act, Config, Entry, Net, NetFault, Script, ScriptFault};
 use worm_flit::{Lane, Packet};
-use worm_text::{Why, read_network, read_traffic};
+use worm_text::{TextFault, Why, read_network, read_traffic};
 
 /// Two nodes, one class with one channel.
 pub const TWO_NODES: &[u8] = b"wormnet 1\nradix 2\ndims 1\ndepth 2\nclass data\nend\n";
@@ -28,10 +28,24 @@ pub fn lane(src: u8, dst: u8) -> Lane {
 }
 
 /// A network and its script, with nothing offered yet.
-#[derive(Drop)]
 pub struct Case {
     pub net: Net,
     pub script: Script,
+}
+
+impl Drop for Case {
+    /// Written out, so that a trial that ends calls it: a derived one stands in each trial, part by part.
+    fn drop(self) {
+        let Case { net: _, script: _ } = self;
+    }
+}
+
+impl Case {
+    /// The network and the script by themselves.
+    pub fn into_inner(self) -> (Net, Script) {
+        let Case { net, script } = self;
+        (net, script)
+    }
 }
 
 /// The network of a configuration. In range it is refused for want of memory alone.
@@ -56,19 +70,34 @@ pub fn network(alloc: Global, text: &[u8]) -> Result<Net, Seen> {
     }
 }
 
-/// Two nodes, and two words for the second.
-pub fn two_words(alloc: Global) -> Result<Case, Seen> {
-    let Ok(config) = read_network(TWO_NODES) else {
-        return Err(Seen::Wrong);
-    };
-    match read_traffic(alloc, TWO_WORDS, &config) {
-        Ok(script) => Ok(Case {
-            net: made(alloc, &config)?,
-            script,
-        }),
+/// The network of a text, with this script.
+fn with_script(alloc: Global, text: &[u8], script: Script) -> Result<Case, Seen> {
+    match network(alloc, text) {
+        Ok(net) => Ok(Case { net, script }),
+        Err(seen) => Err(seen),
+    }
+}
+
+/// The script that was read, or what was seen in its place.
+fn script_in(read: Result<Script, TextFault>) -> Result<Script, Seen> {
+    match read {
+        Ok(script) => Ok(script),
         Err(fault) if fault.why == Why::NoMemory => Err(Seen::Refused),
         Err(_) => Err(Seen::Wrong),
     }
+}
+
+/// The script of two words for the second of two nodes.
+fn script_of_two(alloc: Global) -> Result<Script, Seen> {
+    match read_network(TWO_NODES) {
+        Ok(config) => script_in(read_traffic(alloc, TWO_WORDS, &config)),
+        Err(_) => Err(Seen::Wrong),
+    }
+}
+
+/// Two nodes, and two words for the second.
+pub fn two_words(alloc: Global) -> Result<Case, Seen> {
+    with_script(alloc, TWO_NODES, script_of_two(alloc)?)
 }
 
 /// The words that node `src` of sixteen sends.
@@ -77,23 +106,38 @@ pub fn words_of(src: u8) -> [u32; 3] {
     [word, 100 + word, 200 + word]
 }
 
-/// Sixteen nodes, each with three words for the node opposite.
-pub fn opposite(alloc: Global) -> Result<Case, Seen> {
-    let net = network(alloc, SIXTEEN_NODES)?;
-    let mut script = Script::empty(alloc);
-    for src in 0u8..16 {
-        let Ok(packet) = Packet::new(lane(src, 15 - src), &words_of(src)) else {
-            return Err(Seen::Wrong);
-        };
-        let entry = Entry {
+/// In turn 0 the node is offered three words for the node opposite.
+fn offer_of(src: u8) -> Result<Entry, Seen>
+    requires { src < 16 }
+{
+    match Packet::new(lane(src, 15 - src), &words_of(src)) {
+        Ok(packet) => Ok(Entry {
             turn: 0,
             act: Act::Offer(packet),
-        };
-        match script.push(entry) {
-            Ok(()) => (),
-            Err(ScriptFault::NoMemory) => return Err(Seen::Refused),
-            Err(ScriptFault::TurnFalls) => return Err(Seen::Wrong),
-        }
+        }),
+        Err(_) => Err(Seen::Wrong),
     }
-    Ok(Case { net, script })
+}
+
+/// Adds the entry to the script.
+fn add(script: &mut Script, entry: Entry) -> Result<(), Seen> {
+    match script.push(entry) {
+        Ok(()) => Ok(()),
+        Err(ScriptFault::NoMemory) => Err(Seen::Refused),
+        Err(ScriptFault::TurnFalls) => Err(Seen::Wrong),
+    }
+}
+
+/// The script of sixteen nodes that are offered three words each.
+fn script_of_sixteen(alloc: Global) -> Result<Script, Seen> {
+    let mut script = Script::empty(alloc);
+    for src in 0u8..16 {
+        add(&mut script, offer_of(src)?)?;
+    }
+    Ok(script)
+}
+
+/// Sixteen nodes, each with three words for the node opposite.
+pub fn opposite(alloc: Global) -> Result<Case, Seen> {
+    with_script(alloc, SIXTEEN_NODES, script_of_sixteen(alloc)?)
 }

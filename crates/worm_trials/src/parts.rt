@@ -36,6 +36,16 @@ fn split_and_joined<R: Wait>(rt: &R, alloc: Global, net: Net, workers: usize) ->
     }
 }
 
+/// The case whose network was taken apart, split among so many workers and joined.
+fn through_parts<R: Wait>(rt: &R, alloc: Global, case: Case, workers: usize) -> (Case, Seen)
+    requires some { 1 ≤ workers }
+    requires few { workers ≤ 16 }
+{
+    let (net, script) = case.into_inner();
+    let (net, refused) = split_and_joined(rt, alloc, rebuilt(net), workers);
+    (Case { net, script }, Seen::of(refused))
+}
+
 /// The flits are those of the words that the node sent.
 fn are_from(flits: &[Flit], src: u8) -> bool {
     let sent = flits.iter().all(|flit| flit.lane.src == src);
@@ -56,26 +66,44 @@ fn have_arrived(net: &Net) -> bool {
     true
 }
 
-/// A network in full use is split among so many workers and joined: it has the same report, and goes on to deliver all.
-pub fn split_among<R: Wait>(rt: &R, alloc: Global, workers: usize) -> Result<Seen, Seen>
+/// The turns after the third deliver all.
+fn go_on(case: &mut Case) -> Seen {
+    let late = take_all(&mut case.net, 3, 21, &case.script);
+    late.only_if(have_arrived(&case.net))
+}
+
+/// Split among so many workers and joined, a network has the same report, and goes on to deliver all.
+fn judge<R: Wait>(rt: &R, alloc: Global, case: Case, workers: usize) -> Seen
     requires some { 1 ≤ workers }
     requires few { workers ≤ 16 }
 {
-    let Case { mut net, script } = opposite(alloc)?;
-    if take_all(&mut net, 0, 3, &script)? {
-        return Err(Seen::Refused);
-    }
     let said = summary(3, workers, 0);
-    let (before, unseen) = report(alloc, &net, &said)?;
-    let (mut net, refused) = split_and_joined(rt, alloc, rebuilt(net), workers);
-    let (after, blind) = report(alloc, &net, &said)?;
-    if before.as_bytes() != after.as_bytes() {
-        return Err(Seen::Wrong);
-    }
-    let late = take_all(&mut net, 3, 21, &script)?;
-    if have_arrived(&net) {
-        Ok(Seen::of(unseen || refused || blind || late))
+    let before = report(alloc, &case.net, &said);
+    let (mut case, split) = through_parts(rt, alloc, case, workers);
+    let after = report(alloc, &case.net, &said);
+    split.and(before.is_again(&after)).and(go_on(&mut case))
+}
+
+/// The same of a network in full use: after three turns, of which memory may stop one.
+fn judge_in_use<R: Wait>(rt: &R, alloc: Global, mut case: Case, workers: usize) -> Seen
+    requires some { 1 ≤ workers }
+    requires few { workers ≤ 16 }
+{
+    let early = take_all(&mut case.net, 0, 3, &case.script);
+    if early.is_whole() {
+        judge(rt, alloc, case, workers)
     } else {
-        Err(Seen::Wrong)
+        early
+    }
+}
+
+/// A network in full use is split among so many workers and joined.
+pub fn split_among<R: Wait>(rt: &R, alloc: Global, workers: usize) -> Seen
+    requires some { 1 ≤ workers }
+    requires few { workers ≤ 16 }
+{
+    match opposite(alloc) {
+        Ok(case) => judge_in_use(rt, alloc, case, workers),
+        Err(seen) => seen,
     }
 }

@@ -3,7 +3,7 @@
 ghost use Rattle.std.specs.Prelude.{◌≡◌, if◌then◌else◌};
 
 /// What a trial saw.
-#[derive(Clone, Copy, Debug, PartialEq, Eq)]
+#[derive(Clone, Copy)]
 pub enum Seen {
     /// Each call was done, and left what is worked out.
     Whole,
@@ -28,5 +28,27 @@ impl Seen {
         ensures { result ≡ (if refused then Seen.Refused else Seen.Whole) }
     {
         if refused { Seen::Refused } else { Seen::Whole }
+    }
+
+    /// What was seen where this holds, else `Wrong`.
+    pub fn only_if(self, holds: bool) -> Seen {
+        if holds { self } else { Seen::Wrong }
+    }
+
+    /// What was seen in both: `Wrong` in one is `Wrong`, and `Whole` in both is `Whole`.
+    pub fn and(self, other: Seen) -> Seen {
+        match (self, other) {
+            (Seen::Wrong, _) | (_, Seen::Wrong) => Seen::Wrong,
+            (Seen::Refused, _) | (_, Seen::Refused) => Seen::Refused,
+            (Seen::Whole, Seen::Whole) => Seen::Whole,
+        }
+    }
+
+    pub fn is_whole(self) -> bool {
+        matches!(self, Seen::Whole)
+    }
+
+    pub fn is_refused(self) -> bool {
+        matches!(self, Seen::Refused)
     }
 }

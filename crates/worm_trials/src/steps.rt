@@ -2,116 +2,187 @@
 
 use crate::cases::{NINE_NODES, TWO_NODES, lane, network};
 use crate::seen::Seen;
+use crate::turns::view;
 use std::alloc::Global;
-use worm_core::{Held, Moved, Net, NoMemory, OfferFault, Place, RunSoFar, Step, StepFault};
+use worm_core::{LaneView, Net, OfferFault, Place, RunSoFar, Step, StepFault};
 use worm_flit::{Lane, Packet};
 
-/// What a run of the steps says. It has no contract, so that what a run promises is not carried through each trial.
-fn tried(net: &mut Net, steps: &[Step]) -> RunSoFar {
-    net.run(steps)
+/// A network whose steps are tried, and what was seen of it.
+struct Ground {
+    alloc: Global,
+    net: Net,
+    seen: Seen,
 }
 
-/// Takes the steps, and what memory stopped once more. Whether memory stopped them.
-fn take(net: &mut Net, steps: &[Step]) -> Result<bool, Seen> {
-    let first = tried(net, steps);
-    match first.fault {
-        None if first.done == steps.len() => Ok(false),
-        Some(StepFault::NoMemory) if first.done < steps.len() => {
-            let rest = &steps[first.done..];
-            let second = tried(net, rest);
-            if second.fault.is_some() || second.done != rest.len() {
-                return Err(Seen::Wrong);
-            }
-            Ok(true)
+impl Drop for Ground {
+    /// Written out, so that a trial that ends calls it: a derived one stands in each trial, part by part.
+    fn drop(self) {
+        let Ground {
+            alloc: _,
+            net: _,
+            seen: _,
+        } = self;
+    }
+}
+
+impl Ground {
+    /// The network of a text, or what was seen in its place.
+    fn new(alloc: Global, text: &[u8]) -> Result<Ground, Seen> {
+        match network(alloc, text) {
+            Ok(net) => Ok(Ground {
+                alloc,
+                net,
+                seen: Seen::Whole,
+            }),
+            Err(seen) => Err(seen),
         }
-        _ => Err(Seen::Wrong),
+    }
+
+    /// This was seen, too.
+    fn note(&mut self, seen: Seen) {
+        self.seen = self.seen.and(seen);
+    }
+
+    /// How far a run of the steps came.
+    fn tried(&mut self, steps: &[Step]) -> RunSoFar {
+        self.net.run(steps)
+    }
+
+    /// All of the steps are taken, once there is memory again.
+    fn take_rest(&mut self, steps: &[Step]) -> Seen {
+        let so_far = self.tried(steps);
+        Seen::Refused.only_if(so_far.fault.is_none() && so_far.done == steps.len())
+    }
+
+    /// Takes the steps, and those that memory stopped once more.
+    fn take(&mut self, steps: &[Step]) {
+        let so_far = self.tried(steps);
+        let seen = match so_far.fault {
+            None => Seen::Whole.only_if(so_far.done == steps.len()),
+            Some(StepFault::NoMemory) if so_far.done < steps.len() => {
+                self.take_rest(&steps[so_far.done..])
+            }
+            Some(_) => Seen::Wrong,
+        };
+        self.note(seen);
+    }
+
+    /// The source takes a packet of this word on the lane, and feeds it.
+    fn send(&mut self, lane: Lane, word: u32) {
+        let node = lane.src;
+        match Packet::new(lane, &[word]) {
+            Ok(packet) => {
+                self.take(&[Step::Offer { node, packet }, Step::Feed { node, class: 0 }])
+            }
+            Err(_) => self.note(Seen::Wrong),
+        }
+    }
+
+    /// A flit at this port of the node is let out, on channel 0.
+    fn pass(&mut self, node: u8, port: u8) {
+        let (vc, out_vc) = (0, 0);
+        self.take(&[
+            Step::Route { node, port, vc },
+            Step::Grant {
+                node,
+                port,
+                vc,
+                out_vc,
+            },
+            Step::Send { node, port, vc },
+        ]);
+    }
+
+    /// The flit on the link into this port of the node is taken.
+    fn receive(&mut self, node: u8, port: u8) {
+        self.take(&[Step::Take { node, port }]);
+    }
+
+    /// The flit of word 7 from node 0 to node 8 stands there.
+    fn stands_at(&mut self, place: Place) {
+        let seen = match view(self.alloc, &self.net, lane(0, 8)) {
+            Ok((view, seen)) => seen.only_if(is_only_at(&view, place)),
+            Err(seen) => seen,
+        };
+        self.note(seen);
+    }
+
+    /// The lane's source is asked to close it.
+    fn close(&mut self, lane: Lane) {
+        let node = lane.src;
+        self.take(&[Step::Close { node, lane }]);
+    }
+
+    /// A packet on the lane is refused, since the lane was closed.
+    fn refuse(&mut self, lane: Lane) {
+        let Ok(packet) = Packet::new(lane, &[5]) else {
+            return self.note(Seen::Wrong);
+        };
+        let node = lane.src;
+        let late = self.tried(&[Step::Offer { node, packet }]);
+        let closed = Some(StepFault::Refused(OfferFault::LaneClosed));
+        self.note(Seen::Whole.only_if(late.done == 0 && late.fault == closed));
+    }
+
+    /// One flit was accepted.
+    fn has_one(&mut self) {
+        let one = self.net.totals().injected == 1;
+        self.note(Seen::Whole.only_if(one));
     }
 }
 
-/// The only flit under way on the lane, of which nothing was delivered.
-fn only_held(alloc: Global, net: &Net, lane: Lane) -> Result<Held, Seen> {
-    if !net.has_lane(lane) {
-        return Err(Seen::Wrong);
-    }
-    match net.lane_view(alloc, lane) {
-        Err(NoMemory) => Err(Seen::Refused),
-        Ok(view) => match view.underway.as_slice() {
-            [held] if view.delivered == 0 => Ok(*held),
-            _ => Err(Seen::Wrong),
-        },
+/// A flit of word 7, which stands there, is all that is under way, and nothing was delivered.
+fn is_only_at(view: &LaneView, place: Place) -> bool {
+    match view.underway.as_slice() {
+        [held] => view.delivered == 0 && held.place == place && held.flit.word == 7,
+        _ => false,
     }
 }
 
-/// The flit of word 7 from node 0 to node 8 stands there.
-fn stands_at(alloc: Global, net: &Net, place: Place) -> Result<(), Seen> {
-    let held = only_held(alloc, net, lane(0, 8))?;
-    if held.place == place && held.flit.word == 7 {
-        Ok(())
-    } else {
-        Err(Seen::Wrong)
+/// A place in an input buffer, on channel 0.
+fn buffer(node: u8, port: u8) -> Place {
+    Place::Buffer { node, port, vc: 0 }
+}
+
+/// A place on a link, on channel 0.
+fn link(node: u8, port: u8) -> Place {
+    Place::Link { node, port, vc: 0 }
+}
+
+/// From node 0 by nodes 1 and 2 to node 5.
+fn go_round(ground: &mut Ground) {
+    ground.send(lane(0, 8), 7);
+    ground.pass(0, 4);
+    ground.receive(1, 0);
+    ground.pass(1, 0);
+    ground.receive(2, 0);
+    ground.stands_at(buffer(2, 0));
+    ground.pass(2, 0);
+    ground.stands_at(link(2, 3));
+    ground.receive(5, 2);
+    ground.stands_at(buffer(5, 2));
+}
+
+/// A flit goes round the corner of three nodes by three.
+pub fn round_the_corner(alloc: Global) -> Seen {
+    match Ground::new(alloc, NINE_NODES) {
+        Ok(mut ground) => {
+            go_round(&mut ground);
+            ground.seen
+        }
+        Err(seen) => seen,
     }
-}
-
-/// The steps by which a flit at this port of the node is let out, on channel 0.
-fn pass(node: u8, port: u8) -> [Step; 3] {
-    let vc = 0;
-    [
-        Step::Route { node, port, vc },
-        Step::Grant {
-            node,
-            port,
-            vc,
-            out_vc: 0,
-        },
-        Step::Send { node, port, vc },
-    ]
-}
-
-/// A flit goes round the corner of three nodes by three: from node 0 by nodes 1 and 2 to node 5.
-pub fn round_the_corner(alloc: Global) -> Result<Seen, Seen> {
-    let mut net = network(alloc, NINE_NODES)?;
-    let Ok(packet) = Packet::new(lane(0, 8), &[7]) else {
-        return Err(Seen::Wrong);
-    };
-    let offer = [
-        Step::Offer { node: 0, packet },
-        Step::Feed { node: 0, class: 0 },
-    ];
-    let mut refused = take(&mut net, &offer)?;
-    refused |= take(&mut net, &pass(0, 4))?;
-    refused |= take(&mut net, &[Step::Take { node: 1, port: 0 }])?;
-    refused |= take(&mut net, &pass(1, 0))?;
-    refused |= take(&mut net, &[Step::Take { node: 2, port: 0 }])?;
-    let (node, port, vc) = (2, 0, 0);
-    stands_at(alloc, &net, Place::Buffer { node, port, vc })?;
-    refused |= take(&mut net, &pass(2, 0))?;
-    let port = 3;
-    stands_at(alloc, &net, Place::Link { node, port, vc })?;
-    refused |= take(&mut net, &[Step::Take { node: 5, port: 2 }])?;
-    let (node, port) = (5, 2);
-    stands_at(alloc, &net, Place::Buffer { node, port, vc })?;
-    Ok(Seen::of(refused))
 }
 
 /// A lane that was closed takes no packet.
-pub fn closed_lane(alloc: Global) -> Result<Seen, Seen> {
-    let mut net = network(alloc, TWO_NODES)?;
-    let over = lane(0, 1);
-    let refused = take(
-        &mut net,
-        &[Step::Close {
-            node: 0,
-            lane: over,
-        }],
-    )?;
-    let Ok(packet) = Packet::new(over, &[5]) else {
-        return Err(Seen::Wrong);
-    };
-    let late = tried(&mut net, &[Step::Offer { node: 0, packet }]);
-    let closed = Some(StepFault::Refused(OfferFault::LaneClosed));
-    if late.done == 0 && late.fault == closed && net.totals().injected == 1 {
-        Ok(Seen::of(refused))
-    } else {
-        Err(Seen::Wrong)
+pub fn closed_lane(alloc: Global) -> Seen {
+    match Ground::new(alloc, TWO_NODES) {
+        Ok(mut ground) => {
+            ground.close(lane(0, 1));
+            ground.refuse(lane(0, 1));
+            ground.has_one();
+            ground.seen
+        }
+        Err(seen) => seen,
     }
 }

@@ -10,9 +10,10 @@ use crate::workers::run_by_four;
 use std::alloc::Global;
 use std::sync::Wait;
 use std::thread::Threads;
+use worm_core::Net;
 
 /// What is tried.
-#[derive(Clone, Copy, Debug, PartialEq, Eq)]
+#[derive(Clone, Copy)]
 pub enum Trial {
     /// A network of sixteen nodes is made.
     Network,
@@ -53,21 +54,24 @@ impl Trial {
     }
 }
 
-/// A network that is made has nothing in it.
-fn empty_network(alloc: Global) -> Result<Seen, Seen> {
-    let net = network(alloc, SIXTEEN_NODES)?;
+/// The network of sixteen nodes has nothing in it.
+fn is_empty(net: &Net) -> bool {
     let totals = net.totals();
-    if net.nodes() == 16 && totals.injected == 0 && totals.accepted == 0 && net.is_drained() {
-        Ok(Seen::Whole)
-    } else {
-        Err(Seen::Wrong)
+    net.nodes() == 16 && totals.injected == 0 && totals.accepted == 0 && net.is_drained()
+}
+
+/// A network that is made has nothing in it.
+fn empty_network(alloc: Global) -> Seen {
+    match network(alloc, SIXTEEN_NODES) {
+        Ok(net) => Seen::Whole.only_if(is_empty(&net)),
+        Err(seen) => seen,
     }
 }
 
-/// Makes the trial. What ended it early is what was seen.
+/// Makes the trial.
 pub fn take<R: Threads + Wait + Sync + AllocGlobal>(rt: &R, trial: Trial) -> Seen {
     let alloc: Global = rt.alloc();
-    let seen = match trial {
+    match trial {
         Trial::Network => empty_network(alloc),
         Trial::Corner => round_the_corner(alloc),
         Trial::Close => closed_lane(alloc),
@@ -78,9 +82,5 @@ pub fn take<R: Threads + Wait + Sync + AllocGlobal>(rt: &R, trial: Trial) -> See
         Trial::SplitFour => split_among(rt, alloc, 4),
         Trial::SplitSixteen => split_among(rt, alloc, 16),
         Trial::RunFour => run_by_four(rt, alloc),
-    };
-    match seen {
-        Ok(seen) => seen,
-        Err(seen) => seen,
     }
 }

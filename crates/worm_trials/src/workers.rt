@@ -1,12 +1,14 @@
 //! A network run by four workers, where a request for memory may be refused before they start, or to any of them.
 
+ghost use Rattle.std.specs.Prelude.{◌<◌};
+
 use crate::cases::{Case, lane, opposite, words_of};
 use crate::seen::Seen;
 use crate::turns::{take, view, words_are};
 use std::alloc::Global;
 use std::sync::Wait;
 use std::thread::Threads;
-use worm_core::{Net, Script};
+use worm_core::{LaneView, Net, Script};
 use worm_run::{FreeGate, RunEnd, RunFault, RunPlan, Stop, StopWhy, run};
 
 const PLAN: RunPlan = RunPlan {
@@ -35,85 +37,115 @@ fn may_be_silent(stops: &[Stop], node: u8) -> bool {
     }
 }
 
-/// What each of sixteen nodes sent is on its way to the node opposite or there, in order: its three words, or nothing
-/// where it may be silent. Whether a view was refused.
-fn all_cut(alloc: Global, net: &Net, stops: &[Stop]) -> Result<bool, Seen> {
-    if net.nodes() != 16 {
-        return Err(Seen::Wrong);
+/// What one of sixteen nodes sent is on its way to the node opposite or there, in order: its three words, or nothing
+/// where it may be silent.
+fn is_cut(net: &Net, stops: &[Stop], src: u8, seen: &LaneView) -> bool
+    requires { src < 16 }
+{
+    let dst = 15 - src;
+    if u16::from(dst) >= net.nodes() {
+        return false;
     }
-    let mut refused = false;
-    for src in 0u8..16 {
-        let dst = 15 - src;
-        let (seen, unseen) = view(alloc, net, lane(src, dst))?;
-        refused |= unseen;
-        let arrived = net.delivered(dst);
-        let held = seen.underway.as_slice();
-        let silent = arrived.is_empty() && held.is_empty() && may_be_silent(stops, src);
-        let whole = seen.delivered == arrived.len() as u64;
-        if !silent && !(whole && words_are(arrived, held, &words_of(src))) {
-            return Err(Seen::Wrong);
-        }
-    }
-    Ok(refused)
+    let arrived = net.delivered(dst);
+    let held = seen.underway.as_slice();
+    let silent = arrived.is_empty() && held.is_empty() && may_be_silent(stops, src);
+    let whole = seen.delivered == arrived.len() as u64;
+    silent || whole && words_are(arrived, held, &words_of(src))
 }
 
-/// Turns without traffic on one thread, till nothing is under way. Whether memory stopped one of them.
-fn settle(alloc: Global, net: &mut Net) -> Result<bool, Seen> {
+/// The same, in a view that may be refused once.
+fn see_cut(alloc: Global, net: &Net, stops: &[Stop], src: u8) -> Seen
+    requires { src < 16 }
+{
+    match view(alloc, net, lane(src, 15 - src)) {
+        Ok((view, seen)) => seen.only_if(is_cut(net, stops, src, &view)),
+        Err(seen) => seen,
+    }
+}
+
+/// The same of each of sixteen nodes.
+fn all_cut(alloc: Global, net: &Net, stops: &[Stop]) -> Seen {
+    let mut seen = Seen::Whole.only_if(net.nodes() == 16);
+    for src in 0u8..16 {
+        seen = seen.and(see_cut(alloc, net, stops, src));
+    }
+    seen
+}
+
+/// Turns without traffic on one thread, till nothing is under way. Memory may stop one of them.
+fn settle(alloc: Global, net: &mut Net) -> Seen {
     let none = Script::empty(alloc);
-    let mut refused = false;
+    let mut seen = Seen::Whole;
     for turn in 0u64..10_000 {
         if net.is_drained() {
-            return Ok(refused);
+            break;
         }
-        refused |= take(net, turn, &none)?;
+        seen = seen.and(take(net, turn, &none));
     }
-    Err(Seen::Wrong)
+    seen.only_if(net.is_drained())
 }
 
-/// What came back of a run: each lane is cut, and all that was sent arrives.
-fn judge(alloc: Global, end: RunEnd) -> Result<Seen, Seen> {
+/// Each lane is cut, and all that was sent arrives.
+fn arrive(alloc: Global, net: &mut Net, stops: &[Stop]) -> Seen {
+    let first = all_cut(alloc, net, stops);
+    let turns = settle(alloc, net);
+    let last = all_cut(alloc, net, stops);
+    first.and(turns).and(last)
+}
+
+/// What came back of a run: each worker ended as it may, each lane is cut, and all that was sent arrives.
+fn judge(alloc: Global, end: RunEnd) -> Seen {
     let RunEnd {
         mut net,
         stops,
         ended,
     } = end;
-    let stops = stops.as_slice();
-    if !ended_well(stops, ended.as_slice()) {
-        return Err(Seen::Wrong);
-    }
-    let unseen = all_cut(alloc, &net, stops)?;
-    let late = settle(alloc, &mut net)?;
-    let blind = all_cut(alloc, &net, stops)?;
-    Ok(Seen::of(!stops.is_empty() || unseen || late || blind))
+    let run = Seen::of(!stops.is_empty());
+    let well = ended_well(stops.as_slice(), ended.as_slice());
+    let arrived = arrive(alloc, &mut net, stops.as_slice());
+    run.and(arrived).only_if(well)
 }
 
-/// A network that came back as it was handed in, with nothing offered, is run once more.
-fn run_again<R: Threads + Wait + Sync>(
+/// What a run answers. It has no contract, so that what a run promises is not carried through each trial.
+fn tried<R: Threads + Wait + Sync>(
     rt: &R,
     alloc: Global,
     net: Net,
     script: &Script,
-) -> Result<Seen, Seen> {
-    if net.totals().accepted != 0 {
-        return Err(Seen::Wrong);
-    }
-    match run(rt, alloc, net, script, PLAN, &FreeGate) {
-        Ok(end) => match judge(alloc, end)? {
-            Seen::Whole => Ok(Seen::Refused),
-            _ => Err(Seen::Wrong),
-        },
-        Err(_) => Err(Seen::Wrong),
+) -> Result<RunEnd, RunFault> {
+    run(rt, alloc, net, script, PLAN, &FreeGate)
+}
+
+/// A second run takes all its turns, once there is memory again.
+fn run_again<R: Threads + Wait + Sync>(rt: &R, alloc: Global, net: Net, script: &Script) -> Seen {
+    match tried(rt, alloc, net, script) {
+        Ok(end) => Seen::Refused.only_if(judge(alloc, end).is_whole()),
+        Err(_) => Seen::Wrong,
     }
 }
 
-/// Sixteen nodes, each with three words for the node opposite, are run by four workers. Where the parts found no memory
-/// they are run once more; where a thread could not be started no network comes back.
-pub fn run_by_four<R: Threads + Wait + Sync>(rt: &R, alloc: Global) -> Result<Seen, Seen> {
-    let Case { net, script } = opposite(alloc)?;
-    match run(rt, alloc, net, &script, PLAN, &FreeGate) {
+/// A network that came back as it was handed in has nothing offered, and is run once more.
+fn run_back<R: Threads + Wait + Sync>(rt: &R, alloc: Global, net: Net, script: &Script) -> Seen {
+    let untouched = net.totals().accepted == 0;
+    run_again(rt, alloc, net, script).only_if(untouched)
+}
+
+/// What a run of the case shows. Where the parts found no memory they are run once more; where a thread could not be
+/// started no network comes back.
+fn judge_run<R: Threads + Wait + Sync>(rt: &R, alloc: Global, case: Case) -> Seen {
+    let (net, script) = case.into_inner();
+    match tried(rt, alloc, net, &script) {
         Ok(end) => judge(alloc, end),
-        Err(RunFault::NoMemory(net)) => run_again(rt, alloc, net, &script),
-        Err(RunFault::NotStarted { worker }) if worker < PLAN.workers => Ok(Seen::Refused),
-        Err(_) => Err(Seen::Wrong),
+        Err(RunFault::NoMemory(net)) => run_back(rt, alloc, net, &script),
+        Err(RunFault::NotStarted { worker }) => Seen::Refused.only_if(worker < PLAN.workers),
+        Err(_) => Seen::Wrong,
+    }
+}
+
+/// Sixteen nodes, each with three words for the node opposite, are run by four workers.
+pub fn run_by_four<R: Threads + Wait + Sync>(rt: &R, alloc: Global) -> Seen {
+    match opposite(alloc) {
+        Ok(case) => judge_run(rt, alloc, case),
+        Err(seen) => seen,
     }
 }
