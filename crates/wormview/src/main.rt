@@ -1,99 +1,11 @@
 //! The program `wormview`: a report of `wormrun` on the standard input and the file of its network in, a picture out.
 //!
-//! The picture is SVG; with `--text` it is a map for a terminal. A fault is one line on the standard error and a
-//! status.
-//!
-//! That the report is read as what it says is proved (`worm_rows`), what the picture shows (`worm_picture`), and what
-//! each fault tells (`program`).
+//! What it does is a library, `worm_view`: a program's check loads the code of all libraries that it stands on, and
+//! would do so for each edit that must fail.
 #![tactic(auto)]
 
-ghost use Rattle.std.specs.Prelude.{◌≡◌};
-ghost use Rattle.std.specs.Process.{exit_status};
-ghost use Rattle.wormview.specs.Faults.{ended_status, words_status};
-
-mod fault;
-mod program;
-mod words;
-
-use fault::ViewFault;
-use program::run_view;
-use std::alloc::Global;
 use std::process::ExitCode;
-use std::rt::{Env, Files};
-use std::{fs, io};
-use words::{Words, WordsFault, all_words, read_words};
-
-/// Opens the file of the network, and draws the report on the standard input.
-fn run_file<R: Files + Input + Print + AllocGlobal>(
-    rt: &R,
-    words: &Words<'_>,
-) -> Result<(), ViewFault> {
-    let Ok(mut network) = fs::open(rt, words.network) else {
-        return Err(ViewFault::ReadNetwork);
-    };
-    let mut report = rt.reader();
-    let mut out = io::writer(rt);
-    run_view(rt.alloc(), &mut network, &mut report, words.text, &mut out)
-}
-
-/// Says the fault on the standard error, and gives its status.
-fn end<R: Eprint>(rt: &R, ended: Result<(), ViewFault>) -> ExitCode
-    ensures { exit_status result ≡ ended_status ended }
-{
-    match ended {
-        Ok(()) => ExitCode::SUCCESS,
-        Err(fault) => {
-            let _ = rt.eprintln(fault);
-            ExitCode::from(fault.status())
-        }
-    }
-}
-
-/// Says what is wrong with the words on the standard error, or on the standard output what they ask for, and gives the
-/// status.
-fn refuse<R: Print + Eprint>(rt: &R, fault: WordsFault) -> ExitCode
-    ensures { exit_status result ≡ words_status fault }
-{
-    match fault {
-        WordsFault::NoMemory => end(rt, Err(ViewFault::NoMemory)),
-        WordsFault::NotText => {
-            let _ = rt.eprintln("wormview: a word is not UTF-8");
-            ExitCode::from(2)
-        }
-        WordsFault::Asked(answer) => {
-            let _ = answer.print(rt);
-            ExitCode::SUCCESS
-        }
-        WordsFault::Words(error) => {
-            let _ = error.print(rt);
-            ExitCode::from(2)
-        }
-    }
-}
-
-/// Runs the program on the words of the command line.
-fn run<R: Env + Files + Input + Print + Eprint + AllocGlobal>(rt: &R) -> ExitCode {
-    let all = match all_words(rt) {
-        Ok(all) => all,
-        Err(fault) => return refuse(rt, fault),
-    };
-    let alloc: Global = rt.alloc();
-    let Ok(words) = all
-        .iter()
-        .map(|word| word.as_str())
-        .collect::<Vec<&str>>(alloc)
-    else {
-        return refuse(rt, WordsFault::NoMemory);
-    };
-    match read_words(alloc, words.as_slice()) {
-        Ok(words) => end(rt, run_file(rt, &words)),
-        Err(fault) => refuse(rt, fault),
-    }
-}
 
 fn main(rt: HostRuntime) -> ExitCode {
-    run(&rt)
+    worm_view::run(&rt)
 }
-
-#[cfg(test)]
-mod tests;

@@ -1,7 +1,7 @@
 use Rattle.std.proofs.Common.{◌≡◌, true, false, sym, ◌∙◌, inl, inr}
 use Rattle.std.proofs.lemmas.List.{length-map}
 use Rattle.worm_text.specs.Network.{view}
-use Rattle.wormview.proofs.program.accept.Goals as goal
+use Rattle.worm_view.proofs.program.accept.Goals as goal
 
 pub returns-in-Err-2-clause-err : goal.returns-in-Err-2-clause-err
 returns-in-Err-2-clause-err c =

@@ -1,7 +1,7 @@
 //! How the program can fail.
 
 ghost use Rattle.std.specs.Prelude.{◌≡◌, Some};
-ghost use Rattle.wormview.specs.Faults.{line_of, status_of};
+ghost use Rattle.worm_view.specs.Faults.{line_of, status_of};
 
 use std::alloc::AllocError;
 use std::fmt;
@@ -25,7 +25,7 @@ pub enum ViewFault {
 }
 
 impl From<AllocError> for ViewFault {
-    ghost use Rattle.wormview.specs.declared.fault.ViewFault.TheVariants.{NoMemory};
+    ghost use Rattle.worm_view.specs.declared.fault.ViewFault.TheVariants.{NoMemory};
 
     ghost from_gives = { λ _ fault. fault ≡ NoMemory };
 

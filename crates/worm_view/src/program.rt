@@ -3,9 +3,9 @@
 ghost use Rattle.std.specs.Prelude.{◌≡◌, IfOk, IfErr, OnOk};
 ghost use Rattle.std.specs.Io.KnownBytes.{Appends};
 ghost use Rattle.worm_text.specs.Network.{view};
-ghost use Rattle.wormview.specs.Views.{IsAccepted, IsRefused};
-ghost use Rattle.wormview.specs.Programs.{Draws, DrawsTexts, FailsTexts, FailsToDraw, GaveBoth, ReadsNot, stream};
-ghost use Rattle.wormview.specs.declared.fault.ViewFault.TheVariants.{Write};
+ghost use Rattle.worm_view.specs.Views.{IsAccepted, IsRefused};
+ghost use Rattle.worm_view.specs.Programs.{Draws, DrawsTexts, FailsTexts, FailsToDraw, GaveBoth, ReadsNot, stream};
+ghost use Rattle.worm_view.specs.declared.fault.ViewFault.TheVariants.{Write};
 
 use crate::fault::ViewFault;
 use std::alloc::Global;

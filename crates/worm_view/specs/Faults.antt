@@ -7,10 +7,10 @@ use Rattle.clap.specs.declared.error.kind.ErrorKind.TheVariants as clap
 use Rattle.std.specs.declared.io.ErrorKind.{ErrorKind as IoErrorKind}
 use Rattle.std.specs.declared.io.ErrorKind.TheVariants as io
 use Rattle.worm_text.specs.Faults.{words_of}
-use Rattle.wormview.specs.declared.fault.ViewFault.{ViewFault}
-use Rattle.wormview.specs.declared.fault.ViewFault.TheVariants as f
-use Rattle.wormview.specs.declared.words.WordsFault.{WordsFault}
-use Rattle.wormview.specs.declared.words.WordsFault.TheVariants as w
+use Rattle.worm_view.specs.declared.fault.ViewFault.{ViewFault}
+use Rattle.worm_view.specs.declared.fault.ViewFault.TheVariants as f
+use Rattle.worm_view.specs.declared.words.WordsFault.{WordsFault}
+use Rattle.worm_view.specs.declared.words.WordsFault.TheVariants as w
 
 abbrev pub line_of : ViewFault → List ℕ
 line_of (f.Network t) = codes "wormview: network line " ++ (decimal t.line ++ (codes ": " ++ words_of t.why))

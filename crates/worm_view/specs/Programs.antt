@@ -4,11 +4,11 @@ use Rattle.std.specs.Io.KnownBytes.{Keeps, Appends}
 use Rattle.worm_text.specs.Network.{Network}
 use Rattle.worm_rows.specs.declared.shape.Shape.{Shape}
 use Rattle.worm_rows.specs.declared.rows.Row.{Row}
-use Rattle.wormview.specs.declared.fault.ViewFault.{ViewFault}
-use Rattle.wormview.specs.declared.fault.ViewFault.TheVariants as f
+use Rattle.worm_view.specs.declared.fault.ViewFault.{ViewFault}
+use Rattle.worm_view.specs.declared.fault.ViewFault.TheVariants as f
 use Rattle.worm_picture.specs.Picture.{PicturesRows}
 use Rattle.worm_text.specs.Whole.{IsWhole}
-use Rattle.wormview.specs.Views.{IsAccepted, IsRefused}
+use Rattle.worm_view.specs.Views.{IsAccepted, IsRefused}
 
 -- what a reader had left and has left, or what a writer held and holds
 pub record Stream : Type 0 where

@@ -8,8 +8,8 @@ use Rattle.worm_rows.specs.declared.rows.Row.{Row}
 use Rattle.worm_rows.specs.Rows.{rows_text}
 use Rattle.worm_rows.specs.Rules.{IsReport}
 use Rattle.worm_rows.specs.Report.{report_of}
-use Rattle.wormview.specs.declared.fault.ViewFault.{ViewFault}
-use Rattle.wormview.specs.declared.fault.ViewFault.TheVariants as f
+use Rattle.worm_view.specs.declared.fault.ViewFault.{ViewFault}
+use Rattle.worm_view.specs.declared.fault.ViewFault.TheVariants as f
 
 -- the shape of a network
 pub record IsShapeOf (n : Network) (s : Shape) : Type 0 where

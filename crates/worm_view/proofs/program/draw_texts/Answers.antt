@@ -2,9 +2,9 @@ use Rattle.std.proofs.Common.{◌≡◌, ℕ, List, false, sym, subst, string_by
 use Rattle.worm_picture.specs.Picture.{PicturesRows}
 use Rattle.worm_text.specs.Network.{view}
 use Rattle.worm_rows.specs.declared.rows.Row.{Row}
-use Rattle.wormview.specs.Programs.{Accepts, stream}
-use Rattle.wormview.proofs.Drawing.{drew, failed}
-use Rattle.wormview.proofs.program.draw_texts.Goals as goal
+use Rattle.worm_view.specs.Programs.{Accepts, stream}
+use Rattle.worm_view.proofs.Drawing.{drew, failed}
+use Rattle.worm_view.proofs.program.draw_texts.Goals as goal
 
 pub returns-clause-ok : goal.returns-clause-ok
 returns-clause-ok g c =

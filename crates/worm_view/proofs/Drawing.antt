@@ -1,11 +1,11 @@
 -- What a call that writes tells, where both texts are accepted.
 use Rattle.std.proofs.Common.{◌≡◌, ℕ, Bool, false, List, Result, Ok, Err, OnOk, IfErr, sym, subst}
 use Rattle.std.specs.Io.KnownBytes.{Appends}
-use Rattle.wormview.specs.declared.fault.ViewFault.{ViewFault}
-use Rattle.wormview.specs.declared.fault.ViewFault.TheVariants.{Network, Report, ReadNetwork, ReadReport, NoMemory}
-use Rattle.wormview.specs.declared.fault.ViewFault.TheVariants.{Write}
+use Rattle.worm_view.specs.declared.fault.ViewFault.{ViewFault}
+use Rattle.worm_view.specs.declared.fault.ViewFault.TheVariants.{Network, Report, ReadNetwork, ReadReport, NoMemory}
+use Rattle.worm_view.specs.declared.fault.ViewFault.TheVariants.{Write}
 use Rattle.worm_picture.specs.Picture.{PicturesRows}
-use Rattle.wormview.specs.Programs.{Stream, Accepts, DrawsTexts, FailsTexts, FailsToDraw, GaveBoth}
+use Rattle.worm_view.specs.Programs.{Stream, Accepts, DrawsTexts, FailsTexts, FailsToDraw, GaveBoth}
 
 pub drew : (as_map : Bool) (network report drawing : List ℕ) (out : Stream) (result : Result (Unit {0}) ViewFault)
     (accepts : Accepts network report)

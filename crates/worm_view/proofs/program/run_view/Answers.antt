@@ -1,6 +1,6 @@
-use Rattle.wormview.specs.Programs.{stream}
-use Rattle.wormview.proofs.Drawing.{failed_reading}
-use Rattle.wormview.proofs.program.run_view.Goals as goal
+use Rattle.worm_view.specs.Programs.{stream}
+use Rattle.worm_view.proofs.Drawing.{failed_reading}
+use Rattle.worm_view.proofs.program.run_view.Goals as goal
 
 pub returns-clause-err : goal.returns-clause-err
 returns-clause-err g c =

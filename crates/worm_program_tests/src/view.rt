@@ -1,0 +1,143 @@
+//! Reports that are drawn and texts that are refused, with readers and a writer that fail.
+//!
+//! Each call of what is tested stands in a function of its own that promises nothing, and ends the test where it finds
+//! something else than what is expected: a test that knew all that is promised would take a minute to prove.
+
+use std::alloc::Global;
+use std::io;
+use std::io::{ErrorKind, Read, Write};
+use std::process::Abort;
+use worm_picture::draw;
+use worm_text::{TextFault, Why};
+use worm_view::{Accepted, ViewFault, accept, run_view};
+
+const NETWORK: &[u8] = b"wormnet 1\nradix 2\ndims 1\ndepth 2\nclass data\nend\n";
+
+const REPORT: &[u8] = b"wormreport 1\n\
+      turns 1 workers 1 drain 0\n\
+      underway 1 0 class 0 packet 0 flit 0 link 1 0 0\n\
+      underway 1 0 class 0 packet 0 flit 1 buffer 1 2 0\n\
+      underway 1 0 class 0 packet 1 flit 0 source\n\
+      not offered 0\n\
+      total injected 3 delivered 0 underway 3\n";
+
+/// The fault of a text in which nothing is said.
+const EMPTY: TextFault = TextFault {
+    line: 1,
+    why: Why::NoEnd,
+};
+
+/// A reader that fails behind so many bytes.
+#[derive(Drop)]
+struct Failing {
+    left: usize,
+}
+
+impl Read for Failing {
+    fn read(&mut self, buf: &mut [u8]) -> io::Result<usize> {
+        if self.left == 0 {
+            return Err(io::Error::from(ErrorKind::UnexpectedEof));
+        }
+        let count = self.left.min(buf.len());
+        self.left -= count;
+        Ok(count)
+    }
+}
+
+/// What the network and the report say.
+fn accepted(rt: &impl Abort, alloc: Global) -> Accepted {
+    accept(alloc, NETWORK, REPORT).expect(rt, "accepted texts")
+}
+
+/// The picture of the report, or its map.
+fn drawing(rt: &impl Abort, alloc: Global, text: bool) -> String {
+    let accepted = accepted(rt, alloc);
+    let rows = accepted.rows.as_slice();
+    let drawn = draw(alloc, &accepted.shape, accepted.config.depth, rows, text);
+    drawn.expect(rt, "a drawing")
+}
+
+/// The drawing has this part.
+fn has(rt: &impl Abort, drawing: &str, part: &str) {
+    assert!(rt; drawing.contains(part), "{part}");
+}
+
+/// The readers' texts are not drawn, for this fault, and nothing is written.
+fn is_not_drawn<N: Read, R: Read>(
+    rt: &impl Abort,
+    alloc: Global,
+    mut network: N,
+    mut report: R,
+    text: bool,
+    fault: ViewFault,
+) {
+    let mut out = Vec::new(alloc);
+    let ended = run_view(alloc, &mut network, &mut report, text, &mut out);
+    assert_eq!(rt; ended, Err(fault));
+    assert!(rt; out.is_empty());
+}
+
+/// Gives the writer the map of the report.
+fn write_map<W: Write>(alloc: Global, out: &mut W) -> Result<(), ViewFault> {
+    let mut network = NETWORK;
+    let mut report = REPORT;
+    run_view(alloc, &mut network, &mut report, true, out)
+}
+
+#[test]
+fn a_map(rt: HostRuntime) {
+    let wanted = "   .      1<  \n\nThe fullest buffers:\n\
+         node 1 port 2 channel 0: 1 flits, at the front 1 to 0 class 0 packet 0 flit 1, which leaves by port 0 <\n";
+    assert_eq!(rt; drawing(&rt, rt.alloc(), true).as_str(), wanted);
+}
+
+/// The flit on the link is a head and that in the buffer its tail; the third waits in the source.
+#[test]
+fn a_picture(rt: HostRuntime) {
+    let picture = drawing(&rt, rt.alloc(), false);
+    let head =
+        "<g><title>from 1 to 0 class 0 packet 0 flit 0, of 0 to 1</title><use href=\"#opening\"";
+    let tail =
+        "<g><title>from 1 to 0 class 0 packet 0 flit 1, of 0 to 1</title><use href=\"#tail\"";
+    let waits = ">+1<title>1 flits wait in the source of node 1</title>";
+    has(&rt, picture.as_str(), head);
+    has(&rt, picture.as_str(), tail);
+    has(&rt, picture.as_str(), waits);
+}
+
+#[test]
+fn faults(rt: HostRuntime) {
+    let alloc = rt.alloc();
+    let nothing: &[u8] = &[];
+    is_not_drawn(
+        &rt,
+        alloc,
+        nothing,
+        REPORT,
+        false,
+        ViewFault::Network(EMPTY),
+    );
+    is_not_drawn(
+        &rt,
+        alloc,
+        NETWORK,
+        nothing,
+        false,
+        ViewFault::Report(EMPTY),
+    );
+}
+
+#[test]
+fn readers_that_fail(rt: HostRuntime) {
+    let alloc = rt.alloc();
+    let (network, report) = (Failing { left: 10 }, Failing { left: 10 });
+    is_not_drawn(&rt, alloc, network, REPORT, false, ViewFault::ReadNetwork);
+    is_not_drawn(&rt, alloc, NETWORK, report, true, ViewFault::ReadReport);
+}
+
+#[test]
+fn a_writer_that_is_full(rt: HostRuntime) {
+    let mut room = [0u8; 20];
+    let ended = write_map(rt.alloc(), &mut room.as_mut_slice());
+    assert_eq!(rt; ended, Err(ViewFault::Write));
+}

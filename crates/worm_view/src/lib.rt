@@ -1,0 +1,96 @@
+//! What the program `wormview` does: it reads the words of the command line, a network text from the file that they
+//! name and a report of `wormrun` from the standard input, and gives the standard output a picture of the report.
+//!
+//! The picture is SVG; with `--text` it is a map for a terminal. A fault is one line on the standard error and a
+//! status. Everything goes through readers, a writer and a runtime that the caller brings, so a contract can name the
+//! bytes that they give and take: what each fault tells is proved (`program`), and the line and the status it ends in
+//! (`fault`). That the report is read as what it says is proved in `worm_rows`, what the picture shows in
+//! `worm_picture`.
+//!
+//! The program is a crate of its own, and no more than its `main`: its check loads the code of all that it stands on,
+//! where this one reads only what the libraries below say of themselves.
+#![tactic(auto)]
+
+ghost use Rattle.std.specs.Prelude.{◌≡◌};
+ghost use Rattle.std.specs.Process.{exit_status};
+ghost use Rattle.worm_view.specs.Faults.{ended_status, words_status};
+
+mod fault;
+mod program;
+mod words;
+
+pub use fault::ViewFault;
+pub use program::{Accepted, accept, run_view};
+use std::alloc::Global;
+use std::process::ExitCode;
+use std::rt::{Env, Files};
+use std::{fs, io};
+use words::{Words, WordsFault, all_words, read_words};
+
+/// Opens the file of the network, and draws the report on the standard input.
+fn run_file<R: Files + Input + Print + AllocGlobal>(
+    rt: &R,
+    words: &Words<'_>,
+) -> Result<(), ViewFault> {
+    let Ok(mut network) = fs::open(rt, words.network) else {
+        return Err(ViewFault::ReadNetwork);
+    };
+    let mut report = rt.reader();
+    let mut out = io::writer(rt);
+    run_view(rt.alloc(), &mut network, &mut report, words.text, &mut out)
+}
+
+/// Says the fault on the standard error, and gives its status.
+fn end<R: Eprint>(rt: &R, ended: Result<(), ViewFault>) -> ExitCode
+    ensures { exit_status result ≡ ended_status ended }
+{
+    match ended {
+        Ok(()) => ExitCode::SUCCESS,
+        Err(fault) => {
+            let _ = rt.eprintln(fault);
+            ExitCode::from(fault.status())
+        }
+    }
+}
+
+/// Says what is wrong with the words on the standard error, or on the standard output what they ask for, and gives the
+/// status.
+fn refuse<R: Print + Eprint>(rt: &R, fault: WordsFault) -> ExitCode
+    ensures { exit_status result ≡ words_status fault }
+{
+    match fault {
+        WordsFault::NoMemory => end(rt, Err(ViewFault::NoMemory)),
+        WordsFault::NotText => {
+            let _ = rt.eprintln("wormview: a word is not UTF-8");
+            ExitCode::from(2)
+        }
+        WordsFault::Asked(answer) => {
+            let _ = answer.print(rt);
+            ExitCode::SUCCESS
+        }
+        WordsFault::Words(error) => {
+            let _ = error.print(rt);
+            ExitCode::from(2)
+        }
+    }
+}
+
+/// Runs the program on the words of the command line, and gives the status that it ends with.
+pub fn run<R: Env + Files + Input + Print + Eprint + AllocGlobal>(rt: &R) -> ExitCode {
+    let all = match all_words(rt) {
+        Ok(all) => all,
+        Err(fault) => return refuse(rt, fault),
+    };
+    let alloc: Global = rt.alloc();
+    let Ok(words) = all
+        .iter()
+        .map(|word| word.as_str())
+        .collect::<Vec<&str>>(alloc)
+    else {
+        return refuse(rt, WordsFault::NoMemory);
+    };
+    match read_words(alloc, words.as_slice()) {
+        Ok(words) => end(rt, run_file(rt, &words)),
+        Err(fault) => refuse(rt, fault),
+    }
+}
