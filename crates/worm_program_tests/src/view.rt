@@ -63,7 +63,7 @@ fn has(rt: &impl Abort, drawing: &str, part: &str) {
 }
 
 /// The readers' texts are not drawn, for this fault, and nothing is written.
-fn is_not_drawn<N: Read, R: Read>(
+fn is_not_drawn<N: Read + Drop, R: Read + Drop>(
     rt: &impl Abort,
     alloc: Global,
     mut network: N,
