@@ -1,15 +1,15 @@
 //! Networks that are reported, and what is said of their runs.
 //!
-//! Each call of what is tested stands in a function of its own that promises nothing. What such a call promises is
-//! long, and a test that knew it of each call that it makes would take a minute to prove.
+//! Each call of what is tested stands in a method that promises nothing, and a method ends the test where it fails.
+//! What such a call promises is long, and a test that knew it of each call that it makes, with a way out of each, would
+//! take a minute to prove.
 
 use arrayvec::ArrayVec;
-use std::alloc::Global;
+use std::io::Write;
 use std::process::Abort;
-use std::test::Fail;
-use worm_core::{Act, Config, Entry, Moved, Name, Net, Script, Step, StepFault};
+use worm_core::{Act, Config, Entry, Moved, Name, Net, Script, Step};
 use worm_flit::{Lane, Packet};
-use worm_report::Summary;
+use worm_report::{ReportFault, Summary, write_report};
 
 /// What the source of a lane is asked: to take a packet of these words, or to close the lane.
 #[derive(Clone, Copy)]
@@ -60,88 +60,128 @@ fn config(given: &Given) -> Config {
     config
 }
 
-/// The network, whose sources were asked nothing yet.
-fn network(alloc: Global, given: &Given) -> Result<Net, Fail> {
-    Ok(Net::new(alloc, &config(given))?)
+/// A packet of these words on the lane.
+fn packet(rt: &impl Abort, lane: Lane, words: &[u32]) -> Packet {
+    Packet::new(lane, words).expect(rt, "words of a packet")
 }
 
-/// The entry that asks for this in turn 0.
-fn entry(asked: &Asked) -> Result<Entry, Fail> {
-    let act = match asked {
-        Asked::Packet(lane, words) => Act::Offer(Packet::new(*lane, words)?),
+/// What asks for this in a script.
+fn act(rt: &impl Abort, asked: &Asked) -> Act {
+    match asked {
+        Asked::Packet(lane, words) => Act::Offer(packet(rt, *lane, words)),
         Asked::Mark(lane) => Act::Close(*lane),
-    };
-    Ok(Entry { turn: 0, act })
-}
-
-/// Adds an entry.
-fn add(script: &mut Script, entry: Entry) -> Result<(), Fail> {
-    script.push(entry)?;
-    Ok(())
-}
-
-/// The script that asks for all of this in turn 0.
-fn script(alloc: Global, asked: &[Asked]) -> Result<Script, Fail> {
-    let mut script = Script::empty(alloc);
-    for one in asked {
-        add(&mut script, entry(one)?)?;
     }
-    Ok(script)
-}
-
-/// Takes one turn.
-fn take_turn(net: &mut Net, turn: u64, script: &Script) -> Result<(), Fail> {
-    net.turn(turn, script)?;
-    Ok(())
-}
-
-/// The network after so many turns.
-pub fn after_turns(alloc: Global, given: &Given, turns: u64) -> Result<Net, Fail> {
-    let script = script(alloc, given.asked)?;
-    let mut net = network(alloc, given)?;
-    for turn in 0..turns {
-        take_turn(&mut net, turn, &script)?;
-    }
-    Ok(net)
 }
 
 /// The step that asks for this.
-fn asking(asked: &Asked) -> Result<Step, Fail> {
-    Ok(match asked {
+fn asking(rt: &impl Abort, asked: &Asked) -> Step {
+    match asked {
         Asked::Packet(lane, words) => Step::Offer {
             node: lane.src,
-            packet: Packet::new(*lane, words)?,
+            packet: packet(rt, *lane, words),
         },
         Asked::Mark(lane) => Step::Close {
             node: lane.src,
             lane: *lane,
         },
-    })
-}
-
-/// What a step did, or why it was not done.
-fn answer(net: &mut Net, step: &Step) -> Result<Moved, StepFault> {
-    net.step(step)
-}
-
-/// What comes of asking a source.
-pub fn ask(net: &mut Net, asked: &Asked) -> Result<Moved, Fail> {
-    Ok(answer(net, &asking(asked)?)?)
-}
-
-/// The network whose sources were asked, and in which nothing was moved yet.
-pub fn at_start(rt: &impl Abort, alloc: Global, given: &Given) -> Result<Net, Fail> {
-    let mut net = network(alloc, given)?;
-    for one in given.asked {
-        assert_eq!(rt; ask(&mut net, one)?, Moved::Done);
     }
-    Ok(net)
 }
 
-/// Does the steps, each of which can be done.
-pub fn do_all(rt: &impl Abort, net: &mut Net, steps: &[Step]) {
-    for step in steps {
-        assert_eq!(rt; answer(net, step), Ok(Moved::Done));
+/// Adds an entry of turn 0.
+fn add(rt: &impl Abort, script: &mut Script, act: Act) {
+    let entry = Entry { turn: 0, act };
+    script.push(entry).expect(rt, "an entry more");
+}
+
+/// The script that asks for all of this in turn 0.
+fn script<R: Abort + AllocGlobal>(rt: &R, asked: &[Asked]) -> Script {
+    let mut script = Script::empty(rt.alloc());
+    for one in asked {
+        add(rt, &mut script, act(rt, one));
+    }
+    script
+}
+
+/// A network under test.
+pub struct Ground<R: Abort + AllocGlobal + Copy> {
+    pub rt: R,
+    net: Net,
+}
+
+impl<R: Abort + AllocGlobal + Copy> Drop for Ground<R> {
+    /// Written out, so that a test that ends calls it: a derived one stands in each test, part by part.
+    fn drop(self) {
+        let Ground { rt: _, net: _ } = self;
+    }
+}
+
+impl<R: Abort + AllocGlobal + Copy> Ground<R> {
+    /// The network, whose sources were asked nothing yet.
+    pub fn new(rt: R, given: &Given) -> Ground<R> {
+        let made = Net::new(rt.alloc(), &config(given));
+        let net = made.expect(&rt, "a network");
+        Ground { rt, net }
+    }
+
+    /// Takes one whole turn.
+    fn take_turn(&mut self, turn: u64, script: &Script) {
+        let answer = self.net.turn(turn, script);
+        answer.expect(&self.rt, "a whole turn");
+    }
+
+    /// The network after so many turns.
+    pub fn after_turns(rt: R, given: &Given, turns: u64) -> Ground<R> {
+        let script = script(&rt, given.asked);
+        let mut ground = Ground::new(rt, given);
+        for turn in 0..turns {
+            ground.take_turn(turn, &script);
+        }
+        ground
+    }
+
+    /// The step is done.
+    fn does(&mut self, step: &Step) {
+        assert_eq!(self.rt; self.net.step(step), Ok(Moved::Done));
+    }
+
+    /// Does the steps, each of which can be done.
+    pub fn does_all(&mut self, steps: &[Step]) {
+        for step in steps {
+            self.does(step);
+        }
+    }
+
+    /// The source is asked for this, and does it.
+    pub fn asks(&mut self, asked: &Asked) {
+        let step = asking(&self.rt, asked);
+        self.does(&step);
+    }
+
+    /// The network whose sources were asked, and in which nothing was moved yet.
+    pub fn at_start(rt: R, given: &Given) -> Ground<R> {
+        let mut ground = Ground::new(rt, given);
+        for one in given.asked {
+            ground.asks(one);
+        }
+        ground
+    }
+
+    /// Writes the report of the network, where this is said of the run.
+    pub fn write<W: Write>(&self, summary: &Summary, out: &mut W) -> Result<(), ReportFault> {
+        write_report(self.rt.alloc(), &self.net, summary, out)
+    }
+
+    /// This report.
+    fn report(&self, summary: &Summary) -> Vec<u8> {
+        let mut out = Vec::new(self.rt.alloc());
+        let answer = self.write(summary, &mut out);
+        answer.expect(&self.rt, "a report");
+        out
+    }
+
+    /// This is its report.
+    pub fn reports(&self, summary: &Summary, wanted: &str) {
+        assert_eq!(self.rt; self.report(summary).as_slice(), wanted.as_bytes());
     }
 }
 

@@ -1,13 +1,10 @@
 //! Reports for writers that fail after so many bytes, or take now more and now less.
 
-use super::networks::{Asked, Given, after_turns, lane, summary, two_nodes};
-use std::alloc::Global;
+use super::networks::{Asked, Ground, lane, summary, two_nodes};
 use std::io;
 use std::io::{ErrorKind, Write};
 use std::process::Abort;
-use std::test::Fail;
-use worm_core::Net;
-use worm_report::{ReportFault, Summary, write_report};
+use worm_report::{ReportFault, Summary};
 
 /// The word arrived, and the mark waits.
 const MARK_WAITS: &str = "wormreport 1\n\
@@ -67,69 +64,73 @@ impl Write for Uneven {
 }
 
 /// Writes a report for such a writer with so much room. The answer, and what was taken.
-fn write_uneven(
-    alloc: Global,
-    net: &Net,
+fn write_uneven<R: Abort + AllocGlobal + Copy>(
+    ground: &Ground<R>,
     summary: &Summary,
     room: usize,
 ) -> (Result<(), ReportFault>, Vec<u8>) {
     let mut out = Uneven {
-        taken: Vec::new(alloc),
+        taken: Vec::new(ground.rt.alloc()),
         room,
         calls: 0,
     };
-    let answer = write_report(alloc, net, summary, &mut out);
+    let answer = ground.write(summary, &mut out);
     (answer, out.taken)
 }
 
-/// A writer with so much room takes exactly the first bytes of the report, and all where they fit.
-fn takes_first(
-    rt: &impl Abort,
-    alloc: Global,
-    net: &Net,
+/// The answer to a writer with so much room, and what it takes: the first bytes of the report, and all where they fit.
+fn first_of(whole: &[u8], room: usize) -> (Result<(), ReportFault>, &[u8]) {
+    match whole.get(..room) {
+        Some(first) => (Err(ReportFault::Write), first),
+        None => (Ok(()), whole),
+    }
+}
+
+/// A writer with so much room has exactly this answer, and takes exactly this.
+fn takes_first<R: Abort + AllocGlobal + Copy>(
+    ground: &Ground<R>,
     summary: &Summary,
     wanted: &str,
     room: usize,
 ) {
-    let whole = wanted.as_bytes();
-    let (told, first) = match whole.get(..room) {
-        Some(first) => (Err(ReportFault::Write), first),
-        None => (Ok(()), whole),
-    };
-    let (answer, taken) = write_uneven(alloc, net, summary, room);
-    assert_eq!(rt; answer, told);
-    assert_eq!(rt; taken.as_slice(), first);
+    let (answer, taken) = write_uneven(ground, summary, room);
+    let told = (answer, taken.as_slice());
+    assert_eq!(ground.rt; told, first_of(wanted.as_bytes(), room));
 }
 
 /// A report for each room below its length, and for one above.
-fn goes_out(rt: &impl Abort, alloc: Global, net: &Net, summary: &Summary, wanted: &str) {
+fn goes_out<R: Abort + AllocGlobal + Copy>(ground: &Ground<R>, summary: &Summary, wanted: &str) {
     for room in 0..wanted.len() {
-        takes_first(rt, alloc, net, summary, wanted, room);
+        takes_first(ground, summary, wanted, room);
     }
-    takes_first(rt, alloc, net, summary, wanted, usize::MAX);
+    takes_first(ground, summary, wanted, usize::MAX);
 }
 
-#[test]
-fn a_mark_for_uneven_writers(rt: HostRuntime) -> Result<(), Fail> {
+/// A word and a mark after so many turns.
+fn word_and_mark<R: Abort + AllocGlobal + Copy>(rt: R, turns: u64) -> Ground<R> {
     let over = lane(0, 1, 0);
     let asked = [Asked::Packet(over, &[5]), Asked::Mark(over)];
-    for (turns, wanted) in [(1, MARK_WAITS), (2, MARK_ARRIVED)] {
-        let net = after_turns(rt.alloc(), &two_nodes(&asked), turns)?;
-        goes_out(&rt, rt.alloc(), &net, &summary(turns, 0), wanted);
-    }
-    Ok(())
+    Ground::after_turns(rt, &two_nodes(&asked), turns)
 }
 
 #[test]
-fn a_stop_for_uneven_writers(rt: HostRuntime) -> Result<(), Fail> {
-    // Buffers hold one flit.
+fn a_mark_for_uneven_writers(rt: HostRuntime) {
+    goes_out(&word_and_mark(rt, 1), &summary(1, 0), MARK_WAITS);
+    goes_out(&word_and_mark(rt, 2), &summary(2, 0), MARK_ARRIVED);
+}
+
+/// Four words after two turns. Buffers hold one flit.
+fn four_words<R: Abort + AllocGlobal + Copy>(rt: R) -> Ground<R> {
     let asked = [Asked::Packet(lane(0, 1, 0), &[1, 2, 3, 4])];
     let mut given = two_nodes(&asked);
     given.depth = 1;
-    let net = after_turns(rt.alloc(), &given, 2)?;
+    Ground::after_turns(rt, &given, 2)
+}
+
+#[test]
+fn a_stop_for_uneven_writers(rt: HostRuntime) {
     let mut summary = summary(10, 0);
     summary.workers = 2;
     summary.stops[1] = Some(2);
-    goes_out(&rt, rt.alloc(), &net, &summary, STOPPED);
-    Ok(())
+    goes_out(&four_words(rt), &summary, STOPPED);
 }

@@ -1,64 +1,39 @@
 //! Whole reports, as the rules of the report say them.
 
-use super::networks::{Asked, Given, after_turns, at_start, do_all, lane, summary, two_nodes};
+use super::networks::{Asked, Given, Ground, lane, summary, two_nodes};
 use super::steps::{feed, grant, route, send, take};
-use std::alloc::Global;
 use std::process::Abort;
-use std::test::Fail;
-use worm_core::{Net, Step};
-use worm_report::{Summary, write_report};
-
-/// This is the report of the network, where this is said of the run.
-fn reports(rt: &impl Abort, alloc: Global, net: &Net, summary: &Summary, wanted: &str) {
-    let mut out = Vec::new(alloc);
-    assert_eq!(rt; write_report(alloc, net, summary, &mut out), Ok(()));
-    assert_eq!(rt; out.as_slice(), wanted.as_bytes());
-}
+use worm_core::Step;
+use worm_report::Summary;
 
 /// This is the report of the network after so many turns, in which all entries were offered.
-fn reports_turns(
-    rt: &impl Abort,
-    alloc: Global,
-    given: &Given,
-    turns: u64,
-    wanted: &str,
-) -> Result<(), Fail> {
-    let net = after_turns(alloc, given, turns)?;
-    reports(rt, alloc, &net, &summary(turns, 0), wanted);
-    Ok(())
+fn reports_turns<R: Abort + AllocGlobal + Copy>(rt: R, given: &Given, turns: u64, wanted: &str) {
+    let ground = Ground::after_turns(rt, given, turns);
+    ground.reports(&summary(turns, 0), wanted);
 }
 
 /// This is the report of the network after these steps, where this is said of the run.
-fn reports_steps(
-    rt: &impl Abort,
-    alloc: Global,
+fn reports_steps<R: Abort + AllocGlobal + Copy>(
+    rt: R,
     given: &Given,
     steps: &[Step],
     summary: &Summary,
     wanted: &str,
-) -> Result<(), Fail> {
-    let mut net = at_start(rt, alloc, given)?;
-    do_all(rt, &mut net, steps);
-    reports(rt, alloc, &net, summary, wanted);
-    Ok(())
+) {
+    let mut ground = Ground::at_start(rt, given);
+    ground.does_all(steps);
+    ground.reports(summary, wanted);
 }
 
 #[test]
-fn no_turn_was_taken(rt: HostRuntime) -> Result<(), Fail> {
+fn no_turn_was_taken(rt: HostRuntime) {
     let wanted =
         "wormreport 1\nturns 0 workers 1 drain 0\nnot offered 1\ntotal injected 0 delivered 0 underway 0\n";
-    reports_steps(
-        &rt,
-        rt.alloc(),
-        &two_nodes(&[]),
-        &[],
-        &summary(0, 1),
-        wanted,
-    )
+    reports_steps(rt, &two_nodes(&[]), &[], &summary(0, 1), wanted);
 }
 
 #[test]
-fn one_flit_arrived_and_one_waits_at_its_source(rt: HostRuntime) -> Result<(), Fail> {
+fn one_flit_arrived_and_one_waits_at_its_source(rt: HostRuntime) {
     let asked = [Asked::Packet(lane(0, 1, 0), &[17, 18])];
     let wanted = "wormreport 1\n\
          turns 1 workers 1 drain 0\n\
@@ -66,11 +41,11 @@ fn one_flit_arrived_and_one_waits_at_its_source(rt: HostRuntime) -> Result<(), F
          underway 0 1 class 0 packet 0 flit 1 source\n\
          not offered 0\n\
          total injected 2 delivered 1 underway 1\n";
-    reports_turns(&rt, rt.alloc(), &two_nodes(&asked), 1, wanted)
+    reports_turns(rt, &two_nodes(&asked), 1, wanted);
 }
 
 #[test]
-fn the_flit_nearest_the_sink_comes_first(rt: HostRuntime) -> Result<(), Fail> {
+fn the_flit_nearest_the_sink_comes_first(rt: HostRuntime) {
     let asked = [Asked::Packet(lane(1, 0, 0), &[17, 18])];
     let wanted = "wormreport 1\n\
          turns 1 workers 1 drain 0\n\
@@ -78,11 +53,11 @@ fn the_flit_nearest_the_sink_comes_first(rt: HostRuntime) -> Result<(), Fail> {
          underway 1 0 class 0 packet 0 flit 1 source\n\
          not offered 0\n\
          total injected 2 delivered 0 underway 2\n";
-    reports_turns(&rt, rt.alloc(), &two_nodes(&asked), 1, wanted)
+    reports_turns(rt, &two_nodes(&asked), 1, wanted);
 }
 
 #[test]
-fn a_mark_is_a_flit_without_a_word(rt: HostRuntime) -> Result<(), Fail> {
+fn a_mark_is_a_flit_without_a_word(rt: HostRuntime) {
     let over = lane(0, 1, 0);
     let asked = [Asked::Packet(over, &[5]), Asked::Mark(over)];
     let given = two_nodes(&asked);
@@ -92,18 +67,18 @@ fn a_mark_is_a_flit_without_a_word(rt: HostRuntime) -> Result<(), Fail> {
          underway 0 1 class 0 packet 1 flit 0 source\n\
          not offered 0\n\
          total injected 2 delivered 1 underway 1\n";
-    reports_turns(&rt, rt.alloc(), &given, 1, waits)?;
+    reports_turns(rt, &given, 1, waits);
     let arrived = "wormreport 1\n\
          turns 2 workers 1 drain 0\n\
          delivered 1 from 0 class 0 packet 0 flit 0 word 5\n\
          delivered 1 from 0 class 0 packet 1 close\n\
          not offered 0\n\
          total injected 2 delivered 2 underway 0\n";
-    reports_turns(&rt, rt.alloc(), &given, 2, arrived)
+    reports_turns(rt, &given, 2, arrived);
 }
 
 #[test]
-fn what_arrived_is_listed_in_its_order(rt: HostRuntime) -> Result<(), Fail> {
+fn what_arrived_is_listed_in_its_order(rt: HostRuntime) {
     let given = Given {
         radices: &[3],
         depth: 2,
@@ -121,12 +96,12 @@ fn what_arrived_is_listed_in_its_order(rt: HostRuntime) -> Result<(), Fail> {
          delivered 2 from 1 class 1 packet 0 flit 1 word 4\n\
          not offered 0\n\
          total injected 4 delivered 4 underway 0\n";
-    reports_turns(&rt, rt.alloc(), &given, 4, wanted)
+    reports_turns(rt, &given, 4, wanted);
 }
 
 /// One flit of a packet is on a link, the next in the injection buffer, and the others are at the source.
 #[test]
-fn a_worm_stands_from_link_to_source(rt: HostRuntime) -> Result<(), Fail> {
+fn a_worm_stands_from_link_to_source(rt: HostRuntime) {
     let given = Given {
         radices: &[2],
         depth: 1,
@@ -158,12 +133,12 @@ fn a_worm_stands_from_link_to_source(rt: HostRuntime) -> Result<(), Fail> {
         stops,
         not_offered: 9,
     };
-    reports_steps(&rt, rt.alloc(), &given, &steps, &summary, wanted)
+    reports_steps(rt, &given, &steps, &summary, wanted);
 }
 
 /// A packet of a class with two channels overtook another, which stands in a buffer past the link.
 #[test]
-fn a_packet_overtook_another(rt: HostRuntime) -> Result<(), Fail> {
+fn a_packet_overtook_another(rt: HostRuntime) {
     let given = Given {
         radices: &[2],
         depth: 2,
@@ -198,11 +173,11 @@ fn a_packet_overtook_another(rt: HostRuntime) -> Result<(), Fail> {
          underway 0 1 class 0 packet 0 flit 1 buffer 1 0 0\n\
          not offered 0\n\
          total injected 3 delivered 1 underway 2\n";
-    reports_steps(&rt, rt.alloc(), &given, &steps, &summary(0, 0), wanted)
+    reports_steps(rt, &given, &steps, &summary(0, 0), wanted);
 }
 
 #[test]
-fn lanes_come_by_source_then_destination_then_class(rt: HostRuntime) -> Result<(), Fail> {
+fn lanes_come_by_source_then_destination_then_class(rt: HostRuntime) {
     let given = Given {
         radices: &[3],
         depth: 2,
@@ -222,5 +197,5 @@ fn lanes_come_by_source_then_destination_then_class(rt: HostRuntime) -> Result<(
          underway 1 0 class 0 packet 0 flit 0 source\n\
          not offered 0\n\
          total injected 4 delivered 0 underway 4\n";
-    reports_steps(&rt, rt.alloc(), &given, &[], &summary(0, 0), wanted)
+    reports_steps(rt, &given, &[], &summary(0, 0), wanted);
 }

@@ -1,13 +1,12 @@
 //! Writers that are full, slow or broken, and memory that runs out.
 
-use super::networks::{Asked, after_turns, ask, at_start, lane, summary, two_nodes};
+use super::networks::{Asked, Ground, lane, summary, two_nodes};
 use std::alloc::Global;
 use std::io;
 use std::io::{ErrorKind, Write};
 use std::process::Abort;
 use std::test::Fail;
-use worm_core::Net;
-use worm_report::{ReportFault, write_report};
+use worm_report::ReportFault;
 
 /// One flit arrived, and one waits at its source.
 const TEXT: &[u8] = b"wormreport 1\n\
@@ -17,30 +16,36 @@ const TEXT: &[u8] = b"wormreport 1\n\
       not offered 0\n\
       total injected 2 delivered 1 underway 1\n";
 
-/// Writes this report.
-fn write_half_way<W: Write>(alloc: Global, out: &mut W) -> Result<Result<(), ReportFault>, Fail> {
+/// The network of this report.
+fn half_way<R: Abort + AllocGlobal + Copy>(rt: R) -> Ground<R> {
     let asked = [Asked::Packet(lane(0, 1, 0), &[17, 18])];
-    let net = after_turns(alloc, &two_nodes(&asked), 1)?;
-    Ok(write_report(alloc, &net, &summary(1, 0), out))
+    Ground::after_turns(rt, &two_nodes(&asked), 1)
+}
+
+/// Writes this report.
+fn write_half_way<R: Abort + AllocGlobal + Copy, W: Write>(
+    rt: R,
+    out: &mut W,
+) -> Result<(), ReportFault> {
+    let ground = half_way(rt);
+    ground.write(&summary(1, 0), out)
 }
 
 /// This is the answer to writing it.
-fn answers<W: Write>(
-    rt: &impl Abort,
-    alloc: Global,
+fn answers<R: Abort + AllocGlobal + Copy, W: Write>(
+    rt: R,
     out: &mut W,
     wanted: Result<(), ReportFault>,
-) -> Result<(), Fail> {
-    assert_eq!(rt; write_half_way(alloc, out)?, wanted);
-    Ok(())
+) {
+    assert_eq!(rt; write_half_way(rt, out), wanted);
 }
 
 /// Writes this report into the room. The answer, and how many bytes went out.
-fn fill(alloc: Global, room: &mut [u8]) -> Result<(Result<(), ReportFault>, usize), Fail> {
+fn fill<R: Abort + AllocGlobal + Copy>(rt: R, room: &mut [u8]) -> (Result<(), ReportFault>, usize) {
     let size = room.len();
     let mut out = room;
-    let answer = write_half_way(alloc, &mut out)?;
-    Ok((answer, size.saturating_sub(out.len())))
+    let answer = write_half_way(rt, &mut out);
+    (answer, size.saturating_sub(out.len()))
 }
 
 /// Takes one byte in a call.
@@ -119,12 +124,12 @@ impl Write for Pages {
 }
 
 /// A network in which 500 packets of one flit wait at their source.
-fn many_wait(rt: &impl Abort, alloc: Global) -> Result<Net, Fail> {
-    let mut net = at_start(rt, alloc, &two_nodes(&[]))?;
+fn many_wait<R: Abort + AllocGlobal + Copy>(rt: R) -> Ground<R> {
+    let mut ground = Ground::new(rt, &two_nodes(&[]));
     for word in 0..500 {
-        ask(&mut net, &Asked::Packet(lane(0, 1, 0), &[word]))?;
+        ground.asks(&Asked::Packet(lane(0, 1, 0), &[word]));
     }
-    Ok(net)
+    ground
 }
 
 /// The line of one of these packets.
@@ -151,19 +156,34 @@ struct Paged {
 }
 
 /// Writes the report of this network for a writer that fails from a call on.
-fn write_pages(rt: &impl Abort, alloc: Global, fails_at: usize) -> Result<Paged, Fail> {
-    let net = many_wait(rt, alloc)?;
+fn write_pages<R: Abort + AllocGlobal + Copy>(rt: R, fails_at: usize) -> Paged {
+    let ground = many_wait(rt);
     let mut out = Pages {
-        taken: Vec::new(alloc),
+        taken: Vec::new(rt.alloc()),
         calls: 0,
         fails_at,
     };
-    let answer = write_report(alloc, &net, &summary(0, 0), &mut out);
-    Ok(Paged {
+    let answer = ground.write(&summary(0, 0), &mut out);
+    Paged {
         answer,
         gone: out.taken,
         calls: out.calls,
-    })
+    }
+}
+
+/// A writer that never fails has all of it in three calls.
+fn goes_out_in_three<R: Abort + AllocGlobal + Copy>(rt: R, text: &[u8]) {
+    let whole = write_pages(rt, 9);
+    assert_eq!(rt; (whole.answer, whole.calls), (Ok(()), 3));
+    assert_eq!(rt; whole.gone.as_slice(), text);
+}
+
+/// One that fails in the second call has the first page alone.
+fn breaks_off_in_the_second<R: Abort + AllocGlobal + Copy>(rt: R, text: &[u8]) {
+    let begun = write_pages(rt, 1);
+    assert_eq!(rt; (begun.answer, begun.calls), (Err(ReportFault::Write), 2));
+    assert!(rt; text.starts_with(begun.gone.as_slice()));
+    assert!(rt; 8192 <= begun.gone.len() && begun.gone.len() <= 8448);
 }
 
 /// A report of 23 kB goes out in three calls; a writer that fails in the second has the first page alone, and is not
@@ -171,44 +191,44 @@ fn write_pages(rt: &impl Abort, alloc: Global, fails_at: usize) -> Result<Paged,
 #[test]
 fn a_long_report_goes_out_page_by_page(rt: HostRuntime) -> Result<(), Fail> {
     let text = many_text(rt.alloc())?;
-    let whole = write_pages(&rt, rt.alloc(), 9)?;
-    assert_eq!(rt; (whole.answer, whole.calls), (Ok(()), 3));
-    assert_eq!(rt; whole.gone.as_slice(), text.as_slice());
-    let begun = write_pages(&rt, rt.alloc(), 1)?;
-    assert_eq!(rt; (begun.answer, begun.calls), (Err(ReportFault::Write), 2));
-    assert!(rt; text.as_slice().starts_with(begun.gone.as_slice()));
-    assert!(rt; 8192 <= begun.gone.len() && begun.gone.len() <= 8448);
+    goes_out_in_three(rt, text.as_slice());
+    breaks_off_in_the_second(rt, text.as_slice());
     Ok(())
+}
+
+/// The whole room is filled with the first bytes of the report, which is longer.
+fn is_filled<R: Abort + AllocGlobal + Copy>(rt: R, room: &mut [u8]) {
+    let size = room.len();
+    assert!(rt; size <= TEXT.len());
+    let told = fill(rt, room);
+    assert_eq!(rt; told, (Err(ReportFault::Write), size));
+    assert_eq!(rt; &room[..], &TEXT[..size]);
 }
 
 /// A writer that takes so many bytes and then none is given exactly these.
 #[test]
-fn a_full_writer_has_the_first_bytes(rt: HostRuntime) -> Result<(), Fail> {
+fn a_full_writer_has_the_first_bytes(rt: HostRuntime) {
     let mut room = [0u8; 256];
     for size in 0..TEXT.len() {
         assert!(rt; size <= 256);
-        let (answer, gone) = fill(rt.alloc(), &mut room[..size])?;
-        assert_eq!(rt; (answer, gone), (Err(ReportFault::Write), size));
-        assert_eq!(rt; &room[..size], &TEXT[..size]);
+        is_filled(rt, &mut room[..size]);
     }
-    Ok(())
 }
 
 #[test]
-fn a_writer_that_takes_a_byte_in_a_call_has_all(rt: HostRuntime) -> Result<(), Fail> {
+fn a_writer_that_takes_a_byte_in_a_call_has_all(rt: HostRuntime) {
     let mut out = Sipping {
         taken: Vec::new(rt.alloc()),
     };
-    answers(&rt, rt.alloc(), &mut out, Ok(()))?;
+    answers(rt, &mut out, Ok(()));
     assert_eq!(rt; out.taken.as_slice(), TEXT);
-    Ok(())
 }
 
 #[test]
-fn writers_that_fail(rt: HostRuntime) -> Result<(), Fail> {
+fn writers_that_fail(rt: HostRuntime) {
     let failed = Err(ReportFault::Write);
-    answers(&rt, rt.alloc(), &mut Broken, failed)?;
-    answers(&rt, rt.alloc(), &mut Blocked, failed)
+    answers(rt, &mut Broken, failed);
+    answers(rt, &mut Blocked, failed);
 }
 
 /// A first part of the report, and not all of it, that ends with a line or is empty.
@@ -230,10 +250,9 @@ fn is_answer(rt: &impl Abort, answer: Result<(), ReportFault>, part: &[u8]) {
 
 /// Where an allocation is refused the answer says so, and the first lines of the report have gone out, not all of them.
 #[test]
-fn memory_may_run_out(rt: HostRuntime) -> Result<(), Fail> {
+fn memory_may_run_out(rt: HostRuntime) {
     let mut room = [0u8; 256];
-    let (answer, gone) = fill(rt.alloc(), &mut room)?;
+    let (answer, gone) = fill(rt, &mut room);
     assert!(rt; gone <= 256);
     is_answer(&rt, answer, &room[..gone]);
-    Ok(())
 }

@@ -34,6 +34,11 @@ fn traffic_fault(alloc: Global, network: &[u8], text: &[u8]) -> Result<Told, Fai
     }
 }
 
+/// The reader says what is wanted, of a text that is named by this.
+fn is_told(rt: &impl Abort, told: Told, wanted: Told, text: &str) {
+    assert_eq!(rt; told, wanted, "{text}");
+}
+
 /// The parts of a text, joined.
 fn joined(alloc: Global, parts: &[&[u8]]) -> Result<Vec<u8>, Fail> {
     let mut whole = Vec::new(alloc);
@@ -101,11 +106,11 @@ fn opposite(alloc: Global) -> Result<Vec<u8>, Fail> {
 
 /// Each first part of the traffic has no end, at the line in which it was cut, or that would come next.
 fn is_cut(rt: &impl Abort, alloc: Global, network: &[u8], text: &[u8]) -> Result<(), Fail> {
-    assert_eq!(rt; traffic_fault(alloc, network, text)?, None);
+    is_told(rt, traffic_fault(alloc, network, text)?, None, "whole");
     let mut line = 1u32;
     for (length, byte) in text.iter().enumerate() {
         let told = traffic_fault(alloc, network, &text[..length])?;
-        assert_eq!(rt; told, Some((line, Why::NoEnd)));
+        is_told(rt, told, Some((line, Why::NoEnd)), "cut");
         if *byte == b'\n' {
             line = line.saturating_add(1);
         }
@@ -120,62 +125,68 @@ fn traffic_that_is_cut_off_has_no_end(rt: HostRuntime) -> Result<(), Fail> {
     is_cut(&rt, rt.alloc(), SIXTEEN_NODES, text.as_slice())
 }
 
+/// Texts of networks, the number of a line, another line in its place, and what the reader says then.
+const LIMITS_OF_A_NETWORK: &[(&[u8], usize, &str, Told)] = &[
+    (TWO_NODES, 2, "radix 0", Some((2, Why::Range))),
+    (TWO_NODES, 2, "radix 16", None),
+    (TWO_NODES, 3, "dims 0", Some((3, Why::Range))),
+    (TWO_NODES, 3, "dims 3", None),
+    (TWO_NODES, 3, "dims 4", Some((3, Why::Range))),
+    (TWO_NODES, 4, "depth 0", Some((4, Why::Range))),
+    (TWO_NODES, 4, "depth 1", None),
+    (TWO_NODES, 5, "class abcdefghijklmnop", None),
+    (
+        TWO_NODES,
+        5,
+        "class abcdefghijklmnopq",
+        Some((5, Why::Name)),
+    ),
+    (MOST_NODES, 3, "dims 3", Some((3, Why::Range))),
+    (THREE_BY_TWO, 2, "dims 0", Some((2, Why::Range))),
+    (THREE_BY_TWO, 2, "dims 4", Some((2, Why::Range))),
+    (THREE_BY_TWO, 3, "radix 16 16", None),
+    (THREE_BY_TWO, 3, "radix 2 17", Some((3, Why::Range))),
+    (THREE_BY_TWO, 3, "radix 1 2", Some((3, Why::Range))),
+    (THREE_BY_TWO, 4, "depth 16", None),
+    (THREE_BY_TWO, 4, "depth 17", Some((4, Why::Range))),
+    (THREE_BY_TWO, 5, "class data channels 8", None),
+];
+
 #[test]
 fn limits_of_a_network(rt: HostRuntime) -> Result<(), Fail> {
-    for (base, number, line, wanted) in [
-        (TWO_NODES, 2, "radix 0", Some((2, Why::Range))),
-        (TWO_NODES, 2, "radix 16", None),
-        (TWO_NODES, 3, "dims 0", Some((3, Why::Range))),
-        (TWO_NODES, 3, "dims 3", None),
-        (TWO_NODES, 3, "dims 4", Some((3, Why::Range))),
-        (TWO_NODES, 4, "depth 0", Some((4, Why::Range))),
-        (TWO_NODES, 4, "depth 1", None),
-        (TWO_NODES, 5, "class abcdefghijklmnop", None),
-        (
-            TWO_NODES,
-            5,
-            "class abcdefghijklmnopq",
-            Some((5, Why::Name)),
-        ),
-        (MOST_NODES, 3, "dims 3", Some((3, Why::Range))),
-        (THREE_BY_TWO, 2, "dims 0", Some((2, Why::Range))),
-        (THREE_BY_TWO, 2, "dims 4", Some((2, Why::Range))),
-        (THREE_BY_TWO, 3, "radix 16 16", None),
-        (THREE_BY_TWO, 3, "radix 2 17", Some((3, Why::Range))),
-        (THREE_BY_TWO, 3, "radix 1 2", Some((3, Why::Range))),
-        (THREE_BY_TWO, 4, "depth 16", None),
-        (THREE_BY_TWO, 4, "depth 17", Some((4, Why::Range))),
-        (THREE_BY_TWO, 5, "class data channels 8", None),
-    ] {
-        let told = network_with(rt.alloc(), base, number, line)?;
-        assert_eq!(rt; told, wanted, "{line}");
+    for (base, number, line, wanted) in LIMITS_OF_A_NETWORK {
+        let told = network_with(rt.alloc(), base, *number, line)?;
+        is_told(&rt, told, *wanted, line);
     }
     Ok(())
 }
 
+/// Texts of networks, a line of traffic for each, and what the reader says of it.
+const LIMITS_OF_TRAFFIC: &[(&[u8], &str, Told)] = &[
+    (TWO_NODES, "send 0 2 0 data 1", Some((2, Why::Range))),
+    (TWO_NODES, "close 0 0 2 data", Some((2, Why::Range))),
+    (TWO_NODES, "close 1000000 1 1 data", None),
+    (TWO_NODES, "close 1000001 1 1 data", Some((2, Why::Range))),
+    (
+        TWO_NODES,
+        "send 0 0 1 data 1 1 1 1 1 1 1 1 1 1 1 1 1 1 1 1 1 1 1 1 1 1 1 1 1 1 1 1 1 1 1 1",
+        None,
+    ),
+    (
+        TWO_NODES,
+        "send 0 0 1 data 1 1 1 1 1 1 1 1 1 1 1 1 1 1 1 1 1 1 1 1 1 1 1 1 1 1 1 1 1 1 1 1 1",
+        Some((2, Why::TooMany)),
+    ),
+    (MOST_NODES, "send 0 255 255 data 4294967295", None),
+    (MOST_NODES, "send 0 256 0 data 1", Some((2, Why::Range))),
+    (MOST_NODES, "send 0 0 256 data 1", Some((2, Why::Range))),
+];
+
 #[test]
 fn limits_of_traffic(rt: HostRuntime) -> Result<(), Fail> {
-    for (network, line, wanted) in [
-        (TWO_NODES, "send 0 2 0 data 1", Some((2, Why::Range))),
-        (TWO_NODES, "close 0 0 2 data", Some((2, Why::Range))),
-        (TWO_NODES, "close 1000000 1 1 data", None),
-        (TWO_NODES, "close 1000001 1 1 data", Some((2, Why::Range))),
-        (
-            TWO_NODES,
-            "send 0 0 1 data 1 1 1 1 1 1 1 1 1 1 1 1 1 1 1 1 1 1 1 1 1 1 1 1 1 1 1 1 1 1 1 1",
-            None,
-        ),
-        (
-            TWO_NODES,
-            "send 0 0 1 data 1 1 1 1 1 1 1 1 1 1 1 1 1 1 1 1 1 1 1 1 1 1 1 1 1 1 1 1 1 1 1 1 1",
-            Some((2, Why::TooMany)),
-        ),
-        (MOST_NODES, "send 0 255 255 data 4294967295", None),
-        (MOST_NODES, "send 0 256 0 data 1", Some((2, Why::Range))),
-        (MOST_NODES, "send 0 0 256 data 1", Some((2, Why::Range))),
-    ] {
+    for (network, line, wanted) in LIMITS_OF_TRAFFIC {
         let told = traffic_with(rt.alloc(), network, line)?;
-        assert_eq!(rt; told, wanted, "{line}");
+        is_told(&rt, told, *wanted, line);
     }
     Ok(())
 }
@@ -202,24 +213,41 @@ fn traffic_with_long(alloc: Global, front: &str, back: &str) -> Result<Told, Fai
     traffic_with(alloc, TWO_NODES, line.as_str())
 }
 
-#[test]
-fn numbers_of_a_thousand_digits_are_out_of_range(rt: HostRuntime) -> Result<(), Fail> {
-    for (number, line, front) in [(3, 3, "dims "), (4, 4, "depth ")] {
-        let told = network_with_long(rt.alloc(), TWO_NODES, number, front)?;
-        assert_eq!(rt; told, Some((line, Why::Range)));
-    }
-    for (front, back) in [
-        ("send ", " 0 1 data 1"),
-        ("send 0 ", " 1 data 1"),
-        ("send 0 0 ", " data 1"),
-        ("send 0 0 1 data ", " 1"),
-        ("send 0 0 1 data 1 ", ""),
-        ("close ", " 0 1 data"),
-    ] {
-        let told = traffic_with_long(rt.alloc(), front, back)?;
-        assert_eq!(rt; told, Some((2, Why::Range)), "{front}");
+/// Numbers of lines of two nodes' text, with the fields before such a number.
+const NUMBERS_OF_A_NETWORK: &[(usize, u32, &str)] = &[(3, 3, "dims "), (4, 4, "depth ")];
+
+/// The fields of an entry before such a number, and behind it.
+const NUMBERS_OF_TRAFFIC: &[(&str, &str)] = &[
+    ("send ", " 0 1 data 1"),
+    ("send 0 ", " 1 data 1"),
+    ("send 0 0 ", " data 1"),
+    ("send 0 0 1 data ", " 1"),
+    ("send 0 0 1 data 1 ", ""),
+    ("close ", " 0 1 data"),
+];
+
+/// Such a number of a network is out of range.
+fn long_in_a_network(rt: &impl Abort, alloc: Global) -> Result<(), Fail> {
+    for (number, line, front) in NUMBERS_OF_A_NETWORK {
+        let told = network_with_long(alloc, TWO_NODES, *number, front)?;
+        is_told(rt, told, Some((*line, Why::Range)), front);
     }
     Ok(())
+}
+
+/// Such a number of traffic is out of range.
+fn long_in_traffic(rt: &impl Abort, alloc: Global) -> Result<(), Fail> {
+    for (front, back) in NUMBERS_OF_TRAFFIC {
+        let told = traffic_with_long(alloc, front, back)?;
+        is_told(rt, told, Some((2, Why::Range)), front);
+    }
+    Ok(())
+}
+
+#[test]
+fn numbers_of_a_thousand_digits_are_out_of_range(rt: HostRuntime) -> Result<(), Fail> {
+    long_in_a_network(&rt, rt.alloc())?;
+    long_in_traffic(&rt, rt.alloc())
 }
 
 /// As many bytes as a text may have, without a line end.
@@ -227,9 +255,9 @@ fn numbers_of_a_thousand_digits_are_out_of_range(rt: HostRuntime) -> Result<(), 
 fn a_huge_line_has_no_end(rt: HostRuntime) -> Result<(), Fail> {
     let text = vec![in rt.alloc(); b'x'; 8_388_608]?;
     let wanted = Some((1, Why::NoEnd));
-    assert_eq!(rt; network_fault(text.as_slice()), wanted);
+    is_told(&rt, network_fault(text.as_slice()), wanted, "network");
     let told = traffic_fault(rt.alloc(), TWO_NODES, text.as_slice())?;
-    assert_eq!(rt; told, wanted);
+    is_told(&rt, told, wanted, "traffic");
     Ok(())
 }
 
@@ -253,8 +281,11 @@ fn traffic_why(line: u32, field: u32) -> Why {
     }
 }
 
-/// Where fields of a text begin and end, each with its line and its place in the line, counted from 0.
-fn borders(alloc: Global, text: &[u8]) -> Result<Vec<(usize, u32, u32)>, Fail> {
+/// A place of a text where a field begins or ends, with its line and its place in the line, counted from 0.
+type Border = (usize, u32, u32);
+
+/// Where fields of a text begin and end.
+fn borders(alloc: Global, text: &[u8]) -> Result<Vec<Border>, Fail> {
     let mut found = Vec::new(alloc);
     let (mut line, mut field) = (1u32, 0u32);
     let mut begins = true;
@@ -276,20 +307,46 @@ fn borders(alloc: Global, text: &[u8]) -> Result<Vec<(usize, u32, u32)>, Fail> {
     Ok(found)
 }
 
+/// The reader says of a text with the byte at the place what is wanted.
+fn is_told_at(rt: &impl Abort, told: Told, wanted: Told, byte: u8, at: usize) {
+    assert_eq!(rt; told, wanted, "{byte} at {at}");
+}
+
+/// What the reader says of two nodes' text with the byte there.
+fn network_with_byte(alloc: Global, at: usize, byte: u8) -> Result<Told, Fail> {
+    let text = with_byte(alloc, TWO_NODES, at, byte)?;
+    Ok(network_fault(text.as_slice()))
+}
+
+/// What the reader says of the text of two words with the byte there.
+fn traffic_with_byte(alloc: Global, at: usize, byte: u8) -> Result<Told, Fail> {
+    let text = with_byte(alloc, TWO_WORDS, at, byte)?;
+    traffic_fault(alloc, TWO_NODES, text.as_slice())
+}
+
+/// No field of two nodes' text has this byte.
+fn network_has_no(rt: &impl Abort, alloc: Global, byte: u8) -> Result<(), Fail> {
+    for (at, line, field) in borders(alloc, TWO_NODES)? {
+        let told = network_with_byte(alloc, at, byte)?;
+        is_told_at(rt, told, Some((line, network_why(line, field))), byte, at);
+    }
+    Ok(())
+}
+
+/// No field of the text of two words has this byte.
+fn traffic_has_no(rt: &impl Abort, alloc: Global, byte: u8) -> Result<(), Fail> {
+    for (at, line, field) in borders(alloc, TWO_WORDS)? {
+        let told = traffic_with_byte(alloc, at, byte)?;
+        is_told_at(rt, told, Some((line, traffic_why(line, field))), byte, at);
+    }
+    Ok(())
+}
+
 #[test]
 fn bytes_that_no_field_has(rt: HostRuntime) -> Result<(), Fail> {
     for byte in [0u8, 13, 255] {
-        for (at, line, field) in borders(rt.alloc(), TWO_NODES)? {
-            let text = with_byte(rt.alloc(), TWO_NODES, at, byte)?;
-            let wanted = Some((line, network_why(line, field)));
-            assert_eq!(rt; network_fault(text.as_slice()), wanted, "{byte} at {at}");
-        }
-        for (at, line, field) in borders(rt.alloc(), TWO_WORDS)? {
-            let text = with_byte(rt.alloc(), TWO_WORDS, at, byte)?;
-            let told = traffic_fault(rt.alloc(), TWO_NODES, text.as_slice())?;
-            let wanted = Some((line, traffic_why(line, field)));
-            assert_eq!(rt; told, wanted, "{byte} at {at}");
-        }
+        network_has_no(&rt, rt.alloc(), byte)?;
+        traffic_has_no(&rt, rt.alloc(), byte)?;
     }
     Ok(())
 }

@@ -112,212 +112,218 @@ fn names_are_kept(rt: HostRuntime) -> Result<(), Fail> {
     Ok(())
 }
 
+/// Texts in format 1, each with the line of its fault, and what that is.
+const FAULTS_OF_FORMAT_ONE: &[(&str, u32, Why)] = &[
+    ("", 1, Why::NoEnd),
+    (
+        "wormnet 1 \nradix 2\ndims 1\ndepth 2\nclass data\nend\n",
+        1,
+        Why::Header,
+    ),
+    (
+        "wormnet 1\ndims 1\ndepth 2\nclass data\nend\n",
+        2,
+        Why::Missing,
+    ),
+    (
+        "wormnet 1\nradix\ndims 1\ndepth 2\nclass data\nend\n",
+        2,
+        Why::Missing,
+    ),
+    (
+        "wormnet 1\nradix 02\ndims 1\ndepth 2\nclass data\nend\n",
+        2,
+        Why::Number,
+    ),
+    (
+        "wormnet 1\nradix  2\ndims 1\ndepth 2\nclass data\nend\n",
+        2,
+        Why::Number,
+    ),
+    (
+        "wormnet 1\nradix 1\ndims 1\ndepth 2\nclass data\nend\n",
+        2,
+        Why::Range,
+    ),
+    (
+        "wormnet 1\nradix 17\ndims 1\ndepth 2\nclass data\nend\n",
+        2,
+        Why::Range,
+    ),
+    (
+        "wormnet 1\nradix 2 3\ndims 1\ndepth 2\nclass data\nend\n",
+        2,
+        Why::TooMany,
+    ),
+    (
+        "wormnet 1\nradix 7\ndims 3\ndepth 2\nclass data\nend\n",
+        3,
+        Why::Range,
+    ),
+    (
+        "wormnet 1\nradix 2\nradix 2\ndepth 2\nclass data\nend\n",
+        3,
+        Why::Repeated,
+    ),
+    (
+        "wormnet 1\nradix 2\nsize 2\ndepth 2\nclass data\nend\n",
+        3,
+        Why::UnknownWord,
+    ),
+    (
+        "wormnet 1\nradix 2\ndims 1\ndepth 17\nclass data\nend\n",
+        4,
+        Why::Range,
+    ),
+    (
+        "wormnet 1\nradix 2\ndims 1\ndepth 2\nclass Data\nend\n",
+        5,
+        Why::Name,
+    ),
+    (
+        "wormnet 1\nradix 2\ndims 1\ndepth 2\nend\n",
+        5,
+        Why::Missing,
+    ),
+    (
+        "wormnet 1\nradix 2\ndims 1\ndepth 2\nclass data\nclass data\nend\n",
+        6,
+        Why::Repeated,
+    ),
+    (
+        "wormnet 1\nradix 2\ndims 1\ndepth 2\nclass a\nclass b\nclass c\nclass d\nclass e\nend\n",
+        9,
+        Why::TooMany,
+    ),
+    (
+        "wormnet 1\nradix 2\ndims 1\ndepth 2\nclass data\nend",
+        6,
+        Why::NoEnd,
+    ),
+    (
+        "wormnet 1\nradix 2\ndims 1\ndepth 2\nclass data\nend\n\n",
+        7,
+        Why::AfterEnd,
+    ),
+];
+
 #[test]
 fn worked_faults_of_format_one(rt: HostRuntime) {
-    let faulty = [
-        ("", 1, Why::NoEnd),
-        (
-            "wormnet 1 \nradix 2\ndims 1\ndepth 2\nclass data\nend\n",
-            1,
-            Why::Header,
-        ),
-        (
-            "wormnet 1\ndims 1\ndepth 2\nclass data\nend\n",
-            2,
-            Why::Missing,
-        ),
-        (
-            "wormnet 1\nradix\ndims 1\ndepth 2\nclass data\nend\n",
-            2,
-            Why::Missing,
-        ),
-        (
-            "wormnet 1\nradix 02\ndims 1\ndepth 2\nclass data\nend\n",
-            2,
-            Why::Number,
-        ),
-        (
-            "wormnet 1\nradix  2\ndims 1\ndepth 2\nclass data\nend\n",
-            2,
-            Why::Number,
-        ),
-        (
-            "wormnet 1\nradix 1\ndims 1\ndepth 2\nclass data\nend\n",
-            2,
-            Why::Range,
-        ),
-        (
-            "wormnet 1\nradix 17\ndims 1\ndepth 2\nclass data\nend\n",
-            2,
-            Why::Range,
-        ),
-        (
-            "wormnet 1\nradix 2 3\ndims 1\ndepth 2\nclass data\nend\n",
-            2,
-            Why::TooMany,
-        ),
-        (
-            "wormnet 1\nradix 7\ndims 3\ndepth 2\nclass data\nend\n",
-            3,
-            Why::Range,
-        ),
-        (
-            "wormnet 1\nradix 2\nradix 2\ndepth 2\nclass data\nend\n",
-            3,
-            Why::Repeated,
-        ),
-        (
-            "wormnet 1\nradix 2\nsize 2\ndepth 2\nclass data\nend\n",
-            3,
-            Why::UnknownWord,
-        ),
-        (
-            "wormnet 1\nradix 2\ndims 1\ndepth 17\nclass data\nend\n",
-            4,
-            Why::Range,
-        ),
-        (
-            "wormnet 1\nradix 2\ndims 1\ndepth 2\nclass Data\nend\n",
-            5,
-            Why::Name,
-        ),
-        (
-            "wormnet 1\nradix 2\ndims 1\ndepth 2\nend\n",
-            5,
-            Why::Missing,
-        ),
-        (
-            "wormnet 1\nradix 2\ndims 1\ndepth 2\nclass data\nclass data\nend\n",
-            6,
-            Why::Repeated,
-        ),
-        (
-            "wormnet 1\nradix 2\ndims 1\ndepth 2\nclass a\nclass b\nclass c\nclass d\nclass e\nend\n",
-            9,
-            Why::TooMany,
-        ),
-        (
-            "wormnet 1\nradix 2\ndims 1\ndepth 2\nclass data\nend",
-            6,
-            Why::NoEnd,
-        ),
-        (
-            "wormnet 1\nradix 2\ndims 1\ndepth 2\nclass data\nend\n\n",
-            7,
-            Why::AfterEnd,
-        ),
-    ];
-    are_refused(&rt, &faulty);
+    are_refused(&rt, FAULTS_OF_FORMAT_ONE);
 }
+
+/// The same in format 2.
+const FAULTS_OF_FORMAT_TWO: &[(&str, u32, Why)] = &[
+    (
+        "wormnet 3\ndims 1\nradix 2\ndepth 2\nclass data channels 2\nend\n",
+        1,
+        Why::Header,
+    ),
+    (
+        "wormnet 2\ndims 1\nradix 2\ndepth 2\nclass data\nend\n",
+        5,
+        Why::Missing,
+    ),
+    (
+        "wormnet 2\ndims 1\nradix 2\ndepth 2\nclass data lanes 2\nend\n",
+        5,
+        Why::UnknownWord,
+    ),
+    (
+        "wormnet 2\ndims 1\nradix 2\ndepth 2\nclass data channels 0\nend\n",
+        5,
+        Why::Range,
+    ),
+    (
+        "wormnet 2\ndims 1\nradix 2\ndepth 2\nclass data channels 9\nend\n",
+        5,
+        Why::Range,
+    ),
+    (
+        "wormnet 2\ndims 1\nradix 2\ndepth 2\nclass a channels 5\nclass b channels 4\nend\n",
+        6,
+        Why::Range,
+    ),
+    (
+        "wormnet 2\ndims 2\nradix 2\ndepth 2\nclass data channels 2\nend\n",
+        3,
+        Why::Missing,
+    ),
+    (
+        "wormnet 2\ndims 1\nradix 2 2\ndepth 2\nclass data channels 2\nend\n",
+        3,
+        Why::TooMany,
+    ),
+    (
+        "wormnet 1\nradix 2\ndims 1\ndepth 2\nclass data channels 1\nend\n",
+        5,
+        Why::TooMany,
+    ),
+    (
+        "wormnet 2\ndims 3\nradix 16 16 2\ndepth 2\nclass data channels 1\nend\n",
+        3,
+        Why::Range,
+    ),
+];
 
 #[test]
 fn worked_faults_of_format_two(rt: HostRuntime) {
-    let faulty = [
-        (
-            "wormnet 3\ndims 1\nradix 2\ndepth 2\nclass data channels 2\nend\n",
-            1,
-            Why::Header,
-        ),
-        (
-            "wormnet 2\ndims 1\nradix 2\ndepth 2\nclass data\nend\n",
-            5,
-            Why::Missing,
-        ),
-        (
-            "wormnet 2\ndims 1\nradix 2\ndepth 2\nclass data lanes 2\nend\n",
-            5,
-            Why::UnknownWord,
-        ),
-        (
-            "wormnet 2\ndims 1\nradix 2\ndepth 2\nclass data channels 0\nend\n",
-            5,
-            Why::Range,
-        ),
-        (
-            "wormnet 2\ndims 1\nradix 2\ndepth 2\nclass data channels 9\nend\n",
-            5,
-            Why::Range,
-        ),
-        (
-            "wormnet 2\ndims 1\nradix 2\ndepth 2\nclass a channels 5\nclass b channels 4\nend\n",
-            6,
-            Why::Range,
-        ),
-        (
-            "wormnet 2\ndims 2\nradix 2\ndepth 2\nclass data channels 2\nend\n",
-            3,
-            Why::Missing,
-        ),
-        (
-            "wormnet 2\ndims 1\nradix 2 2\ndepth 2\nclass data channels 2\nend\n",
-            3,
-            Why::TooMany,
-        ),
-        (
-            "wormnet 1\nradix 2\ndims 1\ndepth 2\nclass data channels 1\nend\n",
-            5,
-            Why::TooMany,
-        ),
-        (
-            "wormnet 2\ndims 3\nradix 16 16 2\ndepth 2\nclass data channels 1\nend\n",
-            3,
-            Why::Range,
-        ),
-    ];
-    are_refused(&rt, &faulty);
+    are_refused(&rt, FAULTS_OF_FORMAT_TWO);
 }
+
+/// Texts with several faults, and the first of them.
+const FIRST_FAULTS: &[(&str, u32, Why)] = &[
+    ("wormnet 1\nradix 17 3\n", 2, Why::Range),
+    ("wormnet 1\nradix 2 \n", 2, Why::TooMany),
+    ("wormnet 1\n\n", 2, Why::UnknownWord),
+    ("\n", 1, Why::Header),
+    (
+        "wormnet 1\nradix 2\ndims 1\ndepth 2\nclass \n",
+        5,
+        Why::Name,
+    ),
+    (
+        "wormnet 1\nradix 2\ndims 1\ndepth 2\nend x\n",
+        5,
+        Why::Missing,
+    ),
+    (
+        "wormnet 1\nradix 2\ndims 1\ndepth 2\nclass data\nend \n",
+        6,
+        Why::TooMany,
+    ),
+    (
+        "wormnet 1\nradix 2\ndims 1\ndepth 2\nclass abcdefghijklmnopq\n",
+        5,
+        Why::Name,
+    ),
+    (
+        "wormnet 1\nradix 2\ndims 1\ndepth 2\nclass a\nclass b\nclass c\nclass d\nclass E\n",
+        9,
+        Why::TooMany,
+    ),
+    (
+        "wormnet 1\nradix 2\ndims 1\ndepth 2\nclass data\ndepth 2\n",
+        6,
+        Why::Repeated,
+    ),
+    ("wormnet 2\nradix 2\n", 2, Why::Missing),
+    (
+        "wormnet 2\ndims 1\nradix 2\ndepth 2\nclass Data lanes 9\n",
+        5,
+        Why::Name,
+    ),
+    (
+        "wormnet 2\ndims 1\nradix 2\ndepth 2\nclass a channels 5\nclass b channels 4 4\n",
+        6,
+        Why::Range,
+    ),
+];
 
 /// Fields are judged from the left, each wholly before the next is asked for.
 #[test]
 fn the_first_of_several_faults(rt: HostRuntime) {
-    let faulty = [
-        ("wormnet 1\nradix 17 3\n", 2, Why::Range),
-        ("wormnet 1\nradix 2 \n", 2, Why::TooMany),
-        ("wormnet 1\n\n", 2, Why::UnknownWord),
-        ("\n", 1, Why::Header),
-        (
-            "wormnet 1\nradix 2\ndims 1\ndepth 2\nclass \n",
-            5,
-            Why::Name,
-        ),
-        (
-            "wormnet 1\nradix 2\ndims 1\ndepth 2\nend x\n",
-            5,
-            Why::Missing,
-        ),
-        (
-            "wormnet 1\nradix 2\ndims 1\ndepth 2\nclass data\nend \n",
-            6,
-            Why::TooMany,
-        ),
-        (
-            "wormnet 1\nradix 2\ndims 1\ndepth 2\nclass abcdefghijklmnopq\n",
-            5,
-            Why::Name,
-        ),
-        (
-            "wormnet 1\nradix 2\ndims 1\ndepth 2\nclass a\nclass b\nclass c\nclass d\nclass E\n",
-            9,
-            Why::TooMany,
-        ),
-        (
-            "wormnet 1\nradix 2\ndims 1\ndepth 2\nclass data\ndepth 2\n",
-            6,
-            Why::Repeated,
-        ),
-        ("wormnet 2\nradix 2\n", 2, Why::Missing),
-        (
-            "wormnet 2\ndims 1\nradix 2\ndepth 2\nclass Data lanes 9\n",
-            5,
-            Why::Name,
-        ),
-        (
-            "wormnet 2\ndims 1\nradix 2\ndepth 2\nclass a channels 5\nclass b channels 4 4\n",
-            6,
-            Why::Range,
-        ),
-    ];
-    are_refused(&rt, &faulty);
+    are_refused(&rt, FIRST_FAULTS);
 }
 
 /// At the line in which the text was cut, or that would come next.

@@ -96,81 +96,85 @@ fn worked_texts(rt: HostRuntime) -> Result<(), Fail> {
     is_accepted(&rt, rt.alloc(), TWO_WORDS, 1)
 }
 
+/// Texts, each with the line of its fault, and what that is.
+const FAULTS: &[(&str, u32, Why)] = &[
+    ("", 1, Why::NoEnd),
+    ("wormtraffic 2\nend\n", 1, Why::Header),
+    ("wormtraffic 1\nsend 0 0 1 data\nend\n", 2, Why::Missing),
+    (
+        "wormtraffic 1\nsend 0 0 1 data 4294967296\nend\n",
+        2,
+        Why::Range,
+    ),
+    (
+        "wormtraffic 1\nsend 1000001 0 1 data 1\nend\n",
+        2,
+        Why::Range,
+    ),
+    ("wormtraffic 1\nsend 0 0 2 data 1\nend\n", 2, Why::Range),
+    ("wormtraffic 1\nsend 0 0 1 ctl 1\nend\n", 2, Why::Name),
+    ("wormtraffic 1\nsend 0 0 1 data x\nend\n", 2, Why::Number),
+    (
+        "wormtraffic 1\nsend 3 0 1 data 1\nsend 2 0 1 data 1\nend\n",
+        3,
+        Why::OrderOfTurns,
+    ),
+    (
+        "wormtraffic 1\nclose 0 0 1 data\nclose 0 0 1 data\nend\n",
+        3,
+        Why::LaneClosed,
+    ),
+    (
+        "wormtraffic 1\nclose 0 0 1 data\nsend 0 0 1 data 5\nend\n",
+        3,
+        Why::LaneClosed,
+    ),
+    ("wormtraffic 1\nclose 0 0 1 data 5\nend\n", 2, Why::TooMany),
+    ("wormtraffic 1\nrecv 0 0 1 data\nend\n", 2, Why::UnknownWord),
+    (
+        "wormtraffic 1\nsend 0 0 1 data 1 1 1 1 1 1 1 1 1 1 1 1 1 1 1 1 1 1 1 1 1 1 1 1 1 1 1 1 1 1 1 1 1\nend\n",
+        2,
+        Why::TooMany,
+    ),
+    ("wormtraffic 1\nend\n\n", 3, Why::AfterEnd),
+];
+
 #[test]
 fn worked_faults(rt: HostRuntime) -> Result<(), Fail> {
-    let faulty = [
-        ("", 1, Why::NoEnd),
-        ("wormtraffic 2\nend\n", 1, Why::Header),
-        ("wormtraffic 1\nsend 0 0 1 data\nend\n", 2, Why::Missing),
-        (
-            "wormtraffic 1\nsend 0 0 1 data 4294967296\nend\n",
-            2,
-            Why::Range,
-        ),
-        (
-            "wormtraffic 1\nsend 1000001 0 1 data 1\nend\n",
-            2,
-            Why::Range,
-        ),
-        ("wormtraffic 1\nsend 0 0 2 data 1\nend\n", 2, Why::Range),
-        ("wormtraffic 1\nsend 0 0 1 ctl 1\nend\n", 2, Why::Name),
-        ("wormtraffic 1\nsend 0 0 1 data x\nend\n", 2, Why::Number),
-        (
-            "wormtraffic 1\nsend 3 0 1 data 1\nsend 2 0 1 data 1\nend\n",
-            3,
-            Why::OrderOfTurns,
-        ),
-        (
-            "wormtraffic 1\nclose 0 0 1 data\nclose 0 0 1 data\nend\n",
-            3,
-            Why::LaneClosed,
-        ),
-        (
-            "wormtraffic 1\nclose 0 0 1 data\nsend 0 0 1 data 5\nend\n",
-            3,
-            Why::LaneClosed,
-        ),
-        ("wormtraffic 1\nclose 0 0 1 data 5\nend\n", 2, Why::TooMany),
-        ("wormtraffic 1\nrecv 0 0 1 data\nend\n", 2, Why::UnknownWord),
-        (
-            "wormtraffic 1\nsend 0 0 1 data 1 1 1 1 1 1 1 1 1 1 1 1 1 1 1 1 1 1 1 1 1 1 1 1 1 1 1 1 1 1 1 1 1\nend\n",
-            2,
-            Why::TooMany,
-        ),
-        ("wormtraffic 1\nend\n\n", 3, Why::AfterEnd),
-    ];
-    are_refused(&rt, rt.alloc(), &faulty)
+    are_refused(&rt, rt.alloc(), FAULTS)
 }
+
+/// Texts with several faults, and the first of them.
+const FIRST_FAULTS: &[(&str, u32, Why)] = &[
+    (
+        "wormtraffic 1\nsend 3 0 1 data 1\nsend 2\n",
+        3,
+        Why::OrderOfTurns,
+    ),
+    ("wormtraffic 1\nsend 0 0 1 data \n", 2, Why::Number),
+    (
+        "wormtraffic 1\nsend 0 0 1 data 1 1 1 1 1 1 1 1 1 1 1 1 1 1 1 1 1 1 1 1 1 1 1 1 1 1 1 1 1 1 1 1 x\n",
+        2,
+        Why::TooMany,
+    ),
+    (
+        "wormtraffic 1\nsend 0 0 1 data x 1 1 1 1 1 1 1 1 1 1 1 1 1 1 1 1 1 1 1 1 1 1 1 1 1 1 1 1 1 1 1 1 1\n",
+        2,
+        Why::Number,
+    ),
+    (
+        "wormtraffic 1\nclose 0 0 1 data\nclose 0 0 1 data 5\n",
+        3,
+        Why::LaneClosed,
+    ),
+    ("wormtraffic 1\nend \n", 2, Why::TooMany),
+    ("wormtraffic 1\n\n", 2, Why::UnknownWord),
+];
 
 /// Fields are judged from the left, each wholly before the next is asked for.
 #[test]
 fn the_first_of_several_faults(rt: HostRuntime) -> Result<(), Fail> {
-    let faulty = [
-        (
-            "wormtraffic 1\nsend 3 0 1 data 1\nsend 2\n",
-            3,
-            Why::OrderOfTurns,
-        ),
-        ("wormtraffic 1\nsend 0 0 1 data \n", 2, Why::Number),
-        (
-            "wormtraffic 1\nsend 0 0 1 data 1 1 1 1 1 1 1 1 1 1 1 1 1 1 1 1 1 1 1 1 1 1 1 1 1 1 1 1 1 1 1 1 x\n",
-            2,
-            Why::TooMany,
-        ),
-        (
-            "wormtraffic 1\nsend 0 0 1 data x 1 1 1 1 1 1 1 1 1 1 1 1 1 1 1 1 1 1 1 1 1 1 1 1 1 1 1 1 1 1 1 1 1\n",
-            2,
-            Why::Number,
-        ),
-        (
-            "wormtraffic 1\nclose 0 0 1 data\nclose 0 0 1 data 5\n",
-            3,
-            Why::LaneClosed,
-        ),
-        ("wormtraffic 1\nend \n", 2, Why::TooMany),
-        ("wormtraffic 1\n\n", 2, Why::UnknownWord),
-    ];
-    are_refused(&rt, rt.alloc(), &faulty)
+    are_refused(&rt, rt.alloc(), FIRST_FAULTS)
 }
 
 #[test]
