@@ -18,8 +18,6 @@ mod channels;
 mod packet;
 mod packing;
 mod small_set;
-#[cfg(test)]
-mod tests;
 
 pub use channels::{ClassChannels, are_channels};
 pub use packet::{Packet, PacketFault, close_flit, flit_at};

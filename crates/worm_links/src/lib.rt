@@ -14,8 +14,6 @@
 mod credits;
 mod flits;
 mod history;
-#[cfg(test)]
-mod tests;
 
 pub use credits::{CreditEnds, CreditRx, CreditTx, credit_line, reunite_credits};
 pub use flits::{Ends, FlitRx, FlitTx, Opening, link, link_after, reunite};

@@ -14,6 +14,3 @@
 pub mod mesh;
 
 pub use mesh::{LinkEnds, Mesh, MeshFault};
-
-#[cfg(test)]
-mod tests;

@@ -102,6 +102,3 @@ fn steps_by(port: u8, at: u8, first: u8, last: u8) -> bool
         first <= at && at < last
     }
 }
-
-#[cfg(test)]
-mod tests;

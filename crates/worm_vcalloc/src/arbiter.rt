@@ -91,26 +91,3 @@ impl Arbiter {
         Some(line)
     }
 }
-
-#[cfg(test)]
-mod tests {
-    use super::*;
-
-    #[test]
-    fn winners_go_round(rt: HostRuntime) {
-        let mut arbiter = Arbiter::new(3);
-        assert_eq!(rt; arbiter.pick(0b101), Some(0));
-        assert_eq!(rt; arbiter.pointer(), 1);
-        assert_eq!(rt; arbiter.peek(0b101), Some(2));
-        assert_eq!(rt; arbiter.pick(0b101), Some(2));
-        assert_eq!(rt; arbiter.pointer(), 0);
-        assert_eq!(rt; arbiter.pick(0), None);
-        assert_eq!(rt; arbiter.pointer(), 0);
-        assert_eq!(rt; arbiter.pick(0b010), Some(1));
-        assert_eq!(rt; arbiter.pointer(), 2);
-        arbiter.move_past(2);
-        assert_eq!(rt; arbiter.pointer(), 0);
-        arbiter.move_past(0);
-        assert_eq!(rt; arbiter.pointer(), 1);
-    }
-}

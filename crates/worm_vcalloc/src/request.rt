@@ -151,37 +151,3 @@ fn put_at(by_port: &mut [ChannelSet; 7], request: Option<VcRequest>, port: u8, v
         by_port[request.out as usize].put(port, vc, within);
     }
 }
-
-#[cfg(test)]
-mod tests {
-    use super::*;
-
-    #[test]
-    fn requests_are_found_by_what_they_ask(rt: HostRuntime) {
-        let mut waiting = VcRequests::new();
-        let request = VcRequest {
-            out: 2,
-            allowed: 0b10,
-        };
-        waiting.set(1, 3, Some(request));
-        waiting.set(
-            0,
-            5,
-            Some(VcRequest {
-                out: 2,
-                allowed: 0b01,
-            }),
-        );
-        assert_eq!(rt; waiting.get(1, 3), Some(request));
-        assert!(rt; waiting.asking_port(3).is_empty());
-        assert!(rt; waiting.takes(1, 3, 1));
-        assert!(rt; !waiting.takes(0, 5, 1));
-        let mut asking = waiting.asking_port(2);
-        assert_eq!(rt; asking.pop_first(), Some((0, 5)));
-        assert_eq!(rt; asking.pop_first(), Some((1, 3)));
-        assert!(rt; asking.is_empty());
-        waiting.set(1, 3, None);
-        assert!(rt; !waiting.asking_port(2).contains(1, 3));
-        assert_eq!(rt; waiting.waiting().pop_first(), Some((0, 5)));
-    }
-}

@@ -11,8 +11,6 @@
 mod line;
 mod link;
 mod links;
-#[cfg(test)]
-mod tests;
 mod wiring;
 
 pub use link::LinkState;
