@@ -6,13 +6,13 @@ ghost use Rattle.std.specs.Prelude.{◌≡◌, IfErr};
 ghost use Rattle.worm_view.specs.Faults.{list_fault, parser_fault, IsNoCommand, IsNoList};
 
 use clap::error::ErrorKind;
-use clap::{Arg, ArgAction, Command, Error};
+use clap::{Arg, ArgAction, ArgMatches, Command, Error};
 use std::alloc::{AllocError, Global};
 use std::io;
 use std::rt::Env;
 
 /// What the words of the command line say.
-#[derive(Drop, Debug)]
+#[derive(Drop)]
 pub struct Words<'a> {
     /// The file of the network text.
     pub network: &'a str,
@@ -21,7 +21,7 @@ pub struct Words<'a> {
 }
 
 /// Why the words were not read.
-#[derive(Drop, Debug)]
+#[derive(Drop)]
 pub enum WordsFault {
     /// They ask for help, or for the version.
     Asked(Error),
@@ -74,22 +74,52 @@ pub fn all_words<R: Env + AllocGlobal>(rt: &R) -> Result<Vec<String>, WordsFault
     Ok(words)
 }
 
-fn command<'a>(alloc: Global) -> Result<Command<'a>, AllocError> {
-    let network = Arg::new(alloc, "NETWORK")
+/// The word that names the file of the network.
+fn network_word<'a>(alloc: Global) -> Arg<'a> {
+    Arg::new(alloc, "NETWORK")
         .required(true)
         .help("the file of the network text that the report is of")
-        .action(ArgAction::Set);
-    let text = Arg::new(alloc, "text")
+        .action(ArgAction::Set)
+}
+
+/// The word that asks for a map.
+fn text_word<'a>(alloc: Global) -> Arg<'a> {
+    Arg::new(alloc, "text")
         .long("text")
         .help("print a map for a terminal, and not an SVG picture")
-        .action(ArgAction::SetTrue);
-    Command::new(alloc, "wormview")
-        .version("1")
-        .about(
-            "Reads a report of wormrun on the standard input and draws it on the standard output",
-        )
-        .arg(network)?
-        .arg(text)
+        .action(ArgAction::SetTrue)
+}
+
+/// The program's name, and what help and the version say of it.
+fn described<'a>(alloc: Global) -> Command<'a> {
+    Command::new(alloc, "wormview").version("1").about(
+        "Reads a report of wormrun on the standard input and draws it on the standard output",
+    )
+}
+
+/// What the parser knows of the program.
+fn command<'a>(alloc: Global) -> Result<Command<'a>, AllocError> {
+    described(alloc)
+        .arg(network_word(alloc))?
+        .arg(text_word(alloc))
+}
+
+/// What the words that the parser matched say; none where no network is among them.
+fn matched<'a>(matches: &ArgMatches<'a>) -> Option<Words<'a>> {
+    let network = matches.get_str("NETWORK")?;
+    let text = matches.get_flag("text");
+    Some(Words { network, text })
+}
+
+/// The fault of words among which no network is.
+fn unnamed(command: &mut Command<'_>) -> WordsFault
+    ensures { IsNoCommand result }
+{
+    let said = "a file of a network is wanted";
+    match command.error(ErrorKind::MissingRequiredArgument, said) {
+        Ok(error) => WordsFault::from(error),
+        Err(_) => WordsFault::NoMemory,
+    }
 }
 
 /// Reads the words, the program's name first: `NETWORK [--text]`, in any order, or `--help` or `--version`.
@@ -98,14 +128,8 @@ pub fn read_words<'a>(alloc: Global, words: &'a [&'a str]) -> Result<Words<'a>, 
 {
     let mut command = command(alloc)?;
     let matches = command.try_get_matches_from_mut(words)?;
-    match matches.get_str("NETWORK") {
-        Some(network) => Ok(Words {
-            network,
-            text: matches.get_flag("text"),
-        }),
-        None => Err(WordsFault::from(command.error(
-            ErrorKind::MissingRequiredArgument,
-            "a file of a network is wanted",
-        )?)),
+    match matched(&matches) {
+        Some(words) => Ok(words),
+        None => Err(unnamed(&mut command)),
     }
 }
