@@ -2,7 +2,7 @@
 
 ghost use Rattle.std.specs.Prelude.{◌<◌};
 
-use crate::cases::{config, lane, to_offer};
+use crate::cases::{are_equal, config, lane, to_offer};
 use std::alloc::Global;
 use std::process::Abort;
 use worm_flit::Lane;
@@ -26,12 +26,12 @@ fn is_past(rt: &impl Abort, script: &mut Script, turn: u8) {
 
 /// The script has so many entries.
 fn has_entries(rt: &impl Abort, script: &Script, count: usize) {
-    assert_eq!(rt; script.entries().len(), count);
+    are_equal(rt, script.entries().len(), count);
 }
 
 /// The turn has so many entries.
 fn has_due(rt: &impl Abort, script: &Script, turn: u64, count: usize) {
-    assert_eq!(rt; script.due(turn).len(), count, "turn {turn}");
+    are_equal(rt, script.due(turn).len(), count);
 }
 
 /// The first entry of the turn is of this lane.
@@ -107,16 +107,16 @@ impl<R: Abort + AllocGlobal + Copy> Ground<R> {
 
     /// There are so many nodes and links.
     fn has_size(&self, nodes: u16, links: u16) {
-        assert_eq!(self.rt; self.region.nodes(), nodes);
-        assert_eq!(self.rt; self.region.fabric().links(), links);
+        are_equal(&self.rt, self.region.nodes(), nodes);
+        are_equal(&self.rt, self.region.fabric().links(), links);
     }
 
     /// The lists have so many nodes, this terminal port, and so many channels of a port.
     fn has_lists(&self, nodes: u16, terminal: u8, channels: u8) {
         let fabric = self.region.fabric();
-        assert_eq!(self.rt; fabric.nodes(), nodes);
-        assert_eq!(self.rt; fabric.terminal(), terminal);
-        assert_eq!(self.rt; fabric.channels(), channels);
+        are_equal(&self.rt, fabric.nodes(), nodes);
+        are_equal(&self.rt, fabric.terminal(), terminal);
+        are_equal(&self.rt, fabric.channels(), channels);
     }
 
     /// The way on from the node to the other: the port out of it, the next node and the port into that.
@@ -132,7 +132,7 @@ impl<R: Abort + AllocGlobal + Copy> Ground<R> {
 
     /// This is the way on from the node to the other; none at its end.
     fn goes_on(&self, node: u8, dst: u8, way: Option<(u8, u8, u8)>) {
-        assert_eq!(self.rt; self.way_on(node, dst), way);
+        are_equal(&self.rt, self.way_on(node, dst), way);
     }
 
     /// These are the first channel of the class, and the first past it.
@@ -140,8 +140,8 @@ impl<R: Abort + AllocGlobal + Copy> Ground<R> {
         let fabric = self.region.fabric();
         assert!(self.rt; class < fabric.classes());
         let channels = fabric.channels_of(class);
-        assert_eq!(self.rt; channels.start, first);
-        assert_eq!(self.rt; channels.end, end);
+        are_equal(&self.rt, channels.start, first);
+        are_equal(&self.rt, channels.end, end);
     }
 
     /// The lane's source is offered a packet of these words, and accepts it.
@@ -151,12 +151,17 @@ impl<R: Abort + AllocGlobal + Copy> Ground<R> {
         answer.expect(&self.rt, "an accepted packet");
     }
 
-    /// Once the node is prepared it may send from this place alone; none where it may not send.
-    fn may_send(&mut self, node: u8, place: Option<(u8, u8)>) {
+    /// The first two places from which the node may send once it is prepared.
+    fn granted(&mut self, node: u8) -> (Option<(u8, u8)>, Option<(u8, u8)>) {
         assert!(self.rt; u16::from(node) < self.region.nodes());
         let mut granted = self.region.prepare(node);
-        assert_eq!(self.rt; granted.pop_first(), place);
-        assert_eq!(self.rt; granted.pop_first(), None);
+        (granted.pop_first(), granted.pop_first())
+    }
+
+    /// Once the node is prepared it may send from this place alone; none where it may not send.
+    fn may_send(&mut self, node: u8, place: Option<(u8, u8)>) {
+        let granted = self.granted(node);
+        are_equal(&self.rt, granted, (place, None));
     }
 }
 

@@ -6,7 +6,7 @@
 
 ghost use Rattle.std.specs.Prelude.{◌<◌};
 
-use crate::cases::{config, to_offer};
+use crate::cases::{are_equal, config, to_offer};
 use std::alloc::Global;
 use std::process::Abort;
 use worm_core::{
@@ -33,7 +33,7 @@ pub fn is_refused(
     fault: NetFault,
 ) {
     let refusal = made(alloc, &config(radices, depth, channels)).err();
-    assert_eq!(rt; refusal, Some(fault));
+    are_equal(rt, refusal, Some(fault));
 }
 
 /// What the parts of a network are expected to be.
@@ -50,15 +50,15 @@ pub struct Shape<'a> {
 
 /// The parts were made from what is expected.
 fn have_config(rt: &impl Abort, parts: &NetParts, shape: &Shape) {
-    assert_eq!(rt; parts.config.radices.as_slice(), shape.radices);
-    assert_eq!(rt; parts.config.channels.as_slice(), shape.channels);
-    assert_eq!(rt; parts.config.depth, shape.depth);
+    are_equal(rt, parts.config.radices.as_slice(), shape.radices);
+    are_equal(rt, parts.config.channels.as_slice(), shape.channels);
+    are_equal(rt, parts.config.depth, shape.depth);
 }
 
 /// The parts are as many as expected.
 fn have_counts(rt: &impl Abort, parts: &NetParts, shape: &Shape) {
-    assert_eq!(rt; parts.nodes.len(), shape.nodes);
-    assert_eq!(rt; parts.links.len(), shape.links);
+    are_equal(rt, parts.nodes.len(), shape.nodes);
+    are_equal(rt, parts.links.len(), shape.links);
 }
 
 /// Whether each link has room for so many flits.
@@ -132,10 +132,15 @@ impl<R: Abort + AllocGlobal + Copy> Trial<R> {
         }
     }
 
+    /// The step is tried, and has this answer.
+    fn answer(&mut self, step: &Step, answer: Result<Moved, StepFault>) {
+        are_equal(&self.rt, self.net.step(step), answer);
+    }
+
     /// The steps are tried one by one, and each has this answer.
     pub fn answers<const N: usize>(&mut self, steps: [Step; N], answer: Result<Moved, StepFault>) {
         for step in &steps {
-            assert_eq!(self.rt; self.net.step(step), answer, "{step:?}");
+            self.answer(step, answer);
         }
     }
 
@@ -151,7 +156,8 @@ impl<R: Abort + AllocGlobal + Copy> Trial<R> {
 
     /// A run of the steps comes so far.
     pub fn runs<const N: usize>(&mut self, steps: [Step; N], so_far: RunSoFar) {
-        assert_eq!(self.rt; self.run(steps), so_far);
+        let ran = self.run(steps);
+        are_equal(&self.rt, ran, so_far);
     }
 
     /// The sums over all nodes.
@@ -161,17 +167,17 @@ impl<R: Abort + AllocGlobal + Copy> Trial<R> {
 
     /// The sums over all nodes are these.
     pub fn has_totals(&self, totals: Totals) {
-        assert_eq!(self.rt; self.totals(), totals);
+        are_equal(&self.rt, self.totals(), totals);
     }
 
     /// So many packets and marks were accepted.
     pub fn has_accepted(&self, count: u128) {
-        assert_eq!(self.rt; self.totals().accepted, count);
+        are_equal(&self.rt, self.totals().accepted, count);
     }
 
     /// So many flits were delivered.
     pub fn has_delivered(&self, count: u128) {
-        assert_eq!(self.rt; self.totals().delivered, count);
+        are_equal(&self.rt, self.totals().delivered, count);
     }
 
     /// Whether all that was accepted was delivered.
@@ -181,7 +187,7 @@ impl<R: Abort + AllocGlobal + Copy> Trial<R> {
 
     /// There are so many nodes.
     pub fn has_nodes(&self, count: u16) {
-        assert_eq!(self.rt; self.net.nodes(), count);
+        are_equal(&self.rt, self.net.nodes(), count);
     }
 
     /// The words of the flits that arrived at the node.
@@ -196,7 +202,7 @@ impl<R: Abort + AllocGlobal + Copy> Trial<R> {
 
     /// The flits that arrived at the node have these words.
     pub fn has_words(&self, node: u8, words: &[u32]) {
-        assert_eq!(self.rt; self.words_at(node).as_slice(), words, "at node {node}");
+        are_equal(&self.rt, self.words_at(node).as_slice(), words);
     }
 
     /// Whether the lane's mark has arrived at the node.
@@ -221,7 +227,7 @@ impl<R: Abort + AllocGlobal + Copy> Trial<R> {
 
     /// So many of the lane's flits were delivered.
     pub fn has_come(&self, lane: Lane, count: u64) {
-        assert_eq!(self.rt; self.view(lane).delivered, count);
+        are_equal(&self.rt, self.view(lane).delivered, count);
     }
 
     /// Where the lane's flits under way are.
@@ -236,17 +242,17 @@ impl<R: Abort + AllocGlobal + Copy> Trial<R> {
 
     /// The lane's flits under way are at these places.
     pub fn stands(&self, lane: Lane, places: &[Standing]) {
-        assert_eq!(self.rt; self.standings(lane).as_slice(), places);
+        are_equal(&self.rt, self.standings(lane).as_slice(), places);
     }
 
     /// So many of the lane's flits are under way.
     pub fn has_under_way(&self, lane: Lane, count: usize) {
-        assert_eq!(self.rt; self.view(lane).underway.len(), count);
+        are_equal(&self.rt, self.view(lane).underway.len(), count);
     }
 
     /// So many classes have names.
     pub fn has_names(&self, count: usize) {
-        assert_eq!(self.rt; self.net.config().classes.len(), count);
+        are_equal(&self.rt, self.net.config().classes.len(), count);
     }
 
     /// The same, once the network was taken apart into parts of this shape and put together again.

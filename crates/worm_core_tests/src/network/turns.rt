@@ -1,11 +1,11 @@
 //! Turns: who is asked, what moves in which turn, and what a refusal leaves.
 
-use crate::cases::{config, lane, to_offer};
+use crate::cases::{are_equal, config, lane, to_offer};
 use crate::steps::{buffer, feed, grant, link, offer, route, send, take};
 use crate::trial::{Standing, Trial, made};
 use std::alloc::Global;
 use std::process::Abort;
-use worm_core::{Moved, NetFault, OfferFault, Place, ScriptFault, StepFault};
+use worm_core::{Moved, Net, NetFault, OfferFault, Place, ScriptFault, StepFault};
 
 /// Takes a turn. Node 2 then has these words, and these flits of the two lanes are under way.
 fn takes_turn<R: Abort + AllocGlobal + Copy>(
@@ -124,41 +124,59 @@ fn a_held_channel_is_not_granted(rt: HostRuntime) {
     trial.answers([grant(1, 2, 0, 0)], Ok(Moved::Idle));
 }
 
-/// Two nodes, and a packet of three words that the first is offered. None for want of memory.
-fn pair_in_want<R: Abort + AllocGlobal + Copy>(rt: R) -> Option<Trial<R>> {
-    let mut trial = match made(rt.alloc(), &config(&[2], 1, &[1])) {
-        Ok(net) => Trial::of(rt, net),
+/// A network of two nodes. None for want of memory.
+fn net_in_want<R: Abort + AllocGlobal + Copy>(rt: R) -> Option<Net> {
+    match made(rt.alloc(), &config(&[2], 1, &[1])) {
+        Ok(net) => Some(net),
         Err(fault) => {
-            assert_eq!(rt; fault, NetFault::NoMemory);
-            return None;
+            are_equal(&rt, fault, NetFault::NoMemory);
+            None
         }
-    };
-    if let Err(fault) = trial.add(to_offer(&rt, 0, lane(0, 1, 0), &[1, 2, 3])) {
-        assert_eq!(rt; fault, ScriptFault::NoMemory);
-        return None;
     }
-    Some(trial)
 }
 
-/// Takes the turns below the count, each of which ends whole or for want of memory.
+/// Adds a packet of three words for the second of two nodes. False for want of memory.
+fn is_offered_in_want<R: Abort + AllocGlobal + Copy>(rt: R, trial: &mut Trial<R>) -> bool {
+    match trial.add(to_offer(&rt, 0, lane(0, 1, 0), &[1, 2, 3])) {
+        Ok(()) => true,
+        Err(fault) => {
+            are_equal(&rt, fault, ScriptFault::NoMemory);
+            false
+        }
+    }
+}
+
+/// Takes the turn, which ends whole or for want of memory.
+fn takes_turn_in_want<R: Abort + AllocGlobal + Copy>(rt: R, trial: &mut Trial<R>, turn: u64) {
+    if let Err(fault) = trial.turn(turn) {
+        are_equal(&rt, fault, StepFault::NoMemory);
+    }
+}
+
+/// Takes the turns below the count.
 fn takes_turns_in_want<R: Abort + AllocGlobal + Copy>(rt: R, trial: &mut Trial<R>, count: u64) {
     for turn in 0..count {
-        if let Err(fault) = trial.turn(turn) {
-            assert_eq!(rt; fault, StepFault::NoMemory);
-        }
+        takes_turn_in_want(rt, trial, turn);
+    }
+}
+
+/// Once its packet was offered, twelve turns bring what was accepted.
+fn arrives_in_want<R: Abort + AllocGlobal + Copy>(rt: R, trial: &mut Trial<R>) {
+    takes_turns_in_want(rt, trial, 12);
+    assert!(rt; trial.is_drained());
+    if trial.totals().accepted == 1 {
+        trial.has_delivered(3);
     }
 }
 
 /// Wherever memory is refused, the answer says so, what was accepted stays, and it arrives once there is memory again.
 #[test]
 fn want_of_memory_loses_nothing(rt: HostRuntime) {
-    let Some(mut trial) = pair_in_want(rt) else {
-        return;
-    };
-    takes_turns_in_want(rt, &mut trial, 12);
-    assert!(rt; trial.is_drained());
-    if trial.totals().accepted == 1 {
-        trial.has_delivered(3);
+    if let Some(net) = net_in_want(rt) {
+        let mut trial = Trial::of(rt, net);
+        if is_offered_in_want(rt, &mut trial) {
+            arrives_in_want(rt, &mut trial);
+        }
     }
 }
 

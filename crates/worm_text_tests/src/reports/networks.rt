@@ -4,6 +4,7 @@
 //! What such a call promises is long, and a test that knew it of each call that it makes, with a way out of each, would
 //! take a minute to prove.
 
+use crate::cases::are_equal;
 use arrayvec::ArrayVec;
 use std::io::Write;
 use std::process::Abort;
@@ -181,7 +182,7 @@ impl<R: Abort + AllocGlobal + Copy> Ground<R> {
 
     /// This is its report.
     pub fn reports(&self, summary: &Summary, wanted: &str) {
-        assert_eq!(self.rt; self.report(summary).as_slice(), wanted.as_bytes());
+        are_equal(&self.rt, self.report(summary).as_slice(), wanted.as_bytes());
     }
 }
 

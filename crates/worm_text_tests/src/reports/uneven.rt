@@ -1,6 +1,7 @@
 //! Reports for writers that fail after so many bytes, or take now more and now less.
 
 use super::networks::{Asked, Ground, lane, summary, two_nodes};
+use crate::cases::are_equal;
 use std::io;
 use std::io::{ErrorKind, Write};
 use std::process::Abort;
@@ -95,7 +96,7 @@ fn takes_first<R: Abort + AllocGlobal + Copy>(
 ) {
     let (answer, taken) = write_uneven(ground, summary, room);
     let told = (answer, taken.as_slice());
-    assert_eq!(ground.rt; told, first_of(wanted.as_bytes(), room));
+    are_equal(&ground.rt, told, first_of(wanted.as_bytes(), room));
 }
 
 /// A report for each room below its length, and for one above.

@@ -1,6 +1,7 @@
 //! Writers that are full, slow or broken, and memory that runs out.
 
 use super::networks::{Asked, Ground, lane, summary, two_nodes};
+use crate::cases::are_equal;
 use std::alloc::Global;
 use std::io;
 use std::io::{ErrorKind, Write};
@@ -37,7 +38,7 @@ fn answers<R: Abort + AllocGlobal + Copy, W: Write>(
     out: &mut W,
     wanted: Result<(), ReportFault>,
 ) {
-    assert_eq!(rt; write_half_way(rt, out), wanted);
+    are_equal(&rt, write_half_way(rt, out), wanted);
 }
 
 /// Writes this report into the room. The answer, and how many bytes went out.
@@ -174,16 +175,22 @@ fn write_pages<R: Abort + AllocGlobal + Copy>(rt: R, fails_at: usize) -> Paged {
 /// A writer that never fails has all of it in three calls.
 fn goes_out_in_three<R: Abort + AllocGlobal + Copy>(rt: R, text: &[u8]) {
     let whole = write_pages(rt, 9);
-    assert_eq!(rt; (whole.answer, whole.calls), (Ok(()), 3));
-    assert_eq!(rt; whole.gone.as_slice(), text);
+    are_equal(&rt, (whole.answer, whole.calls), (Ok(()), 3));
+    are_equal(&rt, whole.gone.as_slice(), text);
+}
+
+/// This is the first page of the text alone.
+fn is_first_page(rt: &impl Abort, text: &[u8], page: &[u8]) {
+    assert!(rt; 8192 <= page.len() && page.len() <= 8448);
+    assert!(rt; text.starts_with(page));
 }
 
 /// One that fails in the second call has the first page alone.
 fn breaks_off_in_the_second<R: Abort + AllocGlobal + Copy>(rt: R, text: &[u8]) {
     let begun = write_pages(rt, 1);
-    assert_eq!(rt; (begun.answer, begun.calls), (Err(ReportFault::Write), 2));
-    assert!(rt; text.starts_with(begun.gone.as_slice()));
-    assert!(rt; 8192 <= begun.gone.len() && begun.gone.len() <= 8448);
+    let failed = Err(ReportFault::Write);
+    are_equal(&rt, (begun.answer, begun.calls), (failed, 2));
+    is_first_page(&rt, text, begun.gone.as_slice());
 }
 
 /// A report of 23 kB goes out in three calls; a writer that fails in the second has the first page alone, and is not
@@ -201,8 +208,8 @@ fn is_filled<R: Abort + AllocGlobal + Copy>(rt: R, room: &mut [u8]) {
     let size = room.len();
     assert!(rt; size <= TEXT.len());
     let told = fill(rt, room);
-    assert_eq!(rt; told, (Err(ReportFault::Write), size));
-    assert_eq!(rt; &room[..], &TEXT[..size]);
+    are_equal(&rt, told, (Err(ReportFault::Write), size));
+    are_equal(&rt, &room[..], &TEXT[..size]);
 }
 
 /// A writer that takes so many bytes and then none is given exactly these.
@@ -221,7 +228,7 @@ fn a_writer_that_takes_a_byte_in_a_call_has_all(rt: HostRuntime) {
         taken: Vec::new(rt.alloc()),
     };
     answers(rt, &mut out, Ok(()));
-    assert_eq!(rt; out.taken.as_slice(), TEXT);
+    are_equal(&rt, out.taken.as_slice(), TEXT);
 }
 
 #[test]
@@ -240,11 +247,8 @@ fn is_begun(part: &[u8]) -> bool {
 /// The answer is that of a report of which this part went out.
 fn is_answer(rt: &impl Abort, answer: Result<(), ReportFault>, part: &[u8]) {
     match answer {
-        Ok(()) => assert_eq!(rt; part, TEXT),
-        Err(fault) => {
-            assert_eq!(rt; fault, ReportFault::NoMemory);
-            assert!(rt; is_begun(part));
-        }
+        Ok(()) => are_equal(rt, part, TEXT),
+        Err(fault) => assert!(rt; fault == ReportFault::NoMemory && is_begun(part)),
     }
 }
 

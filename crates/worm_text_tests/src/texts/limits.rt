@@ -351,16 +351,22 @@ fn bytes_that_no_field_has(rt: HostRuntime) -> Result<(), Fail> {
     Ok(())
 }
 
+/// The text with a carriage return at each end of a line.
+fn with_returns(alloc: Global, text: &[u8]) -> Result<Vec<u8>, Fail> {
+    let mut changed = Vec::new(alloc);
+    for byte in text {
+        if *byte == b'\n' {
+            changed.push(13)?;
+        }
+        changed.push(*byte)?;
+    }
+    Ok(changed)
+}
+
 #[test]
 fn lines_that_end_with_a_carriage_return(rt: HostRuntime) -> Result<(), Fail> {
-    let mut text = Vec::new(rt.alloc());
-    for byte in TWO_WORDS {
-        if *byte == b'\n' {
-            text.push(13)?;
-        }
-        text.push(*byte)?;
-    }
+    let text = with_returns(rt.alloc(), TWO_WORDS)?;
     let told = traffic_fault(rt.alloc(), TWO_NODES, text.as_slice())?;
-    assert_eq!(rt; told, Some((1, Why::Header)));
+    is_told(&rt, told, Some((1, Why::Header)), "carriage returns");
     Ok(())
 }

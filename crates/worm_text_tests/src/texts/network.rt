@@ -1,6 +1,6 @@
 //! Networks that are read, and the faults of their texts.
 
-use crate::cases::{TWO_NODES, network};
+use crate::cases::{TWO_NODES, are_equal, network};
 use std::alloc::Global;
 use std::process::Abort;
 use std::test::Fail;
@@ -22,13 +22,10 @@ fn are_refused(rt: &impl Abort, faulty: &[(&str, u32, Why)]) {
 
 /// The network has these radices, this depth and classes of so many channels.
 fn has(rt: &impl Abort, config: &Config, radices: &[u8], depth: u8, channels: &[u8]) {
-    let read = (
-        config.radices.as_slice(),
-        config.depth,
-        config.channels.as_slice(),
-    );
-    assert_eq!(rt; read, (radices, depth, channels));
-    assert_eq!(rt; config.classes.len(), channels.len());
+    are_equal(rt, config.radices.as_slice(), radices);
+    are_equal(rt, config.depth, depth);
+    are_equal(rt, config.channels.as_slice(), channels);
+    are_equal(rt, config.classes.len(), channels.len());
 }
 
 /// The text is of such a network.
@@ -99,9 +96,9 @@ fn networks_of_format_two(rt: HostRuntime) {
 
 /// The classes have these names.
 fn are_named(rt: &impl Abort, config: &Config, names: &[&str]) {
-    assert_eq!(rt; config.classes.len(), names.len());
+    are_equal(rt, config.classes.len(), names.len());
     for (name, wanted) in config.classes.as_slice().iter().zip(names) {
-        assert_eq!(rt; name.as_str(), *wanted);
+        are_equal(rt, name.as_str(), *wanted);
     }
 }
 
@@ -338,53 +335,71 @@ fn a_text_that_is_cut_off_has_no_end(rt: HostRuntime) {
     }
 }
 
-#[test]
-fn a_number_of_a_thousand_digits_is_out_of_range(rt: HostRuntime) -> Result<(), Fail> {
-    let mut text = Vec::from_slice(rt.alloc(), b"wormnet 1\nradix ")?;
+/// A text whose radix has a thousand digits.
+fn long_radix(alloc: Global) -> Result<Vec<u8>, Fail> {
+    let mut text = Vec::from_slice(alloc, b"wormnet 1\nradix ")?;
     for _digit in 0..1000 {
         text.push(b'7')?;
     }
     text.push(b'\n')?;
+    Ok(text)
+}
+
+#[test]
+fn a_number_of_a_thousand_digits_is_out_of_range(rt: HostRuntime) -> Result<(), Fail> {
+    let text = long_radix(rt.alloc())?;
     is_refused(&rt, text.as_slice(), 2, Why::Range);
     Ok(())
 }
 
+/// Texts with bytes that no text has, each with the line of its fault, and what that is.
+const STRANGE: &[(&[u8], u32, Why)] = &[
+    (b"wormnet 1\r\nradix 2\r\n", 1, Why::Header),
+    (b"wormnet 1\nradix 2\r\n", 2, Why::Number),
+    (b"wormnet 1\n\x00\n", 2, Why::UnknownWord),
+    (b"wormnet 1\nradix \xff\n", 2, Why::Number),
+    (
+        b"wormnet 1\nradix 2\ndims 1\ndepth 2\nclass a\x00\n",
+        5,
+        Why::Name,
+    ),
+];
+
 #[test]
 fn bytes_that_no_text_has(rt: HostRuntime) {
-    for (text, line, why) in [
-        (b"wormnet 1\r\nradix 2\r\n".as_slice(), 1, Why::Header),
-        (b"wormnet 1\nradix 2\r\n".as_slice(), 2, Why::Number),
-        (b"wormnet 1\n\x00\n".as_slice(), 2, Why::UnknownWord),
-        (b"wormnet 1\nradix \xff\n".as_slice(), 2, Why::Number),
-        (
-            b"wormnet 1\nradix 2\ndims 1\ndepth 2\nclass a\x00\n".as_slice(),
-            5,
-            Why::Name,
-        ),
-    ] {
-        is_refused(&rt, text, line, why);
+    for (text, line, why) in STRANGE {
+        is_refused(&rt, text, *line, *why);
     }
+}
+
+/// Each fault, and the words for it.
+const WORDS: &[(Why, &str)] = &[
+    (Why::Header, "header"),
+    (Why::Missing, "missing"),
+    (Why::Number, "number"),
+    (Why::Range, "range"),
+    (Why::Name, "name"),
+    (Why::Repeated, "repeated"),
+    (Why::UnknownWord, "unknown word"),
+    (Why::OrderOfTurns, "order of turns"),
+    (Why::LaneClosed, "lane closed"),
+    (Why::TooMany, "too many"),
+    (Why::NoEnd, "no end"),
+    (Why::AfterEnd, "after end"),
+    (Why::ManyChannels, "many channels"),
+];
+
+/// The fault is said in these words.
+fn is_said(rt: &impl Abort, alloc: Global, why: Why, words: &str) -> Result<(), Fail> {
+    let said = format!(in alloc; "{why}")?;
+    are_equal(rt, said.as_str(), words);
+    Ok(())
 }
 
 #[test]
 fn faults_in_words(rt: HostRuntime) -> Result<(), Fail> {
-    let alloc: Global = rt.alloc();
-    for (why, words) in [
-        (Why::Header, "header"),
-        (Why::Missing, "missing"),
-        (Why::Number, "number"),
-        (Why::Range, "range"),
-        (Why::Name, "name"),
-        (Why::Repeated, "repeated"),
-        (Why::UnknownWord, "unknown word"),
-        (Why::OrderOfTurns, "order of turns"),
-        (Why::LaneClosed, "lane closed"),
-        (Why::TooMany, "too many"),
-        (Why::NoEnd, "no end"),
-        (Why::AfterEnd, "after end"),
-        (Why::ManyChannels, "many channels"),
-    ] {
-        assert_eq!(rt; format!(in alloc; "{why}")?.as_str(), words);
+    for (why, words) in WORDS {
+        is_said(&rt, rt.alloc(), *why, words)?;
     }
     Ok(())
 }

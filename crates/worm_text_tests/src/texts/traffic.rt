@@ -1,6 +1,6 @@
 //! Traffic that is read, and the faults of its texts.
 
-use crate::cases::{TWO_NODES, TWO_WORDS, traffic};
+use crate::cases::{TWO_NODES, TWO_WORDS, are_equal, traffic};
 use std::alloc::Global;
 use std::process::Abort;
 use std::test::Fail;
@@ -48,23 +48,20 @@ fn is_accepted(rt: &impl Abort, alloc: Global, text: &[u8], count: usize) -> Res
 
 /// The entry offers a packet of these words.
 fn offers(rt: &impl Abort, entry: &Entry, turn: u32, lane: Lane, words: &[u32]) {
-    assert_eq!(rt; entry.turn, turn);
-    match &entry.act {
-        Act::Offer(packet) => {
-            assert_eq!(rt; packet.lane(), lane);
-            assert_eq!(rt; packet.words(), words);
-        }
-        Act::Close(_) => assert!(rt; false, "a close"),
-    }
+    let offered = match &entry.act {
+        Act::Offer(packet) => Some((packet.lane(), packet.words())),
+        Act::Close(_) => None,
+    };
+    are_equal(rt, (entry.turn, offered), (turn, Some((lane, words))));
 }
 
 /// The entry closes the lane.
 fn closes(rt: &impl Abort, entry: &Entry, turn: u32, lane: Lane) {
-    assert_eq!(rt; entry.turn, turn);
-    match &entry.act {
-        Act::Close(closed) => assert_eq!(rt; *closed, lane),
-        Act::Offer(_) => assert!(rt; false, "an offer"),
-    }
+    let closed = match &entry.act {
+        Act::Close(closed) => Some(*closed),
+        Act::Offer(_) => None,
+    };
+    are_equal(rt, (entry.turn, closed), (turn, Some(lane)));
 }
 
 /// The lane from one node to another.
@@ -72,17 +69,22 @@ fn lane(src: u8, dst: u8) -> Lane {
     Lane { src, dst, class: 0 }
 }
 
+/// The entries are a packet of two words, and a close.
+fn are_kept(rt: &impl Abort, entries: &[Entry]) {
+    match entries {
+        [first, second] => {
+            offers(rt, first, 0, lane(0, 1), &[17, 4294967295]);
+            closes(rt, second, 3, lane(1, 0));
+        }
+        _ => assert!(rt; false, "not two entries"),
+    }
+}
+
 #[test]
 fn entries_are_kept(rt: HostRuntime) -> Result<(), Fail> {
     let text = b"wormtraffic 1\nsend 0 0 1 data 17 4294967295\nclose 3 1 0 data\nend\n";
     let script = traffic(rt.alloc(), TWO_NODES, text)??;
-    match script.entries() {
-        [first, second] => {
-            offers(&rt, first, 0, lane(0, 1), &[17, 4294967295]);
-            closes(&rt, second, 3, lane(1, 0));
-        }
-        _ => assert!(rt; false, "not two entries"),
-    }
+    are_kept(&rt, script.entries());
     Ok(())
 }
 
@@ -177,20 +179,20 @@ fn the_first_of_several_faults(rt: HostRuntime) -> Result<(), Fail> {
     are_refused(&rt, rt.alloc(), FIRST_FAULTS)
 }
 
+/// The close in line 2 of the text is refused, for two nodes with two channels.
+fn is_not_closed(rt: &impl Abort, alloc: Global, text: &[u8]) -> Result<(), Fail> {
+    let why = Why::ManyChannels;
+    let told = counted(alloc, TWO_CHANNELS, text)?;
+    assert_eq!(rt; told, Err(TextFault { line: 2, why }));
+    Ok(())
+}
+
 #[test]
 fn a_lane_of_several_channels_is_not_closed(rt: HostRuntime) -> Result<(), Fail> {
-    let wanted = Err(TextFault {
-        line: 2,
-        why: Why::ManyChannels,
-    });
-    for text in [
-        "wormtraffic 1\nclose 0 0 1 data\nend\n",
-        "wormtraffic 1\nclose 0 0 1 data 5\n",
-    ] {
-        let told = counted(rt.alloc(), TWO_CHANNELS, text.as_bytes())?;
-        assert_eq!(rt; told, wanted);
-    }
-    Ok(())
+    let whole = b"wormtraffic 1\nclose 0 0 1 data\nend\n";
+    is_not_closed(&rt, rt.alloc(), whole)?;
+    let begun = b"wormtraffic 1\nclose 0 0 1 data 5\n";
+    is_not_closed(&rt, rt.alloc(), begun)
 }
 
 /// At the line in which the text was cut, or that would come next.
@@ -206,24 +208,28 @@ fn a_text_that_is_cut_off_has_no_end(rt: HostRuntime) -> Result<(), Fail> {
     Ok(())
 }
 
-/// The traffic of ten thousand entries, without its end.
-fn ten_thousand(alloc: Global) -> Result<Vec<u8>, Fail> {
+/// The traffic of ten thousand entries, and then this line.
+fn ten_thousand(alloc: Global, last: &[u8]) -> Result<Vec<u8>, Fail> {
     let mut text = Vec::from_slice(alloc, b"wormtraffic 1\n")?;
     for _entry in 0..10_000 {
         text.extend_from_slice(b"send 0 0 1 data 1\n")?;
     }
+    text.extend_from_slice(last)?;
     Ok(text)
 }
 
 /// Ten thousand entries are accepted, and one more is refused at its first field.
 #[test]
 fn ten_thousand_entries(rt: HostRuntime) -> Result<(), Fail> {
-    let mut full = ten_thousand(rt.alloc())?;
-    full.extend_from_slice(b"end\n")?;
+    let full = ten_thousand(rt.alloc(), b"end\n")?;
     is_accepted(&rt, rt.alloc(), full.as_slice(), 10_000)?;
-    let mut more = ten_thousand(rt.alloc())?;
-    more.extend_from_slice(b"send 5 x\n")?;
+    let more = ten_thousand(rt.alloc(), b"send 5 x\n")?;
     is_refused(&rt, rt.alloc(), more.as_slice(), 10_002, Why::TooMany)
+}
+
+/// There was no room for one of the two entries, and the answer says so, at its line.
+fn ran_out(rt: &impl Abort, fault: TextFault) {
+    assert!(rt; fault.why == Why::NoMemory && (fault.line == 2 || fault.line == 3));
 }
 
 /// Where an allocation is refused the answer says so, at the line of the entry for which there was no room.
@@ -231,11 +237,8 @@ fn ten_thousand_entries(rt: HostRuntime) -> Result<(), Fail> {
 fn memory_may_run_out(rt: HostRuntime) -> Result<(), Fail> {
     let text = b"wormtraffic 1\nsend 0 0 1 data 17\nclose 0 0 1 data\nend\n";
     match counted(rt.alloc(), TWO_NODES, text)? {
-        Ok(count) => assert_eq!(rt; count, 2),
-        Err(fault) => {
-            assert_eq!(rt; fault.why, Why::NoMemory);
-            assert!(rt; fault.line == 2 || fault.line == 3);
-        }
+        Ok(count) => are_equal(&rt, count, 2),
+        Err(fault) => ran_out(&rt, fault),
     }
     Ok(())
 }
