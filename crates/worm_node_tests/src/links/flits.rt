@@ -62,8 +62,8 @@ fn one_channel_of_depth_one(rt: HostRuntime) {
     let (mut tx, mut rx) = ends_of(&rt, rt.alloc(), 1, 1);
     let first = flit(0, 0, Kind::Single, 0);
     let second = flit(1, 0, Kind::Single, 0);
-    assert_eq!(rt; push_single(&rt, &mut tx, 1, 0), Ok(()));
-    assert_eq!(rt; push_single(&rt, &mut tx, 1, 1), Err(second));
+    assert_eq!(rt; push_single(&rt, &mut tx, 1, 0, 0), Ok(()));
+    assert_eq!(rt; push_single(&rt, &mut tx, 1, 1, 0), Err(second));
     comes(&rt, &mut rx, Some(first));
     comes(&rt, &mut rx, None);
 }
@@ -86,13 +86,18 @@ fn offer<R: Wait>(rt: &R, tx: &mut FlitTx, flit: Flit, tries: &mut u32) -> bool
     false
 }
 
-/// Pushes the only flit of a packet, on the link's channels in turn.
-fn push_single<R: Wait>(rt: &R, tx: &mut FlitTx, channels: u8, packet: u16) -> Result<(), Flit>
-    requires channels { (0 < channels) × (channels ≤ 8) }
+/// Pushes the only flit of a packet, on the channel.
+fn push_single<R: Wait>(
+    rt: &R,
+    tx: &mut FlitTx,
+    channels: u8,
+    packet: u16,
+    vc: u8,
+) -> Result<(), Flit>
+    requires channel { (vc < channels) × (vc < 8) }
     requires ready { IsReady channels tx.old }
     ensures { IsReady channels tx.new }
 {
-    let vc = (packet % u16::from(channels)) as u8;
     let single = flit(packet, 0, Kind::Single, vc);
     tx.history();
     match tx.push(rt, single) {
@@ -106,7 +111,7 @@ fn fill<R: Wait>(rt: &R, tx: &mut FlitTx, packets: u16) -> u16
     requires { IsReady 8 tx.old }
 {
     for packet in 0..packets {
-        if push_single(rt, tx, 8, packet).is_err() {
+        if push_single(rt, tx, 8, packet, (packet % 8) as u8).is_err() {
             return packet;
         }
     }
