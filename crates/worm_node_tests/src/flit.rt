@@ -49,8 +49,16 @@ fn packets_have_one_to_thirty_two_words(rt: HostRuntime) {
 
 #[test]
 fn faults_have_their_names_as_texts(rt: HostRuntime) {
-    reads(&rt, format!(in rt.alloc(); "{}", PacketFault::Empty), "Empty");
-    reads(&rt, format!(in rt.alloc(); "{}", PacketFault::TooLong), "TooLong");
+    reads(
+        &rt,
+        format!(in rt.alloc(); "{}", PacketFault::Empty),
+        "Empty",
+    );
+    reads(
+        &rt,
+        format!(in rt.alloc(); "{}", PacketFault::TooLong),
+        "TooLong",
+    );
 }
 
 /// The place's flit of a packet that has this number in its lane.
@@ -141,7 +149,10 @@ fn channels_of(rt: &impl Abort, counts: &[u8]) -> ClassChannels {
 /// The class owns so many channels, from this one on.
 fn has_class(rt: &impl Abort, channels: &ClassChannels, class: u8, first: u8, count: u8) {
     assert!(rt; class < channels.classes());
-    assert_eq!(rt; (channels.first(class), channels.count(class)), (first, count));
+    assert_eq!(rt;
+        (channels.first(class), channels.count(class)),
+        (first, count)
+    );
 }
 
 /// The channel is the class's.

@@ -38,7 +38,11 @@ fn prints_a_fault_by_its_name(rt: HostRuntime) {
     let alloc = rt.alloc();
     reads(&rt, format!(in alloc; "{}", MeshFault::Radix), "Radix");
     reads(&rt, format!(in alloc; "{}", MeshFault::Dims), "Dims");
-    reads(&rt, format!(in alloc; "{}", MeshFault::TooManyNodes), "TooManyNodes");
+    reads(
+        &rt,
+        format!(in alloc; "{}", MeshFault::TooManyNodes),
+        "TooManyNodes",
+    );
 }
 
 /// The node beyond the port; none where there is no link.

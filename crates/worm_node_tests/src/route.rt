@@ -58,7 +58,11 @@ fn routes_in_a_square_of_four(rt: HostRuntime) {
 fn are_crossed(rt: &impl Abort, mesh: &Mesh, links: &[(u8, u8)], within: bool) {
     assert!(rt; mesh.nodes() > 5);
     for (node, port) in links {
-        assert_eq!(rt; crosses(mesh, *node, *port, 0, 5), within, "at {node} {port}");
+        assert_eq!(rt;
+            crosses(mesh, *node, *port, 0, 5),
+            within,
+            "at {node} {port}"
+        );
     }
 }
 

@@ -93,7 +93,10 @@ fn is_next(rt: &impl Abort, source: &Source, class: u8, word: u32, vc: u8)
 fn has_none(rt: &impl Abort, source: &Source, class: u8)
     requires { class < length source.now.channels }
 {
-    assert_eq!(rt; (source.front(class), source.next_channel(class)), (None, None));
+    assert_eq!(rt;
+        (source.front(class), source.next_channel(class)),
+        (None, None)
+    );
 }
 
 /// The class's front is fed.
@@ -129,5 +132,10 @@ fn packets_are_fed_in_order(rt: HostRuntime) {
     is_next(&rt, &source, 1, 3, 2);
     has_fed(&rt, &source, 1, 2, 5);
     has_fed(&rt, &source, 0, 0, 0);
-    closes(&rt, &mut source, lane(0, 1, 1), Err(OfferFault::ManyChannels));
+    closes(
+        &rt,
+        &mut source,
+        lane(0, 1, 1),
+        Err(OfferFault::ManyChannels),
+    );
 }

@@ -3,9 +3,7 @@
 ghost use Rattle.std.specs.Prelude.{◌<◌};
 
 use std::process::Abort;
-use worm_vcalloc::{
-    Arbiter, ChannelSet, FreeChannels, VcAlloc, VcGrants, VcRequest, VcRequests,
-};
+use worm_vcalloc::{Arbiter, ChannelSet, FreeChannels, VcAlloc, VcGrants, VcRequest, VcRequests};
 
 /// Each channel comes into the set, or goes out of it where it is false.
 fn put_all(rt: &impl Abort, set: &mut ChannelSet, changes: &[(u8, u8, bool)]) {

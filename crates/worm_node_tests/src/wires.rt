@@ -42,7 +42,13 @@ fn links_are_numbered_by_node_and_port(rt: HostRuntime) {
 }
 
 /// A link with this room, onto which flits of these words came, and credits of these channels.
-fn link_with(rt: &impl Abort, alloc: Global, room: u16, words: &[u32], credits: &[u8]) -> LinkState {
+fn link_with(
+    rt: &impl Abort,
+    alloc: Global,
+    room: u16,
+    words: &[u32],
+    credits: &[u8],
+) -> LinkState {
     let mut link = LinkState::new(alloc, room).expect(rt, "memory");
     for word in words {
         assert!(rt; link.count() < usize::from(link.room()));

@@ -14,9 +14,7 @@ use std::process::Abort;
 use std::sync::Wait;
 use std::thread;
 use worm_flit::{Flit, Kind};
-use worm_links::{
-    Ends, FlitRx, FlitTx, LinkCfg, LinkFault, Opening, link, link_after, reunite,
-};
+use worm_links::{Ends, FlitRx, FlitTx, LinkCfg, LinkFault, Opening, link, link_after, reunite};
 
 /// A flit from node 0 to node 1, which carries its packet's number.
 fn flit(packet: u16, index: u8, kind: Kind, vc: u8) -> Flit
