@@ -6,8 +6,8 @@ use std::process::Abort;
 use worm_core::{Act, Config, Entry, Name};
 use worm_flit::{Lane, Packet};
 
-/// What is found is what is wanted. The tests compare by this call: an `assert_eq!` is proved with all that its function
-/// holds, and took half of most helpers' proofs.
+/// What is found is what is wanted. The tests compare by this call, since an `assert_eq!` is proved with all that its
+/// function holds.
 pub fn are_equal<T: PartialEq + Debug + Drop>(rt: &impl Abort, found: T, wanted: T) {
     assert_eq!(rt; found, wanted);
 }
