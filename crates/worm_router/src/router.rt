@@ -399,11 +399,14 @@ impl Router {
         if !self.busy.ready.keys().contains(port, vc) {
             return None;
         }
+        // A channel that may send holds an output channel, and has a flit.
         let channel = &self.inputs[self.line(port, vc)];
         let InRecord::Active { out, out_vc } = channel.state() else {
-            return None;
+            unreachable!()
         };
-        let mut flit = channel.flit_at(0)?;
+        let Some(mut flit) = channel.flit_at(0) else {
+            unreachable!()
+        };
         flit.vc = out_vc;
         Some((out, flit))
     }
@@ -455,6 +458,7 @@ impl Router {
     }
 
     /// A credit that this channel owed has gone out.
+    #[inline(always)]
     pub fn gave(&mut self, port: u8, vc: u8)
         requires place { IsPlace self.old port vc }
         requires owed { 0 < (input_at self.old port vc).owed }
