@@ -16,10 +16,12 @@ use Rattle.worm_flit.proofs.SmallSets.{has_none}
 use Rattle.worm_wires.specs.Wiring.{into_from}
 use Rattle.worm_wires.proofs.Apart.{in_once, into_is, out_is, out_once}
 use Rattle.worm_wires.specs.Arrivals.{AreFronts, credits_to, flits_to}
-use Rattle.worm_wires.proofs.Looking.{credits_past, flits_past, is_below, lacks, nothing_in, nothing_out}
+use Rattle.worm_wires.proofs.Looking.{credits_past, flits_past, is_below, lacks, linked_in, linked_out, nothing_in}
+use Rattle.worm_wires.proofs.Looking.{nothing_out}
 use Rattle.worm_region.specs.Shape.{net_shape}
 use Rattle.worm_region.specs.State.{IsSameConfig, NetState, link_at, with_link}
-use Rattle.worm_region.specs.Moves.{Covers, NoCredit, NoFlit, after_getting, after_take, front_credit, front_into}
+use Rattle.worm_region.specs.Moves.{AreLinked, Covers, NoCredit, NoFlit, after_getting, after_take, front_credit}
+use Rattle.worm_region.specs.Moves.{front_into}
 use Rattle.worm_region.specs.Moves.{link_into, link_out}
 use Rattle.worm_region.specs.Workable.{IsWorkable}
 use Rattle.worm_region.specs.Replies.{Attempts, Replies}
@@ -245,3 +247,24 @@ flits_cover s x set net fronts =
           (lacks (flits_to (links_of s) x) set last fronts six past p (λ below. none));
       places = λ p p_in on. is_below (flits_to (links_of s) x) set last fronts six past p p_in on;
     }
+
+-- by their ports the node has neighbours
+
+pub credits_linked : (s : NetState) (x set : ℕ) → AreFronts (credits_to (links_of s) x) set → AreLinked s x set
+credits_linked s x set fronts = λ p p_in on. linked_out (links_of s) x set p fronts p_in on
+
+pub flits_linked : (s : NetState) (x set : ℕ) → AreFronts (flits_to (links_of s) x) set → AreLinked s x set
+flits_linked s x set fronts = λ p p_in on. linked_in (links_of s) x set p fronts p_in on
+
+-- also without the first of them
+pub linked_less : (s : NetState) (x set new q : ℕ) → IsFirst set new q → AreLinked s x set → AreLinked s x new
+linked_less s x set new q first linked = λ p p_in on. elim (number_cases p q) [
+  | inl same ↦ absurd (let off = ap (has new) same.1 ∙ first.taken.here in cc)
+  | inr away ↦ linked p p_in (sym (first.taken.elsewhere p p_in away.1) ∙ on)
+]
+
+-- and by the first of them it has one still
+pub first_linked : (a b : NetState) (x set new q : ℕ) → IsSameConfig a b → IsFirst set new q → AreLinked a x set
+    → IsSome (neighbour_of b.mesh x q)
+first_linked a b x set new q config first linked =
+    subst (λ (m : List ℕ). IsSome (neighbour_of m x q)) (sym config.mesh) (linked q first.in_range first.was_in)

@@ -17,7 +17,7 @@ pub not_found : IsSome {T = ℕ} None → ⊥
 not_found some = absurd (cc)
 
 -- a port with a neighbour is a node's
-of_node : (mesh : List ℕ) (x p : ℕ) → IsSome (neighbour_of mesh x p) → x < node_count mesh
+pub of_node : (mesh : List ℕ) (x p : ℕ) → IsSome (neighbour_of mesh x p) → x < node_count mesh
 of_node mesh x p linked = elim (cases_lt x (node_count mesh)) [
   | inl there ↦ there
   | inr past ↦ absurd (not_found (rw (no_node mesh x p past) at linked))

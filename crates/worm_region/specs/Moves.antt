@@ -152,6 +152,10 @@ pub record Covers (NoneAt : ℕ → Type 0) (count set : ℕ) : Type 0 where
   pub rest : (n : ℕ) → n < count → has_small set n ≡ false → NoneAt n
   pub places : (n : ℕ) → n < 8 → has_small set n ≡ true → n < count
 
+-- a set of mesh ports, by each of which the node has a neighbour
+abbrev pub AreLinked : NetState → ℕ → ℕ → Type 0
+AreLinked s x set = (p : ℕ) → p < 8 → has_small set p ≡ true → IsSome (neighbour_of s.mesh x p)
+
 -- Nothing can come into a node: no credit is on a link out of it, no flit on a link into it, and its source has no
 -- flit for which there is room.
 pub record NothingComes (s : NetState) (x : ℕ) : Type 0 where

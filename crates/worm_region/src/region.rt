@@ -1,6 +1,6 @@
 //! The lists of a network with what its moves need of them, and the moves: small steps, each of which keeps that.
 
-ghost use Rattle.std.specs.Prelude.{None, Some, ◌≡◌, ◌≤◌, ◌<◌, ◌*◌, ℕ, Result, IsTrue, Ok};
+ghost use Rattle.std.specs.Prelude.{None, Some, ◌≡◌, ◌≤◌, ◌<◌, ◌*◌, ℕ, Result, IsTrue, Ok, IsSome};
 ghost use Rattle.std.specs.Prelude.{sum, length, IfSome, IfOk, Err, ◌↔◌};
 ghost use Rattle.worm_theory.specs.Steps.{IsThere, Step as Event};
 ghost use Rattle.worm_region.specs.Runs.{event_of};
@@ -12,11 +12,11 @@ ghost use Rattle.worm_region.specs.Owned.{sole};
 ghost use Rattle.worm_wires.specs.Wiring.{port_links};
 ghost use Rattle.worm_region.specs.Workable.{EndsWithin, IsWorkable, owned};
 ghost use Rattle.worm_region.specs.Turns.{AreThere, Chooses, ComesInBy, ReachesAt, NodePassesBy, lowest_owed};
-ghost use Rattle.worm_mesh.specs.Address.{node_count};
+ghost use Rattle.worm_mesh.specs.Address.{node_count, neighbour_of};
 ghost use Rattle.worm_router.specs.Router.{input_at, leaving};
 ghost use Rattle.worm_router.specs.Rest.{IsAtRest};
 ghost use Rattle.worm_router.specs.Allocation.{after_allocate};
-ghost use Rattle.worm_region.specs.Moves.{AreOwing, Covers, NoCredit, NoFeed, NoFlit, RoutesWithin};
+ghost use Rattle.worm_region.specs.Moves.{AreLinked, AreOwing, Covers, NoCredit, NoFeed, NoFlit, RoutesWithin};
 
 mod edges;
 mod parts;
@@ -174,6 +174,7 @@ impl Region {
     /// The mesh ports of the node by which a credit comes back.
     pub(crate) fn credits_in(&self, node: u8) -> SmallSet
         ensures ports { Covers (NoCredit self.now node) (2 * length self.now.mesh) result }
+        ensures linked { AreLinked self.now node result }
         ensures sound { IsWorkable self.now }
     {
         self.fabric.wires().credits_in(node)
@@ -182,6 +183,7 @@ impl Region {
     /// The mesh ports of the node by which a flit comes in.
     pub(crate) fn flits_in(&self, node: u8) -> SmallSet
         ensures ports { Covers (NoFlit self.now node) (2 * length self.now.mesh) result }
+        ensures linked { AreLinked self.now node result }
         ensures sound { IsWorkable self.now }
     {
         self.fabric.wires().flits_in(node)
@@ -216,6 +218,7 @@ impl Region {
 
     /// Whether the node is at rest, so that its turn goes past all but what its source is asked. Where it is at rest
     /// this may not be found.
+    #[inline(always)]
     pub fn rests(&mut self, node: u8) -> bool
         requires { node < node_count self.old.mesh }
         ensures comes { IsTrue result → ComesInBy Attempts node self.old None self.old }
@@ -295,6 +298,7 @@ impl Region {
     }
 
     /// A Send where the place is there. What leaves over a link stays among the nodes that are owned.
+    #[inline(always)]
     pub fn send_there(&mut self, node: u8, port: u8, vc: u8) -> Result<Moved, StepFault>
         requires there { IsThere (shape self.old) (Event.Send node port vc) }
         requires within { IfSome (leaving (router_at self.old node) port vc)
@@ -307,10 +311,19 @@ impl Region {
     pub(crate) fn take_flit(&mut self, node: u8, port: u8) -> Result<Moved, StepFault>
         ensures { Replies self.old (Event.Take node port) result self.new }
     {
-        let Some(number) = self.fabric.wires().find_into(node, port) else {
+        if self.fabric.wires().links_at(node, port).is_none() {
             return Err(StepFault::NoSuchPlace);
-        };
-        Ok(moved(self.fabric.take_flit(node, port, number)))
+        }
+        Ok(moved(self.take_flit_there(node, port)))
+    }
+
+    /// A Take where the port has a link.
+    pub(crate) fn take_flit_there(&mut self, node: u8, port: u8) -> bool
+        requires { IsSome (neighbour_of self.old.mesh node port) }
+        ensures { Replies self.old (Event.Take node port) (Ok (moved_of result)) self.new }
+    {
+        let number = self.fabric.wires().number_into(node, port);
+        self.fabric.take_flit(node, port, number)
     }
 
     fn give_credit(&mut self, node: u8, port: u8, vc: u8) -> Result<Moved, StepFault>
@@ -327,6 +340,7 @@ impl Region {
     }
 
     /// A GiveCredit where the node and the channel are there, and the channel of the port owes a credit.
+    #[inline(always)]
     pub fn give_owed(&mut self, node: u8, port: u8, vc: u8) -> Result<Moved, StepFault>
         requires channel { vc < sum self.old.channels }
         requires owed { 0 < (input_at (router_at self.old node) port vc).owed }
@@ -343,10 +357,19 @@ impl Region {
     pub(crate) fn take_credit(&mut self, node: u8, port: u8) -> Result<Moved, StepFault>
         ensures { Replies self.old (Event.TakeCredit node port) result self.new }
     {
-        let Some(number) = self.fabric.wires().find_out(node, port) else {
+        if self.fabric.wires().links_at(node, port).is_none() {
             return Err(StepFault::NoSuchPlace);
-        };
-        Ok(moved(self.fabric.take_credit(node, port, number)))
+        }
+        Ok(moved(self.take_credit_there(node, port)))
+    }
+
+    /// A TakeCredit where the port has a link.
+    pub(crate) fn take_credit_there(&mut self, node: u8, port: u8) -> bool
+        requires { IsSome (neighbour_of self.old.mesh node port) }
+        ensures { Replies self.old (Event.TakeCredit node port) (Ok (moved_of result)) self.new }
+    {
+        let number = self.fabric.wires().number_out(node, port);
+        self.fabric.take_credit(node, port, number)
     }
 
     /// One step, where all nodes are owned.

@@ -2,7 +2,8 @@
 
 ghost use Rattle.std.specs.Prelude.{ℕ, List, [], ◌≡◌, ◌<◌, ◌*◌, Option, None, Some, IsTrue, true, false, length, sum};
 ghost use Rattle.std.specs.Result.{result_err};
-ghost use Rattle.worm_mesh.specs.Address.{node_count};
+ghost use Rattle.std.specs.Prelude.{IsSome};
+ghost use Rattle.worm_mesh.specs.Address.{neighbour_of, node_count};
 ghost use Rattle.worm_region.specs.Replies.{Attempts, Replies};
 ghost use Rattle.worm_region.specs.Script.{begun_at, is_marked};
 ghost use Rattle.worm_region.specs.Owned.{sole};
@@ -86,12 +87,13 @@ impl Region {
 
     /// Takes the credit that comes back by the port, and by no other.
     fn take_credit_at(&mut self, node: u8, port: u8)
+        requires { IsSome (neighbour_of self.old.mesh node port) }
         ensures taken { Does (Attempts (TakeCredit node port)) self.old None self.new }
         ensures others { (p : ℕ) → (p ≡ port → ⊥) → NoCredit self.old node p → NoCredit self.new node p }
         ensures sound { IsWorkable self.new }
     {
         self.recall();
-        let _moved = self.take_credit(node, port);
+        let _moved = self.take_credit_there(node, port);
         self.recall();
     }
 
@@ -108,12 +110,13 @@ impl Region {
 
     /// Takes the flit that comes in by the port, and by no other.
     fn take_flit_at(&mut self, node: u8, port: u8)
+        requires { IsSome (neighbour_of self.old.mesh node port) }
         ensures taken { Does (Attempts (Take node port)) self.old None self.new }
         ensures others { (p : ℕ) → (p ≡ port → ⊥) → NoFlit self.old node p → NoFlit self.new node p }
         ensures sound { IsWorkable self.new }
     {
         self.recall();
-        let _moved = self.take_flit(node, port);
+        let _moved = self.take_flit_there(node, port);
         self.recall();
     }
 

@@ -90,6 +90,26 @@ module _ {A : Type 0} (list_to : ℕ → List A) (bits last : ℕ) (are : AreFro
   pub none_come : (bits == 0) ≡ true → (p : ℕ) → list_to p ≡ []
   none_come none p = lacks p (λ below. has_none bits p none)
 
+-- a port by which something comes in has a link
+
+into_some : (mesh : List ℕ) (states : List LinkView) (p : ℕ) (n : Option ℕ)
+    → has_front (flits_of states (option_map (λ y. links_before mesh y (opposite_of p)) n)) ≡ true → IsSome n
+into_some mesh states p None on = absurd (cc)
+into_some mesh states p (Some y) on = refl
+
+out_some : (mesh : List ℕ) (states : List LinkView) (x o : ℕ) (n : Option ℕ)
+    → has_front (credits_of states (option_map (λ y. links_before mesh x o) n)) ≡ true → IsSome n
+out_some mesh states x o None on = absurd (cc)
+out_some mesh states x o (Some y) on = refl
+
+pub linked_in : (l : LinksView) (x set p : ℕ) → AreFronts (flits_to l x) set → p < 8 → has set p ≡ true
+    → IsSome (neighbour_of l.mesh x p)
+linked_in l x set p are p_in on = into_some l.mesh l.states p (neighbour_of l.mesh x p) (sym (are p p_in) ∙ on)
+
+pub linked_out : (l : LinksView) (x set o : ℕ) → AreFronts (credits_to l x) set → o < 8 → has set o ≡ true
+    → IsSome (neighbour_of l.mesh x o)
+linked_out l x set o are o_in on = out_some l.mesh l.states x o (neighbour_of l.mesh x o) (sym (are o o_in) ∙ on)
+
 -- past the mesh ports nothing comes in
 
 pub flits_past : (l : LinksView) (x p : ℕ) → 2 * length l.mesh ≤ p → flits_to l x p ≡ []

@@ -206,6 +206,19 @@ impl Links {
         number
     }
 
+    /// The number of the link that comes into this port.
+    pub fn number_into(&self, node: u8, port: u8) -> u16
+        requires { IsSome (neighbour_of self.now.mesh node port) }
+        ensures value { result ≡ number_into self.now node port }
+        ensures bound { result < link_count self.now.mesh }
+        ensures mesh_port { port < 6 }
+    {
+        let Some(number) = self.wiring.link_into(node, port) else {
+            unreachable!()
+        };
+        number
+    }
+
     /// Drops the front flit of the link into this port, which is that of this number.
     pub fn pop(&mut self, node: u8, port: u8, number: u16)
         requires number { number ≡ number_into self.old node port }

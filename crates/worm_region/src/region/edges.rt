@@ -59,9 +59,7 @@ impl Region {
         requires linked { IsSome (neighbour_of self.now.mesh node port) }
         ensures { (result ≡ false) ↔ ((link_at self.now (link_into self.now node port)).credits ≡ []) }
     {
-        let Some(number) = self.fabric.wires().find_into(node, port) else {
-            unreachable!()
-        };
+        let number = self.fabric.wires().number_into(node, port);
         self.fabric.link(number).front_credit().is_some()
     }
 

@@ -1,56 +1,30 @@
-use Rattle.std.proofs.Common.{◌<◌, Ok, refl, subst}
-use Rattle.std.specs.Prelude.{IsSome}
-use Rattle.worm_mesh.specs.Address.{neighbour_of, node_count}
+use Rattle.std.proofs.Common.{refl, ap, subst, ◌∙◌}
+use Rattle.std.specs.Prelude.{IsSome, not}
+use Rattle.worm_mesh.specs.Address.{neighbour_of}
 use Rattle.worm_theory.specs.Steps.{TakeCredit, IsThere}
 use Rattle.worm_region.specs.Shape.{net_shape}
 use Rattle.worm_region.specs.State.{NetState, shape}
-use Rattle.worm_region.specs.Replies.{Replies}
-use Rattle.worm_region.specs.Answers.{moved_of}
-use Rattle.worm_region.proofs.GetAgrees.{get_answers, credit_fits}
-use Rattle.worm_region.proofs.LinkedPorts.{line_back, line_there, not_found}
-use Rattle.worm_region.proofs.Reaching.{still_workable}
+use Rattle.worm_region.proofs.LinkedPorts.{line_back, line_there}
 use Rattle.worm_region.proofs.region.Region.take_credit.Goals as goal
-use Rattle.worm_region.proofs.region.Region.take_credit.Goals.{In-Some}
 
-found : (c : goal.In-Some) → (c.args.node < node_count c.self.inside.fabric.mesh)
-    × IsSome (neighbour_of c.self.inside.fabric.mesh c.args.node c.args.port)
-found c =
-    line_there c.self.inside.fabric c.wires.result.now c.args.node c.args.port c.wires.ensures
-    (c.in-Some.ensures.there.0 refl)
-
-pub returns-in_default : goal.returns-in_default
+pub returns-then-is_none : goal.returns-then-is_none
 unfolding net_shape
-returns-in_default c = (
+returns-then-is_none c = (
   subst (λ (s : NetState). IsThere (shape s) (TakeCredit c.args.node c.args.port) → ⊥) c.self.view_is
-      (λ there. not_found (c.in_default.ensures.there.1 (line_back c.self.inside.fabric c.wires.result.now c.args.node
-      c.args.port c.wires.ensures there.1))),
+      (λ there.
+      let some = c.links_at.ensures.there.1 (line_back c.self.inside.fabric c.wires.result.now c.args.node c.args.port
+      c.wires.ensures there.1) in
+      let none = c.is_none.ensures ∙ ap not c.if-is_none.true in
+      cc),
   refl,
 )
 
-pub take_credit-requires-clause-front : goal.take_credit-requires-clause-front
-unfolding net_shape
-take_credit-requires-clause-front c =
-    credit_fits c.self.inside.fabric c.args.node c.args.port c.self.invariant
-    (found (goal.at.take_credit-requires-clause-front c).In-Some)
-
-pub invariant_of-self : goal.invariant_of-self
-unfolding net_shape
-invariant_of-self c =
-    let there =
-    found (goal.at.invariant_of-self c).In-Some in
-    still_workable c.self.inside.fabric c.take_credit.new.self (TakeCredit c.args.node c.args.port)
-    (Ok (moved_of c.take_credit.result))
-    (rw c.take_credit.ensures.after (get_answers c.self.inside.fabric c.args.node c.args.port c.self.invariant there
-    c.take_credit.result c.take_credit.ensures.enabled))
+pub take_credit_there-requires : goal.take_credit_there-requires
+take_credit_there-requires c =
+    let some : IsSome c.links_at.result = c.is_none.ensures ∙ ap not c.if-is_none.false in
+    subst (λ (s : NetState). IsSome (neighbour_of s.mesh c.args.node c.args.port)) c.self.view_is
+    (line_there c.self.inside.fabric c.wires.result.now c.args.node c.args.port c.wires.ensures
+    (c.links_at.ensures.there.0 some)).1
 
 pub returns : goal.returns
-unfolding net_shape
-returns c =
-    let a =
-    (get_answers c.self.inside.fabric c.args.node c.args.port c.self.invariant
-    (found (goal.at.returns c).In-Some) c.take_credit.result c.take_credit.ensures.enabled).1 in
-    let moved : Replies c.self.inside.fabric (TakeCredit c.args.node c.args.port) (Ok c.moved.result)
-    c.take_credit.new.self =
-    rw (c.moved.ensures, c.take_credit.ensures.after) a in
-    subst (λ (s : NetState). Replies s (TakeCredit c.args.node c.args.port) (Ok c.moved.result) c.take_credit.new.self)
-    c.self.view_is moved
+returns c = rw c.moved.ensures c.take_credit_there.ensures

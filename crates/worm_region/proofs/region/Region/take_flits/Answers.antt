@@ -2,7 +2,8 @@ use Rattle.std.proofs.Common.{◌+◌, map, refl}
 use Rattle.worm_theory.specs.Steps.{Take}
 use Rattle.worm_region.specs.Moves.{NoFlit}
 use Rattle.worm_region.specs.Turns.{mesh_ports}
-use Rattle.worm_region.proofs.Covering.{covered_all, covered_more, covered_start, few_ports, port_count, same_ports}
+use Rattle.worm_region.proofs.Covering.{covered_all, covered_more, covered_start, few_ports, first_linked, linked_less}
+use Rattle.worm_region.proofs.Covering.{port_count, same_ports}
 use Rattle.worm_region.proofs.Covering.{no_flit_still}
 use Rattle.worm_region.proofs.region.Region.take_flits.Goals as goal
 
@@ -13,6 +14,7 @@ loop-port-init c =
       0,
       covered_start x port_count (Take x) (λ s. NoFlit s x) c.args.self.now set.result c.requires set.ensures.sound
           (few_ports c.args.self.now set.ensures.sound) set.ensures.ports,
+      set.ensures.linked,
     )
 
 pub loop-port-preserved : goal.loop-port-preserved
@@ -24,7 +26,14 @@ loop-port-preserved c =
       covered_more x port_count same_ports (Take x) (λ s. NoFlit s x) (no_flit_still x) c.args.self.now c.loop-port.self
           c.take_flit_at.new.self c.loop-port.left c.pop_first.new.self inv.0 c.in-Some.port inv.1
           c.in-Some.ensures one.taken one.others one.sound,
+      linked_less c.args.self.now x c.loop-port.left c.pop_first.new.self c.in-Some.port c.in-Some.ensures inv.2,
     )
+
+pub take_flit_at-requires : goal.take_flit_at-requires
+take_flit_at-requires c =
+    let inv = c.loop-port.invariant in
+    first_linked c.args.self.now c.loop-port.self c.args.node c.loop-port.left c.pop_first.new.self c.in-Some.port
+    inv.1.passed.reaches.config c.in-Some.ensures inv.2
 
 pub returns : goal.returns
 returns c =
