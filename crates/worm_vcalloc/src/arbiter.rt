@@ -59,14 +59,13 @@ impl Arbiter {
         ensures within { IfSome result (λ line. line < self.now.width) }
     {
         let ahead = requests >> self.pointer;
+        if ahead != 0 {
+            return Some(self.pointer + ahead.trailing_zeros() as u8);
+        }
         if requests == 0 {
             return None;
         }
-        if ahead != 0 {
-            Some(self.pointer + ahead.trailing_zeros() as u8)
-        } else {
-            Some(requests.trailing_zeros() as u8)
-        }
+        Some(requests.trailing_zeros() as u8)
     }
 
     /// Moves the pointer past a line, as `pick` does where it chooses that line.
