@@ -103,34 +103,6 @@ kept_leaves r s ready keys port vc same few_ports few_channels is members place 
     ∙ ap is_some (ap (λ t. cell t port vc None) is ∙ cell_is r None (ready_at r) port vc few_ports few_channels here)
     ∙ some_mapped (leaving r port vc) ∙ ap (λ (q : RouterState). is_some (leaving q port vc)) same
 
--- what leaves is the front of a channel that holds an output channel
-
-held_by : (r : RouterState) (p : ℕ) (c : ChannelState) (s : InRecord) (fs : List Flit)
-    → true ≡ is_some (leaving_by r p c s fs) → ((o v : ℕ) → s ≡ Active o v → ⊥) → ⊥
-held_by r p c Idle fs some none = absurd (cc)
-held_by r p c (Waiting o) fs some none = absurd (cc)
-held_by r p c (Active o v) fs some none = none o v refl
-
-front_of_it : (r : RouterState) (p : ℕ) (c : ChannelState) (s : InRecord) (fs : List Flit)
-    → true ≡ is_some (leaving_by r p c s fs) → slice_get fs 0 ≡ None → ⊥
-front_of_it r p c Idle fs some none = absurd (cc)
-front_of_it r p c (Waiting o) fs some none = absurd (cc)
-front_of_it r p c (Active o v) [] some none = absurd (cc)
-front_of_it r p c (Active o v) (f ∷ fs) some none = absurd (cc)
-
-pub sender_holds : (r : RouterState) (port vc : ℕ) (c : ChannelState) (s : InRecord)
-    → true ≡ is_some (leaving r port vc) → c ≡ input_at r port vc → s ≡ c.state
-    → ((o v : ℕ) → s ≡ Active o v → ⊥) → ⊥
-sender_holds r port vc c s some is state none =
-    held_by r port (input_at r port vc) (input_at r port vc).state (input_at r port vc).buffer some
-    (λ o v active. none o v (state ∙ ap (λ (x : ChannelState). x.state) is ∙ active))
-
-pub sender_has_front : (r : RouterState) (port vc : ℕ) (c : ChannelState) → true ≡ is_some (leaving r port vc)
-    → c ≡ input_at r port vc → slice_get c.buffer 0 ≡ None → ⊥
-sender_has_front r port vc c some is none =
-    front_of_it r port (input_at r port vc) (input_at r port vc).state (input_at r port vc).buffer some
-    (ap (λ (x : ChannelState). slice_get x.buffer 0) (sym is) ∙ none)
-
 -- by the output channel that it holds
 pub leaves_by_hold : (r : RouterState) (port vc out out_vc : ℕ) (c : ChannelState) (front : Flit)
     → true ≡ is_some (leaving r port vc)

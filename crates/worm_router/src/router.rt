@@ -399,14 +399,11 @@ impl Router {
         if !self.busy.ready.keys().contains(port, vc) {
             return None;
         }
-        // A channel that may send holds an output channel, and has a flit.
         let channel = &self.inputs[self.line(port, vc)];
         let InRecord::Active { out, out_vc } = channel.state() else {
-            unreachable!()
+            return None;
         };
-        let Some(mut flit) = channel.flit_at(0) else {
-            unreachable!()
-        };
+        let mut flit = channel.flit_at(0)?;
         flit.vc = out_vc;
         Some((out, flit))
     }

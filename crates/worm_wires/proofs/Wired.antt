@@ -209,6 +209,16 @@ ports_within mesh x p links radices e =
     subst (λ (o : Option PortLinks). IfSome o (λ l. (l.out < link_count mesh) × (l.into < link_count mesh))) (sym e)
     (ports_bound mesh x p radices)
 
+-- and their numbers by themselves
+pub numbers_there : (mesh : List ℕ) (x p : ℕ) (links : PortLinks)
+    → ◌≡◌ {A = Option PortLinks} (Some links) (port_links mesh x p)
+    → (links.out ≡ links_before mesh x p) × (links.into ≡ into_from mesh p (neighbour_of mesh x p))
+numbers_there mesh x p links e =
+    let these = parts mesh x p links e in (
+      ap (λ (l : PortLinks). l.out) these.1,
+      ap (λ (l : PortLinks). l.into) these.1 ∙ sym (ap (λ (n : Option ℕ). into_from mesh p n) these.0),
+    )
+
 pub entered_within : (mesh : List ℕ) (x p : ℕ) (links : PortLinks) → AreRadices mesh
     → ◌≡◌ {A = Option PortLinks} (Some links) (port_links mesh x p) → links.entered < 6
 entered_within mesh x p links radices e =

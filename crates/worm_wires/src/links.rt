@@ -200,10 +200,7 @@ impl Links {
         ensures bound { result < link_count self.now.mesh }
         ensures mesh_port { port < 6 }
     {
-        let Some(number) = self.wiring.link_out(node, port) else {
-            unreachable!()
-        };
-        number
+        self.wiring.links_beyond(node, port).out
     }
 
     /// The number of the link that comes into this port.
@@ -213,10 +210,7 @@ impl Links {
         ensures bound { result < link_count self.now.mesh }
         ensures mesh_port { port < 6 }
     {
-        let Some(number) = self.wiring.link_into(node, port) else {
-            unreachable!()
-        };
-        number
+        self.wiring.links_beyond(node, port).into
     }
 
     /// Drops the front flit of the link into this port, which is that of this number.

@@ -224,6 +224,12 @@ impl Wiring {
         ensures mesh { AreRadices self.now }
         ensures bound { result.out < link_count self.now }
         ensures entered { result.entered < 6 }
+
+        // The numbers again, by themselves.
+        ensures out { result.out ≡ links_before self.now node port }
+        ensures into { result.into ≡ into_from self.now port (neighbour_of self.now node port) }
+        ensures back { result.into < link_count self.now }
+        ensures mesh_port { port < 6 }
     {
         // For the proof: a mesh has radices within their limits.
         let _nodes = self.mesh.nodes();

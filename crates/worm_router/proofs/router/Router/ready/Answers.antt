@@ -4,7 +4,7 @@ use Rattle.worm_vcalloc.proofs.PassLemmas.{none_where_not_some}
 use Rattle.worm_router.specs.Router.{IsRouter, leaving}
 use Rattle.worm_router.proofs.Kept.{input_read}
 use Rattle.worm_router.proofs.Leaving.{may_leave}
-use Rattle.worm_router.proofs.ReadyOuts.{kept_leaves, leaves_by_hold, sender_has_front, sender_holds}
+use Rattle.worm_router.proofs.ReadyOuts.{kept_leaves, leaves_by_hold}
 use Rattle.worm_router.proofs.router.Router.ready.Goals as goal
 
 pub returns-then-not-contains-clause-leaves : goal.returns-then-not-contains-clause-leaves
@@ -14,38 +14,18 @@ returns-then-not-contains-clause-leaves c =
     c.self.invariant.busy.few_ports c.self.invariant.busy.few_channels c.self.invariant.ready c.keys.ensures c.requires)
     ∙ sym c.contains.ensures ∙ c.if-not-contains.true))
 
-pub unreachable-requires : goal.unreachable-requires
-unreachable-requires c =
-    sender_holds c.args.self.now c.args.port c.args.vc c.index-channel.result.now c.state.result
-    (sym c.if-not-contains.false ∙ c.contains.ensures
-    ∙ kept_leaves _ c.args.self.now _ c.keys.result c.args.port c.args.vc c.self.view_is
-    c.self.invariant.busy.few_ports c.self.invariant.busy.few_channels c.self.invariant.ready c.keys.ensures c.requires)
-    (input_read _ c.args.self.now c.args.port c.args.vc c.line.result c.index-channel.result.now
-    c.self.view_is c.index-channel.ensures c.line.ensures.value c.line.ensures.in_inputs)
-    c.state.ensures c.in_default.not-Active
-
-pub unreachable-requires-in_default-flit_at : goal.unreachable-requires-in_default-flit_at
-unreachable-requires-in_default-flit_at c =
-    sender_has_front c.args.self.now c.args.port c.args.vc c.index-channel.result.now
-    (sym c.if-not-contains.false ∙ c.contains.ensures
-    ∙ kept_leaves _ c.args.self.now _ c.keys.result c.args.port c.args.vc c.self.view_is
-    c.self.invariant.busy.few_ports c.self.invariant.busy.few_channels c.self.invariant.ready c.keys.ensures c.requires)
-    (input_read _ c.args.self.now c.args.port c.args.vc c.line.result c.index-channel.result.now
-    c.self.view_is c.index-channel.ensures c.line.ensures.value c.line.ensures.in_inputs)
-    (sym c.flit_at.ensures ∙ c.in_default-flit_at.is)
-
 -- the front leaves by the output channel that the channel holds
-by_hold : (c : goal.In-Some)
+by_hold : (c : goal.In_ok-flit)
     → leaving c.args.self.now c.args.port c.args.vc
-    ≡ Some (c.in-Active.out, with_channel c.in-Some.flit c.in-Active.out_vc)
+    ≡ Some (c.in-Active.out, with_channel c.in_ok-flit.flit c.in-Active.out_vc)
 by_hold c =
     leaves_by_hold c.args.self.now c.args.port c.args.vc c.in-Active.out c.in-Active.out_vc
-    c.index-channel.result.now c.in-Some.flit (sym c.if-not-contains.false ∙ c.contains.ensures
+    c.index-channel.result.now c.in_ok-flit.flit (sym c.if-not-contains.false ∙ c.contains.ensures
     ∙ kept_leaves _ c.args.self.now _ c.keys.result c.args.port c.args.vc c.self.view_is
     c.self.invariant.busy.few_ports c.self.invariant.busy.few_channels c.self.invariant.ready c.keys.ensures c.requires)
     (input_read _ c.args.self.now c.args.port c.args.vc c.line.result c.index-channel.result.now
     c.self.view_is c.index-channel.ensures c.line.ensures.value c.line.ensures.in_inputs)
-    (sym c.state.ensures ∙ c.in-Active.is) (sym c.flit_at.ensures ∙ c.in-Some.is)
+    (sym c.state.ensures ∙ c.in-Active.is) (sym c.flit_at.ensures ∙ c.in_ok-flit.was)
 
 pub returns-clause-leaves : goal.returns-clause-leaves
 returns-clause-leaves c = sym (by_hold c)
