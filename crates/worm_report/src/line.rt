@@ -61,7 +61,6 @@ impl Line {
     }
 
     /// Puts a text in front.
-    #[inline(always)]
     fn text(&mut self, text: &[u8]) -> Result<(), NoRoom>
         ensures { OnOk result (self.new ≡ text.now ++ self.old) }
     {
