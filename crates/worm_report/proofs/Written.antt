@@ -12,7 +12,7 @@ use Rattle.std.proofs.lemmas.List.{append-nil, take-append-drop, take_all, lengt
 use Rattle.std.proofs.lemmas.List.Concat.{flat_map-append}
 use Rattle.worm_report.specs.declared.row.Row.{Row}
 use Rattle.worm_report.specs.declared.summary.ReportFault.{ReportFault}
-use Rattle.worm_report.specs.declared.summary.ReportFault.TheVariants.{NoMemory, Write}
+use Rattle.worm_report.specs.declared.summary.ReportFault.TheVariants.{NoMemory}
 use Rattle.worm_report.specs.Rows.{row_text, rows_text}
 use Rattle.worm_report.specs.Report.{rows_below}
 use Rattle.worm_report.specs.Writing.{Desk, desk, Writes, WritesRows, WritesOrBreaksOff}

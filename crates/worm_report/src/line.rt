@@ -1,210 +1,222 @@
-//! One line of a report, made field by field.
+//! One line of a report, made from its end to its front: the digits of a number come last first, and so each is
+//! written where it stays.
 
-ghost use Rattle.std.specs.Prelude.{◌≡◌, ◌++◌, [], ◌∷◌, List, ℕ, OnOk, decimal};
-ghost use Rattle.std.specs.List.{flat_map};
-ghost use Rattle.worm_report.specs.Rows.{space, newline, row_text, packet_fields, load_fields, place_fields};
+ghost use Rattle.std.specs.Prelude.{◌≡◌, ◌≤◌, ◌++◌, [], ◌∷◌, List, ℕ, OnOk, decimal, drop};
+ghost use Rattle.std.specs.List.{join_with_byte};
+ghost use Rattle.worm_report.specs.Rows.{space, row_text, row_fields, packet_fields, load_fields, place_fields};
 
 use crate::row::Row;
-use itoa::Buffer;
-use std::alloc::{AllocError, Global};
+use itoa::{Buffer, write_digits};
 use std::marker::Model;
 use worm_core::{Held, Place};
 use worm_flit::{Flit, Kind, Lane};
 
-/// A line in memory, made field by field. Its room is used again for the next line.
+/// The room for a line; the longest has three numbers of 39 digits.
+pub const ROOM: usize = 256;
+
+/// The most digits of a number that fits 64 bits.
+const DIGITS: usize = 20;
+
+/// That there is no room for more.
+#[derive(Clone, Copy)]
+pub struct NoRoom;
+
+/// A line in memory, made from its end to its front. Its room is used again for the next line.
 #[derive(Drop)]
 pub struct Line {
-    bytes: Vec<u8>,
+    bytes: [u8; ROOM],
+    start: usize,
+    ghost within: { start ≤ 256 },
 }
 
 impl Model for Line {
     ghost Value = { List ℕ };
 
-    ghost view = { λ s. s.bytes.items };
+    ghost view = { λ s. drop s.start s.bytes };
 }
 
 impl Line {
     /// An empty line.
-    pub fn new(alloc: Global) -> Self
+    pub fn new() -> Self
         ensures { result ≡ [] }
     {
         Line {
-            bytes: Vec::new(alloc),
+            bytes: [0; ROOM],
+            start: ROOM,
         }
     }
 
-    /// Its bytes, the line feed among them once it is whole.
+    /// Its bytes, the line feed among them.
     pub fn as_bytes(&self) -> &[u8]
         ensures { result.now ≡ self.now }
     {
-        self.bytes.as_slice()
+        &self.bytes[self.start..]
     }
 
-    /// The first word of a new line.
-    fn begin(&mut self, word: &[u8]) -> Result<(), AllocError>
-        ensures { OnOk result (self.new ≡ word.now) }
+    /// An empty line again.
+    fn clear(&mut self)
+        ensures { self.new ≡ [] }
     {
-        self.bytes.clear();
-        self.bytes.extend_from_slice(word)
+        self.start = ROOM;
     }
 
-    /// A space and a word.
-    fn word(&mut self, word: &[u8]) -> Result<(), AllocError>
-        ensures { OnOk result (self.new ≡ self.old ++ space ∷ word.now) }
+    /// Puts a text in front.
+    fn text(&mut self, text: &[u8]) -> Result<(), NoRoom>
+        ensures { OnOk result (self.new ≡ text.now ++ self.old) }
     {
-        self.bytes.push(b' ')?;
-        self.bytes.extend_from_slice(word)
-    }
-
-    /// A space and a number in decimal.
-    fn number(&mut self, number: u128) -> Result<(), AllocError>
-        ensures { OnOk result (self.new ≡ self.old ++ space ∷ decimal number) }
-    {
-        let mut buffer = Buffer::new();
-        self.word(buffer.format(number).as_bytes())
-    }
-
-    /// The line feed.
-    fn end(&mut self) -> Result<(), AllocError>
-        ensures { OnOk result (self.new ≡ self.old ++ newline ∷ []) }
-    {
-        self.bytes.push(b'\n')?;
+        if self.start < text.len() {
+            return Err(NoRoom);
+        }
+        let start = self.start - text.len();
+        self.bytes[start..self.start].copy_from_slice(text);
+        self.start = start;
         Ok(())
     }
 
-    /// The class and the packet of a flit.
-    fn packet(&mut self, flit: Flit) -> Result<(), AllocError>
-        ensures { OnOk result (self.new ≡ self.old ++ flat_map (λ f. space ∷ f) (packet_fields flit)) }
+    /// Puts a number in decimal in front.
+    fn number(&mut self, number: u64) -> Result<(), NoRoom>
+        ensures { OnOk result (self.new ≡ decimal number ++ self.old) }
     {
-        self.word(b"class")?;
-        self.number(u128::from(flit.lane.class))?;
-        self.word(b"packet")?;
-        self.number(u128::from(flit.packet))
+        if self.start < DIGITS {
+            return Err(NoRoom);
+        }
+        self.start = write_digits(number, &mut self.bytes, self.start);
+        Ok(())
+    }
+
+    /// The same of a number that may not fit 64 bits.
+    fn wide(&mut self, number: u128) -> Result<(), NoRoom>
+        ensures { OnOk result (self.new ≡ decimal number ++ self.old) }
+    {
+        let mut buffer = Buffer::new();
+        self.text(buffer.format(number).as_bytes())
+    }
+
+    /// The class and the packet of a flit.
+    fn packet(&mut self, flit: Flit) -> Result<(), NoRoom>
+        ensures { OnOk result (self.new ≡ space ∷ join_with_byte space (packet_fields flit) ++ self.old) }
+    {
+        self.number(u64::from(flit.packet))?;
+        self.text(b" packet ")?;
+        self.number(u64::from(flit.lane.class))?;
+        self.text(b" class ")
     }
 
     /// What a delivered flit carries: its index and its word, or that it is a mark.
-    fn load(&mut self, flit: Flit) -> Result<(), AllocError>
-        ensures { OnOk result (self.new ≡ self.old ++ flat_map (λ f. space ∷ f) (load_fields flit.kind flit)) }
+    fn load(&mut self, flit: Flit) -> Result<(), NoRoom>
+        ensures { OnOk result (self.new ≡ space ∷ join_with_byte space (load_fields flit.kind flit) ++ self.old) }
     {
         match flit.kind {
-            Kind::Close => self.word(b"close"),
+            Kind::Close => self.text(b" close"),
             Kind::Head | Kind::Body | Kind::Tail | Kind::Single => {
-                self.word(b"flit")?;
-                self.number(u128::from(flit.index))?;
-                self.word(b"word")?;
-                self.number(u128::from(flit.word))
+                self.number(u64::from(flit.word))?;
+                self.text(b" word ")?;
+                self.number(u64::from(flit.index))?;
+                self.text(b" flit ")
             }
         }
     }
 
     /// A place beside a node: an input buffer, or a link by its output port.
-    fn side(&mut self, word: &[u8], node: u8, port: u8, vc: u8) -> Result<(), AllocError>
-        ensures { OnOk result (self.new ≡ self.old
-            ++ flat_map (λ f. space ∷ f) (word.now ∷ decimal node ∷ decimal port ∷ decimal vc ∷ [])) }
+    fn side(&mut self, word: &[u8], node: u8, port: u8, vc: u8) -> Result<(), NoRoom>
+        ensures { OnOk result (self.new ≡ word.now
+            ++ (decimal node ++ space ∷ (decimal port ++ space ∷ (decimal vc ++ self.old)))) }
     {
-        self.word(word)?;
-        self.number(u128::from(node))?;
-        self.number(u128::from(port))?;
-        self.number(u128::from(vc))
+        self.number(u64::from(vc))?;
+        self.text(b" ")?;
+        self.number(u64::from(port))?;
+        self.text(b" ")?;
+        self.number(u64::from(node))?;
+        self.text(word)
     }
 
     /// Where a flit under way is.
-    fn place(&mut self, place: Place) -> Result<(), AllocError>
-        ensures { OnOk result (self.new ≡ self.old ++ flat_map (λ f. space ∷ f) (place_fields place)) }
+    fn place(&mut self, place: Place) -> Result<(), NoRoom>
+        ensures { OnOk result (self.new ≡ space ∷ join_with_byte space (place_fields place) ++ self.old) }
     {
         match place {
-            Place::Source => self.word(b"source"),
-            Place::Buffer { node, port, vc } => self.side(b"buffer", node, port, vc),
-            Place::Link { node, port, vc } => self.side(b"link", node, port, vc),
+            Place::Source => self.text(b" source"),
+            Place::Buffer { node, port, vc } => self.side(b" buffer ", node, port, vc),
+            Place::Link { node, port, vc } => self.side(b" link ", node, port, vc),
         }
     }
 
-    #[tactic(auto, unfolding(crate::specs::Rows::row_text))]
-    fn delivered(&mut self, node: u8, flit: Flit) -> Result<(), AllocError>
-        ensures { OnOk result (self.new ≡ row_text (Row.Delivered node flit)) }
+    fn delivered(&mut self, node: u8, flit: Flit) -> Result<(), NoRoom>
+        ensures { OnOk result (self.new ≡ join_with_byte space (row_fields (Row.Delivered node flit)) ++ self.old) }
     {
-        self.begin(b"delivered")?;
-        self.number(u128::from(node))?;
-        self.word(b"from")?;
-        self.number(u128::from(flit.lane.src))?;
-        self.packet(flit)?;
         self.load(flit)?;
-        self.end()
+        self.packet(flit)?;
+        self.number(u64::from(flit.lane.src))?;
+        self.text(b" from ")?;
+        self.number(u64::from(node))?;
+        self.text(b"delivered ")
     }
 
-    #[tactic(auto, unfolding(crate::specs::Rows::row_text))]
-    fn underway(&mut self, lane: Lane, held: Held) -> Result<(), AllocError>
-        ensures { OnOk result (self.new ≡ row_text (Row.Underway lane held)) }
+    fn underway(&mut self, lane: Lane, held: Held) -> Result<(), NoRoom>
+        ensures { OnOk result (self.new ≡ join_with_byte space (row_fields (Row.Underway lane held)) ++ self.old) }
     {
-        self.begin(b"underway")?;
-        self.number(u128::from(lane.src))?;
-        self.number(u128::from(lane.dst))?;
-        self.packet(held.flit)?;
-        self.word(b"flit")?;
-        self.number(u128::from(held.flit.index))?;
         self.place(held.place)?;
-        self.end()
+        self.number(u64::from(held.flit.index))?;
+        self.text(b" flit ")?;
+        self.packet(held.flit)?;
+        self.number(u64::from(lane.dst))?;
+        self.text(b" ")?;
+        self.number(u64::from(lane.src))?;
+        self.text(b"underway ")
     }
 
-    #[tactic(auto, unfolding(crate::specs::Rows::row_text))]
-    fn options(&mut self, turns: u64, workers: u64, drain: u64) -> Result<(), AllocError>
-        ensures { OnOk result (self.new ≡ row_text (Row.Options turns workers drain)) }
+    fn options(&mut self, turns: u64, workers: u64, drain: u64) -> Result<(), NoRoom>
+        ensures { OnOk result (self.new ≡ join_with_byte space (row_fields (Row.Options turns workers drain)) ++ self.old) }
     {
-        self.begin(b"turns")?;
-        self.number(u128::from(turns))?;
-        self.word(b"workers")?;
-        self.number(u128::from(workers))?;
-        self.word(b"drain")?;
-        self.number(u128::from(drain))?;
-        self.end()
+        self.number(drain)?;
+        self.text(b" drain ")?;
+        self.number(workers)?;
+        self.text(b" workers ")?;
+        self.number(turns)?;
+        self.text(b"turns ")
     }
 
-    #[tactic(auto, unfolding(crate::specs::Rows::row_text))]
-    fn total(&mut self, injected: u128, delivered: u128) -> Result<(), AllocError>
-        ensures { OnOk result (self.new ≡ row_text (Row.Total injected delivered)) }
+    fn total(&mut self, injected: u128, delivered: u128) -> Result<(), NoRoom>
+        ensures { OnOk result (self.new ≡ join_with_byte space (row_fields (Row.Total injected delivered)) ++ self.old) }
     {
-        self.begin(b"total injected")?;
-        self.number(injected)?;
-        self.word(b"delivered")?;
-        self.number(delivered)?;
-        self.word(b"underway")?;
-        self.number(injected.saturating_sub(delivered))?;
-        self.end()
+        self.wide(injected.saturating_sub(delivered))?;
+        self.text(b" underway ")?;
+        self.wide(delivered)?;
+        self.text(b" delivered ")?;
+        self.wide(injected)?;
+        self.text(b"total injected ")
     }
 
-    #[tactic(auto, unfolding(crate::specs::Rows::row_text))]
-    fn stopped(&mut self, worker: u64, turn: u64) -> Result<(), AllocError>
-        ensures { OnOk result (self.new ≡ row_text (Row.Stopped worker turn)) }
+    fn stopped(&mut self, worker: u64, turn: u64) -> Result<(), NoRoom>
+        ensures { OnOk result (self.new ≡ join_with_byte space (row_fields (Row.Stopped worker turn)) ++ self.old) }
     {
-        self.begin(b"stopped worker")?;
-        self.number(u128::from(worker))?;
-        self.word(b"turn")?;
-        self.number(u128::from(turn))?;
-        self.end()
+        self.number(turn)?;
+        self.text(b" turn ")?;
+        self.number(worker)?;
+        self.text(b"stopped worker ")
     }
 
-    #[tactic(auto, unfolding(crate::specs::Rows::row_text))]
-    fn not_offered(&mut self, entries: u64) -> Result<(), AllocError>
-        ensures { OnOk result (self.new ≡ row_text (Row.NotOffered entries)) }
+    fn not_offered(&mut self, entries: u64) -> Result<(), NoRoom>
+        ensures { OnOk result (self.new ≡ join_with_byte space (row_fields (Row.NotOffered entries)) ++ self.old) }
     {
-        self.begin(b"not offered")?;
-        self.number(u128::from(entries))?;
-        self.end()
+        self.number(entries)?;
+        self.text(b"not offered ")
     }
 
-    #[tactic(auto, unfolding(crate::specs::Rows::row_text))]
-    fn header(&mut self) -> Result<(), AllocError>
-        ensures { OnOk result (self.new ≡ row_text Row.Header) }
+    fn header(&mut self) -> Result<(), NoRoom>
+        ensures { OnOk result (self.new ≡ join_with_byte space (row_fields Row.Header) ++ self.old) }
     {
-        self.begin(b"wormreport")?;
         self.number(1)?;
-        self.end()
+        self.text(b"wormreport ")
     }
 
     /// Makes the line that a row says.
-    pub fn set(&mut self, row: Row) -> Result<(), AllocError>
+    #[tactic(auto, unfolding(crate::specs::Rows::row_text))]
+    pub fn set(&mut self, row: Row) -> Result<(), NoRoom>
         ensures { OnOk result (self.new ≡ row_text row) }
     {
+        self.clear();
+        self.text(b"\n")?;
         match row {
             Row::Header => self.header(),
             Row::Options {

@@ -3,7 +3,7 @@
 ghost use Rattle.std.specs.Prelude.{◌≡◌, ◌++◌, [], List, ℕ, IfOk, IfErr, OnOk, OnErr, length, nat_le};
 ghost use Rattle.worm_report.specs.Rows.{row_text};
 
-use crate::line::Line;
+use crate::line::{Line, ROOM};
 use crate::row::Row;
 use crate::summary::ReportFault;
 use std::alloc::Global;
@@ -11,9 +11,6 @@ use std::marker::Model;
 
 /// A page with so many bytes is full.
 const FULL: usize = 8192;
-
-/// The room beyond them, for the line that fills it.
-const LAST_LINE: usize = 256;
 
 /// Lines that the writer has yet to be given.
 #[derive(Drop)]
@@ -30,15 +27,15 @@ impl Model for Page {
 }
 
 impl Page {
-    /// An empty page, with its room: lines that are put on it ask for no memory.
+    /// An empty page, with its room and that for the line that fills it: lines that are put on it ask for no memory.
     pub fn new(alloc: Global) -> Result<Page, ReportFault>
         ensures ok { IfOk result (λ page. page ≡ []) }
         ensures err { IfErr result (λ fault. fault ≡ ReportFault.NoMemory) }
     {
-        match Vec::with_capacity(alloc, FULL + LAST_LINE) {
+        match Vec::with_capacity(alloc, FULL + ROOM) {
             Ok(bytes) => Ok(Page {
                 bytes,
-                line: Line::new(alloc),
+                line: Line::new(),
             }),
             Err(_) => Err(ReportFault::NoMemory),
         }

@@ -1,11 +1,19 @@
-use Rattle.worm_report.proofs.LineTexts.{on_ok}
-use Rattle.worm_report.proofs.LineTexts.{total_is}
+use Rattle.std.proofs.Common.{◌≡◌, ◌++◌, ℕ, ◌-◌, List, append_assoc}
+use Rattle.std.specs.Prelude.{codes, decimal}
+use Rattle.std.proofs.lemmas.Result.{on_ok_weaker}
+use Rattle.std.specs.List.{join_with_byte}
+use Rattle.worm_report.specs.declared.row.Row.TheVariants.{Total}
+use Rattle.worm_report.specs.Rows.{space, row_fields}
 use Rattle.worm_report.proofs.line.Line.total.Goals as goal
 
+-- from the line's end to its front
+sums_line : (injected delivered rest : ℕ) (a b c d e f old : List ℕ) → rest ≡ injected - delivered
+    → a ≡ decimal rest ++ old → b ≡ codes " underway " ++ a → c ≡ decimal delivered ++ b
+    → d ≡ codes " delivered " ++ c → e ≡ decimal injected ++ d → f ≡ codes "total injected " ++ e
+    → f ≡ join_with_byte space (row_fields (Total injected delivered)) ++ old
+sums_line injected delivered rest a b c d e f old er ea eb ec ed ee ef = simp append_assoc (cc)
+
 pub returns : goal.returns
-returns c =
-    on_ok c.end.result _ _ c.end.ensures (λ e.
-    total_is c.args.injected c.args.delivered c.saturating_sub.result c.begin.new.self c.number.new.self
-    c.word.new.self c.number-2.new.self c.word-2.new.self c.number-3.new.self c.end.new.self
-    c.saturating_sub.ensures c.in_ok-begin.ensures c.in_ok-number.ensures c.in_ok-word.ensures c.in_ok-number-2.ensures
-    c.in_ok-word-2.ensures c.in_ok-number-3.ensures e)
+returns c = on_ok_weaker c.text-3.result
+    (sums_line _ _ _ _ _ _ _ _ _ _ c.saturating_sub.ensures c.in_ok-wide.ensures c.in_ok-text.ensures
+    c.in_ok-wide-2.ensures c.in_ok-text-2.ensures c.in_ok-wide-3.ensures) c.text-3.ensures
