@@ -1,7 +1,7 @@
 //! One line of a report, made from its end to its front: the digits of a number come last first, and so each is
 //! written where it stays.
 
-ghost use Rattle.std.specs.Prelude.{◌≡◌, ◌≤◌, ◌++◌, [], ◌∷◌, List, ℕ, OnOk, decimal, drop};
+ghost use Rattle.std.specs.Prelude.{◌≡◌, ◌≤◌, ◌+◌, ◌++◌, [], ◌∷◌, List, ℕ, decimal, drop, length};
 ghost use Rattle.std.specs.List.{join_with_byte};
 ghost use Rattle.worm_report.specs.Rows.{space, row_text, row_fields, packet_fields, load_fields, place_fields};
 
@@ -13,13 +13,6 @@ use worm_flit::{Flit, Kind, Lane};
 
 /// The room for a line; the longest has three numbers of 39 digits.
 pub const ROOM: usize = 256;
-
-/// The most digits of a number that fits 64 bits.
-const DIGITS: usize = 20;
-
-/// That there is no room for more.
-#[derive(Clone, Copy)]
-pub struct NoRoom;
 
 /// A line in memory, made from its end to its front. Its room is used again for the next line.
 #[derive(Drop)]
@@ -61,78 +54,85 @@ impl Line {
     }
 
     /// Puts a text in front.
-    fn text(&mut self, text: &[u8]) -> Result<(), NoRoom>
-        ensures { OnOk result (self.new ≡ text.now ++ self.old) }
+    fn text(&mut self, text: &[u8])
+        requires { length text.now + length self.old ≤ 256 }
+        ensures text { self.new ≡ text.now ++ self.old }
+        ensures longer { length self.new ≡ length text.now + length self.old }
     {
-        if self.start < text.len() {
-            return Err(NoRoom);
-        }
         let start = self.start - text.len();
         self.bytes[start..self.start].copy_from_slice(text);
         self.start = start;
-        Ok(())
     }
 
-    /// Puts a number in decimal in front.
-    fn number(&mut self, number: u64) -> Result<(), NoRoom>
-        ensures { OnOk result (self.new ≡ decimal number ++ self.old) }
+    /// Puts a number in decimal in front, of at most 20 digits.
+    fn number(&mut self, number: u64)
+        requires { 20 + length self.old ≤ 256 }
+        ensures number { self.new ≡ decimal number ++ self.old }
+        ensures longer { length self.new ≤ 20 + length self.old }
     {
-        if self.start < DIGITS {
-            return Err(NoRoom);
-        }
         self.start = write_digits(number, &mut self.bytes, self.start);
-        Ok(())
     }
 
-    /// The same of a number that may not fit 64 bits.
-    fn wide(&mut self, number: u128) -> Result<(), NoRoom>
-        ensures { OnOk result (self.new ≡ decimal number ++ self.old) }
+    /// The same of a number of at most 39 digits.
+    fn wide(&mut self, number: u128)
+        requires { 39 + length self.old ≤ 256 }
+        ensures number { self.new ≡ decimal number ++ self.old }
+        ensures longer { length self.new ≤ 39 + length self.old }
     {
         let mut buffer = Buffer::new();
-        self.text(buffer.format(number).as_bytes())
+        self.text(buffer.format(number).as_bytes());
     }
 
     /// The class and the packet of a flit.
-    fn packet(&mut self, flit: Flit) -> Result<(), NoRoom>
-        ensures { OnOk result (self.new ≡ space ∷ join_with_byte space (packet_fields flit) ++ self.old) }
+    fn packet(&mut self, flit: Flit)
+        requires { 60 + length self.old ≤ 256 }
+        ensures line { self.new ≡ space ∷ join_with_byte space (packet_fields flit) ++ self.old }
+        ensures longer { length self.new ≤ 60 + length self.old }
     {
-        self.number(u64::from(flit.packet))?;
-        self.text(b" packet ")?;
-        self.number(u64::from(flit.lane.class))?;
-        self.text(b" class ")
+        self.number(u64::from(flit.packet));
+        self.text(b" packet ");
+        self.number(u64::from(flit.lane.class));
+        self.text(b" class ");
     }
 
     /// What a delivered flit carries: its index and its word, or that it is a mark.
-    fn load(&mut self, flit: Flit) -> Result<(), NoRoom>
-        ensures { OnOk result (self.new ≡ space ∷ join_with_byte space (load_fields flit.kind flit) ++ self.old) }
+    fn load(&mut self, flit: Flit)
+        requires { 60 + length self.old ≤ 256 }
+        ensures line { self.new ≡ space ∷ join_with_byte space (load_fields flit.kind flit) ++ self.old }
+        ensures longer { length self.new ≤ 60 + length self.old }
     {
         match flit.kind {
             Kind::Close => self.text(b" close"),
             Kind::Head | Kind::Body | Kind::Tail | Kind::Single => {
-                self.number(u64::from(flit.word))?;
-                self.text(b" word ")?;
-                self.number(u64::from(flit.index))?;
-                self.text(b" flit ")
+                self.number(u64::from(flit.word));
+                self.text(b" word ");
+                self.number(u64::from(flit.index));
+                self.text(b" flit ");
             }
         }
     }
 
     /// A place beside a node: an input buffer, or a link by its output port.
-    fn side(&mut self, word: &[u8], node: u8, port: u8, vc: u8) -> Result<(), NoRoom>
-        ensures { OnOk result (self.new ≡ word.now
-            ++ (decimal node ++ space ∷ (decimal port ++ space ∷ (decimal vc ++ self.old)))) }
+    fn side(&mut self, word: &[u8], node: u8, port: u8, vc: u8)
+        requires word { length word.now ≤ 8 }
+        requires room { 80 + length self.old ≤ 256 }
+        ensures line { self.new ≡ word.now
+            ++ (decimal node ++ space ∷ (decimal port ++ space ∷ (decimal vc ++ self.old))) }
+        ensures longer { length self.new ≤ 80 + length self.old }
     {
-        self.number(u64::from(vc))?;
-        self.text(b" ")?;
-        self.number(u64::from(port))?;
-        self.text(b" ")?;
-        self.number(u64::from(node))?;
-        self.text(word)
+        self.number(u64::from(vc));
+        self.text(b" ");
+        self.number(u64::from(port));
+        self.text(b" ");
+        self.number(u64::from(node));
+        self.text(word);
     }
 
     /// Where a flit under way is.
-    fn place(&mut self, place: Place) -> Result<(), NoRoom>
-        ensures { OnOk result (self.new ≡ space ∷ join_with_byte space (place_fields place) ++ self.old) }
+    fn place(&mut self, place: Place)
+        requires { 80 + length self.old ≤ 256 }
+        ensures line { self.new ≡ space ∷ join_with_byte space (place_fields place) ++ self.old }
+        ensures longer { length self.new ≤ 80 + length self.old }
     {
         match place {
             Place::Source => self.text(b" source"),
@@ -141,82 +141,89 @@ impl Line {
         }
     }
 
-    fn delivered(&mut self, node: u8, flit: Flit) -> Result<(), NoRoom>
-        ensures { OnOk result (self.new ≡ join_with_byte space (row_fields (Row.Delivered node flit)) ++ self.old) }
+    fn delivered(&mut self, node: u8, flit: Flit)
+        requires { length self.old ≤ 1 }
+        ensures { self.new ≡ join_with_byte space (row_fields (Row.Delivered node flit)) ++ self.old }
     {
-        self.load(flit)?;
-        self.packet(flit)?;
-        self.number(u64::from(flit.lane.src))?;
-        self.text(b" from ")?;
-        self.number(u64::from(node))?;
-        self.text(b"delivered ")
+        self.load(flit);
+        self.packet(flit);
+        self.number(u64::from(flit.lane.src));
+        self.text(b" from ");
+        self.number(u64::from(node));
+        self.text(b"delivered ");
     }
 
-    fn underway(&mut self, lane: Lane, held: Held) -> Result<(), NoRoom>
-        ensures { OnOk result (self.new ≡ join_with_byte space (row_fields (Row.Underway lane held)) ++ self.old) }
+    fn underway(&mut self, lane: Lane, held: Held)
+        requires { length self.old ≤ 1 }
+        ensures { self.new ≡ join_with_byte space (row_fields (Row.Underway lane held)) ++ self.old }
     {
-        self.place(held.place)?;
-        self.number(u64::from(held.flit.index))?;
-        self.text(b" flit ")?;
-        self.packet(held.flit)?;
-        self.number(u64::from(lane.dst))?;
-        self.text(b" ")?;
-        self.number(u64::from(lane.src))?;
-        self.text(b"underway ")
+        self.place(held.place);
+        self.number(u64::from(held.flit.index));
+        self.text(b" flit ");
+        self.packet(held.flit);
+        self.number(u64::from(lane.dst));
+        self.text(b" ");
+        self.number(u64::from(lane.src));
+        self.text(b"underway ");
     }
 
-    fn options(&mut self, turns: u64, workers: u64, drain: u64) -> Result<(), NoRoom>
-        ensures { OnOk result (self.new ≡ join_with_byte space (row_fields (Row.Options turns workers drain)) ++ self.old) }
+    fn options(&mut self, turns: u64, workers: u64, drain: u64)
+        requires { length self.old ≤ 1 }
+        ensures { self.new ≡ join_with_byte space (row_fields (Row.Options turns workers drain)) ++ self.old }
     {
-        self.number(drain)?;
-        self.text(b" drain ")?;
-        self.number(workers)?;
-        self.text(b" workers ")?;
-        self.number(turns)?;
-        self.text(b"turns ")
+        self.number(drain);
+        self.text(b" drain ");
+        self.number(workers);
+        self.text(b" workers ");
+        self.number(turns);
+        self.text(b"turns ");
     }
 
-    fn total(&mut self, injected: u128, delivered: u128) -> Result<(), NoRoom>
-        ensures { OnOk result (self.new ≡ join_with_byte space (row_fields (Row.Total injected delivered)) ++ self.old) }
+    fn total(&mut self, injected: u128, delivered: u128)
+        requires { length self.old ≤ 1 }
+        ensures { self.new ≡ join_with_byte space (row_fields (Row.Total injected delivered)) ++ self.old }
     {
-        self.wide(injected.saturating_sub(delivered))?;
-        self.text(b" underway ")?;
-        self.wide(delivered)?;
-        self.text(b" delivered ")?;
-        self.wide(injected)?;
-        self.text(b"total injected ")
+        self.wide(injected.saturating_sub(delivered));
+        self.text(b" underway ");
+        self.wide(delivered);
+        self.text(b" delivered ");
+        self.wide(injected);
+        self.text(b"total injected ");
     }
 
-    fn stopped(&mut self, worker: u64, turn: u64) -> Result<(), NoRoom>
-        ensures { OnOk result (self.new ≡ join_with_byte space (row_fields (Row.Stopped worker turn)) ++ self.old) }
+    fn stopped(&mut self, worker: u64, turn: u64)
+        requires { length self.old ≤ 1 }
+        ensures { self.new ≡ join_with_byte space (row_fields (Row.Stopped worker turn)) ++ self.old }
     {
-        self.number(turn)?;
-        self.text(b" turn ")?;
-        self.number(worker)?;
-        self.text(b"stopped worker ")
+        self.number(turn);
+        self.text(b" turn ");
+        self.number(worker);
+        self.text(b"stopped worker ");
     }
 
-    fn not_offered(&mut self, entries: u64) -> Result<(), NoRoom>
-        ensures { OnOk result (self.new ≡ join_with_byte space (row_fields (Row.NotOffered entries)) ++ self.old) }
+    fn not_offered(&mut self, entries: u64)
+        requires { length self.old ≤ 1 }
+        ensures { self.new ≡ join_with_byte space (row_fields (Row.NotOffered entries)) ++ self.old }
     {
-        self.number(entries)?;
-        self.text(b"not offered ")
+        self.number(entries);
+        self.text(b"not offered ");
     }
 
-    fn header(&mut self) -> Result<(), NoRoom>
-        ensures { OnOk result (self.new ≡ join_with_byte space (row_fields Row.Header) ++ self.old) }
+    fn header(&mut self)
+        requires { length self.old ≤ 1 }
+        ensures { self.new ≡ join_with_byte space (row_fields Row.Header) ++ self.old }
     {
-        self.number(1)?;
-        self.text(b"wormreport ")
+        self.number(1);
+        self.text(b"wormreport ");
     }
 
     /// Makes the line that a row says.
     #[tactic(auto, unfolding(crate::specs::Rows::row_text))]
-    pub fn set(&mut self, row: Row) -> Result<(), NoRoom>
-        ensures { OnOk result (self.new ≡ row_text row) }
+    pub fn set(&mut self, row: Row)
+        ensures { self.new ≡ row_text row }
     {
         self.clear();
-        self.text(b"\n")?;
+        self.text(b"\n");
         match row {
             Row::Header => self.header(),
             Row::Options {

@@ -68,11 +68,9 @@ impl Page {
         ensures err { OnErr result (self.new ≡ self.old) }
         ensures fault { IfErr result (λ fault. fault ≡ ReportFault.NoMemory) }
     {
-        match self.line.set(row) {
-            Ok(()) => match self.bytes.extend_from_slice(self.line.as_bytes()) {
-                Ok(()) => Ok(()),
-                Err(_) => Err(ReportFault::NoMemory),
-            },
+        self.line.set(row);
+        match self.bytes.extend_from_slice(self.line.as_bytes()) {
+            Ok(()) => Ok(()),
             Err(_) => Err(ReportFault::NoMemory),
         }
     }

@@ -1,6 +1,5 @@
 use Rattle.std.proofs.Common.{◌≡◌, ◌++◌, ℕ, ◌-◌, List, append_assoc}
 use Rattle.std.specs.Prelude.{codes, decimal}
-use Rattle.std.proofs.lemmas.Result.{on_ok_weaker}
 use Rattle.std.specs.List.{join_with_byte}
 use Rattle.worm_report.specs.declared.row.Row.TheVariants.{Total}
 use Rattle.worm_report.specs.Rows.{space, row_fields}
@@ -14,6 +13,6 @@ sums_line : (injected delivered rest : ℕ) (a b c d e f old : List ℕ) → res
 sums_line injected delivered rest a b c d e f old er ea eb ec ed ee ef = simp append_assoc (cc)
 
 pub returns : goal.returns
-returns c = on_ok_weaker c.text-3.result
-    (sums_line _ _ _ _ _ _ _ _ _ _ c.saturating_sub.ensures c.in_ok-wide.ensures c.in_ok-text.ensures
-    c.in_ok-wide-2.ensures c.in_ok-text-2.ensures c.in_ok-wide-3.ensures) c.text-3.ensures
+returns c =
+    sums_line _ _ _ _ _ _ _ _ _ _ c.saturating_sub.ensures c.wide.ensures.number c.text.ensures.text
+    c.wide-2.ensures.number c.text-2.ensures.text c.wide-3.ensures.number c.text-3.ensures.text
