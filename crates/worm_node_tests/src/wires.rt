@@ -144,13 +144,14 @@ impl<R: Abort + AllocGlobal + Copy> Pair<R> {
 
     /// These are the numbers of the links out of the port and into it.
     fn are_numbered(&self, node: u8, port: u8, out: u16, into: u16) {
-        assert_eq!(self.rt; self.links.find_out(node, port), Some(out));
-        assert_eq!(self.rt; self.links.find_into(node, port), Some(into));
+        assert!(self.rt; self.links.links_at(node, port).is_some());
+        assert_eq!(self.rt; self.links.number_out(node, port), out);
+        assert_eq!(self.rt; self.links.number_into(node, port), into);
     }
 
     /// The flit goes onto the link out of the port.
     fn send(&mut self, node: u8, port: u8, flit: Flit) {
-        assert!(self.rt; self.links.find_out(node, port).is_some());
+        assert!(self.rt; self.links.links_at(node, port).is_some());
         let link = self.links.link(self.links.number_out(node, port));
         assert!(self.rt; link.count() < usize::from(link.room()));
         self.links.push(node, port, flit);
@@ -158,8 +159,8 @@ impl<R: Abort + AllocGlobal + Copy> Pair<R> {
 
     /// The front flit of the link into the port is dropped; the link has this number.
     fn take(&mut self, node: u8, port: u8, number: u16) {
-        let found = self.links.find_into(node, port);
-        let found = found.expect(&self.rt, "a link into the port");
+        assert!(self.rt; self.links.links_at(node, port).is_some());
+        let found = self.links.number_into(node, port);
         assert_eq!(self.rt; found, number);
         self.links.pop(node, port, found);
     }

@@ -1,7 +1,7 @@
 //! The links of a mesh with what is on them, and by node the ports at which something comes in, so that a turn goes
 //! past all others.
 
-ghost use Rattle.std.specs.Prelude.{◌≡◌, ◌<◌, ◌↔◌, ◌++◌, ◌∷◌, [], ℕ, IfSome, IsSome, IsTrue};
+ghost use Rattle.std.specs.Prelude.{◌≡◌, ◌<◌, ◌↔◌, ◌++◌, ◌∷◌, [], ℕ, IsSome, IsTrue};
 ghost use Rattle.std.specs.Prelude.{Option, Some, true, drop, length};
 ghost use Rattle.worm_mesh.specs.Address.{AreRadices, neighbour_of};
 ghost use Rattle.worm_mesh.specs.Links.{link_count};
@@ -162,26 +162,6 @@ impl Links {
         ensures { AreFronts (credits_to self.now node) result }
     {
         self.arrivals[usize::from(node)].credits
-    }
-
-    /// The number of the link that comes into this port, if there is one.
-    pub fn find_into(&self, node: u8, port: u8) -> Option<u16>
-        ensures there { IsSome result ↔ IsSome (neighbour_of self.now.mesh node port) }
-        ensures value { IfSome result (λ number. number ≡ number_into self.now node port) }
-        ensures bound { IfSome result (λ number. number < link_count self.now.mesh) }
-        ensures mesh_port { IsSome result → port < 6 }
-    {
-        self.wiring.link_into(node, port)
-    }
-
-    /// The number of the link that goes out of this port, if there is one.
-    pub fn find_out(&self, node: u8, port: u8) -> Option<u16>
-        ensures there { IsSome result ↔ IsSome (neighbour_of self.now.mesh node port) }
-        ensures value { IfSome result (λ number. number ≡ number_out self.now node port) }
-        ensures bound { IfSome result (λ number. number < link_count self.now.mesh) }
-        ensures mesh_port { IsSome result → port < 6 }
-    {
-        self.wiring.link_out(node, port)
     }
 
     /// The links of this port, if the node has a neighbour there.
