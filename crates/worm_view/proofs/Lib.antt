@@ -1,1 +1,2 @@
 mod Drawing
+pub mod Statuses

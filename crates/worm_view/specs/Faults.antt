@@ -1,5 +1,5 @@
 -- The line that the program says of a fault on the standard error, and the status that it ends with.
-use Rattle.std.specs.Prelude.{◌≡◌, ◌≢◌, ◌⊎◌, ℕ, List, ◌++◌, codes, decimal, Result, Ok, Err}
+use Rattle.std.specs.Prelude.{◌≡◌, ◌≢◌, ◌≤◌, ◌⊎◌, ℕ, List, ◌++◌, codes, decimal, Result, Ok, Err}
 use Rattle.clap.specs.Values.{kind_of}
 use Rattle.clap.specs.declared.error.Error.{Error}
 use Rattle.clap.specs.declared.error.kind.ErrorKind.{ErrorKind}
@@ -32,6 +32,10 @@ status_of f.Write = 8
 abbrev pub ended_status : Result (Unit {0}) ViewFault → ℕ
 ended_status (Ok _) = 0
 ended_status (Err fault) = status_of fault
+
+-- whatever the words and texts are, the program ends with 0 or with the status of a fault; 7 is no status of it
+abbrev pub IsStatus : ℕ → Type 0
+IsStatus status = (status ≡ 0) ⊎ (((2 ≤ status) × (status ≤ 6)) ⊎ (status ≡ 8))
 
 -- help and version were asked for; words that are not those that the program knows, or no text, are the user's fault
 abbrev pub words_status : WordsFault → ℕ

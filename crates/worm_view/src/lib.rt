@@ -13,7 +13,7 @@
 
 ghost use Rattle.std.specs.Prelude.{◌≡◌};
 ghost use Rattle.std.specs.Process.{exit_status};
-ghost use Rattle.worm_view.specs.Faults.{ended_status, words_status};
+ghost use Rattle.worm_view.specs.Faults.{ended_status, words_status, IsStatus};
 
 mod fault;
 mod program;
@@ -75,8 +75,12 @@ fn refuse<R: Print + Eprint>(rt: &R, fault: WordsFault) -> ExitCode
     }
 }
 
-/// Runs the program on the words of the command line, and gives the status that it ends with.
-pub fn run<R: Env + Files + Input + Print + Eprint + AllocGlobal>(rt: &R) -> ExitCode {
+/// Runs the program on the words of the command line. The status is 0 where the whole picture is out, or where the
+/// words ask for help or the version, 2 for wrong words, and else that of the fault that was said.
+#[tactic(auto, using(crate::proofs::Statuses::of_ended, crate::proofs::Statuses::of_words))]
+pub fn run<R: Env + Files + Input + Print + Eprint + AllocGlobal>(rt: &R) -> ExitCode
+    ensures { IsStatus (exit_status result) }
+{
     let all = match all_words(rt) {
         Ok(all) => all,
         Err(fault) => return refuse(rt, fault),
