@@ -152,6 +152,7 @@ impl Fabric {
 
     /// Lets the ready flit out, into the sink or onto the link of its port (Dally and Towles, chapter 13). `NoMemory`
     /// where the sink cannot take it; idle where none is ready, or where one for the terminal is not at home.
+    #[inline(always)]
     pub(crate) fn send(&mut self, node: u8, port: u8, vc: u8) -> Result<Moved, StepFault>
         requires place { IsNetPlace self.old node port vc }
         requires way { LeavesByLink self.old node (leaving (router_at self.old node) port vc) }
@@ -179,6 +180,7 @@ impl Fabric {
 
     /// Gives a credit that the input channel owes to the link into its port, whose links are these (Dally and Towles,
     /// chapter 13).
+    #[inline(always)]
     pub(crate) fn give_credit(&mut self, node: u8, port: u8, vc: u8, links: PortLinks)
         requires place { IsNetPlace self.old node port vc }
         requires mesh { AreRadices self.old.mesh }

@@ -11,14 +11,14 @@ use worm_vcalloc::ChannelSet;
 /// Which input channels have something to do, so that a turn skips all others.
 #[derive(Drop)]
 pub struct BusyChannels {
+    /// Those that may send, each with the output port that it would send to.
+    pub ready: ReadyOuts,
     /// Those that have a flit.
     pub occupied: ChannelSet,
     /// Those that hold an output channel.
     pub active: ChannelSet,
     /// Those that owe a credit.
     pub owing: ChannelSet,
-    /// Those that may send, each with the output port that it would send to.
-    pub ready: ReadyOuts,
 }
 
 /// Takes a channel out of a set that it is in, unless it stays.

@@ -12,12 +12,12 @@ use worm_vcalloc::{FreeChannels, VcRequest, VcRequests};
 /// Who asks for an output channel, and which are free.
 #[derive(Drop)]
 pub struct Demand {
+    /// That no request is for a free channel. It may be false where none is.
+    in_vain: bool,
     /// What the waiting input channels ask for.
     requests: VcRequests,
     /// Which output channels are free.
     free: FreeChannels,
-    /// That no request is for a free channel. It may be false where none is.
-    in_vain: bool,
 }
 
 impl Model for Demand {

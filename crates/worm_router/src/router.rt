@@ -153,8 +153,8 @@ impl Router {
         let ports = 2 * mesh.dims() + 1;
         let total = classes.total();
         let count = usize::from(ports) * usize::from(total);
-        let inputs = make_inputs(alloc, count, depth)?;
         let outputs = make_outputs(alloc, count, depth)?;
+        let inputs = make_inputs(alloc, count, depth)?;
         Ok(Router {
             mesh: *mesh,
             node,

@@ -25,12 +25,12 @@ pub struct VcRequest {
 /// ```
 #[derive(Clone, Copy)]
 pub struct VcRequests {
-    /// The requests themselves.
-    table: RequestTable,
     /// The input channels that wait.
     waiting: ChannelSet,
     /// For each output port the input channels that wait for a channel of it.
     by_port: [ChannelSet; 7],
+    /// The requests themselves.
+    table: RequestTable,
 }
 
 /// The table of the requests.
