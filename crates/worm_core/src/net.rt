@@ -12,7 +12,7 @@ ghost use Rattle.worm_region.specs.Script.{due};
 ghost use Rattle.std.specs.Result.{result_err};
 ghost use Rattle.worm_mesh.specs.Address.{node_count};
 
-use crate::{Config, Entry, Moved, NetFault, Script, Step, StepFault};
+use crate::{Config, Due, Moved, NetFault, Script, Step, StepFault};
 use std::alloc::Global;
 use std::marker::Model;
 use worm_flit::{Flit, Lane};
@@ -186,7 +186,7 @@ impl Net {
     }
 
     /// The turns of all nodes with these entries, in rising number.
-    pub(crate) fn all_turns(&mut self, entries: &[Entry]) -> Result<(), StepFault>
+    pub(crate) fn all_turns(&mut self, entries: &Due<'_>) -> Result<(), StepFault>
         ensures exact { Turn entries.now self.old (result_err result) self.new }
         ensures reaches { Reaches self.old self.new }
     {
@@ -245,7 +245,8 @@ impl Net {
         ensures marks { NothingFollowsMarks self.old self.new }
     {
         self.recall();
-        let result = self.all_turns(script.due(turn));
+        let due = script.due(turn);
+        let result = self.all_turns(&due);
         self.recall();
         result
     }

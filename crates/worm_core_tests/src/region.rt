@@ -38,7 +38,8 @@ fn has_due(rt: &impl Abort, script: &Script, turn: u64, count: usize) {
 fn begins_with(rt: &impl Abort, script: &Script, turn: u64, lane: Lane) {
     let due = script.due(turn);
     assert!(rt; !due.is_empty());
-    assert_eq!(rt; due[0].act.lane(), lane);
+    assert_eq!(rt; due.entry(0).act.lane(), lane);
+    assert_eq!(rt; due.source(0), lane.src);
 }
 
 #[test]
@@ -146,8 +147,10 @@ impl<R: Abort + AllocGlobal + Copy> Ground<R> {
 
     /// The lane's source is offered a packet of these words, and accepts it.
     fn offer(&mut self, lane: Lane, words: &[u32]) {
-        let entries = [to_offer(&self.rt, 0, lane, words)];
-        let answer = self.region.ask_source(lane.src, &entries);
+        let mut script = Script::empty(self.rt.alloc());
+        let pushed = script.push(to_offer(&self.rt, 0, lane, words));
+        pushed.expect(&self.rt, "an entry");
+        let answer = self.region.ask_source(lane.src, &script.due(0));
         answer.expect(&self.rt, "an accepted packet");
     }
 

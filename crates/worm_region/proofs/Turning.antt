@@ -3,18 +3,17 @@ use Rattle.std.proofs.Common.{◌≡◌, ℕ, zero, suc, Bool, nat_lt, ◌≤◌
 use Rattle.std.proofs.Common.{get_or, take, map, List, [], ◌∷◌, ◌++◌, slice_set, length, Option, Some, None, refl}
 use Rattle.std.proofs.Common.{arith, ap, sym, subst, ◌∙◌}
 use Rattle.std.proofs.lemmas.Bool.Decides.{nat_tests}
-use Rattle.std.proofs.lemmas.List.{take_all, take_more}
+use Rattle.std.proofs.lemmas.List.{get_or-map, take_all, take_more}
 use Rattle.std.proofs.lemmas.List.Elements.{filter-append}
-use Rattle.std.specs.Prelude.{Result, option_map, filter, slice_index_or, IfSome, IfNone}
+use Rattle.std.specs.Prelude.{Result, option_map, filter, slice_index, slice_index_or, IfSome, IfNone}
 use Rattle.std.specs.List.{range_with_len, find}
 use Rattle.std.specs.Option.{option_to_list}
-use Rattle.worm_flit.specs.declared.Lane.{Lane}
 use Rattle.worm_router.specs.Router.{RouterState, width, input_at}
 use Rattle.worm_router.specs.Allocation.{switch_grants}
 use Rattle.worm_swalloc.specs.SwAlloc.{AreGranted}
 use Rattle.worm_swalloc.specs.declared.grant.SwGrant.{SwGrant}
 use Rattle.worm_theory.specs.Steps.{Step, Send, GiveCredit}
-use Rattle.worm_region.specs.Script.{begun_at, lane_of}
+use Rattle.worm_region.specs.Script.{begun_at, lane_of, sources_of}
 use Rattle.worm_region.specs.State.{NetState, router_at}
 use Rattle.worm_region.specs.Replies.{Attempts, Replies}
 use Rattle.worm_region.specs.Turns.{Each, Does, Passage, Reaches, ReachesAt, Allocates, ask, fault_of, granted_send}
@@ -60,24 +59,37 @@ asked x entries = map (λ (e : Entry). ask x e.act) (filter (λ (e : Entry). (la
 differ : (a b : ℕ) → (a ≡ b → ⊥) → (a == b) ≡ false
 differ a b away = grind arith
 
-pub asks_more : (x : ℕ) (entries : List Entry) (i : ℕ) (e : Entry) (lane : Lane) (a b c : NetState)
-    (answer : Result Moved StepFault) (fault : Option StepFault) → i < length entries → e ≡ get_or entries i e →
-    lane ≡ lane_of e.act → lane.src ≡ x
+-- there is an entry at each place, and its source stands beside it
+some_entry : (entries : List Entry) (i : ℕ) → i < length entries → (e : Entry) × (get_or entries i e ≡ e)
+some_entry [] i below = absurd (omega arith)
+some_entry (e ∷ es) zero below = (e, refl)
+some_entry (e ∷ es) (suc i) below = some_entry es i (omega arith)
+
+source_beside : (entries : List Entry) (i source : ℕ) (e : Entry) → i < length entries → get_or entries i e ≡ e →
+    source ≡ slice_index (sources_of entries) i → source ≡ (lane_of e.act).src
+source_beside entries i source e below at is =
+    let source_of : Entry → ℕ = λ (e : Entry). (lane_of e.act).src in
+    is ∙ (get_or-map source_of entries i e 0 below ∙ ap source_of at)
+
+pub asks_more : (x : ℕ) (entries : List Entry) (i source : ℕ) (e : Entry) (a b c : NetState)
+    (answer : Result Moved StepFault) (fault : Option StepFault) → i < length entries → get_or entries i e ≡ e →
+    source ≡ slice_index (sources_of entries) i → source ≡ x
     → Does (Each Attempts (asked x (take i entries))) a None b → Replies b (ask x e.act) answer c →
     fault ≡ fault_of answer → Does (Each Attempts (asked x (take (i + 1) entries))) a fault c
-asks_more x entries i e lane a b c answer fault below at is src done answered ends =
-    does_passing (λ (e : Entry). ask x e.act) (λ (e : Entry). (lane_of e.act).src == x) entries i e a b c fault below
-    (sym at)
-    (eq-eqb (lane_of e.act).src x (sym (ap (λ (l : Lane). l.src) is) ∙ src)) done
+asks_more x entries i source e a b c answer fault below at is for_it done answered ends =
+    does_passing (λ (e : Entry). ask x e.act) (λ (e : Entry). (lane_of e.act).src == x) entries i e a b c fault below at
+    (eq-eqb (lane_of e.act).src x (sym (source_beside entries i source e below at is) ∙ for_it)) done
     (does_try b c (ask x e.act) answer fault answered ends)
 
-pub asks_same : (x : ℕ) (entries : List Entry) (i : ℕ) (e : Entry) (lane : Lane) (a b : NetState) →
-    i < length entries → e ≡ get_or entries i e → lane ≡ lane_of e.act → (lane.src ≡ x → ⊥)
+pub asks_same : (x : ℕ) (entries : List Entry) (i source : ℕ) (a b : NetState) → i < length entries →
+    source ≡ slice_index (sources_of entries) i → (source ≡ x → ⊥)
     → Does (Each Attempts (asked x (take i entries))) a None b →
     Does (Each Attempts (asked x (take (i + 1) entries))) a None b
-asks_same x entries i e lane a b below at is away done =
-    does_failing (λ (e : Entry). ask x e.act) (λ (e : Entry). (lane_of e.act).src == x) entries i e a b below (sym at)
-    (differ (lane_of e.act).src x (λ same. away (ap (λ (l : Lane). l.src) is ∙ same))) done
+asks_same x entries i source a b below is away done =
+    let here = some_entry entries i below in
+    does_failing (λ (e : Entry). ask x e.act) (λ (e : Entry). (lane_of e.act).src == x) entries i here.0 a b below
+    here.1 (differ (lane_of here.0.act).src x (λ same. away (source_beside entries i source here.0 below here.1 is
+    ∙ same))) done
 
 pub asks_part : (x : ℕ) (entries : List Entry) (i : ℕ) (a b : NetState) (fault : StepFault) →
     Does (Each Attempts (asked x (take i entries))) a (Some fault) b →
@@ -88,15 +100,15 @@ asks_part x entries i a b fault done =
     record { exact = whole.exact; reaches = whole.reaches }
 
 -- up to a fault
-pub asks_until : (x : ℕ) (entries : List Entry) (i : ℕ) (e : Entry) (lane : Lane) (a b c : NetState)
-    (answer : Result Moved StepFault)
-    (fault : StepFault) → i < length entries → e ≡ get_or entries i e → lane ≡ lane_of e.act → lane.src ≡ x
+pub asks_until : (x : ℕ) (entries : List Entry) (i source : ℕ) (e : Entry) (a b c : NetState)
+    (answer : Result Moved StepFault) (fault : StepFault) → i < length entries → get_or entries i e ≡ e →
+    source ≡ slice_index (sources_of entries) i → source ≡ x
     → Does (Each Attempts (asked x (take i entries))) a None b → Replies b (ask x e.act) answer c →
     Some fault ≡ fault_of answer
     → Does (AsksSourceBy Attempts entries x) a (Some fault) c × ReachesAt x a c
-asks_until x entries i e lane a b c answer fault below at is src done answered ends =
+asks_until x entries i source e a b c answer fault below at is for_it done answered ends =
     let whole = asks_part x entries (i + 1) a c fault
-    (asks_more x entries i e lane a b c answer (Some fault) below at is src done answered ends) in
+    (asks_more x entries i source e a b c answer (Some fault) below at is for_it done answered ends) in
     (whole, asks_at x entries a c (Some fault) whole.exact)
 
 -- or all of them
@@ -112,15 +124,18 @@ asks_all x entries i a b past done =
     (whole, asks_at x entries a b None whole.exact)
 
 -- an entry more that is not for the source
-pub begun_same : (x : ℕ) (entries : List Entry) (i : ℕ) (e : Entry) → i < length entries → get_or entries i e ≡ e →
-    ((lane_of e.act).src ≡ x → ⊥)
+pub begun_same : (x : ℕ) (entries : List Entry) (i source : ℕ) → i < length entries →
+    source ≡ slice_index (sources_of entries) i → (source ≡ x → ⊥)
     → begun_at x (take i entries) ≡ [] → begun_at x (take (i + 1) entries) ≡ []
-begun_same x entries i e below at away none =
+begun_same x entries i source below is away none =
     let begins : Entry → Bool = λ (e : Entry). (lane_of e.act).src == x in
-    let other : filter begins (e ∷ []) ≡ [] = rw (differ (lane_of e.act).src x away) refl in
-    ap (filter begins) (take_more entries i e below ∙ ap (λ (y : Entry). take i entries ++ y ∷ []) at)
-    ∙ (filter-append begins (take i entries) (e ∷ []) ∙
-    (ap (λ (es : List Entry). es ++ filter begins (e ∷ [])) none ∙ other))
+    let here = some_entry entries i below in
+    let passed : begins here.0 ≡ false = differ (lane_of here.0.act).src x
+    (λ same. away (source_beside entries i source here.0 below here.1 is ∙ same)) in
+    let other : filter begins (here.0 ∷ []) ≡ [] = rw passed refl in
+    ap (filter begins) (take_more entries i here.0 below ∙ ap (λ (y : Entry). take i entries ++ y ∷ []) here.1)
+    ∙ (filter-append begins (take i entries) (here.0 ∷ []) ∙
+    (ap (λ (es : List Entry). es ++ filter begins (here.0 ∷ [])) none ∙ other))
 
 -- a mark that is set is read back, whether or not it is there
 pub marked : (marks : List Bool) (i : ℕ) → get_or (slice_set marks i true) i true ≡ true

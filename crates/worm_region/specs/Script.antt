@@ -1,5 +1,5 @@
 -- The order of a script's entries, and those of a turn and of a node.
-use Rattle.std.specs.Prelude.{ℕ, ◌≤◌, ◌+◌, ◌-◌, ◌<◌, ◌==◌, Bool, false, true, List, Option, None, Some, length, map}
+use Rattle.std.specs.Prelude.{ℕ, ◌≡◌, ◌≤◌, ◌+◌, ◌-◌, ◌<◌, ◌==◌, Bool, false, true, List, Option, None, Some, length, map}
 use Rattle.std.specs.Prelude.{filter, slice_index, slice_index_or}
 use Rattle.worm_flit.specs.declared.Lane.{Lane}
 use Rattle.worm_region.specs.declared.script.Act.{Act}
@@ -31,6 +31,15 @@ due turn entries = filter (λ (e : Entry). e.turn == turn) entries
 -- those whose lane begins at a node, in their order
 abbrev pub begun_at : ℕ → List Entry → List Entry
 begun_at x entries = filter (λ (e : Entry). (lane_of e.act).src == x) entries
+
+-- the nodes whose sources entries ask, one after another
+abbrev pub sources_of : List Entry → List ℕ
+sources_of entries = map (λ (e : Entry). (lane_of e.act).src) entries
+
+-- entries in order, and the node of the source that each asks
+pub record IsScript (entries : List Entry) (sources : List ℕ) : Type 0 where
+  pub in_order : AreInOrder entries
+  pub beside : sources ≡ sources_of entries
 
 -- a node of a list with a mark for each, if there is one
 abbrev pub is_marked : Option (List Bool) → ℕ → Bool

@@ -10,6 +10,7 @@
 #![tactic(auto)]
 
 mod config;
+mod due;
 mod fabric;
 mod fault;
 mod fresh;
@@ -23,6 +24,7 @@ mod step;
 mod turn;
 
 pub use config::{Config, Name};
+pub use due::Due;
 pub use fabric::Fabric;
 pub use fault::{NetFault, StepFault};
 pub use fresh::fresh_nodes;

@@ -1,6 +1,7 @@
 ghost use Rattle.std.specs.Prelude.{◌≡◌, ◌<◌, ◌≤◌, ◌↔◌, ◌++◌, ◌∷◌, [], IsTrue, OnOk, OnErr, length, slice_range};
 ghost use Rattle.worm_region.specs.Script.{AreInOrder, due, lane_of, last_turn};
 
+use crate::due::Due;
 use std::alloc::Global;
 use std::marker::Model;
 use worm_flit::{Lane, Packet};
@@ -48,18 +49,20 @@ pub enum ScriptFault {
 #[derive(Debug, Drop)]
 pub struct Script {
     entries: Vec<Entry>,
+    /// The node of the source that each entry asks, in the same order.
+    sources: Vec<u8>,
 }
 
 impl Model for Script {
-    ghost use Rattle.std.specs.Prelude.{◌≡◌, true, List};
-    ghost use Rattle.worm_region.specs.Script.{AreInOrder};
+    ghost use Rattle.std.specs.Prelude.{List};
+    ghost use Rattle.worm_region.specs.Script.{IsScript};
     ghost use Rattle.worm_region.specs.declared.script.Entry.{Entry};
 
     ghost Value = { List Entry };
 
     ghost view = { λ s. s.entries.items };
 
-    ghost invariant = { λ s. AreInOrder s.entries.items };
+    ghost invariant = { λ s. IsScript s.entries.items s.sources.items };
 }
 
 /// Where the entries of a turn begin, and where those of later turns.
@@ -81,6 +84,7 @@ impl Script {
     {
         Script {
             entries: Vec::new(alloc),
+            sources: Vec::new(alloc),
         }
     }
 
@@ -98,10 +102,15 @@ impl Script {
         if entry.turn < last {
             return Err(ScriptFault::TurnFalls);
         }
-        match self.entries.push(entry) {
-            Ok(()) => Ok(()),
-            Err(_) => Err(ScriptFault::NoMemory),
+        if self.sources.reserve(1).is_err() {
+            return Err(ScriptFault::NoMemory);
         }
+        let source = entry.act.lane().src;
+        if self.entries.push(entry).is_err() {
+            return Err(ScriptFault::NoMemory);
+        }
+        let _ = self.sources.push(source);
+        Ok(())
     }
 
     /// The entries, in order.
@@ -122,15 +131,23 @@ impl Script {
         }
     }
 
-    /// The entries of a turn, in order.
-    pub fn due(&self, turn: u64) -> &[Entry]
-        ensures { result.now ≡ due turn self.now }
+    /// The entries between two places, with their sources.
+    fn between(&self, first: usize, next: usize) -> Due<'_>
+        requires rise { first ≤ next }
+        requires within { next ≤ length self.now }
+        ensures { result ≡ slice_range self.now first next }
     {
-        let entries = self.entries.as_slice();
+        Due::new(&self.entries[first..next], &self.sources[first..next])
+    }
+
+    /// The entries of a turn, in order.
+    pub fn due(&self, turn: u64) -> Due<'_>
+        ensures { result ≡ due turn self.now }
+    {
         if self.is_over(turn) {
-            return &entries[..0];
+            return self.between(0, 0);
         }
-        let (first, next) = due_places(entries, turn);
-        &entries[first..next]
+        let (first, next) = due_places(self.entries(), turn);
+        self.between(first, next)
     }
 }

@@ -22,7 +22,7 @@ ghost use Rattle.worm_region.specs.Turns.{TakesFlitsBy, AreGrants, AreThere};
 ghost use Rattle.worm_region.specs.Prepared.{Prepares};
 
 use crate::region::Region;
-use crate::{Act, Entry, Moved, StepFault};
+use crate::{Act, Due, Moved, StepFault};
 use worm_vcalloc::ChannelSet;
 
 /// What the answer to a step is to the turn that tried it: a step that is not there, or not enabled, is passed over.
@@ -38,15 +38,15 @@ pub fn tried(answer: Result<Moved, StepFault>) -> Result<(), StepFault>
 
 /// The nodes whose sources these entries ask, by number: an entry is for none of the others. None where there is no
 /// entry.
-fn sources_of(entries: &[Entry]) -> Option<[bool; 256]>
+fn sources_of(entries: &Due<'_>) -> Option<[bool; 256]>
     ensures { (x : ℕ) → x < 256 → is_marked result x ≡ false → begun_at x entries.now ≡ [] }
 {
     if entries.is_empty() {
         return None;
     }
     let mut sources = [false; 256];
-    for entry in entries {
-        sources[usize::from(entry.act.lane().src)] = true;
+    for i in 0..entries.len() {
+        sources[usize::from(entries.source(i))] = true;
     }
     Some(sources)
 }
@@ -73,13 +73,13 @@ impl Region {
     }
 
     /// Asks the node's source what these entries ask of it, up to the first refusal.
-    pub fn ask_source(&mut self, node: u8, entries: &[Entry]) -> Result<(), StepFault>
+    pub fn ask_source(&mut self, node: u8, entries: &Due<'_>) -> Result<(), StepFault>
         ensures does { Does (AsksSourceBy Attempts entries.now node) self.old (result_err result) self.new }
         ensures at_node { ReachesAt node self.old self.new }
     {
-        for entry in entries {
-            if entry.act.lane().src == node {
-                tried(self.ask(node, &entry.act))?;
+        for i in 0..entries.len() {
+            if entries.source(i) == node {
+                tried(self.ask(node, &entries.entry(i).act))?;
             }
         }
         Ok(())
@@ -280,7 +280,7 @@ impl Region {
     }
 
     /// The turn of a node, with these entries for all nodes; one of them may be for its source.
-    fn node_turn(&mut self, node: u8, entries: &[Entry], is_asked: bool) -> Result<(), StepFault>
+    fn node_turn(&mut self, node: u8, entries: &Due<'_>, is_asked: bool) -> Result<(), StepFault>
         requires node { node < node_count self.old.mesh }
         requires asked { is_asked ≡ false → begun_at node entries.now ≡ [] }
         requires whole { self.old.own ≡ sole }
@@ -307,7 +307,7 @@ impl Region {
     }
 
     /// The turns of all nodes with these entries, in rising number.
-    pub fn all_turns(&mut self, entries: &[Entry]) -> Result<(), StepFault>
+    pub fn all_turns(&mut self, entries: &Due<'_>) -> Result<(), StepFault>
         requires { self.old.own ≡ sole }
         ensures { Does (ForEach all_nodes (NodeTurnBy Attempts entries.now)) self.old (result_err result) self.new }
     {

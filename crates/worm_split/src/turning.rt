@@ -23,7 +23,7 @@ ghost use Rattle.worm_split.specs.PartTurns.{AreShared, PullsCredit, PullsCredit
 use crate::ends::{is_entering, is_leaving, pop_credit, pop_flit, push_credit, push_flit};
 use crate::part::Part;
 use std::sync::Wait;
-use worm_core::{Act, Entry, Script, StepFault, tried};
+use worm_core::{Act, Due, Entry, Script, StepFault, tried};
 use worm_flit::Flit;
 use worm_vcalloc::ChannelSet;
 
@@ -135,7 +135,7 @@ impl Part {
     }
 
     /// Asks the node's source what the entries ask of it, up to the first refusal.
-    fn ask_source(&mut self, node: u8, entries: &[Entry]) -> Result<(), StepFault>
+    fn ask_source(&mut self, node: u8, entries: &Due<'_>) -> Result<(), StepFault>
         requires own { owned self.old.net node ≡ true }
         ensures same { IsSamePart self.old self.new }
         ensures asks { Within (AsksSourceBy Attempts entries.now node) self.old (result_err result) self.new }
@@ -351,7 +351,7 @@ impl Part {
         &mut self,
         rt: &R,
         node: u8,
-        entries: &[Entry],
+        entries: &Due<'_>,
         shared: &[bool],
     ) -> Result<(), StepFault>
         requires node { node < node_count self.old.net.mesh }
@@ -371,7 +371,7 @@ impl Part {
         rt: &R,
         node: u8,
         owner: u16,
-        entries: &[Entry],
+        entries: &Due<'_>,
         shared: &[bool],
     ) -> Result<(), StepFault>
         requires node { node < node_count self.old.net.mesh }
@@ -387,7 +387,7 @@ impl Part {
     }
 
     /// The turns of the worker's nodes, in rising number, with these entries for all nodes, up to the first fault.
-    fn node_turns<R: Wait>(&mut self, rt: &R, entries: &[Entry]) -> Result<(), StepFault>
+    fn node_turns<R: Wait>(&mut self, rt: &R, entries: &Due<'_>) -> Result<(), StepFault>
         ensures turn { Turn entries.now self.old (result_err result) self.new }
         ensures same { IsSamePart self.old self.new }
     {
@@ -413,10 +413,10 @@ impl Part {
         ensures refused { IsRefused (due turn script.now) self.old (result_err result) self.new }
         ensures same { IsSamePart self.old self.new }
     {
-        let entries = script.due(turn);
-        have_words(entries);
+        let due = script.due(turn);
+        have_words(due.entries());
         self.region.recall();
-        self.node_turns(rt, entries)
+        self.node_turns(rt, &due)
     }
 }
 

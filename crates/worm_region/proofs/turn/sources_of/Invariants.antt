@@ -4,6 +4,6 @@ use Rattle.worm_region.specs.Script.{begun_at}
 use Rattle.worm_region.proofs.turn.sources_of.Given as goal
 
 -- of the entries before, none is for a node that is not marked
-abbrev pub invariant-loop-entry : goal.invariant-loop-entry
-invariant-loop-entry l = (x : ℕ) → x < 256 → slice_index_or l.sources x true ≡ false
-    → begun_at x (take l.entry-index l.entries) ≡ []
+abbrev pub invariant-loop-i : goal.invariant-loop-i
+invariant-loop-i l =
+    (x : ℕ) → x < 256 → slice_index_or l.sources x true ≡ false → begun_at x (take l.i l.entries) ≡ []

@@ -6,7 +6,7 @@ use Rattle.worm_region.specs.Replies.{Attempts}
 use Rattle.worm_region.specs.Turns.{Does, Each, ask}
 use Rattle.worm_region.proofs.region.Region.ask_source.Given as goal
 
-abbrev pub invariant-loop-entry : goal.invariant-loop-entry
-invariant-loop-entry l =
+abbrev pub invariant-loop-i : goal.invariant-loop-i
+invariant-loop-i l =
     Does (Each Attempts (map (λ (e : Entry). ask l.node e.act)
-    (filter (λ (e : Entry). (lane_of e.act).src == l.node) (take l.entry-index l.entries)))) l.initial.self None l.self
+    (filter (λ (e : Entry). (lane_of e.act).src == l.node) (take l.i l.entries)))) l.initial.self None l.self

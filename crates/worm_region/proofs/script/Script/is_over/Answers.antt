@@ -11,7 +11,7 @@ pub returns-in-Some : goal.returns-in-Some
 returns-in-Some c = λ over.
     let entries = c.deref.result.now in
     let same : entries ≡ c.args.self.now = c.deref.ensures.value ∙ c.self.view_is in
-    let in_order : AreInOrder entries = subst AreInOrder (sym c.deref.ensures.value) c.self.invariant in
+    let in_order : AreInOrder entries = subst AreInOrder (sym c.deref.ensures.value) c.self.invariant.in_order in
     let below : c.in-Some.last.now.turn < c.args.turn = let before = less c.from.result c.args.turn (true_of _ over) in
     let is = c.from.ensures in omega arith in
     let none : due c.args.turn entries ≡ [] = none_behind entries c.args.turn in_order (λ d some.
