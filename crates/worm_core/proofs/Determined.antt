@@ -6,14 +6,14 @@ use Rattle.std.specs.List.{range_with_len}
 use Rattle.worm_term.specs.declared.fault.OfferFault.{OfferFault}
 use Rattle.worm_theory.specs.Steps.{Step}
 use Rattle.worm_region.specs.State.{NetState}
-use Rattle.worm_region.specs.Script.{due}
+use Rattle.worm_script.specs.Script.{due}
 use Rattle.worm_region.specs.Answers.{Answers}
 use Rattle.worm_region.specs.Totals.{injected_total, delivered_total}
 use Rattle.worm_region.specs.Turns.{Passage, Stays, ◌and_then◌, Each, ForEach, Tries, NodeTurn, AsksSource, ComesIn}
 use Rattle.worm_region.specs.Turns.{TakesCredits, TakesFlits, FeedsClasses, RoutesChannels, RoutesPort, Allocates}
 use Rattle.worm_region.specs.Turns.{SendsGranted, GivesCredit, GivesCredits, Turn, Turns, Drains, RunIsDetermined}
 use Rattle.worm_region.specs.Turns.{IsDetermined, fault_of, all_nodes, all_ports, mesh_ports}
-use Rattle.worm_region.specs.declared.script.Entry.{Entry}
+use Rattle.worm_script.specs.declared.script.Entry.{Entry}
 use Rattle.worm_region.specs.declared.step.Moved.{Moved}
 use Rattle.worm_region.specs.declared.step.Moved.TheVariants.{Done, Idle}
 use Rattle.worm_region.specs.declared.fault.StepFault.{StepFault}

@@ -15,9 +15,9 @@ use Rattle.worm_term.specs.declared.source.LaneState.{LaneState}
 use Rattle.worm_term.specs.Source.{SourceState, IsOpen, fresh_lane, with_packet}
 use Rattle.worm_theory.proofs.Places.{bool_cases}
 use Rattle.worm_region.specs.declared.node.Node.{Node}
-use Rattle.worm_region.specs.declared.script.Act.{Act}
-use Rattle.worm_region.specs.declared.script.Act.TheVariants.{Offer, Close}
-use Rattle.worm_region.specs.declared.script.Entry.{Entry}
+use Rattle.worm_script.specs.declared.script.Act.{Act}
+use Rattle.worm_script.specs.declared.script.Act.TheVariants.{Offer, Close}
+use Rattle.worm_script.specs.declared.script.Entry.{Entry}
 use Rattle.worm_region.specs.declared.step.Moved.{Moved}
 use Rattle.worm_region.specs.declared.step.Moved.TheVariants.{Done, Idle}
 use Rattle.worm_region.specs.declared.fault.StepFault.{StepFault}
@@ -26,7 +26,7 @@ use Rattle.worm_region.specs.State.{NetState, node_at, source_at, with_source, f
 use Rattle.worm_region.specs.Moves.{done_step}
 use Rattle.worm_region.specs.NewNet.{IsFresh}
 use Rattle.worm_region.specs.Answers.{Answers, refusal_of}
-use Rattle.worm_region.specs.Script.{lane_of, due, begun_at}
+use Rattle.worm_script.specs.Script.{lane_of, due, begun_at}
 use Rattle.worm_core.specs.Acceptable.{closes, is_closed, IsAcceptable, AreAcceptable, IsAcceptableScript}
 use Rattle.worm_core.specs.Acceptable.{EndsForMemory, IsTakenWhole}
 use Rattle.worm_region.specs.Turns.{Each, Tries, NodeTurn, Turn, ask, fault_of}

@@ -5,14 +5,14 @@ use Rattle.std.specs.Prelude.{Some, None, ◌⊎◌}
 use Rattle.std.specs.List.{list_any}
 use Rattle.worm_flit.specs.declared.Lane.{Lane}
 use Rattle.worm_mesh.specs.Address.{node_count}
-use Rattle.worm_region.specs.declared.script.Act.{Act}
-use Rattle.worm_region.specs.declared.script.Act.TheVariants.{Offer, Close}
-use Rattle.worm_region.specs.declared.script.Entry.{Entry}
+use Rattle.worm_script.specs.declared.script.Act.{Act}
+use Rattle.worm_script.specs.declared.script.Act.TheVariants.{Offer, Close}
+use Rattle.worm_script.specs.declared.script.Entry.{Entry}
 use Rattle.worm_region.specs.declared.fault.StepFault.{StepFault}
 use Rattle.worm_region.specs.declared.fault.StepFault.TheVariants.{NoMemory}
 use Rattle.worm_region.specs.State.{NetState}
 use Rattle.worm_region.specs.NewNet.{IsFresh}
-use Rattle.worm_region.specs.Script.{AreInOrder, lane_of}
+use Rattle.worm_script.specs.Script.{AreInOrder, lane_of}
 use Rattle.worm_region.specs.Turns.{OneThreadRun}
 
 -- it closes the lane

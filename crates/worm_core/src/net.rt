@@ -8,7 +8,7 @@ ghost use Rattle.worm_core.specs.NetRests.{NetRests};
 ghost use Rattle.worm_core.specs.Headline.{DeliversInOrder, NothingFollowsMarks};
 ghost use Rattle.worm_region.specs.State.{IsNet, shape, network_of, queue_of, sink_at, source_at, texts_of};
 ghost use Rattle.worm_region.specs.Turns.{Reaches, Turn};
-ghost use Rattle.worm_region.specs.Script.{due};
+ghost use Rattle.worm_script.specs.Script.{due};
 ghost use Rattle.std.specs.Result.{result_err};
 ghost use Rattle.worm_mesh.specs.Address.{node_count};
 

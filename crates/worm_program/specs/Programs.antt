@@ -3,14 +3,14 @@
 use Rattle.std.specs.Prelude.{ℕ, ◌≡◌, ◌≢◌, ◌-◌, ◌⊎◌, List, [], ◌∷◌, ◌++◌, length, take, drop, replicate, Option, None}
 use Rattle.std.specs.Prelude.{Some, Result, Ok, Err}
 use Rattle.std.specs.Io.KnownBytes.{Keeps, Appends}
-use Rattle.worm_region.specs.declared.script.Entry.{Entry}
+use Rattle.worm_script.specs.declared.script.Entry.{Entry}
 use Rattle.worm_region.specs.declared.fault.StepFault.{StepFault}
 use Rattle.worm_region.specs.declared.fault.StepFault.TheVariants.{NoMemory as NoRoom}
 use Rattle.worm_region.specs.State.{NetState}
 use Rattle.worm_region.specs.NewNet.{IsFresh}
 use Rattle.worm_region.specs.Totals.{accepted_total}
 use Rattle.worm_core.specs.Acceptable.{EndsForMemory}
-use Rattle.worm_region.specs.Script.{due}
+use Rattle.worm_script.specs.Script.{due}
 use Rattle.worm_region.specs.Turns.{Turns, Turn, OneThreadRun}
 use Rattle.worm_text.specs.declared.format.Format.{Format}
 use Rattle.worm_text.specs.Network.{Network, Keeps as KeepsRules, text}

@@ -2,7 +2,7 @@
 
 ghost use Rattle.std.specs.Prelude.{◌≡◌, ◌<◌, ◌-◌, length, nat_le, IfOk, IfErr, IfSome, OnOk, MatchResult};
 ghost use Rattle.worm_region.specs.NewNet.{IsFresh};
-ghost use Rattle.worm_region.specs.Script.{AreInOrder};
+ghost use Rattle.worm_script.specs.Script.{AreInOrder};
 ghost use Rattle.worm_region.specs.State.{texts_of};
 ghost use Rattle.worm_region.specs.Totals.{accepted_total};
 ghost use Rattle.worm_report.specs.Seen.{seen};

@@ -29,7 +29,6 @@ pub mod NewNet
 pub mod Reaching
 pub mod Giving
 pub mod Passages
-pub mod DueEntries
 pub mod Turning
 pub mod Skipping
 pub mod Routing

@@ -13,14 +13,14 @@ use Rattle.worm_router.specs.Allocation.{switch_grants}
 use Rattle.worm_swalloc.specs.SwAlloc.{AreGranted}
 use Rattle.worm_swalloc.specs.declared.grant.SwGrant.{SwGrant}
 use Rattle.worm_theory.specs.Steps.{Step, Send, GiveCredit}
-use Rattle.worm_region.specs.Script.{begun_at, lane_of, sources_of}
+use Rattle.worm_script.specs.Script.{begun_at, lane_of, sources_of}
 use Rattle.worm_region.specs.State.{NetState, router_at}
 use Rattle.worm_region.specs.Replies.{Attempts, Replies}
 use Rattle.worm_region.specs.Turns.{Each, Does, Passage, Reaches, ReachesAt, Allocates, ask, fault_of, granted_send}
 use Rattle.worm_region.specs.Turns.{lowest_owed, ◌and_then◌, AsksSourceBy, ComesInBy, GivesCreditBy, GivesCreditsBy}
 use Rattle.worm_region.specs.Turns.{AreGrants, Chooses, NodePassesBy, SendsBy, SendsGrantedBy}
 use Rattle.worm_region.specs.Prepared.{Prepares, allocated_at}
-use Rattle.worm_region.specs.declared.script.Entry.{Entry}
+use Rattle.worm_script.specs.declared.script.Entry.{Entry}
 use Rattle.worm_region.specs.declared.step.Moved.{Moved}
 use Rattle.worm_region.specs.declared.fault.StepFault.{StepFault}
 use Rattle.worm_theory.proofs.Places.{number_cases}

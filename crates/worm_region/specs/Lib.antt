@@ -1,4 +1,3 @@
-pub mod Script
 pub mod Shape
 pub mod Owned
 pub mod State

@@ -16,11 +16,11 @@ use Rattle.worm_theory.specs.Steps.{IsThere, StepsLead}
 use Rattle.worm_region.specs.State.{NetState, IsSameConfig, shape, network_of, router_at, with_router}
 use Rattle.worm_region.specs.Moves.{chosen_router}
 use Rattle.worm_region.specs.Answers.{Answers}
-use Rattle.worm_region.specs.Script.{due, begun_at}
+use Rattle.worm_script.specs.Script.{due, begun_at}
 use Rattle.worm_region.specs.Totals.{injected_total, delivered_total}
-use Rattle.worm_region.specs.declared.script.Act.{Act}
-use Rattle.worm_region.specs.declared.script.Act.TheVariants.{Offer as ToOffer, Close as ToClose}
-use Rattle.worm_region.specs.declared.script.Entry.{Entry}
+use Rattle.worm_script.specs.declared.script.Act.{Act}
+use Rattle.worm_script.specs.declared.script.Act.TheVariants.{Offer as ToOffer, Close as ToClose}
+use Rattle.worm_script.specs.declared.script.Entry.{Entry}
 use Rattle.worm_region.specs.declared.step.Moved.{Moved}
 use Rattle.worm_region.specs.declared.fault.StepFault.{StepFault}
 use Rattle.worm_region.specs.declared.fault.StepFault.TheVariants.{NoSuchPlace, Refused, NoMemory}

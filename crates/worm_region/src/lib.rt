@@ -10,7 +10,6 @@
 #![tactic(auto)]
 
 mod config;
-mod due;
 mod fabric;
 mod fault;
 mod fresh;
@@ -19,12 +18,10 @@ mod nodes;
 mod own;
 mod parts;
 mod region;
-mod script;
 mod step;
 mod turn;
 
 pub use config::{Config, Name};
-pub use due::Due;
 pub use fabric::Fabric;
 pub use fault::{NetFault, StepFault};
 pub use fresh::fresh_nodes;
@@ -32,8 +29,8 @@ pub use node::Node;
 pub use own::Own;
 pub use parts::NetParts;
 pub use region::Region;
-pub use script::{Act, Entry, Script, ScriptFault};
 pub use step::{Moved, Step};
 pub use turn::tried;
+pub use worm_script::{Act, Due, Entry, Script, ScriptFault};
 pub use worm_term::{NoMemory, OfferFault};
 pub use worm_wires::{LinkState, PortLinks};

@@ -5,12 +5,12 @@ use Rattle.worm_flit.specs.declared.Flit.{Flit}
 use Rattle.worm_mesh.specs.Address.{node_count}
 use Rattle.worm_term.specs.declared.fault.OfferFault.{OfferFault}
 use Rattle.worm_term.specs.Source.{SourceState}
-use Rattle.worm_region.specs.Script.{begun_at, due}
+use Rattle.worm_script.specs.Script.{begun_at, due}
 use Rattle.worm_region.specs.State.{source_at, sink_at}
 use Rattle.worm_region.specs.Owned.{owned_by}
 use Rattle.worm_region.specs.Workable.{owned}
 use Rattle.worm_region.specs.declared.own.Own.{Own}
-use Rattle.worm_region.specs.declared.script.Entry.{Entry}
+use Rattle.worm_script.specs.declared.script.Entry.{Entry}
 use Rattle.worm_region.specs.declared.fault.StepFault.{StepFault}
 use Rattle.worm_split.specs.Effects.{HasAccepted, Refuses, SourceTakes}
 use Rattle.worm_split.specs.PartState.{PartState, IsSamePart}

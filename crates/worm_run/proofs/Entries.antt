@@ -5,9 +5,9 @@ use Rattle.std.specs.Prelude.{filter}
 use Rattle.std.specs.List.Sorted.{IsNonDecreasingBy}
 use Rattle.std.proofs.lemmas.Bool.{cases_lt}
 use Rattle.std.proofs.lemmas.List.Elements.{filter-append}
-use Rattle.worm_region.specs.Script.{AreInOrder, begun_at, due, lane_of}
-use Rattle.worm_region.specs.declared.script.Entry.{Entry}
-use Rattle.worm_region.proofs.DueEntries.{turns_rise}
+use Rattle.worm_script.specs.Script.{AreInOrder, begun_at, due, lane_of}
+use Rattle.worm_script.specs.declared.script.Entry.{Entry}
+use Rattle.worm_script.proofs.DueEntries.{turns_rise}
 use Rattle.worm_run.specs.Working.{due_before}
 
 is_below : (a b : ℕ) → a < b → nat_lt a b ≡ true

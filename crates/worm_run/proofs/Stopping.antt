@@ -1,7 +1,7 @@
 -- How a worker's turns end.
 use Rattle.std.proofs.Common.{◌≡◌, ℕ, ◌<◌, List, Option, Some, None, refl, sym, subst}
-use Rattle.worm_region.specs.Script.{due}
-use Rattle.worm_region.specs.declared.script.Entry.{Entry}
+use Rattle.worm_script.specs.Script.{due}
+use Rattle.worm_script.specs.declared.script.Entry.{Entry}
 use Rattle.worm_region.specs.declared.fault.StepFault.{StepFault}
 use Rattle.worm_split.specs.PartState.{PartState}
 use Rattle.worm_run.specs.Working.{EndsIn, HasTurned, IsStopped, WorkedAs, fault_behind}

@@ -4,12 +4,12 @@ use Rattle.std.proofs.Common.{ap, sym, subst, ◌∙◌, append-nil, append_asso
 use Rattle.std.specs.Option.{option_to_list}
 use Rattle.worm_flit.specs.declared.Flit.{Flit}
 use Rattle.worm_mesh.specs.Address.{node_count}
-use Rattle.worm_region.specs.Script.{AreInOrder, begun_at, due}
+use Rattle.worm_script.specs.Script.{AreInOrder, begun_at, due}
 use Rattle.worm_region.specs.State.{source_at, sink_at}
 use Rattle.worm_region.specs.Owned.{owned_by}
 use Rattle.worm_region.specs.Workable.{owned}
 use Rattle.worm_region.specs.declared.own.Own.{Own}
-use Rattle.worm_region.specs.declared.script.Entry.{Entry}
+use Rattle.worm_script.specs.declared.script.Entry.{Entry}
 use Rattle.worm_term.specs.Source.{SourceState}
 use Rattle.worm_split.specs.PartState.{PartState, IsSamePart}
 use Rattle.worm_split.specs.PartTurns.{Turn}

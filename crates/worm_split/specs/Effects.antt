@@ -6,14 +6,14 @@ use Rattle.worm_flit.specs.declared.Flit.{Flit}
 use Rattle.worm_mesh.specs.Address.{node_count}
 use Rattle.worm_term.specs.declared.fault.OfferFault.{OfferFault}
 use Rattle.worm_term.specs.Source.{SourceState, after_offer, after_close, queue_at, refusal}
-use Rattle.worm_region.specs.Script.{begun_at, lane_of}
+use Rattle.worm_script.specs.Script.{begun_at, lane_of}
 use Rattle.worm_region.specs.State.{source_at, sink_at}
 use Rattle.worm_region.specs.Workable.{owned}
 use Rattle.worm_region.specs.declared.fault.StepFault.{StepFault}
 use Rattle.worm_region.specs.declared.fault.StepFault.TheVariants.{Refused}
-use Rattle.worm_region.specs.declared.script.Act.{Act}
-use Rattle.worm_region.specs.declared.script.Act.TheVariants.{Offer, Close}
-use Rattle.worm_region.specs.declared.script.Entry.{Entry}
+use Rattle.worm_script.specs.declared.script.Act.{Act}
+use Rattle.worm_script.specs.declared.script.Act.TheVariants.{Offer, Close}
+use Rattle.worm_script.specs.declared.script.Entry.{Entry}
 use Rattle.worm_split.specs.PartState.{PartState}
 
 -- Entries

@@ -5,7 +5,7 @@ ghost use Rattle.std.specs.Prelude.{false, List, Option, length, sum};
 ghost use Rattle.std.specs.Result.{result_err};
 ghost use Rattle.worm_mesh.specs.Address.{node_count, stride_of};
 ghost use Rattle.worm_region.specs.Replies.{Attempts};
-ghost use Rattle.worm_region.specs.Script.{due};
+ghost use Rattle.worm_script.specs.Script.{due};
 ghost use Rattle.worm_region.specs.Prepared.{Prepares};
 ghost use Rattle.worm_region.specs.Turns.{AreGrants, AreThere, AsksSourceBy, lowest_owed};
 ghost use Rattle.worm_region.specs.Workable.{owned};

@@ -2,7 +2,7 @@
 
 ghost use Rattle.std.specs.Prelude.{◌≡◌, IfOk, None};
 ghost use Rattle.worm_core.specs.LaneView.{IsLaneCut};
-ghost use Rattle.worm_region.specs.Script.{due};
+ghost use Rattle.worm_script.specs.Script.{due};
 ghost use Rattle.worm_region.specs.Turns.{Reaches, Turn};
 
 use crate::cases::{Case, lane, two_words};

@@ -1,6 +1,6 @@
 use Rattle.std.proofs.Common.{ℕ, ◌≡◌, ◌<◌, true, false, [], take}
 use Rattle.std.specs.Prelude.{slice_index_or}
-use Rattle.worm_region.specs.Script.{begun_at}
+use Rattle.worm_script.specs.Script.{begun_at}
 use Rattle.worm_region.proofs.turn.sources_of.Given as goal
 
 -- of the entries before, none is for a node that is not marked

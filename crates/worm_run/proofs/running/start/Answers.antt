@@ -1,4 +1,4 @@
-use Rattle.worm_region.proofs.script.Script.TheSendSync.{the_sync as script_sync}
+use Rattle.worm_script.proofs.script.Script.TheSendSync.{the_sync as script_sync}
 use Rattle.worm_run.proofs.Sent.{part_send, worked_send}
 use denote.Param.Send.{sendable}
 use Rattle.std.proofs.Crossing.{crosses}

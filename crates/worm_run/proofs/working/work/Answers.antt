@@ -1,5 +1,5 @@
 use Rattle.std.proofs.Common.{◌≡◌, ℕ, None, Some, refl, ap, subst, arith}
-use Rattle.worm_region.specs.Script.{due}
+use Rattle.worm_script.specs.Script.{due}
 use Rattle.worm_region.specs.declared.fault.StepFault.{StepFault}
 use Rattle.worm_run.specs.Working.{HasTurned}
 use Rattle.worm_run.proofs.Placed.{turn_place}

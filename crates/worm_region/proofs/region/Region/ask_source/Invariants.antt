@@ -1,7 +1,7 @@
 use Rattle.std.proofs.Common.{◌==◌, None, map, take}
 use Rattle.std.specs.Prelude.{filter}
-use Rattle.worm_region.specs.declared.script.Entry.{Entry}
-use Rattle.worm_region.specs.Script.{lane_of}
+use Rattle.worm_script.specs.declared.script.Entry.{Entry}
+use Rattle.worm_script.specs.Script.{lane_of}
 use Rattle.worm_region.specs.Replies.{Attempts}
 use Rattle.worm_region.specs.Turns.{Does, Each, ask}
 use Rattle.worm_region.proofs.region.Region.ask_source.Given as goal

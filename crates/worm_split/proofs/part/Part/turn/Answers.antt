@@ -1,9 +1,9 @@
 use Rattle.std.proofs.Common.{List, Option, subst}
 use Rattle.std.specs.Result.{result_err}
-use Rattle.worm_region.specs.Script.{due}
+use Rattle.worm_script.specs.Script.{due}
 use Rattle.worm_region.specs.State.{IsFramed}
 use Rattle.worm_region.specs.declared.fault.StepFault.{StepFault}
-use Rattle.worm_region.specs.declared.script.Entry.{Entry}
+use Rattle.worm_script.specs.declared.script.Entry.{Entry}
 use Rattle.worm_split.specs.Effects.{HaveWords}
 use Rattle.worm_split.specs.PartState.{PartState}
 use Rattle.worm_split.specs.PartTurns.{Turn}

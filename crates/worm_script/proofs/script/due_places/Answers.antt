@@ -1,9 +1,9 @@
 use Rattle.std.proofs.Common.{◌≡◌, ◌-◌, ◌≤◌, nat_lt, nat_le, drop, take, rules}
 use Rattle.std.proofs.lemmas.List.Sorted.{IsPartitionPoint-from_clause, IsPartitionedBy-ltb, IsPartitionedBy-leb}
-use Rattle.worm_region.specs.Script.{due}
-use Rattle.worm_region.specs.declared.script.Entry.{Entry}
-use Rattle.worm_region.proofs.DueEntries.{turns_rise, due_part}
-use Rattle.worm_region.proofs.script.due_places.Goals as goal
+use Rattle.worm_script.specs.Script.{due}
+use Rattle.worm_script.specs.declared.script.Entry.{Entry}
+use Rattle.worm_script.proofs.DueEntries.{turns_rise, due_part}
+use Rattle.worm_script.proofs.script.due_places.Goals as goal
 
 found : (c : goal.After-partition_point-next)
     → (c.partition_point-first.result ≤ c.partition_point-next.result)

@@ -1,5 +1,5 @@
 ghost use Rattle.std.specs.Prelude.{◌≡◌, ◌<◌, ◌≤◌, ◌↔◌, ◌++◌, ◌∷◌, [], IsTrue, OnOk, OnErr, length, slice_range};
-ghost use Rattle.worm_region.specs.Script.{AreInOrder, due, lane_of, last_turn};
+ghost use Rattle.worm_script.specs.Script.{AreInOrder, due, lane_of, last_turn};
 
 use crate::due::Due;
 use std::alloc::Global;
@@ -55,8 +55,8 @@ pub struct Script {
 
 impl Model for Script {
     ghost use Rattle.std.specs.Prelude.{List};
-    ghost use Rattle.worm_region.specs.Script.{IsScript};
-    ghost use Rattle.worm_region.specs.declared.script.Entry.{Entry};
+    ghost use Rattle.worm_script.specs.Script.{IsScript};
+    ghost use Rattle.worm_script.specs.declared.script.Entry.{Entry};
 
     ghost Value = { List Entry };
 

@@ -2,9 +2,9 @@
 use Rattle.std.specs.Prelude.{ℕ, ◌≡◌, ◌≤◌, ◌+◌, ◌-◌, ◌<◌, ◌==◌, Bool, false, true, List, Option, None, Some, length, map}
 use Rattle.std.specs.Prelude.{filter, slice_index, slice_index_or}
 use Rattle.worm_flit.specs.declared.Lane.{Lane}
-use Rattle.worm_region.specs.declared.script.Act.{Act}
-use Rattle.worm_region.specs.declared.script.Act.TheVariants.{Offer, Close}
-use Rattle.worm_region.specs.declared.script.Entry.{Entry}
+use Rattle.worm_script.specs.declared.script.Act.{Act}
+use Rattle.worm_script.specs.declared.script.Act.TheVariants.{Offer, Close}
+use Rattle.worm_script.specs.declared.script.Entry.{Entry}
 
 -- the turns of the entries, one after another
 abbrev pub turns_of : List Entry → List ℕ

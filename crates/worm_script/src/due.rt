@@ -1,6 +1,6 @@
 ghost use Rattle.std.specs.Prelude.{◌≡◌, ◌<◌, ◌==◌, length, slice_index, slice_index_or};
-ghost use Rattle.worm_region.specs.Script.{sources_of};
-ghost use Rattle.worm_region.specs.declared.script.Entry.{Entry};
+ghost use Rattle.worm_script.specs.Script.{sources_of};
+ghost use Rattle.worm_script.specs.declared.script.Entry.{Entry};
 
 use crate::script::Entry;
 use std::marker::Model;
@@ -16,8 +16,8 @@ pub struct Due<'a> {
 
 impl<'a> Model for Due<'a> {
     ghost use Rattle.std.specs.Prelude.{◌≡◌, List};
-    ghost use Rattle.worm_region.specs.Script.{sources_of};
-    ghost use Rattle.worm_region.specs.declared.script.Entry.{Entry};
+    ghost use Rattle.worm_script.specs.Script.{sources_of};
+    ghost use Rattle.worm_script.specs.declared.script.Entry.{Entry};
 
     ghost Value = { List Entry };
 

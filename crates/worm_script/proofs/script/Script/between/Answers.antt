@@ -1,8 +1,8 @@
 use Rattle.std.proofs.Common.{◌≡◌, ◌-◌, ◌∙◌, List, ℕ, ap, sym, take, drop}
 use Rattle.std.proofs.lemmas.List.{drop-map, take-map}
-use Rattle.worm_region.specs.Script.{lane_of, sources_of}
-use Rattle.worm_region.specs.declared.script.Entry.{Entry}
-use Rattle.worm_region.proofs.script.Script.between.Goals as goal
+use Rattle.worm_script.specs.Script.{lane_of, sources_of}
+use Rattle.worm_script.specs.declared.script.Entry.{Entry}
+use Rattle.worm_script.proofs.script.Script.between.Goals as goal
 
 -- what stands beside a part of the entries is the part of what stands beside them
 of_part : (entries : List Entry) (from count : ℕ) →

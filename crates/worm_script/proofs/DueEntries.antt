@@ -4,11 +4,11 @@ use Rattle.std.proofs.Common.{[], ◌∷◌, length, get_or, take, drop, refl, a
 use Rattle.std.specs.Prelude.{filter}
 use Rattle.std.specs.List.Sorted.{IsNonDecreasingBy, IsPartitionPoint}
 use Rattle.std.proofs.Math.Seq.{drop-nil}
+use Rattle.std.proofs.lemmas.Bool.{cases_lt}
 use Rattle.std.proofs.lemmas.List.{get_or-map}
 use Rattle.std.proofs.lemmas.List.Sorted.{IsNonDecreasingBy-from_all_adjacent}
-use Rattle.worm_region.specs.Script.{AreInOrder, due}
-use Rattle.worm_region.specs.declared.script.Entry.{Entry}
-use Rattle.worm_region.proofs.NodeWritten.{below_cases}
+use Rattle.worm_script.specs.Script.{AreInOrder, due}
+use Rattle.worm_script.specs.declared.script.Entry.{Entry}
 
 -- the elements of number t stand from place a to before place b
 record StandsAt {X : Type 0} (n : X → ℕ) (t : ℕ) (xs : List X) (a b : ℕ) : Type 0 where
@@ -104,9 +104,9 @@ turns_rise entries in_order =
 
 places_rise : {X : Type 0} (n : X → ℕ) (t : ℕ) (xs : List X) (a b : ℕ) → a ≤ length xs → StandsAt n t xs a b → a ≤ b
 places_rise n t [] a b within stands = omega arith
-places_rise n t (x ∷ xs) a b within stands = elim (below_cases b a) [
-  | inl below ↦ absurd (stands_in_order n t (x ∷ xs) a b x within below.1 stands)
-  | inr above ↦ above.1
+places_rise n t (x ∷ xs) a b within stands = elim (cases_lt b a) [
+  | inl below ↦ absurd (stands_in_order n t (x ∷ xs) a b x within below stands)
+  | inr above ↦ above
 ]
 
 -- the entries of a turn stand between the places that two searches find

@@ -1,11 +1,15 @@
-use Rattle.std.proofs.Common.{◌≡◌, ◌<◌, ◌-◌, ◌∙◌, List, Option, ap, arith, get_or, length, subst, sym}
-use Rattle.std.specs.Prelude.{[], unwrap_or}
+use Rattle.std.proofs.Common.{◌≡◌, ◌<◌, ◌-◌, ◌∙◌, Bool, true, false, List, Option, ap, arith, get_or, length, refl, subst}
+use Rattle.std.proofs.Common.{sym}
+use Rattle.std.specs.Prelude.{[], unwrap_or, IsTrue}
 use Rattle.std.proofs.lemmas.Option.{unwrap_or-slice_get}
-use Rattle.worm_region.specs.Script.{AreInOrder, due}
-use Rattle.worm_region.specs.declared.script.Entry.{Entry}
-use Rattle.worm_wires.proofs.Looking.{true_of}
-use Rattle.worm_region.proofs.DueEntries.{less, none_behind}
-use Rattle.worm_region.proofs.script.Script.is_over.Goals as goal
+use Rattle.worm_script.specs.Script.{AreInOrder, due}
+use Rattle.worm_script.specs.declared.script.Entry.{Entry}
+use Rattle.worm_script.proofs.DueEntries.{less, none_behind}
+use Rattle.worm_script.proofs.script.Script.is_over.Goals as goal
+
+true_of : (b : Bool) → IsTrue b → b ≡ true
+true_of true h = refl
+true_of false h = absurd (cc)
 
 pub returns-in-Some : goal.returns-in-Some
 returns-in-Some c = λ over.

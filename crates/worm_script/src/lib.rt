@@ -1,0 +1,15 @@
+//! The script of a run: which packets and marks are offered to the sources, and in which turn.
+//!
+//! One idea carries it: a script is the list of its entries, in the order of the text, whose turns never fall; so the
+//! entries of a turn stand together and are found by two searches. Beside each stands, in a byte, the node whose source
+//! it asks, so that each node finds its own without a look at the others' packets.
+//!
+//! It asks no source and knows no network: whether an entry's lane is there, and what its source answers, is for whoever
+//! takes the turn.
+#![tactic(auto)]
+
+mod due;
+mod script;
+
+pub use due::Due;
+pub use script::{Act, Entry, Script, ScriptFault};
