@@ -1,6 +1,6 @@
 -- The order of a script's entries, and those of a turn and of a node.
-use Rattle.std.specs.Prelude.{ℕ, ◌≡◌, ◌≤◌, ◌+◌, ◌-◌, ◌<◌, ◌==◌, Bool, false, true, List, Option, None, Some, length, map}
-use Rattle.std.specs.Prelude.{filter, slice_index, slice_index_or}
+use Rattle.std.specs.Prelude.{ℕ, ◌≡◌, ◌≤◌, ◌+◌, ◌-◌, ◌<◌, ◌==◌, Bool, false, true, List, Option, None, Some, length}
+use Rattle.std.specs.Prelude.{filter, map, slice_index, slice_index_or}
 use Rattle.worm_flit.specs.declared.Lane.{Lane}
 use Rattle.worm_script.specs.declared.script.Act.{Act}
 use Rattle.worm_script.specs.declared.script.Act.TheVariants.{Offer, Close}

@@ -4,7 +4,7 @@
 //! entries of a turn stand together and are found by two searches. Beside each stands, in a byte, the node whose source
 //! it asks, so that each node finds its own without a look at the others' packets.
 //!
-//! It asks no source and knows no network: whether an entry's lane is there, and what its source answers, is for whoever
+//! It asks no source and knows no network: whether an entry's lane is there, and what its source answers, is for who
 //! takes the turn.
 #![tactic(auto)]
 

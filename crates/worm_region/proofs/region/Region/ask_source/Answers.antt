@@ -40,6 +40,6 @@ loop-i-preserved c =
           c.args.self.now c.loop-i.self w.ask.new.self w.ask.result None below (w.entry.ensures w.entry.result.now)
           c.source.ensures w.if-source-node.true c.loop-i.invariant w.ask.ensures w.in_ok-tried.ensures)
       | else-source-node w ↦
-          rw w.self-is (asks_same c.args.node c.args.entries.now c.loop-i.i c.source.result c.args.self.now c.loop-i.self
-          below c.source.ensures w.if-source-node.false c.loop-i.invariant)
+          rw w.self-is (asks_same c.args.node c.args.entries.now c.loop-i.i c.source.result c.args.self.now
+          c.loop-i.self below c.source.ensures w.if-source-node.false c.loop-i.invariant)
     ]

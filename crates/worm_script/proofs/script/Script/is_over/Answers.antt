@@ -1,5 +1,5 @@
-use Rattle.std.proofs.Common.{◌≡◌, ◌<◌, ◌-◌, ◌∙◌, Bool, true, false, List, Option, ap, arith, get_or, length, refl, subst}
-use Rattle.std.proofs.Common.{sym}
+use Rattle.std.proofs.Common.{◌≡◌, ◌<◌, ◌-◌, ◌∙◌, Bool, true, false, List, Option, ap, arith, get_or, length, refl}
+use Rattle.std.proofs.Common.{subst, sym}
 use Rattle.std.specs.Prelude.{[], unwrap_or, IsTrue}
 use Rattle.std.proofs.lemmas.Option.{unwrap_or-slice_get}
 use Rattle.worm_script.specs.Script.{AreInOrder, due}
