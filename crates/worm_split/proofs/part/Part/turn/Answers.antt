@@ -1,4 +1,4 @@
-use Rattle.std.proofs.Common.{List, Option, subst}
+use Rattle.std.proofs.Common.{List, Option, subst, ◌∙◌}
 use Rattle.std.specs.Result.{result_err}
 use Rattle.worm_script.specs.Script.{due}
 use Rattle.worm_region.specs.State.{IsFramed}
@@ -25,22 +25,22 @@ module _ (g : given.Over) (c : goal.After-node_turns g) where
   framed = subst (λ (p : PartState). IsFramed p.net) c.self.view_is c.recall.ensures.framed
 
   words : HaveWords entries
-  words = subst HaveWords c.due-entries.ensures c.have_words.ensures
+  words = subst HaveWords (c.entries.ensures ∙ c.due-due.ensures) c.have_words.ensures
 
 pub returns-clause-sources : goal.returns-clause-sources
 returns-clause-sources g c =
-    let turned = subst (λ (es : List Entry). Turn es (old g c) (fault g c) c.node_turns.new.self) c.due-entries.ensures
+    let turned = subst (λ (es : List Entry). Turn es (old g c) (fault g c) c.node_turns.new.self) c.due-due.ensures
     c.node_turns.ensures.turn in
     turn-sources (old g c) (entries g c) (fault g c) c.node_turns.new.self (framed g c) (words g c) turned
 
 pub returns-clause-sinks : goal.returns-clause-sinks
 returns-clause-sinks g c =
-    let turned = subst (λ (es : List Entry). Turn es (old g c) (fault g c) c.node_turns.new.self) c.due-entries.ensures
+    let turned = subst (λ (es : List Entry). Turn es (old g c) (fault g c) c.node_turns.new.self) c.due-due.ensures
     c.node_turns.ensures.turn in
     turn-sinks (old g c) (entries g c) (fault g c) c.node_turns.new.self (framed g c) (words g c) turned
 
 pub returns-clause-refused : goal.returns-clause-refused
 returns-clause-refused g c =
-    let turned = subst (λ (es : List Entry). Turn es (old g c) (fault g c) c.node_turns.new.self) c.due-entries.ensures
+    let turned = subst (λ (es : List Entry). Turn es (old g c) (fault g c) c.node_turns.new.self) c.due-due.ensures
     c.node_turns.ensures.turn in
     turn-refused (old g c) (entries g c) (fault g c) c.node_turns.new.self (framed g c) (words g c) turned
