@@ -1,6 +1,7 @@
 -- The cells of the channels that may send.
 use Rattle.std.proofs.Common.{◌≡◌, ℕ, ◌<◌, if◌then◌else◌, Bool, true, false, List, Option, None, is_some}
 use Rattle.std.proofs.Common.{ap, ◌∙◌, sym, refl}
+use Rattle.std.proofs.lemmas.Bool.{true≢false}
 use Rattle.worm_vcalloc.specs.ChannelSet.{has}
 use Rattle.worm_vcalloc.specs.Table.{cell}
 use Rattle.worm_swalloc.specs.Ready.{HaveOuts, ready_at}
@@ -30,4 +31,4 @@ cell_is_out outs among p v p_in v_in within =
 
     by_test : (b : Bool) (x : Option ℕ) → is_some (if b then x else None) ≡ true → x ≡ (if b then x else None)
     by_test true x some = refl
-    by_test false x some = absurd some
+    by_test false x some = absurd (true≢false (sym some))
