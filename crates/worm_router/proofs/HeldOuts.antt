@@ -23,7 +23,7 @@ use Rattle.worm_router.proofs.TableRows.{cell_has, cell_is, table_kept, table_pu
 abbrev pub out_at : RouterState → ℕ → ℕ → Option ℕ
 out_at r p v = port_held (input_at r p v).state
 
-pub some_held : (s : InRecord) → is_some (port_held s) ≡ holds s
+some_held : (s : InRecord) → is_some (port_held s) ≡ holds s
 some_held Idle = refl
 some_held (Waiting o) = refl
 some_held (Active o c) = refl

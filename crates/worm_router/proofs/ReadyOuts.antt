@@ -37,7 +37,7 @@ out_if true o v f = refl
 out_if false o v f = refl
 
 -- it is what the channel could send to, where it has a flit
-pub ready_parts : (r : RouterState) (p : ℕ) (c : ChannelState) (s : InRecord) (fs : List Flit)
+ready_parts : (r : RouterState) (p : ℕ) (c : ChannelState) (s : InRecord) (fs : List Flit)
     → option_map (λ leave. leave.0) (leaving_by r p c s fs)
     ≡ (if nat_lt 0 (length fs) then could_send_to r p s c.owed else None)
 ready_parts r p c Idle fs = none_either (nat_lt 0 (length fs))
@@ -106,7 +106,7 @@ module _ (r : RouterState) (sets : BusyChannels) (asked : DemandView) (masks : L
       (kept.held_up.each p v port_in vc_in)
 
   -- the set has a channel where its front may leave
-  pub ready_leaves : (p v : ℕ) → IsPlace r p v → has ready p v ≡ is_some (leaving r p v)
+  ready_leaves : (p v : ℕ) → IsPlace r p v → has ready p v ≡ is_some (leaving r p v)
   ready_leaves p v place =
       ready_here p v place
       ∙ some_told (input_at r p v).state (is_occupied (input_at r p v))

@@ -12,7 +12,7 @@ use Rattle.worm_swalloc.specs.Table.{table}
 use Rattle.worm_router.specs.Allocation.{within}
 use Rattle.worm_router.specs.Demand.{DemandView, IsDemandOf}
 use Rattle.worm_router.specs.declared.busy.BusyChannels.{BusyChannels}
-use Rattle.worm_router.specs.Router.{ChannelState, RouterState, IsRouter, IsPlace, terminal, width, fresh_channel}
+use Rattle.worm_router.specs.Router.{ChannelState, RouterState, IsRouter, terminal, width, fresh_channel}
 use Rattle.worm_router.specs.Router.{input_at, output_at}
 
 -- an input channel has a flit
@@ -118,17 +118,21 @@ is_of Idle out vc = false
 is_of (Waiting o) out vc = false
 is_of (Active o c) out vc = o == out && c == vc
 
--- from one router to the next an input channel is held up no more, and no other changes in that
-pub record IsFreed (old new : RouterState) (port vc : ℕ) : Type 0 where
-  pub place : IsPlace old port vc
-  pub here : is_held_up new port (input_at new port vc) ≡ false
-  pub others : (p v : ℕ) → IsPlace old p v → ((p ≡ port) → (v ≡ vc) → ⊥)
-      → is_held_up new p (input_at new p v) ≡ is_held_up old p (input_at old p v)
+-- the holder of an output channel, where it waits for nothing but a credit there
+abbrev pub due : RouterState → ℕ → ℕ → Option (ℕ × ℕ) → Option (ℕ × ℕ)
+due r out vc None = None
+due r out vc (Some h) =
+    if is_of (input_at r h.0 h.1).state out vc && (h.0 == terminal r || nat_lt (input_at r h.0 h.1).owed r.depth)
+    then Some h else None
 
--- none does
-abbrev pub NoneFreed : (old new : RouterState) → Type 0
-NoneFreed old new = (p v : ℕ) → IsPlace old p v
-    → is_held_up new p (input_at new p v) ≡ is_held_up old p (input_at old p v)
+-- the input channel that is held up no more as soon as an output channel has one credit more
+abbrev pub freed_by : RouterState → ℕ → ℕ → Option (ℕ × ℕ)
+freed_by r out vc =
+    if nat_lt 0 (output_at r out vc).credits then None else due r out vc (output_at r out vc).holder
+
+abbrev pub is_it : Option (ℕ × ℕ) → ℕ → ℕ → Bool
+is_it None p v = false
+is_it (Some h) p v = p == h.0 && v == h.1
 
 -- the channels of each class, as a bit for each
 pub record AreMasks (channels masks : List ℕ) : Type 0 where

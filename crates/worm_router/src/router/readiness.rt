@@ -1,9 +1,9 @@
 //! Which input channel is held up no more, as something else changes.
 
-ghost use Rattle.std.specs.Prelude.{◌≡◌, ◌==◌, ◌&&◌, ◌||◌, ◌-◌, ◌<◌, nat_lt, MatchOption};
+ghost use Rattle.std.specs.Prelude.{◌≡◌, ◌==◌, ◌&&◌, ◌||◌, ◌-◌, ◌<◌, nat_lt};
 ghost use Rattle.worm_records.specs.declared.InRecord.TheVariants.{Active};
-ghost use Rattle.worm_router.specs.Router.{IsPlace, StateFits, terminal, width, input_at, after_credit};
-ghost use Rattle.worm_router.specs.Busy.{IsFreed, NoneFreed, is_of, could_send};
+ghost use Rattle.worm_router.specs.Router.{IsPlace, StateFits, terminal, width, input_at};
+ghost use Rattle.worm_router.specs.Busy.{is_of, freed_by, could_send};
 
 use crate::router::Router;
 use worm_records::InRecord;
@@ -61,8 +61,7 @@ impl Router {
     /// The input channel that is held up no more as soon as this output channel has one credit more.
     pub(super) fn waits_for_credit(&self, out: u8, vc: u8) -> Option<(u8, u8)>
         requires { IsPlace self.now out vc }
-        ensures { MatchOption result (NoneFreed self.now (after_credit self.now out vc))
-            (λ place. IsFreed self.now (after_credit self.now out vc) place.0 place.1) }
+        ensures { result ≡ freed_by self.now out vc }
     {
         let output = self.outputs[self.line(out, vc)];
         if output.credits > 0 {

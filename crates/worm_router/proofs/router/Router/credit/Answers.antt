@@ -1,7 +1,7 @@
-use Rattle.std.proofs.Common.{◌<◌, ◌∙◌, sym, arith, ap, ◌*◌, sum, length}
+use Rattle.std.proofs.Common.{◌<◌, subst, ◌∙◌, sym, arith, ap, ◌*◌, sum, length}
 use Rattle.std.proofs.lemmas.Grind.{common_steps, elements}
 use Rattle.worm_records.specs.declared.OutRecord.{OutRecord}
-use Rattle.worm_router.specs.Router.{after_credit, free_output}
+use Rattle.worm_router.specs.Router.{free_output}
 use Rattle.worm_router.proofs.Kept.{full_after, full_before}
 use Rattle.worm_router.proofs.Places.{output_of}
 use Rattle.worm_router.specs.declared.busy.BusyChannels.{BusyChannels}
@@ -50,11 +50,16 @@ invariant_of-self c =
       outs = ap (λ (b : BusyChannels). b.outs) c.file_credit.ensures.others ∙ c.self.invariant.outs;
       held_up = credit_filed _ _ c.args.self.now _ _ _ _ c.waits_for_credit-freed.result c.self.view_is
           (credited_as _ c.args.self.now _ _ _ _ _ c.self.view_is output c.add_credit.ensures)
-          c.self.invariant.busy.few_ports c.self.invariant.busy.few_channels c.waits_for_credit-freed.ensures
-          c.file_credit.ensures.held_up c.self.invariant.held_up;
+          (subst (λ k. k < length c.self.inside.outputs.items) output.at within) output.place
+          c.self.invariant.busy.few_ports c.self.invariant.busy.few_channels c.self.invariant.router
+          c.self.invariant.holders c.waits_for_credit-freed.ensures c.file_credit.ensures.held_up
+          c.self.invariant.held_up;
     }
 
 pub file_credit-requires : goal.file_credit-requires
 file_credit-requires c =
-    freed_fits _ c.args.self.now (after_credit c.args.self.now c.args.out_port c.args.vc) c.waits_for_credit-freed.result
-    c.self.view_is c.self.invariant.busy.few_ports c.self.invariant.busy.few_channels c.waits_for_credit-freed.ensures
+    freed_fits _ c.args.self.now _ _ _ _ _ c.self.view_is
+    (output_of _ c.args.self.now c.args.out_port c.args.vc c.line-o.result c.index_mut-output.result.now
+    c.self.view_is c.requires c.line-o.ensures.value c.line-o.ensures.in_outputs c.index_mut-output.ensures.value)
+    c.self.invariant.busy.few_ports c.self.invariant.busy.few_channels c.self.invariant.holders
+    c.waits_for_credit-freed.ensures

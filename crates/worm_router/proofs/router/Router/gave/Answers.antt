@@ -62,7 +62,7 @@ invariant_of-self c =
       outs = ap (λ (b : BusyChannels). b.outs) c.file_given.ensures.others
           ∙ outs_kept _ _ _ _ _ _ input _ (ap (λ (x : ChannelState). port_held x.state) c.give.ensures)
           c.self.invariant.outs;
-      held_up = held_given _ _ _ _ _ _ _ _ c.waits_to_owe_less-freed.result input c.self.invariant.busy.few_ports
-          c.self.invariant.busy.few_channels c.give.ensures (omega (arith, owed_some)) had.owed_fits freed
+      held_up = held_given _ _ _ _ _ _ input c.self.invariant.busy.few_ports c.self.invariant.busy.few_channels _ _
+          c.waits_to_owe_less-freed.result c.give.ensures (omega (arith, owed_some)) had.owed_fits freed
           c.file_given.ensures.held_up c.self.invariant.held_up;
     }

@@ -78,7 +78,7 @@ invariant_of-self c =
       classes = c.self.invariant.classes;
       outs = outs_put _ _ _ _ _ _ input _ _ _ c.self.invariant.busy.few_ports c.self.invariant.busy.few_channels
           c.set.ensures (ap (λ (x : ChannelState). port_held x.state) c.set_state.ensures) c.self.invariant.outs;
-      held_up = held_granted _ _ _ _ _ _ _ _ _ _ _ _ _ c.could_send_by-may_send.result input output
-          c.self.invariant.busy.few_ports c.self.invariant.busy.few_channels c.set_state.ensures may
+      held_up = held_granted _ _ _ _ _ _ input c.self.invariant.busy.few_ports c.self.invariant.busy.few_channels
+          _ _ _ _ _ _ _ c.could_send_by-may_send.result output c.set_state.ensures may
           (filed _ _ _ _ _ c.put.ensures) (ap (λ (v : OutRecord). v.credits) c.grant.ensures) c.self.invariant.held_up;
     }

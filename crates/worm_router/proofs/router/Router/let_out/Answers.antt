@@ -137,9 +137,9 @@ invariant_of-self c =
       classes = c.self.invariant.classes;
       outs = outs_left _ _ _ _ _ _ input _ _ c.is_closing-closes.result c.self.invariant.busy.few_ports
           c.self.invariant.busy.few_channels c.file_left.ensures.outs after c.self.invariant.outs;
-      held_up = held_left _ _ _ _ _ _ _ _ _ _ _ c.credit_of-spent.result c.credit_of-more_owed.result _ _
-          c.is_closing-closes.result c.may_follow-follows.result input output
-          c.self.invariant.busy.few_ports c.self.invariant.busy.few_channels held_it after
+      held_up = held_left _ _ _ _ _ _ input c.self.invariant.busy.few_ports c.self.invariant.busy.few_channels _ _ _ _ _
+          c.credit_of-spent.result c.credit_of-more_owed.result _ _ c.is_closing-closes.result
+          c.may_follow-follows.result output held_it after
           (c.credit_of-spent.ensures.value ∙ ap (λ (r : RouterState). credit_of r c.args.out) (sym c.self.view_is))
           (c.credit_of-more_owed.ensures.value ∙ ap (λ (r : RouterState). credit_of r c.args.port) (sym c.self.view_is))
           (c.may_follow-follows.ensures ∙ ap (λ n.

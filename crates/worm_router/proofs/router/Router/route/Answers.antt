@@ -64,6 +64,6 @@ invariant_of-self c =
       classes = c.self.invariant.classes;
       outs = outs_kept _ _ _ _ _ _ input _ (ap (λ (x : ChannelState). port_held x.state) c.set_state.ensures
           ∙ sym was_unheld) c.self.invariant.outs;
-      held_up = held_waiting _ _ _ _ _ _ _ input c.self.invariant.busy.few_ports c.self.invariant.busy.few_channels
+      held_up = held_waiting _ _ _ _ _ _ input c.self.invariant.busy.few_ports c.self.invariant.busy.few_channels _
           was_idle (ap is_active c.set_state.ensures) c.self.invariant.held_up;
     }
