@@ -4,7 +4,7 @@ ghost use Rattle.std.specs.Prelude.{◌<◌};
 
 use crate::vcalloc::has_channels;
 use std::process::Abort;
-use worm_swalloc::{ReadyOuts, SwAlloc, SwGrant, SwGrants};
+use worm_swalloc::{Ready, ReadyOuts, SwAlloc, SwGrant, SwGrants};
 
 /// These input channels, each by port and channel, would send to these output ports.
 fn ready_of(rt: &impl Abort, channels: &[(u8, u8, u8)]) -> ReadyOuts {
@@ -29,6 +29,11 @@ pub fn are_chosen(rt: &impl Abort, grants: &SwGrants, granted: &[(u8, Option<SwG
     }
 }
 
+/// One pass in which every channel of the map may send.
+fn pass(alloc: &mut SwAlloc, ready: &ReadyOuts) -> SwGrants {
+    alloc.grant(&Ready::new(ready, ready.keys()))
+}
+
 /// In one pass each of these input ports is granted this, or nothing.
 fn passes(
     rt: &impl Abort,
@@ -36,7 +41,7 @@ fn passes(
     ready: &ReadyOuts,
     granted: &[(u8, Option<SwGrant>)],
 ) {
-    are_chosen(rt, &alloc.grant(ready), granted);
+    are_chosen(rt, &pass(alloc, ready), granted);
 }
 
 #[test]
@@ -53,7 +58,7 @@ fn grants_go_round(rt: HostRuntime) {
 fn each_output_port_is_granted_once(rt: HostRuntime) {
     let mut alloc = SwAlloc::new(3, 2);
     let ready = ready_of(&rt, &[(0, 1, 1), (1, 0, 0), (2, 0, 1)]);
-    let first = alloc.grant(&ready);
+    let first = pass(&mut alloc, &ready);
     let granted = [(0, sends(1, 1)), (1, sends(0, 0)), (2, None)];
     are_chosen(&rt, &first, &granted);
     has_channels(&rt, first.channels(), &[(0, 1), (1, 0)]);

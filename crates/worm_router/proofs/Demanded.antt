@@ -22,6 +22,7 @@ use Rattle.worm_vcalloc.specs.VcAlloc.{VcAllocState, VcPass, IsChannelMatching, 
 use Rattle.worm_vcalloc.proofs.PassLemmas.{none_where_not_some}
 use Rattle.worm_vcalloc.proofs.SetLemmas.{has-empty}
 use Rattle.worm_vcalloc.proofs.TableLemmas.{cell-replicate, IsTable-replicate}
+use Rattle.worm_swalloc.proofs.TableRows.{same_tables, IsTable-table}
 use Rattle.worm_router.specs.Router.{RouterState, ChannelState, IsPlace, terminal, width, line, fresh_channel}
 use Rattle.worm_router.specs.Router.{free_output, put_in, input_at}
 use Rattle.worm_router.specs.Busy.{HasFront, IsSetOf, waits, holds, is_occupied, is_waiting}
@@ -31,7 +32,7 @@ use Rattle.worm_router.specs.Allocation.{channel_pass, with_grants, after_alloca
 use Rattle.worm_router.specs.Demand.{DemandView, AreInVain, IsDemandOf}
 use Rattle.worm_router.proofs.NothingReady.{get_or-replicate_same}
 use Rattle.worm_router.proofs.Places.{IsInput, IsOutput, same_at}
-use Rattle.worm_router.proofs.TableRows.{cell_has, cell_is, table_kept, table_put, same_tables, rows_are, IsTable-table}
+use Rattle.worm_router.proofs.TableRows.{cell_has, cell_is, table_kept, table_put, rows_are}
 
 -- ---- what a channel asks for
 

@@ -10,7 +10,7 @@ use Rattle.worm_vcalloc.proofs.SetLemmas.{has-zero}
 use Rattle.worm_router.specs.declared.busy.BusyChannels.{BusyChannels}
 use Rattle.worm_router.specs.Router.{ChannelState, RouterState, terminal, width, fresh_channel}
 use Rattle.worm_router.proofs.Places.{IsInput, same_at}
-use Rattle.worm_router.specs.Busy.{IsSetIn, IsFiled, AreBusy, is_occupied, is_active, owes}
+use Rattle.worm_router.specs.Busy.{IsSetIn, IsFiled, AreBusy, is_occupied, owes}
 
 pub filed : (old new port vc : ℕ) (within : Bool) → IsPut old new port vc within → IsFiled old new port vc within
 filed old new port vc within put = record { here = put.here; elsewhere = put.elsewhere }
@@ -89,26 +89,24 @@ pub busy_filed : (r : RouterState) (old new : BusyChannels) (port vc i : ℕ) (h
     → IsInput r port vc i had
     → AreBusy (terminal r) (width r) r.depth r.inputs old
     → IsFiledBy is_occupied old.occupied new.occupied port vc had now
-    → IsFiledBy is_active old.active new.active port vc had now → IsFiledBy owes old.owing new.owing port vc had now
+    → IsFiledBy owes old.owing new.owing port vc had now
     → AreBusy (terminal r) (width r) r.depth (slice_set r.inputs i now) new
-busy_filed r old new port vc i had now input sound occupied active owing = record {
+busy_filed r old new port vc i had now input sound occupied owing = record {
   few_ports = sound.few_ports;
   few_channels = sound.few_channels;
   occupied = set_by is_occupied r _ _ port vc i had now input sound.few_ports sound.few_channels sound.occupied
       occupied;
-  active = set_by is_active r _ _ port vc i had now input sound.few_ports sound.few_channels sound.active active;
   owing = set_by owes r _ _ port vc i had now input sound.few_ports sound.few_channels sound.owing owing;
 }
 
 -- the same sets beside other marks
 pub busy_as : (t w depth : ℕ) (inputs : List ChannelState) (old new : BusyChannels) → AreBusy t w depth inputs old
-    → new.occupied ≡ old.occupied → new.active ≡ old.active → new.owing ≡ old.owing
+    → new.occupied ≡ old.occupied → new.owing ≡ old.owing
     → AreBusy t w depth inputs new
-busy_as t w depth inputs old new sound occupied active owing = record {
+busy_as t w depth inputs old new sound occupied owing = record {
   few_ports = sound.few_ports;
   few_channels = sound.few_channels;
   occupied = subst (IsSetIn is_occupied t w depth inputs) (sym occupied) sound.occupied;
-  active = subst (IsSetIn is_active t w depth inputs) (sym active) sound.active;
   owing = subst (IsSetIn owes t w depth inputs) (sym owing) sound.owing;
 }
 
@@ -130,12 +128,11 @@ set_fresh test t w depth count inputs none all counted = record {
 
 pub fresh_busy : (t w depth count : ℕ) (inputs : List ChannelState) (sets : BusyChannels) → t ≤ 6 → w ≤ 8
     → inputs ≡ replicate count (fresh_channel depth) → count ≡ (t + 1) * w
-    → sets ≡ record { occupied = 0; active = 0; owing = 0; ready = replicate 7 (replicate 8 None) }
+    → sets ≡ record { outs = replicate 7 (replicate 8 None); held_up = 0; occupied = 0; owing = 0 }
     → AreBusy t w depth inputs sets
 fresh_busy t w depth count inputs sets few_ports few_channels all counted none = rw none record {
   few_ports = few_ports;
   few_channels = few_channels;
   occupied = set_fresh is_occupied t w depth count inputs refl all counted;
-  active = set_fresh is_active t w depth count inputs refl all counted;
   owing = set_fresh owes t w depth count inputs refl all counted;
 }

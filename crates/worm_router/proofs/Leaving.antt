@@ -100,5 +100,5 @@ leaving_is r port vc out out_vc c front credit owe is active first a b =
 pub not_both : {X : Type 0} (a b : Bool) (x : X) → (a && b) ≡ false → (if a && b then Some x else None) ≡ None
 not_both a b x e = ap (λ k. if k then Some x else None) e
 
-pub owes_more : (owed more : ℕ) → nat_lt 0 owed ≡ true → nat_lt 0 (owed + more) ≡ true
-owes_more owed more some = grind (arith, nat_tests)
+pub owes_more : (owed more : ℕ) → (nat_lt 0 (owed + more) || nat_lt 0 owed) ≡ nat_lt 0 (owed + more)
+owes_more owed more = grind (arith, nat_tests)

@@ -1,20 +1,18 @@
 -- Where the sets of busy channels show that a router is at rest.
-use Rattle.std.proofs.Common.{◌≡◌, ℕ, ◌<◌, ◌&&◌, ◌==◌, true, false, List, [], ◌∷◌, length, not, nat_lt, replicate, None}
-use Rattle.std.proofs.Common.{is_some, refl, arith, sym, ◌∙◌, subst}
+use Rattle.std.proofs.Common.{◌≡◌, ℕ, ◌&&◌, ◌==◌, true, false, List, [], ◌∷◌, length, not, nat_lt, replicate, None}
+use Rattle.std.proofs.Common.{refl, arith, sym, ◌∙◌, subst}
 use Rattle.std.proofs.lemmas.Bool.Decides.{nat_tests}
 use Rattle.worm_flit.specs.declared.Flit.{Flit}
 use Rattle.worm_records.specs.declared.InRecord.{InRecord}
 use Rattle.worm_records.specs.declared.InRecord.TheVariants.{Idle, Waiting, Active}
-use Rattle.worm_vcalloc.specs.ChannelSet.{has}
-use Rattle.worm_vcalloc.specs.Table.{cell}
 use Rattle.worm_vcalloc.proofs.SetLemmas.{has-empty}
 use Rattle.worm_router.specs.Router.{RouterState, ChannelState, input_at, is_idle, opens_front}
 use Rattle.worm_router.specs.Demand.{DemandView}
-use Rattle.worm_router.specs.Busy.{IsKept, IsSetOf, is_occupied, is_waiting, is_active, owes, waits, holds}
+use Rattle.worm_router.specs.Busy.{AreReady, IsKept, IsSetOf, is_occupied, is_waiting, is_active, owes, waits, holds}
 use Rattle.worm_router.specs.Allocation.{switch_grants, after_choose}
 use Rattle.worm_router.specs.Rest.{OwesNothing, SendsNothing}
 use Rattle.worm_router.specs.declared.busy.BusyChannels.{BusyChannels}
-use Rattle.worm_router.proofs.ReadyOuts.{none_ready_of}
+use Rattle.worm_router.proofs.ReadyOuts.{none_ready}
 use Rattle.worm_router.proofs.NothingReady.{idle_grants, idle_choose}
 
 -- a channel with a flit that neither waits nor is active is idle; any other has nothing to route
@@ -41,14 +39,12 @@ pub record IsUnready (r : RouterState) : Type 0 where
   pub chooses : after_choose r ≡ r
   pub grants : switch_grants r ≡ replicate 7 None
 
-pub unready : (r s : RouterState) (sets : BusyChannels) (asked : DemandView) (masks : List ℕ) (keys : ℕ) → r ≡ s
-    → IsKept r sets asked masks
-    → ((p v : ℕ) → p < 7 → v < 8 → has keys p v ≡ is_some (cell sets.ready p v None)) → (keys == 0) ≡ true
-    → IsUnready s
-unready r s sets asked masks keys same kept members none =
+pub unready : (r s : RouterState) (sets : BusyChannels) (asked : DemandView) (masks : List ℕ) (ready : ℕ) → r ≡ s
+    → IsKept r sets asked masks → AreReady sets ready → (ready == 0) ≡ true → IsUnready s
+unready r s sets asked masks ready same kept are none =
     let ports = kept.router.allocators.switch_ports in
     let few = kept.busy.few_ports in
-    let sends = none_ready_of r r sets.ready keys refl few kept.busy.few_channels kept.ready members none in
+    let sends = none_ready r sets asked masks ready kept are none in
     subst IsUnready same (record {
       sends = sends;
       chooses = idle_choose r (omega arith) kept.arbiters sends;

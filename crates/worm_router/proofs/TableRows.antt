@@ -1,41 +1,15 @@
 -- Tables filled cell by cell and row by row are the table of what they were filled with.
 use Rattle.std.proofs.Common.{◌≡◌, ℕ, ◌+◌, ◌<◌, ◌≤◌, ◌&&◌, Bool, true, false, nat_le, nat_lt, if◌then◌else◌, inl, inr}
-use Rattle.std.proofs.Common.{List, [], length, map, slice_index_or, refl, arith, ap, sym, ◌∙◌, subst}
-use Rattle.std.specs.List.{range_with_len}
+use Rattle.std.proofs.Common.{List, [], slice_index_or, refl, arith, ap, sym, ◌∙◌, subst}
 use Rattle.std.proofs.lemmas.Bool.{cases_eq, cases_lt}
-use Rattle.std.proofs.lemmas.List.{ext_get_or, get_or_past}
-use Rattle.std.proofs.lemmas.List.FromFn.{get_or-map-range_with_len, length-map-range_with_len}
+use Rattle.std.proofs.lemmas.List.{get_or_past}
 use Rattle.worm_vcalloc.specs.Table.{cell, with_cell, IsTable}
 use Rattle.worm_vcalloc.proofs.TableLemmas.{cell-with_cell_same, cell-with_cell_other, IsTable-with_cell}
 use Rattle.worm_router.specs.Router.{RouterState, IsPlace, terminal, width}
-use Rattle.worm_router.specs.Tables.{table, PutsRows}
+use Rattle.worm_swalloc.specs.Table.{table}
+use Rattle.worm_swalloc.proofs.TableRows.{same_tables, cell-table, IsTable-table}
+use Rattle.worm_router.specs.Tables.{PutsRows}
 use Rattle.worm_router.specs.Allocation.{within}
-
--- two tables with the same cells are one
-pub same_tables : {X : Type 0} (d : X) (s t : List (List X)) → IsTable s → IsTable t
-    → ((p v : ℕ) → p < 7 → v < 8 → cell s p v d ≡ cell t p v d) → s ≡ t
-same_tables d s t first second same =
-    ext_get_or [] s t (first.rows ∙ sym second.rows) (λ p below.
-    let p_in : p < 7 = omega (arith, below, first.rows) in
-    let long : length (slice_index_or s p []) ≡ 8 = first.columns p p_in in
-    ext_get_or d (slice_index_or s p []) (slice_index_or t p []) (long ∙ sym (second.columns p p_in)) (λ v inside.
-    same p v p_in (omega (arith, inside, long))))
-
-pub cell-table : {X : Type 0} (f : ℕ → ℕ → X) (p v : ℕ) (d : X) → p < 7 → v < 8 → cell (table f) p v d ≡ f p v
-unfolding table
-cell-table f p v d p_in v_in =
-    ap (λ (row : List _). slice_index_or row v d)
-    (get_or-map-range_with_len (λ port. map (f port) (range_with_len 0 8)) 0 7 p p [] p_in (omega arith))
-    ∙ get_or-map-range_with_len (f p) 0 8 v v d v_in (omega arith)
-
-pub IsTable-table : {X : Type 0} (f : ℕ → ℕ → X) → IsTable (table f)
-unfolding table
-IsTable-table f = record {
-  rows = length-map-range_with_len (λ port. map (f port) (range_with_len 0 8)) 0 7;
-  columns = λ p p_in.
-      ap length (get_or-map-range_with_len (λ port. map (f port) (range_with_len 0 8)) 0 7 p p [] p_in (omega arith))
-      ∙ length-map-range_with_len (f p) 0 8;
-}
 
 -- the rows of all ports make the table of the router's ports and channels
 pub rows_are : {X : Type 0} (r : RouterState) (d : X) (f : ℕ → ℕ → X) (n : ℕ) (t : List (List X))

@@ -13,7 +13,7 @@ use Rattle.worm_vcalloc.specs.Table.{cell}
 use Rattle.worm_vcalloc.specs.VcAlloc.{VcPass, IsChannelMatching, vc_pass}
 use Rattle.worm_swalloc.specs.declared.grant.SwGrant.{SwGrant}
 use Rattle.worm_swalloc.specs.SwAlloc.{sw_grants, sw_after}
-use Rattle.worm_router.specs.Tables.{table}
+use Rattle.worm_swalloc.specs.Table.{table}
 use Rattle.worm_router.specs.Router.{RouterState, IsPlace, terminal, width, input_at, output_at, after_grant}
 use Rattle.worm_router.specs.Router.{in_state, leaving}
 

@@ -1,17 +1,18 @@
 -- Which input channels have something to do: the sets that a router keeps beside its lists, so that a turn skips all
 -- others.
 use Rattle.std.specs.Prelude.{ℕ, ◌+◌, ◌*◌, ◌<◌, ◌≤◌, ◌≡◌, ◌==◌, ◌&&◌, ◌||◌, nat_lt, Bool, true, false, List, length}
-use Rattle.std.specs.Prelude.{slice_index, slice_index_or, All, Option, Some, None, if◌then◌else◌}
+use Rattle.std.specs.Prelude.{slice_index, slice_index_or, All, Option, Some, None, is_some, not, if◌then◌else◌}
 use Rattle.worm_flit.specs.Channels.{class_bits}
 use Rattle.worm_records.specs.declared.InRecord.{InRecord}
 use Rattle.worm_records.specs.declared.InRecord.TheVariants.{Idle, Waiting, Active}
 use Rattle.worm_vcalloc.specs.ChannelSet.{has}
-use Rattle.worm_vcalloc.specs.Table.{with_cell}
+use Rattle.worm_vcalloc.specs.Table.{cell}
 use Rattle.worm_swalloc.specs.SwAlloc.{SwAllocState}
-use Rattle.worm_router.specs.Allocation.{ready_at, ready_outs}
+use Rattle.worm_swalloc.specs.Table.{table}
+use Rattle.worm_router.specs.Allocation.{within}
 use Rattle.worm_router.specs.Demand.{DemandView, IsDemandOf}
 use Rattle.worm_router.specs.declared.busy.BusyChannels.{BusyChannels}
-use Rattle.worm_router.specs.Router.{ChannelState, RouterState, IsRouter, IsPlace, terminal, width, fresh_channel}
+use Rattle.worm_router.specs.Router.{ChannelState, RouterState, IsRouter, terminal, width, fresh_channel}
 use Rattle.worm_router.specs.Router.{input_at, output_at}
 
 -- an input channel has a flit
@@ -56,8 +57,12 @@ pub record AreBusy (terminal width depth : ℕ) (inputs : List ChannelState) (se
   pub few_ports : terminal ≤ 6
   pub few_channels : width ≤ 8
   pub occupied : IsSetIn is_occupied terminal width depth inputs sets.occupied
-  pub active : IsSetIn is_active terminal width depth inputs sets.active
   pub owing : IsSetIn owes terminal width depth inputs sets.owing
+
+-- a set has the channels that may send: they hold an output channel, have a flit and are not held up
+abbrev pub AreReady : BusyChannels → ℕ → Type 0
+AreReady sets set = (p v : ℕ) → p < 7 → v < 8
+    → has set p v ≡ ((is_some (cell sets.outs p v None) && has sets.occupied p v) && not (has sets.held_up p v))
 
 -- a set has changed at one channel alone, if at all, which is now in it or not
 pub record IsFiled (old new port vc : ℕ) (within : Bool) : Type 0 where
@@ -95,10 +100,17 @@ port_held (Active o c) = Some o
 abbrev pub could_send_to : RouterState → ℕ → InRecord → ℕ → Option ℕ
 could_send_to r port s owed = if could_send r port s owed then port_held s else None
 
--- the ready channels once one that was not among them may send to an output port, if there is one
-abbrev pub with_ready : List (List (Option ℕ)) → ℕ → ℕ → Option ℕ → List (List (Option ℕ))
-with_ready ready port vc None = ready
-with_ready ready port vc (Some out) = with_cell ready port vc (Some out)
+-- the output port of each channel that holds an output channel
+abbrev pub held_outs : RouterState → List (List (Option ℕ))
+held_outs r = table (within r None (λ p v. port_held (input_at r p v).state))
+
+-- a channel of this port holds an output channel and may not send
+abbrev pub is_held_up : RouterState → ℕ → ChannelState → Bool
+is_held_up r port c = is_active c && not (could_send r port c.state c.owed)
+
+-- a set has those channels of a router, and none of its others
+pub record AreHeldUp (r : RouterState) (set : ℕ) : Type 0 where
+  pub each : (p v : ℕ) → p ≤ terminal r → v < width r → has set p v ≡ is_held_up r p (input_at r p v)
 
 -- it holds this output channel
 abbrev pub is_of : InRecord → ℕ → ℕ → Bool
@@ -106,15 +118,21 @@ is_of Idle out vc = false
 is_of (Waiting o) out vc = false
 is_of (Active o c) out vc = o == out && c == vc
 
--- from one router to the next an input channel comes to be ready for an output port, and no other changes in that
-pub record IsWoken (old new : RouterState) (out port vc : ℕ) : Type 0 where
-  pub place : IsPlace old port vc
-  pub ready : ready_at new port vc ≡ Some out
-  pub others : (p v : ℕ) → IsPlace old p v → ((p ≡ port) → (v ≡ vc) → ⊥) → ready_at new p v ≡ ready_at old p v
+-- the holder of an output channel, where it waits for nothing but a credit there
+abbrev pub due : RouterState → ℕ → ℕ → Option (ℕ × ℕ) → Option (ℕ × ℕ)
+due r out vc None = None
+due r out vc (Some h) =
+    if is_of (input_at r h.0 h.1).state out vc && (h.0 == terminal r || nat_lt (input_at r h.0 h.1).owed r.depth)
+    then Some h else None
 
--- none does
-abbrev pub NoneWoken : (old new : RouterState) → Type 0
-NoneWoken old new = (p v : ℕ) → IsPlace old p v → ready_at new p v ≡ ready_at old p v
+-- the input channel that is held up no more as soon as an output channel has one credit more
+abbrev pub freed_by : RouterState → ℕ → ℕ → Option (ℕ × ℕ)
+freed_by r out vc =
+    if nat_lt 0 (output_at r out vc).credits then None else due r out vc (output_at r out vc).holder
+
+abbrev pub is_it : Option (ℕ × ℕ) → ℕ → ℕ → Bool
+is_it None p v = false
+is_it (Some h) p v = p == h.0 && v == h.1
 
 -- the channels of each class, as a bit for each
 pub record AreMasks (channels masks : List ℕ) : Type 0 where
@@ -131,8 +149,7 @@ pub record HasArbiters (s : SwAllocState) : Type 0 where
 abbrev pub HasFront : ChannelState → Type 0
 HasFront c = is_waiting c ≡ true → is_occupied c ≡ true
 
--- what a router keeps: what contracts see, and the sets, the requests, the ready channels and the masks of classes
--- beside it
+-- what a router keeps: what contracts see, and the sets, the requests and the masks of classes beside it
 pub record IsKept (r : RouterState) (sets : BusyChannels) (asked : DemandView) (masks : List ℕ) : Type 0 where
   pub router : IsRouter r
   pub arbiters : HasArbiters r.switch_alloc
@@ -140,5 +157,6 @@ pub record IsKept (r : RouterState) (sets : BusyChannels) (asked : DemandView) (
   pub demand : IsDemandOf r asked
   pub fronts : All HasFront r.inputs
   pub holders : AreHolders r
-  pub ready : sets.ready ≡ ready_outs r
+  pub outs : sets.outs ≡ held_outs r
+  pub held_up : AreHeldUp r sets.held_up
   pub classes : AreMasks r.channels masks

@@ -1,11 +1,6 @@
 -- Tables of seven ports by eight channels, filled row by row.
-use Rattle.std.specs.Prelude.{◌≡◌, ℕ, ◌<◌, List, map}
-use Rattle.std.specs.List.{range_with_len}
+use Rattle.std.specs.Prelude.{◌≡◌, ℕ, ◌<◌, List}
 use Rattle.worm_vcalloc.specs.Table.{cell, IsTable}
-
--- the table of what f says of each port and channel
-unfoldable pub table : {X : Type 0} → (ℕ → ℕ → X) → List (List X)
-table f = map (λ port. map (f port) (range_with_len 0 8)) (range_with_len 0 7)
 
 -- the first n cells of one row are those of f, and all others are as they were
 pub record PutsRow {X : Type 0} (d : X) (f : ℕ → X) (n row : ℕ) (old new : List (List X)) : Type 0 where

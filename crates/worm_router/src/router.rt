@@ -216,7 +216,7 @@ impl Router {
     pub fn active(&self) -> ChannelSet
         ensures { IsSetOf is_active self.now result }
     {
-        self.busy.active
+        self.busy.outs.keys()
     }
 
     /// The input channels that owe a credit.
@@ -292,17 +292,9 @@ impl Router {
         ensures err { IfErr result (λ f. (f ≡ flit) × (self.new ≡ self.old)) }
     {
         let i = self.line(port, flit.vc);
-        let was_empty = !self.inputs[i].is_occupied();
-        let out = if was_empty {
-            self.sends_what_comes_to(port, flit.vc)
-        } else {
-            None
-        };
         let channel = &mut self.inputs[i];
         let put = channel.put(flit);
-        if was_empty {
-            self.busy.file_first(port, flit.vc, channel, out);
-        }
+        self.busy.file_put(port, flit.vc, put.is_ok());
         put
     }
 
@@ -363,10 +355,11 @@ impl Router {
     {
         let i = self.line(port, vc);
         let o = self.line(out, out_vc);
-        let sends_to = self.sends_by(port, vc, out, out_vc);
+        let may_send = self.could_send_by(port, vc, out, out_vc);
         let channel = &mut self.inputs[i];
         channel.set_state(InRecord::Active { out, out_vc });
-        self.busy.file_active(port, vc, sends_to);
+        self.busy.outs.set(port, vc, Some(out));
+        self.busy.held_up.put(port, vc, !may_send);
         self.demand.meet(port, vc, out, out_vc);
         let output = &mut self.outputs[o];
         output.grant(port, vc);
@@ -396,7 +389,7 @@ impl Router {
         ensures leaves { result ≡ leaving self.now port vc }
         ensures room { IfSome result (MayLeave self.now port vc) }
     {
-        if !self.busy.ready.keys().contains(port, vc) {
+        if !self.busy.ready().contains(port, vc) {
             return None;
         }
         let channel = &self.inputs[self.line(port, vc)];
@@ -436,8 +429,9 @@ impl Router {
         let output = &mut self.outputs[o];
         pass(output, flit, spent);
         let follows = may_follow(channel.owed(), more_owed, output.credits, spent, self.depth);
-        self.busy.file_left(port, vc, channel, follows);
-        self.demand.release_if(is_closing(flit.kind), out, flit.vc);
+        let closes = is_closing(flit.kind);
+        self.busy.file_left(port, vc, channel, closes, follows);
+        self.demand.release_if(closes, out, flit.vc);
     }
 
     /// The lowest channel of the port that owes a credit upstream.
@@ -462,15 +456,10 @@ impl Router {
         ensures { self.new ≡ after_gave self.old port vc }
     {
         let i = self.line(port, vc);
-        let owes_all = self.inputs[i].owed() == self.depth;
-        let woken = if owes_all {
-            self.waits_to_owe_less(port, vc)
-        } else {
-            None
-        };
+        let freed = self.waits_to_owe_less(port, vc);
         let channel = &mut self.inputs[i];
         channel.give();
-        self.busy.file_given(port, vc, channel, woken);
+        self.busy.file_given(port, vc, channel, freed);
     }
 
     /// A credit has come back for this output channel. `TooMany` exactly where its count is the depth, as at the
@@ -486,10 +475,10 @@ impl Router {
         if self.outputs[o].credits == depth {
             return Err(TooMany);
         }
-        let woken = self.waits_for_credit(out_port, vc);
+        let freed = self.waits_for_credit(out_port, vc);
         let output = &mut self.outputs[o];
         output.add_credit(depth);
-        self.busy.file_credit(woken, out_port);
+        self.busy.file_credit(freed);
         Ok(())
     }
 }

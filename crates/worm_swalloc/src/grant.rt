@@ -13,7 +13,7 @@ pub struct SwGrant {
     pub out: u8,
 }
 
-/// The output port that each ready input channel would send to, by port and channel.
+/// The output port that each input channel would send to, by port and channel.
 pub type ReadyOuts = ChannelMap;
 
 /// What each input port may send. Beside the list it knows the channels that may send, so that whoever sends goes past

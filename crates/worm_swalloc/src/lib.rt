@@ -6,17 +6,20 @@
 //! its choice; an input arbiter moves only where its request was granted, so a channel that was named in
 //! vain is named again.
 //!
-//! Ready channels come as a map that knows its keys, so a pass in which nothing is ready is one load, and
-//! an input port's lines are a shift and a mask. Input ports without a ready channel are passed over, and
-//! so are output ports that nobody asks for: who asks for which is gathered in one set as the input ports
-//! are looked at.
+//! Ready channels come as a set beside a map of output ports, so a pass in which nothing is ready is one
+//! load, and an input port's lines are a shift and a mask. The map may have output ports for more channels
+//! than are ready: it changes once a packet, and the set is worked out for each pass. Input ports without a
+//! ready channel are passed over, and so are output ports that nobody asks for: who asks for which is
+//! gathered in one set as the input ports are looked at.
 //!
 //! It makes one pass and no second for the ports left over, so its matching need not be a largest one.
 #![tactic(auto)]
 
 mod grant;
 mod named;
+mod ready;
 mod sw_alloc;
 
 pub use grant::{ReadyOuts, SwGrant, SwGrants};
+pub use ready::Ready;
 pub use sw_alloc::SwAlloc;

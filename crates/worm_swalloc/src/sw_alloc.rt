@@ -8,8 +8,9 @@ ghost use Rattle.worm_swalloc.specs.SwAlloc.{named, all_named, sole_named, IsSol
 ghost use Rattle.worm_swalloc.specs.SwAlloc.{granted, sw_grants, sw_after, output_after, after_grant, with_choice};
 ghost use Rattle.worm_swalloc.specs.SwAlloc.{with_move};
 
-use crate::grant::{ReadyOuts, SwGrant, SwGrants};
+use crate::grant::{SwGrant, SwGrants};
 use crate::named::Named;
+use crate::ready::Ready;
 use std::marker::Model;
 use worm_vcalloc::Arbiter;
 
@@ -17,8 +18,8 @@ use worm_vcalloc::Arbiter;
 ///
 /// ```text
 /// let mut alloc = SwAlloc::new(5, 2);
-/// ready.set(0, 1, Some(3)); // channel 1 of input port 0 would send to output port 3
-/// let grants = alloc.grant(&ready);
+/// outs.set(0, 1, Some(3)); // channel 1 of input port 0 would send to output port 3
+/// let grants = alloc.grant(&Ready::new(&outs, outs.keys()));
 /// ```
 #[derive(Clone, Copy)]
 pub struct SwAlloc {
@@ -67,7 +68,7 @@ impl SwAlloc {
 
     /// One pass over the ready channels: at most one grant for each input port and for each output
     /// port.
-    pub fn grant(&mut self, ready: &ReadyOuts) -> SwGrants
+    pub fn grant(&mut self, ready: &Ready<'_>) -> SwGrants
         ensures grants { result ≡ sw_grants self.old ready.now }
         ensures after { self.new ≡ sw_after self.old ready.now }
         ensures matching { IsSwitchMatching self.old ready.now result }
@@ -87,7 +88,7 @@ impl SwAlloc {
     }
 
     /// The port that alone has ready channels, if there is one.
-    fn sole_port(&self, ready: &ReadyOuts) -> Option<u8>
+    fn sole_port(&self, ready: &Ready<'_>) -> Option<u8>
         ensures within { IfSome result (λ port. port < self.now.ports) }
         ensures sole { IfSome result (IsSolePort ready.now) }
     {
@@ -101,7 +102,7 @@ impl SwAlloc {
     }
 
     /// Gathers what each input port names.
-    fn gather(&self, ready: &ReadyOuts, asked: &mut Named)
+    fn gather(&self, ready: &Ready<'_>, asked: &mut Named)
         requires { asked.old ≡ replicate 7 None }
         ensures named { asked.new ≡ all_named self.now ready.now }
         ensures ready { IsSwAlloc self.now.ports self.now.channels self.now.inputs self.now.outputs }
@@ -116,7 +117,7 @@ impl SwAlloc {
     }
 
     /// Adds what one input port names.
-    fn ask(&self, port: u8, ready: &ReadyOuts, asked: &mut Named)
+    fn ask(&self, port: u8, ready: &Ready<'_>, asked: &mut Named)
         requires port { port < self.now.ports }
         requires few { port < 7 }
         requires none { slice_index_or asked.old port None ≡ None }
@@ -128,7 +129,7 @@ impl SwAlloc {
     }
 
     /// What one input port names.
-    fn request(&self, port: u8, ready: &ReadyOuts) -> Option<SwGrant>
+    fn request(&self, port: u8, ready: &Ready<'_>) -> Option<SwGrant>
         requires { port < self.now.ports }
         ensures { result ≡ named self.now ready.now port }
     {
@@ -223,7 +224,7 @@ impl SwAlloc {
 }
 
 /// The lines of the ready channels of an input port.
-fn ready_lines(ready: &ReadyOuts, port: u8, channels: u8) -> u64
+fn ready_lines(ready: &Ready<'_>, port: u8, channels: u8) -> u64
     requires port { port < 7 }
     requires channels { channels ≤ 8 }
     ensures few { result < 2 ^ channels }

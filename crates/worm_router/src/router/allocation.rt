@@ -11,7 +11,7 @@ ghost use Rattle.worm_router.specs.Allocation.{after_allocate, with_port_grants,
 ghost use Rattle.worm_router.specs.Allocation.{IsSameSize, ready_outs, switch_grants, after_choose};
 
 use crate::router::Router;
-use worm_swalloc::SwGrants;
+use worm_swalloc::{Ready, SwGrants};
 use worm_vcalloc::VcGrants;
 
 impl Router {
@@ -104,6 +104,8 @@ impl Router {
         ensures after { self.new ≡ after_choose self.old }
         ensures matching { IsSwitchMatching self.old.switch_alloc (ready_outs self.old) result }
     {
-        self.switch_alloc.grant(&self.busy.ready)
+        let among = self.busy.ready();
+        let ready = Ready::new(&self.busy.outs, among);
+        self.switch_alloc.grant(&ready)
     }
 }

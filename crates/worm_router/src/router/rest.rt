@@ -42,7 +42,7 @@ impl Router {
         ensures chooses { IsTrue result → after_choose self.now ≡ self.now }
         ensures grants { IsTrue result → switch_grants self.now ≡ replicate 7 None }
     {
-        self.busy.ready.keys().is_empty()
+        self.busy.ready().is_empty()
     }
 
     /// Whether no input channel owes a credit.

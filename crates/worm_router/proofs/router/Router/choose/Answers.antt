@@ -1,10 +1,11 @@
-use Rattle.std.proofs.Common.{List, Option, ℕ, ap, subst, ◌∙◌, sym, arith}
+use Rattle.std.proofs.Common.{◌≡◌, List, Option, ℕ, ap, subst, ◌∙◌, sym, arith}
 use Rattle.std.proofs.lemmas.Grind.{common_steps}
 use Rattle.worm_swalloc.specs.SwAlloc.{SwAllocState, IsSwitchMatching, sw_grants, sw_after}
 use Rattle.worm_router.specs.Router.{RouterState, router_state}
 use Rattle.worm_router.specs.Allocation.{ready_outs, switch_grants, after_choose}
 use Rattle.worm_router.specs.Busy.{HasArbiters}
 use Rattle.worm_router.proofs.NothingReady.{arbiters_stay}
+use Rattle.worm_router.proofs.ReadyOuts.{first_of, ready_table}
 use Rattle.worm_router.proofs.router.Router.choose.Goals as goal
 
 -- the router as the code has it
@@ -28,23 +29,31 @@ invariant_of-self c = record {
   demand = record { requests = c.self.invariant.demand.requests; free = c.self.invariant.demand.free };
   fronts = c.self.invariant.fronts;
   holders = record { held = c.self.invariant.holders.held; fit = c.self.invariant.holders.fit };
-  ready = c.self.invariant.ready;
+  outs = c.self.invariant.outs;
+  held_up = record { each = c.self.invariant.held_up.each };
   classes = c.self.invariant.classes;
 }
 
+-- the channels that may send are those that the records say
+told : (c : goal.After-grant) → c.new-ready.result ≡ ready_outs (here c)
+told c = c.new-ready.ensures ∙ ready_table (here c) _ _ _ c.ready-among.result c.self.invariant c.ready-among.ensures
+
 pub returns-clause-grants : goal.returns-clause-grants
 returns-clause-grants c =
-    c.grant.ensures.grants ∙ ap (sw_grants c.self.inside.switch_alloc) c.self.invariant.ready
+    c.grant.ensures.grants ∙ ap (sw_grants c.self.inside.switch_alloc) (told c)
     ∙ ap switch_grants c.self.view_is
 
 pub returns-clause-after : goal.returns-clause-after
 returns-clause-after c =
     ap (λ (s : SwAllocState). record (here c) { switch_alloc = s })
-    (c.grant.ensures.after ∙ ap (sw_after c.self.inside.switch_alloc) c.self.invariant.ready)
+    (c.grant.ensures.after ∙ ap (sw_after c.self.inside.switch_alloc) (told c))
     ∙ ap after_choose c.self.view_is
 
 pub returns-clause-matching : goal.returns-clause-matching
 returns-clause-matching c =
     subst (λ (r : RouterState). IsSwitchMatching r.switch_alloc (ready_outs r) c.grant.result) c.self.view_is
     (subst (λ (t : List (List (Option ℕ))). IsSwitchMatching c.self.inside.switch_alloc t c.grant.result)
-    c.self.invariant.ready c.grant.ensures.matching)
+    (told c) c.grant.ensures.matching)
+
+pub new-ready-requires : goal.new-ready-requires
+new-ready-requires c = λ p v p_in v_in there. first_of _ _ _ (sym (c.ready-among.ensures p v p_in v_in) ∙ there)

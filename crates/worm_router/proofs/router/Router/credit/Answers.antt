@@ -1,20 +1,18 @@
-use Rattle.std.proofs.Common.{◌≤◌, ◌<◌, subst, ◌∙◌, sym, arith, ap, ◌*◌, sum, length}
+use Rattle.std.proofs.Common.{◌<◌, subst, ◌∙◌, sym, arith, ap, ◌*◌, sum, length}
 use Rattle.std.proofs.lemmas.Grind.{common_steps, elements}
 use Rattle.worm_records.specs.declared.OutRecord.{OutRecord}
-use Rattle.worm_router.specs.Router.{RouterState, router_state, after_credit, terminal, width, free_output}
+use Rattle.worm_router.specs.Router.{free_output}
 use Rattle.worm_router.proofs.Kept.{full_after, full_before}
 use Rattle.worm_router.proofs.Places.{output_of}
 use Rattle.worm_router.specs.declared.busy.BusyChannels.{BusyChannels}
 use Rattle.worm_router.proofs.Filed.{busy_as}
 use Rattle.worm_router.proofs.Holders.{holders_out}
-use Rattle.worm_router.proofs.ReadyOuts.{ready_credit, credit_as, woken_fits}
+use Rattle.worm_router.proofs.Freed.{credit_filed, credited_as, freed_fits}
 use Rattle.worm_router.proofs.Demanded.{free_kept}
 use Rattle.worm_router.proofs.router.Router.credit.Goals as goal
 
 pub invariant_of-self : goal.invariant_of-self
 invariant_of-self c =
-    let at : RouterState = router_state c.self.inside.mesh c.self.inside.node c.self.inside.classes c.self.inside.depth
-    c.self.inside.inputs.items c.self.inside.outputs.items c.self.inside.channel_alloc c.self.inside.switch_alloc in
     let output = output_of _ c.args.self.now c.args.out_port c.args.vc c.line-o.result c.index_mut-output.result.now
     c.self.view_is c.requires c.line-o.ensures.value c.line-o.ensures.in_outputs c.index_mut-output.ensures.value in
     let within : c.line-o.result < length c.self.inside.outputs.items = output.within in
@@ -39,7 +37,6 @@ invariant_of-self c =
       arbiters = c.self.invariant.arbiters;
       busy = busy_as _ _ _ _ _ _ c.self.invariant.busy
           (ap (λ (b : BusyChannels). b.occupied) c.file_credit.ensures.others)
-          (ap (λ (b : BusyChannels). b.active) c.file_credit.ensures.others)
           (ap (λ (b : BusyChannels). b.owing) c.file_credit.ensures.others);
       demand = record {
         requests = c.self.invariant.demand.requests;
@@ -50,16 +47,19 @@ invariant_of-self c =
       holders = holders_out _ _ _ _ _ _ output
           (ap (λ (u : OutRecord). u.holder) c.add_credit.ensures) c.self.invariant.holders;
       classes = c.self.invariant.classes;
-      ready = ready_credit at _ _ _ c.args.out_port c.waits_for_credit-woken.result c.self.invariant.busy.few_ports
-          c.self.invariant.busy.few_channels (credit_as _ c.args.self.now _ _ _ _ _ c.waits_for_credit-woken.result
-          c.self.view_is output c.add_credit.ensures c.waits_for_credit-woken.ensures) c.file_credit.ensures.ready
-          c.self.invariant.ready;
+      outs = ap (λ (b : BusyChannels). b.outs) c.file_credit.ensures.others ∙ c.self.invariant.outs;
+      held_up = credit_filed _ _ c.args.self.now _ _ _ _ c.waits_for_credit-freed.result c.self.view_is
+          (credited_as _ c.args.self.now _ _ _ _ _ c.self.view_is output c.add_credit.ensures)
+          (subst (λ k. k < length c.self.inside.outputs.items) output.at within) output.place
+          c.self.invariant.busy.few_ports c.self.invariant.busy.few_channels c.self.invariant.router
+          c.self.invariant.holders c.waits_for_credit-freed.ensures c.file_credit.ensures.held_up
+          c.self.invariant.held_up;
     }
 
 pub file_credit-requires : goal.file_credit-requires
 file_credit-requires c =
-    woken_fits c.args.self.now (after_credit c.args.self.now c.args.out_port c.args.vc) c.args.out_port
-    c.waits_for_credit-woken.result
-    (subst (λ (r : RouterState). terminal r ≤ 6) c.self.view_is c.self.invariant.busy.few_ports)
-    (subst (λ (r : RouterState). width r ≤ 8) c.self.view_is c.self.invariant.busy.few_channels)
-    c.waits_for_credit-woken.ensures
+    freed_fits _ c.args.self.now _ _ _ _ _ c.self.view_is
+    (output_of _ c.args.self.now c.args.out_port c.args.vc c.line-o.result c.index_mut-output.result.now
+    c.self.view_is c.requires c.line-o.ensures.value c.line-o.ensures.in_outputs c.index_mut-output.ensures.value)
+    c.self.invariant.busy.few_ports c.self.invariant.busy.few_channels c.self.invariant.holders
+    c.waits_for_credit-freed.ensures

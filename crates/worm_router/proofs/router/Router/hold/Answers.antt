@@ -1,21 +1,20 @@
 use Rattle.std.proofs.lemmas.List.Elements.{All-set}
-use Rattle.std.proofs.Common.{None, if◌then◌else◌, ◌<◌, ◌*◌, ◌∙◌, ◌≡◌, is_none, true, false, sum, length, arith}
-use Rattle.std.proofs.Common.{ap, sym, subst, inl, inr}
+use Rattle.std.proofs.Common.{◌<◌, ◌*◌, ◌∙◌, ◌≡◌, is_none, true, false, sum, length, arith}
+use Rattle.std.proofs.Common.{ap, sym, inr, refl}
 use Rattle.std.proofs.lemmas.Grind.{common_steps, elements}
 use Rattle.worm_records.specs.declared.InRecord.TheVariants.{Active}
 use Rattle.worm_records.specs.declared.OutRecord.{OutRecord}
-use Rattle.worm_vcalloc.specs.ChannelSet.{IsPut}
 use Rattle.worm_router.specs.Router.{RouterState, ChannelState, router_state, free_output}
 use Rattle.worm_router.specs.Allocation.{asking}
 use Rattle.worm_router.specs.Demand.{DemandView}
-use Rattle.worm_router.specs.Busy.{HasFront, could_send_to, with_ready, is_occupied, is_waiting, is_active, owes}
-use Rattle.worm_router.specs.declared.busy.BusyChannels.{BusyChannels}
+use Rattle.worm_router.specs.Busy.{HasFront, could_send, port_held, is_occupied, is_waiting, owes}
 use Rattle.worm_router.proofs.Places.{input_of, output_of, output_read}
 use Rattle.worm_router.proofs.Kept.{full_after, full_before, input_read}
 use Rattle.worm_router.proofs.Filed.{busy_filed, filed}
 use Rattle.worm_router.proofs.Holders.{holders_held}
 use Rattle.worm_router.proofs.Demanded.{requests_put, free_put}
-use Rattle.worm_router.proofs.ReadyOuts.{ready_held}
+use Rattle.worm_router.proofs.HeldOuts.{outs_put}
+use Rattle.worm_router.proofs.HeldUp.{held_granted}
 use Rattle.worm_router.proofs.router.Router.hold.Goals as goal
 
 pub invariant_of-self : goal.invariant_of-self
@@ -33,16 +32,12 @@ invariant_of-self c =
     c.self.view_is c.index_mut-output.ensures.value c.line-o.ensures.value c.line-o.ensures.in_outputs in
     let here = input_read _ c.args.self.now c.args.port c.args.vc c.line-i.result c.index_mut-channel.result.now
     c.self.view_is c.index_mut-channel.ensures.value c.line-i.ensures.value c.line-i.ensures.in_inputs in
-    let sends : c.sends_by-sends_to.result ≡ (if is_occupied c.index_mut-channel.result.now
-    then could_send_to at c.args.port (Active c.args.out c.args.out_vc) c.index_mut-channel.result.now.owed else None) =
-    c.sends_by-sends_to.ensures
-    ∙ sym (ap (λ (x : ChannelState). if is_occupied x
-    then could_send_to c.args.self.now c.args.port (Active c.args.out c.args.out_vc) x.owed else None) here)
-    ∙ sym (ap (λ (r : RouterState). if is_occupied c.index_mut-channel.result.now
-    then could_send_to r c.args.port (Active c.args.out c.args.out_vc) c.index_mut-channel.result.now.owed
-    else None) c.self.view_is) in
-    let put = c.file_active.ensures.ready
-    ∙ ap (λ o. with_ready c.self.inside.busy.ready c.args.port c.args.vc o) sends in
+    let may : c.could_send_by-may_send.result ≡ could_send at c.args.port (Active c.args.out c.args.out_vc)
+    c.index_mut-channel.result.now.owed =
+    c.could_send_by-may_send.ensures
+    ∙ sym (ap (λ (x : ChannelState). could_send c.args.self.now c.args.port (Active c.args.out c.args.out_vc) x.owed) here)
+    ∙ sym (ap (λ (r : RouterState). could_send r c.args.port (Active c.args.out c.args.out_vc)
+    c.index_mut-channel.result.now.owed) c.self.view_is) in
     record {
       router = record {
         lists = record {
@@ -63,10 +58,7 @@ invariant_of-self c =
       };
       arbiters = c.self.invariant.arbiters;
       busy = busy_filed _ _ _ _ _ _ _ _ input c.self.invariant.busy
-          (inr (ap (λ (b : BusyChannels). b.occupied) c.file_active.ensures.others, ap is_occupied c.set_state.ensures))
-          (inl (filed _ _ _ _ _ (subst (IsPut _ _ _ _)
-          (sym (ap is_active c.set_state.ensures)) c.file_active.ensures.active)))
-          (inr (ap (λ (b : BusyChannels). b.owing) c.file_active.ensures.others, ap owes c.set_state.ensures));
+          (inr (refl, ap is_occupied c.set_state.ensures)) (inr (refl, ap owes c.set_state.ensures));
       demand = record {
         requests = requests_put _ _ _ _ _ _ input _ _ _ c.self.invariant.busy.few_ports
             c.self.invariant.busy.few_channels c.self.invariant.demand.requests
@@ -84,7 +76,9 @@ invariant_of-self c =
           (ap (λ (v : OutRecord). v.holder) read ∙ c.requires.free)
           (ap (λ (v : OutRecord). v.holder) c.grant.ensures) c.self.invariant.holders;
       classes = c.self.invariant.classes;
-      ready = ready_held _ _ _ _ _ _ _ _ _ _ _ _ _ input output c.self.invariant.busy.few_ports
-          c.self.invariant.busy.few_channels (ap is_active here ∙ c.requires.idle) c.set_state.ensures put
-          (ap (λ (v : OutRecord). v.credits) c.grant.ensures) c.self.invariant.ready;
+      outs = outs_put _ _ _ _ _ _ input _ _ _ c.self.invariant.busy.few_ports c.self.invariant.busy.few_channels
+          c.set.ensures (ap (λ (x : ChannelState). port_held x.state) c.set_state.ensures) c.self.invariant.outs;
+      held_up = held_granted _ _ _ _ _ _ input c.self.invariant.busy.few_ports c.self.invariant.busy.few_channels
+          _ _ _ _ _ _ _ c.could_send_by-may_send.result output c.set_state.ensures may
+          (filed _ _ _ _ _ c.put.ensures) (ap (λ (v : OutRecord). v.credits) c.grant.ensures) c.self.invariant.held_up;
     }

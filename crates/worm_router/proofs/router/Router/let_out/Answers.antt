@@ -3,20 +3,22 @@ use Rattle.std.proofs.Common.{ap, sym, subst, ◌≤◌, ◌<◌, ◌+◌, ◌�
 use Rattle.std.proofs.lemmas.Grind.{common_steps}
 use Rattle.std.proofs.lemmas.List.Elements.{All-set, All-get_or}
 use Rattle.worm_flit.specs.Kinds.{closes}
-use Rattle.worm_records.specs.declared.InRecord.TheVariants.{Active}
+use Rattle.worm_records.specs.declared.InRecord.TheVariants.{Idle, Active}
 use Rattle.worm_records.specs.declared.OutRecord.{OutRecord}
-use Rattle.worm_router.specs.Router.{credit_of, leaving, RouterState, ChannelState, input_at, IsRouter, IsChannel}
+use Rattle.worm_router.specs.Router.{credit_of, RouterState, ChannelState, input_at, IsRouter, IsChannel}
 use Rattle.worm_router.specs.Router.{free_output, terminal, width}
 use Rattle.worm_router.proofs.Kept.{both_set_sound, input_read, let_out_sound, full_after, full_before, no_credit}
+use Rattle.worm_vcalloc.specs.ChannelSet.{has}
 use Rattle.worm_vcalloc.specs.Table.{with_cell}
 use Rattle.worm_router.specs.Demand.{DemandView}
-use Rattle.worm_router.specs.Busy.{HasFront, is_waiting, is_active, owes}
+use Rattle.worm_router.specs.Busy.{HasFront, IsFiled, is_waiting, is_active, owes}
 use Rattle.worm_router.proofs.Places.{input_of, output_of, output_read}
 use Rattle.worm_router.proofs.Filed.{busy_filed, inside_of}
 use Rattle.worm_router.proofs.Leaving.{may_leave, leaves_active, leaves_by_state, owes_more}
 use Rattle.worm_router.proofs.Demanded.{requests_kept, free_left, asks_nothing, holds_waits_not, waits_not_after}
 use Rattle.worm_router.proofs.Holders.{holders_left}
-use Rattle.worm_router.proofs.ReadyOuts.{ready_left}
+use Rattle.worm_router.proofs.HeldOuts.{outs_left}
+use Rattle.worm_router.proofs.HeldUp.{held_left, leaves_free}
 use Rattle.worm_router.proofs.router.Router.let_out.Goals as goal
 
 pub pass-requires : goal.pass-requires
@@ -58,7 +60,16 @@ invariant_of-self c =
     ∙ leaves_active c.args.self.now c.args.port (input_at c.args.self.now c.args.port c.args.vc)
     (input_at c.args.self.now c.args.port c.args.vc).state (input_at c.args.self.now c.args.port c.args.vc).buffer
     (c.args.out, c.args.flit) c.requires.ready in
-    let leaves = ap (λ (r : RouterState). leaving r c.args.port c.args.vc) c.self.view_is ∙ c.requires.ready in
+    let after : c.let_out.new.self.state
+    ≡ (if c.is_closing-closes.result then Idle else c.index_mut-channel.result.now.state) =
+    ap (λ (x : ChannelState). x.state) c.let_out.ensures
+    ∙ ap (λ b. if b then Idle else c.index_mut-channel.result.now.state) (sym c.is_closing-closes.ensures) in
+    let owes_no_less : (owes c.let_out.new.self || has c.self.inside.busy.owing c.args.port c.args.vc)
+    ≡ owes c.let_out.new.self =
+    ap (λ b. owes c.let_out.new.self || b) (inside_of owes _ _ _ _ _ _ input c.self.invariant.busy.owing)
+    ∙ ap (λ b. b || owes c.index_mut-channel.result.now) (ap owes c.let_out.ensures)
+    ∙ owes_more c.index_mut-channel.result.now.owed c.credit_of-more_owed.result
+    ∙ sym (ap owes c.let_out.ensures) in
     let waited_not : is_waiting c.index_mut-channel.result.now ≡ false =
     holds_waits_not c.index_mut-channel.result.now.state held in
     let waits_not : is_waiting c.let_out.new.self ≡ false =
@@ -106,8 +117,7 @@ invariant_of-self c =
       arbiters = c.self.invariant.arbiters;
       busy = busy_filed _ _ _ _ _ _ _ _ input c.self.invariant.busy
           (inl c.file_left.ensures.occupied)
-          (inl c.file_left.ensures.active)
-          (inl c.file_left.ensures.owing);
+          (inl (subst (IsFiled _ _ _ _) owes_no_less c.file_left.ensures.owing));
       demand = record {
         requests = ap (λ (d : DemandView). d.requests) c.release_if.ensures ∙ c.self.invariant.demand.requests
             ∙ sym (requests_kept _ _ _ _ _ _ input
@@ -116,7 +126,7 @@ invariant_of-self c =
             c.self.invariant.busy.few_channels c.self.invariant.demand.free
             (ap (λ (d : DemandView). d.free) c.release_if.ensures
             ∙ ap (λ b. if b then with_cell c.self.inside.demand.free c.args.out c.args.flit.vc true
-            else c.self.inside.demand.free) c.is_closing.ensures)
+            else c.self.inside.demand.free) c.is_closing-closes.ensures)
             (ap (λ (u : OutRecord). u.holder) c.pass.ensures);
       };
       fronts = All-set HasFront c.self.inside.inputs.items c.line-i.result c.let_out.new.self
@@ -125,23 +135,23 @@ invariant_of-self c =
           (ap (λ (x : ChannelState). x.state) c.let_out.ensures)
           (ap (λ (u : OutRecord). u.holder) c.pass.ensures) c.self.invariant.holders;
       classes = c.self.invariant.classes;
-      ready = ready_left _ _ _ _ _ _ _ _ _ _ _ c.credit_of-spent.result c.credit_of-more_owed.result _ _
-          (closes c.args.flit.kind) c.may_follow-follows.result c.args.flit input output
-          c.self.invariant.busy.few_ports c.self.invariant.busy.few_channels leaves held_it
-          (ap (λ (x : ChannelState). x.state) c.let_out.ensures)
+      outs = outs_left _ _ _ _ _ _ input _ _ c.is_closing-closes.result c.self.invariant.busy.few_ports
+          c.self.invariant.busy.few_channels c.file_left.ensures.outs after c.self.invariant.outs;
+      held_up = held_left _ _ _ _ _ _ input c.self.invariant.busy.few_ports c.self.invariant.busy.few_channels _ _ _ _ _
+          c.credit_of-spent.result c.credit_of-more_owed.result _ _ c.is_closing-closes.result
+          c.may_follow-follows.result output held_it after
           (c.credit_of-spent.ensures.value ∙ ap (λ (r : RouterState). credit_of r c.args.out) (sym c.self.view_is))
           (c.credit_of-more_owed.ensures.value ∙ ap (λ (r : RouterState). credit_of r c.args.port) (sym c.self.view_is))
           (c.may_follow-follows.ensures ∙ ap (λ n.
           (c.credit_of-spent.result == 0 || nat_lt 0 c.pass.new.output.credits) &&
           (c.credit_of-more_owed.result == 0 || nat_lt n c.self.inside.depth)) c.owed.ensures)
-          c.file_left.ensures.ready c.self.invariant.holders c.self.invariant.ready;
+          c.file_left.ensures.held_up c.self.invariant.holders c.self.invariant.held_up;
     }
 
-pub file_left-requires-clause-owes_no_less : goal.file_left-requires-clause-owes_no_less
-file_left-requires-clause-owes_no_less c = λ owed.
+pub file_left-requires-clause-could_send : goal.file_left-requires-clause-could_send
+file_left-requires-clause-could_send c =
     let input = input_of _ c.args.self.now c.args.port c.args.vc c.line-i.result c.index_mut-channel.result.now
     c.self.view_is c.requires.place c.line-i.ensures.value c.line-i.ensures.in_inputs
     c.index_mut-channel.ensures.value in
-    let some : owes c.index_mut-channel.result.now ≡ true =
-    sym (inside_of owes _ _ _ _ _ _ input c.self.invariant.busy.owing) ∙ owed in
-    ap owes c.let_out.ensures ∙ owes_more c.index_mut-channel.result.now.owed c.credit_of-more_owed.result some
+    leaves_free _ c.args.self.now c.args.port c.args.vc _ _ c.self.view_is input.place c.self.invariant.held_up
+    c.requires.ready

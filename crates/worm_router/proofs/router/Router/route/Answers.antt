@@ -1,9 +1,9 @@
 use Rattle.worm_flit.specs.Channels.{class_bits}
-use Rattle.std.proofs.Common.{refl, slice_get, Some, sym, ap, ◌∙◌, inr, false, ◌≡◌, arith}
+use Rattle.std.proofs.Common.{refl, slice_get, None, Some, sym, ap, ◌∙◌, inr, false, ◌≡◌, arith}
 use Rattle.std.proofs.lemmas.List.Elements.{All-set}
 use Rattle.worm_router.specs.Allocation.{asking}
 use Rattle.worm_router.specs.Demand.{DemandView}
-use Rattle.worm_router.specs.Busy.{HasFront, is_occupied, is_active, owes, holds}
+use Rattle.worm_router.specs.Busy.{HasFront, is_occupied, is_active, owes, holds, port_held}
 use Rattle.worm_router.specs.Router.{ChannelState, RouterState}
 use Rattle.worm_router.proofs.Places.{input_of}
 use Rattle.worm_router.proofs.Kept.{input_set_sound, read_sound, waiting_sound}
@@ -11,7 +11,8 @@ use Rattle.worm_router.proofs.Filed.{busy_filed}
 use Rattle.worm_records.specs.declared.InRecord.TheVariants.{Idle}
 use Rattle.worm_router.proofs.Holders.{holders_in}
 use Rattle.worm_router.proofs.Demanded.{requests_put, asks_by_front, front_there}
-use Rattle.worm_router.proofs.ReadyOuts.{ready_waiting}
+use Rattle.worm_router.proofs.HeldOuts.{outs_kept}
+use Rattle.worm_router.proofs.HeldUp.{held_waiting}
 use Rattle.worm_router.proofs.router.Router.route.Goals as goal
 use Rattle.worm_router.proofs.router.Router.route.Goals.{in-Idle, in_default}
 
@@ -27,6 +28,8 @@ invariant_of-self c =
       | in-Idle w ↦ w.in-Idle.is
       | in_default w ↦ absurd (cc)
     ] in
+    let was_unheld : port_held c.index_mut-channel.result.now.state ≡ None =
+    ap (λ (x : ChannelState). port_held x.state) (input.was ∙ sym read.was) ∙ ap port_held (sym c.state.ensures ∙ idle) in
     let was_idle : is_active c.index_mut-channel.result.now ≡ false =
     ap is_active (input.was ∙ sym read.was) ∙ ap holds (sym c.state.ensures ∙ idle) in
     let front : slice_get c.index_mut-channel.result.now.buffer 0 ≡ Some c.in-Some.front =
@@ -44,7 +47,6 @@ invariant_of-self c =
       arbiters = c.self.invariant.arbiters;
       busy = busy_filed _ _ _ _ _ _ _ _ input c.self.invariant.busy
           (inr (refl, ap is_occupied c.set_state.ensures))
-          (inr (refl, ap is_active c.set_state.ensures ∙ sym was_idle))
           (inr (refl, ap owes c.set_state.ensures));
       demand = record {
         requests = requests_put _ _ _ _ _ _ input _ _ _ c.self.invariant.busy.few_ports
@@ -60,6 +62,8 @@ invariant_of-self c =
           (λ o k holds. let unlike = sym (ap (λ (x : ChannelState). x.state) c.set_state.ensures) ∙ holds in
           absurd (cc)) c.self.invariant.holders;
       classes = c.self.invariant.classes;
-      ready = ready_waiting _ _ _ _ _ _ _ input c.self.invariant.busy.few_ports c.self.invariant.busy.few_channels
-          was_idle (ap is_active c.set_state.ensures) c.self.invariant.ready;
+      outs = outs_kept _ _ _ _ _ _ input _ (ap (λ (x : ChannelState). port_held x.state) c.set_state.ensures
+          ∙ sym was_unheld) c.self.invariant.outs;
+      held_up = held_waiting _ _ _ _ _ _ input c.self.invariant.busy.few_ports c.self.invariant.busy.few_channels _
+          was_idle (ap is_active c.set_state.ensures) c.self.invariant.held_up;
     }
