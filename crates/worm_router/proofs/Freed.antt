@@ -70,7 +70,8 @@ freed_as false false false = refl
 it_is : (r : RouterState) (out vc p v : ℕ) → is_of (input_at r p v).state out vc ≡ true
     → is_it (due r out vc (Some (p, v))) p v ≡ (p == terminal r || nat_lt (input_at r p v).owed r.depth)
 it_is r out vc p v its =
-    ap (λ b. is_it (if b && (p == terminal r || nat_lt (input_at r p v).owed r.depth) then Some (p, v) else None) p v) its
+    ap (λ b. is_it (if b && (p == terminal r || nat_lt (input_at r p v).owed r.depth) then Some (p, v) else None) p v)
+    its
     ∙ by_test (p == terminal r || nat_lt (input_at r p v).owed r.depth) where
       by_test : (m : Bool) → is_it (if m then Some (p, v) else None) p v ≡ m
       by_test true = ap (λ b. b && v == v) (eq-eqb p p refl) ∙ eq-eqb v v refl
@@ -111,8 +112,8 @@ module _ (r : RouterState) (out vc : ℕ) (within : line r out vc < length r.out
         (in_none (nat_lt 0 (output_at r out vc).credits) (due r out vc (output_at r out vc).holder) p v
         ∙ ap (λ h. if nat_lt 0 (output_at r out vc).credits then false else is_it (due r out vc h) p v) holder
         ∙ ap (λ b. if nat_lt 0 (output_at r out vc).credits then false else b) (it_is r out vc p v its)))
-        ∙ sym (ap (λ s. not (is_it (freed_by r out vc) p v) && (holds s && not (could_send r p s (input_at r p v).owed)))
-        state)
+        ∙ sym (ap (λ s. not (is_it (freed_by r out vc) p v) &&
+        (holds s && not (could_send r p s (input_at r p v).owed))) state)
     | inr not_its ↦
         held_out r (line r out vc) credited p (input_at r p v) within (λ q k is at.
         let fits : StateFits (terminal r) (width r) (Active q k) =

@@ -1,7 +1,7 @@
 -- What a router keeps of the channels that hold an output channel is what its records say, and what a write of one
 -- channel leaves of that.
-use Rattle.std.proofs.Common.{◌≡◌, ℕ, ◌<◌, ◌≤◌, Bool, true, false, List, slice_set, slice_index_or, replicate, Option, None}
-use Rattle.std.proofs.Common.{if◌then◌else◌, is_some, refl, arith, ap, sym, ◌∙◌, subst}
+use Rattle.std.proofs.Common.{◌≡◌, ℕ, ◌<◌, ◌≤◌, Bool, true, false, List, slice_set, slice_index_or, replicate, Option}
+use Rattle.std.proofs.Common.{None, if◌then◌else◌, is_some, refl, arith, ap, sym, ◌∙◌, subst}
 use Rattle.std.proofs.lemmas.Grind.{get_or-set_at}
 use Rattle.std.proofs.lemmas.Bool.{true≢false}
 use Rattle.std.proofs.lemmas.Nat.{same_from_place}

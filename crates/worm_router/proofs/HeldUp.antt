@@ -1,7 +1,7 @@
 -- Which channels that hold an output channel may not send, and what each call leaves of that.
 use Rattle.std.proofs.Common.{◌≡◌, ℕ, ◌-◌, ◌<◌, ◌≤◌, ◌&&◌, ◌||◌, ◌==◌, Bool, true, false, not, nat_lt, if◌then◌else◌}
-use Rattle.std.proofs.Common.{inl, inr, List, [], ◌∷◌, length, slice_set, slice_index_or, replicate, Some, None, refl, arith}
-use Rattle.std.proofs.Common.{ap, sym, ◌∙◌, subst}
+use Rattle.std.proofs.Common.{inl, inr, List, [], ◌∷◌, length, slice_set, slice_index_or, replicate, Some, None, refl}
+use Rattle.std.proofs.Common.{arith, ap, sym, ◌∙◌, subst}
 use Rattle.std.proofs.lemmas.Grind.{get_or-set_at}
 use Rattle.std.proofs.lemmas.Bool.{cases_eq}
 use Rattle.std.proofs.lemmas.Bool.Decides.{nat_tests}

@@ -101,7 +101,8 @@ module _ (r : RouterState) (sets : BusyChannels) (asked : DemandView) (masks : L
       are p v (omega arith) (omega arith)
       ∙ ap (λ o. (is_some o && has sets.occupied p v) && not (has sets.held_up p v))
       (ap (λ t. cell t p v None) kept.outs ∙ cell_is r None (out_at r) p v few_ports few_channels place)
-      ∙ ap (λ b. (is_some (out_at r p v) && b) && not (has sets.held_up p v)) (kept.busy.occupied.inside p v port_in vc_in)
+      ∙ ap (λ b. (is_some (out_at r p v) && b) && not (has sets.held_up p v))
+      (kept.busy.occupied.inside p v port_in vc_in)
       ∙ ap (λ b. (is_some (out_at r p v) && is_occupied (input_at r p v)) && not b)
       (kept.held_up.each p v port_in vc_in)
 
@@ -149,7 +150,8 @@ pub kept_leaves : (r s : RouterState) (sets : BusyChannels) (asked : DemandView)
     → r ≡ s → IsKept r sets asked masks → AreReady sets ready → IsPlace s port vc
     → has ready port vc ≡ is_some (leaving s port vc)
 kept_leaves r s sets asked masks ready port vc same kept are place =
-    ready_leaves r sets asked masks ready kept are port vc (subst (λ (q : RouterState). IsPlace q port vc) (sym same) place)
+    ready_leaves r sets asked masks ready kept are port vc
+    (subst (λ (q : RouterState). IsPlace q port vc) (sym same) place)
     ∙ ap (λ (q : RouterState). is_some (leaving q port vc)) same
 
 -- a channel of the set leaves by the output channel that it holds

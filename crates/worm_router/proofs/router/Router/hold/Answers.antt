@@ -35,7 +35,8 @@ invariant_of-self c =
     let may : c.could_send_by-may_send.result ≡ could_send at c.args.port (Active c.args.out c.args.out_vc)
     c.index_mut-channel.result.now.owed =
     c.could_send_by-may_send.ensures
-    ∙ sym (ap (λ (x : ChannelState). could_send c.args.self.now c.args.port (Active c.args.out c.args.out_vc) x.owed) here)
+    ∙ sym (ap (λ (x : ChannelState). could_send c.args.self.now c.args.port (Active c.args.out c.args.out_vc) x.owed)
+    here)
     ∙ sym (ap (λ (r : RouterState). could_send r c.args.port (Active c.args.out c.args.out_vc)
     c.index_mut-channel.result.now.owed) c.self.view_is) in
     record {

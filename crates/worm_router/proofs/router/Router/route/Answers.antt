@@ -29,7 +29,8 @@ invariant_of-self c =
       | in_default w ↦ absurd (cc)
     ] in
     let was_unheld : port_held c.index_mut-channel.result.now.state ≡ None =
-    ap (λ (x : ChannelState). port_held x.state) (input.was ∙ sym read.was) ∙ ap port_held (sym c.state.ensures ∙ idle) in
+    ap (λ (x : ChannelState). port_held x.state) (input.was ∙ sym read.was)
+    ∙ ap port_held (sym c.state.ensures ∙ idle) in
     let was_idle : is_active c.index_mut-channel.result.now ≡ false =
     ap is_active (input.was ∙ sym read.was) ∙ ap holds (sym c.state.ensures ∙ idle) in
     let front : slice_get c.index_mut-channel.result.now.buffer 0 ≡ Some c.in-Some.front =
