@@ -145,14 +145,15 @@ impl<R: Abort + AllocGlobal + Copy> Pair<R> {
     /// These are the numbers of the links out of the port and into it.
     fn are_numbered(&self, node: u8, port: u8, out: u16, into: u16) {
         assert!(self.rt; self.links.links_at(node, port).is_some());
-        assert_eq!(self.rt; self.links.number_out(node, port), out);
-        assert_eq!(self.rt; self.links.number_into(node, port), into);
+        let links = self.links.links_beyond(node, port);
+        assert_eq!(self.rt; links.out, out);
+        assert_eq!(self.rt; links.into, into);
     }
 
     /// The flit goes onto the link out of the port.
     fn send(&mut self, node: u8, port: u8, flit: Flit) {
         assert!(self.rt; self.links.links_at(node, port).is_some());
-        let link = self.links.link(self.links.number_out(node, port));
+        let link = self.links.link(self.links.links_beyond(node, port).out);
         assert!(self.rt; link.count() < usize::from(link.room()));
         self.links.push(node, port, flit);
     }
@@ -160,9 +161,9 @@ impl<R: Abort + AllocGlobal + Copy> Pair<R> {
     /// The front flit of the link into the port is dropped; the link has this number.
     fn take(&mut self, node: u8, port: u8, number: u16) {
         assert!(self.rt; self.links.links_at(node, port).is_some());
-        let found = self.links.number_into(node, port);
-        assert_eq!(self.rt; found, number);
-        self.links.pop(node, port, found);
+        let links = self.links.links_beyond(node, port);
+        assert_eq!(self.rt; links.into, number);
+        self.links.pop(node, port, links);
     }
 
     /// There are so many links.

@@ -115,26 +115,24 @@ impl Fabric {
         self.links.wiring().terminal()
     }
 
-    /// Moves the front of the link into a port, which is that of this number, to the buffer of its channel (Dally and
-    /// Towles, chapter 13).
-    pub(crate) fn take_flit(&mut self, node: u8, port: u8, number: u16) -> bool
+    /// Moves the front of the link into a port, whose links are these, to the buffer of its channel (Dally and Towles,
+    /// chapter 13).
+    pub(crate) fn take_flit(&mut self, node: u8, port: u8, links: PortLinks) -> bool
         requires node { node < length self.old.nodes }
-        requires number { number ≡ link_into self.old node port }
-        requires there { number < link_count self.old.mesh }
-        requires mesh_port { port < 6 }
-        requires linked { IsSome (neighbour_of self.old.mesh node port) }
+        requires mesh { AreRadices self.old.mesh }
+        requires ports { Some links ≡ port_links self.old.mesh node port }
         requires front { FrontFits (router_at self.old node) port (front_into self.old node port) }
         ensures enabled { result ≡ can_enter (router_at self.old node) port (front_into self.old node port) }
         ensures after { self.new ≡ (if result then after_take self.old node port (link_into self.old node port)
             (front_into self.old node port) else self.old) }
     {
-        let Some(flit) = self.links.link(number).front() else {
+        let Some(flit) = self.links.link(links.into).front() else {
             return false;
         };
         if self.router_mut(node).accept(port, flit).is_err() {
             return false;
         }
-        self.links.pop(node, port, number);
+        self.links.pop(node, port, links);
         true
     }
 
@@ -194,26 +192,24 @@ impl Fabric {
         self.links.push_credit(node, port, links, vc);
     }
 
-    /// Takes the front credit of the link out of this port, which is that of this number, into its channel's count
-    /// (Dally and Towles, chapter 13).
-    pub(crate) fn take_credit(&mut self, node: u8, port: u8, number: u16) -> bool
+    /// Takes the front credit of the link out of this port, whose links are these, into its channel's count (Dally and
+    /// Towles, chapter 13).
+    pub(crate) fn take_credit(&mut self, node: u8, port: u8, links: PortLinks) -> bool
         requires node { node < length self.old.nodes }
-        requires number { number ≡ link_out self.old node port }
-        requires there { number < link_count self.old.mesh }
-        requires mesh_port { port < 6 }
-        requires linked { IsSome (neighbour_of self.old.mesh node port) }
+        requires mesh { AreRadices self.old.mesh }
+        requires ports { Some links ≡ port_links self.old.mesh node port }
         requires front { CreditFits (router_at self.old node) port (front_credit self.old node port) }
         ensures enabled { result ≡ can_get (router_at self.old node) port (front_credit self.old node port) }
         ensures after { self.new ≡ (if result then after_getting self.old node port
             (front_credit self.old node port) else self.old) }
     {
-        let Some(vc) = self.links.link(number).front_credit() else {
+        let Some(vc) = self.links.link(links.out).front_credit() else {
             return false;
         };
         if self.router_mut(node).credit(port, vc).is_err() {
             return false;
         }
-        self.links.pop_credit(node, port, number);
+        self.links.pop_credit(node, port, links);
         true
     }
 

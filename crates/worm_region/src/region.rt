@@ -322,8 +322,8 @@ impl Region {
         requires { IsSome (neighbour_of self.old.mesh node port) }
         ensures { Replies self.old (Event.Take node port) (Ok (moved_of result)) self.new }
     {
-        let number = self.fabric.wires().number_into(node, port);
-        self.fabric.take_flit(node, port, number)
+        let links = self.fabric.wires().links_beyond(node, port);
+        self.fabric.take_flit(node, port, links)
     }
 
     fn give_credit(&mut self, node: u8, port: u8, vc: u8) -> Result<Moved, StepFault>
@@ -368,8 +368,8 @@ impl Region {
         requires { IsSome (neighbour_of self.old.mesh node port) }
         ensures { Replies self.old (Event.TakeCredit node port) (Ok (moved_of result)) self.new }
     {
-        let number = self.fabric.wires().number_out(node, port);
-        self.fabric.take_credit(node, port, number)
+        let links = self.fabric.wires().links_beyond(node, port);
+        self.fabric.take_credit(node, port, links)
     }
 
     /// One step, where all nodes are owned.

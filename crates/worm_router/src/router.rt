@@ -1,8 +1,9 @@
 ghost use Rattle.std.specs.Prelude.{◌≡◌, ◌==◌, ◌&&◌, ◌||◌, ◌+◌, ◌*◌, ◌≤◌, ◌<◌, ◌↔◌, length, IfOk, IfErr};
 ghost use Rattle.std.specs.Prelude.{OnOk, OnErr, IsOk, IsErr, IsSome, IfSome, IfNone, None, Some, ℕ, is_some, nat_lt};
-ghost use Rattle.std.specs.Prelude.{slice_get, replicate, if◌then◌else◌, false};
+ghost use Rattle.std.specs.Prelude.{slice_get, replicate, if◌then◌else◌};
 ghost use Rattle.worm_flit.specs.Channels.{AreChannels};
 ghost use Rattle.worm_mesh.specs.Address.{node_count};
+ghost use Rattle.worm_records.specs.declared.InRecord.TheVariants.{Waiting};
 ghost use Rattle.worm_router.specs.Router.{IsPlace, IsRouter, line, fresh_channel, free_output, fresh_router, input_at};
 ghost use Rattle.worm_router.specs.Router.{output_at, terminal, width, after_accept, can_route, after_route, can_grant};
 ghost use Rattle.worm_router.specs.Router.{after_grant, after_granting, leaving, MayLeave, passed, credit_of};
@@ -98,14 +99,18 @@ fn make_outputs(alloc: Global, count: usize, depth: u8) -> Result<Vec<OutRecord>
     Ok(outputs)
 }
 
-/// Lets the flit out by this output channel.
+/// Lets the flit out by this output channel, which its packet holds. `spent` is what it costs, one credit or none.
 fn pass(output: &mut OutRecord, flit: Flit, spent: u8)
-    requires { spent ≤ output.old.credits }
+    requires held { IsSome output.old.holder }
+    requires few { spent ≤ 1 }
+    requires credits { spent ≤ output.old.credits }
     ensures { output.new ≡ passed output.old flit spent }
 {
-    output.credits -= spent;
+    if spent > 0 {
+        output.spend_credit();
+    }
     if is_closing(flit.kind) {
-        output.holder = None;
+        output.release();
     }
 }
 
@@ -319,7 +324,7 @@ impl Router {
         let out = next_port(&self.mesh, self.node, front.lane.dst);
         let allowed = self.mask(front.lane.class);
         let channel = &mut self.inputs[i];
-        channel.set_state(InRecord::Waiting { out });
+        channel.route_to(out);
         self.demand.ask(port, vc, VcRequest { out, allowed });
         true
     }
@@ -330,7 +335,7 @@ impl Router {
         requires out_channel { out_vc < width self.now }
         ensures value { result ≡ can_grant self.now port vc out_vc }
         ensures there { IfSome result (λ out. out ≤ terminal self.now) }
-        ensures idle { IfSome result (λ out. is_active (input_at self.now port vc) ≡ false) }
+        ensures waits { IfSome result (λ out. (input_at self.now port vc).state ≡ Waiting out) }
         ensures free { IfSome result (λ out. (output_at self.now out out_vc).holder ≡ None) }
     {
         let channel = &self.inputs[self.line(port, vc)];
@@ -349,7 +354,7 @@ impl Router {
     fn hold(&mut self, port: u8, vc: u8, out: u8, out_vc: u8)
         requires place { IsPlace self.old port vc }
         requires out_place { IsPlace self.old out out_vc }
-        requires idle { is_active (input_at self.old port vc) ≡ false }
+        requires waits { (input_at self.old port vc).state ≡ Waiting out }
         requires free { (output_at self.old out out_vc).holder ≡ None }
         ensures { self.new ≡ after_granting self.old port vc out_vc (Some out) }
     {
@@ -357,7 +362,7 @@ impl Router {
         let o = self.line(out, out_vc);
         let may_send = self.could_send_by(port, vc, out, out_vc);
         let channel = &mut self.inputs[i];
-        channel.set_state(InRecord::Active { out, out_vc });
+        channel.activate(out_vc);
         self.busy.outs.set(port, vc, Some(out));
         self.busy.held_up.put(port, vc, !may_send);
         self.demand.meet(port, vc, out, out_vc);

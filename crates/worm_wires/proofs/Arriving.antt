@@ -2,19 +2,19 @@
 use Rattle.std.proofs.Common.{◌≡◌, ◌≢◌, ℕ, ◌+◌, ◌<◌, ◌≤◌, below_more, Bool, true, false, inl, inr, List, [], ◌∷◌}
 use Rattle.std.proofs.Common.{◌++◌, length, length-set, get_or, set, Option, Some, None, refl, arith, ap}
 use Rattle.std.proofs.Common.{sym, subst, ◌∙◌}
-use Rattle.std.specs.Prelude.{IsSome}
+use Rattle.std.specs.Prelude.{option_map}
 use Rattle.std.proofs.lemmas.List.{get_or_default, get_or-set_other, get_or-set_same}
-use Rattle.worm_mesh.specs.Address.{AreRadices, neighbour_of}
+use Rattle.worm_mesh.specs.Address.{AreRadices, opposite_of}
 use Rattle.worm_mesh.specs.Links.{links_before, link_count}
 use Rattle.worm_wires.specs.Links.{LinkView, blank_link}
-use Rattle.worm_wires.specs.Wiring.{in_link, into_from, out_link, port_links}
+use Rattle.worm_wires.specs.Wiring.{in_link, out_link, port_links}
 use Rattle.worm_flit.specs.SmallSet.{has, IsPut}
 use Rattle.worm_wires.specs.Arrivals.{LinksView, AreAllArrivals, AreArrivals, AreFronts, AreKept, has_front}
 use Rattle.worm_wires.specs.Arrivals.{no_arrivals}
-use Rattle.worm_wires.specs.Arrivals.{number_into, number_out, on_link, state_at, with_state}
+use Rattle.worm_wires.specs.Arrivals.{on_link, state_at, with_state}
 use Rattle.worm_wires.specs.declared.links.Arrivals.{Arrivals}
 use Rattle.worm_wires.specs.declared.wiring.PortLinks.{PortLinks}
-use Rattle.worm_wires.proofs.Apart.{number_cases, in_once, into_beyond, into_is, out_beyond, out_is, out_once}
+use Rattle.worm_wires.proofs.Apart.{number_cases, in_once, into_beyond, out_beyond, out_once}
 use Rattle.worm_wires.proofs.Wired.{parts}
 
 -- One of the two lists of a link, and the ports to which the link leads
@@ -184,31 +184,41 @@ module _ (mesh : List ℕ) (states : List LinkView) (kept : List Arrivals)
             are.known by there x_in (omega arith) (same ∙ ap (λ (s : LinkView). s.flits) link) put_here);
       }
 
--- The link of a call, by its number or by what is known of the port
+-- What a call is told of the links, of the lists within them
 
 module _ (mesh : List ℕ) (states : List LinkView) (now : LinksView)
-    (same : record { mesh = mesh; states = states } ≡ now) (x p k m : ℕ) (at : m ≡ k) where
-  pub into_port : IsSome (neighbour_of now.mesh x p) → k ≡ number_into now x p → in_link mesh x p ≡ Some m
-  into_port linked_now number_now =
-      let linked : IsSome (neighbour_of mesh x p) =
-      subst (λ (v : LinksView). IsSome (neighbour_of v.mesh x p)) (sym same) linked_now in
-      let number : k ≡ into_from mesh p (neighbour_of mesh x p) =
-      subst (λ (v : LinksView). k ≡ number_into v x p) (sym same) number_now in
-      into_is mesh p (neighbour_of mesh x p) linked ∙ ap (λ (v : ℕ). Some v) (sym (at ∙ number))
+    (same : record { mesh = mesh; states = states } ≡ now) where
+  pub radices_within : AreRadices now.mesh → AreRadices mesh
+  radices_within radices = subst (λ (v : LinksView). AreRadices v.mesh) (sym same) radices
 
-  pub out_port : IsSome (neighbour_of now.mesh x p) → k ≡ number_out now x p → out_link mesh x p ≡ Some m
-  out_port linked_now number_now =
-      let linked : IsSome (neighbour_of mesh x p) =
-      subst (λ (v : LinksView). IsSome (neighbour_of v.mesh x p)) (sym same) linked_now in
-      let number : k ≡ links_before mesh x p = subst (λ (v : LinksView). k ≡ number_out v x p) (sym same) number_now in
-      out_is mesh x p (neighbour_of mesh x p) linked ∙ ap (λ (v : ℕ). Some v) (sym (at ∙ number))
+  pub links_within : (x p : ℕ) (links : PortLinks)
+      → ◌≡◌ {A = Option PortLinks} (Some links) (port_links now.mesh x p)
+      → ◌≡◌ {A = Option PortLinks} (Some links) (port_links mesh x p)
+  links_within x p links linked =
+      subst (λ (v : LinksView). ◌≡◌ {A = Option PortLinks} (Some links) (port_links v.mesh x p)) (sym same) linked
 
-  pub link_there : k < link_count now.mesh → length states ≡ link_count mesh → m < length states
-  link_there below full =
+  pub link_there : (k m : ℕ) → m ≡ k → k < link_count now.mesh → length states ≡ link_count mesh → m < length states
+  link_there k m at below full =
       let counted : link_count mesh ≡ link_count now.mesh = ap (λ (v : LinksView). link_count v.mesh) same in
       omega arith
 
--- the links of a port, against those of the port beyond it
+-- the links of a port, by what is kept of them
+
+pub into_port : (mesh : List ℕ) (x p m : ℕ) (links : PortLinks)
+    → ◌≡◌ {A = Option PortLinks} (Some links) (port_links mesh x p) → m ≡ links.into → in_link mesh x p ≡ Some m
+into_port mesh x p m links linked at =
+    let these = parts mesh x p links linked in
+    ap (λ (n : Option ℕ). option_map (λ y. links_before mesh y (opposite_of p)) n) these.0
+    ∙ ap (λ (v : ℕ). Some v) (sym (at ∙ ap (λ (l : PortLinks). l.into) these.1))
+
+pub out_port : (mesh : List ℕ) (x p m : ℕ) (links : PortLinks)
+    → ◌≡◌ {A = Option PortLinks} (Some links) (port_links mesh x p) → m ≡ links.out → out_link mesh x p ≡ Some m
+out_port mesh x p m links linked at =
+    let these = parts mesh x p links linked in
+    ap (λ (n : Option ℕ). option_map (λ y. links_before mesh x p) n) these.0
+    ∙ ap (λ (v : ℕ). Some v) (sym (at ∙ ap (λ (l : PortLinks). l.out) these.1))
+
+-- and those of the port beyond it
 
 pub into_entered : (mesh : List ℕ) (x o m : ℕ) (links : PortLinks) → AreRadices mesh
     → ◌≡◌ {A = Option PortLinks} (Some links) (port_links mesh x o) → m ≡ links.out

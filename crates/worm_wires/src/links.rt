@@ -173,39 +173,30 @@ impl Links {
         self.wiring.links_at(node, port)
     }
 
-    /// The number of the link that goes out of this port.
-    pub fn number_out(&self, node: u8, port: u8) -> u16
+    /// The links of this port of the node, which has a neighbour there.
+    pub fn links_beyond(&self, node: u8, port: u8) -> PortLinks
         requires { IsSome (neighbour_of self.now.mesh node port) }
-        ensures value { result ≡ number_out self.now node port }
-        ensures bound { result < link_count self.now.mesh }
-        ensures mesh_port { port < 6 }
+        ensures value { Some result ≡ port_links self.now.mesh node port }
+        ensures mesh { AreRadices self.now.mesh }
+
+        // The numbers again, by themselves.
+        ensures out { result.out ≡ number_out self.now node port }
+        ensures into { result.into ≡ number_into self.now node port }
+        ensures out_bound { result.out < link_count self.now.mesh }
+        ensures into_bound { result.into < link_count self.now.mesh }
     {
-        self.wiring.links_beyond(node, port).out
+        self.wiring.links_beyond(node, port)
     }
 
-    /// The number of the link that comes into this port.
-    pub fn number_into(&self, node: u8, port: u8) -> u16
-        requires { IsSome (neighbour_of self.now.mesh node port) }
-        ensures value { result ≡ number_into self.now node port }
-        ensures bound { result < link_count self.now.mesh }
-        ensures mesh_port { port < 6 }
-    {
-        self.wiring.links_beyond(node, port).into
-    }
-
-    /// Drops the front flit of the link into this port, which is that of this number.
-    pub fn pop(&mut self, node: u8, port: u8, number: u16)
-        requires number { number ≡ number_into self.old node port }
-        requires there { number < link_count self.old.mesh }
-        requires mesh_port { port < 6 }
-        requires linked { IsSome (neighbour_of self.old.mesh node port) }
+    /// Drops the front flit of the link into this port, whose links are these.
+    pub fn pop(&mut self, node: u8, port: u8, links: PortLinks)
+        requires mesh { AreRadices self.old.mesh }
+        requires ports { Some links ≡ port_links self.old.mesh node port }
         ensures { self.new ≡ with_state self.old (number_into self.old node port)
             (record (state_at self.old (number_into self.old node port))
             { flits = drop 1 (state_at self.old (number_into self.old node port)).flits }) }
     {
-        // For the proof: a mesh has radices within their limits.
-        let _dims = self.wiring.mesh().dims();
-        let link = &mut self.states[usize::from(number)];
+        let link = &mut self.states[usize::from(links.into)];
         link.pop();
         let has_more = link.front().is_some();
         let here = &mut self.arrivals[usize::from(node)];
@@ -228,19 +219,15 @@ impl Links {
         there.flits.put(links.entered, true);
     }
 
-    /// Drops the front credit of the link out of this port, which is that of this number.
-    pub fn pop_credit(&mut self, node: u8, port: u8, number: u16)
-        requires number { number ≡ number_out self.old node port }
-        requires there { number < link_count self.old.mesh }
-        requires mesh_port { port < 6 }
-        requires linked { IsSome (neighbour_of self.old.mesh node port) }
+    /// Drops the front credit of the link out of this port, whose links are these.
+    pub fn pop_credit(&mut self, node: u8, port: u8, links: PortLinks)
+        requires mesh { AreRadices self.old.mesh }
+        requires ports { Some links ≡ port_links self.old.mesh node port }
         ensures { self.new ≡ with_state self.old (number_out self.old node port)
             (record (state_at self.old (number_out self.old node port))
             { credits = drop 1 (state_at self.old (number_out self.old node port)).credits }) }
     {
-        // For the proof: a mesh has radices within their limits.
-        let _dims = self.wiring.mesh().dims();
-        let link = &mut self.states[usize::from(number)];
+        let link = &mut self.states[usize::from(links.out)];
         link.pop_credit();
         let has_more = link.front_credit().is_some();
         let here = &mut self.arrivals[usize::from(node)];

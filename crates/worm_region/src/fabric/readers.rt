@@ -50,7 +50,7 @@ impl Fabric {
         requires { IsSome (neighbour_of self.now.mesh node port) }
         ensures { result.now ≡ link_at self.now (link_out self.now node port) }
     {
-        self.links.link(self.links.number_out(node, port))
+        self.links.link(self.links.links_beyond(node, port).out)
     }
 
     /// The number of links.

@@ -59,8 +59,8 @@ impl Region {
         requires linked { IsSome (neighbour_of self.now.mesh node port) }
         ensures { (result ≡ false) ↔ ((link_at self.now (link_into self.now node port)).credits ≡ []) }
     {
-        let number = self.fabric.wires().number_into(node, port);
-        self.fabric.link(number).front_credit().is_some()
+        let links = self.fabric.wires().links_beyond(node, port);
+        self.fabric.link(links.into).front_credit().is_some()
     }
 
     /// The flit comes onto the link out of this port of another worker's node, on which there is none.
@@ -85,9 +85,7 @@ impl Region {
         requires channel { vc < sum self.old.channels }
         ensures { ComesBack self.old node port vc self.new }
     {
-        let Some(links) = self.fabric.wires().links_at(node, port) else {
-            unreachable!()
-        };
+        let links = self.fabric.wires().links_beyond(node, port);
         self.fabric.links.push_credit(node, port, links, vc);
     }
 }

@@ -19,10 +19,10 @@ there c =
     (sym c.self.view_is) c.requires in
     (of_node c.self.inside.fabric.mesh c.args.node c.args.port linked, linked)
 
-pub number_out-number-requires : goal.number_out-number-requires
-number_out-number-requires c =
+pub links_beyond-links-requires : goal.links_beyond-links-requires
+links_beyond-links-requires c =
     line_back c.self.inside.fabric c.wires.result.now c.args.node c.args.port c.wires.ensures
-    (there (goal.at.number_out-number-requires c).After-wires).1
+    (there (goal.at.links_beyond-links-requires c).After-wires).1
 
 pub take_credit-requires-clause-front : goal.take_credit-requires-clause-front
 unfolding net_shape

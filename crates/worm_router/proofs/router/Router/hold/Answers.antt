@@ -2,9 +2,9 @@ use Rattle.std.proofs.lemmas.List.Elements.{All-set}
 use Rattle.std.proofs.Common.{◌<◌, ◌*◌, ◌∙◌, ◌≡◌, is_none, true, false, sum, length, arith}
 use Rattle.std.proofs.Common.{ap, sym, inr, refl}
 use Rattle.std.proofs.lemmas.Grind.{common_steps, elements}
-use Rattle.worm_records.specs.declared.InRecord.TheVariants.{Active}
+use Rattle.worm_records.specs.declared.InRecord.TheVariants.{Active, Waiting}
 use Rattle.worm_records.specs.declared.OutRecord.{OutRecord}
-use Rattle.worm_router.specs.Router.{RouterState, ChannelState, router_state, free_output}
+use Rattle.worm_router.specs.Router.{RouterState, ChannelState, router_state, free_output, in_state}
 use Rattle.worm_router.specs.Allocation.{asking}
 use Rattle.worm_router.specs.Demand.{DemandView}
 use Rattle.worm_router.specs.Busy.{HasFront, could_send, port_held, is_occupied, is_waiting, owes}
@@ -32,6 +32,10 @@ invariant_of-self c =
     c.self.view_is c.index_mut-output.ensures.value c.line-o.ensures.value c.line-o.ensures.in_outputs in
     let here = input_read _ c.args.self.now c.args.port c.args.vc c.line-i.result c.index_mut-channel.result.now
     c.self.view_is c.index_mut-channel.ensures.value c.line-i.ensures.value c.line-i.ensures.in_inputs in
+    let waits : c.index_mut-channel.result.now.state ≡ Waiting c.args.out =
+    ap (λ (x : ChannelState). x.state) here ∙ c.requires.waits in
+    let active : c.activate.new.self ≡ in_state c.index_mut-channel.result.now (Active c.args.out c.args.out_vc) =
+    c.activate.ensures c.args.out waits in
     let may : c.could_send_by-may_send.result ≡ could_send at c.args.port (Active c.args.out c.args.out_vc)
     c.index_mut-channel.result.now.owed =
     c.could_send_by-may_send.ensures
@@ -59,27 +63,33 @@ invariant_of-self c =
       };
       arbiters = c.self.invariant.arbiters;
       busy = busy_filed _ _ _ _ _ _ _ _ input c.self.invariant.busy
-          (inr (refl, ap is_occupied c.set_state.ensures)) (inr (refl, ap owes c.set_state.ensures));
+          (inr (refl, ap is_occupied active)) (inr (refl, ap owes active));
       demand = record {
         requests = requests_put _ _ _ _ _ _ input _ _ _ c.self.invariant.busy.few_ports
             c.self.invariant.busy.few_channels c.self.invariant.demand.requests
             (ap (λ (d : DemandView). d.requests) c.meet.ensures)
-            (ap (λ (x : ChannelState). asking c.self.inside.classes x.state x.buffer) c.set_state.ensures);
+            (ap (λ (x : ChannelState). asking c.self.inside.classes x.state x.buffer) active);
         free = free_put _ _ _ _ _ _ output _ _ false c.self.invariant.busy.few_ports
             c.self.invariant.busy.few_channels c.self.invariant.demand.free
             (ap (λ (d : DemandView). d.free) c.meet.ensures)
             (ap (λ (v : OutRecord). is_none v.holder) c.grant.ensures);
       };
-      fronts = All-set HasFront c.self.inside.inputs.items c.line-i.result c.set_state.new.self
-          (λ waiting. let no : true ≡ false = sym waiting ∙ ap is_waiting c.set_state.ensures in absurd (cc))
+      fronts = All-set HasFront c.self.inside.inputs.items c.line-i.result c.activate.new.self
+          (λ waiting. let no : true ≡ false = sym waiting ∙ ap is_waiting active in absurd (cc))
           c.self.invariant.fronts;
-      holders = holders_held _ _ _ _ _ _ _ _ _ _ _ input output (ap (λ (x : ChannelState). x.state) c.set_state.ensures)
+      holders = holders_held _ _ _ _ _ _ _ _ _ _ _ input output (ap (λ (x : ChannelState). x.state) active)
           (ap (λ (v : OutRecord). v.holder) read ∙ c.requires.free)
           (ap (λ (v : OutRecord). v.holder) c.grant.ensures) c.self.invariant.holders;
       classes = c.self.invariant.classes;
       outs = outs_put _ _ _ _ _ _ input _ _ _ c.self.invariant.busy.few_ports c.self.invariant.busy.few_channels
-          c.set.ensures (ap (λ (x : ChannelState). port_held x.state) c.set_state.ensures) c.self.invariant.outs;
+          c.set.ensures (ap (λ (x : ChannelState). port_held x.state) active) c.self.invariant.outs;
       held_up = held_granted _ _ _ _ _ _ input c.self.invariant.busy.few_ports c.self.invariant.busy.few_channels
-          _ _ _ _ _ _ _ c.could_send_by-may_send.result output c.set_state.ensures may
+          _ _ _ _ _ _ _ c.could_send_by-may_send.result output active may
           (filed _ _ _ _ _ c.put.ensures) (ap (λ (v : OutRecord). v.credits) c.grant.ensures) c.self.invariant.held_up;
     }
+
+pub activate-requires : goal.activate-requires
+activate-requires c =
+    let here = input_read _ c.args.self.now c.args.port c.args.vc c.line-i.result c.index_mut-channel.result.now
+    c.self.view_is c.index_mut-channel.ensures.value c.line-i.ensures.value c.line-i.ensures.in_inputs in
+    (c.args.out, ap (λ (x : ChannelState). x.state) here ∙ c.requires.waits)

@@ -1,5 +1,6 @@
 use Rattle.std.proofs.Common.{◌==◌, ◌&&◌, ◌||◌, nat_lt, arith, true, false, if◌then◌else◌, inl, ◌∙◌}
-use Rattle.std.proofs.Common.{ap, sym, subst, ◌≤◌, ◌<◌, ◌+◌, ◌≡◌, ◌*◌, ℕ, sum, length}
+use Rattle.std.proofs.Common.{ap, sym, subst, ◌≤◌, ◌<◌, ◌+◌, ◌≡◌, ◌*◌, ℕ, Option, sum, length}
+use Rattle.std.specs.Prelude.{is_some}
 use Rattle.std.proofs.lemmas.Grind.{common_steps}
 use Rattle.std.proofs.lemmas.List.Elements.{All-set, All-get_or}
 use Rattle.worm_flit.specs.Kinds.{closes}
@@ -11,7 +12,7 @@ use Rattle.worm_router.proofs.Kept.{both_set_sound, input_read, let_out_sound, f
 use Rattle.worm_vcalloc.specs.ChannelSet.{has}
 use Rattle.worm_vcalloc.specs.Table.{with_cell}
 use Rattle.worm_router.specs.Demand.{DemandView}
-use Rattle.worm_router.specs.Busy.{HasFront, IsFiled, is_waiting, is_active, owes}
+use Rattle.worm_router.specs.Busy.{AreHolders, HasFront, IsFiled, is_waiting, is_active, owes}
 use Rattle.worm_router.proofs.Places.{input_of, output_of, output_read}
 use Rattle.worm_router.proofs.Filed.{busy_filed, inside_of}
 use Rattle.worm_router.proofs.Leaving.{may_leave, leaves_active, leaves_by_state, owes_more}
@@ -21,8 +22,31 @@ use Rattle.worm_router.proofs.HeldOuts.{outs_left}
 use Rattle.worm_router.proofs.HeldUp.{held_left, leaves_free}
 use Rattle.worm_router.proofs.router.Router.let_out.Goals as goal
 
-pub pass-requires : goal.pass-requires
-pass-requires c =
+-- the record of the channel that is written leads where the flit leaves
+pub let_out-requires-clause-active : goal.let_out-requires-clause-active
+let_out-requires-clause-active c =
+    let here = input_read _ c.args.self.now c.args.port c.args.vc c.line-i.result c.index_mut-channel.result.now
+    c.self.view_is c.index_mut-channel.ensures.value c.line-i.ensures.value c.line-i.ensures.in_inputs in
+    let leaves = leaves_by_state c.args.self.now c.args.port (input_at c.args.self.now c.args.port c.args.vc)
+    (input_at c.args.self.now c.args.port c.args.vc).state (input_at c.args.self.now c.args.port c.args.vc).buffer
+    (c.args.out, c.args.flit) c.requires.ready in
+    (c.args.out, c.args.flit.vc, ap (λ (k : ChannelState). k.state) here ∙ leaves)
+
+-- and that output channel is held by it
+pub pass-requires-clause-held : goal.pass-requires-clause-held
+pass-requires-clause-held c =
+    let leaves = leaves_by_state c.args.self.now c.args.port (input_at c.args.self.now c.args.port c.args.vc)
+    (input_at c.args.self.now c.args.port c.args.vc).state (input_at c.args.self.now c.args.port c.args.vc).buffer
+    (c.args.out, c.args.flit) c.requires.ready in
+    let holders = subst AreHolders c.self.view_is c.self.invariant.holders in
+    let held = holders.held c.args.port c.args.vc c.args.out c.args.flit.vc c.requires.place.port_in
+    c.requires.place.channel_in leaves in
+    let read = output_read _ c.args.self.now c.args.out c.args.flit.vc c.line-o.result c.index_mut-output.result.now
+    c.self.view_is c.index_mut-output.ensures.value c.line-o.ensures.value c.line-o.ensures.in_outputs in
+    ap (λ (u : OutRecord). is_some u.holder) read ∙ ap (λ (h : Option (ℕ × ℕ)). is_some h) held
+
+pub pass-requires-clause-credits : goal.pass-requires-clause-credits
+pass-requires-clause-credits c =
     let there = may_leave c.args.self.now c.args.port c.args.vc (
       c.args.out,
       c.args.flit,

@@ -16,6 +16,19 @@ use Rattle.worm_router.proofs.HeldUp.{held_waiting}
 use Rattle.worm_router.proofs.router.Router.route.Goals as goal
 use Rattle.worm_router.proofs.router.Router.route.Goals.{in-Idle, in_default}
 
+-- the channel that is written was read as idle
+pub route_to-requires : goal.route_to-requires
+route_to-requires c =
+    let input = input_of _ c.args.self.now c.args.port c.args.vc c.line-i.result c.index_mut-channel.result.now
+    c.self.view_is c.requires c.line-i.ensures.value c.line-i.ensures.in_inputs c.index_mut-channel.ensures.value in
+    let read = input_of _ c.args.self.now c.args.port c.args.vc c.line-i.result c.index-channel.result.now
+    c.self.view_is c.requires c.line-i.ensures.value c.line-i.ensures.in_inputs c.index-channel.ensures in
+    let idle : c.state.result ≡ Idle = elim c.match-matches.branch [
+      | in-Idle w ↦ w.in-Idle.is
+      | in_default w ↦ absurd (cc)
+    ] in
+    ap (λ (x : ChannelState). x.state) (input.was ∙ sym read.was) ∙ sym c.state.ensures ∙ idle
+
 pub invariant_of-self : goal.invariant_of-self
 invariant_of-self c =
     let input = input_of _ c.args.self.now c.args.port c.args.vc c.line-i.result c.index_mut-channel.result.now
@@ -42,29 +55,29 @@ invariant_of-self c =
       router = record {
         lists = input_set_sound _ _ _ _ _ _ _ _ c.self.invariant.router.lists
             (waiting_sound _ _ _ _ _ c.next_port-out.result had
-            (omega (arith, c.next_port-out.ensures)) c.set_state.ensures);
+            (omega (arith, c.next_port-out.ensures)) c.route_to.ensures);
         allocators = c.self.invariant.router.allocators;
       };
       arbiters = c.self.invariant.arbiters;
       busy = busy_filed _ _ _ _ _ _ _ _ input c.self.invariant.busy
-          (inr (refl, ap is_occupied c.set_state.ensures))
-          (inr (refl, ap owes c.set_state.ensures));
+          (inr (refl, ap is_occupied c.route_to.ensures))
+          (inr (refl, ap owes c.route_to.ensures));
       demand = record {
         requests = requests_put _ _ _ _ _ _ input _ _ _ c.self.invariant.busy.few_ports
             c.self.invariant.busy.few_channels c.self.invariant.demand.requests
             (ap (λ (d : DemandView). d.requests) c.ask.ensures)
-            (ap (λ (x : ChannelState). asking c.self.inside.classes x.state x.buffer) c.set_state.ensures
+            (ap (λ (x : ChannelState). asking c.self.inside.classes x.state x.buffer) c.route_to.ensures
             ∙ asks_by_front _ _ c.in-Some.front _ _ front allowed);
         free = ap (λ (d : DemandView). d.free) c.ask.ensures ∙ c.self.invariant.demand.free;
       };
-      fronts = All-set HasFront c.self.inside.inputs.items c.line-i.result c.set_state.new.self
-          (λ waiting. ap is_occupied c.set_state.ensures ∙ front_there _ _ front) c.self.invariant.fronts;
+      fronts = All-set HasFront c.self.inside.inputs.items c.line-i.result c.route_to.new.self
+          (λ waiting. ap is_occupied c.route_to.ensures ∙ front_there _ _ front) c.self.invariant.fronts;
       holders = holders_in _ _ _ _ _ _ input
-          (λ o k holds. let unlike = sym (ap (λ (x : ChannelState). x.state) c.set_state.ensures) ∙ holds in
+          (λ o k holds. let unlike = sym (ap (λ (x : ChannelState). x.state) c.route_to.ensures) ∙ holds in
           absurd (cc)) c.self.invariant.holders;
       classes = c.self.invariant.classes;
-      outs = outs_kept _ _ _ _ _ _ input _ (ap (λ (x : ChannelState). port_held x.state) c.set_state.ensures
+      outs = outs_kept _ _ _ _ _ _ input _ (ap (λ (x : ChannelState). port_held x.state) c.route_to.ensures
           ∙ sym was_unheld) c.self.invariant.outs;
       held_up = held_waiting _ _ _ _ _ _ input c.self.invariant.busy.few_ports c.self.invariant.busy.few_channels _
-          was_idle (ap is_active c.set_state.ensures) c.self.invariant.held_up;
+          was_idle (ap is_active c.route_to.ensures) c.self.invariant.held_up;
     }

@@ -1,24 +1,42 @@
-use Rattle.std.proofs.Common.{◌≡◌, Bool, Option, length, get_or, ap, subst, ◌∙◌, arith, rules}
+use Rattle.std.proofs.Common.{◌≡◌, ◌<◌, Bool, Option, length, get_or, ap, subst, ◌∙◌, arith, rules}
 use Rattle.std.specs.Prelude.{is_some}
 use Rattle.worm_flit.specs.declared.Flit.{Flit}
-use Rattle.worm_mesh.specs.Address.{AreRadices}
 use Rattle.worm_wires.specs.Links.{LinkView}
 use Rattle.worm_flit.specs.SmallSet.{IsPut}
-use Rattle.worm_wires.proofs.Arriving.{flits_written, into_port, link_there}
+use Rattle.worm_wires.proofs.Arriving.{flits_written, into_port, link_there, links_within, radices_within}
+use Rattle.worm_wires.proofs.Wired.{port_within, ports_within}
 use Rattle.worm_wires.proofs.links.Links.pop.Goals as goal
+use Rattle.worm_wires.proofs.links.Links.pop.Goals.{After-from}
+
+-- the number is that of a link
+there : (c : goal.After-from) → c.from.result < length c.self.inside.states.items
+there c =
+    link_there c.self.inside.wiring c.self.inside.states.items c.args.self.now c.self.view_is c.args.links.into
+    c.from.result c.from.ensures
+    (ports_within c.args.self.now.mesh c.args.node c.args.port c.args.links c.requires.mesh c.requires.ports).1
+    c.self.invariant.all
+
+pub index_mut-link-requires : goal.index_mut-link-requires
+index_mut-link-requires c =
+    let number_there = there (goal.at.index_mut-link-requires c).After-from in search rules
+
+pub put-requires : goal.put-requires
+put-requires c =
+    let within = port_within c.args.self.now.mesh c.args.node c.args.port c.args.links c.requires.mesh
+    c.requires.ports in omega arith
 
 pub invariant_of-self : goal.invariant_of-self
 invariant_of-self c =
+    let mesh = c.self.inside.wiring in
+    let states = c.self.inside.states.items in
     let all : length c.self.inside.arrivals ≡ 256 = search rules in
-    let radices : AreRadices c.self.inside.wiring = subst AreRadices c.mesh.ensures c.dims-dims.ensures.mesh in
-    flits_written c.self.inside.wiring c.self.inside.states.items c.self.inside.arrivals c.self.invariant all radices
-    c.from.result c.args.node c.args.port c.from-2.result c.from-2.result c.put.new.self c.index-self-from.result
-    c.index_mut-link.result.now c.pop.new.self
-    (link_there c.self.inside.wiring c.self.inside.states.items c.args.self.now c.self.view_is c.args.node c.args.port
-    c.args.number c.from.result c.from.ensures c.requires.there c.self.invariant.all)
-    c.index_mut-link.ensures.value (omega arith) c.from-2.ensures c.from-2.ensures
-    (into_port c.self.inside.wiring c.self.inside.states.items c.args.self.now c.self.view_is c.args.node c.args.port
-    c.args.number c.from.result c.from.ensures c.requires.linked c.requires.number)
+    let linked = links_within mesh states c.args.self.now c.self.view_is c.args.node c.args.port c.args.links
+    c.requires.ports in
+    flits_written mesh states c.self.inside.arrivals c.self.invariant all
+    (radices_within mesh states c.args.self.now c.self.view_is c.requires.mesh) c.from.result c.args.node c.args.port
+    c.from-2.result c.from-2.result c.put.new.self c.index-self-from.result c.index_mut-link.result.now
+    c.pop.new.self (there (goal.at.invariant_of-self c).After-from) c.index_mut-link.ensures.value (omega arith) c.from-2.ensures c.from-2.ensures
+    (into_port mesh c.args.node c.args.port c.from.result c.args.links linked c.from.ensures)
     (ap (λ (s : LinkView). s.credits) c.pop.ensures)
     (subst (λ (b : Bool).
     IsPut (get_or c.self.inside.arrivals c.from-2.result c.index-self-from.result).flits c.put.new.self c.args.port b)

@@ -1,11 +1,9 @@
-use Rattle.std.proofs.Common.{◌≡◌, Bool, Option, Some, length, get_or, ap, subst, sym, ◌∙◌, arith, rules}
-use Rattle.worm_mesh.specs.Address.{AreRadices}
-use Rattle.worm_wires.specs.Arrivals.{LinksView, has_front}
+use Rattle.std.proofs.Common.{◌≡◌, Bool, length, get_or, ap, subst, sym, ◌∙◌, arith, rules}
+use Rattle.worm_wires.specs.Arrivals.{has_front}
 use Rattle.worm_wires.specs.Links.{LinkView}
 use Rattle.worm_flit.specs.SmallSet.{IsPut}
-use Rattle.worm_wires.specs.Wiring.{port_links}
-use Rattle.worm_wires.specs.declared.wiring.PortLinks.{PortLinks}
-use Rattle.worm_wires.proofs.Arriving.{credits_written, link_there, more_than_none, out_entered}
+use Rattle.worm_wires.proofs.Arriving.{credits_written, link_there, links_within, more_than_none, out_entered}
+use Rattle.worm_wires.proofs.Arriving.{radices_within}
 use Rattle.worm_wires.proofs.Wired.{entered_within, ports_within}
 use Rattle.worm_wires.proofs.links.Links.push_credit.Goals as goal
 
@@ -16,22 +14,20 @@ put-requires c =
 
 pub invariant_of-self : goal.invariant_of-self
 invariant_of-self c =
+    let mesh = c.self.inside.wiring in
+    let states = c.self.inside.states.items in
     let all : length c.self.inside.arrivals ≡ 256 = search rules in
-    let there = link_there c.self.inside.wiring c.self.inside.states.items c.args.self.now c.self.view_is c.args.node
-    c.args.port c.args.links.into c.from.result c.from.ensures
+    let there = link_there mesh states c.args.self.now c.self.view_is c.args.links.into c.from.result c.from.ensures
     (ports_within c.args.self.now.mesh c.args.node c.args.port c.args.links c.requires.mesh c.requires.ports).1
     c.self.invariant.all in
-    let radices : AreRadices c.self.inside.wiring =
-    subst (λ (l : LinksView). AreRadices l.mesh) (sym c.self.view_is) c.requires.mesh in
-    let linked : ◌≡◌ {A = Option PortLinks} (Some c.args.links)
-    (port_links c.self.inside.wiring c.args.node c.args.port) =
-    subst (λ (l : LinksView). ◌≡◌ {A = Option PortLinks} (Some c.args.links)
-    (port_links l.mesh c.args.node c.args.port)) (sym c.self.view_is) c.requires.ports in
-    credits_written c.self.inside.wiring c.self.inside.states.items c.self.inside.arrivals c.self.invariant all radices
+    let radices = radices_within mesh states c.args.self.now c.self.view_is c.requires.mesh in
+    let linked = links_within mesh states c.args.self.now c.self.view_is c.args.node c.args.port c.args.links
+    c.requires.ports in
+    credits_written mesh states c.self.inside.arrivals c.self.invariant all radices
     c.from.result c.args.links.beyond c.args.links.entered c.from-2.result c.from-2.result c.put.new.self
     c.index-self-from.result c.index_mut-link.result.now c.push_credit.new.self there c.index_mut-link.ensures.value
     (omega arith) c.from-2.ensures c.from-2.ensures
-    (out_entered c.self.inside.wiring c.args.node c.args.port c.from.result c.args.links radices linked c.from.ensures)
+    (out_entered mesh c.args.node c.args.port c.from.result c.args.links radices linked c.from.ensures)
     (ap (λ (s : LinkView). s.flits) c.push_credit.ensures)
     (subst (λ (b : Bool). IsPut (get_or c.self.inside.arrivals c.from-2.result c.index-self-from.result).credits
     c.put.new.self c.args.links.entered b)
