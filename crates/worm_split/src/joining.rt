@@ -205,9 +205,10 @@ pub fn join<R: Wait>(rt: &R, parts: Vec<Part>) -> Net
         links,
         lines: _,
     } = whole;
-    Net::from_parts(NetParts {
+    let lists = NetParts {
         config,
         nodes,
         links,
-    })
+    };
+    Net::from_parts(lists)
 }
