@@ -13,7 +13,7 @@ use Rattle.worm_mesh.proofs.Neighbours.{neighbour_of-some}
 use Rattle.worm_route.specs.Route.{route_of, port_of, hops_of}
 use Rattle.worm_route.specs.Places.{Place, Source, Buffer, Link, places_of}
 use Rattle.worm_route.proofs.Onward.{onward, next_node, hops_nearer, hops_arrived}
-use Rattle.worm_route.proofs.PlaceLemmas.{ArePlaces-of}
+use Rattle.worm_route.proofs.PlacesByNode.{ArePlaces-of}
 use Rattle.worm_route.proofs.Track.{IsWay-route}
 use Rattle.worm_shape.proofs.Joined.{between, between-all, between-push}
 use Rattle.worm_shape.proofs.PastPlaces.{nearer, between-nearer}

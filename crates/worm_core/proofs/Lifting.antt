@@ -32,11 +32,11 @@ use Rattle.worm_region.specs.declared.step.Moved.{Moved}
 use Rattle.worm_region.specs.declared.step.Moved.TheVariants.{Done, Idle}
 use Rattle.worm_region.specs.declared.fault.StepFault.{StepFault}
 use Rattle.worm_region.specs.declared.fault.StepFault.TheVariants.{NoSuchPlace, Refused, NoMemory}
-use Rattle.worm_region.proofs.Allocating.{allocated, chosen}
+use Rattle.worm_region.proofs.PassIsGrants.{allocated, chosen}
 use Rattle.worm_region.proofs.FrameKept.{framed_mesh}
 use Rattle.worm_region.proofs.NewNet.{workable}
 use Rattle.worm_core.proofs.NetWays.{send_way}
-use Rattle.worm_region.proofs.Reaching.{by_answer}
+use Rattle.worm_region.proofs.ReachedBySteps.{by_answer}
 use Rattle.worm_region.proofs.StaysAtNode.{anywhere}
 
 -- any list of steps keeps a network sound

@@ -61,7 +61,7 @@ fn each_output_port_is_granted_once(rt: HostRuntime) {
     let first = pass(&mut alloc, &ready);
     let granted = [(0, sends(1, 1)), (1, sends(0, 0)), (2, None)];
     are_chosen(&rt, &first, &granted);
-    has_channels(&rt, first.channels(), &[(0, 1), (1, 0)]);
+    has_channels(&rt, first.granted(), &[(0, 1), (1, 0)]);
     let granted = [(0, None), (1, sends(0, 0)), (2, sends(0, 1))];
     passes(&rt, &mut alloc, &ready, &granted);
 }

@@ -58,24 +58,16 @@ fn ports_come_out_in_order(rt: HostRuntime) {
     gives_port(&rt, &mut set, None);
 }
 
-/// Of 3 ports by 2 channels, the set is these lines.
-fn are_lines(rt: &impl Abort, set: ChannelSet, lines: u64) {
-    assert_eq!(rt; set.lines(3, 2), lines);
-}
-
-/// Of 3 ports by 2 channels, channel 1 of port 0 is line 1 and channel 0 of port 1 line 2.
+/// What two sets have both, and what one has beyond the other.
 #[test]
-fn sets_become_lines(rt: HostRuntime) {
+fn sets_are_held_against_each_other(rt: HostRuntime) {
     let mut some = ChannelSet::new();
     put_all(&rt, &mut some, &[(0, 1, true), (1, 0, true), (2, 2, true)]);
     let mut other = ChannelSet::new();
     put_all(&rt, &mut other, &[(1, 0, true)]);
-    are_lines(&rt, some, 0b000110);
     assert_eq!(rt; some.row(2, 3), 0b100);
-    are_lines(&rt, some.intersection(&other), 0b000100);
-    are_lines(&rt, some.difference(&other), 0b000010);
-    put_all(&rt, &mut other, &[(2, 1, true)]);
-    are_lines(&rt, some.union(&other), 0b100110);
+    has_channels(&rt, some.intersection(&other), &[(1, 0)]);
+    has_channels(&rt, some.difference(&other), &[(0, 1), (2, 2)]);
 }
 
 /// The arbiter was seen to choose this line.

@@ -61,15 +61,6 @@ fn link_with(
     link
 }
 
-/// The link again, once it was taken apart into these flits and these credits.
-fn through_lists(rt: &impl Abort, link: LinkState, flits: &[Flit], credits: &[u8]) -> LinkState {
-    let room = link.room();
-    let (flits_on, credits_on) = link.into_lists();
-    assert_eq!(rt; flits_on.as_slice(), flits);
-    assert_eq!(rt; credits_on.as_slice(), credits);
-    LinkState::from_lists(flits_on, credits_on, room)
-}
-
 /// So many flits are on the link, and this one at this place.
 fn has_flit(rt: &impl Abort, link: &LinkState, count: usize, place: usize, flit: Flit) {
     assert_eq!(rt; link.count(), count);
@@ -84,12 +75,10 @@ fn gives_credit(rt: &impl Abort, link: &mut LinkState, vc: Option<u8>) {
 }
 
 #[test]
-fn a_link_gives_its_lists(rt: HostRuntime) {
+fn a_link_keeps_its_order(rt: HostRuntime) {
     let mut link = link_with(&rt, rt.alloc(), 3, &[5, 6, 7], &[0, 2]);
     link.pop();
     has_flit(&rt, &link, 2, 1, single(0, 7));
-    let flits = [single(0, 6), single(0, 7)];
-    let mut link = through_lists(&rt, link, &flits, &[0, 2]);
     assert_eq!(rt; link.front(), Some(single(0, 6)));
     gives_credit(&rt, &mut link, Some(0));
     gives_credit(&rt, &mut link, Some(2));

@@ -1,6 +1,6 @@
 mod Taken
 mod Shown
 mod InMesh
-mod Steps
+mod OneMore
 mod Names
 mod Tails

@@ -3,7 +3,7 @@ pub mod Draining
 pub mod Reporting
 pub mod Scripts
 pub mod ByWorkers
-pub mod CutLemmas
+pub mod CutBehindEnd
 pub mod OneReport
 pub mod NumbersRead
 pub mod OptionsGiven

@@ -28,7 +28,8 @@ use Rattle.worm_report.specs.Report.{report}
 use Rattle.worm_report.specs.Seen.{seen}
 use Rattle.worm_program.specs.declared.fault.ProgramFault.{ProgramFault}
 use Rattle.worm_program.specs.declared.fault.ProgramFault.TheVariants as f
-use Rattle.worm_program.specs.Programs.{FailsReading, GaveBoth, IsCutShort, IsRefusedAs, SaysNetwork, SaysTraffic, Stream}
+use Rattle.worm_program.specs.Programs.{FailsReading, GaveBoth, IsCutShort, IsRefusedAs, SaysNetwork, SaysTraffic}
+use Rattle.worm_program.specs.Programs.{Stream}
 use Rattle.worm_program.specs.Programs.{WritesFront}
 
 -- Stops

@@ -13,8 +13,10 @@ ghost use Rattle.worm_text.specs.ScriptView.{said_of};
 ghost use Rattle.worm_mesh.specs.Address.{node_count};
 ghost use Rattle.worm_program.specs.Ranges.{InRange, plan_of};
 ghost use Rattle.worm_program.specs.Together.{FailsByWorkers, FailsTogether, ReportsByWorkers, ReportsTogether};
-ghost use Rattle.worm_program.specs.Programs.{Fails, FailsAlone, FailsJoined, GaveBoth, IsNotAccepted, ReadsNot, Reports};
-ghost use Rattle.worm_program.specs.Programs.{ReportsAlone, ReportsJoined, SaysNetwork, SaysTraffic, WritesReport, stream};
+ghost use Rattle.worm_program.specs.Programs.{Fails, FailsAlone, FailsJoined, GaveBoth, IsNotAccepted, ReadsNot};
+ghost use Rattle.worm_program.specs.Programs.{Reports};
+ghost use Rattle.worm_program.specs.Programs.{ReportsAlone, ReportsJoined, SaysNetwork, SaysTraffic, WritesReport};
+ghost use Rattle.worm_program.specs.Programs.{stream};
 ghost use Rattle.worm_program.specs.Programs.{summary_of};
 
 use crate::fault::ProgramFault;

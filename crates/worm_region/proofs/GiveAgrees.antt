@@ -25,7 +25,7 @@ use Rattle.worm_region.proofs.Room.{bounded_less, credits_counted}
 use Rattle.worm_region.proofs.FrameKept.{step_made, router_framed, framed_mesh}
 use Rattle.worm_region.proofs.PlacesThere.{net_place}
 use Rattle.worm_region.proofs.LinksThere.{feeder}
-use Rattle.worm_region.proofs.Turning.{owing}
+use Rattle.worm_region.proofs.TurnInParts.{owing}
 
 -- only what an input channel owes is changed
 pub owed_bridge : (s : NetState) (x p v : ℕ) → IsFramed s → IsNetPlace s x p v

@@ -16,7 +16,7 @@ use Rattle.worm_script.specs.declared.script.Entry.{Entry}
 use Rattle.worm_region.specs.declared.step.Moved.{Moved}
 use Rattle.worm_region.specs.declared.fault.StepFault.{StepFault}
 use Rattle.worm_region.specs.declared.fault.StepFault.TheVariants.{NoSuchPlace, Refused, NoMemory}
-use Rattle.worm_region.proofs.Reaching.{reached, joined, by_answer}
+use Rattle.worm_region.proofs.ReachedBySteps.{reached, joined, by_answer}
 
 -- the list, one part after another
 

@@ -10,7 +10,7 @@ use Rattle.worm_router.specs.Allocation.{after_allocate, after_choose, switch_gr
 use Rattle.worm_router.specs.Rest.{IsAtRest, OwesNothing}
 use Rattle.worm_swalloc.specs.SwAlloc.{AreGranted, is_of}
 use Rattle.worm_swalloc.specs.declared.grant.SwGrant.{SwGrant}
-use Rattle.worm_vcalloc.proofs.SetLemmas.{has-zero}
+use Rattle.worm_vcalloc.proofs.SetMembers.{has-zero}
 use Rattle.worm_term.specs.Source.{front_of}
 use Rattle.worm_theory.specs.Steps.{Step, Feed, Send, Take, TakeCredit}
 use Rattle.worm_region.specs.Shape.{net_shape}
@@ -28,8 +28,8 @@ use Rattle.worm_region.proofs.TakeAgrees.{take_answers}
 use Rattle.worm_region.proofs.FeedAgrees.{feed_answers}
 use Rattle.worm_region.proofs.FrameKept.{is_nth}
 use Rattle.worm_region.proofs.NodeWritten.{with_router_same}
-use Rattle.worm_region.proofs.Turning.{gives_none, owed_lowest}
-use Rattle.worm_region.proofs.Skipping.{each_still, numbers_still, node_still}
+use Rattle.worm_region.proofs.TurnInParts.{gives_none, owed_lowest}
+use Rattle.worm_region.proofs.RoutedStays.{each_still, numbers_still, node_still}
 
 -- a credit or a flit that is tried where there is none
 

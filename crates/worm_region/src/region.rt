@@ -150,7 +150,7 @@ impl Region {
         ensures there { AreThere self.new node result }
         ensures reaches { ReachesAt node self.old self.new }
     {
-        self.fabric.router_mut(node).choose().channels()
+        self.fabric.router_mut(node).choose().granted()
     }
 
     /// Whether no channel of the node may send; then a pass of the switch allocator grants nothing. Where none may this

@@ -3,7 +3,7 @@ use Rattle.std.proofs.Common.{ℕ, ◌≡◌, ◌*◌, ◌++◌, List, [], ◌�
 use Rattle.worm_route.specs.Distinct.{IsDistinct}
 use Rattle.worm_route.specs.Places.{Place, Source, Buffer, moved_to, IsLast, ArePlaces}
 use Rattle.worm_route.specs.LaneMachine.{machine_of, Raises, Appends, IsMoved, IsTaken, IsPut}
-use Rattle.worm_route.proofs.MachineLemmas.{Raises-moved, Raises-delivered, Appends-put}
+use Rattle.worm_route.proofs.OneCutRises.{Raises-moved, Raises-delivered, Appends-put}
 
 module _ {F : Type 0} (ks : List ℕ) (s t : ℕ) (old new : Place → List F) (delivered : List F) where
   -- Feed, Send to a link and Take

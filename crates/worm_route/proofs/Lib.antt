@@ -1,10 +1,10 @@
-pub mod DistinctLemmas
+pub mod NothingTwice
 pub mod Legs
 pub mod Onward
 pub mod Track
-pub mod PlaceLemmas
+pub mod PlacesByNode
 pub mod DigitCrossing
-pub mod CrossingLemmas
-pub mod MachineLemmas
+pub mod CrossesWhereNext
+pub mod OneCutRises
 pub mod LaneSteps
 mod Worked

@@ -9,7 +9,7 @@ use Rattle.worm_mesh.proofs.Neighbours.{neighbour_of-some}
 use Rattle.worm_route.specs.Route.{route_of, hops_of, port_of}
 use Rattle.worm_route.specs.Distinct.{IsNotIn, IsDistinct}
 use Rattle.worm_route.specs.Places.{Buffer, Link, places_along, moved_to, IsChain}
-use Rattle.worm_route.proofs.DistinctLemmas.{IsDistinct-push}
+use Rattle.worm_route.proofs.NothingTwice.{IsDistinct-push}
 use Rattle.worm_route.proofs.Onward.{onward, hops_nearer, hops_arrived, route_arrived}
 
 -- each node is what the port of the node after it in the list leads to

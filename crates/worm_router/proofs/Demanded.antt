@@ -19,9 +19,9 @@ use Rattle.worm_vcalloc.specs.VcRequest.{may_use}
 use Rattle.worm_vcalloc.specs.ChannelSet.{has}
 use Rattle.worm_vcalloc.specs.Table.{cell, with_cell}
 use Rattle.worm_vcalloc.specs.VcAlloc.{VcAllocState, VcPass, IsChannelMatching, vc_pass}
-use Rattle.worm_vcalloc.proofs.PassLemmas.{none_where_not_some}
-use Rattle.worm_vcalloc.proofs.SetLemmas.{has-empty}
-use Rattle.worm_vcalloc.proofs.TableLemmas.{cell-replicate, IsTable-replicate}
+use Rattle.worm_vcalloc.proofs.PassAgrees.{none_where_not_some}
+use Rattle.worm_vcalloc.proofs.SetMembers.{has-empty}
+use Rattle.worm_vcalloc.proofs.TableCells.{cell-replicate, IsTable-replicate}
 use Rattle.worm_swalloc.proofs.TableRows.{same_tables, IsTable-table}
 use Rattle.worm_router.specs.Router.{RouterState, ChannelState, IsPlace, terminal, width, line, fresh_channel}
 use Rattle.worm_router.specs.Router.{free_output, put_in, input_at}

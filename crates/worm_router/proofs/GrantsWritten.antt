@@ -5,8 +5,8 @@ use Rattle.std.specs.List.{range_with_len}
 use Rattle.std.proofs.lemmas.Bool.{cases_eq, cases_lt}
 use Rattle.worm_vcalloc.specs.ChannelSet.{has, IsFirstPort}
 use Rattle.worm_vcalloc.specs.Table.{cell}
-use Rattle.worm_vcalloc.proofs.PassLemmas.{fold-range_more, none_where_not_some}
-use Rattle.worm_vcalloc.proofs.SetLemmas.{has-zero}
+use Rattle.worm_vcalloc.proofs.PassAgrees.{fold-range_more, none_where_not_some}
+use Rattle.worm_vcalloc.proofs.SetMembers.{has-zero}
 use Rattle.worm_router.specs.Router.{RouterState, IsPlace, terminal, width, after_granting, can_grant}
 use Rattle.worm_router.specs.Allocation.{written, with_port_grants, with_grants, IsSameSize}
 

@@ -13,7 +13,7 @@ use Rattle.worm_records.specs.declared.InRecord.{InRecord}
 use Rattle.worm_records.specs.declared.InRecord.TheVariants.{Idle, Waiting, Active}
 use Rattle.worm_records.specs.declared.OutRecord.{OutRecord}
 use Rattle.worm_vcalloc.specs.ChannelSet.{has}
-use Rattle.worm_vcalloc.proofs.SetLemmas.{has-zero}
+use Rattle.worm_vcalloc.proofs.SetMembers.{has-zero}
 use Rattle.worm_router.specs.Router.{RouterState, ChannelState, IsPlace, terminal, width, line, fresh_channel}
 use Rattle.worm_router.specs.Router.{free_output, input_at, output_at, leaving, leaving_by, credit_of}
 use Rattle.worm_router.specs.Busy.{AreHolders, AreHeldUp, IsFiled, is_held_up, is_active, holds, has_way, could_send}

@@ -9,7 +9,7 @@ use Rattle.worm_vcalloc.specs.Arbiter.{ArbiterState, no_arbiter, winner, asked_i
 use Rattle.worm_vcalloc.specs.Table.{cell, with_cell}
 use Rattle.worm_vcalloc.specs.VcAlloc.{VcPass, IsChannelMatching, is_requester, offered, vc_step, port_pass, vc_pass}
 use Rattle.worm_vcalloc.specs.VcAlloc.{with_grant}
-use Rattle.worm_vcalloc.proofs.TableLemmas.{with_cell_same, cell-replicate}
+use Rattle.worm_vcalloc.proofs.TableCells.{with_cell_same, cell-replicate}
 use Rattle.worm_router.specs.Router.{RouterState, terminal, width}
 use Rattle.worm_router.specs.Allocation.{requests, free_channels, channel_pass, written, with_port_grants, with_grants}
 use Rattle.worm_router.specs.Allocation.{after_allocate, IsAllocated, IsSameSize}

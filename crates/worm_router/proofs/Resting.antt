@@ -5,7 +5,7 @@ use Rattle.std.proofs.lemmas.Bool.Decides.{nat_tests}
 use Rattle.worm_flit.specs.declared.Flit.{Flit}
 use Rattle.worm_records.specs.declared.InRecord.{InRecord}
 use Rattle.worm_records.specs.declared.InRecord.TheVariants.{Idle, Waiting, Active}
-use Rattle.worm_vcalloc.proofs.SetLemmas.{has-empty}
+use Rattle.worm_vcalloc.proofs.SetMembers.{has-empty}
 use Rattle.worm_router.specs.Router.{RouterState, ChannelState, input_at, is_idle, opens_front}
 use Rattle.worm_router.specs.Demand.{DemandView}
 use Rattle.worm_router.specs.Busy.{AreReady, IsKept, IsSetOf, is_occupied, is_waiting, is_active, owes, waits, holds}

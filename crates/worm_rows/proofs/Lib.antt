@@ -1,4 +1,4 @@
-pub mod Steps
+pub mod StepsTake
 pub mod Packets
 pub mod RowLaws
 pub mod Order

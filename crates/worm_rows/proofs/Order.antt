@@ -17,7 +17,7 @@ use Rattle.worm_rows.specs.declared.rows.Row.TheVariants.{Total}
 use Rattle.worm_rows.specs.Rows.{row_fields, row_line}
 use Rattle.worm_rows.specs.Rules.{IsRow, rank, latest, listed, Fits, MayFollow, behind}
 use Rattle.worm_rows.specs.Reading.{row_at, fits_at, admits, judge}
-use Rattle.worm_rows.proofs.Steps.{took_test}
+use Rattle.worm_rows.proofs.StepsTake.{took_test}
 use Rattle.worm_rows.proofs.RowLaws.{row_takes, row_again, cut_row}
 
 ltb_lt : (m n : ℕ) → ltb m n ≡ true → m < n

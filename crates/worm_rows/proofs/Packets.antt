@@ -18,8 +18,8 @@ use Rattle.worm_rows.specs.Rows.{spot_fields, place_fields, load_fields, packet_
 use Rattle.worm_rows.specs.Rules.{IsWord, IsPacket, IsLoad, HasPlace, has_buffer}
 use Rattle.worm_rows.specs.Reading.{below_at, named_at, packet_id, packet_at, buffer_at, link_at, place_at}
 use Rattle.worm_rows.specs.Reading.{load_word_at, load_at}
-use Rattle.worm_rows.proofs.Steps.{first_word, took_word, took_below, took_named, took_all, took_test, below_again}
-use Rattle.worm_rows.proofs.Steps.{named_again}
+use Rattle.worm_rows.proofs.StepsTake.{first_word, took_word, took_below, took_named, took_all, took_test, below_again}
+use Rattle.worm_rows.proofs.StepsTake.{named_again}
 
 abbrev Fields : Type 0
 Fields = List (List ℕ)

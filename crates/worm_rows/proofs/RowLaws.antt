@@ -26,8 +26,8 @@ use Rattle.worm_rows.specs.Rows.{spot_fields, place_fields, load_fields, packet_
 use Rattle.worm_rows.specs.Rules.{IsWord, IsPacket, IsLoad, HasPlace, IsRow}
 use Rattle.worm_rows.specs.Reading.{any_at, below_at, named_at, packet_at, place_at, load_at, header_at, options_at}
 use Rattle.worm_rows.specs.Reading.{stopped_at, delivered_at, underway_at, not_offered_at, total_at, row_at}
-use Rattle.worm_rows.proofs.Steps.{first_word, took_word, took_any, took_below, took_named, took_all, took_test}
-use Rattle.worm_rows.proofs.Steps.{any_again, below_again, named_again}
+use Rattle.worm_rows.proofs.StepsTake.{first_word, took_word, took_any, took_below, took_named, took_all, took_test}
+use Rattle.worm_rows.proofs.StepsTake.{any_again, below_again, named_again}
 use Rattle.worm_rows.proofs.Packets.{TookPacket, packet_takes, packet_again, place_takes, place_again, load_takes}
 use Rattle.worm_rows.proofs.Packets.{load_again}
 

@@ -1,7 +1,7 @@
 pub mod Channels
 pub mod Shapes
 pub mod Stands
-pub mod Leaving
+pub mod LeavesWhereCrossed
 pub mod Joined
 pub mod PlaceCuts
 pub mod Machines

@@ -18,7 +18,7 @@ use Rattle.worm_route.specs.Route.{port_of}
 use Rattle.worm_route.specs.Places.{Place, Source, Buffer, Link, places_of, moved_to, ArePlaces, IsLast, IsPlaceOf}
 use Rattle.worm_route.specs.LaneMachine.{machine_of, Raises, Appends, IsMoved, IsTaken}
 use Rattle.worm_route.proofs.Onward.{onward, port_arrived}
-use Rattle.worm_route.proofs.PlaceLemmas.{ArePlaces-of}
+use Rattle.worm_route.proofs.PlacesByNode.{ArePlaces-of}
 use Rattle.worm_route.proofs.LaneSteps.{hop_raises, delivery_raises, offer_appends}
 use Rattle.worm_theory.specs.Shape.{Shape, IsMesh, HasLane, Owns, Enters, OwnsAlone}
 use Rattle.worm_theory.specs.Network.{Network, put2, put3}

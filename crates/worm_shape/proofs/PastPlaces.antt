@@ -16,9 +16,9 @@ use Rattle.worm_route.specs.Route.{route_of, port_of, hops_of}
 use Rattle.worm_route.specs.Places.{Place, Source, Buffer, Link, places_of}
 use Rattle.worm_route.proofs.Onward.{onward, goes_further, next_node}
 use Rattle.worm_route.specs.Distinct.{IsDistinct}
-use Rattle.worm_route.proofs.DistinctLemmas.{one_split}
+use Rattle.worm_route.proofs.NothingTwice.{one_split}
 use Rattle.worm_route.proofs.Track.{IsWay-route, EndsIn}
-use Rattle.worm_route.proofs.PlaceLemmas.{ArePlaces-of}
+use Rattle.worm_route.proofs.PlacesByNode.{ArePlaces-of}
 use Rattle.worm_theory.specs.Shape.{Shape, IsMesh, HasLane, Enters, at_source, by_link}
 use Rattle.worm_theory.specs.Network.{Network}
 use Rattle.worm_theory.specs.Cut.{underway_from}

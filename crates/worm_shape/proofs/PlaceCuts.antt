@@ -9,7 +9,7 @@ use Rattle.worm_mesh.proofs.Digits.{AreLarge-from_radices}
 use Rattle.worm_route.specs.Route.{hops_of}
 use Rattle.worm_route.specs.Places.{places_of}
 use Rattle.worm_route.specs.LaneMachine.{IsMachine}
-use Rattle.worm_route.proofs.MachineLemmas.{IsMachine-of}
+use Rattle.worm_route.proofs.OneCutRises.{IsMachine-of}
 use Rattle.worm_theory.specs.Shape.{HasLane}
 use Rattle.worm_theory.specs.Network.{Network}
 use Rattle.worm_theory.specs.Sound.{Sound}

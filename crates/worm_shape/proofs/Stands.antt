@@ -10,7 +10,7 @@ use Rattle.worm_route.specs.Route.{route_of, port_of}
 use Rattle.worm_route.specs.Places.{Place, Source, Buffer, Link, places_along, places_of, moved_to, ArePlaces, IsLast}
 use Rattle.worm_route.specs.Places.{IsPlaceOf}
 use Rattle.worm_route.proofs.Track.{IsTrack, EndsIn, IsWay-route}
-use Rattle.worm_route.proofs.PlaceLemmas.{ArePlaces-of}
+use Rattle.worm_route.proofs.PlacesByNode.{ArePlaces-of}
 use Rattle.worm_route.proofs.Onward.{goes_further}
 use Rattle.worm_theory.specs.Shape.{Shape, HasLane, Enters, at_source, by_link}
 use Rattle.worm_shape.specs.ShapeOf.{shape_of}

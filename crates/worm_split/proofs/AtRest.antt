@@ -8,14 +8,14 @@ use Rattle.worm_router.specs.Router.{RouterState, terminal}
 use Rattle.worm_router.specs.Allocation.{after_allocate, after_choose, switch_grants}
 use Rattle.worm_router.specs.Rest.{IsAtRest, OwesNothing}
 use Rattle.worm_swalloc.specs.declared.grant.SwGrant.{SwGrant}
-use Rattle.worm_swalloc.proofs.SwLemmas.{get_or-replicate_same}
+use Rattle.worm_swalloc.proofs.SwitchPass.{get_or-replicate_same}
 use Rattle.worm_region.specs.Moves.{chosen_router}
 use Rattle.worm_region.specs.Replies.{Attempts}
 use Rattle.worm_region.specs.State.{router_at, with_router}
 use Rattle.worm_region.specs.Turns.{ComesInBy, lowest_owed}
 use Rattle.worm_region.specs.Workable.{IsWorkable}
 use Rattle.worm_region.proofs.NodeWritten.{with_router_same}
-use Rattle.worm_region.proofs.Turning.{owed_lowest}
+use Rattle.worm_region.proofs.TurnInParts.{owed_lowest}
 use Rattle.worm_split.specs.PartState.{PartState}
 use Rattle.worm_split.specs.PartTurns.{EachOf, Gives, GivesCredit, NodePasses, SendsGrant, SendsGranted}
 use Rattle.worm_split.proofs.PartLoops.{of_rest}

@@ -23,9 +23,10 @@ use Rattle.worm_split.specs.PartState.{PartState, IsPart, IsSamePart, end_of}
 use Rattle.worm_split.specs.PartTurns.{CreditComes, FlitComes, with_end}
 use Rattle.worm_split.proofs.PartFacts.{is_leaving, is_entering}
 use Rattle.worm_split.proofs.PartMoves.{credit_comes, flit_comes}
-use Rattle.worm_split.proofs.Pulls.{credit_popped, flit_popped, linked, back, beyond_in, entered_is, out_is, into_is}
-use Rattle.worm_split.proofs.Pulls.{out_end_bound, into_end_bound, out_end, into_end}
-use Rattle.worm_split.proofs.Pulls.{out_credits, into_flits, out_from_beyond, into_from_beyond}
+use Rattle.worm_split.proofs.EndsKnown.{credit_popped, flit_popped, linked, back, beyond_in, entered_is, out_is}
+use Rattle.worm_split.proofs.EndsKnown.{into_is}
+use Rattle.worm_split.proofs.EndsKnown.{out_end_bound, into_end_bound, out_end, into_end}
+use Rattle.worm_split.proofs.EndsKnown.{out_credits, into_flits, out_from_beyond, into_from_beyond}
 
 -- another list of one link leaves the configuration
 same_when_linked : (s new : NetState) (k : ℕ) (l : Rattle.worm_wires.specs.Links.LinkView)

@@ -26,7 +26,7 @@ use Rattle.worm_region.specs.declared.node.Node.{Node}
 use Rattle.worm_region.proofs.FrameKept.{framed_mesh}
 use Rattle.worm_region.proofs.LinkWritten.{credits_there, out_there}
 use Rattle.worm_region.proofs.NewNet.{workable, fresh_is, stands_for}
-use Rattle.worm_region.proofs.Owning.{all_within}
+use Rattle.worm_region.proofs.AllOwned.{all_within}
 use Rattle.worm_region.proofs.StaysWorking.{sound_works}
 use Rattle.worm_parts.specs.Openings.{past_of}
 use Rattle.worm_parts.specs.Region.{Begins, HasPart}

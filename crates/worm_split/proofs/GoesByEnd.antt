@@ -38,7 +38,7 @@ use Rattle.worm_split.proofs.EndFacts.{IsLeavingEnd, IsEnteringEnd}
 use Rattle.worm_split.proofs.PartFacts.{mesh_of_part, part_shape, is_leaving, is_entering}
 use Rattle.worm_split.proofs.PartMoves.{flit_goes, credit_goes}
 use Rattle.worm_split.proofs.ComesByEnd.{linked_then, back_then}
-use Rattle.worm_split.proofs.Pulls.{linked, out_is, into_is, out_end_bound, into_end_bound, out_end, into_end}
+use Rattle.worm_split.proofs.EndsKnown.{linked, out_is, into_is, out_end_bound, into_end_bound, out_end, into_end}
 
 -- A flit that is ready: the front of a channel that is active.
 pub record IsReadyAt (s : NetState) (x p v o : ℕ) (flit : Flit) : Type 0 where

@@ -13,8 +13,8 @@ use Rattle.worm_swalloc.specs.declared.grant.SwGrant.{SwGrant}
 use Rattle.worm_swalloc.specs.Front.{with_front}
 use Rattle.worm_swalloc.specs.SwAlloc.{SwAllocState, all_named, chosen, granted, if_chosen, is_line, named}
 use Rattle.worm_swalloc.specs.SwAlloc.{named_channel, request_of}
-use Rattle.worm_swalloc.proofs.FrontLemmas.{slice_index_or-with_front_below, slice_index_or-with_front_past}
-use Rattle.worm_swalloc.proofs.SwLemmas.{get_or-replicate_same}
+use Rattle.worm_swalloc.proofs.FrontGiven.{slice_index_or-with_front_below, slice_index_or-with_front_past}
+use Rattle.worm_swalloc.proofs.SwitchPass.{get_or-replicate_same}
 use Rattle.worm_router.specs.Allocation.{ready_at, ready_outs, switch_grants}
 use Rattle.worm_router.specs.Router.{RouterState, IsPlace, after_leaving, input_at, leaving, let_out, credit_of}
 use Rattle.worm_router.proofs.TableRows.{cell_has}

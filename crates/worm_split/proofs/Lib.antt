@@ -2,13 +2,13 @@ pub mod ComesByEnd
 pub mod Crossing
 pub mod EndFacts
 pub mod GoesByEnd
-pub mod Granting
+pub mod GrantsSent
 pub mod Inside
 pub mod Keeping
 pub mod PartFacts
 pub mod PartLoops
 pub mod PartMoves
-pub mod Pulls
+pub mod EndsKnown
 pub mod SeenAtEnds
 pub mod Staying
 pub mod Within

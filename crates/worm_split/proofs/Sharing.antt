@@ -7,7 +7,7 @@ use Rattle.worm_mesh.specs.Address.{neighbour_of, stride_of}
 use Rattle.worm_theory.proofs.Places.{number_cases}
 use Rattle.worm_region.specs.State.{IsFramed, NetState}
 use Rattle.worm_region.proofs.LinksThere.{leader}
-use Rattle.worm_wires.proofs.Steps.{step_down, step_up}
+use Rattle.worm_wires.proofs.StepsAdd.{step_down, step_up}
 use Rattle.worm_split.specs.PartTurns.{AreShared}
 
 same_rest : (y s w : ℕ) → s % w ≡ 0 → (y + s) % w ≡ y % w

@@ -8,7 +8,7 @@ use Rattle.worm_mesh.specs.Address.{neighbour_of, opposite_of}
 use Rattle.worm_records.specs.declared.InRecord.{InRecord}
 use Rattle.worm_records.specs.declared.InRecord.TheVariants.{Idle}
 use Rattle.worm_router.specs.Router.{RouterState, width, input_at, leaving}
-use Rattle.worm_vcalloc.proofs.ArbiterLemmas.{find-range_found}
+use Rattle.worm_vcalloc.proofs.Winner.{find-range_found}
 use Rattle.worm_theory.specs.Steps.{Send, GiveCredit, IsActiveAt}
 use Rattle.worm_region.specs.Shape.{net_shape}
 use Rattle.worm_region.specs.State.{NetState, IsFramed, IsSameConfig, shape, network_of, router_at}

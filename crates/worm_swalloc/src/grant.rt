@@ -20,15 +20,15 @@ pub type ReadyOuts = ChannelMap;
 /// all other ports.
 ///
 /// ```text
-/// let mut granted = grants.channels();
-/// while let Some((port, vc)) = granted.pop_first() { .. }
+/// let mut left = grants.granted();
+/// while let Some((port, vc)) = left.pop_first() { .. }
 /// ```
 #[derive(Drop)]
 pub struct SwGrants {
     /// By input port.
     grants: [Option<SwGrant>; 7],
     /// The channels that may send, one of each port that has a grant.
-    channels: ChannelSet,
+    granted: ChannelSet,
 }
 
 impl Model for SwGrants {
@@ -40,7 +40,7 @@ impl Model for SwGrants {
 
     ghost view = { λ g. g.grants };
 
-    ghost invariant = { λ g. AreGranted g.grants g.channels };
+    ghost invariant = { λ g. AreGranted g.grants g.granted };
 }
 
 impl SwGrants {
@@ -50,7 +50,7 @@ impl SwGrants {
     {
         SwGrants {
             grants: [None; 7],
-            channels: ChannelSet::new(),
+            granted: ChannelSet::new(),
         }
     }
 
@@ -62,7 +62,7 @@ impl SwGrants {
         ensures { self.new ≡ slice_set self.old port (Some grant) }
     {
         self.grants[port as usize] = Some(grant);
-        self.channels.put(port, grant.vc, true);
+        self.granted.put(port, grant.vc, true);
     }
 
     /// What an input port may send, if anything.
@@ -74,9 +74,9 @@ impl SwGrants {
     }
 
     /// The channels that may send, at most one of each input port.
-    pub fn channels(&self) -> ChannelSet
+    pub fn granted(&self) -> ChannelSet
         ensures { AreGranted self.now result }
     {
-        self.channels
+        self.granted
     }
 }

@@ -1,4 +1,4 @@
-ghost use Rattle.std.specs.Prelude.{◌≡◌, ℕ, ◌+◌, ◌*◌, ◌/◌, ◌%◌, ◌^◌, ◌<◌, ◌≤◌, ◌==◌, ◌&&◌, ◌||◌, MatchOption, not};
+ghost use Rattle.std.specs.Prelude.{◌≡◌, ℕ, ◌^◌, ◌<◌, ◌≤◌, ◌==◌, ◌&&◌, MatchOption, not};
 ghost use Rattle.worm_vcalloc.specs.Arbiter.{line_requests};
 ghost use Rattle.worm_vcalloc.specs.ChannelSet.{has, IsPut, IsFirst, IsFirstPort};
 
@@ -99,15 +99,6 @@ impl ChannelSet {
         }
     }
 
-    /// The channels that are in either set.
-    pub fn union(&self, other: &ChannelSet) -> ChannelSet
-        ensures { (p c : ℕ) → has result p c ≡ (has self.now p c || has other.now p c) }
-    {
-        ChannelSet {
-            bits: self.bits | other.bits,
-        }
-    }
-
     /// The channels that are in this set and not in the other.
     pub fn difference(&self, other: &ChannelSet) -> ChannelSet
         ensures { (p c : ℕ) → p < 7 → c < 8 → has result p c ≡ (has self.now p c && not (has other.now p c)) }
@@ -125,21 +116,5 @@ impl ChannelSet {
         ensures lines { (channel : ℕ) → channel < channels → line_requests result channel ≡ has self.now port channel }
     {
         self.bits >> (8 * port) & ((1 << channels) - 1)
-    }
-
-    /// The channels of the ports below `ports`, as the lines of an arbiter: bit
-    /// `port * channels + channel`.
-    pub fn lines(&self, ports: u8, channels: u8) -> u64
-        requires ports { ports ≤ 7 }
-        requires channels { channels ≤ 8 }
-        ensures few { result < 2 ^ (ports * channels) }
-        ensures lines { (line : ℕ) → line < ports * channels
-            → line_requests result line ≡ has self.now (line / channels) (line % channels) }
-    {
-        let mut lines = 0;
-        for port in 0..ports {
-            lines |= self.row(port, channels) << (port * channels);
-        }
-        lines
     }
 }

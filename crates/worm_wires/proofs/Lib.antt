@@ -1,5 +1,5 @@
 pub mod Wired
-pub mod Arriving
-pub mod Steps
-pub mod Looking
+pub mod ArrivalsKept
+pub mod StepsAdd
+pub mod ArrivalsFound
 pub mod Apart

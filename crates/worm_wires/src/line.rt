@@ -1,7 +1,8 @@
 //! One way of a link. Mostly one flit or credit is on it at most, so the front lies apart from the queue.
 
-ghost use Rattle.std.specs.Prelude.{◌≡◌, [], ◌∷◌, ◌++◌, ◌<◌, ◌≤◌, length, drop, slice_get, Some, vec_capacity};
+ghost use Rattle.std.specs.Prelude.{◌≡◌, [], ◌∷◌, ◌++◌, ◌<◌, ◌≤◌, length, drop, slice_get, Some, IfOk};
 
+use std::alloc::{AllocError, Global};
 use std::collections::VecDeque;
 use std::marker::Model;
 
@@ -29,25 +30,15 @@ impl<T> Model for Line<T> {
 }
 
 impl<T: Copy> Line<T> {
-    /// The line with these on it, front first, and the list's room.
-    pub(crate) fn from_list(list: Vec<T>) -> Line<T>
-        ensures { result ≡ record { items = list.items; room = vec_capacity list } }
+    /// A line with nothing on it, and at least this room.
+    pub(crate) fn with_room(alloc: Global, room: usize) -> Result<Line<T>, AllocError>
+        ensures { IfOk result (λ l. (l.items ≡ []) × (room ≤ l.room)) }
     {
-        let mut behind = VecDeque::from_vec(list);
-        let front = behind.pop_front();
-        Line { front, behind }
-    }
-
-    /// What is on it, front first, with at least the line's room.
-    pub(crate) fn into_list(self) -> Vec<T>
-        ensures items { result.items ≡ self.items }
-        ensures room { self.room ≤ vec_capacity result }
-    {
-        let Line { front, mut behind } = self;
-        if let Some(front) = front {
-            behind.push_front_reserved(front);
-        }
-        behind.into_vec()
+        let behind = VecDeque::from_vec(Vec::with_capacity(alloc, room)?);
+        Ok(Line {
+            front: None,
+            behind,
+        })
     }
 
     /// The front, if there is one.

@@ -2,7 +2,6 @@
 
 ghost use Rattle.worm_wires.specs.Links.{empty_link};
 ghost use Rattle.std.specs.Prelude.{◌≡◌, [], ◌∷◌, ◌++◌, ◌<◌, ◌≤◌, length, drop, min, slice_get, Some, IfOk};
-ghost use Rattle.std.specs.Prelude.{vec_capacity};
 
 use crate::line::Line;
 use std::alloc::{AllocError, Global};
@@ -16,7 +15,7 @@ use worm_flit::Flit;
 /// ```text
 /// let mut link = LinkState::new(alloc, 2)?;
 /// link.push(flit);
-/// let lists = link.into_lists();
+/// let front = link.front();
 /// ```
 #[derive(Drop)]
 pub struct LinkState {
@@ -54,37 +53,13 @@ impl LinkState {
     pub fn new(alloc: Global, room: u16) -> Result<LinkState, AllocError>
         ensures { IfOk result (λ l. l ≡ empty_link room) }
     {
-        let flits = Vec::with_capacity(alloc, usize::from(room))?;
-        let credits = Vec::with_capacity(alloc, usize::from(room))?;
-        Ok(LinkState::from_lists(flits, credits, room))
-    }
-
-    /// The link with these flits and these credits on it, front first, which both have room for so many.
-    pub fn from_lists(flits: Vec<Flit>, credits: Vec<u8>, room: u16) -> LinkState
-        requires flits { room ≤ vec_capacity flits }
-        requires credits { room ≤ vec_capacity credits }
-        ensures { result ≡ record { flits = flits.items; credits = credits.items; room = room } }
-    {
-        LinkState {
-            flits: Line::from_list(flits),
-            credits: Line::from_list(credits),
-            room,
-        }
-    }
-
-    /// The flits on the link, and the credits on their way back over it, front first, both with the link's room.
-    pub fn into_lists(self) -> (Vec<Flit>, Vec<u8>)
-        ensures flits { result.0.items ≡ self.flits }
-        ensures credits { result.1.items ≡ self.credits }
-        ensures flit_room { self.room ≤ vec_capacity result.0 }
-        ensures credit_room { self.room ≤ vec_capacity result.1 }
-    {
-        let LinkState {
+        let flits = Line::with_room(alloc, usize::from(room))?;
+        let credits = Line::with_room(alloc, usize::from(room))?;
+        Ok(LinkState {
             flits,
             credits,
-            room: _,
-        } = self;
-        (flits.into_list(), credits.into_list())
+            room,
+        })
     }
 
     /// The room: how many flits, and how many credits, fit without growing.

@@ -2,7 +2,7 @@
 use Rattle.std.proofs.Common.{arith}
 use Rattle.std.proofs.lemmas.Grind.{common_steps}
 use Rattle.worm_mesh.proofs.Digits.{AreLarge-from_radices}
-use Rattle.worm_route.proofs.CrossingLemmas.{exact_from}
+use Rattle.worm_route.proofs.CrossesWhereNext.{exact_from}
 use Rattle.worm_route.proofs.crosses.Goals as goal
 
 pub returns-then-steps_by-clause-value : goal.returns-then-steps_by-clause-value

@@ -3,7 +3,7 @@ use Rattle.std.proofs.Common.{◌≤◌, length, arith, sym}
 use Rattle.worm_mesh.specs.Address.{address_of}
 use Rattle.worm_mesh.proofs.Digits.{AreLarge-from_radices, length-address_of}
 use Rattle.worm_route.proofs.Onward.{walk_is, distance_of-past}
-use Rattle.worm_route.proofs.PlaceLemmas.{nodes_of, ArePlaces-of}
+use Rattle.worm_route.proofs.PlacesByNode.{nodes_of, ArePlaces-of}
 use Rattle.worm_route.proofs.hops.Goals as goal
 
 pub returns-clause-value : goal.returns-clause-value

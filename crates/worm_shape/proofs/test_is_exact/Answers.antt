@@ -1,5 +1,5 @@
 use Rattle.worm_mesh.proofs.Digits.{AreLarge-from_radices}
-use Rattle.worm_shape.proofs.Leaving.{crosses_leaves}
+use Rattle.worm_shape.proofs.LeavesWhereCrossed.{crosses_leaves}
 use Rattle.worm_shape.proofs.test_is_exact.Goals as goal
 
 pub returns : goal.returns

@@ -1,5 +1,5 @@
 use Rattle.std.proofs.Common.{◌∙◌}
-use Rattle.worm_picture.proofs.Steps.{one_port_more}
+use Rattle.worm_picture.proofs.OneMore.{one_port_more}
 use Rattle.worm_picture.proofs.views.spots_in.Goals as goal
 
 pub loop-port-preserved : goal.loop-port-preserved

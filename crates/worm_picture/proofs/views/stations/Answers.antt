@@ -2,7 +2,7 @@ use Rattle.std.proofs.Common.{rules, ◌<◌, length}
 use Rattle.std.proofs.lemmas.List.Elements.{All-push}
 use Rattle.worm_picture.specs.Nodes.{IsStation}
 use Rattle.worm_picture.specs.Packets.{tail_in}
-use Rattle.worm_picture.proofs.Steps.{one_station_more}
+use Rattle.worm_picture.proofs.OneMore.{one_station_more}
 use Rattle.worm_picture.proofs.views.stations.Goals as goal
 
 pub loop-spot-preserved : goal.loop-spot-preserved

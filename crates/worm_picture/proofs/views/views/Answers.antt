@@ -11,7 +11,7 @@ use Rattle.worm_picture.specs.Nodes.{IsView}
 use Rattle.worm_picture.specs.Packets.{tail_in}
 use Rattle.worm_picture.proofs.InMesh.{rows_in_mesh}
 use Rattle.worm_picture.proofs.Shown.{shows_each_once}
-use Rattle.worm_picture.proofs.Steps.{one_node_more}
+use Rattle.worm_picture.proofs.OneMore.{one_node_more}
 use Rattle.worm_picture.proofs.views.views.Goals as goal
 
 pub loop-node-preserved : goal.loop-node-preserved

@@ -1,7 +1,7 @@
 use Rattle.std.proofs.Common.{◌≡◌, ◌+◌, ◌-◌, ℕ, take, drop, true, false, length, ap, sym, ◌∙◌, codes, subst}
 use Rattle.std.proofs.Common.{arith}
 use Rattle.std.specs.Str.{bytes_eq}
-use Rattle.worm_program.proofs.CutLemmas.{IsWalked, all_walked, cut_here, next_line, one_cut, same_line}
+use Rattle.worm_program.proofs.CutBehindEnd.{IsWalked, all_walked, cut_here, next_line, one_cut, same_line}
 use Rattle.worm_program.proofs.joined.network_end.Goals as goal
 use Rattle.worm_program.proofs.joined.network_end.Goals.{then-byte-eq10+else-eq, else-byte-eq10}
 

@@ -1,4 +1,4 @@
-use Rattle.worm_program.proofs.CutLemmas.{IsWalked}
+use Rattle.worm_program.proofs.CutBehindEnd.{IsWalked}
 use Rattle.worm_program.proofs.joined.network_end.Given as goal
 
 abbrev pub invariant-loop-at : goal.invariant-loop-at

@@ -2,7 +2,7 @@ use Rattle.std.proofs.Common.{◌≡◌, ◌<◌, true, false, inl, inr, arith, 
 use Rattle.std.specs.Prelude.{slice_index_or, slice_set}
 use Rattle.std.proofs.lemmas.Bool.{cases_eq}
 use Rattle.std.proofs.lemmas.List.{get_or-set_other}
-use Rattle.worm_region.proofs.Turning.{begun_same, marked}
+use Rattle.worm_region.proofs.TurnInParts.{begun_same, marked}
 use Rattle.worm_region.proofs.turn.sources_of.Goals as goal
 
 pub loop-i-preserved : goal.loop-i-preserved

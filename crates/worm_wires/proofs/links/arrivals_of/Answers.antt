@@ -2,8 +2,8 @@ use Rattle.std.proofs.Common.{◌*◌, ◌≤◌, ℕ, Option, arith, length, re
 use Rattle.worm_wires.specs.Arrivals.{credits_of, flits_of, has_front}
 use Rattle.worm_flit.specs.SmallSet.{has}
 use Rattle.worm_wires.specs.Wiring.{in_link, out_link}
-use Rattle.worm_wires.proofs.Arriving.{port_more, none_after}
-use Rattle.worm_wires.proofs.Looking.{fronts_of}
+use Rattle.worm_wires.proofs.ArrivalsKept.{port_more, none_after}
+use Rattle.worm_wires.proofs.ArrivalsFound.{fronts_of}
 use Rattle.worm_flit.proofs.SmallSets.{has_none}
 use Rattle.worm_wires.proofs.Wired.{in_none, out_none}
 use Rattle.worm_wires.proofs.links.arrivals_of.Goals as goal

@@ -1,7 +1,7 @@
 use Rattle.std.proofs.Common.{Option, ℕ, ap, sym, ◌∙◌}
 use Rattle.std.specs.Prelude.{is_some}
 use Rattle.worm_wires.specs.Arrivals.{credits_of, has_front}
-use Rattle.worm_wires.proofs.Looking.{found_front}
+use Rattle.worm_wires.proofs.ArrivalsFound.{found_front}
 use Rattle.worm_wires.proofs.links.has_credits.Goals as goal
 
 pub returns-in-Some-get : goal.returns-in-Some-get

@@ -1,6 +1,6 @@
 use Rattle.std.proofs.Common.{◌+◌, ◌-◌, ◌%◌, ◌≡◌, ◌<◌, arith, length-set}
 use Rattle.worm_mesh.specs.Address.{stride_of}
-use Rattle.worm_wires.proofs.Steps.{steps_more, stride_some}
+use Rattle.worm_wires.proofs.StepsAdd.{steps_more, stride_some}
 use Rattle.worm_wires.proofs.wiring.steps.Goals as goal
 
 pub loop-dim-preserved : goal.loop-dim-preserved

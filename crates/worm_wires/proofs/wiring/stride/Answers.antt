@@ -1,6 +1,6 @@
 use Rattle.std.proofs.Common.{Option, Some, None, ◌+◌, ◌*◌, refl, sym, ◌≡◌, ℕ, ◌∙◌}
 use Rattle.worm_mesh.specs.Address.{stride_of}
-use Rattle.worm_wires.proofs.Steps.{step_from_zero}
+use Rattle.worm_wires.proofs.StepsAdd.{step_from_zero}
 use Rattle.worm_wires.proofs.wiring.stride.Goals as goal
 
 pub unreachable-requires : goal.unreachable-requires

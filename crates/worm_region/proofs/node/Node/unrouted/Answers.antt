@@ -1,7 +1,7 @@
 use Rattle.std.proofs.Common.{◌≡◌, ◌&&◌, Bool, false, true, not, refl, sym, ◌∙◌, ap}
 use Rattle.worm_vcalloc.specs.ChannelSet.{has}
 use Rattle.worm_router.specs.Router.{input_at}
-use Rattle.worm_region.proofs.Skipping.{routes_none}
+use Rattle.worm_region.proofs.RoutedStays.{routes_none}
 use Rattle.worm_region.proofs.node.Node.unrouted.Goals as goal
 
 both : (a b c : Bool) → ((a && not b) && not c) ≡ true → a ≡ true

@@ -1,5 +1,5 @@
 use Rattle.std.proofs.Common.{◌≡◌, List, true, false, sym, subst, ◌∙◌}
-use Rattle.worm_swalloc.proofs.SwLemmas.{get_or-replicate_same}
+use Rattle.worm_swalloc.proofs.SwitchPass.{get_or-replicate_same}
 use Rattle.worm_region.specs.UnderWay.{IsUnderWay, accepted_in, taken_in}
 use Rattle.worm_region.specs.declared.node.Node.{Node}
 use Rattle.worm_region.proofs.nodes.Nodes.new.Goals as goal

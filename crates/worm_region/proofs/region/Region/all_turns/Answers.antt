@@ -4,7 +4,7 @@ use Rattle.worm_mesh.specs.Address.{node_count}
 use Rattle.worm_region.specs.Replies.{Attempts}
 use Rattle.worm_region.specs.Turns.{all_nodes, NodeTurnBy}
 use Rattle.worm_region.proofs.Passages.{loop_more, loop_cut, does_for}
-use Rattle.worm_region.proofs.Reaching.{whole_after}
+use Rattle.worm_region.proofs.ReachedBySteps.{whole_after}
 use Rattle.worm_region.proofs.region.Region.all_turns.Goals as goal
 
 pub returns-in_err-node_turn : goal.returns-in_err-node_turn

@@ -1,4 +1,4 @@
-use Rattle.worm_region.proofs.Allocating.{allocated_in}
+use Rattle.worm_region.proofs.PassIsGrants.{allocated_in}
 use Rattle.worm_region.proofs.region.Region.allocate.Goals as goal
 
 pub invariant_of-self : goal.invariant_of-self

@@ -1,6 +1,6 @@
 use Rattle.std.proofs.Common.{◌<◌, ◌≤◌, None, arith, length}
 use Rattle.std.proofs.lemmas.Result.{err_from_is_err_and}
-use Rattle.worm_region.proofs.Turning.{asks_all, asks_more, asks_same, asks_until}
+use Rattle.worm_region.proofs.TurnInParts.{asks_all, asks_more, asks_same, asks_until}
 use Rattle.worm_region.proofs.region.Region.ask_source.Goals as goal
 use Rattle.worm_region.proofs.region.Region.ask_source.Goals.{then-source-node+in_ok-tried, else-source-node}
 

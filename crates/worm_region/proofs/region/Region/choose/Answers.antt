@@ -8,18 +8,18 @@ use Rattle.worm_theory.specs.Steps.{IsThere, Send}
 use Rattle.worm_region.specs.Moves.{AreReady, chosen_router}
 use Rattle.worm_region.specs.State.{NetState, router_at, shape, with_router}
 use Rattle.worm_region.specs.Turns.{Chooses, ReachesAt}
-use Rattle.worm_region.proofs.Allocating.{chosen_in, named_ready, ready_there, there_still}
-use Rattle.worm_region.proofs.Sending.{granted_one}
+use Rattle.worm_region.proofs.PassIsGrants.{chosen_in, named_ready, ready_there, there_still}
+use Rattle.worm_region.proofs.GrantedSent.{granted_one}
 use Rattle.worm_region.proofs.region.Region.choose.Goals as goal
 
 -- the node's router after the pass
-chosen : (c : goal.After-channels) →
+chosen : (c : goal.After-granted) →
     c.choose.new.self ≡ chosen_router (router_at c.self.inside.fabric c.args.node)
 unfolding chosen_router
 chosen c = c.choose.ensures.after ∙ ap (λ (r : RouterState). chosen_router r) c.router_mut.ensures.value
 
 -- what was granted is ready
-ready : (c : goal.After-channels) →
+ready : (c : goal.After-granted) →
     AreReady (router_at c.self.inside.fabric c.args.node) (switch_grants (router_at c.self.inside.fabric c.args.node))
 ready c =
     subst (λ (r : RouterState). AreReady r (switch_grants r)) c.router_mut.ensures.value
@@ -30,11 +30,11 @@ ready c =
           (ap (λ (gs : List (Option SwGrant)). slice_index_or gs p None) c.choose.ensures.grants ∙ granted)).0;
     })
 
-granted : (c : goal.After-channels) →
-    AreGranted (switch_grants (router_at c.self.inside.fabric c.args.node)) c.channels.result
+granted : (c : goal.After-granted) →
+    AreGranted (switch_grants (router_at c.self.inside.fabric c.args.node)) c.granted.result
 granted c =
-    subst (λ (r : RouterState). AreGranted (switch_grants r) c.channels.result) c.router_mut.ensures.value
-    (subst (λ (gs : List (Option SwGrant)). AreGranted gs c.channels.result) c.choose.ensures.grants c.channels.ensures)
+    subst (λ (r : RouterState). AreGranted (switch_grants r) c.granted.result) c.router_mut.ensures.value
+    (subst (λ (gs : List (Option SwGrant)). AreGranted gs c.granted.result) c.choose.ensures.grants c.granted.ensures)
 
 pub invariant_of-self : goal.invariant_of-self
 invariant_of-self c =
@@ -47,7 +47,7 @@ returns-clause-reaches c =
 
 pub returns-clause-chooses : goal.returns-clause-chooses
 returns-clause-chooses c =
-    subst (λ (s : NetState). Chooses c.args.node c.channels.result s
+    subst (λ (s : NetState). Chooses c.args.node c.granted.result s
     (with_router c.self.inside.fabric c.args.node c.choose.new.self)) c.self.view_is
     (granted c, ap (λ (r : RouterState). with_router c.self.inside.fabric c.args.node r) (chosen c))
 
@@ -56,7 +56,7 @@ returns-clause-there c = λ p v p_in v_in is.
     let s = c.self.inside.fabric in
     let x = c.args.node in
     let here : x < node_count s.mesh = rw (c.self.view_is) c.requires in
-    let grant = granted_one (switch_grants (router_at s x)) c.channels.result p v (granted c) p_in v_in is in
+    let grant = granted_one (switch_grants (router_at s x)) c.granted.result p v (granted c) p_in v_in is in
     let at = ready_there s x p grant.0.vc c.self.invariant here ((ready c).each p grant.0 grant.1) in
     let new = with_router s x c.choose.new.self in
     let chosen : ReachesAt x s new = rw (chosen c) (chosen_in s x c.self.invariant here).1 in

@@ -6,7 +6,7 @@ use Rattle.worm_region.specs.State.{NetState, shape}
 use Rattle.worm_region.specs.Workable.{IsWorkable}
 use Rattle.worm_region.specs.Answers.{accepted_of}
 use Rattle.worm_region.proofs.OfferAgrees.{close_answers}
-use Rattle.worm_region.proofs.Reaching.{replies_from, still_workable}
+use Rattle.worm_region.proofs.ReachedBySteps.{replies_from, still_workable}
 use Rattle.worm_region.proofs.region.Region.close.Goals as goal
 
 pub returns-then-not-has_node : goal.returns-then-not-has_node

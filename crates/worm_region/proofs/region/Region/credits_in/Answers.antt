@@ -2,7 +2,7 @@ use Rattle.std.proofs.Common.{◌*◌, length, subst}
 use Rattle.worm_wires.specs.Arrivals.{AreFronts, LinksView, credits_to}
 use Rattle.worm_region.specs.State.{NetState}
 use Rattle.worm_region.specs.Moves.{AreLinked, Covers, NoCredit}
-use Rattle.worm_region.proofs.Covering.{credits_cover, credits_linked}
+use Rattle.worm_region.proofs.EachCovered.{credits_cover, credits_linked}
 use Rattle.worm_region.proofs.region.Region.credits_in.Goals as goal
 
 pub returns-clause-ports : goal.returns-clause-ports

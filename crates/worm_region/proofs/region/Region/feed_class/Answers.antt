@@ -2,7 +2,7 @@ use Rattle.std.proofs.Common.{Ok, refl}
 use Rattle.worm_theory.specs.Steps.{Feed}
 use Rattle.worm_region.specs.Answers.{moved_of}
 use Rattle.worm_region.proofs.Passages.{does_quietly}
-use Rattle.worm_region.proofs.Feeding.{feed_elsewhere}
+use Rattle.worm_region.proofs.ClassesCovered.{feed_elsewhere}
 use Rattle.worm_region.proofs.region.Region.feed_class.Goals as goal
 
 pub returns-clause-fed : goal.returns-clause-fed

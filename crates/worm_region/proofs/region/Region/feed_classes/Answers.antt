@@ -2,9 +2,9 @@ use Rattle.std.proofs.Common.{◌+◌, map, refl}
 use Rattle.worm_theory.specs.Steps.{Feed}
 use Rattle.worm_region.specs.Moves.{NoFeed}
 use Rattle.worm_region.specs.Turns.{all_classes}
-use Rattle.worm_region.proofs.Covering.{class_count, covered_all, covered_more, covered_start, few_classes}
-use Rattle.worm_region.proofs.Covering.{same_classes}
-use Rattle.worm_region.proofs.Feeding.{no_feed_still}
+use Rattle.worm_region.proofs.EachCovered.{class_count, covered_all, covered_more, covered_start, few_classes}
+use Rattle.worm_region.proofs.EachCovered.{same_classes}
+use Rattle.worm_region.proofs.ClassesCovered.{no_feed_still}
 use Rattle.worm_region.proofs.region.Region.feed_classes.Goals as goal
 
 pub loop-class-init : goal.loop-class-init

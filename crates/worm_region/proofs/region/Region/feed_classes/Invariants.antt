@@ -1,7 +1,7 @@
 use Rattle.std.proofs.Common.{ℕ}
 use Rattle.worm_theory.specs.Steps.{Feed}
 use Rattle.worm_region.specs.Moves.{NoFeed}
-use Rattle.worm_region.proofs.Covering.{Covered, class_count}
+use Rattle.worm_region.proofs.EachCovered.{Covered, class_count}
 use Rattle.worm_region.proofs.region.Region.feed_classes.Given as goal
 
 abbrev pub invariant-loop-class : goal.invariant-loop-class

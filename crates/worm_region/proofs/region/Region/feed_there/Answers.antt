@@ -5,7 +5,7 @@ use Rattle.worm_region.specs.State.{NetState, shape}
 use Rattle.worm_region.specs.Workable.{IsWorkable}
 use Rattle.worm_region.specs.Answers.{moved_of}
 use Rattle.worm_region.proofs.FeedAgrees.{nth_answers, nth_fits}
-use Rattle.worm_region.proofs.Reaching.{replies_from, still_workable}
+use Rattle.worm_region.proofs.ReachedBySteps.{replies_from, still_workable}
 use Rattle.worm_region.proofs.region.Region.feed_there.Goals as goal
 
 pub feed-requires-clause-front : goal.feed-requires-clause-front

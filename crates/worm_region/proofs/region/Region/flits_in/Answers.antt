@@ -2,7 +2,7 @@ use Rattle.std.proofs.Common.{◌*◌, length, subst}
 use Rattle.worm_wires.specs.Arrivals.{AreFronts, LinksView, flits_to}
 use Rattle.worm_region.specs.State.{NetState}
 use Rattle.worm_region.specs.Moves.{AreLinked, Covers, NoFlit}
-use Rattle.worm_region.proofs.Covering.{flits_cover, flits_linked}
+use Rattle.worm_region.proofs.EachCovered.{flits_cover, flits_linked}
 use Rattle.worm_region.proofs.region.Region.flits_in.Goals as goal
 
 pub returns-clause-ports : goal.returns-clause-ports

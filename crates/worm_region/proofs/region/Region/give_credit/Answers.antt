@@ -8,7 +8,7 @@ use Rattle.worm_region.specs.Answers.{moved_of}
 use Rattle.worm_region.proofs.GiveAgrees.{gave_none}
 use Rattle.worm_region.specs.declared.node.Node.{Node}
 use Rattle.worm_region.proofs.LinkedPorts.{line_back, line_there}
-use Rattle.worm_region.proofs.Owning.{all_within}
+use Rattle.worm_region.proofs.AllOwned.{all_within}
 use Rattle.worm_region.proofs.region.Region.give_credit.Goals as goal
 use Rattle.worm_region.proofs.region.Region.give_credit.Goals.{After-owed_count, then-is_none-via-then-is_none}
 use Rattle.worm_region.proofs.region.Region.give_credit.Goals.{then-is_none-via-else-is_none+then-vc-channels}

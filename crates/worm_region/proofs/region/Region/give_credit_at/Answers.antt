@@ -1,6 +1,6 @@
-use Rattle.worm_region.proofs.Giving.{give_elsewhere}
-use Rattle.worm_region.proofs.Turning.{gives_one}
-use Rattle.worm_region.proofs.Owning.{all_within}
+use Rattle.worm_region.proofs.LowestGiven.{give_elsewhere}
+use Rattle.worm_region.proofs.TurnInParts.{gives_one}
+use Rattle.worm_region.proofs.AllOwned.{all_within}
 use Rattle.worm_region.proofs.region.Region.give_credit_at.Goals as goal
 
 pub returns-clause-given : goal.returns-clause-given

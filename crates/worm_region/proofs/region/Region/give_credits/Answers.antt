@@ -1,6 +1,6 @@
 use Rattle.std.proofs.Common.{ℕ, List, ap, arith, length}
-use Rattle.worm_region.proofs.Giving.{gave_all, gave_more, gave_past, gave_same, gave_start, owed_first}
-use Rattle.worm_region.proofs.Reaching.{whole_after}
+use Rattle.worm_region.proofs.LowestGiven.{gave_all, gave_more, gave_past, gave_same, gave_start, owed_first}
+use Rattle.worm_region.proofs.ReachedBySteps.{whole_after}
 use Rattle.worm_region.proofs.region.Region.give_credits.Goals as goal
 
 pub loop-port-init : goal.loop-port-init

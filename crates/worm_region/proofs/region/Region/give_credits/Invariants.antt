@@ -1,4 +1,4 @@
-use Rattle.worm_region.proofs.Giving.{Gave}
+use Rattle.worm_region.proofs.LowestGiven.{Gave}
 use Rattle.worm_region.proofs.region.Region.give_credits.Given as goal
 
 abbrev pub invariant-loop-port : goal.invariant-loop-port

@@ -7,7 +7,7 @@ use Rattle.worm_region.specs.Replies.{Replies}
 use Rattle.worm_region.specs.Answers.{moved_of}
 use Rattle.worm_region.specs.Workable.{IsWorkable}
 use Rattle.worm_region.proofs.GrantAgrees.{grant_answers}
-use Rattle.worm_region.proofs.Reaching.{still_workable}
+use Rattle.worm_region.proofs.ReachedBySteps.{still_workable}
 use Rattle.worm_region.proofs.region.Region.grant.Goals as goal
 use Rattle.worm_region.proofs.region.Region.grant.Goals.{After-grant, then-not-has_place-via-then-not-has_place}
 use Rattle.worm_region.proofs.region.Region.grant.Goals.{then-not-has_place-via-else-not-has_place+then-out_vc-channels}

@@ -6,8 +6,8 @@ use Rattle.worm_region.specs.State.{router_at}
 use Rattle.worm_region.specs.Prepared.{allocated_at}
 use Rattle.worm_router.specs.Allocation.{switch_grants}
 use Rattle.worm_region.proofs.Passages.{does_nothing}
-use Rattle.worm_region.proofs.Turning.{passes_all, passes_cut}
-use Rattle.worm_region.proofs.Reaching.{whole_after}
+use Rattle.worm_region.proofs.TurnInParts.{passes_all, passes_cut}
+use Rattle.worm_region.proofs.ReachedBySteps.{whole_after}
 use Rattle.worm_region.proofs.StaysAtNode.{anywhere}
 use Rattle.worm_region.proofs.region.Region.node_passes.Goals as goal
 

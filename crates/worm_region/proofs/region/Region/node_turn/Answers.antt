@@ -3,8 +3,8 @@ use Rattle.std.specs.Result.{result_err}
 use Rattle.worm_region.specs.Replies.{Attempts}
 use Rattle.worm_region.specs.Turns.{Does, AsksSourceBy, NodePassesBy}
 use Rattle.worm_region.proofs.Passages.{does_then}
-use Rattle.worm_region.proofs.Turning.{asks_none}
-use Rattle.worm_region.proofs.Reaching.{whole_after}
+use Rattle.worm_region.proofs.TurnInParts.{asks_none}
+use Rattle.worm_region.proofs.ReachedBySteps.{whole_after}
 use Rattle.worm_region.proofs.region.Region.node_turn.Goals as goal
 use Rattle.worm_region.proofs.region.Region.node_turn.Goals.{then-is_asked+in_ok-ask_source, else-is_asked}
 

@@ -4,7 +4,7 @@ use Rattle.worm_router.specs.Router.{terminal}
 use Rattle.worm_region.specs.State.{NetState, router_at}
 use Rattle.worm_region.specs.Turns.{lowest_owed}
 use Rattle.worm_region.specs.declared.node.Node.{Node}
-use Rattle.worm_region.proofs.Turning.{owed_lowest}
+use Rattle.worm_region.proofs.TurnInParts.{owed_lowest}
 use Rattle.worm_region.proofs.region.Region.owed.Goals as goal
 
 pub owed-requires : goal.owed-requires

@@ -3,7 +3,7 @@ use Rattle.worm_router.specs.Busy.{IsSetOf, owes}
 use Rattle.worm_region.specs.State.{NetState}
 use Rattle.worm_region.specs.Moves.{AreOwing}
 use Rattle.worm_region.specs.declared.node.Node.{Node}
-use Rattle.worm_region.proofs.Giving.{are_owing}
+use Rattle.worm_region.proofs.LowestGiven.{are_owing}
 use Rattle.worm_region.proofs.region.Region.owing.Goals as goal
 
 pub returns-clause-owing : goal.returns-clause-owing

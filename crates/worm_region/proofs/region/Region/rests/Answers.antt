@@ -2,7 +2,7 @@ use Rattle.std.proofs.Common.{◌≡◌, [], None, subst}
 use Rattle.std.specs.Prelude.{IsTrue}
 use Rattle.worm_router.specs.Rest.{IsAtRest}
 use Rattle.worm_wires.specs.Arrivals.{LinksView, credits_to, flits_to}
-use Rattle.worm_wires.proofs.Looking.{nothing_in, nothing_out}
+use Rattle.worm_wires.proofs.ArrivalsFound.{nothing_in, nothing_out}
 use Rattle.worm_region.specs.State.{NetState, router_at}
 use Rattle.worm_region.specs.Replies.{Attempts}
 use Rattle.worm_region.specs.Turns.{ComesInBy, NodePassesBy}

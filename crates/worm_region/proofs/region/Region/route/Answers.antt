@@ -10,7 +10,7 @@ use Rattle.worm_region.specs.Workable.{IsWorkable}
 use Rattle.worm_region.proofs.NodeWritten.{with_router_same}
 use Rattle.worm_region.proofs.PlacesThere.{net_place}
 use Rattle.worm_region.proofs.RouteAgrees.{route_answers}
-use Rattle.worm_region.proofs.Reaching.{still_workable}
+use Rattle.worm_region.proofs.ReachedBySteps.{still_workable}
 use Rattle.worm_region.proofs.region.Region.route.Goals as goal
 use Rattle.worm_region.proofs.region.Region.route.Goals.{After-route}
 

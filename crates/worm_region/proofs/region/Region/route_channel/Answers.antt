@@ -1,7 +1,7 @@
 use Rattle.std.proofs.Common.{refl}
 use Rattle.worm_theory.specs.Steps.{Route}
 use Rattle.worm_region.proofs.Passages.{does_quietly}
-use Rattle.worm_region.proofs.Routing.{route_elsewhere}
+use Rattle.worm_region.proofs.UnroutedCovered.{route_elsewhere}
 use Rattle.worm_region.proofs.region.Region.route_channel.Goals as goal
 
 pub returns-clause-routed : goal.returns-clause-routed

@@ -1,5 +1,5 @@
 use Rattle.std.proofs.Common.{◌+◌}
-use Rattle.worm_region.proofs.Routing.{routed_all, routed_more, routed_start}
+use Rattle.worm_region.proofs.UnroutedCovered.{routed_all, routed_more, routed_start}
 use Rattle.worm_region.proofs.region.Region.route_channels.Goals as goal
 
 pub loop-port-init : goal.loop-port-init

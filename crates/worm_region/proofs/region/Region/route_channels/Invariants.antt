@@ -1,5 +1,5 @@
 use Rattle.std.proofs.Common.{ℕ}
-use Rattle.worm_region.proofs.Routing.{Routed}
+use Rattle.worm_region.proofs.UnroutedCovered.{Routed}
 use Rattle.worm_region.proofs.region.Region.route_channels.Given as goal
 
 abbrev pub invariant-loop-port : goal.invariant-loop-port

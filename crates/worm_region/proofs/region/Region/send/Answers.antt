@@ -2,7 +2,7 @@ use Rattle.std.proofs.Common.{refl, subst}
 use Rattle.worm_theory.specs.Steps.{Send, IsThere}
 use Rattle.worm_region.specs.Shape.{net_shape}
 use Rattle.worm_region.specs.State.{NetState, shape}
-use Rattle.worm_region.proofs.Owning.{sends_within}
+use Rattle.worm_region.proofs.AllOwned.{sends_within}
 use Rattle.worm_region.proofs.region.Region.send.Goals as goal
 
 pub returns-then-not-has_place : goal.returns-then-not-has_place

@@ -1,10 +1,10 @@
 use Rattle.std.proofs.Common.{Some, None, arith}
 use Rattle.std.proofs.lemmas.Result.{err_from_is_err_and}
 use Rattle.worm_region.proofs.Passages.{does_nothing}
-use Rattle.worm_region.proofs.Sending.{sent_all, sent_more, sent_start, sent_there, sent_until}
-use Rattle.worm_region.proofs.Turning.{sends_all}
-use Rattle.worm_region.proofs.Owning.{sends_within}
-use Rattle.worm_region.proofs.Reaching.{whole_after}
+use Rattle.worm_region.proofs.GrantedSent.{sent_all, sent_more, sent_start, sent_there, sent_until}
+use Rattle.worm_region.proofs.TurnInParts.{sends_all}
+use Rattle.worm_region.proofs.AllOwned.{sends_within}
+use Rattle.worm_region.proofs.ReachedBySteps.{whole_after}
 use Rattle.worm_region.proofs.region.Region.send_granted.Goals as goal
 
 pub loop-port-init : goal.loop-port-init

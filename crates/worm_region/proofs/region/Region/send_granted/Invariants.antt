@@ -1,7 +1,7 @@
 use Rattle.std.proofs.Common.{List, Option}
 use Rattle.worm_swalloc.specs.declared.grant.SwGrant.{SwGrant}
 use Rattle.worm_swalloc.specs.SwAlloc.{AreGranted}
-use Rattle.worm_region.proofs.Sending.{Sent}
+use Rattle.worm_region.proofs.GrantedSent.{Sent}
 use Rattle.worm_region.proofs.region.Region.send_granted.Given as goal
 
 abbrev pub invariant-loop-port : goal.invariant-loop-port

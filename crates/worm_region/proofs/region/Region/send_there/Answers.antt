@@ -6,7 +6,7 @@ use Rattle.worm_region.specs.State.{NetState, router_at, shape}
 use Rattle.worm_region.specs.Replies.{Replies}
 use Rattle.worm_region.specs.Workable.{EndsWithin, owned}
 use Rattle.worm_region.proofs.PlacesThere.{net_place}
-use Rattle.worm_region.proofs.Reaching.{still_workable}
+use Rattle.worm_region.proofs.ReachedBySteps.{still_workable}
 use Rattle.worm_region.proofs.SendAgrees.{send_answers, send_leads}
 use Rattle.worm_region.proofs.region.Region.send_there.Goals as goal
 use Rattle.worm_region.proofs.region.Region.send_there.Goals.{After-self}

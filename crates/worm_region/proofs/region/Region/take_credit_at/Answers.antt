@@ -2,7 +2,7 @@ use Rattle.std.proofs.Common.{Ok, refl}
 use Rattle.worm_theory.specs.Steps.{TakeCredit}
 use Rattle.worm_region.specs.Answers.{moved_of}
 use Rattle.worm_region.proofs.Passages.{does_quietly}
-use Rattle.worm_region.proofs.Covering.{credit_elsewhere}
+use Rattle.worm_region.proofs.EachCovered.{credit_elsewhere}
 use Rattle.worm_region.proofs.region.Region.take_credit_at.Goals as goal
 
 pub returns-clause-taken : goal.returns-clause-taken
@@ -12,5 +12,5 @@ returns-clause-taken c =
 
 pub returns-clause-others : goal.returns-clause-others
 returns-clause-others c =
-    credit_elsewhere c.args.self.now c.take_credit_there-moved.new.self c.args.node c.args.port (Ok (moved_of c.take_credit_there-moved.result))
-    c.recall.ensures c.take_credit_there-moved.ensures
+    credit_elsewhere c.args.self.now c.take_credit_there-moved.new.self c.args.node c.args.port
+    (Ok (moved_of c.take_credit_there-moved.result)) c.recall.ensures c.take_credit_there-moved.ensures

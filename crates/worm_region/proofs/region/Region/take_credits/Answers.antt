@@ -2,9 +2,10 @@ use Rattle.std.proofs.Common.{◌+◌, map, refl}
 use Rattle.worm_theory.specs.Steps.{TakeCredit}
 use Rattle.worm_region.specs.Moves.{NoCredit}
 use Rattle.worm_region.specs.Turns.{mesh_ports}
-use Rattle.worm_region.proofs.Covering.{covered_all, covered_more, covered_start, few_ports, first_linked, linked_less}
-use Rattle.worm_region.proofs.Covering.{port_count, same_ports}
-use Rattle.worm_region.proofs.Covering.{no_credit_still}
+use Rattle.worm_region.proofs.EachCovered.{covered_all, covered_more, covered_start, few_ports, first_linked}
+use Rattle.worm_region.proofs.EachCovered.{linked_less}
+use Rattle.worm_region.proofs.EachCovered.{port_count, same_ports}
+use Rattle.worm_region.proofs.EachCovered.{no_credit_still}
 use Rattle.worm_region.proofs.region.Region.take_credits.Goals as goal
 
 pub loop-port-init : goal.loop-port-init

@@ -1,7 +1,7 @@
 use Rattle.std.proofs.Common.{ℕ}
 use Rattle.worm_theory.specs.Steps.{TakeCredit}
 use Rattle.worm_region.specs.Moves.{AreLinked, NoCredit}
-use Rattle.worm_region.proofs.Covering.{Covered, port_count}
+use Rattle.worm_region.proofs.EachCovered.{Covered, port_count}
 use Rattle.worm_region.proofs.region.Region.take_credits.Given as goal
 
 abbrev pub invariant-loop-port : goal.invariant-loop-port

@@ -8,7 +8,7 @@ use Rattle.worm_region.specs.Replies.{Replies}
 use Rattle.worm_region.specs.Answers.{moved_of}
 use Rattle.worm_region.proofs.TakeAgrees.{take_answers, front_fits}
 use Rattle.worm_region.proofs.LinkedPorts.{line_back, of_node}
-use Rattle.worm_region.proofs.Reaching.{still_workable}
+use Rattle.worm_region.proofs.ReachedBySteps.{still_workable}
 use Rattle.worm_region.proofs.region.Region.take_flit_there.Goals as goal
 use Rattle.worm_region.proofs.region.Region.take_flit_there.Goals.{After-wires}
 

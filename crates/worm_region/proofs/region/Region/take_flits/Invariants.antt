@@ -1,7 +1,7 @@
 use Rattle.std.proofs.Common.{ℕ}
 use Rattle.worm_theory.specs.Steps.{Take}
 use Rattle.worm_region.specs.Moves.{AreLinked, NoFlit}
-use Rattle.worm_region.proofs.Covering.{Covered, port_count}
+use Rattle.worm_region.proofs.EachCovered.{Covered, port_count}
 use Rattle.worm_region.proofs.region.Region.take_flits.Given as goal
 
 abbrev pub invariant-loop-port : goal.invariant-loop-port

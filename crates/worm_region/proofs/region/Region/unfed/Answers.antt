@@ -3,7 +3,7 @@ use Rattle.worm_term.specs.Source.{AreUnfed}
 use Rattle.worm_region.specs.State.{NetState}
 use Rattle.worm_region.specs.Moves.{Covers, NoFeed}
 use Rattle.worm_region.specs.declared.node.Node.{Node}
-use Rattle.worm_region.proofs.Feeding.{unfed_cover}
+use Rattle.worm_region.proofs.ClassesCovered.{unfed_cover}
 use Rattle.worm_region.proofs.region.Region.unfed.Goals as goal
 
 pub returns-clause-classes : goal.returns-clause-classes

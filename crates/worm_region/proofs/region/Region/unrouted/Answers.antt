@@ -2,7 +2,7 @@ use Rattle.std.proofs.Common.{subst}
 use Rattle.worm_region.specs.State.{NetState}
 use Rattle.worm_region.specs.Moves.{AreUnrouted, RoutesWithin}
 use Rattle.worm_region.specs.declared.node.Node.{Node}
-use Rattle.worm_region.proofs.Routing.{unrouted_within}
+use Rattle.worm_region.proofs.UnroutedCovered.{unrouted_within}
 use Rattle.worm_region.proofs.region.Region.unrouted.Goals as goal
 
 pub returns-clause-routes : goal.returns-clause-routes

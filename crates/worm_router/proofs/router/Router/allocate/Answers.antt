@@ -5,7 +5,7 @@ use Rattle.worm_router.specs.Allocation.{IsAllocated}
 use Rattle.worm_router.specs.Demand.{AreInVain}
 use Rattle.worm_router.proofs.NothingWaits.{vain_allocated}
 use Rattle.worm_router.proofs.Demanded.{in_vain, none_of_keys, pass_of, matching_of, written_is}
-use Rattle.worm_router.proofs.Granting.{IsPassed, passed_by}
+use Rattle.worm_router.proofs.GrantsHeld.{IsPassed, passed_by}
 use Rattle.worm_router.proofs.router.Router.allocate.Goals as goal
 
 pub returns-then-waits_in_vain-clause-grants : goal.returns-then-waits_in_vain-clause-grants

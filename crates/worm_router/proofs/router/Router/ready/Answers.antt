@@ -1,6 +1,6 @@
 use Rattle.std.proofs.Common.{◌≡◌, Some, sym, subst, ◌∙◌}
 use Rattle.worm_flit.specs.Stamps.{with_channel}
-use Rattle.worm_vcalloc.proofs.PassLemmas.{none_where_not_some}
+use Rattle.worm_vcalloc.proofs.PassAgrees.{none_where_not_some}
 use Rattle.worm_router.specs.Router.{IsRouter, leaving}
 use Rattle.worm_router.proofs.Kept.{input_read}
 use Rattle.worm_router.proofs.Leaving.{may_leave}

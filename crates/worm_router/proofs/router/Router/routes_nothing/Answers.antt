@@ -1,6 +1,6 @@
 use Rattle.std.proofs.Common.{◌≡◌, ◌&&◌, false, not, sym, ◌∙◌, ap, Bool}
 use Rattle.worm_vcalloc.specs.ChannelSet.{has}
-use Rattle.worm_vcalloc.proofs.SetLemmas.{has-empty}
+use Rattle.worm_vcalloc.proofs.SetMembers.{has-empty}
 use Rattle.worm_router.specs.Router.{input_at}
 use Rattle.worm_router.proofs.Resting.{routes_none}
 use Rattle.worm_router.proofs.router.Router.routes_nothing.Goals as goal

@@ -2,7 +2,7 @@ use Rattle.std.proofs.Common.{◌<◌, length, arith, sym, ap, ◌∙◌}
 use Rattle.worm_split.specs.Ends.{enters_by}
 use Rattle.worm_split.specs.PartState.{PartState, part_state}
 use Rattle.worm_split.proofs.GoesByEnd.{into_looked_up}
-use Rattle.worm_split.proofs.Pulls.{into_end_bound, linked}
+use Rattle.worm_split.proofs.EndsKnown.{into_end_bound, linked}
 use Rattle.worm_split.proofs.Staying.{comes_means}
 use Rattle.worm_split.proofs.part.Part.comes.Goals as goal
 

@@ -7,7 +7,7 @@ use Rattle.worm_split.specs.PartState.{PartState, IsPart, IsSamePart, part_state
 use Rattle.worm_split.specs.PartTurns.{ComesBy, GivesAcross}
 use Rattle.worm_split.proofs.GoesByEnd.{into_looked_up, entering_by, owner_elsewhere, may_give, gave_it, owes_still}
 use Rattle.worm_split.proofs.GoesByEnd.{giving_there}
-use Rattle.worm_split.proofs.Pulls.{into_end_bound}
+use Rattle.worm_split.proofs.EndsKnown.{into_end_bound}
 use Rattle.worm_split.proofs.part.Part.give_across.Goals as goal
 use Rattle.worm_split.proofs.part.Part.give_across.Given as given
 

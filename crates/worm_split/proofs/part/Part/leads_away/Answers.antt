@@ -2,7 +2,7 @@ use Rattle.std.proofs.Common.{◌≡◌, ℕ, ◌+◌, ◌*◌, ◌%◌, ◌<◌
 use Rattle.std.proofs.lemmas.Bool.Decides.{nat_tests}
 use Rattle.worm_mesh.specs.Address.{neighbour_of, stride_of}
 use Rattle.worm_region.specs.declared.own.Own.{Own}
-use Rattle.worm_wires.proofs.Steps.{step_from_zero}
+use Rattle.worm_wires.proofs.StepsAdd.{step_from_zero}
 use Rattle.worm_split.specs.PartState.{PartState}
 use Rattle.worm_split.proofs.part.Part.leads_away.Goals as goal
 

@@ -2,7 +2,7 @@ use Rattle.std.proofs.Common.{◌<◌, length, arith, sym, ap, ◌∙◌}
 use Rattle.worm_split.specs.Ends.{leaves_by}
 use Rattle.worm_split.specs.PartState.{PartState, part_state, end_of}
 use Rattle.worm_split.proofs.GoesByEnd.{out_looked_up}
-use Rattle.worm_split.proofs.Pulls.{out_end_bound}
+use Rattle.worm_split.proofs.EndsKnown.{out_end_bound}
 use Rattle.worm_split.proofs.Staying.{leaves_means}
 use Rattle.worm_split.proofs.part.Part.leaves.Goals as goal
 

@@ -5,7 +5,7 @@ use Rattle.worm_region.specs.Prepared.{allocated_at}
 use Rattle.worm_region.specs.State.{router_at}
 use Rattle.worm_split.specs.PartState.{PartState}
 use Rattle.worm_split.specs.PartTurns.{◌then◌, GivesCredits, NodePasses, SendsGranted}
-use Rattle.worm_split.proofs.Granting.{prepared, sent_chosen}
+use Rattle.worm_split.proofs.GrantsSent.{prepared, sent_chosen}
 use Rattle.worm_split.proofs.part.Part.node_passes.Goals as goal
 
 pub send_granted-requires-clause-granted : goal.send_granted-requires-clause-granted

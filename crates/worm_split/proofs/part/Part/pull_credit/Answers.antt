@@ -7,7 +7,7 @@ use Rattle.worm_split.specs.Apart.{IsKept}
 use Rattle.worm_split.specs.PartState.{PartState, IsPart, IsSamePart, part_state}
 use Rattle.worm_split.specs.PartTurns.{CreditComes}
 use Rattle.worm_split.proofs.ComesByEnd.{CreditInHand, credit_taken, credit_put, back_is_some}
-use Rattle.worm_split.proofs.Pulls.{out_end_bound, beyond_in}
+use Rattle.worm_split.proofs.EndsKnown.{out_end_bound, beyond_in}
 use Rattle.worm_split.proofs.part.Part.pull_credit.Goals as goal
 
 pub has_credits-requires-clause-node : goal.has_credits-requires-clause-node

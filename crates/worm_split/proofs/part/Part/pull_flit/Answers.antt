@@ -7,7 +7,7 @@ use Rattle.worm_split.specs.Apart.{IsKept}
 use Rattle.worm_split.specs.PartState.{PartState, IsPart, IsSamePart, part_state}
 use Rattle.worm_split.specs.PartTurns.{FlitComes}
 use Rattle.worm_split.proofs.ComesByEnd.{FlitInHand, flit_off, flit_put, back_is_some}
-use Rattle.worm_split.proofs.Pulls.{into_end_bound}
+use Rattle.worm_split.proofs.EndsKnown.{into_end_bound}
 use Rattle.worm_split.proofs.part.Part.pull_flit.Goals as goal
 
 pub has_flits-requires : goal.has_flits-requires

@@ -4,7 +4,7 @@ use Rattle.worm_region.specs.Owned.{owned_by}
 use Rattle.worm_region.specs.Workable.{IsWorkable}
 use Rattle.worm_region.specs.declared.own.Own.{Own}
 use Rattle.worm_split.specs.PartState.{PartState}
-use Rattle.worm_split.proofs.Granting.{sent_start, sent_there, sent_more, sent_until, sent_all}
+use Rattle.worm_split.proofs.GrantsSent.{sent_start, sent_there, sent_more, sent_until, sent_all}
 use Rattle.worm_split.proofs.PartLoops.{same_on}
 use Rattle.worm_split.proofs.part.Part.send_granted.Goals as goal
 

@@ -1,7 +1,7 @@
 use Rattle.std.proofs.Common.{List, Option}
 use Rattle.worm_swalloc.specs.declared.grant.SwGrant.{SwGrant}
 use Rattle.worm_swalloc.specs.SwAlloc.{AreGranted}
-use Rattle.worm_split.proofs.Granting.{Sent}
+use Rattle.worm_split.proofs.GrantsSent.{Sent}
 use Rattle.worm_split.proofs.part.Part.send_granted.Given as goal
 
 abbrev pub invariant-loop-port : goal.invariant-loop-port

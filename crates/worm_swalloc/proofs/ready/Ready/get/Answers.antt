@@ -1,5 +1,5 @@
 use Rattle.std.proofs.Common.{◌∙◌}
-use Rattle.worm_swalloc.proofs.ReadyLemmas.{cell_is_out}
+use Rattle.worm_swalloc.proofs.ReadyCells.{cell_is_out}
 use Rattle.worm_swalloc.proofs.ready.Ready.get.Goals as goal
 
 pub returns : goal.returns

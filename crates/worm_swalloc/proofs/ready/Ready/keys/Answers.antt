@@ -1,4 +1,4 @@
-use Rattle.worm_swalloc.proofs.ReadyLemmas.{keys_are}
+use Rattle.worm_swalloc.proofs.ReadyCells.{keys_are}
 use Rattle.worm_swalloc.proofs.ready.Ready.keys.Goals as goal
 
 pub returns : goal.returns

@@ -1,8 +1,8 @@
 use Rattle.std.proofs.Common.{◌≡◌, ◌<◌, ℕ, arith, ◌∙◌, Some, None, slice_index_or, slice_set, ap}
 use Rattle.worm_vcalloc.specs.Arbiter.{line_requests, no_arbiter, after_pick}
 use Rattle.worm_swalloc.specs.SwAlloc.{SwAllocState, is_for, channel_of}
-use Rattle.worm_swalloc.proofs.SwLemmas.{choice_is}
-use Rattle.worm_swalloc.proofs.ChoiceLemmas.{chosen_asks}
+use Rattle.worm_swalloc.proofs.SwitchPass.{choice_is}
+use Rattle.worm_swalloc.proofs.ChoicesByPort.{chosen_asks}
 use Rattle.worm_swalloc.proofs.sw_alloc.SwAlloc.choose_for.Goals as goal
 
 pub returns-in-Some-clause-grants : goal.returns-in-Some-clause-grants

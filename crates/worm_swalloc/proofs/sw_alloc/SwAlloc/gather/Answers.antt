@@ -1,5 +1,5 @@
 use Rattle.worm_swalloc.specs.SwAlloc.{SwAllocState}
-use Rattle.worm_swalloc.proofs.SwLemmas.{AskedBelow, asked_start, asked_more, asked_all, not_asked}
+use Rattle.worm_swalloc.proofs.SwitchPass.{AskedBelow, asked_start, asked_more, asked_all, not_asked}
 use Rattle.worm_swalloc.proofs.sw_alloc.SwAlloc.gather.Goals as goal
 
 pub loop-port-init : goal.loop-port-init

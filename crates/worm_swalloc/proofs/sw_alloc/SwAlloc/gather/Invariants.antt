@@ -1,4 +1,4 @@
-use Rattle.worm_swalloc.proofs.SwLemmas.{AskedBelow}
+use Rattle.worm_swalloc.proofs.SwitchPass.{AskedBelow}
 use Rattle.worm_swalloc.proofs.sw_alloc.SwAlloc.gather.Given as goal
 
 abbrev pub invariant-loop-port : goal.invariant-loop-port

@@ -1,12 +1,12 @@
 use Rattle.std.proofs.Common.{◌≡◌, ℕ, ◌<◌, sym, ◌∙◌, ap, subst, None, replicate, arith}
 use Rattle.worm_vcalloc.specs.Table.{cell}
-use Rattle.worm_vcalloc.proofs.PassLemmas.{none_where_not_some}
-use Rattle.worm_vcalloc.proofs.SetLemmas.{has-empty}
+use Rattle.worm_vcalloc.proofs.PassAgrees.{none_where_not_some}
+use Rattle.worm_vcalloc.proofs.SetMembers.{has-empty}
 use Rattle.worm_swalloc.specs.Front.{with_front}
 use Rattle.worm_swalloc.specs.SwAlloc.{SwAllocState, IsSwAlloc, sw_grants, IsSwitchMatching, granted, all_named}
 use Rattle.worm_swalloc.specs.SwAlloc.{sole_named}
-use Rattle.worm_swalloc.proofs.SwLemmas.{matching, sw_grants_none, sw_after_none, named_within, pass_is}
-use Rattle.worm_swalloc.proofs.SoleLemmas.{sole_is_all, sole_within}
+use Rattle.worm_swalloc.proofs.SwitchPass.{matching, sw_grants_none, sw_after_none, named_within, pass_is}
+use Rattle.worm_swalloc.proofs.SoleIsGranted.{sole_is_all, sole_within}
 use Rattle.worm_swalloc.proofs.sw_alloc.SwAlloc.grant.Goals as goal
 
 -- where no channel is ready

@@ -1,6 +1,6 @@
 use Rattle.std.proofs.Common.{arith}
 use Rattle.worm_swalloc.specs.SwAlloc.{SwAllocState}
-use Rattle.worm_swalloc.proofs.ChoiceLemmas.{ChoosingBelow, choosing_start, choosing_more, choosing_all, not_granted}
+use Rattle.worm_swalloc.proofs.ChoicesByPort.{ChoosingBelow, choosing_start, choosing_more, choosing_all, not_granted}
 use Rattle.worm_swalloc.proofs.sw_alloc.SwAlloc.grant_named.Goals as goal
 
 pub loop-out-init : goal.loop-out-init

@@ -1,9 +1,9 @@
 use Rattle.std.proofs.Common.{◌<◌, arith, ◌∙◌, ap, refl, Some, slice_index_or, slice_set}
 use Rattle.worm_vcalloc.specs.Arbiter.{ArbiterState, no_arbiter, after_pick}
 use Rattle.worm_swalloc.specs.SwAlloc.{SwAllocState, sole_named}
-use Rattle.worm_swalloc.proofs.ChoiceLemmas.{ChosenBelow}
-use Rattle.worm_swalloc.proofs.SwLemmas.{moved_is}
-use Rattle.worm_swalloc.proofs.SoleLemmas.{asks_none, asks_past, sole_none, sole_granted}
+use Rattle.worm_swalloc.proofs.ChoicesByPort.{ChosenBelow}
+use Rattle.worm_swalloc.proofs.SwitchPass.{moved_is}
+use Rattle.worm_swalloc.proofs.SoleIsGranted.{asks_none, asks_past, sole_none, sole_granted}
 use Rattle.worm_swalloc.proofs.sw_alloc.SwAlloc.grant_sole.Goals as goal
 use Rattle.worm_swalloc.proofs.sw_alloc.SwAlloc.grant_sole.Goals.{After-new-grants}
 

@@ -1,6 +1,6 @@
 use Rattle.std.proofs.Common.{◌≡◌, ◌<◌, ◌∙◌, arith, ap, Some, None, slice_index_or, rules, []}
 use Rattle.worm_swalloc.specs.SwAlloc.{SwAllocState, request_of}
-use Rattle.worm_swalloc.proofs.SwLemmas.{named_is}
+use Rattle.worm_swalloc.proofs.SwitchPass.{named_is}
 use Rattle.worm_swalloc.proofs.sw_alloc.SwAlloc.request.Goals as goal
 
 pub returns-in_err-vc : goal.returns-in_err-vc

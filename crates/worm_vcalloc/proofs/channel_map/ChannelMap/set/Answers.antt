@@ -1,6 +1,6 @@
 use Rattle.std.proofs.Common.{is_some}
-use Rattle.worm_vcalloc.proofs.PlaceLemmas.{places_put}
-use Rattle.worm_vcalloc.proofs.TableLemmas.{IsTable-with_cell}
+use Rattle.worm_vcalloc.proofs.PlacesPassing.{places_put}
+use Rattle.worm_vcalloc.proofs.TableCells.{IsTable-with_cell}
 use Rattle.worm_vcalloc.proofs.channel_map.ChannelMap.set.Goals as goal
 
 pub invariant_of-self : goal.invariant_of-self

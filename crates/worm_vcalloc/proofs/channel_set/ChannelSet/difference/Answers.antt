@@ -1,5 +1,5 @@
 use Rattle.std.proofs.Common.{arith}
-use Rattle.worm_vcalloc.proofs.SetLemmas.{has_first_alone}
+use Rattle.worm_vcalloc.proofs.SetMembers.{has_first_alone}
 use Rattle.worm_vcalloc.proofs.channel_set.ChannelSet.difference.Goals as goal
 
 pub returns : goal.returns

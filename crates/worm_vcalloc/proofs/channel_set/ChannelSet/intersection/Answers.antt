@@ -1,4 +1,4 @@
-use Rattle.worm_vcalloc.proofs.SetLemmas.{has_both}
+use Rattle.worm_vcalloc.proofs.SetMembers.{has_both}
 use Rattle.worm_vcalloc.proofs.channel_set.ChannelSet.intersection.Goals as goal
 
 pub returns : goal.returns

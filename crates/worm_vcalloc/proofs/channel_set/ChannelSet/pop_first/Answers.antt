@@ -1,5 +1,5 @@
 use Rattle.std.proofs.Common.{arith}
-use Rattle.worm_vcalloc.proofs.SetLemmas.{first_taken}
+use Rattle.worm_vcalloc.proofs.SetMembers.{first_taken}
 use Rattle.worm_vcalloc.proofs.channel_set.ChannelSet.pop_first.Goals as goal
 
 pub returns : goal.returns

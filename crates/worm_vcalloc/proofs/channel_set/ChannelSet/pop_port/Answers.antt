@@ -1,5 +1,5 @@
 use Rattle.std.proofs.Common.{arith}
-use Rattle.worm_vcalloc.proofs.SetLemmas.{port_taken}
+use Rattle.worm_vcalloc.proofs.SetMembers.{port_taken}
 use Rattle.worm_vcalloc.proofs.channel_set.ChannelSet.pop_port.Goals as goal
 
 pub returns : goal.returns

@@ -1,6 +1,6 @@
 use Rattle.std.proofs.Common.{sym, subst, ◌+◌, ◌*◌, ◌<◌, ◌^◌}
 use Rattle.worm_vcalloc.specs.ChannelSet.{IsPut}
-use Rattle.worm_vcalloc.proofs.SetLemmas.{put_as, written}
+use Rattle.worm_vcalloc.proofs.SetMembers.{put_as, written}
 use Rattle.worm_vcalloc.proofs.channel_set.ChannelSet.put.Goals as goal
 
 pub invariant_of-self : goal.invariant_of-self

@@ -1,4 +1,4 @@
-use Rattle.worm_vcalloc.proofs.SetLemmas.{row_lines}
+use Rattle.worm_vcalloc.proofs.SetMembers.{row_lines}
 use Rattle.worm_vcalloc.proofs.channel_set.ChannelSet.row.Goals as goal
 
 pub returns-clause-lines : goal.returns-clause-lines

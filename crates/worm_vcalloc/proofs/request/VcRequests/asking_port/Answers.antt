@@ -1,5 +1,5 @@
 use Rattle.worm_vcalloc.specs.VcRequest.{is_for}
-use Rattle.worm_vcalloc.proofs.FiledLemmas.{has-filed}
+use Rattle.worm_vcalloc.proofs.RequestsFiled.{has-filed}
 use Rattle.worm_vcalloc.proofs.request.VcRequests.asking_port.Goals as goal
 
 pub returns : goal.returns

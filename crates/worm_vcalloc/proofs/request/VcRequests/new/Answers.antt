@@ -1,4 +1,4 @@
-use Rattle.worm_vcalloc.proofs.FiledLemmas.{filed_none}
+use Rattle.worm_vcalloc.proofs.RequestsFiled.{filed_none}
 use Rattle.worm_vcalloc.proofs.request.VcRequests.new.Goals as goal
 
 pub invariant_of-result : goal.invariant_of-result

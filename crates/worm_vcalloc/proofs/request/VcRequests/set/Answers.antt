@@ -1,5 +1,5 @@
 use Rattle.std.proofs.Common.{arith}
-use Rattle.worm_vcalloc.proofs.FiledLemmas.{filed_set}
+use Rattle.worm_vcalloc.proofs.RequestsFiled.{filed_set}
 use Rattle.worm_vcalloc.proofs.request.VcRequests.set.Goals as goal
 
 pub invariant_of-self : goal.invariant_of-self

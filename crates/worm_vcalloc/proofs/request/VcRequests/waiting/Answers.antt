@@ -1,6 +1,6 @@
 use Rattle.std.proofs.Common.{is_some, ap, ◌∙◌}
 use Rattle.worm_vcalloc.specs.ChannelSet.{has}
-use Rattle.worm_vcalloc.proofs.PlaceLemmas.{has-places}
+use Rattle.worm_vcalloc.proofs.PlacesPassing.{has-places}
 use Rattle.worm_vcalloc.proofs.request.VcRequests.waiting.Goals as goal
 
 pub returns : goal.returns

@@ -2,9 +2,9 @@ use Rattle.std.proofs.Common.{◌≡◌, arith, sym, ◌∙◌, ap, fold, None, 
 use Rattle.std.specs.List.{range_with_len}
 use Rattle.worm_vcalloc.specs.Table.{cell}
 use Rattle.worm_vcalloc.specs.VcAlloc.{VcPass, VcAllocState, port_pass, vc_pass}
-use Rattle.worm_vcalloc.proofs.PassLemmas.{port_passed, vc_pass_unasked, none_where_not_some}
-use Rattle.worm_vcalloc.proofs.MatchingLemmas.{matching_of}
-use Rattle.worm_vcalloc.proofs.SetLemmas.{has-empty}
+use Rattle.worm_vcalloc.proofs.PassAgrees.{port_passed, vc_pass_unasked, none_where_not_some}
+use Rattle.worm_vcalloc.proofs.PassMatches.{matching_of}
+use Rattle.worm_vcalloc.proofs.SetMembers.{has-empty}
 use Rattle.worm_vcalloc.proofs.vc_alloc.VcAlloc.grant.Goals as goal
 
 pub returns-then-is_empty-clause-pass : goal.returns-then-is_empty-clause-pass

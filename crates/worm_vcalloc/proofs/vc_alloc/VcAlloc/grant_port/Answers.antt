@@ -1,8 +1,8 @@
 use Rattle.std.proofs.Common.{◌≡◌, ◌<◌, arith, sym, ◌∙◌, ap, fold}
 use Rattle.std.specs.List.{range_with_len}
 use Rattle.worm_vcalloc.specs.VcAlloc.{VcAllocState, VcPass, port_pass, vc_step}
-use Rattle.worm_vcalloc.proofs.PassLemmas.{channel_offered, channel_passed, port_pass_unasked}
-use Rattle.worm_vcalloc.proofs.SetLemmas.{has-empty}
+use Rattle.worm_vcalloc.proofs.PassAgrees.{channel_offered, channel_passed, port_pass_unasked}
+use Rattle.worm_vcalloc.proofs.SetMembers.{has-empty}
 use Rattle.worm_vcalloc.proofs.vc_alloc.VcAlloc.grant_port.Goals as goal
 use Rattle.worm_vcalloc.proofs.vc_alloc.VcAlloc.grant_port.Goals.{then-free-out, else-free-out}
 

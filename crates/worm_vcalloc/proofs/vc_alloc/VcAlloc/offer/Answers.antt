@@ -3,7 +3,7 @@ use Rattle.std.proofs.lemmas.List.{get_or_default}
 use Rattle.worm_vcalloc.specs.Arbiter.{ArbiterState, line_requests, no_arbiter}
 use Rattle.worm_vcalloc.specs.Table.{cell, with_cell}
 use Rattle.worm_vcalloc.specs.VcAlloc.{VcAllocState, is_requester, with_grant}
-use Rattle.worm_vcalloc.proofs.PassLemmas.{offer_is}
+use Rattle.worm_vcalloc.proofs.PassAgrees.{offer_is}
 use Rattle.worm_vcalloc.proofs.vc_alloc.VcAlloc.offer.Goals as goal
 use Rattle.worm_vcalloc.proofs.vc_alloc.VcAlloc.offer.Goals.{in-Some, in_default}
 

@@ -1,7 +1,7 @@
 use Rattle.std.proofs.Common.{◌≡◌, ◌<◌, false, None, refl, sym, ◌∙◌, arith}
 use Rattle.worm_vcalloc.specs.Table.{cell}
 use Rattle.worm_vcalloc.specs.VcRequest.{allows}
-use Rattle.worm_vcalloc.proofs.GatherLemmas.{gather_start, gather_more, gather_other, gather_all}
+use Rattle.worm_vcalloc.proofs.RequestersGathered.{gather_start, gather_more, gather_other, gather_all}
 use Rattle.worm_vcalloc.proofs.vc_alloc.VcAlloc.requests_for.Goals as goal
 use Rattle.worm_vcalloc.proofs.vc_alloc.VcAlloc.requests_for.Goals.{else-port-ports-via-then-port-ports+then-vc-channels+else-takes}
 use Rattle.worm_vcalloc.proofs.vc_alloc.VcAlloc.requests_for.Goals.{else-port-ports-via-then-port-ports+else-vc-channels}

@@ -1,4 +1,4 @@
-use Rattle.worm_vcalloc.proofs.GatherLemmas.{AreGathered}
+use Rattle.worm_vcalloc.proofs.RequestersGathered.{AreGathered}
 use Rattle.worm_vcalloc.proofs.vc_alloc.VcAlloc.requests_for.Given as goal
 
 abbrev pub invariant-loop-port : goal.invariant-loop-port

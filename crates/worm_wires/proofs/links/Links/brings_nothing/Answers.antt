@@ -1,7 +1,7 @@
 use Rattle.std.proofs.Common.{◌≡◌, ℕ, ◌*◌, ◌≤◌, [], length, get_or, arith, rules, subst, sym, ◌∙◌}
 use Rattle.worm_wires.specs.Arrivals.{LinksView, flits_to, credits_to}
 use Rattle.worm_wires.specs.declared.links.Arrivals.{Arrivals}
-use Rattle.worm_wires.proofs.Looking.{come_by, credits_past, entry_at, flits_past, none_come, true_of}
+use Rattle.worm_wires.proofs.ArrivalsFound.{come_by, credits_past, entry_at, flits_past, none_come, true_of}
 use Rattle.worm_wires.proofs.links.Links.brings_nothing.Goals as goal
 
 pub returns-then-is_empty-clause-flits : goal.returns-then-is_empty-clause-flits

@@ -1,7 +1,7 @@
 use Rattle.std.proofs.Common.{get_or, arith, subst}
 use Rattle.worm_wires.specs.Arrivals.{AreFronts, LinksView, credits_to}
 use Rattle.worm_wires.specs.declared.links.Arrivals.{Arrivals}
-use Rattle.worm_wires.proofs.Looking.{entry_at}
+use Rattle.worm_wires.proofs.ArrivalsFound.{entry_at}
 use Rattle.worm_wires.proofs.links.Links.credits_in.Goals as goal
 
 pub returns : goal.returns

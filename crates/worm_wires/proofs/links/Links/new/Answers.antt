@@ -1,7 +1,7 @@
 use Rattle.std.proofs.Common.{arith, length-set, subst, List}
 use Rattle.worm_wires.specs.Links.{LinkView}
 use Rattle.worm_wires.specs.Arrivals.{AreArrivals}
-use Rattle.worm_wires.proofs.Arriving.{nodes_more}
+use Rattle.worm_wires.proofs.ArrivalsKept.{nodes_more}
 use Rattle.worm_wires.proofs.links.Links.new.Goals as goal
 
 pub loop-node-preserved : goal.loop-node-preserved

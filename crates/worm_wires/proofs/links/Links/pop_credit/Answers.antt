@@ -2,7 +2,7 @@ use Rattle.std.proofs.Common.{◌≡◌, ◌<◌, Bool, Option, ℕ, length, get
 use Rattle.std.specs.Prelude.{is_some}
 use Rattle.worm_wires.specs.Links.{LinkView}
 use Rattle.worm_flit.specs.SmallSet.{IsPut}
-use Rattle.worm_wires.proofs.Arriving.{credits_written, out_port, link_there, links_within, radices_within}
+use Rattle.worm_wires.proofs.ArrivalsKept.{credits_written, out_port, link_there, links_within, radices_within}
 use Rattle.worm_wires.proofs.Wired.{port_within, ports_within}
 use Rattle.worm_wires.proofs.links.Links.pop_credit.Goals as goal
 use Rattle.worm_wires.proofs.links.Links.pop_credit.Goals.{After-from}
@@ -34,7 +34,8 @@ invariant_of-self c =
     credits_written mesh states c.self.inside.arrivals c.self.invariant all
     (radices_within mesh states c.args.self.now c.self.view_is c.requires.mesh) c.from.result c.args.node c.args.port
     c.from-2.result c.from-2.result c.put.new.self c.index-self-from.result c.index_mut-link.result.now
-    c.pop_credit.new.self (there (goal.at.invariant_of-self c).After-from) c.index_mut-link.ensures.value (omega arith) c.from-2.ensures c.from-2.ensures
+    c.pop_credit.new.self (there (goal.at.invariant_of-self c).After-from) c.index_mut-link.ensures.value (omega arith)
+    c.from-2.ensures c.from-2.ensures
     (out_port mesh c.args.node c.args.port c.from.result c.args.links linked c.from.ensures)
     (ap (λ (s : LinkView). s.flits) c.pop_credit.ensures)
     (subst (λ (b : Bool).

@@ -2,7 +2,7 @@ use Rattle.std.proofs.Common.{◌≡◌, ◌<◌, Bool, length, get_or, ap, subs
 use Rattle.worm_wires.specs.Arrivals.{has_front}
 use Rattle.worm_wires.specs.Links.{LinkView}
 use Rattle.worm_flit.specs.SmallSet.{IsPut}
-use Rattle.worm_wires.proofs.Arriving.{flits_written, into_entered, more_than_none}
+use Rattle.worm_wires.proofs.ArrivalsKept.{flits_written, into_entered, more_than_none}
 use Rattle.worm_wires.proofs.links.Links.push.Goals as goal
 
 pub invariant_of-self : goal.invariant_of-self

@@ -2,8 +2,8 @@ use Rattle.std.proofs.Common.{◌≡◌, Bool, length, get_or, ap, subst, sym, �
 use Rattle.worm_wires.specs.Arrivals.{has_front}
 use Rattle.worm_wires.specs.Links.{LinkView}
 use Rattle.worm_flit.specs.SmallSet.{IsPut}
-use Rattle.worm_wires.proofs.Arriving.{credits_written, link_there, links_within, more_than_none, out_entered}
-use Rattle.worm_wires.proofs.Arriving.{radices_within}
+use Rattle.worm_wires.proofs.ArrivalsKept.{credits_written, link_there, links_within, more_than_none, out_entered}
+use Rattle.worm_wires.proofs.ArrivalsKept.{radices_within}
 use Rattle.worm_wires.proofs.Wired.{entered_within, ports_within}
 use Rattle.worm_wires.proofs.links.Links.push_credit.Goals as goal
 

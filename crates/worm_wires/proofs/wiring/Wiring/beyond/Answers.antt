@@ -1,6 +1,6 @@
 use Rattle.std.proofs.Common.{ℕ, Some, ◌+◌, ◌%◌, get_or, ap, arith, subst, ◌∙◌}
 use Rattle.worm_mesh.specs.Address.{AreRadices}
-use Rattle.worm_wires.proofs.Steps.{stepped}
+use Rattle.worm_wires.proofs.StepsAdd.{stepped}
 use Rattle.worm_wires.proofs.wiring.Wiring.beyond.Goals as goal
 
 pub returns : goal.returns

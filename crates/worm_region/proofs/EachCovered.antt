@@ -16,8 +16,9 @@ use Rattle.worm_flit.proofs.SmallSets.{has_none}
 use Rattle.worm_wires.specs.Wiring.{into_from}
 use Rattle.worm_wires.proofs.Apart.{in_once, into_is, out_is, out_once}
 use Rattle.worm_wires.specs.Arrivals.{AreFronts, credits_to, flits_to}
-use Rattle.worm_wires.proofs.Looking.{credits_past, flits_past, is_below, lacks, linked_in, linked_out, nothing_in}
-use Rattle.worm_wires.proofs.Looking.{nothing_out}
+use Rattle.worm_wires.proofs.ArrivalsFound.{credits_past, flits_past, is_below, lacks, linked_in, linked_out}
+use Rattle.worm_wires.proofs.ArrivalsFound.{nothing_in}
+use Rattle.worm_wires.proofs.ArrivalsFound.{nothing_out}
 use Rattle.worm_region.specs.Shape.{net_shape}
 use Rattle.worm_region.specs.State.{IsSameConfig, NetState, link_at, with_link}
 use Rattle.worm_region.specs.Moves.{AreLinked, Covers, NoCredit, NoFlit, after_getting, after_take, front_credit}

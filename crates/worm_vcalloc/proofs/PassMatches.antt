@@ -11,11 +11,11 @@ use Rattle.worm_vcalloc.specs.Table.{cell, with_cell, IsTable}
 use Rattle.worm_vcalloc.specs.VcRequest.{may_use, is_for}
 use Rattle.worm_vcalloc.specs.VcAlloc.{VcAllocState, VcPass, IsVcAlloc, HasWon, IsChannelMatching, with_grant}
 use Rattle.worm_vcalloc.specs.VcAlloc.{is_requester, vc_winner, offered, vc_step, port_pass, vc_pass}
-use Rattle.worm_vcalloc.proofs.TableLemmas.{IsTable-replicate, IsTable-with_cell, cell-with_cell_same}
-use Rattle.worm_vcalloc.proofs.TableLemmas.{cell-with_cell_other, cell-with_cell_keeps, cell-replicate}
-use Rattle.worm_vcalloc.proofs.ArbiterLemmas.{winner_requests, winner_none_requests}
-use Rattle.worm_vcalloc.proofs.LineLemmas.{at_line, line_within, line_port}
-use Rattle.worm_vcalloc.proofs.PassLemmas.{fold-range_next}
+use Rattle.worm_vcalloc.proofs.TableCells.{IsTable-replicate, IsTable-with_cell, cell-with_cell_same}
+use Rattle.worm_vcalloc.proofs.TableCells.{cell-with_cell_other, cell-with_cell_keeps, cell-replicate}
+use Rattle.worm_vcalloc.proofs.Winner.{winner_requests, winner_none_requests}
+use Rattle.worm_vcalloc.proofs.LineByLine.{at_line, line_within, line_port}
+use Rattle.worm_vcalloc.proofs.PassAgrees.{fold-range_next}
 
 -- ---- one step
 

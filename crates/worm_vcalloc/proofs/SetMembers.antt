@@ -14,7 +14,7 @@ use Rattle.std.proofs.Math.Pow.{pow_mono, shl_lt}
 use Rattle.worm_vcalloc.specs.Arbiter.{line_requests}
 use Rattle.worm_vcalloc.specs.ChannelSet.{has, IsPut, IsFirst, IsFirstPort}
 use Rattle.worm_flit.proofs.LowestBit.{lowest_cleared}
-use Rattle.worm_vcalloc.proofs.LineLemmas.{shifted_low, shifted_high}
+use Rattle.worm_vcalloc.proofs.LineByLine.{shifted_low, shifted_high}
 
 -- ---- tests of bits
 

@@ -6,16 +6,16 @@ use Rattle.std.proofs.lemmas.Bool.{cases_eq, cases_lt, lt-ltb, le-ltb, eqb-true,
 use Rattle.std.proofs.lemmas.List.{length-set, ext_get_or}
 use Rattle.worm_vcalloc.specs.ChannelSet.{has, IsFirstPort}
 use Rattle.worm_vcalloc.specs.Arbiter.{ArbiterState, no_arbiter, winner, after_pick, line_requests}
-use Rattle.worm_vcalloc.proofs.ArbiterLemmas.{winner_none, winner_requests}
+use Rattle.worm_vcalloc.proofs.Winner.{winner_none, winner_requests}
 use Rattle.worm_swalloc.specs.declared.grant.SwGrant.{SwGrant}
 use Rattle.worm_swalloc.specs.Front.{with_front}
 use Rattle.worm_swalloc.specs.SwAlloc.{SwAllocState, IsSwAlloc, AreAskers, is_for, chosen, with_choice, is_line}
 use Rattle.worm_swalloc.specs.SwAlloc.{if_chosen, granted, output_after, channel_of, with_move, after_grant}
-use Rattle.worm_swalloc.proofs.FrontLemmas.{with_front_zero, slice_set-with_front, with_front_more, length-with_front}
-use Rattle.worm_swalloc.proofs.FrontLemmas.{slice_index_or-with_front_below, slice_index_or-with_front_past}
-use Rattle.worm_swalloc.proofs.FrontLemmas.{with_front_same, with_front_kept}
-use Rattle.worm_swalloc.proofs.WalkLemmas.{IsWalked, walked_start, walked_from, walked_over, walked_more, walked_all}
-use Rattle.worm_swalloc.proofs.SwLemmas.{get_or-replicate_same, chosen_is}
+use Rattle.worm_swalloc.proofs.FrontGiven.{with_front_zero, slice_set-with_front, with_front_more, length-with_front}
+use Rattle.worm_swalloc.proofs.FrontGiven.{slice_index_or-with_front_below, slice_index_or-with_front_past}
+use Rattle.worm_swalloc.proofs.FrontGiven.{with_front_same, with_front_kept}
+use Rattle.worm_swalloc.proofs.PortsWalked.{IsWalked, walked_start, walked_from, walked_over, walked_more, walked_all}
+use Rattle.worm_swalloc.proofs.SwitchPass.{get_or-replicate_same, chosen_is}
 
 -- the output ports below n have chosen, and the input ports that they chose have moved
 pub record ChosenBelow (s : SwAllocState) (requests : List (Option SwGrant)) (n : ℕ) (now : SwAllocState)

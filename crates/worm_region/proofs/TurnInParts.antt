@@ -24,7 +24,7 @@ use Rattle.worm_script.specs.declared.script.Entry.{Entry}
 use Rattle.worm_region.specs.declared.step.Moved.{Moved}
 use Rattle.worm_region.specs.declared.fault.StepFault.{StepFault}
 use Rattle.worm_theory.proofs.Places.{number_cases}
-use Rattle.worm_region.proofs.Reaching.{joined}
+use Rattle.worm_region.proofs.ReachedBySteps.{joined}
 use Rattle.worm_region.proofs.StaysAtNode.{asks_at}
 use Rattle.worm_region.proofs.Passages.{each_flat, does_quietly, does_try, does_more, does_nothing, does_passing}
 use Rattle.worm_region.proofs.Passages.{does_failing, does_part}

@@ -10,7 +10,7 @@ use Rattle.worm_route.specs.Places.{Place, Source, Buffer, Link, places_along, p
 use Rattle.worm_route.specs.Places.{ArePlaces}
 use Rattle.worm_route.proofs.Track.{IsWay, IsWay-route, EndsIn, BeginsWith, IsChain-places, IsDistinct-places}
 use Rattle.worm_route.proofs.Track.{length-places_along, link_not_in}
-use Rattle.worm_route.proofs.DistinctLemmas.{apart_within}
+use Rattle.worm_route.proofs.NothingTwice.{apart_within}
 
 -- in a chain what stands before a place is where its flits move to
 chain_before : (ks : List ℕ) (s t : ℕ) (front back : List Place) (b : Place) → IsChain ks s t (front ++ b ∷ back)

@@ -22,7 +22,7 @@ use Rattle.worm_region.specs.declared.step.Moved.{Moved}
 use Rattle.worm_region.specs.declared.step.Moved.TheVariants.{Done, Idle}
 use Rattle.worm_region.specs.declared.fault.StepFault.{StepFault}
 use Rattle.worm_region.specs.declared.fault.StepFault.TheVariants.{NoSuchPlace, Refused, NoMemory}
-use Rattle.worm_region.proofs.Covering.{class_count}
+use Rattle.worm_region.proofs.EachCovered.{class_count}
 use Rattle.worm_region.proofs.Resting.{feed_still}
 
 -- what is fed of one class is not of another, nor was it

@@ -53,46 +53,6 @@ pub shifted_high : (row n i : ℕ) → n ≤ i → bit_at (row * 2 ^ n) i ≡ bi
 shifted_high row n i above = let some = pow_pos n in
     ap (λ m. bit_at m i) (omega arith) ∙ bit_at_cat_high row n 0 i (omega arith) above
 
--- the loop's step where a row of lines is added
-pub lines_row : (asks : ℕ → Bool) (n width requests row : ℕ) → LinesBelow asks n requests → row < 2 ^ width
-    → n + width ≤ 64
-    → ((i : ℕ) → i < width → line_requests row i ≡ asks (n + i))
-    → LinesBelow asks (n + width) (bit_or requests (row * 2 ^ n % 2 ^ 64))
-lines_row asks n width requests row b low fits same = record {
-  few =
-      let up : 2 ^ n ≤ 2 ^ (n + width) = pow_mono (omega arith) in
-      let before = b.few in
-      let wide = high in
-      or_lt (n + width) requests (row * 2 ^ n % 2 ^ 64) (omega arith) (omega (arith, fitting));
-  lines = λ line l. elim (cases_lt line n) [
-    | inl below ↦
-        ap (λ x. line_requests (bit_or requests x) line) fitting
-        ∙ ap (λ x. eqb x 1) (bit_at_or requests (row * 2 ^ n) line
-        ∙ ap (max (bit_at requests line)) (shifted_low row n line below) ∙ (omega arith))
-        ∙ b.lines line below
-    | inr above ↦
-        ap (λ x. line_requests (bit_or requests x) line) fitting
-        ∙ ap (λ x. eqb x 1) (bit_at_or requests (row * 2 ^ n) line
-        ∙ ap (λ x. max x (bit_at (row * 2 ^ n) line)) (bit_at_above requests n line b.few above) ∙ (omega arith)
-        ∙ shifted_high row n line above)
-        ∙ same (line - n) (omega arith)
-        ∙ ap asks (omega arith)
-  ];
-} where
-  high : row * 2 ^ n < 2 ^ (n + width)
-  high = let s : row * 2 ^ n < 2 ^ (width + n) = shl_lt width n low in let e : width + n ≡ n + width =
-      add_comm width n in rw e at s
-
-  fitting : row * 2 ^ n % 2 ^ 64 ≡ row * 2 ^ n
-  fitting = let most : 2 ^ (n + width) ≤ 2 ^ 64 = pow_mono fits in let h = high in omega arith
-
--- the same, in the loop's numbers
-pub lines_row_at : (asks : ℕ → Bool) (n width m requests row next : ℕ) → LinesBelow asks n requests → m ≡ n + width
-    → next ≡ bit_or requests (row * 2 ^ n % 2 ^ 64) → row < 2 ^ width → n + width ≤ 64
-    → ((i : ℕ) → i < width → line_requests row i ≡ asks (n + i)) → LinesBelow asks m next
-lines_row_at asks n width m requests row next b em en low fits same =
-    rw (em, en) (lines_row asks n width requests row b low fits same)
-
 -- what a function of a place says at the line of the place
 pub at_line : {X : Type 0} (f : ℕ → ℕ → X) (row width column : ℕ) → column < width
     → f ((row * width + column) / width) ((row * width + column) % width) ≡ f row column

@@ -9,9 +9,9 @@ use Rattle.worm_vcalloc.specs.Arbiter.{line_requests}
 use Rattle.worm_vcalloc.specs.ChannelSet.{has, IsPut}
 use Rattle.worm_vcalloc.specs.Places.{places_below, places}
 use Rattle.worm_vcalloc.specs.Table.{cell, with_cell, IsTable}
-use Rattle.worm_vcalloc.proofs.LineLemmas.{LinesBelow, lines_none, line_set, line_unset, at_line}
-use Rattle.worm_vcalloc.proofs.SetLemmas.{has-zero}
-use Rattle.worm_vcalloc.proofs.TableLemmas.{cell-with_cell_same, cell-with_cell_other, cell-replicate}
+use Rattle.worm_vcalloc.proofs.LineByLine.{LinesBelow, lines_none, line_set, line_unset, at_line}
+use Rattle.worm_vcalloc.proofs.SetMembers.{has-zero}
+use Rattle.worm_vcalloc.proofs.TableCells.{cell-with_cell_same, cell-with_cell_other, cell-replicate}
 
 -- the places that pass, as lines that request
 places_lines : {X : Type 0} (test : Option X → Bool) (table : List (List (Option X))) (n : ℕ) → n ≤ 64

@@ -11,8 +11,8 @@ use Rattle.worm_vcalloc.specs.Filed.{IsFiled, filed_by_port}
 use Rattle.worm_vcalloc.specs.Places.{places}
 use Rattle.worm_vcalloc.specs.Table.{cell, with_cell, IsTable}
 use Rattle.worm_vcalloc.specs.VcRequest.{is_for}
-use Rattle.worm_vcalloc.proofs.TableLemmas.{IsTable-with_cell, IsTable-replicate}
-use Rattle.worm_vcalloc.proofs.PlaceLemmas.{has-places, places_put, places_none, places_small}
+use Rattle.worm_vcalloc.proofs.TableCells.{IsTable-with_cell, IsTable-replicate}
+use Rattle.worm_vcalloc.proofs.PlacesPassing.{has-places, places_put, places_none, places_small}
 
 -- ---- a set of the file
 

@@ -17,7 +17,7 @@ use Rattle.worm_records.specs.declared.OutRecord.{OutRecord}
 use Rattle.worm_vcalloc.specs.VcRequest.{may_use}
 use Rattle.worm_vcalloc.specs.Table.{cell}
 use Rattle.worm_vcalloc.specs.VcAlloc.{VcAllocState, HasWon, IsChannelMatching}
-use Rattle.worm_vcalloc.proofs.PassLemmas.{fold-range_more}
+use Rattle.worm_vcalloc.proofs.PassAgrees.{fold-range_more}
 use Rattle.worm_router.specs.Router.{RouterState, ChannelState, IsRouter, IsPlace, terminal, width, places, line}
 use Rattle.worm_router.specs.Router.{fresh_channel, free_output, in_state, input_at, output_at, granting, can_grant}
 use Rattle.worm_router.specs.Router.{after_granting}

@@ -7,7 +7,7 @@ use Rattle.std.specs.Option.{option_to_list}
 use Rattle.worm_vcalloc.specs.ChannelSet.{IsFirst}
 use Rattle.worm_swalloc.specs.declared.grant.SwGrant.{SwGrant}
 use Rattle.worm_swalloc.specs.SwAlloc.{AreGranted}
-use Rattle.worm_swalloc.proofs.WalkLemmas.{IsWalked, walked_start, walked_from, walked_over, walked_more, walked_all}
+use Rattle.worm_swalloc.proofs.PortsWalked.{IsWalked, walked_start, walked_from, walked_over, walked_more, walked_all}
 use Rattle.worm_theory.specs.Steps.{Send, IsThere}
 use Rattle.worm_router.specs.Allocation.{switch_grants}
 use Rattle.worm_region.specs.Moves.{chosen_router}
@@ -17,8 +17,8 @@ use Rattle.worm_region.specs.State.{NetState, router_at, shape, with_router}
 use Rattle.worm_region.specs.Turns.{Allocates, AreThere, Chooses, ComesInBy}
 use Rattle.worm_region.specs.Workable.{IsWorkable}
 use Rattle.worm_region.specs.declared.fault.StepFault.{StepFault}
-use Rattle.worm_region.proofs.Allocating.{there_still}
-use Rattle.worm_region.proofs.Sending.{granted_one, granted_none, first_port, walked_there, was_granted}
+use Rattle.worm_region.proofs.PassIsGrants.{there_still}
+use Rattle.worm_region.proofs.GrantedSent.{granted_one, granted_none, first_port, walked_there, was_granted}
 use Rattle.worm_split.specs.PartState.{PartState, IsSamePart}
 use Rattle.worm_split.specs.PartTurns.{EachOf, PartPassage, Sends, SendsGrant, SendsGranted, SendsGrants, Within}
 use Rattle.worm_split.specs.PartTurns.{◌then◌}

@@ -9,9 +9,9 @@ use Rattle.worm_vcalloc.specs.Table.{cell, with_cell}
 use Rattle.worm_vcalloc.specs.VcAlloc.{VcAllocState, VcPass, IsVcAlloc, with_grant, is_requester, vc_winner, offered}
 use Rattle.worm_vcalloc.specs.VcAlloc.{vc_step, port_pass, vc_pass}
 use Rattle.worm_vcalloc.specs.VcRequest.{is_for, allows}
-use Rattle.worm_vcalloc.proofs.ArbiterLemmas.{winner_same, winner_none}
-use Rattle.worm_vcalloc.proofs.LineLemmas.{line_port}
-use Rattle.worm_vcalloc.proofs.TableLemmas.{with_cell_same}
+use Rattle.worm_vcalloc.proofs.Winner.{winner_same, winner_none}
+use Rattle.worm_vcalloc.proofs.LineByLine.{line_port}
+use Rattle.worm_vcalloc.proofs.TableCells.{with_cell_same}
 
 -- what `offer` leaves, by what its arbiter picked
 pub offer_is : (waiting : List (List (Option VcRequest))) (grants : List (List (Option ℕ))) (s : VcAllocState)

@@ -2,7 +2,7 @@
 use Rattle.std.proofs.Common.{◌≡◌, ℕ, ◌+◌, ◌<◌, ◌≤◌, false, refl, sym, ap, ◌∙◌, arith, inl, inr}
 use Rattle.std.proofs.lemmas.Bool.{cases_eq, cases_lt, true≢false}
 use Rattle.worm_vcalloc.specs.ChannelSet.{has, IsFirstPort}
-use Rattle.worm_vcalloc.proofs.SetLemmas.{has-zero}
+use Rattle.worm_vcalloc.proofs.SetMembers.{has-zero}
 
 -- the ports below n have come out of the set, and those from n on are in it as at first
 pub record IsWalked (all left n ports : ℕ) : Type 0 where

@@ -9,7 +9,7 @@ use Rattle.worm_mesh.proofs.Neighbours.{neighbour_of-some, Joins-from, Joins-por
 use Rattle.worm_route.specs.Route.{route_of, port_of}
 use Rattle.worm_route.specs.Crossing.{crosses, Follows}
 use Rattle.worm_route.proofs.Onward.{onward, begins, next_node, goes_further}
-use Rattle.worm_route.proofs.CrossingLemmas.{crosses_exactly, not_last, heads}
+use Rattle.worm_route.proofs.CrossesWhereNext.{crosses_exactly, not_last, heads}
 use Rattle.worm_theory.specs.Shape.{Shape, HasLane, Enters, at_source, by_link}
 use Rattle.worm_shape.specs.ShapeOf.{shape_of}
 use Rattle.worm_shape.specs.Standing.{LeavesBy}

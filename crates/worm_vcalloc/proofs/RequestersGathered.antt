@@ -12,8 +12,8 @@ use Rattle.worm_vcalloc.specs.ChannelSet.{has, IsFirst}
 use Rattle.worm_vcalloc.specs.Table.{cell}
 use Rattle.worm_vcalloc.specs.VcAlloc.{is_requester}
 use Rattle.worm_vcalloc.specs.VcRequest.{is_for, allows}
-use Rattle.worm_vcalloc.proofs.LineLemmas.{line_port, line_within, line_fits}
-use Rattle.worm_vcalloc.proofs.SetLemmas.{has-zero}
+use Rattle.worm_vcalloc.proofs.LineByLine.{line_port, line_within, line_fits}
+use Rattle.worm_vcalloc.proofs.SetMembers.{has-zero}
 
 -- whether an input channel waits for an output port and has no grant yet
 abbrev pub is_open : List (List (Option VcRequest)) → List (List (Option ℕ)) → ℕ → ℕ → ℕ → Bool

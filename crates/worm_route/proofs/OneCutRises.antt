@@ -8,7 +8,7 @@ use Rattle.std.proofs.lemmas.List.Concat.{flat_map-append}
 use Rattle.worm_route.specs.Distinct.{IsNotIn, IsDistinct}
 use Rattle.worm_route.specs.LaneMachine.{RisesTo, IsMachine, Raises, Appends, cuts_from, machine_of, IsMoved, IsTaken}
 use Rattle.worm_route.specs.LaneMachine.{IsPut}
-use Rattle.worm_route.proofs.DistinctLemmas.{not_in_front, second_not_in_front, distinct_back}
+use Rattle.worm_route.proofs.NothingTwice.{not_in_front, second_not_in_front, distinct_back}
 
 -- places that agree hold the same
 module _ {P F : Type 0} (old new : P → List F) where

@@ -8,7 +8,7 @@ use Rattle.std.proofs.lemmas.Bool.{cases_eq, cases_lt, eqb-true, eq-eqb, ne_eqb,
 use Rattle.worm_vcalloc.specs.ChannelSet.{has, IsFirst, IsFirstPort}
 use Rattle.worm_swalloc.specs.declared.grant.SwGrant.{SwGrant}
 use Rattle.worm_swalloc.specs.SwAlloc.{AreGranted, is_of}
-use Rattle.worm_swalloc.proofs.WalkLemmas.{IsWalked, walked_start, walked_from, walked_over, walked_more, walked_all}
+use Rattle.worm_swalloc.proofs.PortsWalked.{IsWalked, walked_start, walked_from, walked_over, walked_more, walked_all}
 use Rattle.worm_theory.specs.Steps.{Send, IsThere}
 use Rattle.worm_region.specs.State.{NetState, shape}
 use Rattle.worm_region.specs.Workable.{IsWorkable}
@@ -16,10 +16,10 @@ use Rattle.worm_region.specs.Replies.{Attempts, Replies}
 use Rattle.worm_region.specs.Turns.{AreThere, Each, Does, fault_of, granted_send}
 use Rattle.worm_region.specs.declared.step.Moved.{Moved}
 use Rattle.worm_region.specs.declared.fault.StepFault.{StepFault}
-use Rattle.worm_region.proofs.Allocating.{there_still}
+use Rattle.worm_region.proofs.PassIsGrants.{there_still}
 use Rattle.worm_region.proofs.PlacesThere.{net_place}
 use Rattle.worm_region.proofs.Passages.{loop_cut, loop_more, loop_on}
-use Rattle.worm_region.proofs.Turning.{sends_one, sends_none}
+use Rattle.worm_region.proofs.TurnInParts.{sends_one, sends_none}
 
 -- the grant of a channel of the set
 

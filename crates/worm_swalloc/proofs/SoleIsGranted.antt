@@ -4,13 +4,13 @@ use Rattle.std.proofs.Common.{None, refl, sym, ap, ◌∙◌, arith, slice_index
 use Rattle.std.proofs.Common.{subst, get_or-set_same, get_or-set_other}
 use Rattle.std.proofs.lemmas.Bool.{cases_eq, eq-eqb, ne_eqb, true≢false}
 use Rattle.worm_vcalloc.specs.Arbiter.{ArbiterState, no_arbiter, winner, after_pick}
-use Rattle.worm_vcalloc.proofs.ArbiterLemmas.{winner_none, winner_none_requests, winner_requests}
+use Rattle.worm_vcalloc.proofs.Winner.{winner_none, winner_none_requests, winner_requests}
 use Rattle.worm_swalloc.specs.declared.grant.SwGrant.{SwGrant}
 use Rattle.worm_swalloc.specs.SwAlloc.{SwAllocState, IsSwAlloc, sole_named, is_for, chosen, with_choice, output_after}
 use Rattle.worm_swalloc.specs.SwAlloc.{IsSolePort, channel_of, with_move, named, all_named}
-use Rattle.worm_swalloc.proofs.FrontLemmas.{slice_set-with_front, with_front_kept, with_front_skip}
-use Rattle.worm_swalloc.proofs.SwLemmas.{get_or-replicate_same, named_unready, named_within}
-use Rattle.worm_swalloc.proofs.ChoiceLemmas.{ChosenBelow, chosen_none, chosen_more, chosen_pass}
+use Rattle.worm_swalloc.proofs.FrontGiven.{slice_set-with_front, with_front_kept, with_front_skip}
+use Rattle.worm_swalloc.proofs.SwitchPass.{get_or-replicate_same, named_unready, named_within}
+use Rattle.worm_swalloc.proofs.ChoicesByPort.{ChosenBelow, chosen_none, chosen_more, chosen_pass}
 
 -- what the ports name
 

@@ -7,20 +7,20 @@ use Rattle.std.proofs.lemmas.Bool.{cases_lt, cases_Bool, lt-ltb, ltb-true, eqb-t
 use Rattle.std.proofs.lemmas.Bool.{and_parts, and_from, true≢false}
 use Rattle.std.proofs.lemmas.List.{get_or-replicate, length-replicate, get_or_past, get_or_default}
 use Rattle.worm_vcalloc.specs.ChannelSet.{has, IsFirstPort}
-use Rattle.worm_vcalloc.proofs.PassLemmas.{none_where_not_some}
+use Rattle.worm_vcalloc.proofs.PassAgrees.{none_where_not_some}
 use Rattle.worm_vcalloc.specs.Arbiter.{ArbiterState, no_arbiter, winner, after_pick, line_requests}
 use Rattle.worm_vcalloc.specs.Table.{cell}
-use Rattle.worm_vcalloc.proofs.ArbiterLemmas.{winner_same, winner_none, winner_requests, winner_none_requests}
+use Rattle.worm_vcalloc.proofs.Winner.{winner_same, winner_none, winner_requests, winner_none_requests}
 use Rattle.worm_swalloc.specs.declared.grant.SwGrant.{SwGrant}
 use Rattle.worm_swalloc.specs.Front.{with_front}
 use Rattle.worm_swalloc.specs.SwAlloc.{SwAllocState, IsSwAlloc, IsSwitchMatching, AreChannelsBelow}
 use Rattle.worm_swalloc.specs.SwAlloc.{request_of, named_channel, named, all_named, is_for, chosen, with_choice}
 use Rattle.worm_swalloc.specs.SwAlloc.{is_line, if_chosen, granted, sw_grants, sw_after, output_after, input_after}
 use Rattle.worm_swalloc.specs.SwAlloc.{channel_of, with_move, after_grant}
-use Rattle.worm_swalloc.proofs.FrontLemmas.{with_front_zero, slice_set-with_front, slice_index_or-with_front_below}
-use Rattle.worm_swalloc.proofs.FrontLemmas.{slice_index_or-with_front_past, with_front_same, with_front_kept}
-use Rattle.worm_swalloc.proofs.FrontLemmas.{with_front_skip}
-use Rattle.worm_swalloc.proofs.WalkLemmas.{IsWalked, walked_start, walked_from, walked_over, walked_more, walked_all}
+use Rattle.worm_swalloc.proofs.FrontGiven.{with_front_zero, slice_set-with_front, slice_index_or-with_front_below}
+use Rattle.worm_swalloc.proofs.FrontGiven.{slice_index_or-with_front_past, with_front_same, with_front_kept}
+use Rattle.worm_swalloc.proofs.FrontGiven.{with_front_skip}
+use Rattle.worm_swalloc.proofs.PortsWalked.{IsWalked, walked_start, walked_from, walked_over, walked_more, walked_all}
 
 pub get_or-replicate_same : {X : Type 0} (n i : ℕ) (x : X) → slice_index_or (replicate n x) i x ≡ x
 get_or-replicate_same n i x = elim (cases_lt i n) [

@@ -6,7 +6,7 @@ use Rattle.std.specs.List.{range_with_len}
 use Rattle.std.proofs.lemmas.Bool.{eq-eqb}
 use Rattle.std.proofs.lemmas.Bool.Decides.{nat_tests}
 use Rattle.worm_vcalloc.specs.ChannelSet.{has, IsFirst}
-use Rattle.worm_vcalloc.proofs.SetLemmas.{has-zero}
+use Rattle.worm_vcalloc.proofs.SetMembers.{has-zero}
 use Rattle.worm_mesh.specs.Address.{node_count}
 use Rattle.worm_router.specs.Router.{ChannelState, RouterState, input_at, with_input, terminal, width, after_gave}
 use Rattle.worm_router.specs.Busy.{IsSetOf, owes}
@@ -23,12 +23,12 @@ use Rattle.worm_region.specs.declared.step.Moved.{Moved}
 use Rattle.worm_region.specs.declared.step.Moved.TheVariants.{Done, Idle}
 use Rattle.worm_region.specs.declared.fault.StepFault.{StepFault}
 use Rattle.worm_region.specs.declared.fault.StepFault.TheVariants.{NoSuchPlace, Refused, NoMemory}
-use Rattle.worm_wires.proofs.Looking.{true_of}
+use Rattle.worm_wires.proofs.ArrivalsFound.{true_of}
 use Rattle.worm_region.proofs.NodeWritten.{node_at-put, input_of-put, input_of-there}
 use Rattle.worm_region.proofs.PlacesThere.{net_place}
 use Rattle.worm_region.proofs.Passages.{does_for, does_nothing, loop_more, loop_on}
-use Rattle.worm_region.proofs.Skipping.{places_same}
-use Rattle.worm_region.proofs.Turning.{gives_none, owed_lowest, owing_some}
+use Rattle.worm_region.proofs.RoutedStays.{places_same}
+use Rattle.worm_region.proofs.TurnInParts.{gives_none, owed_lowest, owing_some}
 
 unchanged : (a b : NetState) (x p v : ℕ) → b ≡ a → v < width (router_at b x) → OwesTheSame a b x p v
 unchanged a b x p v same within = record {

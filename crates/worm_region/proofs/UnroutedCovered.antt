@@ -5,7 +5,7 @@ use Rattle.std.specs.Prelude.{Result}
 use Rattle.std.specs.List.{range_with_len}
 use Rattle.std.proofs.lemmas.Bool.{cases_lt, eq-eqb}
 use Rattle.worm_vcalloc.specs.ChannelSet.{has, IsFirst}
-use Rattle.worm_vcalloc.proofs.SetLemmas.{has-zero}
+use Rattle.worm_vcalloc.proofs.SetMembers.{has-zero}
 use Rattle.worm_mesh.specs.Address.{node_count}
 use Rattle.worm_records.specs.declared.InRecord.TheVariants.{Waiting}
 use Rattle.worm_router.specs.Router.{ChannelState, RouterState, input_at, in_state, is_idle, opens_front, front_port}
@@ -23,12 +23,12 @@ use Rattle.worm_region.specs.declared.step.Moved.{Moved}
 use Rattle.worm_region.specs.declared.step.Moved.TheVariants.{Done, Idle}
 use Rattle.worm_region.specs.declared.fault.StepFault.{StepFault}
 use Rattle.worm_region.specs.declared.fault.StepFault.TheVariants.{NoSuchPlace, Refused, NoMemory}
-use Rattle.worm_wires.proofs.Looking.{true_of}
+use Rattle.worm_wires.proofs.ArrivalsFound.{true_of}
 use Rattle.worm_region.proofs.NodeWritten.{node_at-put}
-use Rattle.worm_region.proofs.Giving.{input_elsewhere}
+use Rattle.worm_region.proofs.LowestGiven.{input_elsewhere}
 use Rattle.worm_region.proofs.PlacesThere.{net_place}
 use Rattle.worm_region.proofs.Passages.{does_for, does_nothing, does_ranged, loop_more, loop_on}
-use Rattle.worm_region.proofs.Skipping.{each_still, places_same, route_still}
+use Rattle.worm_region.proofs.RoutedStays.{each_still, places_same, route_still}
 
 -- a route leaves what other channels have to route
 
