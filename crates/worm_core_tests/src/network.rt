@@ -84,5 +84,5 @@ fn a_run_counts_idle_steps(rt: HostRuntime) {
         fault: None,
     };
     trial.runs(steps, so_far);
-    trial.answers([send(0, 2, 0)], Ok(Moved::Idle));
+    trial.answers([send(0, 2, 0), take(0, 1)], Ok(Moved::Idle));
 }

@@ -2,7 +2,7 @@
 
 ghost use Rattle.std.specs.Prelude.{◌≡◌, ◌<◌, length};
 
-use crate::cases::lane;
+use crate::cases::{lane, single};
 use std::alloc::Global;
 use std::process::Abort;
 use worm_flit::{Flit, Kind, Lane, Packet, are_channels};
@@ -53,20 +53,39 @@ fn a_lane_has_65535_numbers(rt: HostRuntime) {
     closes(&rt, &mut fresh, lane(1, 0, 0), Err(OfferFault::LaneClosed));
 }
 
-#[test]
-fn a_sink_keeps_what_comes(rt: HostRuntime) {
-    let flit = Flit {
+/// The sink takes the flit.
+fn takes(rt: &impl Abort, sink: &mut Sink, flit: Flit)
+    requires { flit.lane.dst ≡ sink.old.node }
+    ensures { sink.new.node ≡ sink.old.node }
+{
+    match sink.take(flit) {
+        Ok(()) => {}
+        Err(_) => panic!(rt; "memory"),
+    }
+}
+
+/// The mark of the lane from node 0 to node 1, behind its first packet.
+fn mark() -> Flit
+    ensures { result.lane.dst ≡ 1 }
+{
+    Flit {
         lane: lane(0, 1, 0),
-        packet: 0,
+        packet: 1,
         index: 0,
         kind: Kind::Close,
         vc: 0,
         word: 0,
-    };
+    }
+}
+
+#[test]
+fn a_sink_keeps_what_comes(rt: HostRuntime) {
     let mut sink = Sink::new(rt.alloc(), 1);
+    takes(&rt, &mut sink, single(0, 17));
+    assert_eq!(rt; sink.delivered(), [single(0, 17)].as_slice());
     assert!(rt; !sink.closed(lane(0, 1, 0)));
-    assert_eq!(rt; sink.take(flit), Ok(()));
-    assert_eq!(rt; sink.delivered(), [flit].as_slice());
+    takes(&rt, &mut sink, mark());
+    assert_eq!(rt; sink.delivered(), [single(0, 17), mark()].as_slice());
     assert!(rt; sink.closed(lane(0, 1, 0)));
 }
 

@@ -25,7 +25,7 @@ use Rattle.worm_theory.specs.Cut.{underway_from}
 use Rattle.worm_theory.specs.PacketCut.{packet_held, packet_store, packet_line, PacketsHold}
 use Rattle.worm_theory.specs.Sound.{Sound}
 use Rattle.worm_theory.specs.OpenPast.{packet_past, IsOpenPast}
-use Rattle.worm_theory.proofs.OpenPast.{open_once}
+use Rattle.worm_theory.proofs.OpenRecords.{open_at}
 use Rattle.worm_theory.proofs.Cut.{ahead-split, ahead-past}
 use Rattle.worm_theory.proofs.ChannelLines.{channel_line, store_by_class, line_by_class, link_lines}
 use Rattle.worm_shape.specs.PacketPlaces.{packet_at, packet_along, IsOpenAlong, OpenPacketsAreActive}
@@ -191,5 +191,5 @@ open_is_active ks counts depth mesh classes net sound hold = λ lane k there nea
     let good = shape_is_mesh ks counts depth mesh classes in
     let l = AreLarge-from_radices ks mesh.radices in
     let at = stands_at ks counts depth l lane there (Buffer x p) (nearer, farther, split) in
-    open_once s good lane there k net sound hold x p at
+    open_at s good net sound hold lane k there x p at
     (open_past ks counts depth l lane there good net k sound hold nearer farther x p split opened)

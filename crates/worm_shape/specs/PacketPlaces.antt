@@ -8,7 +8,7 @@ use Rattle.worm_theory.specs.Shape.{Shape, HasLane}
 use Rattle.worm_theory.specs.Network.{Network}
 use Rattle.worm_theory.specs.PacketCut.{packet_held}
 use Rattle.worm_theory.specs.ChannelCut.{class_store, class_line}
-use Rattle.worm_theory.specs.OpenPast.{NoneCloses, OneWithinAt}
+use Rattle.worm_theory.specs.OpenPast.{NoneCloses, OneOpenAt}
 
 -- what a place holds of the packet, channel numbers aside. At the terminal there is no link, but the sink.
 abbrev pub packet_at : Shape → Network → Lane → ℕ → Place → List Flit
@@ -37,9 +37,9 @@ abbrev pub PacketsAreCut : List ℕ → Shape → Network → Type 0
 PacketsAreCut ks s net = (lane : Lane) (k : ℕ) → HasLane s lane
     → packet_items ks s net lane k ≡ packet_held lane k (net.injected lane.src lane.class)
 
--- Where a packet is open past a buffer of its route, exactly one input channel of that node is active for it, and it is
--- at the buffer's port.
+-- Where a packet is open past a buffer of its route, exactly one input channel of that node is active for it, it is at
+-- the buffer's port, what left it last is the last flit of the packet past it, and what comes next is the packet's next.
 abbrev pub OpenPacketsAreActive : List ℕ → Shape → Network → Type 0
 OpenPacketsAreActive ks s net = (lane : Lane) (k : ℕ) → HasLane s lane →
     (nearer farther : List Place) (x p : ℕ) → places_of ks lane.src lane.dst ≡ nearer ++ Buffer x p ∷ farther →
-    IsOpenAlong s net lane k nearer → OneWithinAt s net lane k x p
+    IsOpenAlong s net lane k nearer → OneOpenAt s net lane k x p

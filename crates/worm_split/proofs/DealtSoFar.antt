@@ -16,7 +16,7 @@ use Rattle.worm_split.specs.declared.ends.Line.{Line}
 use Rattle.worm_split.specs.declared.exchange.Kept.{Kept}
 use Rattle.worm_split.specs.declared.making.Seat.{Seat}
 use Rattle.worm_split.specs.Apart.{IsApart}
-use Rattle.worm_split.specs.Exchange.{EndsSwapped, LinksSwapped, NodesSwapped}
+use Rattle.worm_split.specs.Exchange.{ArePaired, EndsSwapped, LinksSwapped, NodesSwapped}
 use Rattle.worm_split.specs.PartState.{PartState, HasConfigOf, IsPart}
 use Rattle.worm_split.specs.Splits.{IsFirstPart, IsSeat, IsSplitOf, no_part, part_at, seat_state}
 use Rattle.worm_split.proofs.Dealing.{AreEmpty, IsDealt, credits_own, dealt_on, ends_own, flits_own, lengths_own}
@@ -167,21 +167,19 @@ module _ (O : NetState) (net : IsNet O) (W w : ℕ) (below : w < W) (lines : Lis
 -- a worker's lists are as long as those of the network that is taken apart
 pub seat_lengths : (O : NetState) (lines : List Line) (kept : Kept) (seat : Seat) → IsNet O → IsApart O kept
     → IsSeat O lines seat
-    → (length seat.nodes.items ≡ length kept.nodes.items) × (length kept.nodes.items < 257)
-    × (length seat.links.items ≡ length kept.links.items)
-    × (length seat.ends.items ≡ length kept.lines.items) × (length kept.ways.items ≡ length kept.links.items)
-    × (length kept.ways.items ≡ length kept.lines.items)
+    → ArePaired kept seat.nodes.items seat.links.items seat.ends.items
 seat_lengths O lines kept seat net apart is =
     let few = net.framed.radices.few_nodes in
-    let all = apart.all_nodes in (
-      is.all_nodes ∙ sym apart.all_nodes,
-      omega arith,
-      (ap (λ (l : List LinkView). length l) is.links ∙ length-replicate (link_count O.mesh) (empty_link
-          (sum O.channels * O.depth))) ∙ sym apart.all_links,
-      (ap (λ (l : List End). length l) is.ends ∙ length-replicate (link_count O.mesh) Inner) ∙ sym apart.all_lines,
-      apart.ways.all ∙ sym apart.all_links,
-      apart.ways.all ∙ sym apart.all_lines,
-    )
+    let all = apart.all_nodes in record {
+      nodes = is.all_nodes ∙ sym apart.all_nodes;
+      few = omega arith;
+      links = (ap (λ (l : List LinkView). length l) is.links ∙ length-replicate (link_count O.mesh) (empty_link
+          (sum O.channels * O.depth))) ∙ sym apart.all_links;
+      ends = (ap (λ (l : List End). length l) is.ends ∙ length-replicate (link_count O.mesh) Inner)
+          ∙ sym apart.all_lines;
+      link_ways = apart.ways.all ∙ sym apart.all_links;
+      line_ways = apart.ways.all ∙ sym apart.all_lines;
+    }
 
 pub all_dealt : (O : NetState) (W : ℕ) (lines : List Line) (kept : Kept) (seats : List Seat)
     (parts : List PartState) (room : ℕ)

@@ -7,7 +7,7 @@ use Rattle.worm_mesh.specs.Links.{link_count}
 use Rattle.worm_region.specs.State.{NetState, IsFramed}
 use Rattle.worm_split.specs.declared.exchange.Kept.{Kept}
 use Rattle.worm_split.specs.Apart.{IsApart}
-use Rattle.worm_split.specs.Exchange.{EndsPutBack, LinksPutBack, NodesPutBack, way_at}
+use Rattle.worm_split.specs.Exchange.{ArePaired, EndsPutBack, LinksPutBack, NodesPutBack, way_at}
 use Rattle.worm_split.specs.Joins.{AreParts, IsGathered}
 use Rattle.worm_split.specs.PartState.{PartState, IsPart}
 use Rattle.worm_split.specs.Splits.{no_part, part_at}
@@ -80,21 +80,21 @@ module _ (parts : List PartState) (are : AreParts parts) (rest : List PartState)
 
   -- its lists are as long as those that were kept
   pub its_lengths : (kept : Kept) → IsApart (part_at parts 0).opening kept
-      → (length p.net.nodes ≡ length kept.nodes.items)
-      × (length p.net.links ≡ length kept.links.items) × (length p.ends ≡ length kept.lines.items)
-      × (length kept.nodes.items < 257)
+      → ArePaired kept p.net.nodes p.net.links p.ends
   its_lengths kept apart =
       let mesh : p.net.mesh ≡ (part_at parts 0).opening.mesh = part.config.mesh
       ∙ ap (λ (s : NetState). s.mesh) its_opening in
       let few = part.opened.framed.radices.few_nodes in
       let count : node_count p.opening.mesh ≡ node_count (part_at parts 0).opening.mesh = ap (λ
       (s : NetState). node_count s.mesh) its_opening in
-      let all = apart.all_nodes in (
-        framed.all_nodes ∙ (ap node_count mesh ∙ sym apart.all_nodes),
-        framed.all_links ∙ (ap link_count mesh ∙ sym apart.all_links),
-        part.all_ends ∙ (ap link_count mesh ∙ sym apart.all_lines),
-        omega arith,
-      )
+      let all = apart.all_nodes in record {
+        nodes = framed.all_nodes ∙ (ap node_count mesh ∙ sym apart.all_nodes);
+        few = omega arith;
+        links = framed.all_links ∙ (ap link_count mesh ∙ sym apart.all_links);
+        ends = part.all_ends ∙ (ap link_count mesh ∙ sym apart.all_lines);
+        link_ways = apart.ways.all ∙ sym apart.all_links;
+        line_ways = apart.ways.all ∙ sym apart.all_lines;
+      }
 
 -- One part more is taken from the list and put back.
 module _ (parts : List PartState) (are : AreParts parts) (left rest done : List PartState) (p : PartState)
@@ -104,9 +104,7 @@ module _ (parts : List PartState) (are : AreParts parts) (left rest done : List 
   taken = last_of parts left rest done p all popped
 
   pub lengths_step : (kept : Kept) → IsApart (part_at parts 0).opening kept
-      → (length p.net.nodes ≡ length kept.nodes.items)
-      × (length p.net.links ≡ length kept.links.items) × (length p.ends ≡ length kept.lines.items)
-      × (length kept.nodes.items < 257)
+      → ArePaired kept p.net.nodes p.net.links p.ends
   lengths_step kept apart = its_lengths parts are rest p taken.0 part framed kept apart
 
   pub gather_step : (kept new : Kept) → IsGathered parts (length left) kept → new.config ≡ kept.config
@@ -122,6 +120,14 @@ module _ (parts : List PartState) (are : AreParts parts) (left rest done : List 
   }
 
 -- The last part is put back to what it kept.
+pub lengths_first : (parts : List PartState) (are : AreParts parts) (rest : List PartState) (p : PartState)
+    → parts ≡ rest ++ p ∷ [] → IsPart p → IsFramed p.net → (kept : Kept) → IsApart p.opening kept
+    → ArePaired kept p.net.nodes p.net.links p.ends
+lengths_first parts are rest p popped part framed kept apart =
+    let last = (last_of parts parts rest [] p (sym (append-nil parts)) popped).0 in
+    its_lengths parts are rest p last part framed kept
+    (subst (λ (s : NetState). IsApart s kept) (its_opening parts are rest p last part framed) apart)
+
 pub gather_first : (parts : List PartState) (are : AreParts parts) (rest : List PartState) (p : PartState)
     → parts ≡ rest ++ p ∷ [] → IsPart p → IsFramed p.net
     → (kept new : Kept) → IsApart p.opening kept → new.config ≡ kept.config → new.ways ≡ kept.ways

@@ -1,6 +1,6 @@
 -- What is exchanged between a network taken apart and a worker's own lists, at the split and again at the join: the
--- nodes that the
--- worker owns, the flits on the links that enter them, the credits on their way back to them, and its ends of links.
+-- nodes that the worker owns, the flits on the links that enter them, the credits on their way back to them, and its
+-- ends of links.
 use Rattle.std.specs.Prelude.{◌≡◌, ℕ, ◌<◌, ◌≤◌, Bool, cond, List, length, slice_index_or}
 use Rattle.worm_mesh.specs.declared.mesh.LinkEnds.{LinkEnds}
 use Rattle.worm_region.specs.Owned.{owned_by}
@@ -9,6 +9,7 @@ use Rattle.worm_region.specs.declared.node.Node.{Node}
 use Rattle.worm_region.specs.declared.own.Own.{Own}
 use Rattle.worm_split.specs.declared.ends.End.{End}
 use Rattle.worm_split.specs.declared.ends.Line.{Line}
+use Rattle.worm_split.specs.declared.exchange.Kept.{Kept}
 
 -- by number of the link, its two nodes and its two ports
 abbrev pub way_at : List LinkEnds → ℕ → LinkEnds
@@ -20,6 +21,16 @@ near_of own ways k = owned_by own (way_at ways k).from
 
 abbrev pub far_of : Own → List LinkEnds → ℕ → Bool
 far_of own ways k = owned_by own (way_at ways k).to
+
+-- a worker's lists beside those of a network taken apart: each as long as the one that it is exchanged with
+pub record ArePaired (kept : Kept) (own_nodes : List Node) (own_links : List LinkView)
+    (own_ends : List End) : Type 0 where
+  pub nodes : length own_nodes ≡ length kept.nodes.items
+  pub few : length kept.nodes.items < 257
+  pub links : length own_links ≡ length kept.links.items
+  pub ends : length own_ends ≡ length kept.lines.items
+  pub link_ways : length kept.ways.items ≡ length kept.links.items
+  pub line_ways : length kept.ways.items ≡ length kept.lines.items
 
 -- two nodes change places where they are the worker's
 abbrev pub SwapsNode : Bool → Node → Node → Node → Node → Type 0

@@ -3,7 +3,8 @@
 
 ghost use Rattle.std.specs.Prelude.{◌≡◌, ◌<◌, length};
 ghost use Rattle.worm_region.specs.Owned.{owned_by};
-ghost use Rattle.worm_split.specs.Exchange.{EndsSwapped, LinksSwapped, NodesSwapped, SwapsEnd, SwapsLink, SwapsNode};
+ghost use Rattle.worm_split.specs.Exchange.{ArePaired, EndsSwapped, LinksSwapped, NodesSwapped, SwapsEnd, SwapsLink};
+ghost use Rattle.worm_split.specs.Exchange.{SwapsNode};
 
 use crate::ends::{End, Line};
 use std::mem::swap;
@@ -126,12 +127,7 @@ impl Kept {
         own: Own,
     )
         requires workers { 0 < own.workers }
-        requires nodes { length nodes.old.items ≡ length self.old.nodes.items }
-        requires few { length self.old.nodes.items < 257 }
-        requires links { length links.old.items ≡ length self.old.links.items }
-        requires ends { length ends.old.items ≡ length self.old.lines.items }
-        requires link_ways { length self.old.ways.items ≡ length self.old.links.items }
-        requires line_ways { length self.old.ways.items ≡ length self.old.lines.items }
+        requires paired { ArePaired self.old nodes.old.items links.old.items ends.old.items }
         ensures config { self.new.config ≡ self.old.config }
         ensures ways { self.new.ways ≡ self.old.ways }
         ensures nodes { NodesSwapped own (length self.old.nodes.items) self.old.nodes.items nodes.old.items

@@ -3,7 +3,7 @@
 ghost use Rattle.std.specs.Prelude.{◌≡◌, ◌<◌, ◌≤◌, ◌++◌, ◌∷◌, ◌%◌, ◌==◌, [], ℕ, false, length, true};
 ghost use Rattle.worm_core.specs.Headline.{DeliversInOrder};
 ghost use Rattle.worm_split.specs.Ends.{line_at};
-ghost use Rattle.worm_split.specs.Exchange.{EndsPutBack, LinksPutBack, NodesPutBack};
+ghost use Rattle.worm_split.specs.Exchange.{ArePaired, EndsPutBack, LinksPutBack, NodesPutBack};
 ghost use Rattle.worm_split.specs.Joins.{AreEmptied, AreOfOne, AreParts, CreditsEmptied, FlitsEmptied, IsBetween};
 ghost use Rattle.worm_split.specs.Joins.{IsEmptied, IsGathered, IsJoinOf, IsLaterThan};
 ghost use Rattle.worm_split.specs.Splits.{part_at};
@@ -107,12 +107,7 @@ impl Kept {
     /// Puts a part back: its nodes, what is on its links, and its ends.
     fn put_back(&mut self, region: Region, mut ends: Vec<End>)
         requires workers { 0 < region.own.workers }
-        requires nodes { length region.nodes ≡ length self.old.nodes.items }
-        requires few { length self.old.nodes.items < 257 }
-        requires links { length region.links ≡ length self.old.links.items }
-        requires ends { length ends.items ≡ length self.old.lines.items }
-        requires link_ways { length self.old.ways.items ≡ length self.old.links.items }
-        requires line_ways { length self.old.ways.items ≡ length self.old.lines.items }
+        requires paired { ArePaired self.old region.nodes region.links ends.items }
         ensures config { self.new.config ≡ self.old.config }
         ensures ways { self.new.ways ≡ self.old.ways }
         ensures nodes { NodesPutBack region.own self.old.nodes.items region.nodes self.new.nodes.items }

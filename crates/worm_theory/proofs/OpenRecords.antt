@@ -16,7 +16,7 @@ use Rattle.worm_theory.specs.Steps.{IsPort}
 use Rattle.worm_theory.specs.Sound.{Sound, Agrees, InBuffer, Passes}
 use Rattle.worm_theory.specs.PacketCut.{PacketsHold}
 use Rattle.worm_theory.specs.WormFormed.{awaited, IfFront}
-use Rattle.worm_theory.specs.OpenPast.{IsOpenPast, OpenRecord, FreeRecord}
+use Rattle.worm_theory.specs.OpenPast.{IsOpenPast, IsWithin, OneOpenAt, OpenRecord, FreeRecord}
 use Rattle.worm_theory.proofs.WormFormed.{Runs-leads, awaited-runs, fits-between}
 use Rattle.worm_theory.proofs.LatestPast.{latest_past, holds_on, within_open}
 use Rattle.worm_theory.proofs.OpenPast.{open_once}
@@ -72,19 +72,29 @@ module _ (s : Shape) (mesh : IsMesh s) (net : Network) (sound : Sound s net) (ho
             (subst (λ last. Runs (worm_after last) (awaited s net x p v) runs.0) left runs.1);
       }
 
+  -- of a channel that is within the packet
+  own_record : (lane : Lane) (there : HasLane s lane) (k x p v : ℕ) → Enters s lane x p → IsWithin s net lane k x p v
+      → OpenRecord s net lane k x p v
+  own_record lane there k x p v at own =
+      last_cases (OpenRecord s net lane k x p v) (net.last_out x p v)
+      (λ between. absurd (let no : Between ≡ Within own.flit = sym between ∙ own.last in cc))
+      (λ f left within.
+      let same : bare f ≡ own.flit = let e : Within (bare f) ≡ Within own.flit = sym within ∙ own.last in cc in
+      within_record lane there k x p v at f left within (own.own_lane ∙ sym (ap (λ (g : Flit). g.lane) same))
+      (own.own_packet ∙ sym (ap (λ (g : Flit). g.packet) same)))
+
+  pub open_at : (lane : Lane) (k : ℕ) → HasLane s lane → (x p : ℕ) → Enters s lane x p → IsOpenPast s net lane k x
+      → OneOpenAt s net lane k x p
+  open_at lane k there x p at opened =
+      let once = open_once s mesh lane there k net sound hold x p at opened in
+      record { one = once; record_of = own_record lane there k x p once.vc at once.within }
+
   pub open_record : (lane : Lane) (k : ℕ) → HasLane s lane → (x p v : ℕ) → Enters s lane x p → Owns s lane.class v
       → OwnsAlone s lane.class v → IsOpenPast s net lane k x → OpenRecord s net lane k x p v
   open_record lane k there x p v at owned alone opened =
       let one = open_once s mesh lane there k net sound hold x p at opened in
-      let channel : one.vc ≡ v = alone one.vc one.within.owned in
-      let w : worm_after (net.last_out x p v) ≡ Within one.within.flit =
-      subst (λ u. worm_after (net.last_out x p u) ≡ Within one.within.flit) channel one.within.last in
-      last_cases (OpenRecord s net lane k x p v) (net.last_out x p v)
-      (λ between. absurd (let no : Between ≡ Within one.within.flit = sym between ∙ w in cc))
-      (λ f left within.
-      let same : bare f ≡ one.within.flit = let e : Within (bare f) ≡ Within one.within.flit = sym within ∙ w in cc in
-      within_record lane there k x p v at f left within (one.within.own_lane ∙ sym (ap (λ (g : Flit). g.lane) same))
-      (one.within.own_packet ∙ sym (ap (λ (g : Flit). g.packet) same)))
+      subst (λ u. OpenRecord s net lane k x p u) (alone one.vc one.within.owned)
+      (own_record lane there k x p one.vc at one.within)
 
   pub free_record : (x p v : ℕ) → IsPort s x p
       → ((lane : Lane) (k : ℕ) → HasLane s lane → Enters s lane x p → Owns s lane.class v → IsOpenPast s net lane k x

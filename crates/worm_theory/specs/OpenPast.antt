@@ -59,6 +59,11 @@ pub record OpenRecord (s : Shape) (net : Network) (lane : Lane) (k x p v : ℕ) 
   pub passed : latest (packet_past s net lane k x) ≡ Some (bare last)
   pub next : Leads last (awaited s net x p v)
 
+-- Exactly one input channel of the node is within the packet, and its records are those of the one packet open past it.
+pub record OneOpenAt (s : Shape) (net : Network) (lane : Lane) (k x p : ℕ) : Type 0 where
+  pub one : OneWithinAt s net lane k x p
+  pub record_of : OpenRecord s net lane k x p one.vc
+
 -- No packet is open past it: what left the buffer last, if anything, ended a packet whose class owns the channel and
 -- whose route passes here; what comes next opens a packet; and a record that is not idle is for the front of the
 -- buffer.
@@ -67,10 +72,10 @@ pub record FreeRecord (s : Shape) (net : Network) (x p v : ℕ) : Type 0 where
   pub next : IfFront (awaited s net x p v) Opens
   pub fits : RecordBetween s x (net.in_record x p v) (net.buffer x p v)
 
--- a packet that is open past a node is so past exactly one input channel there
+-- a packet that is open past a node is so past exactly one input channel there, and that one's records are its
 abbrev pub OpenOnce : Shape → Network → Type 0
 OpenOnce s net = (lane : Lane) (k : ℕ) → HasLane s lane → (x p : ℕ) → Enters s lane x p → IsOpenPast s net lane k x
-    → OneWithinAt s net lane k x p
+    → OneOpenAt s net lane k x p
 
 -- and an input channel is within no other packet
 abbrev pub WithinIsOpen : Shape → Network → Type 0

@@ -1,11 +1,9 @@
-use Rattle.worm_theory.proofs.OpenPast.{open_once}
 use Rattle.worm_theory.proofs.LatestPast.{within_open}
-use Rattle.worm_theory.proofs.OpenRecords.{open_record, free_record, never_two}
+use Rattle.worm_theory.proofs.OpenRecords.{open_at, open_record, free_record, never_two}
 use Rattle.worm_theory.proofs.records_fit_open_packets.Goals as goal
 
 pub returns-clause-one : goal.returns-clause-one
-returns-clause-one c = λ s net mesh sound hold lane k there x p at opened.
-    open_once s mesh lane there k net sound hold x p at opened
+returns-clause-one c = λ s net mesh sound hold. open_at s mesh net sound hold
 
 pub returns-clause-within : goal.returns-clause-within
 returns-clause-within c = λ s net mesh sound hold lane k there x p v at on.

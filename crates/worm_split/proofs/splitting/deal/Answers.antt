@@ -66,41 +66,25 @@ loop-worker-preserved c =
     s.seats.items rest s.parts.items c.push-room.new.self.items (vec_capacity s.parts)
     (vec_capacity c.push-room.new.self) s.invariant popped pushed c.push-room.ensures.capacity
 
-pub exchange-requires-2-clause-nodes : goal.exchange-requires-2-clause-nodes
-exchange-requires-2-clause-nodes c =
+pub exchange-requires-clause-paired : goal.exchange-requires-clause-paired
+exchange-requires-clause-paired c =
     let O = c.args.opening.now.value in
-    let W = c.args.workers in
     let lines = c.args.lines.now.value.items in
     let s = c.loop-worker in
-    let seat = c.in-Some-pop.seat in
-    let rest = c.pop-2.new.self.items in
-    let popped : s.seats.items ≡ rest ++ seat ∷ [] = c.in-Some-pop.ensures.items in
-    let is = (all_last (IsSeat O lines) rest s.seats.items seat popped s.invariant.all).0 in
-    (seat_lengths O lines s.whole seat c.requires.net s.invariant.dealt.apart is).0
+    let seat = c.in-Some.seat in
+    let popped : s.seats.items ≡ c.pop.new.self.items ++ seat ∷ [] = c.in-Some.ensures.items in
+    let is = (all_last (IsSeat O lines) c.pop.new.self.items s.seats.items seat popped s.invariant.all).0 in
+    seat_lengths O lines s.whole seat c.requires.net s.invariant.dealt.apart is
 
-pub exchange-requires-2-clause-links : goal.exchange-requires-2-clause-links
-exchange-requires-2-clause-links c =
+pub exchange-requires-2-clause-paired : goal.exchange-requires-2-clause-paired
+exchange-requires-2-clause-paired c =
     let O = c.args.opening.now.value in
-    let W = c.args.workers in
     let lines = c.args.lines.now.value.items in
     let s = c.loop-worker in
     let seat = c.in-Some-pop.seat in
-    let rest = c.pop-2.new.self.items in
-    let popped : s.seats.items ≡ rest ++ seat ∷ [] = c.in-Some-pop.ensures.items in
-    let is = (all_last (IsSeat O lines) rest s.seats.items seat popped s.invariant.all).0 in
-    (seat_lengths O lines s.whole seat c.requires.net s.invariant.dealt.apart is).2
-
-pub exchange-requires-2-clause-ends : goal.exchange-requires-2-clause-ends
-exchange-requires-2-clause-ends c =
-    let O = c.args.opening.now.value in
-    let W = c.args.workers in
-    let lines = c.args.lines.now.value.items in
-    let s = c.loop-worker in
-    let seat = c.in-Some-pop.seat in
-    let rest = c.pop-2.new.self.items in
-    let popped : s.seats.items ≡ rest ++ seat ∷ [] = c.in-Some-pop.ensures.items in
-    let is = (all_last (IsSeat O lines) rest s.seats.items seat popped s.invariant.all).0 in
-    (seat_lengths O lines s.whole seat c.requires.net s.invariant.dealt.apart is).3
+    let popped : s.seats.items ≡ c.pop-2.new.self.items ++ seat ∷ [] = c.in-Some-pop.ensures.items in
+    let is = (all_last (IsSeat O lines) c.pop-2.new.self.items s.seats.items seat popped s.invariant.all).0 in
+    seat_lengths O lines s.whole seat c.requires.net s.invariant.dealt.apart is
 
 pub part_of-requires-2-clause-works : goal.part_of-requires-2-clause-works
 part_of-requires-2-clause-works c =
