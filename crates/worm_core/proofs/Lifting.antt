@@ -89,7 +89,7 @@ net_answers a b step (Ok Idle) net i =
     (subst IsNet (sym i.3) net, (i.0, λ enabled. free a step net i.0 enabled (i.1 enabled), i.2, i.3))
 net_answers a b step (Err NoSuchPlace) net i = (subst IsNet (sym i.1) net, i)
 net_answers a b step (Err (Refused why)) net i = (subst IsNet (sym i.3) net, i)
-net_answers a b step (Err NoMemory) net i = (subst IsNet (sym i.3) net, i)
+net_answers a b step (Err NoMemory) net i = (subst IsNet (sym i.3) net, (i.0, i.1, i.2, i.3))
 
 -- passages
 

@@ -261,7 +261,7 @@ err_answers : (s : NetState) (x : ℕ) (lane : Lane) (is_last : Bool) (step : St
     Outcome own s step (accepted_of (Err (unwrap_or r NoRoom))) s
 unfolding Outcome
 err_answers s x lane is_last step after_it net there judges None e =
-    (net, (there, judges.enables e, judges.grows, refl))
+    (net, (there, judges.enables e, judges.grows, refl, judges.free))
 err_answers s x lane is_last step after_it {own} net there judges (Some fault) e =
     let named : fault ≡ NoRoom → ⊥ =
     λ same. refusal_named (source_at s x) lane is_last (e ∙ ap (λ (g : OfferFault). Some g) same) in

@@ -343,7 +343,13 @@ done_answers s x p v d {own} net there enabled grows made same is (Err NoSuchPla
 done_answers s x p v d {own} net there enabled grows made same is (Err (Refused fault)) new sends = absurd sends
 done_answers s x p v d {own} net there enabled grows made same is (Err NoMemory) new sends = (
   subst (IsWorkableBy own) (sym sends.1) net,
-  (there, enabled, grows (same_true d.0 (2 * length s.mesh) sends.0), sends.1),
+  (
+    there,
+    enabled,
+    grows (same_true d.0 (2 * length s.mesh) sends.0),
+    sends.1,
+    λ hindered. hindered (subst (λ (o : Option (ℕ × Flit)). HasWay s x o) (sym is) sends.2),
+  ),
 )
 
 -- what leaves stays among the nodes that are owned

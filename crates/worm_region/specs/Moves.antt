@@ -107,7 +107,8 @@ Sends old x p v (Some d) (Ok Done) new = HasWay old x (Some d) × (new ≡ after
 Sends old x p v (Some d) (Ok Idle) new = (HasWay old x (Some d) → ⊥) × (new ≡ old)
 Sends old x p v (Some d) (Err NoSuchPlace) new = ⊥
 Sends old x p v (Some d) (Err (Refused fault)) new = ⊥
-Sends old x p v (Some d) (Err NoMemory) new = ((d.0 == 2 * length old.mesh) ≡ true) × (new ≡ old)
+Sends old x p v (Some d) (Err NoMemory) new =
+    ((d.0 == 2 * length old.mesh) ≡ true) × (new ≡ old) × HasWay old x (Some d)
 
 -- GiveCredit: a credit owed goes to the end of the credits of the link k, which comes into the port
 abbrev pub can_give : NetState → ℕ → ℕ → ℕ → Bool

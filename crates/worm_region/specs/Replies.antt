@@ -47,7 +47,7 @@ Replies old step (Err (Refused fault)) new =
     × (refusal_of old step ≡ Some fault) × (new ≡ old)
 Replies old step (Err NoMemory) new =
     IsThere (shape old) step × Enabled (shape old) (network_of old) step
-    × Grows (shape old) (network_of old) step × (new ≡ old)
+    × Grows (shape old) (network_of old) step × (new ≡ old) × (Hindered old step → ⊥)
 
 -- a step is tried in a region
 abbrev pub Attempts : Step → Passage
