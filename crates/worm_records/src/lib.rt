@@ -4,7 +4,8 @@
 //! An input channel is idle, waits for a channel of an output port, or holds one. An output channel is
 //! free or held by one input channel, and counts the flits that the buffer at its far end can still
 //! take. Each move of a record has the condition under which it is made and gives the record after it
-//! exactly, so a router's step is one move of each record that it touches.
+//! exactly. A router's step is one move of each record that it touches, but that it spends credits by their number,
+//! which is 0 at the terminal.
 //!
 //! A record is a plain value. That holder and held channel name each other is the router's to keep, and
 //! so is the range of ports and channels: neither is known here. The book's finer states (routing, and
