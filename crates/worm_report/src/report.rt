@@ -27,6 +27,7 @@ struct Busy<'a> {
     net: &'a Net,
     /// Its busy lanes.
     lanes: &'a LaneSet,
+    ghost complete: { IsComplete net.now lanes.now },
 }
 
 /// The head of the report, and the options of the run.
@@ -122,7 +123,6 @@ fn put_lane<W: Write>(
     requires src { lane.src < node_count busy.now.net.now.mesh }
     requires dst { lane.dst < node_count busy.now.net.now.mesh }
     requires class { lane.class < length busy.now.net.now.channels }
-    requires complete { IsComplete busy.now.net.now busy.now.lanes.now }
     ensures { PutsRows W.contents desk.old desk.new result (lane_rows (seen busy.now.net.now) lane) }
 {
     if !busy.lanes.contains(lane) {
@@ -143,7 +143,6 @@ fn put_pair<W: Write>(
 ) -> Result<(), ReportFault>
     requires src { src < node_count busy.now.net.now.mesh }
     requires dst { dst < node_count busy.now.net.now.mesh }
-    requires complete { IsComplete busy.now.net.now busy.now.lanes.now }
     ensures { PutsRows W.contents desk.old desk.new result (pair_rows (seen busy.now.net.now) src dst) }
 {
     for class in 0..busy.net.classes() {
@@ -154,8 +153,7 @@ fn put_pair<W: Write>(
 
 /// What is under way from a node, by destination.
 fn put_source<W: Write>(desk: &mut Desk<'_, W>, busy: &Busy<'_>, src: u8) -> Result<(), ReportFault>
-    requires src { src < node_count busy.now.net.now.mesh }
-    requires complete { IsComplete busy.now.net.now busy.now.lanes.now }
+    requires { src < node_count busy.now.net.now.mesh }
     ensures { PutsRows W.contents desk.old desk.new result (source_rows (seen busy.now.net.now) src) }
 {
     for dst in 0..busy.net.nodes() {
@@ -166,7 +164,6 @@ fn put_source<W: Write>(desk: &mut Desk<'_, W>, busy: &Busy<'_>, src: u8) -> Res
 
 /// What is under way, by source.
 fn put_sources<W: Write>(desk: &mut Desk<'_, W>, busy: &Busy<'_>) -> Result<(), ReportFault>
-    requires complete { IsComplete busy.now.net.now busy.now.lanes.now }
     ensures { PutsRows W.contents desk.old desk.new result (underway_rows (seen busy.now.net.now)) }
 {
     for src in 0..busy.net.nodes() {
