@@ -8,10 +8,10 @@ use Rattle.worm_core.specs.declared.view.Held.{Held}
 use Rattle.worm_report.specs.declared.row.Row.TheVariants.{Underway}
 use Rattle.worm_report.specs.Seen.{seen}
 use Rattle.worm_report.specs.Report.{lane_rows}
-use Rattle.worm_report.specs.Writing.{Desk, WritesRows}
+use Rattle.worm_report.specs.Writing.{Standing, WritesRows}
 use Rattle.worm_report.proofs.Written.{done, no_rows, same_rows}
 
-pub idle_lane : {a : Desk} (s : NetState) (set : LaneMarks) (lane : Lane) → IsComplete s set
+pub idle_lane : {a : Standing} (s : NetState) (set : LaneMarks) (lane : Lane) → IsComplete s set
     → lane.src < node_count s.mesh
     → lane.dst < node_count s.mesh → lane.class < length s.channels
     → is_marked set lane ≡ false → WritesRows a a done (lane_rows (seen s) lane)

@@ -3,6 +3,7 @@ use Rattle.std.proofs.Common.{◌≡◌, ◌≢◌, ℕ, zero, suc, inl, inr, �
 use Rattle.std.proofs.Common.{drop, map, get_or, Option, Some, None, Result, Ok, Err, refl, sym, ap, subst, ◌∙◌}
 use Rattle.std.proofs.Common.{append_assoc, arith}
 use Rattle.std.specs.Prelude.{OnOk, OnErr, IfErr}
+use Rattle.std.specs.Borrow.{GName}
 use Rattle.std.specs.Result.{IsErr, result_and}
 use Rattle.std.specs.List.{flat_map, range_with_len}
 use Rattle.std.specs.Io.KnownBytes.{Appends, Keeps}
@@ -15,7 +16,7 @@ use Rattle.worm_report.specs.declared.summary.ReportFault.{ReportFault}
 use Rattle.worm_report.specs.declared.summary.ReportFault.TheVariants.{NoMemory}
 use Rattle.worm_report.specs.Rows.{row_text, rows_text}
 use Rattle.worm_report.specs.Report.{rows_below}
-use Rattle.worm_report.specs.Writing.{Desk, desk, Writes, WritesRows, WritesOrBreaksOff}
+use Rattle.worm_report.specs.Writing.{Standing, Writes, WritesRows, WritesOrBreaksOff}
 
 abbrev pub Answer : Type 0
 Answer = Result (Unit {0}) ReportFault
@@ -87,43 +88,46 @@ all_given front rest bytes whole none = sym (whole ∙ ap (λ (z : List ℕ). fr
 -- ---- rows
 
 -- nothing was made
-pub no_rows : {a : Desk} → WritesRows a a done []
-no_rows {a = a} = record { front = []; rest = []; whole = refl; given = Appends-nil a.given; all = refl }
+pub no_rows : {a : Standing} → WritesRows a a done []
+no_rows {a = a} =
+    record { front = []; rest = []; whole = refl; given = Appends-nil a.given; same = refl; all = refl }
 
 -- so much of what lay on the page and was made was given
-part : {a b : Desk} {r : Answer} (rows : List Row) (front rest : List ℕ) → IsErr r
+part : {a b : Standing} {r : Answer} (rows : List Row) (front rest : List ℕ) → IsErr r
     → a.page ++ rows_text rows ≡ front ++ b.page ++ rest
-    → Appends a.given b.given front → WritesRows a b r rows
-part {r = r} rows front rest e whole given =
-    record { front = front; rest = rest; whole = whole; given = given; all = on_err r (rest ≡ []) e }
+    → Appends a.given b.given front → b.writer ≡ a.writer → WritesRows a b r rows
+part {r = r} rows front rest e whole given same =
+    record { front = front; rest = rest; whole = whole; given = given; same = same; all = on_err r (rest ≡ []) e }
 
-pub none_given : {a : Desk} {r : Answer} (rows : List Row) → IsErr r → WritesRows a a r rows
-none_given {a = a} rows e = part rows [] (rows_text rows) e refl (Appends-nil a.given)
+pub none_given : {a : Standing} {r : Answer} (rows : List Row) → IsErr r → WritesRows a a r rows
+none_given {a = a} rows e = part rows [] (rows_text rows) e refl (Appends-nil a.given) refl
 
 -- there was no memory for the first of them
-pub no_memory : {a : Desk} (rows : List Row) → WritesRows a a (Err NoMemory) rows
+pub no_memory : {a : Standing} (rows : List Row) → WritesRows a a (Err NoMemory) rows
 no_memory rows = none_given {r = Err NoMemory} rows refl
 
 -- which fault it is does not matter
-pub failing : {a b : Desk} {r s : Answer} {rows : List Row} → IsErr s → WritesRows a b r rows → WritesRows a b s rows
-failing {rows = rows} e w = part rows w.front w.rest e w.whole w.given
+pub failing : {a b : Standing} {r s : Answer} {rows : List Row} → IsErr s → WritesRows a b r rows
+    → WritesRows a b s rows
+failing {rows = rows} e w = part rows w.front w.rest e w.whole w.given w.same
 
 -- a fault, and rows behind it
-pub rows_stop : {a b : Desk} {r s : Answer} (xs ys : List Row) → IsErr s → WritesRows a b r xs
+pub rows_stop : {a b : Standing} {r s : Answer} (xs ys : List Row) → IsErr s → WritesRows a b r xs
     → WritesRows a b s (xs ++ ys)
 rows_stop {a = a} {b = b} xs ys e w =
     part (xs ++ ys) w.front (w.rest ++ rows_text ys) e
     (ap (λ (z : List ℕ). a.page ++ z) (flat_map-append row_text xs ys)
     ∙ sym (append_assoc a.page (rows_text xs) (rows_text ys))
     ∙ ap (λ (z : List ℕ). z ++ rows_text ys) w.whole ∙ append_assoc (w.front ++ b.page) w.rest (rows_text ys))
-    w.given
+    w.given w.same
 
 -- what was made without a fault was given, or lies on the page
-all_made : {a b : Desk} (rows : List Row) (w : WritesRows a b done rows) → a.page ++ rows_text rows ≡ w.front ++ b.page
+all_made : {a b : Standing} (rows : List Row) (w : WritesRows a b done rows)
+    → a.page ++ rows_text rows ≡ w.front ++ b.page
 all_made {b = b} rows w = w.whole ∙ ap (λ (z : List ℕ). w.front ++ b.page ++ z) w.all ∙ append-nil (w.front ++ b.page)
 
 -- the second write decides
-pub rows_then : {a b c : Desk} {r : Answer} (xs ys : List Row) → WritesRows a b done xs → WritesRows b c r ys
+pub rows_then : {a b c : Standing} {r : Answer} (xs ys : List Row) → WritesRows a b done xs → WritesRows b c r ys
     → WritesRows a c r (xs ++ ys)
 rows_then {a = a} {b = b} {c = c} xs ys h k = record {
   front = h.front ++ k.front;
@@ -135,14 +139,15 @@ rows_then {a = a} {b = b} {c = c} xs ys h k = record {
       ∙ ap (λ (z : List ℕ). h.front ++ z) (k.whole ∙ append_assoc k.front c.page k.rest)
       ∙ sym (append_assoc h.front k.front (c.page ++ k.rest)) ∙ sym (append_assoc (h.front ++ k.front) c.page k.rest);
   given = Appends-trans a.given b.given c.given h.front k.front h.given k.given;
+  same = k.same ∙ h.same;
   all = k.all;
 }
 
 -- ---- rows broken off
 
 -- a fault, and a row at least behind it
-pub breaks_off : {a b : Desk} {r s : Answer} (xs : List Row) (y : Row) (ys : List Row) → IsErr s → WritesRows a b r xs
-    → WritesOrBreaksOff a b s (xs ++ y ∷ ys)
+pub breaks_off : {a b : Standing} {r s : Answer} (xs : List Row) (y : Row) (ys : List Row) → IsErr s
+    → WritesRows a b r xs → WritesOrBreaksOff a b s (xs ++ y ∷ ys)
 unfolding rows_stop part
 breaks_off {s = s} xs y ys e w = record {
   written = rows_stop xs (y ∷ ys) e w;
@@ -150,7 +155,7 @@ breaks_off {s = s} xs y ys e w = record {
       (λ none. line_is_there y ys (back_empty w.rest (rows_text (y ∷ ys)) none));
 }
 
-pub then_breaks_off : {a b c : Desk} {r : Answer} (xs ys : List Row) → WritesRows a b done xs
+pub then_breaks_off : {a b c : Standing} {r : Answer} (xs ys : List Row) → WritesRows a b done xs
     → WritesOrBreaksOff b c r ys → WritesOrBreaksOff a c r (xs ++ ys)
 unfolding rows_then
 then_breaks_off xs ys h k = record { written = rows_then xs ys h k.written; more = k.more }
@@ -169,28 +174,33 @@ none_begun {a = a} {r = r} row rows e = record {
 
 -- ---- pages
 
+abbrev pub stands : Option (List ℕ) → List ℕ → GName → Standing
+stands given page writer = record { given = given; page = page; writer = writer }
+
 -- the page was written, or a first part of it, and is empty
-pub page_turned : {old new : Option (List ℕ)} {r : Answer} (was now : List ℕ) → now ≡ [] → Writes old new r was
-    → WritesRows (desk old was) (desk new now) r []
+pub page_turned : {old new : Option (List ℕ)} {writer : GName} {r : Answer} (was now : List ℕ) → now ≡ []
+    → Writes old new r was → WritesRows (stands old was writer) (stands new now writer) r []
 page_turned was now empty w = record {
   front = w.front;
   rest = w.rest;
   whole = append-nil was ∙ w.whole ∙ ap (λ (z : List ℕ). z ++ w.rest) (sym (append-nil w.front))
       ∙ ap (λ (z : List ℕ). w.front ++ z ++ w.rest) (sym empty);
   given = w.given;
+  same = refl;
   all = w.all;
 }
 
 -- a line was put on the page, or there was no memory for it
-pub line_added : {given : Option (List ℕ)} (r : Answer) (was now : List ℕ) (row : Row)
+pub line_added : {given : Option (List ℕ)} {writer : GName} (r : Answer) (was now : List ℕ) (row : Row)
     → OnOk r (now ≡ was ++ row_text row) → OnErr r (now ≡ was)
-    → WritesOrBreaksOff (desk given was) (desk given now) r (row ∷ [])
+    → WritesOrBreaksOff (stands given was writer) (stands given now writer) r (row ∷ [])
 line_added {given = given} (Ok u) was now row ok err = record {
   written = record {
     front = [];
     rest = [];
     whole = ap (λ (z : List ℕ). was ++ z) (append-nil (row_text row)) ∙ sym ok ∙ sym (append-nil now);
     given = Appends-nil given;
+    same = refl;
     all = refl;
   };
   more = tt;
@@ -201,6 +211,7 @@ line_added {given = given} (Err e) was now row ok err = record {
     rest = rows_text (row ∷ []);
     whole = ap (λ (z : List ℕ). z ++ rows_text (row ∷ [])) (sym err);
     given = Appends-nil given;
+    same = refl;
     all = tt;
   };
   more = line_is_there row [];
@@ -220,8 +231,9 @@ both_more (Ok u) (Err e) rest more h k = λ want none. k want (front_empty more 
 both_more (Err e) s rest more h k = λ want none. h (back_empty more rest none)
 
 -- All rows were made, or up to a fault, and then the page was closed.
-pub report_closed : {a b c : Option (List ℕ)} {r s : Answer} (fresh page : List ℕ) (rows : List Row) → fresh ≡ []
-    → WritesOrBreaksOff (desk a fresh) (desk b page) r rows → Writes b c s page
+pub report_closed : {a b c : Option (List ℕ)} {opened left : GName} {r s : Answer} (fresh page : List ℕ)
+    (rows : List Row) → fresh ≡ []
+    → WritesOrBreaksOff (stands a fresh opened) (stands b page left) r rows → Writes b c s page
     → Writes a c (result_and r s) (rows_text rows)
 report_closed {a = a} {b = b} {c = c} {r = r} {s = s} fresh page rows empty off closed =
     let made = off.written in record {
@@ -248,10 +260,10 @@ pub passed_on : {a b c : Option (List ℕ)} (bytes : List ℕ) → Writes a b do
 passed_on {a = a} {b = b} {c = c} bytes w kept =
     given_all bytes bytes [] refl (sym (append-nil bytes)) (given_and_kept a b c bytes w kept)
 
-pub same_rows : {a b : Desk} {r : Answer} (xs ys : List Row) → xs ≡ ys → WritesRows a b r xs → WritesRows a b r ys
+pub same_rows : {a b : Standing} {r : Answer} (xs ys : List Row) → xs ≡ ys → WritesRows a b r xs → WritesRows a b r ys
 same_rows {a = a} {b = b} {r = r} xs ys e w = subst (λ (rows : List Row). WritesRows a b r rows) e w
 
-pub same_broken_off : {a b : Desk} {r : Answer} (xs ys : List Row) → xs ≡ ys → WritesOrBreaksOff a b r xs
+pub same_broken_off : {a b : Standing} {r : Answer} (xs ys : List Row) → xs ≡ ys → WritesOrBreaksOff a b r xs
     → WritesOrBreaksOff a b r ys
 same_broken_off {a = a} {b = b} {r = r} xs ys e w = subst (λ (rows : List Row). WritesOrBreaksOff a b r rows) e w
 
@@ -282,16 +294,16 @@ below_split f i (suc n) le = elim (cases_lt n i) [
       (m.0 ++ f n, below_suc f n ∙ ap (λ (rows : List Row). rows ++ f n) m.1 ∙ append_assoc (rows_below f i) m.0 (f n))
 ]
 
-pub below_none : {a : Desk} (f : ℕ → List Row) → WritesRows a a done (rows_below f 0)
+pub below_none : {a : Standing} (f : ℕ → List Row) → WritesRows a a done (rows_below f 0)
 unfolding rows_below
 below_none f = no_rows
 
-pub below_then : {a b c : Desk} (f : ℕ → List Row) (i : ℕ) → WritesRows a b done (rows_below f i)
+pub below_then : {a b c : Standing} (f : ℕ → List Row) (i : ℕ) → WritesRows a b done (rows_below f i)
     → WritesRows b c done (f i) → WritesRows a c done (rows_below f (i + 1))
 below_then f i h k = same_rows (rows_below f i ++ f i) (rows_below f (i + 1)) (sym (below_last f i))
     (rows_then (rows_below f i) (f i) h k)
 
-pub below_stop : {a b c : Desk} {r s : Answer} (f : ℕ → List Row) (i n : ℕ) → i < n → IsErr s
+pub below_stop : {a b c : Standing} {r s : Answer} (f : ℕ → List Row) (i n : ℕ) → i < n → IsErr s
     → WritesRows a b done (rows_below f i) → WritesRows b c r (f i) → WritesRows a c s (rows_below f n)
 below_stop f i n lt e h k =
     let m = below_split f (i + 1) n (omega arith) in
@@ -299,7 +311,7 @@ below_stop f i n lt e h k =
     (rows_then (rows_below f i) (f i) h k) in
     same_rows (rows_below f (i + 1) ++ m.0) (rows_below f n) (sym m.1) (rows_stop (rows_below f (i + 1)) m.0 e here)
 
-pub below_all : {a b : Desk} {r : Answer} (f : ℕ → List Row) (i n : ℕ) → i ≡ n → WritesRows a b r (rows_below f i)
+pub below_all : {a b : Standing} {r : Answer} (f : ℕ → List Row) (i n : ℕ) → i ≡ n → WritesRows a b r (rows_below f i)
     → WritesRows a b r (rows_below f n)
 below_all f i n e w = same_rows (rows_below f i) (rows_below f n) (ap (rows_below f) e) w
 
@@ -309,14 +321,14 @@ each_last : {X : Type 0} (row : X → Row) (xs : List X) (i : ℕ) (d : X) → i
     → map row (take (i + 1) xs) ≡ map row (take i xs) ++ row (get_or xs i d) ∷ []
 each_last row xs i d lt = ap (map row) (take_more xs i d lt) ∙ map_push row (take i xs) (get_or xs i d)
 
-pub each_then : {X : Type 0} {a b c : Desk} (row : X → Row) (xs : List X) (i : ℕ) (d : X) → i < length xs
+pub each_then : {X : Type 0} {a b c : Standing} (row : X → Row) (xs : List X) (i : ℕ) (d : X) → i < length xs
     → WritesRows a b done (map row (take i xs)) → WritesRows b c done (row (get_or xs i d) ∷ [])
     → WritesRows a c done (map row (take (i + 1) xs))
 each_then row xs i d lt h k =
     same_rows (map row (take i xs) ++ row (get_or xs i d) ∷ []) (map row (take (i + 1) xs))
     (sym (each_last row xs i d lt)) (rows_then (map row (take i xs)) (row (get_or xs i d) ∷ []) h k)
 
-pub each_stop : {X : Type 0} {a b c : Desk} {r s : Answer} (row : X → Row) (xs : List X) (i : ℕ) (d : X)
+pub each_stop : {X : Type 0} {a b c : Standing} {r s : Answer} (row : X → Row) (xs : List X) (i : ℕ) (d : X)
     → i < length xs → IsErr s → WritesRows a b done (map row (take i xs)) → WritesRows b c r (row (get_or xs i d) ∷ [])
     → WritesRows a c s (map row xs)
 each_stop row xs i d lt e h k =

@@ -1,9 +1,11 @@
 -- What a writer was given of a text.
 use Rattle.std.specs.Prelude.{◌≡◌, ◌≢◌, ℕ, List, [], ◌++◌, Option, Result, OnOk, OnErr, IfErr}
+use Rattle.std.specs.Borrow.{GName}
 use Rattle.std.specs.Io.KnownBytes.{Appends}
 use Rattle.worm_report.specs.declared.row.Row.{Row}
 use Rattle.worm_report.specs.declared.summary.ReportFault.{ReportFault}
 use Rattle.worm_report.specs.declared.summary.ReportFault.TheVariants.{NoMemory}
+use Rattle.worm_report.specs.declared.writing.Desk.{Desk}
 use Rattle.worm_report.specs.Rows.{rows_text}
 
 -- a first part of these bytes: where there was no fault all of them, and where memory ran out not all
@@ -15,24 +17,37 @@ pub record Writes (old new : Option (List ℕ)) (result : Result (Unit {0}) Repo
   pub all : OnOk result (rest ≡ [])
   pub more : IfErr result (λ fault. fault ≡ NoMemory → rest ≢ [])
 
--- what a writer was given, and the lines on the page that it has yet to be given
-pub record Desk : Type 0 where
+-- Where a desk stands: what its writer was given, the lines that wait for it, and the name of the reference to it.
+pub record Standing : Type 0 where
   pub given : Option (List ℕ)
   pub page : List ℕ
+  pub writer : GName
 
-abbrev pub desk : Option (List ℕ) → List ℕ → Desk
-desk given page = record { given = given; page = page }
+abbrev pub standing : {W : Type 0} → (W → Option (List ℕ)) → Desk W → Standing
+standing contents desk = record { given = contents desk.out.now; page = desk.page; writer = desk.out.ghost_name }
 
 -- The lines of these rows come behind those on the page: a first part of them all was given, what follows is on
 -- the page now, and where there was no fault that is the rest.
-pub record WritesRows (old new : Desk) (result : Result (Unit {0}) ReportFault) (rows : List Row) : Type 0 where
+pub record WritesRows (old new : Standing) (result : Result (Unit {0}) ReportFault) (rows : List Row) : Type 0 where
   pub front : List ℕ
   pub rest : List ℕ
   pub whole : old.page ++ rows_text rows ≡ front ++ new.page ++ rest
   pub given : Appends old.given new.given front
+  pub same : new.writer ≡ old.writer
   pub all : OnOk result (rest ≡ [])
 
 -- the same, and where there was a fault a line at least is still to come
-pub record WritesOrBreaksOff (old new : Desk) (result : Result (Unit {0}) ReportFault) (rows : List Row) : Type 0 where
+pub record WritesOrBreaksOff (old new : Standing) (result : Result (Unit {0}) ReportFault) (rows : List Row)
+    : Type 0 where
   pub written : WritesRows old new result rows
   pub more : OnErr result (written.rest ≢ [])
+
+-- what a call made of a desk, by the member that says what a writer was given
+abbrev pub PutsRows : {W : Type 0} → (W → Option (List ℕ)) → Desk W → Desk W → Result (Unit {0}) ReportFault
+    → List Row → Type 0
+PutsRows contents old new result rows = WritesRows (standing contents old) (standing contents new) result rows
+
+abbrev pub PutsOrBreaksOff : {W : Type 0} → (W → Option (List ℕ)) → Desk W → Desk W
+    → Result (Unit {0}) ReportFault → List Row → Type 0
+PutsOrBreaksOff contents old new result rows =
+    WritesOrBreaksOff (standing contents old) (standing contents new) result rows

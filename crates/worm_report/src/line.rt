@@ -141,6 +141,7 @@ impl Line {
         }
     }
 
+    /// A flit that arrived at a node.
     fn delivered(&mut self, node: u8, flit: Flit)
         requires { length self.old ≤ 1 }
         ensures { self.new ≡ join_with_byte space (row_fields (Row.Delivered node flit)) ++ self.old }
@@ -153,6 +154,7 @@ impl Line {
         self.text(b"delivered ");
     }
 
+    /// A flit of a lane that is under way, and its place.
     fn underway(&mut self, lane: Lane, held: Held)
         requires { length self.old ≤ 1 }
         ensures { self.new ≡ join_with_byte space (row_fields (Row.Underway lane held)) ++ self.old }
@@ -167,6 +169,7 @@ impl Line {
         self.text(b"underway ");
     }
 
+    /// The options of the run.
     fn options(&mut self, turns: u64, workers: u64, drain: u64)
         requires { length self.old ≤ 1 }
         ensures { self.new ≡ join_with_byte space (row_fields (Row.Options turns workers drain)) ++ self.old }
@@ -179,6 +182,7 @@ impl Line {
         self.text(b"turns ");
     }
 
+    /// How many flits were injected and delivered, and so how many are under way.
     fn total(&mut self, injected: u128, delivered: u128)
         requires { length self.old ≤ 1 }
         ensures { self.new ≡ join_with_byte space (row_fields (Row.Total injected delivered)) ++ self.old }
@@ -191,6 +195,7 @@ impl Line {
         self.text(b"total injected ");
     }
 
+    /// A worker that was stopped, and in which turn.
     fn stopped(&mut self, worker: u64, turn: u64)
         requires { length self.old ≤ 1 }
         ensures { self.new ≡ join_with_byte space (row_fields (Row.Stopped worker turn)) ++ self.old }
@@ -201,6 +206,7 @@ impl Line {
         self.text(b"stopped worker ");
     }
 
+    /// How many entries no source accepted.
     fn not_offered(&mut self, entries: u64)
         requires { length self.old ≤ 1 }
         ensures { self.new ≡ join_with_byte space (row_fields (Row.NotOffered entries)) ++ self.old }
@@ -209,6 +215,7 @@ impl Line {
         self.text(b"not offered ");
     }
 
+    /// That this is a report, and in which format.
     fn header(&mut self)
         requires { length self.old ≤ 1 }
         ensures { self.new ≡ join_with_byte space (row_fields Row.Header) ++ self.old }

@@ -7,265 +7,231 @@ ghost use Rattle.worm_report.specs.Seen.{seen};
 ghost use Rattle.worm_report.specs.Report.{options_rows, stop_rows, stops_rows, opening_rows, delivered_rows};
 ghost use Rattle.worm_report.specs.Report.{lane_rows, pair_rows, source_rows, underway_rows, flits_rows, closing_rows};
 ghost use Rattle.worm_report.specs.Report.{report};
-ghost use Rattle.worm_report.specs.Writing.{desk, Writes, WritesRows, WritesOrBreaksOff};
+ghost use Rattle.worm_report.specs.Writing.{Writes, PutsRows, PutsOrBreaksOff};
 
 use crate::page::Page;
 use crate::row::Row;
 use crate::summary::{ReportFault, Summary};
-use crate::writing::{close, put_row};
+use crate::writing::{Desk, close, put_row};
 use std::alloc::Global;
 use std::io::Write;
 use worm_core::{Held, LaneSet, Net};
 use worm_flit::{Flit, Lane};
 
+/// The lanes of a network that may have something under way.
+#[derive(Drop)]
+struct Busy<'a> {
+    /// Where the memory for the view of a lane comes from.
+    alloc: Global,
+    /// The network.
+    net: &'a Net,
+    /// Its busy lanes.
+    lanes: &'a LaneSet,
+    ghost complete: { IsComplete net.now lanes.now },
+}
+
 /// The head of the report, and the options of the run.
-fn put_options<W: Write>(out: &mut W, page: &mut Page, summary: &Summary) -> Result<(), ReportFault>
-    ensures { WritesRows (desk (W.contents out.old) page.old) (desk (W.contents out.new) page.new) result
-        (options_rows summary.now) }
+fn put_options<W: Write>(desk: &mut Desk<'_, W>, summary: &Summary) -> Result<(), ReportFault>
+    ensures { PutsRows W.contents desk.old desk.new result (options_rows summary.now) }
 {
-    put_row(out, page, Row::Header)?;
+    put_row(desk, Row::Header)?;
     let row = Row::Options {
         turns: summary.turns,
         workers: summary.workers as u64,
         drain: summary.drain,
     };
-    put_row(out, page, row)
+    put_row(desk, row)
 }
 
 /// The turn in which a worker was stopped, if it was.
 fn put_stop<W: Write>(
-    out: &mut W,
-    page: &mut Page,
+    desk: &mut Desk<'_, W>,
     worker: u64,
     stop: Option<u64>,
 ) -> Result<(), ReportFault>
-    ensures { WritesRows (desk (W.contents out.old) page.old) (desk (W.contents out.new) page.new) result
-        (stop_rows worker stop) }
+    ensures { PutsRows W.contents desk.old desk.new result (stop_rows worker stop) }
 {
     match stop {
         None => Ok(()),
-        Some(turn) => put_row(out, page, Row::Stopped { worker, turn }),
+        Some(turn) => put_row(desk, Row::Stopped { worker, turn }),
     }
 }
 
 /// The workers that were stopped, by number.
-fn put_stops<W: Write>(
-    out: &mut W,
-    page: &mut Page,
-    stops: &[Option<u64>; 16],
-) -> Result<(), ReportFault>
-    ensures { WritesRows (desk (W.contents out.old) page.old) (desk (W.contents out.new) page.new) result
-        (stops_rows stops.now) }
+fn put_stops<W: Write>(desk: &mut Desk<'_, W>, stops: &[Option<u64>; 16]) -> Result<(), ReportFault>
+    ensures { PutsRows W.contents desk.old desk.new result (stops_rows stops.now) }
 {
     for worker in 0..16 {
-        put_stop(out, page, worker as u64, stops[worker])?;
+        put_stop(desk, worker as u64, stops[worker])?;
     }
     Ok(())
 }
 
 /// How the run went.
-fn put_opening<W: Write>(out: &mut W, page: &mut Page, summary: &Summary) -> Result<(), ReportFault>
-    ensures { WritesRows (desk (W.contents out.old) page.old) (desk (W.contents out.new) page.new) result
-        (opening_rows summary.now) }
+fn put_opening<W: Write>(desk: &mut Desk<'_, W>, summary: &Summary) -> Result<(), ReportFault>
+    ensures { PutsRows W.contents desk.old desk.new result (opening_rows summary.now) }
 {
-    put_options(out, page, summary)?;
-    put_stops(out, page, &summary.stops)
+    put_options(desk, summary)?;
+    put_stops(desk, &summary.stops)
 }
 
 /// The flits that arrived at a node, in order of arrival.
 fn put_arrived<W: Write>(
-    out: &mut W,
-    page: &mut Page,
+    desk: &mut Desk<'_, W>,
     node: u8,
     flits: &[Flit],
 ) -> Result<(), ReportFault>
-    ensures { WritesRows (desk (W.contents out.old) page.old) (desk (W.contents out.new) page.new) result
-        (map (λ flit. Row.Delivered node flit) flits.now) }
+    ensures { PutsRows W.contents desk.old desk.new result (map (λ flit. Row.Delivered node flit) flits.now) }
 {
     for flit in flits {
-        put_row(out, page, Row::Delivered { node, flit: *flit })?;
+        put_row(desk, Row::Delivered { node, flit: *flit })?;
     }
     Ok(())
 }
 
 /// What arrived, by node.
-fn put_delivered<W: Write>(out: &mut W, page: &mut Page, net: &Net) -> Result<(), ReportFault>
-    ensures { WritesRows (desk (W.contents out.old) page.old) (desk (W.contents out.new) page.new) result
-        (delivered_rows (seen net.now)) }
+fn put_delivered<W: Write>(desk: &mut Desk<'_, W>, net: &Net) -> Result<(), ReportFault>
+    ensures { PutsRows W.contents desk.old desk.new result (delivered_rows (seen net.now)) }
 {
     for node in 0..net.nodes() {
         let node = node as u8;
-        put_arrived(out, page, node, net.delivered(node))?;
+        put_arrived(desk, node, net.delivered(node))?;
     }
     Ok(())
 }
 
 /// The flits of a lane that are under way, from the sink back.
 fn put_held<W: Write>(
-    out: &mut W,
-    page: &mut Page,
+    desk: &mut Desk<'_, W>,
     lane: Lane,
     underway: &[Held],
 ) -> Result<(), ReportFault>
-    ensures { WritesRows (desk (W.contents out.old) page.old) (desk (W.contents out.new) page.new) result
-        (map (λ held. Row.Underway lane held) underway.now) }
+    ensures { PutsRows W.contents desk.old desk.new result (map (λ held. Row.Underway lane held) underway.now) }
 {
     for held in underway {
-        put_row(out, page, Row::Underway { lane, held: *held })?;
+        put_row(desk, Row::Underway { lane, held: *held })?;
     }
     Ok(())
 }
 
 /// A lane that is not busy is not asked for: there are up to 262,144 of them.
 fn put_lane<W: Write>(
-    alloc: Global,
-    out: &mut W,
-    page: &mut Page,
-    net: &Net,
-    busy: &LaneSet,
+    desk: &mut Desk<'_, W>,
+    busy: &Busy<'_>,
     lane: Lane,
 ) -> Result<(), ReportFault>
-    requires src { lane.src < node_count net.now.mesh }
-    requires dst { lane.dst < node_count net.now.mesh }
-    requires class { lane.class < length net.now.channels }
-    requires complete { IsComplete net.now busy.now }
-    ensures { WritesRows (desk (W.contents out.old) page.old) (desk (W.contents out.new) page.new) result
-        (lane_rows (seen net.now) lane) }
+    requires src { lane.src < node_count busy.now.net.now.mesh }
+    requires dst { lane.dst < node_count busy.now.net.now.mesh }
+    requires class { lane.class < length busy.now.net.now.channels }
+    ensures { PutsRows W.contents desk.old desk.new result (lane_rows (seen busy.now.net.now) lane) }
 {
-    if !busy.contains(lane) {
+    if !busy.lanes.contains(lane) {
         return Ok(());
     }
-    match net.lane_view(alloc, lane) {
-        Ok(view) => put_held(out, page, lane, view.underway.as_slice()),
+    match busy.net.lane_view(busy.alloc, lane) {
+        Ok(view) => put_held(desk, lane, view.underway.as_slice()),
         Err(_) => Err(ReportFault::NoMemory),
     }
 }
 
 /// What is under way between two nodes, by class.
 fn put_pair<W: Write>(
-    alloc: Global,
-    out: &mut W,
-    page: &mut Page,
-    net: &Net,
-    busy: &LaneSet,
+    desk: &mut Desk<'_, W>,
+    busy: &Busy<'_>,
     src: u8,
     dst: u8,
 ) -> Result<(), ReportFault>
-    requires src { src < node_count net.now.mesh }
-    requires dst { dst < node_count net.now.mesh }
-    requires complete { IsComplete net.now busy.now }
-    ensures { WritesRows (desk (W.contents out.old) page.old) (desk (W.contents out.new) page.new) result
-        (pair_rows (seen net.now) src dst) }
+    requires src { src < node_count busy.now.net.now.mesh }
+    requires dst { dst < node_count busy.now.net.now.mesh }
+    ensures { PutsRows W.contents desk.old desk.new result (pair_rows (seen busy.now.net.now) src dst) }
 {
-    for class in 0..net.classes() {
-        put_lane(alloc, out, page, net, busy, Lane { src, dst, class })?;
+    for class in 0..busy.net.classes() {
+        put_lane(desk, busy, Lane { src, dst, class })?;
     }
     Ok(())
 }
 
 /// What is under way from a node, by destination.
-fn put_source<W: Write>(
-    alloc: Global,
-    out: &mut W,
-    page: &mut Page,
-    net: &Net,
-    busy: &LaneSet,
-    src: u8,
-) -> Result<(), ReportFault>
-    requires src { src < node_count net.now.mesh }
-    requires complete { IsComplete net.now busy.now }
-    ensures { WritesRows (desk (W.contents out.old) page.old) (desk (W.contents out.new) page.new) result
-        (source_rows (seen net.now) src) }
+fn put_source<W: Write>(desk: &mut Desk<'_, W>, busy: &Busy<'_>, src: u8) -> Result<(), ReportFault>
+    requires { src < node_count busy.now.net.now.mesh }
+    ensures { PutsRows W.contents desk.old desk.new result (source_rows (seen busy.now.net.now) src) }
 {
-    for dst in 0..net.nodes() {
-        put_pair(alloc, out, page, net, busy, src, dst as u8)?;
+    for dst in 0..busy.net.nodes() {
+        put_pair(desk, busy, src, dst as u8)?;
     }
     Ok(())
 }
 
 /// What is under way, by source.
-fn put_sources<W: Write>(
-    alloc: Global,
-    out: &mut W,
-    page: &mut Page,
-    net: &Net,
-    busy: &LaneSet,
-) -> Result<(), ReportFault>
-    requires complete { IsComplete net.now busy.now }
-    ensures { WritesRows (desk (W.contents out.old) page.old) (desk (W.contents out.new) page.new) result
-        (underway_rows (seen net.now)) }
+fn put_sources<W: Write>(desk: &mut Desk<'_, W>, busy: &Busy<'_>) -> Result<(), ReportFault>
+    ensures { PutsRows W.contents desk.old desk.new result (underway_rows (seen busy.now.net.now)) }
 {
-    for src in 0..net.nodes() {
-        put_source(alloc, out, page, net, busy, src as u8)?;
+    for src in 0..busy.net.nodes() {
+        put_source(desk, busy, src as u8)?;
     }
     Ok(())
 }
 
 /// What is under way, of the lanes that are busy.
 fn put_underway<W: Write>(
+    desk: &mut Desk<'_, W>,
     alloc: Global,
-    out: &mut W,
-    page: &mut Page,
     net: &Net,
 ) -> Result<(), ReportFault>
-    ensures { WritesRows (desk (W.contents out.old) page.old) (desk (W.contents out.new) page.new) result
-        (underway_rows (seen net.now)) }
+    ensures { PutsRows W.contents desk.old desk.new result (underway_rows (seen net.now)) }
 {
     match net.busy(alloc) {
-        Ok(busy) => put_sources(alloc, out, page, net, &busy),
+        Ok(lanes) => {
+            let busy = Busy {
+                alloc,
+                net,
+                lanes: &lanes,
+            };
+            put_sources(desk, &busy)
+        }
         Err(_) => Err(ReportFault::NoMemory),
     }
 }
 
 /// Where the flits are.
-#[tactic(auto, using(crate::proofs::Written::rows_then, crate::proofs::Written::rows_stop))]
-fn put_flits<W: Write>(
-    alloc: Global,
-    out: &mut W,
-    page: &mut Page,
-    net: &Net,
-) -> Result<(), ReportFault>
-    ensures { WritesRows (desk (W.contents out.old) page.old) (desk (W.contents out.new) page.new) result
-        (flits_rows (seen net.now)) }
+fn put_flits<W: Write>(desk: &mut Desk<'_, W>, alloc: Global, net: &Net) -> Result<(), ReportFault>
+    ensures { PutsRows W.contents desk.old desk.new result (flits_rows (seen net.now)) }
 {
-    put_delivered(out, page, net)?;
-    put_underway(alloc, out, page, net)
+    put_delivered(desk, net)?;
+    put_underway(desk, alloc, net)
 }
 
 /// What was not offered, and the sums.
 fn put_closing<W: Write>(
-    out: &mut W,
-    page: &mut Page,
+    desk: &mut Desk<'_, W>,
     net: &Net,
     summary: &Summary,
 ) -> Result<(), ReportFault>
-    ensures { WritesOrBreaksOff (desk (W.contents out.old) page.old) (desk (W.contents out.new) page.new) result
-        (closing_rows (seen net.now) summary.now) }
+    ensures { PutsOrBreaksOff W.contents desk.old desk.new result (closing_rows (seen net.now) summary.now) }
 {
     let entries = summary.not_offered;
-    put_row(out, page, Row::NotOffered { entries })?;
+    put_row(desk, Row::NotOffered { entries })?;
     let totals = net.totals();
     let row = Row::Total {
         injected: totals.injected,
         delivered: totals.delivered,
     };
-    put_row(out, page, row)
+    put_row(desk, row)
 }
 
 /// All rows.
 fn put_report<W: Write>(
+    desk: &mut Desk<'_, W>,
     alloc: Global,
-    out: &mut W,
-    page: &mut Page,
     net: &Net,
     summary: &Summary,
 ) -> Result<(), ReportFault>
-    ensures { WritesOrBreaksOff (desk (W.contents out.old) page.old) (desk (W.contents out.new) page.new) result
+    ensures { PutsOrBreaksOff W.contents desk.old desk.new result
         (opening_rows summary.now ++ flits_rows (seen net.now) ++ closing_rows (seen net.now) summary.now) }
 {
-    put_opening(out, page, summary)?;
-    put_flits(alloc, out, page, net)?;
-    put_closing(out, page, net, summary)
+    put_opening(desk, summary)?;
+    put_flits(desk, alloc, net)?;
+    put_closing(desk, net, summary)
 }
 
 /// Writes the report of a network and of the run that led to it. `Write` where the writer failed or took nothing,
@@ -279,8 +245,10 @@ pub fn write_report<W: Write>(
 ) -> Result<(), ReportFault>
     ensures { Writes (W.contents out.old) (W.contents out.new) result (report (seen net.now) summary.now) }
 {
-    let mut page = Page::new(alloc)?;
-    let made = put_report(alloc, out, &mut page, net, summary);
+    let page = Page::new(alloc)?;
+    let mut desk = Desk { out, page };
+    let made = put_report(&mut desk, alloc, net, summary);
+    let Desk { out, mut page } = desk;
     let closed = close(out, &mut page);
     made.and(closed)
 }

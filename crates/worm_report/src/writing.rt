@@ -1,12 +1,20 @@
 //! Bytes and lines into a writer, whole or a first part of them.
 
 ghost use Rattle.std.specs.Prelude.{◌≡◌, [], ◌∷◌};
-ghost use Rattle.worm_report.specs.Writing.{desk, Writes, WritesRows, WritesOrBreaksOff};
+ghost use Rattle.worm_report.specs.Writing.{Writes, PutsRows, PutsOrBreaksOff};
 
 use crate::page::Page;
 use crate::row::Row;
 use crate::summary::ReportFault;
 use std::io::Write;
+
+/// A writer, and the lines that wait to be given to it.
+pub struct Desk<'a, W> {
+    /// What is given the lines of the page where that is full.
+    pub out: &'a mut W,
+    /// The lines that the writer has yet to be given.
+    pub page: Page,
+}
 
 /// Gives the writer the bytes, as many in a call as it takes. `Write` where it fails or takes none.
 pub fn put<W: Write>(out: &mut W, bytes: &[u8]) -> Result<(), ReportFault>
@@ -33,23 +41,22 @@ fn turn_page<W: Write>(out: &mut W, page: &mut Page) -> Result<(), ReportFault>
 }
 
 /// Sees to it that the page has room for a line.
-fn make_room<W: Write>(out: &mut W, page: &mut Page) -> Result<(), ReportFault>
-    ensures { WritesRows (desk (W.contents out.old) page.old) (desk (W.contents out.new) page.new) result [] }
+fn make_room<W: Write>(desk: &mut Desk<'_, W>) -> Result<(), ReportFault>
+    ensures { PutsRows W.contents desk.old desk.new result [] }
 {
-    if page.is_full() {
-        turn_page(out, page)
+    if desk.page.is_full() {
+        turn_page(desk.out, &mut desk.page)
     } else {
         Ok(())
     }
 }
 
 /// Puts the line of a row on the page, whose other lines the writer is given where it is full.
-pub fn put_row<W: Write>(out: &mut W, page: &mut Page, row: Row) -> Result<(), ReportFault>
-    ensures { WritesOrBreaksOff (desk (W.contents out.old) page.old) (desk (W.contents out.new) page.new) result
-        (row ∷ []) }
+pub fn put_row<W: Write>(desk: &mut Desk<'_, W>, row: Row) -> Result<(), ReportFault>
+    ensures { PutsOrBreaksOff W.contents desk.old desk.new result (row ∷ []) }
 {
-    make_room(out, page)?;
-    page.add(row)
+    make_room(desk)?;
+    desk.page.add(row)
 }
 
 /// Gives the writer the lines of the page, and has it pass on what it was given.

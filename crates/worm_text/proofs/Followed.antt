@@ -22,7 +22,7 @@ use Rattle.worm_text.specs.Stages.{Stage, at_header, at_radix, at_dims, at_dims_
 use Rattle.worm_text.specs.Stages.{ended, begins, widened, copies_at, radices_at, header_stage, radix_stage, dims_stage}
 use Rattle.worm_text.specs.Stages.{dims_first_stage, radices_stage, depth_stage, without_classes, IsSound}
 use Rattle.worm_text.proofs.Binds.{fine, fault, bind_ok, ok_is, checked_ok, no_more_ok}
-use Rattle.worm_text.proofs.Loops.{widened_is}
+use Rattle.worm_text.proofs.Dimensions.{widened_is}
 use Rattle.worm_text.proofs.FieldLaws.{same_bytes, chosen, begins_takes, number_at_takes}
 
 -- the lines that lead to a stage

@@ -77,6 +77,7 @@ fn begin(fields: &mut Fields<'_>, wanted: Key, earlier: &[Key]) -> Result<(), Wh
     }
 }
 
+/// The first line, which says the format.
 #[tactic(auto, unfolding(crate::specs::Stages::header_stage))]
 fn header(line: &[u8]) -> Result<Stage, Why>
     ensures { Gives stage_view result (header_stage line.now) }
@@ -90,6 +91,7 @@ fn header(line: &[u8]) -> Result<Stage, Why>
     }
 }
 
+/// The radix of all dimensions, in format 1.
 #[tactic(auto, unfolding(crate::specs::Stages::radix_stage))]
 fn radix_line(fields: &mut Fields<'_>) -> Result<Stage, Why>
     ensures { Gives stage_view result (radix_stage fields.old) }
@@ -110,6 +112,7 @@ struct Shape {
 }
 
 impl Shape {
+    /// No dimension yet.
     fn new() -> Self
         ensures { result.radices.items ≡ [] }
     {
@@ -159,6 +162,7 @@ fn radices(fields: &mut Fields<'_>, dims: u8) -> Result<ArrayVec<u8, 3>, Why>
     Ok(shape.radices)
 }
 
+/// How many dimensions have the radix, in format 1.
 #[tactic(auto, unfolding(crate::specs::Stages::dims_stage))]
 fn dims_line(radix: u8, fields: &mut Fields<'_>) -> Result<Stage, Why>
     ensures { Gives stage_view result (dims_stage radix fields.old) }
@@ -173,6 +177,7 @@ fn dims_line(radix: u8, fields: &mut Fields<'_>) -> Result<Stage, Why>
     })
 }
 
+/// How many dimensions there are, in format 2.
 #[tactic(auto, unfolding(crate::specs::Stages::dims_first_stage))]
 fn dims_first_line(fields: &mut Fields<'_>) -> Result<Stage, Why>
     ensures { Gives stage_view result (dims_first_stage fields.old) }
@@ -183,6 +188,7 @@ fn dims_first_line(fields: &mut Fields<'_>) -> Result<Stage, Why>
     Ok(Stage::Radices { dims })
 }
 
+/// A radix for each dimension, in format 2.
 #[tactic(auto, unfolding(crate::specs::Stages::radices_stage))]
 fn radices_line(dims: u8, fields: &mut Fields<'_>) -> Result<Stage, Why>
     requires { dims ≤ 3 }
@@ -197,6 +203,7 @@ fn radices_line(dims: u8, fields: &mut Fields<'_>) -> Result<Stage, Why>
     })
 }
 
+/// How many flits a buffer has room for.
 #[tactic(auto, unfolding(crate::specs::Stages::depth_stage))]
 fn depth_line(
     format: Format,

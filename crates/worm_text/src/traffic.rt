@@ -124,114 +124,105 @@ fn class(classes: &[Name], fields: &mut Fields<'_>) -> Result<u8, Why>
     }
 }
 
-/// A lane of the network: source, destination and class.
-#[tactic(auto, unfolding(crate::specs::Traffic::lane_at))]
-fn lane(config: &Config, nodes: u32, fields: &mut Fields<'_>) -> Result<Lane, Why>
-    requires counted { nodes ≡ nodes_of config.now.radices.items }
-    requires some { 1 ≤ nodes }
-    requires few { nodes ≤ 256 }
-    ensures { Reads (λ x. x) result fields.new (lane_at (view config.now) fields.old) }
-{
-    let src = fields.number(0, nodes - 1)? as u8;
-    let dst = fields.number(0, nodes - 1)? as u8;
-    let class = class(config.classes.as_slice(), fields)?;
-    Ok(Lane { src, dst, class })
-}
-
-/// What stands behind `send`. `LaneClosed` where the lane was closed.
-#[tactic(auto, unfolding(crate::specs::Traffic::send_at))]
-fn send(
-    config: &Config,
+/// What a reader knows in front of a line.
+#[derive(Clone, Copy)]
+struct Standing<'a> {
+    /// The network that the text is for.
+    config: &'a Config,
+    /// How many nodes it has.
     nodes: u32,
-    last: u32,
-    closed: &ClosedLanes,
-    fields: &mut Fields<'_>,
-) -> Result<Entry, Why>
-    requires counted { nodes ≡ nodes_of config.now.radices.items }
-    requires some { 1 ≤ nodes }
-    requires few { nodes ≤ 256 }
-    ensures { Gives entry_view result (send_at (view config.now) last (contains lane_cmp closed.now.lanes) fields.old) }
-{
-    let turn = turn(last, fields)?;
-    let lane = lane(config, nodes, fields)?;
-    if closed.contains(lane) {
-        return Err(Why::LaneClosed);
-    }
-    let words = words(fields)?;
-    match Packet::new(lane, words.as_slice()) {
-        Ok(packet) => Ok(Entry {
-            turn,
-            act: Act::Offer(packet),
-        }),
-        Err(_) => unreachable!(),
-    }
-}
-
-/// What stands behind `close`. `ManyChannels` where the class owns several, `LaneClosed` where the lane was closed.
-#[tactic(auto, unfolding(crate::specs::Traffic::close_at))]
-fn close(
-    config: &Config,
-    nodes: u32,
-    last: u32,
-    closed: &ClosedLanes,
-    fields: &mut Fields<'_>,
-) -> Result<Entry, Why>
-    requires counted { nodes ≡ nodes_of config.now.radices.items }
-    requires some { 1 ≤ nodes }
-    requires few { nodes ≤ 256 }
-    ensures { Gives entry_view result (close_at (view config.now) last
-        (contains lane_cmp closed.now.lanes) fields.old) }
-{
-    let turn = turn(last, fields)?;
-    let lane = lane(config, nodes, fields)?;
-    if config.channels.as_slice().get(lane.class as usize).copied() != Some(1) {
-        return Err(Why::ManyChannels);
-    }
-    if closed.contains(lane) {
-        return Err(Why::LaneClosed);
-    }
-    fields.end()?;
-    Ok(Entry {
-        turn,
-        act: Act::Close(lane),
-    })
-}
-
-/// The entry that a line says, or none at the line `end`. `TooMany` at the 10,001st entry.
-#[tactic(auto, unfolding(crate::specs::Traffic::entry_at))]
-fn entry(
-    config: &Config,
-    nodes: u32,
+    /// How many entries stand before the line.
     count: usize,
+    /// The turn of the last of them.
     last: u32,
-    closed: &ClosedLanes,
-    line: &[u8],
-) -> Result<Option<Entry>, Why>
-    requires counted { nodes ≡ nodes_of config.now.radices.items }
-    requires some { 1 ≤ nodes }
-    requires few { nodes ≤ 256 }
-    ensures { Gives (option_map entry_view) result
-        (entry_at (view config.now) count last (contains lane_cmp closed.now.lanes) (cut space line.now)) }
-{
-    let mut fields = Fields::new(line);
-    let Some(word) = fields.next() else {
-        return Err(Why::Missing);
-    };
-    if word == b"send".as_slice() {
-        if count >= 10_000 {
-            return Err(Why::TooMany);
+    /// The lanes that they closed.
+    closed: &'a ClosedLanes,
+    ghost counted: { nodes ≡ nodes_of config.now.radices.items },
+    ghost some: { 1 ≤ nodes },
+    ghost few: { nodes ≤ 256 },
+}
+
+impl<'a> Standing<'a> {
+    /// A lane of the network: source, destination and class.
+    #[tactic(auto, unfolding(crate::specs::Traffic::lane_at))]
+    fn lane(&self, fields: &mut Fields<'_>) -> Result<Lane, Why>
+        ensures { Reads (λ x. x) result fields.new (lane_at (view self.now.config.now) fields.old) }
+    {
+        let src = fields.number(0, self.nodes - 1)? as u8;
+        let dst = fields.number(0, self.nodes - 1)? as u8;
+        let class = class(self.config.classes.as_slice(), fields)?;
+        Ok(Lane { src, dst, class })
+    }
+
+    /// What stands behind `send`. `LaneClosed` where the lane was closed.
+    #[tactic(auto, unfolding(crate::specs::Traffic::send_at))]
+    fn send(&self, fields: &mut Fields<'_>) -> Result<Entry, Why>
+        ensures { Gives entry_view result (send_at (view self.now.config.now) self.now.last
+            (contains lane_cmp self.now.closed.now.lanes) fields.old) }
+    {
+        let turn = turn(self.last, fields)?;
+        let lane = self.lane(fields)?;
+        if self.closed.contains(lane) {
+            return Err(Why::LaneClosed);
         }
-        Ok(Some(send(config, nodes, last, closed, &mut fields)?))
-    } else if word == b"close".as_slice() {
-        if count >= 10_000 {
-            return Err(Why::TooMany);
+        let words = words(fields)?;
+        match Packet::new(lane, words.as_slice()) {
+            Ok(packet) => Ok(Entry {
+                turn,
+                act: Act::Offer(packet),
+            }),
+            Err(_) => unreachable!(),
         }
-        Ok(Some(close(config, nodes, last, closed, &mut fields)?))
-    } else if word == b"end".as_slice() {
+    }
+
+    /// What stands behind `close`. `ManyChannels` where the class owns several, `LaneClosed` where the lane was closed.
+    #[tactic(auto, unfolding(crate::specs::Traffic::close_at))]
+    fn close(&self, fields: &mut Fields<'_>) -> Result<Entry, Why>
+        ensures { Gives entry_view result (close_at (view self.now.config.now) self.now.last
+            (contains lane_cmp self.now.closed.now.lanes) fields.old) }
+    {
+        let turn = turn(self.last, fields)?;
+        let lane = self.lane(fields)?;
+        let channels = self.config.channels.as_slice();
+        if channels.get(lane.class as usize).copied() != Some(1) {
+            return Err(Why::ManyChannels);
+        }
+        if self.closed.contains(lane) {
+            return Err(Why::LaneClosed);
+        }
         fields.end()?;
-        Ok(None)
-    } else {
-        Err(Why::UnknownWord)
+        Ok(Entry {
+            turn,
+            act: Act::Close(lane),
+        })
+    }
+
+    /// The entry that a line says, or none at the line `end`. `TooMany` at the 10,001st entry.
+    #[tactic(auto, unfolding(crate::specs::Traffic::entry_at))]
+    fn entry(&self, line: &[u8]) -> Result<Option<Entry>, Why>
+        ensures { Gives (option_map entry_view) result (entry_at (view self.now.config.now) self.now.count
+            self.now.last (contains lane_cmp self.now.closed.now.lanes) (cut space line.now)) }
+    {
+        let mut fields = Fields::new(line);
+        let Some(word) = fields.next() else {
+            return Err(Why::Missing);
+        };
+        if word == b"send".as_slice() {
+            if self.count >= 10_000 {
+                return Err(Why::TooMany);
+            }
+            Ok(Some(self.send(&mut fields)?))
+        } else if word == b"close".as_slice() {
+            if self.count >= 10_000 {
+                return Err(Why::TooMany);
+            }
+            Ok(Some(self.close(&mut fields)?))
+        } else if word == b"end".as_slice() {
+            fields.end()?;
+            Ok(None)
+        } else {
+            Err(Why::UnknownWord)
+        }
     }
 }
 
@@ -267,7 +258,14 @@ fn read_entries(
     let mut line = 2;
     let mut rest = rest;
     while let Some((front, after)) = cut_first(rest, b'\n') {
-        match entry(config, nodes, script.entries().len(), last, &closed, front) {
+        let standing = Standing {
+            config,
+            nodes,
+            count: script.entries().len(),
+            last,
+            closed: &closed,
+        };
+        match standing.entry(front) {
             Err(why) => return Err(TextFault { line, why }),
             Ok(None) => {
                 return if after.is_empty() {
@@ -282,20 +280,16 @@ fn read_entries(
             Ok(Some(entry)) => {
                 last = entry.turn;
                 if closed.note(&entry).is_err() || script.push(entry).is_err() {
-                    return Err(TextFault {
-                        line,
-                        why: Why::NoMemory,
-                    });
+                    let why = Why::NoMemory;
+                    return Err(TextFault { line, why });
                 }
             }
         }
         line += 1;
         rest = after;
     }
-    Err(TextFault {
-        line,
-        why: Why::NoEnd,
-    })
+    let why = Why::NoEnd;
+    Err(TextFault { line, why })
 }
 
 /// Line after line, up to the first fault.

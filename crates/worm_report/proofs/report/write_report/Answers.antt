@@ -1,4 +1,4 @@
-use Rattle.std.proofs.Common.{[], ◌∷◌, sym, subst, ◌++◌}
+use Rattle.std.proofs.Common.{[], ◌∷◌, sym, subst, ◌++◌, rules}
 use Rattle.worm_report.specs.declared.row.Row.TheVariants.{Header, Options}
 use Rattle.worm_report.specs.Seen.{seen}
 use Rattle.worm_report.specs.Report.{opening_rows, stops_rows, flits_rows, closing_rows, report}
@@ -8,13 +8,16 @@ use Rattle.worm_report.proofs.report.write_report.Goals as goal
 
 pub returns : goal.returns
 returns g c =
+    let contents = g.W.Write.contents in
     let net = seen c.args.net.now in
     let rows = opening_rows c.args.summary.now ++ flits_rows net ++ closing_rows net c.args.summary.now in
-    subst (λ (r : Answer). Writes (g.W.Write.contents c.args.out.now) (g.W.Write.contents c.close-closed.new.out) r
+    let same = c.put_report-made.ensures.written.same in
+    let given = subst (λ (r : Answer). Writes (contents c.args.out.now) (contents c.close-closed.new.out) r
     (report net c.args.summary.now))
     (sym c.and.ensures)
-    (report_closed c.in_ok-page.page c.put_report-made.new.page rows c.in_ok-page.ensures.ok c.put_report-made.ensures
-    c.close-closed.ensures)
+    (report_closed c.in_ok-page.page c.put_report-made.new.desk.page rows c.in_ok-page.ensures.ok
+    c.put_report-made.ensures c.close-closed.ensures) in
+    search rules
 
 pub returns-in_err-page : goal.returns-in_err-page
 returns-in_err-page g c =

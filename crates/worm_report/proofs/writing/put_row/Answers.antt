@@ -8,4 +8,4 @@ returns-in_err-make_room g c = breaks_off [] c.args.row [] c.from_residual.ensur
 pub returns : goal.returns
 returns g c =
     then_breaks_off [] (c.args.row ∷ []) c.in_ok-make_room.ensures
-    (line_added c.add.result c.make_room.new.page c.add.new.self c.args.row c.add.ensures.ok c.add.ensures.err)
+    (line_added c.add.result c.make_room.new.desk.page c.add.new.self c.args.row c.add.ensures.ok c.add.ensures.err)
