@@ -281,6 +281,6 @@ pub fn write_report<W: Write>(
 {
     let mut page = Page::new(alloc)?;
     let made = put_report(alloc, out, &mut page, net, summary);
-    let closed = close(out, &mut page);
+    let closed = close(out, &page);
     made.and(closed)
 }
