@@ -9,6 +9,8 @@
 //! `Write` comes only from a writer that failed or took nothing no contract can say, since a writer says nothing of its
 //! failures; tests show it.
 //!
+//! Bytes go out by `write_bytes`, and what is drawn of a report (`worm_view`) goes out by it too.
+//!
 //! Lanes with nothing under way are passed over without a look at their routes: of up to 262,144 lanes few are busy.
 //! Nothing is proved of a network here; the order of a lane's flits is that of its view.
 #![tactic(auto)]
@@ -22,3 +24,4 @@ mod writing;
 
 pub use report::write_report;
 pub use summary::{ReportFault, Summary};
+pub use writing::write_bytes;

@@ -248,7 +248,7 @@ pub fn write_report<W: Write>(
     let page = Page::new(alloc)?;
     let mut desk = Desk { out, page };
     let made = put_report(&mut desk, alloc, net, summary);
-    let Desk { out, mut page } = desk;
-    let closed = close(out, &mut page);
+    let Desk { out, page } = desk;
+    let closed = close(out, &page);
     made.and(closed)
 }

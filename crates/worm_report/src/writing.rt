@@ -17,7 +17,7 @@ pub struct Desk<'a, W> {
 }
 
 /// Gives the writer the bytes, as many in a call as it takes. `Write` where it fails or takes none.
-pub fn put<W: Write>(out: &mut W, bytes: &[u8]) -> Result<(), ReportFault>
+fn put<W: Write>(out: &mut W, bytes: &[u8]) -> Result<(), ReportFault>
     ensures { Writes (W.contents out.old) (W.contents out.new) result bytes.now }
 {
     let mut rest = bytes;
@@ -59,13 +59,21 @@ pub fn put_row<W: Write>(desk: &mut Desk<'_, W>, row: Row) -> Result<(), ReportF
     desk.page.add(row)
 }
 
-/// Gives the writer the lines of the page, and has it pass on what it was given.
-pub fn close<W: Write>(out: &mut W, page: &mut Page) -> Result<(), ReportFault>
-    ensures { Writes (W.contents out.old) (W.contents out.new) result page.old }
+/// Gives the writer the bytes, and has it pass on what it was given. `Write` where it fails or takes none of what is
+/// left; a first part of the bytes has then gone out.
+pub fn write_bytes<W: Write>(out: &mut W, bytes: &[u8]) -> Result<(), ReportFault>
+    ensures { Writes (W.contents out.old) (W.contents out.new) result bytes.now }
 {
-    turn_page(out, page)?;
+    put(out, bytes)?;
     match out.flush() {
         Ok(()) => Ok(()),
         Err(_) => Err(ReportFault::Write),
     }
+}
+
+/// Gives the writer the lines of the page, and has it pass on what it was given.
+pub fn close<W: Write>(out: &mut W, page: &Page) -> Result<(), ReportFault>
+    ensures { Writes (W.contents out.old) (W.contents out.new) result page.now }
+{
+    write_bytes(out, page.as_bytes())
 }

@@ -1,44 +1,68 @@
 -- What a call that writes tells, where both texts are accepted.
-use Rattle.std.proofs.Common.{◌≡◌, ℕ, Bool, false, List, Result, Ok, Err, OnOk, IfErr, sym, subst}
+use Rattle.std.proofs.Common.{◌≡◌, ◌++◌, ◌∙◌, ℕ, Bool, List, Option, Result, Ok, Err, OnOk, OnErr, IfErr, ap}
+use Rattle.std.proofs.Common.{append-nil, subst, sym}
 use Rattle.std.specs.Io.KnownBytes.{Appends}
+use Rattle.worm_report.specs.Writing.{Writes}
+use Rattle.worm_report.specs.declared.summary.ReportFault.{ReportFault}
 use Rattle.worm_view.specs.declared.fault.ViewFault.{ViewFault}
 use Rattle.worm_view.specs.declared.fault.ViewFault.TheVariants.{Network, Report, ReadNetwork, ReadReport, NoMemory}
 use Rattle.worm_view.specs.declared.fault.ViewFault.TheVariants.{Write}
-use Rattle.worm_picture.specs.Picture.{PicturesRows}
-use Rattle.worm_view.specs.Programs.{Stream, Accepts, DrawsTexts, FailsTexts, FailsToDraw, GaveBoth}
+use Rattle.worm_view.specs.Programs.{BeginsToDraw, DrawsTexts, FailsTexts, FailsToDraw, GaveBoth, IsDrawing, Stream}
+use Rattle.worm_view.specs.Programs.{WritesPart, stream}
+
+-- ---- bytes that are those of a drawing
+
+pub gave_all : {a b : Option (List ℕ)} {u : Unit {0}} (bytes drawing : List ℕ) → bytes ≡ drawing
+    → Writes a b (Ok u) bytes → Appends a b drawing
+gave_all {a = a} {b = b} bytes drawing same w =
+    subst (Appends a b)
+    (sym (w.whole ∙ ap (λ (z : List ℕ). w.front ++ z) w.all ∙ append-nil w.front) ∙ same) w.given
+
+pub gave_part : {a b : Option (List ℕ)} {r : Result (Unit {0}) ReportFault} (bytes drawing : List ℕ) → bytes ≡ drawing
+    → Writes a b r bytes → WritesPart (stream a b) drawing
+gave_part bytes drawing same w =
+    record { front = w.front; rest = w.rest; whole = sym same ∙ w.whole; written = w.given }
+
+-- ---- texts
 
 pub drew : (as_map : Bool) (network report drawing : List ℕ) (out : Stream) (result : Result (Unit {0}) ViewFault)
-    (accepts : Accepts network report)
-    → (as_map ≡ false → PicturesRows accepts.shape accepts.rows drawing) → OnOk result (Appends out.old out.new drawing)
+    → IsDrawing as_map network report drawing → OnOk result (Appends out.old out.new drawing)
     → OnOk result (DrawsTexts as_map network report out)
-drew as_map network report drawing out (Ok done) accepts pictured written =
-    record { accepts = accepts; drawing = drawing; pictured = pictured; written = written }
-drew as_map network report drawing out (Err fault) accepts pictured written = tt
+drew as_map network report drawing out (Ok done) of_texts written =
+    record { drawing = drawing; of_texts = of_texts; written = written }
+drew as_map network report drawing out (Err fault) of_texts written = tt
 
-pub failed : (network report : List ℕ) (out : Stream) (result : Result (Unit {0}) ViewFault) → Accepts network report
-    → IfErr result (λ fault. fault ≡ Write) → IfErr result (FailsTexts network report out)
-failed network report out (Ok done) accepts same = tt
-failed network report out (Err fault) accepts same = subst (FailsTexts network report out) (sym same) accepts
+pub failed : (as_map : Bool) (network report drawing : List ℕ) (out : Stream) (result : Result (Unit {0}) ViewFault)
+    → IsDrawing as_map network report drawing → IfErr result (λ fault. fault ≡ Write)
+    → OnErr result (WritesPart out drawing) → IfErr result (FailsTexts as_map network report out)
+failed as_map network report drawing out (Ok done) of_texts same written = tt
+failed as_map network report drawing out (Err fault) of_texts same written =
+    let begun : BeginsToDraw as_map network report out =
+    record { drawing = drawing; of_texts = of_texts; written = written } in
+    subst (FailsTexts as_map network report out) (sym same) begun
+
+-- ---- readers
 
 -- what a fault tells of two texts, it tells of the readers that gave them
-told : (first second out : Stream) (network report : List ℕ) (fault : ViewFault) → GaveBoth first second network report
-    → FailsTexts network report out fault → FailsToDraw first second out fault
-told first second out network report (Network t) gave h =
+told : (as_map : Bool) (first second out : Stream) (network report : List ℕ) (fault : ViewFault)
+    → GaveBoth first second network report → FailsTexts as_map network report out fault
+    → FailsToDraw as_map first second out fault
+told as_map first second out network report (Network t) gave h =
     record { network = network; report = report; gave = gave; fails = h }
-told first second out network report (Report t) gave h =
+told as_map first second out network report (Report t) gave h =
     record { network = network; report = report; gave = gave; fails = h }
-told first second out network report ReadNetwork gave h = absurd h
-told first second out network report ReadReport gave h = absurd h
-told first second out network report NoMemory gave h = h
-told first second out network report Write gave h =
+told as_map first second out network report ReadNetwork gave h = absurd h
+told as_map first second out network report ReadReport gave h = absurd h
+told as_map first second out network report NoMemory gave h = h
+told as_map first second out network report Write gave h =
     record { network = network; report = report; gave = gave; fails = h }
 
-pub failed_reading : (first second out : Stream) (network report read_network read_report : List ℕ)
+pub failed_reading : (as_map : Bool) (first second out : Stream) (network report read_network read_report : List ℕ)
     (result : Result (Unit {0}) ViewFault) → GaveBoth first second network report
-    → read_network ≡ network → read_report ≡ report → IfErr result (FailsTexts read_network read_report out)
-    → IfErr result (FailsToDraw first second out)
-failed_reading first second out network report read_network read_report (Ok done) gave n r h = tt
-failed_reading first second out network report read_network read_report (Err fault) gave n r h =
-    told first second out network report fault gave
-    (subst (λ (text : List ℕ). FailsTexts network text out fault) r
-    (subst (λ (text : List ℕ). FailsTexts text read_report out fault) n h))
+    → read_network ≡ network → read_report ≡ report → IfErr result (FailsTexts as_map read_network read_report out)
+    → IfErr result (FailsToDraw as_map first second out)
+failed_reading as_map first second out network report read_network read_report (Ok done) gave n r h = tt
+failed_reading as_map first second out network report read_network read_report (Err fault) gave n r h =
+    told as_map first second out network report fault gave
+    (subst (λ (text : List ℕ). FailsTexts as_map network text out fault) r
+    (subst (λ (text : List ℕ). FailsTexts as_map text read_report out fault) n h))

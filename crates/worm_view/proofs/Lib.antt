@@ -1,2 +1,3 @@
 mod Drawing
+mod Named
 pub mod Statuses

@@ -1,5 +1,5 @@
 -- What the program makes of two texts: a drawing of the report, or the fault that comes first.
-use Rattle.std.specs.Prelude.{ℕ, ◌≡◌, Bool, false, List, Option}
+use Rattle.std.specs.Prelude.{ℕ, ◌≡◌, Bool, false, List, ◌++◌, Option}
 use Rattle.std.specs.Io.KnownBytes.{Keeps, Appends}
 use Rattle.worm_text.specs.Network.{Network}
 use Rattle.worm_rows.specs.declared.shape.Shape.{Shape}
@@ -36,22 +36,38 @@ pub record Accepts (network report : List ℕ) : Type 0 where
   pub rows : List Row
   pub accepted : IsAccepted network report said shape rows
 
--- both texts are accepted, and a drawing was written, all of it: a map where one is asked for, and else a picture of
--- the report
-pub record DrawsTexts (as_map : Bool) (network report : List ℕ) (out : Stream) : Type 0 where
+-- both texts are accepted, and this is drawn of them: a map where one is asked for, and else a picture of the report
+pub record IsDrawing (as_map : Bool) (network report drawing : List ℕ) : Type 0 where
   pub accepts : Accepts network report
-  pub drawing : List ℕ
   pub pictured : as_map ≡ false → PicturesRows accepts.shape accepts.rows drawing
+
+-- a first part of these bytes was written
+pub record WritesPart (out : Stream) (bytes : List ℕ) : Type 0 where
+  pub front : List ℕ
+  pub rest : List ℕ
+  pub whole : bytes ≡ front ++ rest
+  pub written : Appends out.old out.new front
+
+-- a drawing of both texts was written, all of it
+pub record DrawsTexts (as_map : Bool) (network report : List ℕ) (out : Stream) : Type 0 where
+  pub drawing : List ℕ
+  pub of_texts : IsDrawing as_map network report drawing
   pub written : Appends out.old out.new drawing
 
+-- a first part of a drawing of both texts was written
+pub record BeginsToDraw (as_map : Bool) (network report : List ℕ) (out : Stream) : Type 0 where
+  pub drawing : List ℕ
+  pub of_texts : IsDrawing as_map network report drawing
+  pub written : WritesPart out drawing
+
 -- what a fault tells of two texts at hand: nothing was written, but where the writer failed
-abbrev pub FailsTexts : List ℕ → List ℕ → Stream → ViewFault → Type 0
-FailsTexts network report out (f.Network t) = IsRefused network report (f.Network t) × Keeps out.old out.new
-FailsTexts network report out (f.Report t) = IsRefused network report (f.Report t) × Keeps out.old out.new
-FailsTexts network report out f.ReadNetwork = ⊥
-FailsTexts network report out f.ReadReport = ⊥
-FailsTexts network report out f.NoMemory = Keeps out.old out.new
-FailsTexts network report out f.Write = Accepts network report
+abbrev pub FailsTexts : Bool → List ℕ → List ℕ → Stream → ViewFault → Type 0
+FailsTexts as_map network report out (f.Network t) = IsRefused network report (f.Network t) × Keeps out.old out.new
+FailsTexts as_map network report out (f.Report t) = IsRefused network report (f.Report t) × Keeps out.old out.new
+FailsTexts as_map network report out f.ReadNetwork = ⊥
+FailsTexts as_map network report out f.ReadReport = ⊥
+FailsTexts as_map network report out f.NoMemory = Keeps out.old out.new
+FailsTexts as_map network report out f.Write = BeginsToDraw as_map network report out
 
 -- Readers
 
@@ -70,16 +86,17 @@ pub record FailsBoth (Holds : List ℕ → List ℕ → Type 0) (first second : 
   pub fails : Holds network report
 
 -- what a fault tells where two readers give the texts; the report is not read before the network is
-abbrev pub FailsToDraw : Stream → Stream → Stream → ViewFault → Type 0
-FailsToDraw first second out (f.Network t) =
-    FailsBoth (λ network report. FailsTexts network report out (f.Network t)) first second
-FailsToDraw first second out (f.Report t) =
-    FailsBoth (λ network report. FailsTexts network report out (f.Report t)) first second
-FailsToDraw first second out f.ReadNetwork = Keeps second.old second.new × Keeps out.old out.new
-FailsToDraw first second out f.ReadReport =
+abbrev pub FailsToDraw : Bool → Stream → Stream → Stream → ViewFault → Type 0
+FailsToDraw as_map first second out (f.Network t) =
+    FailsBoth (λ network report. FailsTexts as_map network report out (f.Network t)) first second
+FailsToDraw as_map first second out (f.Report t) =
+    FailsBoth (λ network report. FailsTexts as_map network report out (f.Report t)) first second
+FailsToDraw as_map first second out f.ReadNetwork = Keeps second.old second.new × Keeps out.old out.new
+FailsToDraw as_map first second out f.ReadReport =
     ((network : List ℕ) × GaveText first network) × Keeps out.old out.new
-FailsToDraw first second out f.NoMemory = Keeps out.old out.new
-FailsToDraw first second out f.Write = FailsBoth (λ network report. FailsTexts network report out f.Write) first second
+FailsToDraw as_map first second out f.NoMemory = Keeps out.old out.new
+FailsToDraw as_map first second out f.Write =
+    FailsBoth (λ network report. FailsTexts as_map network report out f.Write) first second
 
 -- what a fault of reading tells
 abbrev pub ReadsNot : Stream → Stream → ViewFault → Type 0

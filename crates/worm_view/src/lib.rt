@@ -3,9 +3,9 @@
 //!
 //! The picture is SVG; with `--text` it is a map for a terminal. A fault is one line on the standard error and a
 //! status. Everything goes through readers, a writer and a runtime that the caller brings, so a contract can name the
-//! bytes that they give and take: what each fault tells is proved (`program`), and the line and the status it ends in
-//! (`fault`). That the report is read as what it says is proved in `worm_rows`, what the picture shows in
-//! `worm_picture`.
+//! bytes that they give and take: what the words ask for is proved (`words`), what each fault tells (`program`), and
+//! the line and the status it ends in (`fault`). That the report is read as what it says is proved in `worm_rows`, what
+//! the picture shows in `worm_picture`.
 //!
 //! The program is a crate of its own, and no more than its `main`: its check loads the code of all that it stands on,
 //! where this one reads only what the libraries below say of themselves.

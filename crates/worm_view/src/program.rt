@@ -1,10 +1,11 @@
 //! The program over readers and a writer.
 
-ghost use Rattle.std.specs.Prelude.{◌≡◌, IfOk, IfErr, OnOk};
+ghost use Rattle.std.specs.Prelude.{◌≡◌, IfOk, IfErr, OnOk, OnErr};
 ghost use Rattle.std.specs.Io.KnownBytes.{Appends};
 ghost use Rattle.worm_text.specs.Network.{view};
 ghost use Rattle.worm_view.specs.Views.{IsAccepted, IsRefused};
-ghost use Rattle.worm_view.specs.Programs.{Draws, DrawsTexts, FailsTexts, FailsToDraw, GaveBoth, ReadsNot, stream};
+ghost use Rattle.worm_view.specs.Programs.{Draws, DrawsTexts, FailsTexts, FailsToDraw, GaveBoth, ReadsNot};
+ghost use Rattle.worm_view.specs.Programs.{WritesPart, stream};
 ghost use Rattle.worm_view.specs.declared.fault.ViewFault.TheVariants.{Write};
 
 use crate::fault::ViewFault;
@@ -12,6 +13,7 @@ use std::alloc::Global;
 use std::io::{Read, Write};
 use worm_core::Config;
 use worm_picture::draw;
+use worm_report::write_bytes;
 use worm_rows::{Row, Shape, read_report};
 use worm_text::{ReadFault, Why, read_network, read_text};
 
@@ -82,15 +84,16 @@ fn read_both<N: Read, R: Read>(
     Ok(Texts { network, report })
 }
 
-/// Gives the writer a drawing.
+/// Gives the writer a drawing, and has it pass on what it was given.
 fn write_drawing<W: Write>(out: &mut W, drawing: &str) -> Result<(), ViewFault>
-    ensures all { OnOk result (Appends (W.contents out.old) (W.contents out.new) drawing.now) }
-    ensures err { IfErr result (λ fault. fault ≡ Write) }
+    ensures ok { OnOk result (Appends (W.contents out.old) (W.contents out.new) drawing.now) }
+    ensures fault { IfErr result (λ fault. fault ≡ Write) }
+    ensures err { OnErr result (WritesPart (stream (W.contents out.old) (W.contents out.new)) drawing.now) }
 {
-    if out.write_all(drawing.as_bytes()).is_err() || out.flush().is_err() {
-        return Err(ViewFault::Write);
+    match write_bytes(out, drawing.as_bytes()) {
+        Ok(()) => Ok(()),
+        Err(_) => Err(ViewFault::Write),
     }
-    Ok(())
 }
 
 /// Judges two texts, and gives the writer the picture of the report, or its map.
@@ -103,7 +106,8 @@ fn draw_texts<W: Write>(
 ) -> Result<(), ViewFault>
     ensures ok { OnOk result (DrawsTexts text network.now report.now
         (stream (W.contents out.old) (W.contents out.new))) }
-    ensures err { IfErr result (FailsTexts network.now report.now (stream (W.contents out.old) (W.contents out.new))) }
+    ensures err { IfErr result (FailsTexts text network.now report.now
+        (stream (W.contents out.old) (W.contents out.new))) }
 {
     let accepted = accept(alloc, network, report)?;
     let rows = accepted.rows.as_slice();
@@ -116,7 +120,8 @@ fn draw_texts<W: Write>(
 /// Reads the network and the report to their ends, and gives the writer the picture, or the map.
 ///
 /// `ReadNetwork` and `ReadReport` where a reader failed or gave too much; `Network` and `Report` where a text is
-/// refused; `NoMemory` where memory ran out; with these nothing was written. `Write` where the writer failed.
+/// refused; `NoMemory` where memory ran out; with these nothing was written. `Write` where the writer failed or took
+/// nothing: a first part of the picture, or of the map, has then gone out.
 pub fn run_view<N: Read, R: Read, W: Write>(
     alloc: Global,
     network: &mut N,
@@ -129,7 +134,7 @@ pub fn run_view<N: Read, R: Read, W: Write>(
         (stream (R.remaining report.old) (R.remaining report.new))
         (stream (W.contents out.old) (W.contents out.new))) }
     ensures err { IfErr result
-        (FailsToDraw (stream (N.remaining network.old) (N.remaining network.new))
+        (FailsToDraw text (stream (N.remaining network.old) (N.remaining network.new))
         (stream (R.remaining report.old) (R.remaining report.new))
         (stream (W.contents out.old) (W.contents out.new))) }
 {

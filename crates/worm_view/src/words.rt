@@ -1,8 +1,10 @@
 //! The words of the command line.
 
-ghost use Rattle.clap.specs.Values.{kind_of};
+ghost use Rattle.clap.specs.Words.{app_of, fault_of, first_of, found_of, kind_of, matches_of, rows_of, rule_of, takes};
+ghost use Rattle.clap.specs.Walk.{texts};
 ghost use Rattle.std.specs.IoError.{error_kind};
-ghost use Rattle.std.specs.Prelude.{◌≡◌, IfErr};
+ghost use Rattle.std.specs.Prelude.{◌≡◌, [], codes, true, false, IfOk, IfErr, IsSome, OnOk};
+ghost use Rattle.worm_view.specs.Commands.{command, described, network_word, text_word, IsRefused, Say};
 ghost use Rattle.worm_view.specs.Faults.{list_fault, parser_fault, IsNoCommand, IsNoList};
 
 use clap::error::ErrorKind;
@@ -75,7 +77,10 @@ pub fn all_words<R: Env + AllocGlobal>(rt: &R) -> Result<Vec<String>, WordsFault
 }
 
 /// The word that names the file of the network.
-fn network_word<'a>(alloc: Global) -> Arg<'a> {
+fn network_word<'a>(alloc: Global) -> Arg<'a>
+    ensures rule { rule_of result ≡ network_word }
+    ensures local { result.global ≡ false }
+{
     Arg::new(alloc, "NETWORK")
         .required(true)
         .help("the file of the network text that the report is of")
@@ -83,7 +88,10 @@ fn network_word<'a>(alloc: Global) -> Arg<'a> {
 }
 
 /// The word that asks for a map.
-fn text_word<'a>(alloc: Global) -> Arg<'a> {
+fn text_word<'a>(alloc: Global) -> Arg<'a>
+    ensures rule { rule_of result ≡ text_word }
+    ensures local { result.global ≡ false }
+{
     Arg::new(alloc, "text")
         .long("text")
         .help("print a map for a terminal, and not an SVG picture")
@@ -91,45 +99,45 @@ fn text_word<'a>(alloc: Global) -> Arg<'a> {
 }
 
 /// The program's name, and what help and the version say of it.
-fn described<'a>(alloc: Global) -> Command<'a> {
+fn described<'a>(alloc: Global) -> Command<'a>
+    ensures { app_of result ≡ described }
+{
     Command::new(alloc, "wormview").version("1").about(
         "Reads a report of wormrun on the standard input and draws it on the standard output",
     )
 }
 
 /// What the parser knows of the program.
-fn command<'a>(alloc: Global) -> Result<Command<'a>, AllocError> {
+fn command<'a>(alloc: Global) -> Result<Command<'a>, AllocError>
+    ensures { IfOk result (λ c. app_of c ≡ command) }
+{
     described(alloc)
         .arg(network_word(alloc))?
         .arg(text_word(alloc))
 }
 
-/// What the words that the parser matched say; none where no network is among them.
-fn matched<'a>(matches: &ArgMatches<'a>) -> Option<Words<'a>> {
-    let network = matches.get_str("NETWORK")?;
-    let text = matches.get_flag("text");
-    Some(Words { network, text })
-}
-
-/// The fault of words among which no network is.
-fn unnamed(command: &mut Command<'_>) -> WordsFault
-    ensures { IsNoCommand result }
+/// What a parse that succeeded found: the network is named.
+fn words_in<'a>(matches: &ArgMatches<'a>) -> Words<'a>
+    requires { IsSome (first_of (codes "NETWORK") (rows_of (found_of matches.now))) }
+    ensures { Say (rows_of (found_of matches.now)) result }
 {
-    let said = "a file of a network is wanted";
-    match command.error(ErrorKind::MissingRequiredArgument, said) {
-        Ok(error) => WordsFault::from(error),
-        Err(_) => WordsFault::NoMemory,
+    Words {
+        network: matches.get_str("NETWORK").unwrap(),
+        // Not `get_flag`, whose clauses leave out a text that is neither `true` nor `false`.
+        text: matches.get_one::<bool>("text").unwrap_or(false),
     }
 }
 
-/// Reads the words, the program's name first: `NETWORK [--text]`, in any order, or `--help` or `--version`.
+/// Reads the words, the program's name first: `NETWORK [--text]`, in any order, or `--help` or `--version`. Any other
+/// word is a fault of the words.
 pub fn read_words<'a>(alloc: Global, words: &'a [&'a str]) -> Result<Words<'a>, WordsFault>
-    ensures { IfErr result IsNoCommand }
+    ensures said { IfOk result (Say (matches_of command (texts words.now))) }
+    ensures faultless { OnOk result (fault_of command (texts words.now) ≡ []) }
+    ensures err { IfErr result IsNoCommand }
+    ensures refused { IfErr result (IsRefused (fault_of command (texts words.now))) }
+    ensures taken { IfErr result
+        (λ fault. takes command (texts words.now) ≡ true → fault ≡ WordsFault.NoMemory) }
 {
-    let mut command = command(alloc)?;
-    let matches = command.try_get_matches_from_mut(words)?;
-    match matched(&matches) {
-        Some(words) => Ok(words),
-        None => Err(unnamed(&mut command)),
-    }
+    let matches = command(alloc)?.try_get_matches_from(words)?;
+    Ok(words_in(&matches))
 }

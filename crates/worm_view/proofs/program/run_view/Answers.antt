@@ -4,7 +4,8 @@ use Rattle.worm_view.proofs.program.run_view.Goals as goal
 
 pub returns-clause-err : goal.returns-clause-err
 returns-clause-err g c =
-    failed_reading (stream (g.N.Read.remaining c.args.network.now) (g.N.Read.remaining c.read_both.new.network))
+    failed_reading c.args.text
+    (stream (g.N.Read.remaining c.args.network.now) (g.N.Read.remaining c.read_both.new.network))
     (stream (g.R.Read.remaining c.args.report.now) (g.R.Read.remaining c.read_both.new.report))
     (stream (g.W.Write.contents c.args.out.now) (g.W.Write.contents c.draw_texts.new.out))
     c.in_ok-texts.texts.network.items c.in_ok-texts.texts.report.items c.as_slice-network.result.now

@@ -1,0 +1,47 @@
+-- What the words `NETWORK [--text]` of the command line say, as `clap` reads them.
+use Rattle.std.specs.Prelude.{◌≡◌, Bool, false, true, List, [], ◌∷◌, Some, codes}
+use Rattle.std.specs.Option.{option_map_or}
+use Rattle.std.specs.Str.{bytes_eq}
+use Rattle.clap.specs.Words.{App, IsAmong, Kinds, Row, Rule, Text, first_of, kind_of, new_app, new_rule, one_of}
+use Rattle.clap.specs.Simple.{new_shape}
+use Rattle.clap.specs.declared.builder.action.ArgAction.TheVariants.{Set, SetTrue}
+use Rattle.worm_view.specs.declared.words.Words.{Words}
+use Rattle.worm_view.specs.declared.words.WordsFault.{WordsFault}
+use Rattle.worm_view.specs.declared.words.WordsFault.TheVariants as w
+
+-- The command
+
+-- the file of the network, which has to be named
+abbrev pub network_word : Rule
+network_word = record (new_rule (codes "NETWORK")) { action = Some Set; required = true }
+
+-- `--text`
+abbrev pub text_word : Rule
+text_word = record (new_rule (codes "text")) { long = Some (codes "text"); action = Some SetTrue }
+
+-- the program has a version, and so `--version` beside `--help`
+abbrev pub described : App
+described =
+    record (new_app (codes "wormview")) { top = record (new_shape (codes "wormview")) { has_version = true } }
+
+-- and these words
+unfoldable pub command : App
+command = record described { top = record described.top { rules = network_word ∷ text_word ∷ [] } }
+
+-- What it makes of words
+
+-- whether a flag was given
+abbrev pub is_set : Text → List Row → Bool
+is_set name rows = option_map_or (λ t. bytes_eq t (codes "true")) (one_of name rows) false
+
+-- the matches of a parse say the same as these words
+pub record Say (rows : List Row) (said : Words) : Type 0 where
+  pub network : first_of (codes "NETWORK") rows ≡ Some said.network.now
+  pub text : said.text ≡ is_set (codes "text") rows
+
+-- the words are answered by one of these kinds of fault, of which help and the version are two, or memory ran out
+abbrev pub IsRefused : Kinds → WordsFault → Type 0
+IsRefused kinds (w.Asked answer) = IsAmong (kind_of answer) kinds
+IsRefused kinds (w.Words error) = IsAmong (kind_of error) kinds
+IsRefused kinds w.NotText = ⊥
+IsRefused kinds w.NoMemory = Unit {0}
