@@ -98,27 +98,26 @@ no_fault : (fault : Option StepFault) → EndsForMemory fault → fault ≢ Some
 no_fault fault (inl none) had = none
 no_fault fault (inr want) had = absurd (had want)
 
-module _ (may : ℕ → ℕ → Type 0) (script : List Entry) (plan : RunPlan) (most : ℕ) (config : Network)
+module _ (stop pass : ℕ → ℕ → Type 0) (script : List Entry) (plan : RunPlan) (most : ℕ) (config : Network)
     (opening closing : NetState) (table : List (Option ℕ)) (fault : Option StepFault) where
   unrefused : IsFresh config.radices config.channels config.depth config.classes opening →
       IsAcceptableScript config.radices config.channels script →
-      EndsTogether may script plan most opening closing table fault →
-      EndsUnrefused may script plan most opening closing table fault
+      EndsTogether stop pass script plan most opening closing table fault →
+      EndsUnrefused stop pass script plan most opening closing table fault
   unrefused fresh fine (inr never) = inr never
   unrefused fresh fine (inl ran) =
       let runs = ran.runs in
       let none = no_refusals 0 runs.endings
-      (λ i why below is. run_never_refuses may config.radices config.channels config.depth config.classes script plan
-      opening
-      ran.end fresh fine runs i why (let all = runs.all in omega arith) is) in
+      (λ i why below is. run_never_refuses stop pass config.radices config.channels config.depth config.classes script
+      plan opening ran.end fresh fine runs i why (let all = runs.all in omega arith) is) in
       inl record {
         ran = ran;
         not_refused = subst AreNoRefusals (sym runs.stops) none;
         for_memory = for_want most ran.end.stops.items ran.end.net closing fault ran.drained;
       }
 
-  whole : fault ≢ Some NoRoom → EndsUnrefused may script plan most opening closing table fault →
-      RanWhole may script plan most opening closing table
+  whole : fault ≢ Some NoRoom → EndsUnrefused stop pass script plan most opening closing table fault →
+      RanWhole stop pass script plan most opening closing table
   whole had (inr never) = absurd (had never.want)
   whole had (inl so) =
       let ran = so.ran in
@@ -138,16 +137,17 @@ module _ (may : ℕ → ℕ → Type 0) (script : List Entry) (plan : RunPlan) (
       }
 
 -- what was written of a report, and what is answered
-module _ (may : ℕ → ℕ → Type 0) (network traffic : List ℕ) (plan : RunPlan) (drain : ℕ) (out : Stream)
+module _ (stop pass : ℕ → ℕ → Type 0) (network traffic : List ℕ) (plan : RunPlan) (drain : ℕ) (out : Stream)
     (fault : Option StepFault) (bytes : List ℕ)
-    (base : IsReportOf (λ script opening closing table. EndsTogether may script plan drain opening closing table fault)
+    (base : IsReportOf (λ script opening closing table.
+    EndsTogether stop pass script plan drain opening closing table fault)
     network traffic plan drain bytes)
     (fine : IsAcceptableScript base.config.radices base.config.channels base.script) where
-  leads : EndsUnrefused may base.script plan drain base.opening base.closing base.table fault
-  leads = unrefused may base.script plan drain base.config base.opening base.closing base.table fault base.fresh fine
-      base.leads
+  leads : EndsUnrefused stop pass base.script plan drain base.opening base.closing base.table fault
+  leads = unrefused stop pass base.script plan drain base.config base.opening base.closing base.table fault
+      base.fresh fine base.leads
 
-  part : WritesFront out bytes → PartTogether may network traffic plan drain out
+  part : WritesFront out bytes → PartTogether stop pass network traffic plan drain out
   part front = record {
     fault = fault;
     bytes = bytes;
@@ -166,8 +166,8 @@ module _ (may : ℕ → ℕ → Type 0) (network traffic : List ℕ) (plan : Run
   }
 
   pub together_so : (result : Result (Unit {0}) ProgramFault) → WritesReport out fault result bytes →
-      MatchResult result (λ _. ReportsTogether may network traffic plan drain out)
-      (FailsTogether may plan drain out network traffic)
+      MatchResult result (λ _. ReportsTogether stop pass network traffic plan drain out)
+      (FailsTogether stop pass plan drain out network traffic)
   unfolding part
   together_so (Ok done) writes = record {
     bytes = bytes;
@@ -179,7 +179,8 @@ module _ (may : ℕ → ℕ → Type 0) (network traffic : List ℕ) (plan : Run
       fresh = base.fresh;
       closing = base.closing;
       table = base.table;
-      leads = whole may base.script plan drain base.config base.opening base.closing base.table fault writes.0 leads;
+      leads = whole stop pass base.script plan drain base.config base.opening base.closing base.table fault
+          writes.0 leads;
       reported = base.reported;
     };
     written = writes.1;

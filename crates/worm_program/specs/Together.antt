@@ -68,11 +68,11 @@ DrainsUnstopped most (s ∷ stops) old fault new =
 
 -- The workers ran: each took its turns on its part, which is what a run may give and of which the headline holds; and
 -- then the drain where nobody was stopped.
-pub record RanTogether (may : ℕ → ℕ → Type 0) (script : List Entry) (plan : RunPlan) (most : ℕ)
+pub record RanTogether (may_stop may_pass : ℕ → ℕ → Type 0) (script : List Entry) (plan : RunPlan) (most : ℕ)
     (opening closing : NetState) (table : List (Option ℕ)) (fault : Option StepFault) : Type 0 where
   pub end : RunEnd
-  pub exact : IsRunOf may script plan opening end
-  pub runs : RunsTo may script plan opening end
+  pub exact : IsRunOf may_stop may_pass script plan opening end
+  pub runs : RunsTo may_stop may_pass script plan opening end
   pub later : IsLaterThan opening end.net
   pub delivers : DeliversInOrder end.net
   pub stopped : AreStopsOf end.stops.items table
@@ -84,29 +84,29 @@ pub record NeverRan (opening closing : NetState) (table : List (Option ℕ)) (fa
   pub stopped : AreStopsOf [] table
   pub want : fault ≡ Some NoRoom
 
-abbrev pub EndsTogether : (ℕ → ℕ → Type 0) → List Entry → RunPlan → ℕ → NetState → NetState → List (Option ℕ)
-    → Option StepFault → Type 0
-EndsTogether may script plan most opening closing table fault =
-    RanTogether may script plan most opening closing table fault ⊎ NeverRan opening closing table fault
+abbrev pub EndsTogether : (may_stop may_pass : ℕ → ℕ → Type 0) → List Entry → RunPlan → ℕ → NetState → NetState
+    → List (Option ℕ) → Option StepFault → Type 0
+EndsTogether may_stop may_pass script plan most opening closing table fault =
+    RanTogether may_stop may_pass script plan most opening closing table fault ⊎ NeverRan opening closing table fault
 
 -- The workers ran, and no source refused an entry: each was stopped by its gate or for want of memory, if at all, and
 -- nothing but want of memory ended the drain.
-pub record RanUnrefused (may : ℕ → ℕ → Type 0) (script : List Entry) (plan : RunPlan) (most : ℕ)
+pub record RanUnrefused (may_stop may_pass : ℕ → ℕ → Type 0) (script : List Entry) (plan : RunPlan) (most : ℕ)
     (opening closing : NetState) (table : List (Option ℕ)) (fault : Option StepFault) : Type 0 where
-  pub ran : RanTogether may script plan most opening closing table fault
+  pub ran : RanTogether may_stop may_pass script plan most opening closing table fault
   pub not_refused : All (λ (s : Stop). IsNoRefusal s.why) ran.end.stops.items
   pub for_memory : EndsForMemory fault
 
 -- the same of an accepted script, or there was no memory for the parts
-abbrev pub EndsUnrefused : (ℕ → ℕ → Type 0) → List Entry → RunPlan → ℕ → NetState → NetState → List (Option ℕ)
-    → Option StepFault → Type 0
-EndsUnrefused may script plan most opening closing table fault =
-    RanUnrefused may script plan most opening closing table fault ⊎ NeverRan opening closing table fault
+abbrev pub EndsUnrefused : (may_stop may_pass : ℕ → ℕ → Type 0) → List Entry → RunPlan → ℕ → NetState → NetState
+    → List (Option ℕ) → Option StepFault → Type 0
+EndsUnrefused may_stop may_pass script plan most opening closing table fault =
+    RanUnrefused may_stop may_pass script plan most opening closing table fault ⊎ NeverRan opening closing table fault
 
 -- the workers ran, none was stopped but by its gate, and no fault ended the drain
-pub record RanWhole (may : ℕ → ℕ → Type 0) (script : List Entry) (plan : RunPlan) (most : ℕ)
+pub record RanWhole (may_stop may_pass : ℕ → ℕ → Type 0) (script : List Entry) (plan : RunPlan) (most : ℕ)
     (opening closing : NetState) (table : List (Option ℕ)) : Type 0 where
-  pub ran : RanTogether may script plan most opening closing table None
+  pub ran : RanTogether may_stop may_pass script plan most opening closing table None
   pub by_gate : All (λ (s : Stop). s.why ≡ Gate) ran.end.stops.items
 
 -- Reports
@@ -136,26 +136,26 @@ pub record IsReportOf (Leads : List Entry → NetState → NetState → List (Op
   pub reported : bytes ≡ report (seen closing) (summary_with plan drain table (length script - accepted_total closing))
 
 -- the report of a whole run was written, all of it
-pub record ReportsTogether (may : ℕ → ℕ → Type 0) (network traffic : List ℕ) (plan : RunPlan) (drain : ℕ)
+pub record ReportsTogether (may_stop may_pass : ℕ → ℕ → Type 0) (network traffic : List ℕ) (plan : RunPlan) (drain : ℕ)
     (out : Stream) : Type 0 where
   pub bytes : List ℕ
-  pub reported : IsReportOf (λ script. RanWhole may script plan drain) network traffic plan drain bytes
+  pub reported : IsReportOf (λ script. RanWhole may_stop may_pass script plan drain) network traffic plan drain bytes
   pub written : Appends out.old out.new bytes
 
 -- a first part of the report of a run was written
-pub record PartTogether (may : ℕ → ℕ → Type 0) (network traffic : List ℕ) (plan : RunPlan) (drain : ℕ)
+pub record PartTogether (may_stop may_pass : ℕ → ℕ → Type 0) (network traffic : List ℕ) (plan : RunPlan) (drain : ℕ)
     (out : Stream) : Type 0 where
   pub fault : Option StepFault
   pub bytes : List ℕ
   pub reported : IsReportOf
-      (λ script opening closing table. EndsUnrefused may script plan drain opening closing table fault)
+      (λ script opening closing table. EndsUnrefused may_stop may_pass script plan drain opening closing table fault)
       network traffic plan drain bytes
   pub written : WritesFront out bytes
 
 -- the same where memory ran out: all of the report only where it ran out in the run
-pub record ShortTogether (may : ℕ → ℕ → Type 0) (network traffic : List ℕ) (plan : RunPlan) (drain : ℕ)
+pub record ShortTogether (may_stop may_pass : ℕ → ℕ → Type 0) (network traffic : List ℕ) (plan : RunPlan) (drain : ℕ)
     (out : Stream) : Type 0 where
-  pub part : PartTogether may network traffic plan drain out
+  pub part : PartTogether may_stop may_pass network traffic plan drain out
   pub short : IsCutShort part.fault part.written.rest
 
 -- both texts are accepted, and this holds of the number of nodes
@@ -166,30 +166,33 @@ pub record HasNodes (Holds : ℕ → Type 0) (network traffic : List ℕ) : Type
   pub nodes : Holds (node_count config.radices)
 
 -- what a fault tells of two texts at hand
-abbrev pub FailsTogether : (ℕ → ℕ → Type 0) → RunPlan → ℕ → Stream → List ℕ → List ℕ → ProgramFault → Type 0
-FailsTogether may plan drain out network traffic f.Workers =
+abbrev pub FailsTogether : (may_stop may_pass : ℕ → ℕ → Type 0) → RunPlan → ℕ → Stream → List ℕ → List ℕ
+    → ProgramFault → Type 0
+FailsTogether may_stop may_pass plan drain out network traffic f.Workers =
     HasNodes (λ nodes. nodes < plan.workers) network traffic × Keeps out.old out.new
-FailsTogether may plan drain out network traffic (f.Network t) =
+FailsTogether may_stop may_pass plan drain out network traffic (f.Network t) =
     IsRefusedAs network traffic (f.Network t) × Keeps out.old out.new
-FailsTogether may plan drain out network traffic (f.Traffic t) =
+FailsTogether may_stop may_pass plan drain out network traffic (f.Traffic t) =
     IsRefusedAs network traffic (f.Traffic t) × Keeps out.old out.new
-FailsTogether may plan drain out network traffic f.ReadNetwork = ⊥
-FailsTogether may plan drain out network traffic f.ReadTraffic = ⊥
-FailsTogether may plan drain out network traffic f.NoMemory =
-    Keeps out.old out.new ⊎ ShortTogether may network traffic plan drain out
-FailsTogether may plan drain out network traffic (f.NotStarted w) =
+FailsTogether may_stop may_pass plan drain out network traffic f.ReadNetwork = ⊥
+FailsTogether may_stop may_pass plan drain out network traffic f.ReadTraffic = ⊥
+FailsTogether may_stop may_pass plan drain out network traffic f.NoMemory =
+    Keeps out.old out.new ⊎ ShortTogether may_stop may_pass network traffic plan drain out
+FailsTogether may_stop may_pass plan drain out network traffic (f.NotStarted w) =
     (w < plan.workers) × HasNodes (λ nodes. plan.workers ≤ nodes) network traffic × Keeps out.old out.new
-FailsTogether may plan drain out network traffic f.Write = PartTogether may network traffic plan drain out
+FailsTogether may_stop may_pass plan drain out network traffic f.Write =
+    PartTogether may_stop may_pass network traffic plan drain out
 
 -- both readers gave their texts, and the report of them was written
-pub record ReportsByWorkers (may : ℕ → ℕ
-    → Type 0) (plan : RunPlan) (drain : ℕ) (first second out : Stream) : Type 0 where
+pub record ReportsByWorkers (may_stop may_pass : ℕ → ℕ → Type 0) (plan : RunPlan) (drain : ℕ)
+    (first second out : Stream) : Type 0 where
   pub network : List ℕ
   pub traffic : List ℕ
   pub gave : GaveBoth first second network traffic
-  pub reports : ReportsTogether may network traffic plan drain out
+  pub reports : ReportsTogether may_stop may_pass network traffic plan drain out
 
 -- what a fault tells where two readers give the texts
-abbrev pub FailsByWorkers : (ℕ → ℕ → Type 0) → RunPlan → ℕ → Stream → Stream → Stream → ProgramFault → Type 0
-FailsByWorkers may plan drain first second out =
-    FailsReading (FailsTogether may plan drain out) first second out
+abbrev pub FailsByWorkers : (may_stop may_pass : ℕ → ℕ → Type 0) → RunPlan → ℕ → Stream → Stream → Stream
+    → ProgramFault → Type 0
+FailsByWorkers may_stop may_pass plan drain first second out =
+    FailsReading (FailsTogether may_stop may_pass plan drain out) first second out

@@ -225,9 +225,9 @@ fn run_and_report_together<R: Threads + Wait + Sync, G: Gate + Sync, W: Write>(
 ) -> Result<(), ProgramFault>
     requires { InRange options.now }
     ensures { MatchResult result
-        (λ _. ReportsTogether (G.may_stop gate.now) network.now traffic.now (plan_of options.now) options.now.drain
-        (stream (W.contents out.old) (W.contents out.new)))
-        (FailsTogether (G.may_stop gate.now) (plan_of options.now) options.now.drain
+        (λ _. ReportsTogether (G.may_stop gate.now) (G.may_pass gate.now) network.now traffic.now
+        (plan_of options.now) options.now.drain (stream (W.contents out.old) (W.contents out.new)))
+        (FailsTogether (G.may_stop gate.now) (G.may_pass gate.now) (plan_of options.now) options.now.drain
         (stream (W.contents out.old) (W.contents out.new)) network.now traffic.now) }
 {
     let accepted = accept(alloc, network, traffic)?;
@@ -267,12 +267,12 @@ fn run_by_workers<R: Threads + Wait + Sync, N: Read, F: Read, G: Gate + Sync, W:
 ) -> Result<(), ProgramFault>
     requires { InRange options.now }
     ensures ok { OnOk result
-        (ReportsByWorkers (G.may_stop gate.now) (plan_of options.now) options.now.drain
+        (ReportsByWorkers (G.may_stop gate.now) (G.may_pass gate.now) (plan_of options.now) options.now.drain
         (stream (N.remaining network.old) (N.remaining network.new))
         (stream (F.remaining traffic.old) (F.remaining traffic.new))
         (stream (W.contents out.old) (W.contents out.new))) }
     ensures err { IfErr result
-        (FailsByWorkers (G.may_stop gate.now) (plan_of options.now) options.now.drain
+        (FailsByWorkers (G.may_stop gate.now) (G.may_pass gate.now) (plan_of options.now) options.now.drain
         (stream (N.remaining network.old) (N.remaining network.new))
         (stream (F.remaining traffic.old) (F.remaining traffic.new))
         (stream (W.contents out.old) (W.contents out.new))) }
@@ -307,11 +307,11 @@ pub fn run_texts<R: Threads + Wait + Sync, N: Read, F: Read, G: Gate + Sync, W: 
         (stream (F.remaining traffic.old) (F.remaining traffic.new))
         (stream (W.contents out.old) (W.contents out.new))) }
     ensures together { 1 < options.now.workers → MatchResult result
-        (λ _. ReportsByWorkers (G.may_stop gate.now) (plan_of options.now) options.now.drain
+        (λ _. ReportsByWorkers (G.may_stop gate.now) (G.may_pass gate.now) (plan_of options.now) options.now.drain
         (stream (N.remaining network.old) (N.remaining network.new))
         (stream (F.remaining traffic.old) (F.remaining traffic.new))
         (stream (W.contents out.old) (W.contents out.new)))
-        (FailsByWorkers (G.may_stop gate.now) (plan_of options.now) options.now.drain
+        (FailsByWorkers (G.may_stop gate.now) (G.may_pass gate.now) (plan_of options.now) options.now.drain
         (stream (N.remaining network.old) (N.remaining network.new))
         (stream (F.remaining traffic.old) (F.remaining traffic.new))
         (stream (W.contents out.old) (W.contents out.new))) }

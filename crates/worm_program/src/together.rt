@@ -86,7 +86,7 @@ pub fn run_together<R: Threads + Wait + Sync, G: Gate + Sync>(
 ) -> Result<Together, usize>
     requires { HasWorkers net plan }
     ensures ended { IfOk result (λ t. EndsTogether
-        (G.may_stop gate.now) script.now plan most net t.net t.stops t.fault) }
+        (G.may_stop gate.now) (G.may_pass gate.now) script.now plan most net t.net t.stops t.fault) }
     ensures refused { IfErr result (λ w. w < plan.workers) }
 {
     match run(rt, alloc, net, script, plan, gate) {

@@ -1,10 +1,8 @@
 -- What a worker's turns made of its part, however they ended.
-use Rattle.std.proofs.Common.{◌≡◌, ℕ, ◌+◌, ◌<◌, ◌≤◌, true, List, [], ◌∷◌, ◌++◌, length, Option, Some, None, refl, arith}
-use Rattle.std.proofs.Common.{ap, sym, subst, ◌∙◌, append-nil, append_assoc}
-use Rattle.worm_flit.specs.declared.Flit.{Flit}
+use Rattle.std.proofs.Common.{◌≡◌, ℕ, ◌+◌, ◌<◌, true, List, [], ◌∷◌, ◌++◌, Option, Some, None, refl}
+use Rattle.std.proofs.Common.{sym, subst, append-nil}
 use Rattle.worm_mesh.specs.Address.{node_count}
 use Rattle.worm_term.specs.declared.fault.OfferFault.{OfferFault}
-use Rattle.worm_term.specs.Source.{SourceState}
 use Rattle.worm_script.specs.Script.{begun_at, due}
 use Rattle.worm_region.specs.State.{source_at, sink_at}
 use Rattle.worm_region.specs.Owned.{owned_by}
@@ -12,12 +10,12 @@ use Rattle.worm_region.specs.Workable.{owned}
 use Rattle.worm_region.specs.declared.own.Own.{Own}
 use Rattle.worm_script.specs.declared.script.Entry.{Entry}
 use Rattle.worm_region.specs.declared.fault.StepFault.{StepFault}
-use Rattle.worm_split.specs.Effects.{HasAccepted, Refuses, SourceTakes}
+use Rattle.worm_split.specs.Effects.{HasAccepted, Refuses}
 use Rattle.worm_split.specs.PartState.{PartState, IsSamePart}
 use Rattle.worm_split.proofs.Accepted.{accepted-then}
 use Rattle.worm_split.proofs.PartLoops.{same_on}
-use Rattle.worm_run.specs.Working.{EndsIn, GrewBy, HasTurned, IsStopped, due_before, fault_of_stop}
-use Rattle.worm_run.specs.Runs.{SourceRan, TakesOf, most_flits}
+use Rattle.worm_run.specs.Working.{EndsIn, GrewBy, HasTurned, IsStopped, due_before, fault_of_stop, turns_begun}
+use Rattle.worm_run.specs.Runs.{SourceRan}
 use Rattle.worm_run.specs.declared.plan.StopWhy.{StopWhy}
 use Rattle.worm_run.specs.declared.plan.StopWhy.TheVariants.{Gate, NoMemory, Refused}
 use Rattle.worm_run.proofs.Turning.{grew_more, own_still, there_still}
@@ -70,7 +68,7 @@ module _ (script : List Entry) (n : ℕ) (old new : PartState) where
         (stopped.sinks x (there_still old mid x turned.same below) (own_still old mid x turned.same own))
 
     pub ends_sink : (why : Option StopWhy) → EndsIn script n (fault_of_stop why) old new →
-        GrewBy (most_flits n why) (sink_at old.net x).delivered (sink_at new.net x).delivered
+        GrewBy (turns_begun n why) (sink_at old.net x).delivered (sink_at new.net x).delivered
     ends_sink None turned = turned.sinks x below own
     ends_sink (Some Gate) turned = turned.sinks x below own
     ends_sink (Some NoMemory) (mid, turned, stopped) = cut_sink _ mid turned stopped

@@ -1,6 +1,6 @@
 -- No source refuses an entry of an acceptable script, whatever turns the workers took in whatever order.
 use Rattle.std.proofs.Common.{◌≡◌, ℕ, zero, suc, ◌+◌, ◌*◌, ◌<◌, ◌≤◌, ◌==◌, ◌||◌, Bool, true, false, ◌⊎◌, inl, inr, List}
-use Rattle.std.proofs.Common.{[], ◌∷◌, ◌++◌, length, set, get_or, replicate, Option, Some, None, refl, arith, ap, sym}
+use Rattle.std.proofs.Common.{[], ◌∷◌, ◌++◌, length, set, get_or, replicate, Some, None, refl, arith, ap, sym}
 use Rattle.std.proofs.Common.{subst, ◌∙◌, append-nil, append_assoc, length-append}
 use Rattle.std.specs.Prelude.{filter, slice_index_or, slice_index}
 use Rattle.std.proofs.lemmas.Bool.{cases_eq}
@@ -349,11 +349,11 @@ fresh_at mesh channels depth names s fresh x =
     ap (λ (n : Node). n.source) (same ∙ fresh.nodes x)
 
 -- no worker is stopped by a refusal
-pub run_never_refuses : (may : ℕ → ℕ → Type 0) (mesh channels : List ℕ) (depth : ℕ) (names : List (List ℕ))
+pub run_never_refuses : (stop pass : ℕ → ℕ → Type 0) (mesh channels : List ℕ) (depth : ℕ) (names : List (List ℕ))
     (script : List Entry) (plan : RunPlan) (old : NetState) (end : RunEnd) → IsFresh mesh channels depth names old →
-    IsAcceptableScript mesh channels script → (runs : RunsTo may script plan old end) → (w : ℕ) (why : OfferFault) →
-    w < plan.workers → (ending_at runs.endings w).why ≡ Some (Refused why) → ⊥
-run_never_refuses may mesh channels depth names script plan old end fresh fine runs w why below is =
+    IsAcceptableScript mesh channels script → (runs : RunsTo stop pass script plan old end)
+    → (w : ℕ) (why : OfferFault) → w < plan.workers → (ending_at runs.endings w).why ≡ Some (Refused why) → ⊥
+run_never_refuses stop pass mesh channels depth names script plan old end fresh fine runs w why below is =
     let n = (ending_at runs.endings w).ended in
     let r : RefusesItsNext script n why plan.workers w old end.net = runs.refused w why below is in
     let accepted : List Entry = begun_at r.node (due_before n script) ++ r.taken in

@@ -26,47 +26,48 @@ no_work = record { part = no_part; ended = 0; stop = Rattle.std.proofs.Common.No
 abbrev pub worked_at : List Worked → ℕ → Worked
 worked_at done w = slice_index_or done w no_work
 
-module _ (may : ℕ → ℕ → Type 0) (script : List Entry) (turns : ℕ) where
-  pub as_many : (first : ℕ) (ps : List PartState) (ws : List Worked) → AllWorked may script turns first ps ws →
+module _ (stop pass : ℕ → ℕ → Type 0) (script : List Entry) (turns : ℕ) where
+  pub as_many : (first : ℕ) (ps : List PartState) (ws : List Worked) → AllWorked stop pass script turns first ps ws →
       length ws ≡ length ps
   as_many first [] [] all = refl
   as_many first [] (w ∷ ws) all = absurd all
   as_many first (p ∷ ps) [] all = absurd all
   as_many first (p ∷ ps) (w ∷ ws) all = ap (λ (n : ℕ). suc n) (as_many (first + 1) ps ws all.1)
 
-  pub each_worked : (first : ℕ) (ps : List PartState) (ws : List Worked) → AllWorked may script turns first ps ws →
-      (i : ℕ) → i < length ps → WorkedAs may script turns (first + i) (part_at ps i) (worked_at ws i)
+  pub each_worked : (first : ℕ) (ps : List PartState) (ws : List Worked)
+      → AllWorked stop pass script turns first ps ws → (i : ℕ) → i < length ps →
+      WorkedAs stop pass script turns (first + i) (part_at ps i) (worked_at ws i)
   each_worked first [] [] all i below = absurd (omega arith)
   each_worked first [] (w ∷ ws) all i below = absurd all
   each_worked first (p ∷ ps) [] all i below = absurd all
   each_worked first (p ∷ ps) (w ∷ ws) all zero below =
       let same : first ≡ first + 0 = omega arith in
-      subst (λ (n : ℕ). WorkedAs may script turns n p w) same all.0
+      subst (λ (n : ℕ). WorkedAs stop pass script turns n p w) same all.0
   each_worked first (p ∷ ps) (w ∷ ws) all (suc i) below =
       let same : (first + 1) + i ≡ first + suc i = omega arith in
-      subst (λ (n : ℕ). WorkedAs may script turns n (part_at ps i) (worked_at ws i)) same
+      subst (λ (n : ℕ). WorkedAs stop pass script turns n (part_at ps i) (worked_at ws i)) same
       (each_worked (first + 1) ps ws all.1 i (omega arith))
 
 -- a network was split, and each worker worked on its part
-module _ (may : ℕ → ℕ → Type 0) (script : List Entry) (turns : ℕ) (old : NetState) (workers : ℕ)
-    (parts : List PartState)
-    (done : List Worked) (split : IsSplitOf old workers parts) (all : AllWorked may script turns 0 parts done) where
+module _ (stop pass : ℕ → ℕ → Type 0) (script : List Entry) (turns : ℕ) (old : NetState) (workers : ℕ)
+    (parts : List PartState) (done : List Worked) (split : IsSplitOf old workers parts)
+    (all : AllWorked stop pass script turns 0 parts done) where
   abbrev pub moved : List PartState
   moved = map part_of done
 
   pub count : length moved ≡ workers
-  count = length-map done part_of ∙ (as_many may script turns 0 parts done all ∙ split.count)
+  count = length-map done part_of ∙ (as_many stop pass script turns 0 parts done all ∙ split.count)
 
-  pub worked : (w : ℕ) → w < workers → WorkedAs may script turns w (part_at parts w) (worked_at done w)
+  pub worked : (w : ℕ) → w < workers → WorkedAs stop pass script turns w (part_at parts w) (worked_at done w)
   worked w below =
       let within : w < length parts = let n = split.count in omega arith in
       let same : 0 + w ≡ w = omega arith in
-      subst (λ (n : ℕ). WorkedAs may script turns n (part_at parts w) (worked_at done w)) same
-      (each_worked may script turns 0 parts done all w within)
+      subst (λ (n : ℕ). WorkedAs stop pass script turns n (part_at parts w) (worked_at done w)) same
+      (each_worked stop pass script turns 0 parts done all w within)
 
   pub moved_at : (w : ℕ) → w < workers → part_at moved w ≡ (worked_at done w).part
   moved_at w below =
-      let within : w < length done = let n = split.count in let m = as_many may script turns 0 parts done all in
+      let within : w < length done = let n = split.count in let m = as_many stop pass script turns 0 parts done all in
       omega arith in
       get_or-map part_of done w no_work no_part within
 

@@ -1,20 +1,18 @@
 -- A turn is never ended by a step whose place is not there: such a step is passed over.
 use Rattle.std.proofs.Common.{◌≡◌, ℕ, inl, inr, List, Option, Some, None, Result, Ok, Err, sym, ◌∙◌}
-use Rattle.std.specs.Option.{option_to_list}
-use Rattle.std.specs.Prelude.{slice_index_or}
 use Rattle.worm_swalloc.specs.declared.grant.SwGrant.{SwGrant}
-use Rattle.worm_theory.specs.Steps.{Step, Feed, Route, Send, Take, GiveCredit, TakeCredit}
+use Rattle.worm_theory.specs.Steps.{Step, Send, GiveCredit}
 use Rattle.worm_region.specs.Replies.{Attempts}
 use Rattle.worm_region.specs.State.{NetState}
 use Rattle.worm_region.specs.Turns.{Passage, AsksSourceBy, ComesInBy, TakesCreditsBy, TakesFlitsBy, FeedsClassesBy}
-use Rattle.worm_region.specs.Turns.{RoutesChannelsBy, RoutesPortBy, Allocates, fault_of}
+use Rattle.worm_region.specs.Turns.{RoutesPortBy, Allocates, fault_of}
 use Rattle.worm_script.specs.declared.script.Entry.{Entry}
 use Rattle.worm_region.specs.declared.step.Moved.{Moved}
 use Rattle.worm_region.specs.declared.fault.StepFault.{StepFault}
 use Rattle.worm_region.specs.declared.fault.StepFault.TheVariants.{NoSuchPlace, Refused, NoMemory}
 use Rattle.worm_split.specs.PartState.{PartState}
-use Rattle.worm_split.specs.PartTurns.{Within, PullsCredits, PullsFlits, SendsGranted, SendsGrant, Sends, GivesCredits}
-use Rattle.worm_split.specs.PartTurns.{GivesCredit, Gives, NodeTurn, Turn, EachOf, PartPassage, PullsCredit, PullsFlit}
+use Rattle.worm_split.specs.PartTurns.{Within, PullsCredits, PullsFlits, SendsGranted, SendsGrant, Sends}
+use Rattle.worm_split.specs.PartTurns.{GivesCredit, Gives, NodeTurn, Turn, PullsCredit, PullsFlit}
 use Rattle.worm_split.proofs.PassagesTell.{Tells, TellsOf, then_tells, each_tells, then_tells_of, each_tells_of}
 
 abbrev Placed : Passage

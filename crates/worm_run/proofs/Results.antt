@@ -1,9 +1,8 @@
 -- What a run gives, read off what its workers did.
-use Rattle.std.proofs.Common.{◌≡◌, ℕ, ◌+◌, ◌<◌, ◌≤◌, ◌%◌, ◌==◌, true, List, [], ◌∷◌, ◌++◌, length, map, Option, Some}
-use Rattle.std.proofs.Common.{None, refl, arith, ap, sym, subst, ◌∙◌}
+use Rattle.std.proofs.Common.{◌≡◌, ℕ, ◌<◌, ◌%◌, ◌==◌, true, List, [], ◌∷◌, ◌++◌, length, map, Option, Some}
+use Rattle.std.proofs.Common.{refl, arith, ap, sym, subst, ◌∙◌}
 use Rattle.std.proofs.lemmas.List.{get_or-map, length-map}
 use Rattle.std.proofs.lemmas.Nat.{mod_below}
-use Rattle.worm_flit.specs.declared.Flit.{Flit}
 use Rattle.worm_mesh.specs.Address.{node_count}
 use Rattle.worm_term.specs.declared.fault.OfferFault.{OfferFault}
 use Rattle.worm_term.specs.Source.{SourceState}
@@ -15,12 +14,13 @@ use Rattle.worm_region.specs.declared.node.Node.{Node}
 use Rattle.worm_region.specs.declared.own.Own.{Own}
 use Rattle.worm_script.specs.declared.script.Entry.{Entry}
 use Rattle.worm_split.specs.Effects.{HasAccepted, Refuses}
-use Rattle.worm_split.specs.Joins.{IsJoinOf, IsLaterThan, owner_of}
+use Rattle.worm_split.specs.Joins.{IsJoinOf, IsLaterThan}
 use Rattle.worm_split.specs.PartState.{PartState, HasConfigOf}
 use Rattle.worm_split.specs.Splits.{IsSplitOf, part_at}
 use Rattle.worm_run.specs.Runs.{Ending, HasWorkers, IsRunOf, RanAs, RefusesItsNext, RunsTo, SourceRan, ending_at}
-use Rattle.worm_run.specs.Runs.{ending_of, most_flits}
-use Rattle.worm_run.specs.Working.{AllWorked, EndsIn, GrewBy, StopsAs, WorkedAs, due_before, fault_of_stop}
+use Rattle.worm_run.specs.Runs.{ending_of}
+use Rattle.worm_run.specs.Working.{EndsIn, GrewBy, MayPassBelow, StopsAs, WorkedAs, due_before}
+use Rattle.worm_run.specs.Working.{fault_of_stop, turns_begun}
 use Rattle.worm_run.specs.declared.plan.RunEnd.{RunEnd}
 use Rattle.worm_run.specs.declared.running.Ran.{Ran}
 use Rattle.worm_run.specs.declared.plan.RunPlan.{RunPlan}
@@ -28,7 +28,7 @@ use Rattle.worm_run.specs.declared.plan.StopWhy.{StopWhy}
 use Rattle.worm_run.specs.declared.plan.StopWhy.TheVariants.{Refused}
 use Rattle.worm_run.specs.declared.working.Worked.{Worked}
 use Rattle.worm_run.proofs.Endings.{PartRefuses, ends_refused, ends_sink, ends_source}
-use Rattle.worm_run.proofs.Owners.{as_many, count, moved, moved_at, opened, same, worked, worked_at, no_work}
+use Rattle.worm_run.proofs.Owners.{as_many, count, moved, moved_at, opened, worked, worked_at, no_work}
 
 same_number : (a : ℕ) → (a == a) ≡ true
 same_number a = grind arith
@@ -42,11 +42,11 @@ ended_of [] = refl
 ended_of (w ∷ ws) = ap (λ (l : List ℕ). w.ended ∷ l) (ended_of ws)
 
 -- what came back, sorted out, and joined
-pub run_of : (may : ℕ → ℕ → Type 0) (script : List Entry) (plan : RunPlan) (old net : NetState) (parts : List PartState)
-    (ran : Ran) → IsSplitOf old plan.workers parts → RanAs may script plan.turns parts ran
-    → IsJoinOf ran.parts.items net →
-    IsRunOf may script plan old (record { net = net; stops = ran.stops; ended = ran.ended })
-run_of may script plan old net parts ran split so joined = record {
+pub run_of : (stop pass : ℕ → ℕ → Type 0) (script : List Entry) (plan : RunPlan) (old net : NetState)
+    (parts : List PartState) (ran : Ran) → IsSplitOf old plan.workers parts
+    → RanAs stop pass script plan.turns parts ran → IsJoinOf ran.parts.items net →
+    IsRunOf stop pass script plan old (record { net = net; stops = ran.stops; ended = ran.ended })
+run_of stop pass script plan old net parts ran split so joined = record {
   parts = parts;
   split = split;
   done = so.done;
@@ -57,18 +57,18 @@ run_of may script plan old net parts ran split so joined = record {
 }
 
 -- and it is later than the network that was split
-pub later_of : (may : ℕ → ℕ → Type 0) (script : List Entry) (turns : ℕ) (old net : NetState) (workers : ℕ)
-    (parts : List PartState) (ran : Ran) → IsSplitOf old workers parts → RanAs may script turns parts ran
+pub later_of : (stop pass : ℕ → ℕ → Type 0) (script : List Entry) (turns : ℕ) (old net : NetState) (workers : ℕ)
+    (parts : List PartState) (ran : Ran) → IsSplitOf old workers parts → RanAs stop pass script turns parts ran
     → 0 < workers →
     IsLaterThan (part_at ran.parts.items 0).opening net → IsLaterThan old net
-later_of may script turns old net workers parts ran split so some later =
+later_of stop pass script turns old net workers parts ran split so some later =
     let same : (part_at ran.parts.items 0).opening ≡ old
     = ap (λ (ps : List PartState). (part_at ps 0).opening) so.gives.parts
-    ∙ opened may script turns old workers parts so.done split so.worked 0 some in
+    ∙ opened stop pass script turns old workers parts so.done split so.worked 0 some in
     subst (λ (s : NetState). IsLaterThan s net) same later
 
-module _ (may : ℕ → ℕ → Type 0) (script : List Entry) (plan : RunPlan) (old : NetState) (end : RunEnd)
-    (has : HasWorkers old plan) (ran : IsRunOf may script plan old end) where
+module _ (stop pass : ℕ → ℕ → Type 0) (script : List Entry) (plan : RunPlan) (old : NetState) (end : RunEnd)
+    (has : HasWorkers old plan) (ran : IsRunOf stop pass script plan old end) where
   abbrev parts : List PartState
   parts = ran.parts
 
@@ -79,29 +79,29 @@ module _ (may : ℕ → ℕ → Type 0) (script : List Entry) (plan : RunPlan) (
   W = plan.workers
 
   abbrev after : List PartState
-  after = moved may script plan.turns old W parts done ran.split ran.worked
+  after = moved stop pass script plan.turns old W parts done ran.split ran.worked
 
   some : 0 < W
   some = let h = has.some in omega arith
 
   total : length after ≡ W
-  total = count may script plan.turns old W parts done ran.split ran.worked
+  total = count stop pass script plan.turns old W parts done ran.split ran.worked
 
-  did : (w : ℕ) → w < W → WorkedAs may script plan.turns w (part_at parts w) (worked_at done w)
-  did = worked may script plan.turns old W parts done ran.split ran.worked
+  did : (w : ℕ) → w < W → WorkedAs stop pass script plan.turns w (part_at parts w) (worked_at done w)
+  did = worked stop pass script plan.turns old W parts done ran.split ran.worked
 
   at : (w : ℕ) → w < W → part_at after w ≡ (worked_at done w).part
-  at = moved_at may script plan.turns old W parts done ran.split ran.worked
+  at = moved_at stop pass script plan.turns old W parts done ran.split ran.worked
 
   opening : (part_at after 0).opening ≡ old
-  opening = opened may script plan.turns old W parts done ran.split ran.worked 0 some
+  opening = opened stop pass script plan.turns old W parts done ran.split ran.worked 0 some
 
   pub config : HasConfigOf old end.net
   config = subst (λ (s : NetState). HasConfigOf s end.net) opening ran.joined.config
 
   ending : (w : ℕ) → w < W → ending_at (map ending_of done) w ≡ ending_of (worked_at done w)
   ending w below =
-      let n : length done ≡ length parts = as_many may script plan.turns 0 parts done ran.worked in
+      let n : length done ≡ length parts = as_many stop pass script plan.turns 0 parts done ran.worked in
       let m = ran.split.count in
       get_or-map ending_of done w no_work _ (omega arith)
 
@@ -141,24 +141,30 @@ module _ (may : ℕ → ℕ → Type 0) (script : List Entry) (plan : RunPlan) (
         (subst (λ (n : Node). SourceRan script (ending_of did_w) x n.source (source_at end.net x)) from
         (subst (λ (n : Node). SourceRan script (ending_of did_w) x (source_at before.net x) n.source) (sym to) ran_so))
 
-    pub sink : GrewBy (most_flits (ending_at (map ending_of done) w).ended (ending_at (map ending_of done) w).why)
+    pub sink : GrewBy (turns_begun (ending_at (map ending_of done) w).ended (ending_at (map ending_of done) w).why)
         (sink_at old x).delivered (sink_at end.net x).delivered
     sink =
         let grew = ends_sink script did_w.ended before did_w.part x in_part mine did_w.stop (did w below).ends in
-        subst (λ (e : Ending). GrewBy (most_flits e.ended e.why) (sink_at old x).delivered
+        subst (λ (e : Ending). GrewBy (turns_begun e.ended e.why) (sink_at old x).delivered
         (sink_at end.net x).delivered)
         (sym (ending w below))
-        (subst (λ (n : Node). GrewBy (most_flits did_w.ended did_w.stop) n.sink.delivered (sink_at end.net x).delivered)
-        from
-        (subst (λ (n : Node). GrewBy (most_flits did_w.ended did_w.stop)
+        (subst (λ (n : Node). GrewBy (turns_begun did_w.ended did_w.stop)
+        n.sink.delivered (sink_at end.net x).delivered) from
+        (subst (λ (n : Node). GrewBy (turns_begun did_w.ended did_w.stop)
         (sink_at before.net x).delivered n.sink.delivered)
         (sym to) grew))
 
   -- by worker
   stops_as : (w : ℕ) → w < W →
-      StopsAs may plan.turns w (ending_at (map ending_of done) w).ended (ending_at (map ending_of done) w).why
+      StopsAs stop plan.turns w (ending_at (map ending_of done) w).ended (ending_at (map ending_of done) w).why
   stops_as w under =
-      subst (λ (e : Ending). StopsAs may plan.turns w e.ended e.why) (sym (ending w under)) (did w under).stops
+      subst (λ (e : Ending). StopsAs stop plan.turns w e.ended e.why) (sym (ending w under)) (did w under).stops
+
+  passes : (w : ℕ) → w < W →
+      MayPassBelow pass w (turns_begun (ending_at (map ending_of done) w).ended (ending_at (map ending_of done) w).why)
+  passes w under =
+      subst (λ (e : Ending). MayPassBelow pass w (turns_begun e.ended e.why)) (sym (ending w under))
+      (did w under).passed
 
   refuses : (w : ℕ) (why : OfferFault) → w < W → (ending_at (map ending_of done) w).why ≡ Some (Refused why) →
       RefusesItsNext script (ending_at (map ending_of done) w).ended why W w old end.net
@@ -195,12 +201,13 @@ module _ (may : ℕ → ℕ → Type 0) (script : List Entry) (plan : RunPlan) (
         refused = subst (λ (s : SourceState). Refuses s r.next why) (sym behind) r.refused;
       }
 
-  pub runs_to : RunsTo may script plan old end
+  pub runs_to : RunsTo stop pass script plan old end
   runs_to = record {
     config = config;
     endings = map ending_of done;
-    all = length-map done ending_of ∙ (as_many may script plan.turns 0 parts done ran.worked ∙ ran.split.count);
+    all = length-map done ending_of ∙ (as_many stop pass script plan.turns 0 parts done ran.worked ∙ ran.split.count);
     each = stops_as;
+    passed = passes;
     stops = ran.stops;
     ended = ran.ended ∙ ended_of done;
     sources = source;

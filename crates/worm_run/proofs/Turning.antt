@@ -1,7 +1,6 @@
 -- A part that takes one turn after another.
-use Rattle.std.proofs.Common.{◌≡◌, ℕ, ◌+◌, ◌<◌, ◌≤◌, true, List, [], ◌∷◌, ◌++◌, length, Option, Some, None, refl, arith}
+use Rattle.std.proofs.Common.{◌≡◌, ℕ, ◌+◌, ◌<◌, true, List, [], ◌∷◌, ◌++◌, Some, None, refl, arith}
 use Rattle.std.proofs.Common.{ap, sym, subst, ◌∙◌, append-nil, append_assoc, length-append}
-use Rattle.std.specs.Option.{option_to_list}
 use Rattle.worm_flit.specs.declared.Flit.{Flit}
 use Rattle.worm_mesh.specs.Address.{node_count}
 use Rattle.worm_script.specs.Script.{AreInOrder, begun_at, due}
@@ -10,7 +9,6 @@ use Rattle.worm_region.specs.Owned.{owned_by}
 use Rattle.worm_region.specs.Workable.{owned}
 use Rattle.worm_region.specs.declared.own.Own.{Own}
 use Rattle.worm_script.specs.declared.script.Entry.{Entry}
-use Rattle.worm_term.specs.Source.{SourceState}
 use Rattle.worm_split.specs.PartState.{PartState, IsSamePart}
 use Rattle.worm_split.specs.PartTurns.{Turn}
 use Rattle.worm_split.specs.Effects.{HasAccepted, OneMore, SourcesTake, SinksTakeOne}

@@ -7,17 +7,17 @@ use Rattle.worm_run.specs.declared.working.Worked.{Worked}
 use Rattle.worm_run.specs.Working.{AllWorked, WorkedAs, stop_of}
 use Rattle.worm_run.specs.Runs.{Ending, stops_of}
 
-pub AllWorked-snoc : (may : ℕ → ℕ → Type 0) (script : List Entry) (turns first last : ℕ) (ps : List PartState)
-    (ws : List Worked) (p : PartState) (w : Worked) → last ≡ first + length ps →
-    AllWorked may script turns first ps ws → WorkedAs may script turns last p w →
-    AllWorked may script turns first (ps ++ p ∷ []) (ws ++ w ∷ [])
-AllWorked-snoc may script turns first last [] [] p w at all here =
+pub AllWorked-snoc : (stop pass : ℕ → ℕ → Type 0) (script : List Entry) (turns first last : ℕ)
+    (ps : List PartState) (ws : List Worked) (p : PartState) (w : Worked) → last ≡ first + length ps →
+    AllWorked stop pass script turns first ps ws → WorkedAs stop pass script turns last p w →
+    AllWorked stop pass script turns first (ps ++ p ∷ []) (ws ++ w ∷ [])
+AllWorked-snoc stop pass script turns first last [] [] p w at all here =
     let same : last ≡ first = omega arith in
-    (subst (λ (n : ℕ). WorkedAs may script turns n p w) same here, tt)
-AllWorked-snoc may script turns first last [] (x ∷ ws) p w at all here = absurd all
-AllWorked-snoc may script turns first last (q ∷ ps) [] p w at all here = absurd all
-AllWorked-snoc may script turns first last (q ∷ ps) (x ∷ ws) p w at all here =
-    (all.0, AllWorked-snoc may script turns (first + 1) last ps ws p w (omega arith) all.1 here)
+    (subst (λ (n : ℕ). WorkedAs stop pass script turns n p w) same here, tt)
+AllWorked-snoc stop pass script turns first last [] (x ∷ ws) p w at all here = absurd all
+AllWorked-snoc stop pass script turns first last (q ∷ ps) [] p w at all here = absurd all
+AllWorked-snoc stop pass script turns first last (q ∷ ps) (x ∷ ws) p w at all here =
+    (all.0, AllWorked-snoc stop pass script turns (first + 1) last ps ws p w (omega arith) all.1 here)
 
 -- the stops of one worker more
 pub stops_of-snoc : (first last : ℕ) (es : List Ending) (e : Ending) → last ≡ first + length es →

@@ -1,7 +1,6 @@
 -- What a run by workers gives back, in the words of parts, and in the words of the network's sources, sinks and stops.
 use Rattle.std.specs.Prelude.{◌≡◌, ℕ, ◌+◌, ◌<◌, ◌≤◌, ◌%◌, List, [], ◌∷◌, ◌++◌, length, map, Option, None, Some}
 use Rattle.std.specs.Prelude.{slice_index_or, vec_len, vec_capacity}
-use Rattle.worm_flit.specs.declared.Flit.{Flit}
 use Rattle.worm_mesh.specs.Address.{node_count}
 use Rattle.worm_term.specs.declared.fault.OfferFault.{OfferFault}
 use Rattle.worm_term.specs.Source.{SourceState}
@@ -12,7 +11,7 @@ use Rattle.worm_split.specs.PartState.{PartState, HasConfigOf}
 use Rattle.worm_split.specs.Effects.{HasAccepted, Refuses}
 use Rattle.worm_split.specs.Joins.{IsJoinOf}
 use Rattle.worm_split.specs.Splits.{IsSplitOf}
-use Rattle.worm_run.specs.Working.{AllWorked, GrewBy, StopsAs, due_before, stop_of}
+use Rattle.worm_run.specs.Working.{AllWorked, GrewBy, MayPassBelow, StopsAs, due_before, stop_of, turns_begun}
 use Rattle.worm_run.specs.declared.plan.Stop.{Stop}
 use Rattle.worm_run.specs.declared.plan.StopWhy.{StopWhy}
 use Rattle.worm_run.specs.declared.plan.StopWhy.TheVariants.{Gate, NoMemory as OutOfMemory, Refused as WasRefused}
@@ -53,10 +52,10 @@ pub record IsEndOf (done : List Worked) (ran : Ran) : Type 0 where
   pub ended : ran.ended.items ≡ map (λ (w : Worked). w.ended) done
 
 -- each worker worked on its part, and gave it back
-pub record RanAs (may : ℕ → ℕ → Type 0) (script : List Entry) (turns : ℕ) (before : List PartState)
+pub record RanAs (may_stop may_pass : ℕ → ℕ → Type 0) (script : List Entry) (turns : ℕ) (before : List PartState)
     (ran : Ran) : Type 0 where
   pub done : List Worked
-  pub worked : AllWorked may script turns 0 before done
+  pub worked : AllWorked may_stop may_pass script turns 0 before done
   pub gives : IsEndOf done ran
 
 -- 1 to 16 workers, and at most as many as nodes
@@ -66,12 +65,12 @@ pub record HasWorkers (net : NetState) (plan : RunPlan) : Type 0 where
   pub with_nodes : plan.workers ≤ node_count net.mesh
 
 -- The network was split among the workers, each of them worked on its part, and the network is what their parts make.
-pub record IsRunOf (may : ℕ → ℕ → Type 0) (script : List Entry) (plan : RunPlan) (old : NetState)
+pub record IsRunOf (may_stop may_pass : ℕ → ℕ → Type 0) (script : List Entry) (plan : RunPlan) (old : NetState)
     (end : RunEnd) : Type 0 where
   pub parts : List PartState
   pub split : IsSplitOf old plan.workers parts
   pub done : List Worked
-  pub worked : AllWorked may script plan.turns 0 parts done
+  pub worked : AllWorked may_stop may_pass script plan.turns 0 parts done
   pub joined : IsJoinOf (map (λ (w : Worked). w.part) done) end.net
   pub stops : end.stops.items ≡ stops_of 0 (map ending_of done)
   pub ended : end.ended.items ≡ map (λ (w : Worked). w.ended) done
@@ -90,13 +89,6 @@ pub record SourceRan (script : List Entry) (e : Ending) (x : ℕ) (old new : Sou
   pub first_part : TakesOf e.why (begun_at x (due e.ended script)) more
   pub accepted : HasAccepted old (begun_at x (due_before e.ended script) ++ more) new
 
--- the most flits that a sink received: one a turn, in a turn that a fault stopped too
-abbrev pub most_flits : ℕ → Option StopWhy → ℕ
-most_flits ended None = ended
-most_flits ended (Some Gate) = ended
-most_flits ended (Some OutOfMemory) = ended + 1
-most_flits ended (Some (WasRefused why)) = ended + 1
-
 -- Where a refusal stopped worker w of so many, the source of one of its nodes refuses its next entry of that turn
 -- for this reason.
 pub record RefusesItsNext (script : List Entry) (ended : ℕ) (why : OfferFault) (workers w : ℕ)
@@ -113,20 +105,23 @@ pub record RefusesItsNext (script : List Entry) (ended : ℕ) (why : OfferFault)
   pub refused : Refuses (source_at new node) next why
 
 -- What a run gives, in the words of the network: the same configuration; of each source and sink what its worker's
--- turns may have brought; and the stops, by rising worker.
-pub record RunsTo (may : ℕ → ℕ → Type 0) (script : List Entry) (plan : RunPlan) (old : NetState)
+-- turns may have brought, a sink one flit at most for each turn that was begun; the stops, by rising worker; and no
+-- turn was begun but where the gate may answer true.
+pub record RunsTo (may_stop may_pass : ℕ → ℕ → Type 0) (script : List Entry) (plan : RunPlan) (old : NetState)
     (end : RunEnd) : Type 0 where
   pub config : HasConfigOf old end.net
   pub endings : List Ending
   pub all : length endings ≡ plan.workers
   pub each : (w : ℕ) → w < plan.workers →
-      StopsAs may plan.turns w (ending_at endings w).ended (ending_at endings w).why
+      StopsAs may_stop plan.turns w (ending_at endings w).ended (ending_at endings w).why
+  pub passed : (w : ℕ) → w < plan.workers → let e = ending_at endings w in
+      MayPassBelow may_pass w (turns_begun e.ended e.why)
   pub stops : end.stops.items ≡ stops_of 0 endings
   pub ended : end.ended.items ≡ map (λ (e : Ending). e.ended) endings
   pub sources : (x : ℕ) → x < node_count old.mesh →
       SourceRan script (ending_at endings (x % plan.workers)) x (source_at old x) (source_at end.net x)
   pub sinks : (x : ℕ) → x < node_count old.mesh → let e = ending_at endings (x % plan.workers) in
-      GrewBy (most_flits e.ended e.why) (sink_at old x).delivered (sink_at end.net x).delivered
+      GrewBy (turns_begun e.ended e.why) (sink_at old x).delivered (sink_at end.net x).delivered
   pub refused : (w : ℕ) (why : OfferFault) → w < plan.workers → (ending_at endings w).why ≡ Some (WasRefused why) →
       RefusesItsNext script (ending_at endings w).ended why plan.workers w old end.net
 

@@ -67,23 +67,36 @@ StopsAs may turns worker ended (Some Gate) = (ended < turns) × may worker ended
 StopsAs may turns worker ended (Some OutOfMemory) = ended < turns
 StopsAs may turns worker ended (Some (WasRefused why)) = ended < turns
 
+-- how many turns a worker began: one more than it ended where a fault stopped it; a gate stops before a turn
+abbrev pub turns_begun : ℕ → Option StopWhy → ℕ
+turns_begun ended None = ended
+turns_begun ended (Some Gate) = ended
+turns_begun ended (Some OutOfMemory) = ended + 1
+turns_begun ended (Some (WasRefused why)) = ended + 1
+
+-- a gate may let the worker take each turn below a number
+abbrev pub MayPassBelow : (ℕ → ℕ → Type 0) → ℕ → ℕ → Type 0
+MayPassBelow may_pass worker n = (turn : ℕ) → turn < n → may_pass worker turn
+
 abbrev pub fault_of_stop : Option StopWhy → Option StepFault
 fault_of_stop None = None
 fault_of_stop (Some why) = fault_behind why
 
--- what one worker did with its part
-pub record WorkedAs (may : ℕ → ℕ → Type 0) (script : List Entry) (turns worker : ℕ) (before : PartState)
+-- what one worker did with its part, beginning no turn but where its gate may answer true
+pub record WorkedAs (may_stop may_pass : ℕ → ℕ → Type 0) (script : List Entry) (turns worker : ℕ) (before : PartState)
     (w : Worked) : Type 0 where
-  pub stops : StopsAs may turns worker w.ended w.stop
+  pub stops : StopsAs may_stop turns worker w.ended w.stop
+  pub passed : MayPassBelow may_pass worker (turns_begun w.ended w.stop)
   pub ends : EndsIn script w.ended (fault_of_stop w.stop) before w.part
 
 -- what the workers did, each with its part, from a first worker on
-abbrev pub AllWorked : (ℕ → ℕ → Type 0) → List Entry → ℕ → ℕ → List PartState → List Worked → Type 0
-AllWorked may script turns worker [] [] = Unit {0}
-AllWorked may script turns worker (p ∷ ps) (w ∷ ws) =
-    WorkedAs may script turns worker p w × AllWorked may script turns (worker + 1) ps ws
-AllWorked may script turns worker [] (w ∷ ws) = ⊥
-AllWorked may script turns worker (p ∷ ps) [] = ⊥
+abbrev pub AllWorked : (may_stop may_pass : ℕ → ℕ → Type 0) → List Entry → ℕ → ℕ → List PartState → List Worked
+    → Type 0
+AllWorked may_stop may_pass script turns worker [] [] = Unit {0}
+AllWorked may_stop may_pass script turns worker (p ∷ ps) (w ∷ ws) =
+    WorkedAs may_stop may_pass script turns worker p w × AllWorked may_stop may_pass script turns (worker + 1) ps ws
+AllWorked may_stop may_pass script turns worker [] (w ∷ ws) = ⊥
+AllWorked may_stop may_pass script turns worker (p ∷ ps) [] = ⊥
 
 -- the stop of one worker, if it has one
 abbrev pub stop_of : ℕ → ℕ → Option StopWhy → List Stop

@@ -1,16 +1,20 @@
 //! What a worker asks before each of its turns.
 
 ghost use Rattle.std.specs.Prelude.{ℕ};
-ghost use Rattle.std.specs.Bool.{OnFalse};
+ghost use Rattle.std.specs.Bool.{OnFalse, OnTrue};
 
 /// What a worker asks before each of its turns.
 pub trait Gate {
     /// For which worker and turn it may answer false.
     ghost may_stop: { Self → ℕ → ℕ → Type 0 };
 
+    /// For which worker and turn it may answer true.
+    ghost may_pass: { Self → ℕ → ℕ → Type 0 };
+
     /// Whether the worker, counted from 0, may take the turn, counted from 0. Where not, it takes no further turn.
     fn pass(&self, worker: usize, turn: u64) -> bool
-        ensures { OnFalse result (may_stop self.now worker turn) };
+        ensures stops { OnFalse result (may_stop self.now worker turn) }
+        ensures goes { OnTrue result (may_pass self.now worker turn) };
 }
 
 /// A gate that stops nobody.
@@ -19,6 +23,8 @@ pub struct FreeGate;
 
 impl Gate for FreeGate {
     ghost may_stop = { λ _ _ _. ⊥ };
+
+    ghost may_pass = { λ _ _ _. Unit {0} };
 
     fn pass(&self, _worker: usize, _turn: u64) -> bool {
         true

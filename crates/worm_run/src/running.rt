@@ -100,8 +100,9 @@ fn collect<'s, R: Threads, G: Gate>(
 )
     requires { vec_len done.old < vec_capacity done.old }
     ensures worked { (worked : Worked) × (done.new.items ≡ done.old.items ++ worked ∷ []) ×
-        WorkedAs (G.may_stop child.entry.promise.gate.now) child.entry.promise.script.now
-        child.entry.promise.turns child.entry.promise.worker child.entry.promise.part.value worked }
+        WorkedAs (G.may_stop child.entry.promise.gate.now) (G.may_pass child.entry.promise.gate.now)
+        child.entry.promise.script.now child.entry.promise.turns child.entry.promise.worker
+        child.entry.promise.part.value worked }
     ensures len { vec_len done.new ≡ vec_len done.old + 1 }
     ensures room { vec_capacity done.old ≤ vec_capacity done.new }
 {
@@ -122,7 +123,8 @@ fn run_parts<'s, E, R: Threads + Wait + Sync, G: Gate + Sync>(
 ) -> Result<(), usize>
     requires empty { vec_len done.old ≡ 0 }
     requires room { vec_len parts.old ≤ vec_capacity done.old }
-    ensures worked { OnOk result (AllWorked (G.may_stop gate.now) script.now turns 0 parts.old.items done.new.items) }
+    ensures worked { OnOk result
+        (AllWorked (G.may_stop gate.now) (G.may_pass gate.now) script.now turns 0 parts.old.items done.new.items) }
     ensures all { OnOk result (vec_len done.new ≡ vec_len parts.old) }
     ensures taken { OnOk result (vec_len parts.new ≡ 0) }
     ensures refused { IfErr result (λ w. w < vec_len parts.old) }
@@ -200,7 +202,7 @@ fn run_scoped<'s, E, R: Threads + Wait + Sync, G: Gate + Sync>(
     rooms: Rooms,
 ) -> Result<Ran, usize>
     requires { HasRooms (vec_len parts) rooms }
-    ensures ran { IfOk result (RanAs (G.may_stop gate.now) script.now turns parts.items) }
+    ensures ran { IfOk result (RanAs (G.may_stop gate.now) (G.may_pass gate.now) script.now turns parts.items) }
     ensures refused { IfErr result (λ w. w < vec_len parts) }
 {
     let Rooms {
@@ -222,7 +224,7 @@ fn run_all<R: Threads + Wait + Sync, G: Gate + Sync>(
     rooms: Rooms,
 ) -> Result<Ran, usize>
     requires { HasRooms (vec_len parts) rooms }
-    ensures ran { IfOk result (RanAs (G.may_stop gate.now) script.now turns parts.items) }
+    ensures ran { IfOk result (RanAs (G.may_stop gate.now) (G.may_pass gate.now) script.now turns parts.items) }
     ensures refused { IfErr result (λ w. w < vec_len parts) }
 {
     thread::scope(
@@ -230,7 +232,8 @@ fn run_all<R: Threads + Wait + Sync, G: Gate + Sync>(
         rt,
         move |scope| -> Result<Ran, usize>
             requires { HasRooms (vec_len parts) rooms }
-            ensures ran { IfOk result (RanAs (G.may_stop gate.entry.now) script.entry.now turns parts.items) }
+            ensures ran { IfOk result
+                (RanAs (G.may_stop gate.entry.now) (G.may_pass gate.entry.now) script.entry.now turns parts.items) }
             ensures refused { IfErr result (λ w. w < vec_len parts) }
         { run_scoped(scope, rt, script, turns, gate, parts, rooms) },
     )
@@ -240,6 +243,9 @@ fn run_all<R: Threads + Wait + Sync, G: Gate + Sync>(
 /// is w: their turns 0, 1, .. below the plan's, with the script's entries, each asked of the gate before. A worker
 /// that its gate stops, that finds no memory or whose source refuses an entry takes no further turn, and the others
 /// go on. An entry whose source is no node is never offered.
+///
+/// No worker begins a turn but where the gate states that it may answer true. So a gate is never passed over: where it
+/// never answers true to a worker at some turn, that worker takes none from that turn on.
 ///
 /// Whatever the schedule, in the network that comes back the flits of a lane that were delivered, followed by those
 /// under way from the sink back, are those injected, in order, each once. That workers get on is not claimed.
@@ -252,8 +258,8 @@ pub fn run<R: Threads + Wait + Sync, G: Gate + Sync>(
     gate: &G,
 ) -> Result<RunEnd, RunFault>
     ensures workers { OnOk result (HasWorkers net plan) }
-    ensures exact { IfOk result (IsRunOf (G.may_stop gate.now) script.now plan net) }
-    ensures runs { IfOk result (RunsTo (G.may_stop gate.now) script.now plan net) }
+    ensures exact { IfOk result (IsRunOf (G.may_stop gate.now) (G.may_pass gate.now) script.now plan net) }
+    ensures runs { IfOk result (RunsTo (G.may_stop gate.now) (G.may_pass gate.now) script.now plan net) }
     ensures later { IfOk result (λ end. IsLaterThan net end.net) }
     ensures delivers { IfOk result (λ end. DeliversInOrder end.net) }
     ensures fails { IfErr result (FailsAs net plan) }

@@ -50,7 +50,8 @@ impl<'a, G> Drop for WorksAs<'a, G> {
 }
 
 impl<'a, G: Gate> Promise<Worked> for WorksAs<'a, G> {
-    ghost kept_by = { λ p w. WorkedAs (G.may_stop p.gate.now) p.script.now p.turns p.worker p.part.value w };
+    ghost kept_by = { λ p w.
+        WorkedAs (G.may_stop p.gate.now) (G.may_pass p.gate.now) p.script.now p.turns p.worker p.part.value w };
 }
 
 /// The stop that a turn's fault is.
@@ -65,7 +66,8 @@ fn stopped_by(fault: StepFault) -> StopWhy
     }
 }
 
-/// The turns of one worker with its part, each asked of its gate before, up to the first stop.
+/// The turns of one worker with its part, each asked of its gate before, up to the first stop. None is begun but where
+/// the gate may answer true.
 pub fn work<R: Wait, G: Gate>(
     rt: &R,
     mut part: Part,
@@ -74,7 +76,7 @@ pub fn work<R: Wait, G: Gate>(
     script: &Script,
     gate: &G,
 ) -> Worked
-    ensures { WorkedAs (G.may_stop gate.now) script.now turns worker part result }
+    ensures { WorkedAs (G.may_stop gate.now) (G.may_pass gate.now) script.now turns worker part result }
 {
     // What is read off it is that its turns never fall.
     let _entries = script.entries();

@@ -1,4 +1,4 @@
-//! Packets of a class with two channels, on two parts.
+//! Packets of a class with two channels: on two parts, turn by turn, and by two workers, whatever the schedule.
 
 ghost use Rattle.std.specs.Prelude.{◌≡◌, vec_len};
 ghost use Rattle.worm_split.specs.Joins.{AreParts};
@@ -8,8 +8,10 @@ use crate::parts::{joined, parts_of};
 use crate::trial::Trial;
 use std::process::Abort;
 use std::sync::Wait;
+use std::thread::Threads;
 use worm_core::Script;
 use worm_flit::{Flit, Lane};
+use worm_run::FreeGate;
 use worm_split::Part;
 
 /// Every worker takes the turn, one after another. False where a fault ended one.
@@ -105,23 +107,54 @@ fn all_came_whole(flits: &[Flit], last: u8) -> bool {
     true
 }
 
-/// The row after 400 turns of each of two workers: each packet came whole to the last node.
-fn all_come_whole<R: Abort + AllocGlobal + Copy + Wait>(rt: R, radix: u8, last: u8) -> Trial<R> {
-    let trial = both_took(row(rt, radix, last), 400);
-    let flits = trial.flits_at(last);
+/// The flits are those of the row's 50 packets, and no others.
+fn are_all(rt: &impl Abort, flits: &[Flit], last: u8) {
     assert_eq!(rt; flits.len(), 150);
     assert!(rt; all_came_whole(flits, last));
-    trial
 }
 
 #[test]
 fn each_packet_comes_whole(rt: HostRuntime) {
-    let trial = all_come_whole(rt, 4, 3);
-    assert!(rt; are_mixed(trial.flits_at(3)));
+    let trial = both_took(row(rt, 4, 3), 400);
+    let flits = trial.flits_at(3);
+    are_all(&rt, flits, 3);
+    assert!(rt; are_mixed(flits));
+}
+
+/// Puts the lane's flits under way behind the others.
+fn put_under_way<R: Abort + AllocGlobal + Copy>(
+    trial: &Trial<R>,
+    lane: Lane,
+    flits: &mut Vec<Flit>,
+) {
+    for held in &trial.view(lane).underway {
+        flits.push(held.flit).expect(&trial.rt, "memory");
+    }
+}
+
+/// What came to the last node, followed by what is under way to it from each of the first two.
+fn sent_to<R: Abort + AllocGlobal + Copy>(trial: &Trial<R>, last: u8) -> Vec<Flit> {
+    let came = trial.flits_at(last);
+    let mut flits = Vec::from_slice(trial.rt.alloc(), came).expect(&trial.rt, "memory");
+    put_under_way(trial, lane(0, last), &mut flits);
+    put_under_way(trial, lane(1, last), &mut flits);
+    flits
+}
+
+/// Two nodes after 30 turns of each of two workers on threads of their own. All 50 packets were accepted, and one flit
+/// a turn was delivered at most.
+fn both_ran<R: Abort + AllocGlobal + Copy + Threads + Wait + Sync>(rt: R) -> Trial<R> {
+    let ran = row(rt, 2, 1).run(2, 30, &FreeGate);
+    let trial = ran.ended(&[], &[30, 30]);
+    trial.has_injected(150);
+    assert!(rt; trial.flits_at(1).len() <= 30);
+    trial
 }
 
 #[test]
-fn each_packet_comes_whole_to_its_neighbour(rt: HostRuntime) {
-    let trial = all_come_whole(rt, 2, 1);
-    trial.has_delivered(150);
+fn two_workers_keep_each_packet_whole(rt: HostRuntime) {
+    let trial = both_ran(rt);
+    are_all(&rt, sent_to(&trial, 1).as_slice(), 1);
+    let trial = trial.settled();
+    are_all(&rt, trial.flits_at(1), 1);
 }

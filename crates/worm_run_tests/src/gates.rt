@@ -23,6 +23,8 @@ impl Gate for Meeting {
 
     ghost may_stop = { λ _ _ turn. turn ≡ 1 };
 
+    ghost may_pass = { λ _ _ _. Unit {0} };
+
     fn pass(&self, worker: usize, turn: u64) -> bool {
         if turn != 1 {
             return true;

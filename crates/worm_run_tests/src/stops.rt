@@ -30,6 +30,8 @@ impl Gate for StopsAt {
 
     ghost may_stop = { λ g worker turn. (worker ≡ g.worker) × (turn ≡ g.turn) };
 
+    ghost may_pass = { λ g worker turn. (worker ≡ g.worker) × (turn ≡ g.turn) → ⊥ };
+
     fn pass(&self, worker: usize, turn: u64) -> bool {
         worker != self.worker || turn != self.turn
     }

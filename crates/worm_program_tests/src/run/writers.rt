@@ -36,6 +36,8 @@ impl Gate for InTurn {
 
     ghost may_stop = { λ _ _ turn. turn ≡ 1 → ⊥ };
 
+    ghost may_pass = { λ _ _ _. Unit {0} };
+
     fn pass(&self, worker: usize, turn: u64) -> bool {
         match (worker, turn) {
             (0, 9) => {

@@ -11,13 +11,14 @@ use Rattle.worm_program.proofs.program.run_and_report_together.Goals as goal
 
 pub returns : goal.returns
 returns g c =
-    let may = g.G.Gate.may_stop c.args.gate.now in
+    let stop = g.G.Gate.may_stop c.args.gate.now in
+    let pass = g.G.Gate.may_pass c.args.gate.now in
     let options = c.args.options.now in
     let accepted = c.in_ok-accepted.accepted in
     let said = c.in_ok-accepted.ensures in
     let ended = c.in-Ok.ended in
     let told = report (seen ended.net) in
-    together_so may c.args.network.now c.args.traffic.now (plan_of options) options.drain
+    together_so stop pass c.args.network.now c.args.traffic.now (plan_of options) options.drain
     (stream (g.W.Write.contents c.args.out.now) (g.W.Write.contents c.report_run.new.out)) ended.fault
     (told (summary_with (plan_of options) options.drain ended.stops c.not_offered.result))
     (record {

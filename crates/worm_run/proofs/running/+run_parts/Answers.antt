@@ -1,4 +1,4 @@
-use Rattle.std.proofs.Common.{rules, ◌≡◌, ◌++◌, ◌∷◌, ◌+◌, [], length, arith}
+use Rattle.std.proofs.Common.{rules, ◌≡◌, ◌++◌, ◌∷◌, ◌+◌, [], length}
 use Rattle.worm_run.specs.Working.{WorkedAs}
 use Rattle.worm_run.specs.declared.working.Worked.{Worked}
 use Rattle.worm_run.proofs.Workers.{AllWorked-snoc}
@@ -6,18 +6,19 @@ use Rattle.worm_run.proofs.running.+run_parts.Goals as goal
 
 pub returns-clause-worked : goal.returns-clause-worked
 returns-clause-worked g t c =
-    let may = g.G.Gate.may_stop c.args.gate.now in
+    let stop = g.G.Gate.may_stop c.args.gate.now in
+    let pass = g.G.Gate.may_pass c.args.gate.now in
     let script = c.args.script.now in
     let promise = c.in_ok-child.child.promise in
     let told = c.in_ok-child.ensures in
     let others = c.start.new.parts.items in
     let back : (worked : Worked) × (c.collect.new.done.items ≡ c.run_parts.new.done.items ++ worked ∷ [])
-    × WorkedAs (g.G.Gate.may_stop promise.gate.now) promise.script.now promise.turns promise.worker promise.part.value
-    worked
+    × WorkedAs (g.G.Gate.may_stop promise.gate.now) (g.G.Gate.may_pass promise.gate.now) promise.script.now
+    promise.turns promise.worker promise.part.value worked
     = c.collect.ensures.worked in
-    let kept : WorkedAs may script c.args.turns promise.worker promise.part.value back.0
+    let kept : WorkedAs stop pass script c.args.turns promise.worker promise.part.value back.0
     = rw (told.gate, told.script, told.turns) at back.2 in
     let last : promise.worker ≡ 0 + length others = search rules in
     rw (told.taken, back.1)
-    (AllWorked-snoc may script c.args.turns 0 promise.worker others c.run_parts.new.done.items promise.part.value back.0
-    last c.in_ok-run_parts.ensures.worked kept)
+    (AllWorked-snoc stop pass script c.args.turns 0 promise.worker others c.run_parts.new.done.items
+    promise.part.value back.0 last c.in_ok-run_parts.ensures.worked kept)

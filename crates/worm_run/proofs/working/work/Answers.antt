@@ -1,14 +1,17 @@
-use Rattle.std.proofs.Common.{◌≡◌, ℕ, None, Some, refl, ap, subst, arith}
+use Rattle.std.proofs.Common.{◌≡◌, ℕ, Some, refl, ap, subst, arith, rules}
 use Rattle.worm_script.specs.Script.{due}
 use Rattle.worm_region.specs.declared.fault.StepFault.{StepFault}
-use Rattle.worm_run.specs.Working.{HasTurned}
+use Rattle.worm_run.specs.Working.{HasTurned, MayPassBelow}
 use Rattle.worm_run.proofs.Placed.{turn_place}
 use Rattle.worm_run.proofs.Turning.{turned-none, turned-more}
-use Rattle.worm_run.proofs.Stopping.{stopped_at}
+use Rattle.worm_run.proofs.Stopping.{passes_more, stopped_at}
 use Rattle.worm_run.proofs.working.work.Goals as goal
 
 pub loop-turn-init : goal.loop-turn-init
-loop-turn-init g c = turned-none c.args.script.now c.args.part
+loop-turn-init g c = record {
+  turned = turned-none c.args.script.now c.args.part;
+  passed = λ turn below. absurd (omega arith);
+}
 
 pub stopped_by-requires : goal.stopped_by-requires
 stopped_by-requires g c =
@@ -18,10 +21,12 @@ stopped_by-requires g c =
 pub returns-in-Err : goal.returns-in-Err
 returns-in-Err g c =
     let told = c.in-Err.ensures in
-    stopped_at (g.G.Gate.may_stop c.args.gate.now) c.args.script.now c.args.turns c.args.worker c.loop-turn.turn
-    c.args.part
-    c.loop-turn.part c.turn.new.self c.in-Err.fault c.stopped_by.result (omega arith) c.stopped_by.ensures
-    c.loop-turn.invariant record {
+    let before = c.loop-turn.invariant in
+    let pass = g.G.Gate.may_pass c.args.gate.now in
+    stopped_at (g.G.Gate.may_stop c.args.gate.now) pass c.args.script.now c.args.turns c.args.worker c.loop-turn.turn
+    c.args.part c.loop-turn.part c.turn.new.self c.in-Err.fault c.stopped_by.result (omega arith)
+    (passes_more pass c.args.worker c.loop-turn.turn c.pass.result before.passed c.pass.ensures.goes (search rules))
+    c.stopped_by.ensures before.turned record {
       exact = told.exact;
       same = told.same;
       sources = told.sources;
@@ -32,13 +37,20 @@ returns-in-Err g c =
 pub loop-turn-preserved : goal.loop-turn-preserved
 loop-turn-preserved g c =
     let told = c.in_default.ensures in
-    turned-more c.args.script.now c.loop-turn.turn c.entries-entries.ensures.in_order c.args.part c.loop-turn.part
-    c.turn.new.self c.loop-turn.invariant told.exact told.same told.sources told.sinks
+    let before = c.loop-turn.invariant in
+    record {
+      turned = turned-more c.args.script.now c.loop-turn.turn c.entries-entries.ensures.in_order c.args.part
+          c.loop-turn.part c.turn.new.self before.turned told.exact told.same told.sources told.sinks;
+      passed = passes_more (g.G.Gate.may_pass c.args.gate.now) c.args.worker c.loop-turn.turn c.pass.result
+          before.passed c.pass.ensures.goes (search rules);
+    }
 
 pub returns : goal.returns
 returns g c =
     let all : c.loop-turn.turn ≡ c.args.turns = omega arith in
+    let before = c.loop-turn.invariant in
     record {
       stops = refl;
-      ends = subst (λ (n : ℕ). HasTurned c.args.script.now n c.args.part c.loop-turn.part) all c.loop-turn.invariant;
+      passed = subst (λ (n : ℕ). MayPassBelow (g.G.Gate.may_pass c.args.gate.now) c.args.worker n) all before.passed;
+      ends = subst (λ (n : ℕ). HasTurned c.args.script.now n c.args.part c.loop-turn.part) all before.turned;
     }
