@@ -10,7 +10,7 @@ use std::io::Write;
 
 /// A writer, and the lines that wait to be given to it.
 pub struct Desk<'a, W> {
-    /// What is given the lines of the page where that is full.
+    /// What the lines go to, a page at a time.
     pub out: &'a mut W,
     /// The lines that the writer has yet to be given.
     pub page: Page,
