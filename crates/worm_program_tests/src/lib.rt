@@ -5,6 +5,10 @@
 #![tactic(auto)]
 
 #[cfg(test)]
+mod desk;
+#[cfg(test)]
 mod run;
+#[cfg(test)]
+mod taking;
 #[cfg(test)]
 mod view;

@@ -2,7 +2,6 @@
 //! line, readers and writers that fail or give and take little, and the whole program.
 
 mod cases;
-mod desk;
 mod faults;
 mod runs;
 mod whole;

@@ -1,8 +1,12 @@
-//! Reports that are drawn and texts that are refused, with readers and a writer that fail.
+//! `wormview`: reports that are drawn and texts that are refused, with readers and writers that fail, and the whole
+//! program.
 //!
 //! Each call of what is tested stands in a function of its own that promises nothing, and ends the test where it finds
 //! something else than what is expected: a test that knew all that is promised would take a minute to prove.
 
+mod whole;
+
+use crate::taking::Taking;
 use std::alloc::Global;
 use std::io;
 use std::io::{ErrorKind, Read, Write};
@@ -11,15 +15,21 @@ use worm_picture::draw;
 use worm_text::{TextFault, Why};
 use worm_view::{Accepted, ViewFault, accept, run_view};
 
-const NETWORK: &[u8] = b"wormnet 1\nradix 2\ndims 1\ndepth 2\nclass data\nend\n";
+/// Two nodes in a line.
+pub const NETWORK: &[u8] = b"wormnet 1\nradix 2\ndims 1\ndepth 2\nclass data\nend\n";
 
-const REPORT: &[u8] = b"wormreport 1\n\
+/// A packet on its way, and one that waits.
+pub const REPORT: &[u8] = b"wormreport 1\n\
       turns 1 workers 1 drain 0\n\
       underway 1 0 class 0 packet 0 flit 0 link 1 0 0\n\
       underway 1 0 class 0 packet 0 flit 1 buffer 1 2 0\n\
       underway 1 0 class 0 packet 1 flit 0 source\n\
       not offered 0\n\
       total injected 3 delivered 0 underway 3\n";
+
+/// Its map: in the second node's injection buffer is a flit that leaves for the first.
+pub const MAP: &str = "   .      1<  \n\nThe fullest buffers:\n\
+     node 1 port 2 channel 0: 1 flits, at the front 1 to 0 class 0 packet 0 flit 1, which leaves by port 0 <\n";
 
 /// The fault of a text in which nothing is said.
 const EMPTY: TextFault = TextFault {
@@ -50,7 +60,7 @@ fn accepted(rt: &impl Abort, alloc: Global) -> Accepted {
 }
 
 /// The picture of the report, or its map.
-fn drawing(rt: &impl Abort, alloc: Global, text: bool) -> String {
+pub fn drawing(rt: &impl Abort, alloc: Global, text: bool) -> String {
     let accepted = accepted(rt, alloc);
     let rows = accepted.rows.as_slice();
     let drawn = draw(alloc, &accepted.shape, accepted.config.depth, rows, text);
@@ -86,9 +96,7 @@ fn write_map<W: Write>(alloc: Global, out: &mut W) -> Result<(), ViewFault> {
 
 #[test]
 fn a_map(rt: HostRuntime) {
-    let wanted = "   .      1<  \n\nThe fullest buffers:\n\
-         node 1 port 2 channel 0: 1 flits, at the front 1 to 0 class 0 packet 0 flit 1, which leaves by port 0 <\n";
-    assert_eq!(rt; drawing(&rt, rt.alloc(), true).as_str(), wanted);
+    assert_eq!(rt; drawing(&rt, rt.alloc(), true).as_str(), MAP);
 }
 
 /// The flit on the link is a head and that in the buffer its tail; the third waits in the source.
@@ -133,6 +141,32 @@ fn readers_that_fail(rt: HostRuntime) {
     let (network, report) = (Failing { left: 10 }, Failing { left: 10 });
     is_not_drawn(&rt, alloc, network, REPORT, false, ViewFault::ReadNetwork);
     is_not_drawn(&rt, alloc, NETWORK, report, true, ViewFault::ReadReport);
+}
+
+/// The bytes are these.
+fn are_bytes(rt: &impl Abort, bytes: &[u8], wanted: &[u8]) {
+    assert_eq!(rt; bytes, wanted);
+}
+
+/// A writer that fails within the map has taken what it had room for, however much that is.
+fn is_cut_short(rt: &impl Abort, alloc: Global, map: &str) {
+    for room in 0..map.len() {
+        let mut out = Taking {
+            taken: Vec::new(alloc),
+            room,
+            next: 1,
+            more: 1,
+        };
+        let ended = write_map(alloc, &mut out);
+        assert_eq!(rt; ended, Err(ViewFault::Write));
+        are_bytes(rt, out.taken.as_slice(), &map.as_bytes()[..room]);
+    }
+}
+
+#[test]
+fn writers_that_fail_have_taken_what_fits(rt: HostRuntime) {
+    is_cut_short(&rt, rt.alloc(), MAP);
+    assert_eq!(rt; ViewFault::Write.status(), 8);
 }
 
 #[test]

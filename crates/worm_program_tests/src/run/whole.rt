@@ -1,9 +1,8 @@
 //! The whole program on a runtime of the tests' own: what it opens, prints and says, and its status.
 
-use crate::run::cases::{TWO_NODES, TWO_WORDS, are_bytes};
-use crate::run::desk::Desk;
+use crate::desk::{Desk, count_kept, kept};
+use crate::run::cases::{TWO_NODES, TWO_WORDS};
 use std::alloc::Global;
-use std::cell::RefCell;
 use std::process::{Abort, ExitCode};
 use std::sync::Wait;
 use std::test::Fail;
@@ -30,22 +29,6 @@ const A_HUNDRED_TURNS: &str = "wormreport 1\n\
      delivered 1 from 0 class 0 packet 0 flit 1 word 18\n\
      not offered 0\n\
      total injected 2 delivered 2 underway 0\n";
-
-/// What was kept is this text.
-fn kept(rt: &impl Abort, kept: &RefCell<Vec<u8>>, wanted: &str) {
-    match kept.try_borrow() {
-        Ok(kept) => are_bytes(rt, kept.as_slice(), wanted.as_bytes()),
-        Err(_) => panic!(rt; "in use"),
-    }
-}
-
-/// How many bytes were kept.
-fn count_kept(rt: &impl Abort, kept: &RefCell<Vec<u8>>) -> usize {
-    match kept.try_borrow() {
-        Ok(kept) => kept.as_slice().len(),
-        Err(_) => panic!(rt; "in use"),
-    }
-}
 
 /// The program on the desk ends with this status.
 fn ends_with(rt: &(impl Abort + Threads + Wait + Sync), desk: &Desk, status: u8) {

@@ -2,9 +2,8 @@
 
 use crate::run::cases::{Ran, SHALLOW, TWO_NODES, TWO_WORDS, gives, has_status};
 use crate::run::workers::{comes_up, runs};
+use crate::taking::Taking;
 use std::alloc::Global;
-use std::io;
-use std::io::{ErrorKind, Write};
 use std::process::Abort;
 use std::sync::Wait;
 use std::sync::atomic::{AtomicBool, Ordering};
@@ -51,39 +50,6 @@ impl Gate for InTurn {
             }
             _ => true,
         }
-    }
-}
-
-/// Takes more bytes in each call, or one, and fails once it has taken all that it has room for.
-#[derive(Drop)]
-struct Taking {
-    taken: Vec<u8>,
-    /// How many bytes more there is room for.
-    room: usize,
-    /// How many bytes the next call takes at most.
-    next: usize,
-    /// How many more each call takes than the one before.
-    more: usize,
-}
-
-impl Write for Taking {
-    fn write(&mut self, buf: &[u8]) -> io::Result<usize> {
-        if self.room == 0 {
-            return Err(io::Error::from(ErrorKind::Interrupted));
-        }
-        let count = self.next.min(self.room).min(buf.len());
-        self.next = self.next.saturating_add(self.more);
-        match self.taken.extend_from_slice(&buf[..count]) {
-            Ok(()) => {
-                self.room -= count;
-                Ok(count)
-            }
-            Err(_) => Err(io::Error::from(ErrorKind::OutOfMemory)),
-        }
-    }
-
-    fn flush(&mut self) -> io::Result<()> {
-        Ok(())
     }
 }
 
