@@ -112,20 +112,17 @@ impl Line {
         }
     }
 
-    /// A place beside a node: an input buffer, or a link by its output port.
-    fn side(&mut self, word: &[u8], node: u8, port: u8, vc: u8)
-        requires word { length word.now ≤ 8 }
-        requires room { 80 + length self.old ≤ 256 }
-        ensures line { self.new ≡ word.now
-            ++ (decimal node ++ space ∷ (decimal port ++ space ∷ (decimal vc ++ self.old))) }
-        ensures longer { length self.new ≤ 80 + length self.old }
+    /// A channel at a port of a node.
+    fn channel(&mut self, node: u8, port: u8, vc: u8)
+        requires { 62 + length self.old ≤ 256 }
+        ensures line { self.new ≡ decimal node ++ space ∷ (decimal port ++ space ∷ (decimal vc ++ self.old)) }
+        ensures longer { length self.new ≤ 62 + length self.old }
     {
         self.number(u64::from(vc));
         self.text(b" ");
         self.number(u64::from(port));
         self.text(b" ");
         self.number(u64::from(node));
-        self.text(word);
     }
 
     /// Where a flit under way is.
@@ -136,8 +133,14 @@ impl Line {
     {
         match place {
             Place::Source => self.text(b" source"),
-            Place::Buffer { node, port, vc } => self.side(b" buffer ", node, port, vc),
-            Place::Link { node, port, vc } => self.side(b" link ", node, port, vc),
+            Place::Buffer { node, port, vc } => {
+                self.channel(node, port, vc);
+                self.text(b" buffer ");
+            }
+            Place::Link { node, port, vc } => {
+                self.channel(node, port, vc);
+                self.text(b" link ");
+            }
         }
     }
 
