@@ -43,6 +43,7 @@ impl Router {
             .grant(self.demand.requests(), self.demand.free());
         let mut left = grants.keys();
         self.demand.set_grants_nothing(left.is_empty());
+        // A pass grants what is asked for and free, and nothing twice, so a grant is written without a test of that.
         while let Some((port, vc)) = left.pop_first() {
             if let Some(out_vc) = grants.get(port, vc) {
                 if let InRecord::Waiting { out } = self.in_record(port, vc) {
