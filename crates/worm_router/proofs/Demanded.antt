@@ -4,7 +4,7 @@ use Rattle.std.proofs.Common.{length-append, slice_set, slice_get, slice_index_o
 use Rattle.std.proofs.Common.{is_none, is_some, All, if◌then◌else◌, Result, Ok, Err, OnOk, IfErr, inl, inr, refl}
 use Rattle.std.proofs.Common.{arith, ap, sym, subst, ◌∙◌}
 use Rattle.std.proofs.lemmas.Grind.{get_or-set_at}
-use Rattle.std.proofs.lemmas.Bool.{cases_Bool, cases_lt, true≢false}
+use Rattle.std.proofs.lemmas.Bool.{cases_lt, true≢false}
 use Rattle.std.proofs.lemmas.Bool.Decides.{nat_tests}
 use Rattle.std.proofs.lemmas.Nat.{same_from_place}
 use Rattle.std.proofs.lemmas.List.{get_or-set_other, get_or_past}
@@ -18,7 +18,7 @@ use Rattle.worm_vcalloc.specs.declared.request.VcRequest.{VcRequest}
 use Rattle.worm_vcalloc.specs.VcRequest.{may_use}
 use Rattle.worm_vcalloc.specs.ChannelSet.{has}
 use Rattle.worm_vcalloc.specs.Table.{cell, with_cell}
-use Rattle.worm_vcalloc.specs.VcAlloc.{VcAllocState, VcPass, IsChannelMatching, vc_pass}
+use Rattle.worm_vcalloc.specs.VcAlloc.{VcAllocState, vc_pass}
 use Rattle.worm_vcalloc.proofs.PassAgrees.{none_where_not_some}
 use Rattle.worm_vcalloc.proofs.SetMembers.{has-empty}
 use Rattle.worm_vcalloc.proofs.TableCells.{cell-replicate, IsTable-replicate}
@@ -28,8 +28,8 @@ use Rattle.worm_router.specs.Router.{free_output, put_in, input_at}
 use Rattle.worm_router.specs.Busy.{HasFront, IsSetOf, waits, holds, is_occupied, is_waiting}
 use Rattle.worm_router.specs.Tables.{PutsRows}
 use Rattle.worm_router.specs.Allocation.{within, asking, request_at, requests, is_free, free_channels}
-use Rattle.worm_router.specs.Allocation.{channel_pass, with_grants, after_allocate}
-use Rattle.worm_router.specs.Demand.{DemandView, AreInVain, IsDemandOf}
+use Rattle.worm_router.specs.Allocation.{channel_pass}
+use Rattle.worm_router.specs.Demand.{DemandView, GrantsNothing, IsDemandOf}
 use Rattle.worm_router.proofs.NothingReady.{get_or-replicate_same}
 use Rattle.worm_router.proofs.Places.{IsInput, IsOutput, same_at}
 use Rattle.worm_router.proofs.TableRows.{cell_has, cell_is, table_kept, table_put, rows_are}
@@ -170,45 +170,13 @@ demand_fresh r count ports channels d inputs outputs all all' none free = record
       ∙ get_or-replicate_same count (line r p v) (free_output r.depth))));
 }
 
--- ---- a pass that granted nothing
+-- ---- a pass that grants nothing
 
--- had a request been for a free channel, that channel would have been granted
-pub in_vain : (r : RouterState) (ports channels : ℕ) (asked : List (List (Option VcRequest))) (free : List (List Bool))
-    (grants : List (List (Option ℕ)))
-    → terminal r ≤ 6 → width r ≤ 8 → ports ≡ terminal r + 1 → channels ≡ width r
-    → asked ≡ requests r → free ≡ free_channels r
-    → IsChannelMatching ports channels asked free grants
-    → ((p v : ℕ) → p < 7 → v < 8 → cell grants p v None ≡ None) → AreInVain asked free
-in_vain r ports channels asked free grants few_ports few_channels all all' is is' matching none = λ out c p v unheld.
-    elim (cases_Bool (may_use (cell asked p v None) out c)) [
-      | inr unused ↦ unused
-      | inl uses ↦
-          let from : IsPlace r p v =
-          cell_has (λ q. may_use q out c ≡ true → IsPlace r p v) r None (request_at r) p v
-          (λ no. absurd (true≢false (sym no))) (λ place yes. place)
-          (sym (ap (λ t. may_use (cell t p v None) out c) is) ∙ uses) in
-          let to : IsPlace r out c =
-          cell_has (λ b. b ≡ true → IsPlace r out c) r false (is_free r) out c
-          (λ no. absurd (true≢false (sym no))) (λ place yes. place)
-          (sym (ap (λ t. cell t out c false) is') ∙ unheld) in
-          let port_in = from.port_in in
-          let vc_in = from.channel_in in
-          let out_in = to.port_in in
-          let c_in = to.channel_in in
-          let won = matching.complete out c p v (omega arith) (omega arith) (omega arith) (omega arith) unheld uses
-          (none p v (omega arith) (omega arith)) in
-          let at = matching.requested won.0 won.1 c won.2.granted in
-          let low = at.3 in
-          let low' = at.4 in
-          let clash : None ≡ Some c = sym (none won.0 won.1 (omega arith) (omega arith)) ∙ won.2.granted in
-          absurd (cc)
-    ]
-
-pub vain_router : (r s : RouterState) (d : DemandView) → r ≡ s → IsDemandOf r d → AreInVain d.requests d.free
-    → AreInVain (requests s) (free_channels s)
-vain_router r s d same are vain =
-    subst (λ (q : RouterState). AreInVain (requests q) (free_channels q)) same
-    (subst (λ t. AreInVain t (free_channels r)) are.requests (subst (AreInVain d.requests) are.free vain))
+pub grants_none_as : (r s : RouterState) (d : DemandView) → r ≡ s → IsDemandOf r d → GrantsNothing d.requests d.free
+    → GrantsNothing (requests s) (free_channels s)
+grants_none_as r s d same are nothing =
+    subst (λ (q : RouterState). GrantsNothing (requests q) (free_channels q)) same
+    (subst (λ t. GrantsNothing t (free_channels r)) are.requests (subst (GrantsNothing d.requests) are.free nothing))
 
 -- ---- who waits
 
@@ -264,28 +232,9 @@ pass_of r s asked free alloc grants same is is' pass =
     ∙ ap (λ t. vc_pass (requests r) t (record { alloc = r.channel_alloc; grants = replicate 7 (replicate 8 None) })) is'
     ∙ ap channel_pass same
 
-pub matching_of : (r s : RouterState) (ports channels : ℕ) (asked : List (List (Option VcRequest)))
-    (free : List (List Bool)) (grants : List (List (Option ℕ))) → r ≡ s
-    → ports ≡ terminal r + 1 → channels ≡ width r → asked ≡ requests r → free ≡ free_channels r
-    → IsChannelMatching ports channels asked free grants
-    → IsChannelMatching (terminal s + 1) (width s) (requests s) (free_channels s) grants
-matching_of r s ports channels asked free grants same all all' is is' matching =
-    subst (λ (q : RouterState). IsChannelMatching (terminal q + 1) (width q) (requests q) (free_channels q) grants) same
-    (subst (λ t. IsChannelMatching (terminal r + 1) (width r) (requests r) t grants) is'
-    (subst (λ t. IsChannelMatching (terminal r + 1) (width r) t free grants) is
-    (subst (λ n. IsChannelMatching (terminal r + 1) n asked free grants) all'
-    (subst (λ n. IsChannelMatching n channels asked free grants) all matching))))
-
-pub written_is : (r s : RouterState) (alloc : VcAllocState) (grants : List (List (Option ℕ))) → r ≡ s
-    → record { alloc = alloc; grants = grants } ≡ channel_pass s
-    → with_grants grants (record r { channel_alloc = alloc }) ≡ after_allocate s
-written_is r s alloc grants same pass =
-    ap (λ (q : RouterState). with_grants grants (record q { channel_alloc = alloc })) same
-    ∙ ap (λ (p : VcPass). with_grants p.grants (record s { channel_alloc = p.alloc })) pass
-
 -- where no channel waits none asks for anything
 pub none_waits : (r : RouterState) (waiting : ℕ) → IsSetOf is_waiting r waiting → (waiting == 0) ≡ true
-    → AreInVain (requests r) (free_channels r)
+    → GrantsNothing (requests r) (free_channels r)
 none_waits r waiting are none = λ out c p v unheld.
     cell_has (λ q. may_use q out c ≡ false) r None (request_at r) p v refl (λ place.
     ap (λ q. may_use q out c) (asks_nothing r.channels (input_at r p v).state (input_at r p v).buffer

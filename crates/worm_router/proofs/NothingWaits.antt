@@ -12,9 +12,8 @@ use Rattle.worm_vcalloc.specs.VcAlloc.{with_grant}
 use Rattle.worm_vcalloc.proofs.TableCells.{with_cell_same, cell-replicate}
 use Rattle.worm_router.specs.Router.{RouterState, terminal, width}
 use Rattle.worm_router.specs.Allocation.{requests, free_channels, channel_pass, written, with_port_grants, with_grants}
-use Rattle.worm_router.specs.Allocation.{after_allocate, IsAllocated, IsSameSize}
-use Rattle.worm_router.specs.Demand.{AreInVain}
-use Rattle.worm_router.proofs.GrantsWritten.{stays}
+use Rattle.worm_router.specs.Allocation.{after_allocate}
+use Rattle.worm_router.specs.Demand.{GrantsNothing}
 
 -- steps that each leave what there is leave it together
 pub fold_same : {X : Type 0} (step : X → ℕ → X) (x : X) (ns : List ℕ) → ((n : ℕ) → step x n ≡ x) → fold step x ns ≡ x
@@ -59,7 +58,7 @@ offered_to_none waiting pass out channel none =
       grants = pass.grants;
     }) (with_cell_same pass.alloc.arbiters out channel no_arbiter)
 
-step_same : (waiting : List (List (Option VcRequest))) (free : List (List Bool)) → AreInVain waiting free
+step_same : (waiting : List (List (Option VcRequest))) (free : List (List Bool)) → GrantsNothing waiting free
     → (pass : VcPass) (out channel : ℕ) → vc_step waiting free out pass channel ≡ pass
 step_same waiting free nobody pass out channel = elim (cases_Bool (cell free out channel false)) [
   | inl is_free ↦ ap (λ b. cond b (offered waiting pass out channel) pass) is_free
@@ -67,14 +66,14 @@ step_same waiting free nobody pass out channel = elim (cases_Bool (cell free out
   | inr is_held ↦ ap (λ b. cond b (offered waiting pass out channel) pass) is_held
 ]
 
-port_same : (waiting : List (List (Option VcRequest))) (free : List (List Bool)) → AreInVain waiting free
+port_same : (waiting : List (List (Option VcRequest))) (free : List (List Bool)) → GrantsNothing waiting free
     → (pass : VcPass) (out : ℕ) → port_pass waiting free pass out ≡ pass
 unfolding port_pass
 port_same waiting free nobody pass out =
     fold_same (vc_step waiting free out) pass (range_with_len 0 pass.alloc.channels)
     (step_same waiting free nobody pass out)
 
-pass_same : (waiting : List (List (Option VcRequest))) (free : List (List Bool)) → AreInVain waiting free
+pass_same : (waiting : List (List (Option VcRequest))) (free : List (List Bool)) → GrantsNothing waiting free
     → (pass : VcPass) → vc_pass waiting free pass ≡ pass
 unfolding vc_pass
 pass_same waiting free nobody pass = fold_same (port_pass waiting free) pass (range_with_len 0 pass.alloc.ports)
@@ -101,18 +100,18 @@ ungranted grants none r = fold_same (with_port_grants grants) r (range_with_len 
 none_granted : NoGrants no_grants
 none_granted port vc = cell-replicate 7 8 port vc None
 
-pub idle_pass : (r : RouterState) → AreInVain (requests r) (free_channels r)
+idle_pass : (r : RouterState) → GrantsNothing (requests r) (free_channels r)
     → channel_pass r ≡ record { alloc = r.channel_alloc; grants = no_grants }
 idle_pass r nobody = pass_same (requests r) (free_channels r) nobody
     (record { alloc = r.channel_alloc; grants = no_grants })
 
-pub idle_allocate : (r : RouterState) → AreInVain (requests r) (free_channels r) → after_allocate r ≡ r
+pub idle_allocate : (r : RouterState) → GrantsNothing (requests r) (free_channels r) → after_allocate r ≡ r
 idle_allocate r nobody =
     ap (λ (p : VcPass). with_grants p.grants (record r { channel_alloc = p.alloc })) (idle_pass r nobody)
     ∙ ungranted no_grants none_granted r
 
-pub idle_matching : (ports channels : ℕ) (waiting : List (List (Option VcRequest))) (free : List (List Bool))
-    → AreInVain waiting free → IsChannelMatching ports channels waiting free no_grants
+idle_matching : (ports channels : ℕ) (waiting : List (List (Option VcRequest))) (free : List (List Bool))
+    → GrantsNothing waiting free → IsChannelMatching ports channels waiting free no_grants
 idle_matching ports channels waiting free nobody = record {
   requested = λ port vc channel is. let no : None ≡ Some channel = sym (none_granted port vc) ∙ is in absurd (cc);
   once = λ port vc port' vc' out channel one two. let no : None ≡ Some channel =
@@ -121,12 +120,13 @@ idle_matching ports channels waiting free nobody = record {
       sym asks ∙ nobody out channel port vc is_free in absurd (cc);
 }
 
-pub vain_allocated : (r new : RouterState) (grants : List (List (Option ℕ))) → AreInVain (requests r) (free_channels r)
-    → new ≡ r → grants ≡ no_grants → IsAllocated r new grants
-vain_allocated r new grants nobody same empty = record {
-  grants_are = empty ∙ sym (ap (λ (p : VcPass). p.grants) (idle_pass r nobody));
-  after = same ∙ sym (idle_allocate r nobody);
-  same = subst (IsSameSize r) (sym same) (stays r);
-  matching = subst (IsChannelMatching (terminal r + 1) (width r) (requests r) (free_channels r)) (sym empty)
-      (idle_matching (terminal r + 1) (width r) (requests r) (free_channels r) nobody);
-}
+pub nothing_granted : (r : RouterState) (grants : List (List (Option ℕ)))
+    → GrantsNothing (requests r) (free_channels r) → grants ≡ no_grants → grants ≡ (channel_pass r).grants
+nothing_granted r grants nobody empty = empty ∙ sym (ap (λ (p : VcPass). p.grants) (idle_pass r nobody))
+
+pub nothing_matched : (r : RouterState) (grants : List (List (Option ℕ)))
+    → GrantsNothing (requests r) (free_channels r) → grants ≡ no_grants
+    → IsChannelMatching (terminal r + 1) (width r) (requests r) (free_channels r) grants
+nothing_matched r grants nobody empty =
+    subst (IsChannelMatching (terminal r + 1) (width r) (requests r) (free_channels r)) (sym empty)
+    (idle_matching (terminal r + 1) (width r) (requests r) (free_channels r) nobody)

@@ -1,6 +1,6 @@
 -- What the channels of a router ask of its allocators, and what a pass of each leaves (Dally and Towles, chapters 16
 -- and 19).
-use Rattle.std.specs.Prelude.{ℕ, ◌≡◌, ◌<◌, ◌+◌, ◌&&◌, nat_le, nat_lt, Bool, false, is_none, if◌then◌else◌}
+use Rattle.std.specs.Prelude.{ℕ, ◌≡◌, ◌+◌, ◌&&◌, nat_le, nat_lt, Bool, false, is_none, if◌then◌else◌}
 use Rattle.std.specs.Prelude.{List, [], ◌∷◌, Option, None, Some, fold, replicate}
 use Rattle.std.specs.Option.{option_map}
 use Rattle.std.specs.List.{range_with_len}
@@ -10,7 +10,7 @@ use Rattle.worm_records.specs.declared.InRecord.{InRecord}
 use Rattle.worm_records.specs.declared.InRecord.TheVariants.{Idle, Waiting, Active}
 use Rattle.worm_vcalloc.specs.declared.request.VcRequest.{VcRequest}
 use Rattle.worm_vcalloc.specs.Table.{cell}
-use Rattle.worm_vcalloc.specs.VcAlloc.{VcPass, IsChannelMatching, vc_pass}
+use Rattle.worm_vcalloc.specs.VcAlloc.{VcPass, vc_pass}
 use Rattle.worm_swalloc.specs.declared.grant.SwGrant.{SwGrant}
 use Rattle.worm_swalloc.specs.SwAlloc.{sw_grants, sw_after}
 use Rattle.worm_swalloc.specs.Table.{table}
@@ -47,10 +47,6 @@ abbrev pub channel_pass : RouterState → VcPass
 channel_pass r =
     vc_pass (requests r) (free_channels r) (record { alloc = r.channel_alloc; grants = replicate 7 (replicate 8 None) })
 
--- each granted channel is one of so many
-abbrev pub GrantsWithin : ℕ → List (List (Option ℕ)) → Type 0
-GrantsWithin channels grants = (port vc out_vc : ℕ) → cell grants port vc None ≡ Some out_vc → out_vc < channels
-
 -- two routers of one mesh and the same channels
 pub record IsSameSize (old new : RouterState) : Type 0 where
   pub same_mesh : new.mesh ≡ old.mesh
@@ -72,13 +68,6 @@ with_grants grants r = fold (with_port_grants grants) r (range_with_len 0 (termi
 
 abbrev pub after_allocate : RouterState → RouterState
 after_allocate r = with_grants (channel_pass r).grants (record r { channel_alloc = (channel_pass r).alloc })
-
--- what a pass of the channel allocator leaves, with its grants
-pub record IsAllocated (old new : RouterState) (grants : List (List (Option ℕ))) : Type 0 where
-  pub grants_are : grants ≡ (channel_pass old).grants
-  pub after : new ≡ after_allocate old
-  pub same : IsSameSize old new
-  pub matching : IsChannelMatching (terminal old + 1) (width old) (requests old) (free_channels old) grants
 
 -- a granted input channel waited for this output port, and now holds the channel of it that it was granted
 pub record IsGranted (old new : RouterState) (port vc out_vc : ℕ) : Type 0 where

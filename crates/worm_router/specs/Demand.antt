@@ -11,9 +11,9 @@ pub record DemandView : Type 0 where
   pub requests : List (List (Option VcRequest))
   pub free : List (List Bool)
 
--- no request is for a free output channel
-abbrev pub AreInVain : List (List (Option VcRequest)) → List (List Bool) → Type 0
-AreInVain asked free = (out channel p v : ℕ) → cell free out channel false ≡ true
+-- a pass grants nothing: no request is for a free output channel
+abbrev pub GrantsNothing : List (List (Option VcRequest)) → List (List Bool) → Type 0
+GrantsNothing asked free = (out channel p v : ℕ) → cell free out channel false ≡ true
     → may_use (cell asked p v None) out channel ≡ false
 
 -- what is kept of a router is what its records say

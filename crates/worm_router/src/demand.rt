@@ -4,7 +4,7 @@
 ghost use Rattle.std.specs.Prelude.{◌≡◌, ◌<◌, ◌≤◌, Some, None, IsTrue, false, true, replicate, if◌then◌else◌};
 ghost use Rattle.worm_vcalloc.specs.Table.{IsTable, with_cell};
 ghost use Rattle.worm_router.specs.Tables.{PutsRow, PutsRows};
-ghost use Rattle.worm_router.specs.Demand.{AreInVain};
+ghost use Rattle.worm_router.specs.Demand.{GrantsNothing};
 
 use std::marker::Model;
 use worm_vcalloc::{FreeChannels, VcRequest, VcRequests};
@@ -12,8 +12,8 @@ use worm_vcalloc::{FreeChannels, VcRequest, VcRequests};
 /// Who asks for an output channel, and which are free.
 #[derive(Drop)]
 pub struct Demand {
-    /// That no request is for a free channel. It may be false where none is.
-    in_vain: bool,
+    /// That a pass grants nothing: no request is for a free channel. It may be false where none is.
+    grants_nothing: bool,
     /// What the waiting input channels ask for.
     requests: VcRequests,
     /// Which output channels are free.
@@ -22,13 +22,13 @@ pub struct Demand {
 
 impl Model for Demand {
     ghost use Rattle.std.specs.Prelude.{IsTrue};
-    ghost use Rattle.worm_router.specs.Demand.{DemandView, AreInVain};
+    ghost use Rattle.worm_router.specs.Demand.{DemandView, GrantsNothing};
 
     ghost Value = { DemandView };
 
     ghost view = { λ d. record { requests = d.requests; free = d.free } };
 
-    ghost invariant = { λ d. IsTrue d.in_vain → AreInVain d.requests d.free };
+    ghost invariant = { λ d. IsTrue d.grants_nothing → GrantsNothing d.requests d.free };
 }
 
 /// Marks the channels of an output port as free.
@@ -67,7 +67,7 @@ impl Demand {
         Demand {
             requests: VcRequests::new(),
             free: all_free(ports, channels),
-            in_vain: true,
+            grants_nothing: true,
         }
     }
 
@@ -92,7 +92,7 @@ impl Demand {
         ensures { self.new ≡ record self.old { requests = with_cell self.old.requests port vc (Some request) } }
     {
         self.requests.set(port, vc, Some(request));
-        self.in_vain = false;
+        self.grants_nothing = false;
     }
 
     /// The input channel has got this output channel: it asks no more, and that is free no more.
@@ -108,7 +108,7 @@ impl Demand {
     {
         self.requests.set(port, vc, None);
         self.free[usize::from(out)][usize::from(out_vc)] = false;
-        self.in_vain = false;
+        self.grants_nothing = false;
     }
 
     /// The output channel is free again, where a closing flit left by it.
@@ -121,22 +121,22 @@ impl Demand {
     {
         if closed {
             self.free[usize::from(out)][usize::from(out_vc)] = true;
-            self.in_vain = false;
+            self.grants_nothing = false;
         }
     }
 
-    /// Whether no request is for a free channel. Where none is this may not be known.
-    pub fn is_in_vain(&self) -> bool
-        ensures { IsTrue result → AreInVain self.now.requests self.now.free }
+    /// Whether a pass grants nothing: no request is for a free channel. Where none is this may not be known.
+    pub fn grants_nothing(&self) -> bool
+        ensures { IsTrue result → GrantsNothing self.now.requests self.now.free }
     {
-        self.in_vain
+        self.grants_nothing
     }
 
-    /// Keeps it whether no request is for a free channel, until that changes. Where none is false may be kept.
-    pub fn set_in_vain(&mut self, in_vain: bool)
-        requires { IsTrue in_vain → AreInVain self.old.requests self.old.free }
+    /// Keeps it whether a pass grants nothing, until that may change. Where it grants nothing false may be kept.
+    pub fn set_grants_nothing(&mut self, nothing: bool)
+        requires { IsTrue nothing → GrantsNothing self.old.requests self.old.free }
         ensures { self.new ≡ self.old }
     {
-        self.in_vain = in_vain;
+        self.grants_nothing = nothing;
     }
 }

@@ -1,16 +1,15 @@
 //! One pass of each allocator, over what the records state.
 
-ghost use Rattle.std.specs.Prelude.{◌≡◌, ◌+◌, ◌≤◌, ◌<◌, IfSome, IsTrue};
+ghost use Rattle.std.specs.Prelude.{◌≡◌, ◌+◌};
 ghost use Rattle.worm_flit.specs.Channels.{class_bits};
 ghost use Rattle.worm_vcalloc.specs.VcAlloc.{IsChannelMatching};
 ghost use Rattle.worm_swalloc.specs.SwAlloc.{IsSwitchMatching};
-ghost use Rattle.worm_router.specs.Router.{IsPlace, terminal, width};
-ghost use Rattle.worm_router.specs.Demand.{AreInVain};
-ghost use Rattle.worm_router.specs.Allocation.{requests, free_channels, GrantsWithin, written, channel_pass};
-ghost use Rattle.worm_router.specs.Allocation.{after_allocate, with_port_grants, with_grants, AreHeld, LeavesRest};
-ghost use Rattle.worm_router.specs.Allocation.{IsSameSize, ready_outs, switch_grants, after_choose};
+ghost use Rattle.worm_router.specs.Router.{terminal, width};
+ghost use Rattle.worm_router.specs.Allocation.{requests, free_channels, channel_pass, after_allocate, IsSameSize};
+ghost use Rattle.worm_router.specs.Allocation.{AreHeld, LeavesRest, ready_outs, switch_grants, after_choose};
 
 use crate::router::Router;
+use worm_records::InRecord;
 use worm_swalloc::{Ready, SwGrants};
 use worm_vcalloc::VcGrants;
 
@@ -25,56 +24,6 @@ impl Router {
         }
     }
 
-    /// Writes the grant of an input channel, if it has one, into the records.
-    fn write_grant(&mut self, port: u8, vc: u8, granted: Option<u8>)
-        requires place { IsPlace self.old port vc }
-        requires within { IfSome granted (λ out_vc. out_vc < width self.old) }
-        ensures { self.new ≡ written self.old port vc granted }
-    {
-        if let Some(out_vc) = granted {
-            self.grant(port, vc, out_vc);
-        }
-    }
-
-    /// Writes the grants of an input port into the records, by rising channel.
-    fn write_port(&mut self, grants: &VcGrants, port: u8)
-        requires port { port ≤ terminal self.old }
-        requires few { port < 7 }
-        requires within { GrantsWithin (width self.old) grants.now }
-        ensures after { self.new ≡ with_port_grants grants.now self.old port }
-        ensures same { IsSameSize self.old self.new }
-    {
-        for vc in 0..self.classes.total() {
-            self.write_grant(port, vc, grants.get(port, vc));
-        }
-    }
-
-    /// Writes grants into the records, one by one, by rising input port.
-    fn write(&mut self, grants: &VcGrants)
-        requires few { width self.old ≤ 8 }
-        requires within { GrantsWithin (width self.old) grants.now }
-        ensures after { self.new ≡ with_grants grants.now self.old }
-        ensures same { IsSameSize self.old self.new }
-    {
-        let terminal = self.terminal();
-        let mut left = grants.keys();
-        while let Some(port) = left.pop_port() {
-            if port <= terminal {
-                self.write_port(grants, port);
-            }
-        }
-    }
-
-    /// Whether a pass would grant nothing: no channel waits, or it is known that those that wait do so in vain.
-    pub(super) fn waits_in_vain(&self) -> bool
-        ensures { IsTrue result → AreInVain (requests self.now) (free_channels self.now) }
-    {
-        if self.waiting().is_empty() {
-            return true;
-        }
-        self.demand.is_in_vain()
-    }
-
     /// One pass of the channel allocator over the waiting channels and the free ones. Each grant is written into
     /// the records of the input channel and of the output channel (Dally and Towles, chapters 16 and 19).
     pub fn allocate(&mut self) -> VcGrants
@@ -86,14 +35,22 @@ impl Router {
         ensures held { AreHeld self.old self.new result }
         ensures rest { LeavesRest self.old self.new result }
     {
-        if self.waits_in_vain() {
+        if self.allocates_nothing() {
             return VcGrants::new();
         }
         let grants = self
             .channel_alloc
             .grant(self.demand.requests(), self.demand.free());
-        self.demand.set_in_vain(grants.keys().is_empty());
-        self.write(&grants);
+        let mut left = grants.keys();
+        self.demand.set_grants_nothing(left.is_empty());
+        // A pass grants what is asked for and free, and nothing twice, so a grant is written without a test of that.
+        while let Some((port, vc)) = left.pop_first() {
+            if let Some(out_vc) = grants.get(port, vc) {
+                if let InRecord::Waiting { out } = self.in_record(port, vc) {
+                    self.hold(port, vc, out, out_vc);
+                }
+            }
+        }
         grants
     }
 

@@ -1,7 +1,8 @@
 //! Whether a turn may pass a router over.
 
 ghost use Rattle.std.specs.Prelude.{◌≡◌, IsTrue, None, replicate};
-ghost use Rattle.worm_router.specs.Allocation.{after_allocate, switch_grants, after_choose};
+ghost use Rattle.worm_router.specs.Allocation.{requests, free_channels, after_allocate, switch_grants, after_choose};
+ghost use Rattle.worm_router.specs.Demand.{GrantsNothing};
 ghost use Rattle.worm_router.specs.Rest.{RoutesNothing, SendsNothing, OwesNothing, IsAtRest};
 
 use crate::router::Router;
@@ -29,11 +30,13 @@ impl Router {
         unrouted.is_empty()
     }
 
-    /// Whether a pass for output channels would do nothing.
-    fn allocates_nothing(&self) -> bool
-        ensures { IsTrue result → after_allocate self.now ≡ self.now }
+    /// Whether a pass for output channels would do nothing: no channel waits, or it is known that none of those that
+    /// wait asks for a free one.
+    pub(super) fn allocates_nothing(&self) -> bool
+        ensures asked { IsTrue result → GrantsNothing (requests self.now) (free_channels self.now) }
+        ensures after { IsTrue result → after_allocate self.now ≡ self.now }
     {
-        self.waits_in_vain()
+        self.waiting().is_empty() || self.demand.grants_nothing()
     }
 
     /// True only where no channel may send: a pass of the switch allocator then grants nothing and changes nothing.
