@@ -15,7 +15,7 @@ use Rattle.worm_region.specs.Shape.{net_shape}
 use Rattle.worm_region.specs.State.{NetState, node_at, router_at, with_node}
 use Rattle.worm_region.specs.Workable.{IsWorkable}
 use Rattle.worm_region.specs.Replies.{Attempts, Replies}
-use Rattle.worm_region.specs.Moves.{AreOwing, OwesTheSame, can_give}
+use Rattle.worm_region.specs.Moves.{OwesTheSame, can_give}
 use Rattle.worm_region.specs.Turns.{Each, Does, lowest_owed, mesh_ports, GivesCreditBy, GivesCreditsBy}
 use Rattle.worm_region.specs.declared.node.Node.{Node}
 use Rattle.worm_region.specs.declared.step.Moved.{Moved}
@@ -81,18 +81,13 @@ give_elsewhere a b x q c (Err NoMemory) net none p v away within = unchanged a b
 none_owed : (n : ℕ) → nat_lt 0 n ≡ false → n ≡ 0
 none_owed n none = grind (arith, nat_tests)
 
-pub are_owing : (s : NetState) (x owing : ℕ) → IsWorkable s → x < node_count s.mesh →
-    IsSetOf owes (router_at s x) owing → AreOwing s x owing
-are_owing s x owing net x_in set =
+-- the ports and channels of a router that is there are those of the network
+pub router_size : (s : NetState) (x : ℕ) → IsWorkable s → x < node_count s.mesh →
+    (terminal (router_at s x) ≡ 2 * length s.mesh) × (width (router_at s x) ≡ sum s.channels)
+router_size s x net there =
     let all = net.framed.all_nodes in
     let node = net.framed.each_node x (omega arith) in
-    let mesh = ap (λ (m : List ℕ). length m) node.same_mesh in
-    let wide : width (router_at s x) ≡ sum s.channels = ap (λ (m : List ℕ). sum m) node.same_channels in
-    record {
-      exact = λ p v p_in v_in. set.inside p v (omega arith) (omega arith);
-      places = λ p v p_few v_few some.
-          let place = set.outside p v p_few v_few some in (omega (arith, place.0), omega (arith, place.1));
-    }
+    (ap (λ (m : List ℕ). 2 * length m) node.same_mesh, ap (λ (m : List ℕ). sum m) node.same_channels)
 
 -- how far the ports have come that owe a credit: those below `from` are done, and of the others just the channels of
 -- the set owe one
@@ -104,27 +99,23 @@ pub record Gave (x : ℕ) (a b : NetState) (owing from : ℕ) : Type 0 where
   pub rest : (p v : ℕ) → from ≤ p → p < 2 * length b.mesh → v < sum b.channels → has owing p v ≡ can_give b x p v
   pub places : (p v : ℕ) → p < 7 → v < 8 → has owing p v ≡ true → (from ≤ p) × (v < sum b.channels)
 
-pub gave_start : (x : ℕ) (a : NetState) (owing : ℕ) → x < node_count a.mesh → IsWorkable a → AreOwing a x owing →
-    Gave x a a owing 0
-gave_start x a owing there sound owes = record {
-  passed = does_nothing a;
-  there = there;
-  sound = sound;
-  few = omega arith;
-  rest = λ p v above p_in v_in. owes.exact p v (omega arith) v_in;
-  places = λ p v p_few v_few some. (omega arith, (owes.places p v p_few v_few some).1);
-}
-
-wide_as : (x : ℕ) (b : NetState) → IsWorkable b → x < node_count b.mesh → width (router_at b x) ≡ sum b.channels
-wide_as x b net there =
-    let all = net.framed.all_nodes in
-    let node = net.framed.each_node x (omega arith) in
-    ap (λ (m : List ℕ). sum m) node.same_channels
+pub gave_start : (x : ℕ) (a : NetState) (owing : ℕ) → x < node_count a.mesh → IsWorkable a →
+    IsSetOf owes (router_at a x) owing → Gave x a a owing 0
+gave_start x a owing there sound set =
+    let size = router_size a x sound there in
+    record {
+      passed = does_nothing a;
+      there = there;
+      sound = sound;
+      few = omega arith;
+      rest = λ p v above p_in v_in. set.inside p v (omega (arith, size.0)) (omega (arith, size.1));
+      places = λ p v p_few v_few some. (omega arith, omega (arith, size.1, (set.outside p v p_few v_few some).1));
+    }
 
 port_still : (x p : ℕ) (b : NetState) → IsWorkable b → x < node_count b.mesh →
     ((v : ℕ) → v < sum b.channels → can_give b x p v ≡ false) → GivesCreditBy Attempts x p b None b
 port_still x p b net there none =
-    let wide = wide_as x b net there in
+    let wide = (router_size b x net there).1 in
     (gives_none x p b (owed_lowest (router_at b x) p None tt tt
     (λ v v_in. none_owed (input_at (router_at b x) p v).owed (none v (omega arith))))).exact
 
@@ -154,7 +145,7 @@ next_lowest x a b owing from q c gave q_few lowest below =
     let on : has owing q c ≡ true = true_of (has owing q c) lowest.is_in in
     let place = gave.places q c q_few lowest.channel_in on in
     let c_in = place.1 in
-    let wide = wide_as x b gave.sound gave.there in
+    let wide = (router_size b x gave.sound gave.there).1 in
     let owes = owing_some (input_at (router_at b x) q c).owed (sym (gave.rest q c place.0 q_in c_in) ∙ on) in
     record {
       port_in = q_in;
@@ -183,7 +174,7 @@ gave_more x a b b_new owing new from q c gave first next given same net_new =
     let nodes = ap node_count config.mesh in
     let wide = ap (λ (cs : List ℕ). sum cs) config.channels in
     let there : x < node_count b_new.mesh = omega (arith, gave.there) in
-    let wide_new = wide_as x b_new net_new there in
+    let wide_new = (router_size b_new x net_new there).1 in
     let up_to = along x a b owing from q gave to_give (omega arith) first.none_before in
     record {
       passed = loop_more (GivesCreditBy Attempts x) q a b b_new None up_to does;
