@@ -56,6 +56,11 @@ fn ports_come_out_in_order(rt: HostRuntime) {
     holds(&rt, &set, 6, 0, true);
     gives_port(&rt, &mut set, Some(6));
     gives_port(&rt, &mut set, None);
+    put_all(&rt, &mut set, &[(3, 2, true), (3, 5, true)]);
+    assert_eq!(rt;
+        (set.pop_port_lowest(), set.pop_port_lowest()),
+        (Some((3, 2)), None)
+    );
 }
 
 /// What two sets have both, and what one has beyond the other.

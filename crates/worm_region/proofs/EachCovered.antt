@@ -64,9 +64,8 @@ pub record Covered (x : ℕ) (size : NetState → ℕ) (E : ℕ → Step) (NoneA
   pub sound : IsWorkable b
   pub few : size b ≤ 8
   pub next_in : next ≤ size b
-  pub later : (p : ℕ) → p < next → has set p ≡ false
   pub rest : (p : ℕ) → next ≤ p → p < size b → has set p ≡ false → NoneAt b p
-  pub places : (p : ℕ) → p < 8 → has set p ≡ true → p < size b
+  pub places : (p : ℕ) → p < 8 → has set p ≡ true → (next ≤ p) × (p < size b)
 
 pub covered_start : (x : ℕ) (size : NetState → ℕ) (E : ℕ → Step) (NoneAt : NetState → ℕ → Type 0) (a : NetState)
     (set : ℕ) → x < node_count a.mesh → IsWorkable a → size a ≤ 8 → Covers (NoneAt a) (size a) set
@@ -77,9 +76,8 @@ covered_start x size E NoneAt a set there sound few covers = record {
   sound = sound;
   few = few;
   next_in = omega arith;
-  later = λ p below. absurd (omega arith);
   rest = λ p above p_in none. covers.rest p p_in none;
-  places = covers.places;
+  places = λ p p_few some. (omega arith, covers.places p p_few some);
 }
 
 module _ (x : ℕ) (size : NetState → ℕ) (same : (a b : NetState) → IsSameConfig a b → size b ≡ size a) (E : ℕ → Step)
@@ -99,11 +97,9 @@ module _ (x : ℕ) (size : NetState → ℕ) (same : (a b : NetState) → IsSame
       → IsFirst set new q → Does (Attempts (E q)) b None c → ((p : ℕ) → (p ≡ q → ⊥) → NoneAt b p → NoneAt c p)
       → IsWorkable c → Covered x size E NoneAt a c new (q + 1)
   covered_more a b c set new next q covered first taken others sound =
-      let above : next ≤ q = elim (cases_lt q next) [
-        | inl below ↦ let off = covered.later q below in let on = first.was_in in absurd (cc)
-        | inr above ↦ above
-      ] in
-      let q_in : q < size b = covered.places q first.in_range first.was_in in
+      let place = covered.places q first.in_range first.was_in in
+      let above : next ≤ q = place.0 in
+      let q_in : q < size b = place.1 in
       let up_to = along a b set next q covered above (omega arith) (λ p from below. first.none_before p below) in
       let few = covered.few in
       let config = taken.reaches.config in
@@ -115,12 +111,6 @@ module _ (x : ℕ) (size : NetState → ℕ) (same : (a b : NetState) → IsSame
         sound = sound;
         few = omega arith;
         next_in = omega arith;
-        later = λ p before. elim (number_cases p q) [
-          | inl same ↦ ap (has new) same.1 ∙ first.taken.here
-          | inr away ↦
-              let differs = away.1 in
-              first.taken.elsewhere p (omega (arith, first.in_range)) differs ∙ first.none_before p (omega arith)
-        ];
         rest = λ p from p_in none.
             let differs : p ≡ q → ⊥ = λ e. omega arith in
             others p differs (covered.rest p (omega arith) (omega arith)
@@ -128,7 +118,15 @@ module _ (x : ℕ) (size : NetState → ℕ) (same : (a b : NetState) → IsSame
         places = λ p p_few some. elim (number_cases p q) [
           | inl same ↦ absurd (let off = ap (has new) same.1 ∙ first.taken.here in cc)
           | inr away ↦
-              let was = covered.places p p_few (sym (first.taken.elsewhere p p_few away.1) ∙ some) in omega arith
+              let differs = away.1 in
+              let on = sym (first.taken.elsewhere p p_few away.1) ∙ some in
+              let was = covered.places p p_few on in (
+                elim (cases_lt p q) [
+                  | inl before ↦ absurd (let off = first.none_before p before in cc)
+                  | inr after ↦ omega arith
+                ],
+                omega (arith, was.1),
+              )
         ];
       }
 

@@ -3,20 +3,19 @@ use Rattle.std.proofs.Common.{◌≡◌, ◌==◌, ℕ, ◌+◌, ◌-◌, ◌*�
 use Rattle.std.proofs.Common.{Some, None, Ok, Err, refl, arith, ap, sym, subst, ◌∙◌}
 use Rattle.std.specs.Prelude.{Result}
 use Rattle.std.specs.List.{range_with_len}
-use Rattle.std.proofs.lemmas.Bool.{eq-eqb}
+use Rattle.std.proofs.lemmas.Bool.{cases_lt, eq-eqb}
 use Rattle.std.proofs.lemmas.Bool.Decides.{nat_tests}
-use Rattle.worm_vcalloc.specs.ChannelSet.{has, IsFirst}
-use Rattle.worm_vcalloc.proofs.SetMembers.{has-zero}
+use Rattle.worm_vcalloc.specs.ChannelSet.{has, IsFirstPort, IsLowest}
 use Rattle.worm_mesh.specs.Address.{node_count}
 use Rattle.worm_router.specs.Router.{ChannelState, RouterState, input_at, with_input, terminal, width, after_gave}
 use Rattle.worm_router.specs.Busy.{IsSetOf, owes}
 use Rattle.worm_theory.specs.Steps.{GiveCredit}
-use Rattle.worm_theory.proofs.Places.{same-false}
+use Rattle.worm_theory.proofs.Places.{number_cases, same-false}
 use Rattle.worm_region.specs.Shape.{net_shape}
 use Rattle.worm_region.specs.State.{NetState, node_at, router_at, with_node}
 use Rattle.worm_region.specs.Workable.{IsWorkable}
 use Rattle.worm_region.specs.Replies.{Attempts, Replies}
-use Rattle.worm_region.specs.Moves.{AreOwing, OwesTheSame, can_give}
+use Rattle.worm_region.specs.Moves.{OwesTheSame, can_give}
 use Rattle.worm_region.specs.Turns.{Each, Does, lowest_owed, mesh_ports, GivesCreditBy, GivesCreditsBy}
 use Rattle.worm_region.specs.declared.node.Node.{Node}
 use Rattle.worm_region.specs.declared.step.Moved.{Moved}
@@ -27,7 +26,6 @@ use Rattle.worm_wires.proofs.ArrivalsFound.{true_of}
 use Rattle.worm_region.proofs.NodeWritten.{node_at-put, input_of-put, input_of-there}
 use Rattle.worm_region.proofs.PlacesThere.{net_place}
 use Rattle.worm_region.proofs.Passages.{does_for, does_nothing, loop_more, loop_on}
-use Rattle.worm_region.proofs.RoutedStays.{places_same}
 use Rattle.worm_region.proofs.TurnInParts.{gives_none, owed_lowest, owing_some}
 
 unchanged : (a b : NetState) (x p v : ℕ) → b ≡ a → v < width (router_at b x) → OwesTheSame a b x p v
@@ -83,18 +81,13 @@ give_elsewhere a b x q c (Err NoMemory) net none p v away within = unchanged a b
 none_owed : (n : ℕ) → nat_lt 0 n ≡ false → n ≡ 0
 none_owed n none = grind (arith, nat_tests)
 
-pub are_owing : (s : NetState) (x owing : ℕ) → IsWorkable s → x < node_count s.mesh →
-    IsSetOf owes (router_at s x) owing → AreOwing s x owing
-are_owing s x owing net x_in set =
+-- the ports and channels of a router that is there are those of the network
+pub router_size : (s : NetState) (x : ℕ) → IsWorkable s → x < node_count s.mesh →
+    (terminal (router_at s x) ≡ 2 * length s.mesh) × (width (router_at s x) ≡ sum s.channels)
+router_size s x net there =
     let all = net.framed.all_nodes in
     let node = net.framed.each_node x (omega arith) in
-    let mesh = ap (λ (m : List ℕ). length m) node.same_mesh in
-    let wide : width (router_at s x) ≡ sum s.channels = ap (λ (m : List ℕ). sum m) node.same_channels in
-    record {
-      exact = λ p v p_in v_in. set.inside p v (omega arith) (omega arith);
-      places = λ p v p_few v_few some.
-          let place = set.outside p v p_few v_few some in (omega (arith, place.0), omega (arith, place.1));
-    }
+    (ap (λ (m : List ℕ). 2 * length m) node.same_mesh, ap (λ (m : List ℕ). sum m) node.same_channels)
 
 -- how far the ports have come that owe a credit: those below `from` are done, and of the others just the channels of
 -- the set owe one
@@ -104,93 +97,85 @@ pub record Gave (x : ℕ) (a b : NetState) (owing from : ℕ) : Type 0 where
   pub sound : IsWorkable b
   pub few : from ≤ 2 * length b.mesh
   pub rest : (p v : ℕ) → from ≤ p → p < 2 * length b.mesh → v < sum b.channels → has owing p v ≡ can_give b x p v
-  pub places : (p v : ℕ) → p < 7 → v < 8 → has owing p v ≡ true → v < sum b.channels
+  pub places : (p v : ℕ) → p < 7 → v < 8 → has owing p v ≡ true → (from ≤ p) × (v < sum b.channels)
 
-pub gave_start : (x : ℕ) (a : NetState) (owing : ℕ) → x < node_count a.mesh → IsWorkable a → AreOwing a x owing →
-    Gave x a a owing 0
-gave_start x a owing there sound owes = record {
-  passed = does_nothing a;
-  there = there;
-  sound = sound;
-  few = omega arith;
-  rest = λ p v above p_in v_in. owes.exact p v (omega arith) v_in;
-  places = λ p v p_few v_few some. (owes.places p v p_few v_few some).1;
-}
-
-wide_as : (x : ℕ) (b : NetState) → IsWorkable b → x < node_count b.mesh → width (router_at b x) ≡ sum b.channels
-wide_as x b net there =
-    let all = net.framed.all_nodes in
-    let node = net.framed.each_node x (omega arith) in
-    ap (λ (m : List ℕ). sum m) node.same_channels
+pub gave_start : (x : ℕ) (a : NetState) (owing : ℕ) → x < node_count a.mesh → IsWorkable a →
+    IsSetOf owes (router_at a x) owing → Gave x a a owing 0
+gave_start x a owing there sound set =
+    let size = router_size a x sound there in
+    record {
+      passed = does_nothing a;
+      there = there;
+      sound = sound;
+      few = omega arith;
+      rest = λ p v above p_in v_in. set.inside p v (omega (arith, size.0)) (omega (arith, size.1));
+      places = λ p v p_few v_few some. (omega arith, omega (arith, size.1, (set.outside p v p_few v_few some).1));
+    }
 
 port_still : (x p : ℕ) (b : NetState) → IsWorkable b → x < node_count b.mesh →
     ((v : ℕ) → v < sum b.channels → can_give b x p v ≡ false) → GivesCreditBy Attempts x p b None b
 port_still x p b net there none =
-    let wide = wide_as x b net there in
+    let wide = (router_size b x net there).1 in
     (gives_none x p b (owed_lowest (router_at b x) p None tt tt
     (λ v v_in. none_owed (input_at (router_at b x) p v).owed (none v (omega arith))))).exact
 
--- the first channel of the set, where its port is to give yet, owes a credit and is the lowest of its port
-pub owed_first : (x : ℕ) (a b : NetState) (owing new from q c : ℕ) → Gave x a b owing from → IsFirst owing new q c →
-    from ≤ q → q < 2 * length b.mesh → (c < sum b.channels) × (0 < (input_at (router_at b x) q c).owed)
-owed_first x a b owing new from q c gave first to_give q_in =
-    let on : has owing q c ≡ true = true_of (has owing q c) first.was_in in
-    let c_in = gave.places q c first.port_in first.channel_in on in
-    (c_in, owing_some (input_at (router_at b x) q c).owed (sym (gave.rest q c to_give q_in c_in) ∙ on))
-
-lowest_first : (x : ℕ) (a b : NetState) (owing new from q c : ℕ) → Gave x a b owing from → IsFirst owing new q c →
-    from ≤ q → q < 2 * length b.mesh → Some c ≡ lowest_owed (router_at b x) q
-lowest_first x a b owing new from q c gave first to_give q_in =
-    let owes = owed_first x a b owing new from q c gave first to_give q_in in
-    let c_in = owes.0 in
-    let wide = wide_as x b gave.sound gave.there in
-    owed_lowest (router_at b x) q (Some c) (omega arith, owes.1)
-    (λ k below. none_owed (input_at (router_at b x) q k).owed (sym (gave.rest q k to_give q_in (omega arith)) ∙
-    first.none_before q k (omega (arith, first.channel_in)) (omega arith)))
-    tt
-
--- what is left of the set after its first channel was taken out
-still_in : (owing new q c p v : ℕ) → IsFirst owing new q c → p < 7 → v < 8 → has new p v ≡ true → has owing p v ≡ true
-still_in owing new q c p v first p_few v_few some = elim (places_same p q v c) [
-  | inl here ↦ absurd (let is = (λ t. has new (here.0 t) (here.1 t)) ∙ first.taken.here in cc)
-  | inr away ↦ sym (first.taken.elsewhere p v p_few v_few away) ∙ some
-]
-
-pub gave_same : (x : ℕ) (a b : NetState) (owing new from q c : ℕ) → Gave x a b owing from → IsFirst owing new q c →
-    q < from → Gave x a b new from
-gave_same x a b owing new from q c gave first below =
+-- the ports up to one are passed where no channel of them is in the set
+along : (x : ℕ) (a b : NetState) (owing from to : ℕ) → Gave x a b owing from → from ≤ to → to ≤ 2 * length b.mesh →
+    ((p v : ℕ) → p < to → v < 8 → has owing p v ≡ false)
+    → Does (Each (GivesCreditBy Attempts x) (range_with_len 0 to)) a None b
+along x a b owing from to gave less to_in none =
     let few = gave.sound.framed.classes.total in
-    let few_dims = gave.sound.framed.radices.few_dims in
+    loop_on (GivesCreditBy Attempts x) from to a b less gave.passed
+    (λ p above below. port_still x p b gave.sound gave.there
+    (λ v v_in. sym (gave.rest p v above (omega arith) v_in) ∙ none p v below (omega (arith, few))))
+
+-- the lowest channel that the set has of a port with a link owes a credit, as no lower one does, and none was given yet
+pub record IsNext (x : ℕ) (b : NetState) (from q c : ℕ) : Type 0 where
+  pub port_in : q < 2 * length b.mesh
+  pub to_give : from ≤ q
+  pub channel_in : c < sum b.channels
+  pub owes : 0 < (input_at (router_at b x) q c).owed
+  pub lowest : Some c ≡ lowest_owed (router_at b x) q
+
+pub next_lowest : (x : ℕ) (a b : NetState) (owing from q c : ℕ) → Gave x a b owing from → q < 7 →
+    IsLowest owing q c → q < 2 * length a.mesh → IsNext x b from q c
+next_lowest x a b owing from q c gave q_few lowest below =
+    let mesh = ap (λ (m : List ℕ). length m) gave.passed.reaches.config.mesh in
+    let q_in : q < 2 * length b.mesh = omega arith in
+    let on : has owing q c ≡ true = true_of (has owing q c) lowest.is_in in
+    let place = gave.places q c q_few lowest.channel_in on in
+    let c_in = place.1 in
+    let wide = (router_size b x gave.sound gave.there).1 in
+    let owes = owing_some (input_at (router_at b x) q c).owed (sym (gave.rest q c place.0 q_in c_in) ∙ on) in
     record {
-      passed = gave.passed;
-      there = gave.there;
-      sound = gave.sound;
-      few = gave.few;
-      rest =
-          λ p v above p_in v_in. first.taken.elsewhere p v (omega (arith, few_dims)) (omega (arith, few))
-          (λ e f. omega arith) ∙ gave.rest p v above p_in v_in;
-      places = λ p v p_few v_few some. gave.places p v p_few v_few (still_in owing new q c p v first p_few v_few some);
+      port_in = q_in;
+      to_give = place.0;
+      channel_in = c_in;
+      owes = owes;
+      lowest =
+          owed_lowest (router_at b x) q (Some c) (omega arith, owes)
+          (λ k less. none_owed (input_at (router_at b x) q k).owed
+          (sym (gave.rest q k place.0 q_in (omega arith)) ∙ lowest.none_below k less)) tt;
     }
 
 pub gave_more : (x : ℕ) (a b b_new : NetState) (owing new from q c : ℕ) → Gave x a b owing from →
-    IsFirst owing new q c → from ≤ q → q < 2 * length b.mesh →
+    IsFirstPort owing new q → IsNext x b from q c →
     (Some c ≡ lowest_owed (router_at b x) q → Does (GivesCreditBy Attempts x q) b None b_new)
     → ((p v : ℕ) → (p ≡ q → ⊥) → v < width (router_at b_new x) → OwesTheSame b b_new x p v) → IsWorkable b_new →
     Gave x a b_new new (q + 1)
-gave_more x a b b_new owing new from q c gave first to_give q_in given same net_new =
-    let net = gave.sound in
-    let few = net.framed.classes.total in
-    let few_dims = net.framed.radices.few_dims in
-    let does = given (lowest_first x a b owing new from q c gave first to_give q_in) in
+gave_more x a b b_new owing new from q c gave first next given same net_new =
+    let few = gave.sound.framed.classes.total in
+    let few_dims = gave.sound.framed.radices.few_dims in
+    let to_give = next.to_give in
+    let q_in = next.port_in in
+    let does = given next.lowest in
     let config = does.reaches.config in
     let mesh = ap (λ (m : List ℕ). length m) config.mesh in
     let nodes = ap node_count config.mesh in
     let wide = ap (λ (cs : List ℕ). sum cs) config.channels in
     let there : x < node_count b_new.mesh = omega (arith, gave.there) in
-    let wide_new = wide_as x b_new net_new there in
-    let up_to = loop_on (GivesCreditBy Attempts x) from q a b to_give gave.passed
-    (λ p above below. port_still x p b net gave.there (λ v v_in. sym (gave.rest p v above (omega arith) v_in) ∙
-    first.none_before p v (omega (arith, few)) (omega (arith, few)))) in
+    let wide_new = (router_size b_new x net_new there).1 in
+    let up_to = along x a b owing from q gave to_give (omega arith) first.none_before in
     record {
       passed = loop_more (GivesCreditBy Attempts x) q a b b_new None up_to does;
       there = there;
@@ -198,29 +183,25 @@ gave_more x a b b_new owing new from q c gave first to_give q_in given same net_
       few = omega arith;
       rest = λ p v above p_in v_in.
           let kept = same p v (λ e. omega arith) (omega arith) in
-          first.taken.elsewhere p v (omega (arith, few_dims)) (omega (arith, few)) (λ e f. omega arith) ∙
+          first.elsewhere p v (omega (arith, few_dims)) (omega (arith, few)) (λ e. omega arith) ∙
           (gave.rest p v (omega arith) (omega arith) (omega arith) ∙ ap (λ (n : ℕ). nat_lt 0 n) (sym kept.owed));
-      places = λ p v p_few v_few some.
-          let was = gave.places p v p_few v_few (still_in owing new q c p v first p_few v_few some) in omega arith;
+      places = λ p v p_few v_few some. elim (number_cases p q) [
+        | inl here ↦ absurd (let off = ap (λ (p : ℕ). has new p v) here.1 ∙ first.taken v v_few in cc)
+        | inr away ↦
+            let kept = first.elsewhere p v p_few v_few away.1 in
+            let was = gave.places p v p_few v_few (sym kept ∙ some) in (
+              elim (cases_lt p q) [
+                | inl before ↦ absurd (let none = first.none_before p v before v_few in cc)
+                | inr after ↦ let differs = away.1 in omega arith
+              ],
+              omega (arith, was.1),
+            )
+      ];
     }
 
-gave_end : (x : ℕ) (a b : NetState) (owing from : ℕ) → Gave x a b owing from →
+pub gave_all : (x : ℕ) (a b : NetState) (owing from : ℕ) → Gave x a b owing from →
     ((p v : ℕ) → p < 2 * length b.mesh → v < 8 → has owing p v ≡ false) → Does (GivesCreditsBy Attempts x) a None b
-gave_end x a b owing from gave none =
-    let few = gave.sound.framed.classes.total in
-    let mesh = ap (λ (m : List ℕ). length m) gave.passed.reaches.config.mesh in
-    let all = loop_on (GivesCreditBy Attempts x) from (2 * length b.mesh) a b gave.few gave.passed
-    (λ p above below. port_still x p b gave.sound gave.there (λ v v_in. sym (gave.rest p v above below v_in) ∙
-    none p v below (omega (arith, few)))) in
-    does_for mesh_ports (GivesCreditBy Attempts x) (2 * length a.mesh) (2 * length b.mesh) a b None refl
-    (omega arith) all
-
-pub gave_all : (x : ℕ) (a b : NetState) (owing from : ℕ) → Gave x a b owing from → owing ≡ 0 →
-    Does (GivesCreditsBy Attempts x) a None b
 gave_all x a b owing from gave none =
-    gave_end x a b owing from gave (λ p v p_in v_in. ap (λ (s : ℕ). has s p v) none ∙ has-zero p v)
-
-pub gave_past : (x : ℕ) (a b : NetState) (owing new from q c : ℕ) → Gave x a b owing from → IsFirst owing new q c →
-    2 * length b.mesh ≤ q → Does (GivesCreditsBy Attempts x) a None b
-gave_past x a b owing new from q c gave first past =
-    gave_end x a b owing from gave (λ p v p_in v_in. first.none_before p v v_in (omega arith))
+    let mesh = ap (λ (m : List ℕ). length m) gave.passed.reaches.config.mesh in
+    does_for mesh_ports (GivesCreditBy Attempts x) (2 * length a.mesh) (2 * length b.mesh) a b None refl (omega arith)
+    (along x a b owing from (2 * length b.mesh) gave gave.few (omega arith) none)

@@ -16,7 +16,7 @@ use Rattle.worm_region.specs.Shape.{net_shape}
 use Rattle.worm_region.specs.State.{NetState, node_at, router_at, with_node}
 use Rattle.worm_region.specs.Workable.{IsWorkable}
 use Rattle.worm_region.specs.Replies.{Attempts, Replies}
-use Rattle.worm_region.specs.Moves.{AreUnrouted, RoutesTheSame, RoutesWithin}
+use Rattle.worm_region.specs.Moves.{AreUnrouted, RoutesTheSame}
 use Rattle.worm_region.specs.Turns.{Each, Does, all_channels, all_ports, RoutesChannelsBy, RoutesPortBy}
 use Rattle.worm_region.specs.declared.node.Node.{Node}
 use Rattle.worm_region.specs.declared.step.Moved.{Moved}
@@ -25,10 +25,10 @@ use Rattle.worm_region.specs.declared.fault.StepFault.{StepFault}
 use Rattle.worm_region.specs.declared.fault.StepFault.TheVariants.{NoSuchPlace, Refused, NoMemory}
 use Rattle.worm_wires.proofs.ArrivalsFound.{true_of}
 use Rattle.worm_region.proofs.NodeWritten.{node_at-put}
-use Rattle.worm_region.proofs.LowestGiven.{input_elsewhere}
+use Rattle.worm_region.proofs.LowestGiven.{input_elsewhere, router_size}
 use Rattle.worm_region.proofs.PlacesThere.{net_place}
 use Rattle.worm_region.proofs.Passages.{does_for, does_nothing, does_ranged, loop_more, loop_on}
-use Rattle.worm_region.proofs.RoutedStays.{each_still, places_same, route_still}
+use Rattle.worm_region.proofs.RoutedStays.{each_still, route_still}
 
 -- a route leaves what other channels have to route
 
@@ -71,24 +71,6 @@ route_elsewhere a b x q c (Err NoSuchPlace) net none p v away within = unchanged
 route_elsewhere a b x q c (Err (Refused why)) net none p v away within = unchanged a b x p v none.3 within
 route_elsewhere a b x q c (Err NoMemory) net none p v away within = unchanged a b x p v none.3 within
 
--- the set of a router's channels that lack a route
-pub unrouted_within : (s : NetState) (x set : ℕ) → IsWorkable s → x < node_count s.mesh →
-    AreUnrouted (router_at s x) set → RoutesWithin s x set
-unrouted_within s x set net x_in unrouted =
-    let all = net.framed.all_nodes in
-    let node = net.framed.each_node x (omega arith) in
-    let mesh = ap (λ (m : List ℕ). length m) node.same_mesh in
-    let wide : width (router_at s x) ≡ sum s.channels = ap (λ (m : List ℕ). sum m) node.same_channels in
-    let few_ports = net.framed.radices.few_dims in
-    let few_channels = net.framed.classes.total in
-    record {
-      all =
-          λ p v p_in v_in none. unrouted.all p v (omega (arith, few_ports)) (omega (arith, few_channels)) (omega arith)
-          (omega arith) none;
-      places = λ p v p_few v_few some.
-          let place = unrouted.places p v p_few v_few some in (omega (arith, place.0), omega (arith, place.1));
-    }
-
 -- how far the channels have come: all of the ports below `port` are done, and of it those below `vc`
 pub record Passed (x : ℕ) (a b : NetState) (port vc : ℕ) : Type 0 where
   pub mid : NetState
@@ -102,23 +84,30 @@ pub record Routed (x : ℕ) (a b : NetState) (set port vc : ℕ) : Type 0 where
   pub sound : IsWorkable b
   pub port_in : port ≤ 2 * length b.mesh
   pub vc_in : vc ≤ sum b.channels
-  pub later : (p c : ℕ) → c < 8 → 8 * p + c < 8 * port + vc → has set p c ≡ false
   pub rest : (p v : ℕ) → 8 * port + vc ≤ 8 * p + v → p ≤ 2 * length b.mesh → v < sum b.channels → has set p v ≡ false →
       can_route (router_at b x) p v ≡ false
-  pub places : (p v : ℕ) → p < 7 → v < 8 → has set p v ≡ true → (p ≤ 2 * length b.mesh) × (v < sum b.channels)
+  pub places : (p v : ℕ) → p < 7 → v < 8 → has set p v ≡ true →
+      (8 * port + vc ≤ 8 * p + v) × (p ≤ 2 * length b.mesh) × (v < sum b.channels)
 
-pub routed_start : (x : ℕ) (a : NetState) (set : ℕ) → x < node_count a.mesh → IsWorkable a → RoutesWithin a x set →
-    Routed x a a set 0 0
-routed_start x a set there sound within = record {
-  passed = record { mid = a; ports = does_nothing a; channels = does_nothing a };
-  there = there;
-  sound = sound;
-  port_in = omega arith;
-  vc_in = omega arith;
-  later = λ p c c_in below. absurd (omega arith);
-  rest = λ p v above p_in v_in none. within.all p v p_in v_in none;
-  places = within.places;
-}
+pub routed_start : (x : ℕ) (a : NetState) (set : ℕ) → x < node_count a.mesh → IsWorkable a →
+    AreUnrouted (router_at a x) set → Routed x a a set 0 0
+routed_start x a set there sound unrouted =
+    let size = router_size a x sound there in
+    let few_ports = sound.framed.radices.few_dims in
+    let few_channels = sound.framed.classes.total in
+    record {
+      passed = record { mid = a; ports = does_nothing a; channels = does_nothing a };
+      there = there;
+      sound = sound;
+      port_in = omega arith;
+      vc_in = omega arith;
+      rest =
+          λ p v above p_in v_in none. unrouted.rest p v (omega (arith, few_ports)) (omega (arith, few_channels))
+          (omega (arith, size.0)) (omega (arith, size.1)) none;
+      places = λ p v p_few v_few some.
+          let place = unrouted.places p v p_few v_few some in
+          (omega arith, omega (arith, place.0, size.0), omega (arith, place.1, size.1));
+    }
 
 -- channels of a port with nothing to route are passed
 along : (x : ℕ) (a b : NetState) (port vc c : ℕ) → Passed x a b port vc → IsWorkable b → x < node_count b.mesh →
@@ -170,17 +159,28 @@ passed_to x a b port vc q c passed net there vc_in q_in c_in (inr here) none =
     along x a b port vc c passed net there here.1 c_in
     (λ v above v_in. none port v (omega arith) (omega arith) (omega arith) (omega arith)))
 
-first_later : (set port vc q c : ℕ) → c < 8 → has set q c ≡ true →
-    ((p v : ℕ) → v < 8 → 8 * p + v < 8 * port + vc → has set p v ≡ false) → 8 * port + vc ≤ 8 * q + c
-first_later set port vc q c c_in on later = elim (cases_lt (8 * q + c) (8 * port + vc)) [
-  | inl before ↦ let off = later q c c_in before in absurd (cc)
-  | inr after ↦ after
-]
-
 order : (port vc q c : ℕ) → c < 8 → 8 * port + vc ≤ 8 * q + c → (port < q) ⊎ ((port ≡ q) × (vc ≤ c))
 order port vc q c c_in after = elim (number_cases port q) [
   | inl same ↦ let is = same.1 in inr (is, omega arith)
   | inr away ↦ let differs = away.1 in inl (omega arith)
+]
+
+-- what is left of a set without its first channel was in it, and stands behind that one
+left_behind : (set new q c p v : ℕ) → IsFirst set new q c → p < 7 → v < 8 → has new p v ≡ true →
+    (8 * q + c < 8 * p + v) × (has set p v ≡ true)
+left_behind set new q c p v first p_few v_few some = elim (number_cases (8 * p + v) (8 * q + c)) [
+  | inl same ↦
+      let at = same.1 in
+      let p_is : p ≡ q = omega (arith, first.channel_in) in
+      let v_is : v ≡ c = omega arith in
+      absurd (let is = (λ t. has new (p_is t) (v_is t)) ∙ first.taken.here in cc)
+  | inr away ↦
+      let differs = away.1 in
+      let on : has set p v ≡ true = sym (first.taken.elsewhere p v p_few v_few (λ e f. differs (omega arith))) ∙ some in
+      elim (cases_lt (8 * p + v) (8 * q + c)) [
+        | inl before ↦ absurd (let off = first.none_before p v v_few before in cc)
+        | inr after ↦ (omega arith, on)
+      ]
 ]
 
 pub routed_more : (x : ℕ) (a b b_new : NetState) (set new port vc q c : ℕ) → Routed x a b set port vc →
@@ -191,23 +191,20 @@ routed_more x a b b_new set new port vc q c routed first does same net_new =
     let net = routed.sound in
     let on : has set q c ≡ true = true_of (has set q c) first.was_in in
     let place = routed.places q c first.port_in first.channel_in on in
-    let after = first_later set port vc q c first.channel_in on routed.later in
     let few = net.framed.classes.total in
     let few_dims = net.framed.radices.few_dims in
     let config = does.reaches.config in
     let mesh = ap (λ (m : List ℕ). length m) config.mesh in
     let nodes = ap node_count config.mesh in
     let wide = ap (λ (cs : List ℕ). sum cs) config.channels in
-    let q_in : q ≤ 2 * length b.mesh = place.0 in
-    let c_in : c < sum b.channels = place.1 in
+    let q_in : q ≤ 2 * length b.mesh = place.1 in
+    let c_in : c < sum b.channels = place.2 in
     let up_to =
     passed_to x a b port vc q c routed.passed net routed.there routed.vc_in q_in (omega arith)
-    (order port vc q c first.channel_in after)
+    (order port vc q c first.channel_in place.0)
     (λ p v above before p_in v_in. routed.rest p v above p_in v_in
     (first.none_before p v (omega (arith, few)) before)) in
-    let all = net_new.framed.all_nodes in
-    let node = net_new.framed.each_node x (omega (arith, routed.there)) in
-    let width_new : width (router_at b_new x) ≡ sum b_new.channels = ap (λ (cs : List ℕ). sum cs) node.same_channels in
+    let width_new = (router_size b_new x net_new (omega (arith, routed.there))).1 in
     record {
       passed =
           record {
@@ -219,26 +216,16 @@ routed_more x a b b_new set new port vc q c routed first does same net_new =
       sound = net_new;
       port_in = omega arith;
       vc_in = omega arith;
-      later = λ p v v_in before. elim (cases_lt (8 * p + v) (8 * q + c)) [
-        | inl below ↦
-            first.taken.elsewhere p v (omega (arith, few_dims)) v_in (λ e f. omega arith) ∙
-            first.none_before p v v_in below
-        | inr at ↦
-            let p_is : p ≡ q = omega (arith, first.channel_in) in
-            let v_is : v ≡ c = omega arith in (λ t. has new (p_is t) (v_is t)) ∙ first.taken.here
-      ];
       rest = λ p v above p_in v_in none.
           let away : p ≡ q → v ≡ c → ⊥ = λ e f. omega arith in
           let kept = same p v away (omega arith) in
           kept.routes
           ∙ routed.rest p v (omega arith) (omega arith) (omega arith)
           (sym (first.taken.elsewhere p v (omega (arith, few_dims)) (omega (arith, few)) away) ∙ none);
-      places = λ p v p_few v_few some. elim (places_same p q v c) [
-        | inl here ↦ absurd (let is = (λ t. has new (here.0 t) (here.1 t)) ∙ first.taken.here in cc)
-        | inr away ↦
-            let was = routed.places p v p_few v_few (sym (first.taken.elsewhere p v p_few v_few away) ∙ some) in
-            (omega (arith, was.0), omega (arith, was.1))
-      ];
+      places = λ p v p_few v_few some.
+          let left = left_behind set new q c p v first p_few v_few some in
+          let was = routed.places p v p_few v_few left.1 in
+          (omega (arith, left.0), omega (arith, was.1), omega (arith, was.2));
     }
 
 pub routed_all : (x : ℕ) (a b : NetState) (set port vc : ℕ) → Routed x a b set port vc → set ≡ 0 →

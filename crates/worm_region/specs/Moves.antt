@@ -1,6 +1,6 @@
 -- What the moves of a network make of its lists, in the words of routers, terminals and links.
 use Rattle.std.specs.Prelude.{ℕ, ◌*◌, ◌<◌, ◌≤◌, ◌≡◌, ◌==◌, Bool, true, false, nat_lt, if◌then◌else◌, List, [], ◌∷◌}
-use Rattle.std.specs.Prelude.{◌++◌, length, sum, drop, slice_get, slice_index_or, Option, Some, None, IsSome, Result}
+use Rattle.std.specs.Prelude.{◌++◌, length, drop, slice_get, slice_index_or, Option, Some, None, IsSome, Result}
 use Rattle.std.specs.Prelude.{Ok, Err}
 use Rattle.worm_flit.specs.declared.Flit.{Flit}
 use Rattle.worm_flit.specs.SmallSet.{has as has_small}
@@ -27,9 +27,9 @@ use Rattle.worm_region.specs.declared.fault.StepFault.TheVariants.{NoSuchPlace, 
 unfoldable pub chosen_router : RouterState → RouterState
 chosen_router r = after_choose r
 
--- a set of the router's channels, and no channel that is left out has an opening flit that waits for its route
+-- a set of the router's channels, and at each that is left out no opening flit waits for its route
 pub record AreUnrouted (r : RouterState) (set : ℕ) : Type 0 where
-  pub all : (p v : ℕ) → p < 7 → v < 8 → p ≤ terminal r → v < width r → has set p v ≡ false → can_route r p v ≡ false
+  pub rest : (p v : ℕ) → p < 7 → v < 8 → p ≤ terminal r → v < width r → has set p v ≡ false → can_route r p v ≡ false
   pub places : (p v : ℕ) → p < 7 → v < 8 → has set p v ≡ true → (p ≤ terminal r) × (v < width r)
 
 -- a flit may leave this channel now
@@ -165,21 +165,10 @@ pub record NothingComes (s : NetState) (x : ℕ) : Type 0 where
   pub no_feed : (k : ℕ) → k < length s.channels →
       can_enter (router_at s x) (terminal (router_at s x)) (front_of (source_at s x) k) ≡ false
 
--- a set of the node's channels: just those that owe a credit
-pub record AreOwing (s : NetState) (x owing : ℕ) : Type 0 where
-  pub exact : (p v : ℕ) → p ≤ 2 * length s.mesh → v < sum s.channels → has owing p v ≡ can_give s x p v
-  pub places : (p v : ℕ) → p < 7 → v < 8 → has owing p v ≡ true → (p ≤ 2 * length s.mesh) × (v < sum s.channels)
-
 -- the channel of a port owes what it owed
 pub record OwesTheSame (old new : NetState) (x p v : ℕ) : Type 0 where
   pub there : v < width (router_at old x)
   pub owed : (input_at (router_at new x) p v).owed ≡ (input_at (router_at old x) p v).owed
-
--- a set of the node's channels, and no channel that is left out has anything to route
-pub record RoutesWithin (s : NetState) (x set : ℕ) : Type 0 where
-  pub all : (p v : ℕ) → p ≤ 2 * length s.mesh → v < sum s.channels → has set p v ≡ false →
-      can_route (router_at s x) p v ≡ false
-  pub places : (p v : ℕ) → p < 7 → v < 8 → has set p v ≡ true → (p ≤ 2 * length s.mesh) × (v < sum s.channels)
 
 -- the channel of a port has to route what it had
 pub record RoutesTheSame (old new : NetState) (x p v : ℕ) : Type 0 where

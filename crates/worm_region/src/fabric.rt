@@ -119,13 +119,14 @@ impl Fabric {
     /// chapter 13).
     pub(crate) fn take_flit(&mut self, node: u8, port: u8, links: PortLinks) -> bool
         requires node { node < length self.old.nodes }
-        requires mesh { AreRadices self.old.mesh }
         requires ports { Some links ≡ port_links self.old.mesh node port }
         requires front { FrontFits (router_at self.old node) port (front_into self.old node port) }
         ensures enabled { result ≡ can_enter (router_at self.old node) port (front_into self.old node port) }
         ensures after { self.new ≡ (if result then after_take self.old node port (link_into self.old node port)
             (front_into self.old node port) else self.old) }
     {
+        // For the proof: a mesh has radices within their limits.
+        let _wiring = self.links.wiring();
         let Some(flit) = self.links.link(links.into).front() else {
             return false;
         };
@@ -181,7 +182,6 @@ impl Fabric {
     #[inline(always)]
     pub(crate) fn give_credit(&mut self, node: u8, port: u8, vc: u8, links: PortLinks)
         requires place { IsNetPlace self.old node port vc }
-        requires mesh { AreRadices self.old.mesh }
         requires ports { Some links ≡ port_links self.old.mesh node port }
         requires owed { 0 < (input_at (router_at self.old node) port vc).owed }
         requires room { length (link_at self.old (link_into self.old node port)).credits <
@@ -196,13 +196,14 @@ impl Fabric {
     /// Towles, chapter 13).
     pub(crate) fn take_credit(&mut self, node: u8, port: u8, links: PortLinks) -> bool
         requires node { node < length self.old.nodes }
-        requires mesh { AreRadices self.old.mesh }
         requires ports { Some links ≡ port_links self.old.mesh node port }
         requires front { CreditFits (router_at self.old node) port (front_credit self.old node port) }
         ensures enabled { result ≡ can_get (router_at self.old node) port (front_credit self.old node port) }
         ensures after { self.new ≡ (if result then after_getting self.old node port
             (front_credit self.old node port) else self.old) }
     {
+        // For the proof: a mesh has radices within their limits.
+        let _wiring = self.links.wiring();
         let Some(vc) = self.links.link(links.out).front_credit() else {
             return false;
         };

@@ -14,9 +14,10 @@ ghost use Rattle.worm_region.specs.Workable.{EndsWithin, IsWorkable, owned};
 ghost use Rattle.worm_region.specs.Turns.{AreThere, Chooses, ComesInBy, ReachesAt, NodePassesBy, lowest_owed};
 ghost use Rattle.worm_mesh.specs.Address.{node_count, neighbour_of};
 ghost use Rattle.worm_router.specs.Router.{input_at, leaving};
+ghost use Rattle.worm_router.specs.Busy.{IsSetOf, owes};
 ghost use Rattle.worm_router.specs.Rest.{IsAtRest};
 ghost use Rattle.worm_router.specs.Allocation.{after_allocate};
-ghost use Rattle.worm_region.specs.Moves.{AreLinked, AreOwing, Covers, NoCredit, NoFeed, NoFlit, RoutesWithin};
+ghost use Rattle.worm_region.specs.Moves.{AreLinked, AreUnrouted, Covers, NoCredit, NoFeed, NoFlit};
 
 mod edges;
 mod parts;
@@ -165,7 +166,7 @@ impl Region {
     /// The channels of the node with a flit that lack a route; no other has anything to route.
     pub(crate) fn unrouted(&self, node: u8) -> ChannelSet
         requires { node < node_count self.now.mesh }
-        ensures routes { RoutesWithin self.now node result }
+        ensures routes { AreUnrouted (router_at self.now node) result }
         ensures sound { IsWorkable self.now }
     {
         self.fabric.node(node).unrouted()
@@ -201,7 +202,7 @@ impl Region {
     /// The channels of the node that owe a credit.
     pub fn owing(&self, node: u8) -> ChannelSet
         requires { node < node_count self.now.mesh }
-        ensures owing { AreOwing self.now node result }
+        ensures owing { IsSetOf owes (router_at self.now node) result }
         ensures sound { IsWorkable self.now }
     {
         self.fabric.node(node).router.owing()

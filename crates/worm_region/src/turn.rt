@@ -217,18 +217,13 @@ impl Region {
         ensures { Does (GivesCreditsBy Attempts node) self.old None self.new }
     {
         let terminal = self.terminal();
-        let mut owing = self.owing(node);
-        let mut from = 0;
-        while let Some((port, vc)) = owing.pop_first() {
+        let mut left = self.owing(node);
+        while let Some((port, vc)) = left.pop_port_lowest() {
             // The terminal has no link, and owes none.
             if port >= terminal {
                 return;
             }
-            // A port has given one already where a lower channel of it owed one, too.
-            if from <= port {
-                self.give_credit_at(node, port, vc);
-                from = port + 1;
-            }
+            self.give_credit_at(node, port, vc);
         }
     }
 

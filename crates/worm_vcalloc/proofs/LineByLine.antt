@@ -1,12 +1,11 @@
 -- Lemmas on requests that are gathered line by line.
-use Rattle.std.proofs.Common.{◌≡◌, ℕ, suc, ◌+◌, ◌*◌, ◌/◌, ◌%◌, ◌^◌, ◌<◌, ◌≤◌, Bool, true, false, eqb, bit_or, max, ◌-◌}
-use Rattle.std.proofs.Common.{sym, ap, ◌∙◌, arith, inl, inr, pow_pos, add_comm}
+use Rattle.std.proofs.Common.{◌≡◌, ℕ, suc, ◌+◌, ◌*◌, ◌/◌, ◌%◌, ◌^◌, ◌<◌, ◌≤◌, Bool, true, false, eqb, bit_or, ◌-◌}
+use Rattle.std.proofs.Common.{sym, ap, ◌∙◌, arith, inl, inr, pow_pos}
 use Rattle.std.specs.Int.{bit_at, w64}
-use Rattle.std.proofs.lemmas.Bool.{cases_eq, cases_lt, eq-eqb, ne_eqb}
+use Rattle.std.proofs.lemmas.Bool.{cases_eq, eq-eqb, ne_eqb}
 use Rattle.std.proofs.lemmas.Nat.{pow-add, one_shl, or_lt, div-mul-add, mod-mul-add, mul-le}
-use Rattle.std.proofs.lemmas.Nat.Bits.{bit_at_or, bit_at_set_same, bit_at_set_other, bit_at_above, bit_at_cat_low}
+use Rattle.std.proofs.lemmas.Nat.Bits.{bit_at_set_same, bit_at_set_other, bit_at_above, bit_at_cat_low}
 use Rattle.std.proofs.lemmas.Nat.Bits.{bit_at_cat_high, bit_at-zero}
-use Rattle.std.proofs.Math.Pow.{pow_mono, shl_lt}
 use Rattle.std.proofs.Math.Nat.{div-lt_iff_lt-mul, mod-lt}
 use Rattle.worm_vcalloc.specs.Arbiter.{line_requests}
 

@@ -12,7 +12,7 @@ use Rattle.std.proofs.lemmas.Nat.Bits.{bit_at_set_other, bit_at_clear_same, bit_
 use Rattle.std.proofs.lemmas.Nat.Bits.{bit_at-trailing_zeros}
 use Rattle.std.proofs.Math.Pow.{pow_mono, shl_lt}
 use Rattle.worm_vcalloc.specs.Arbiter.{line_requests}
-use Rattle.worm_vcalloc.specs.ChannelSet.{has, IsPut, IsFirst, IsFirstPort}
+use Rattle.worm_vcalloc.specs.ChannelSet.{has, IsPut, IsFirst, IsFirstPort, IsLowest}
 use Rattle.worm_flit.proofs.LowestBit.{lowest_cleared}
 use Rattle.worm_vcalloc.proofs.LineByLine.{shifted_low, shifted_high}
 
@@ -254,6 +254,17 @@ port_taken bits some fits = record {
       ∙ has_first_alone bits (255 * 2 ^ (8 * (trailing_zeros w64 bits / 8))) p c
       (let e = port_mask (trailing_zeros w64 bits / 8) port_in in omega arith) l l'
       ∙ ap (λ b. has bits p c && not b) (has-port_mask (trailing_zeros w64 bits / 8) p c l')
+
+-- its lowest channel is that of the lowest bit
+pub lowest_of_port : (bits : ℕ) → 0 < bits → bits < 2 ^ 56
+    → IsLowest bits (trailing_zeros w64 bits / 8) (trailing_zeros w64 bits % 8)
+lowest_of_port bits some fits =
+    let first = first_cleared bits some fits in
+    record {
+      channel_in = first.channel_in;
+      is_in = first.was_in;
+      none_below = λ c below. first.none_before (trailing_zeros w64 bits / 8) c (omega arith) (omega arith);
+    }
 
 -- ---- rows
 

@@ -32,3 +32,9 @@ pub record IsFirstPort (old new port : ℕ) : Type 0 where
   pub elsewhere : (p c : ℕ) → p < 7 → c < 8 → ((p ≡ port) → ⊥) → has new p c ≡ has old p c
   -- the sets of a loop that takes ports out are ever smaller numbers
   pub fewer : new < old
+
+-- the channel is the lowest of its port in the set
+pub record IsLowest (set port channel : ℕ) : Type 0 where
+  pub channel_in : channel < 8
+  pub is_in : IsTrue (has set port channel)
+  pub none_below : (c : ℕ) → c < channel → has set port c ≡ false

@@ -1,6 +1,6 @@
 ghost use Rattle.std.specs.Prelude.{◌≡◌, ℕ, ◌^◌, ◌<◌, ◌≤◌, ◌==◌, ◌&&◌, MatchOption, not};
 ghost use Rattle.worm_vcalloc.specs.Arbiter.{line_requests};
-ghost use Rattle.worm_vcalloc.specs.ChannelSet.{has, IsPut, IsFirst, IsFirstPort};
+ghost use Rattle.worm_vcalloc.specs.ChannelSet.{has, IsPut, IsFirst, IsFirstPort, IsLowest};
 
 use std::marker::Model;
 
@@ -81,13 +81,23 @@ impl ChannelSet {
     pub fn pop_port(&mut self) -> Option<u8>
         ensures { MatchOption result ((self.old ≡ 0) × (self.new ≡ 0)) (λ port. IsFirstPort self.old self.new port) }
     {
+        let (port, _lowest) = self.pop_port_lowest()?;
+        Some(port)
+    }
+
+    /// Takes out all channels of the first port that has any, and names that port and the lowest of them; None where
+    /// the set is empty.
+    pub fn pop_port_lowest(&mut self) -> Option<(u8, u8)>
+        ensures { MatchOption result ((self.old ≡ 0) × (self.new ≡ 0))
+            (λ place. IsFirstPort self.old self.new place.0 × IsLowest self.old place.0 place.1) }
+    {
         if self.bits == 0 {
             return None;
         }
-        let first = self.bits.trailing_zeros();
-        let port = first as u8 / 8;
+        let first = self.bits.trailing_zeros() as u8;
+        let (port, channel) = (first / 8, first % 8);
         self.bits &= !(0xff << (8 * port));
-        Some(port)
+        Some((port, channel))
     }
 
     /// The channels that are in both sets.

@@ -5,7 +5,7 @@ use Rattle.std.proofs.Common.{sym, subst, ◌∙◌}
 use Rattle.std.specs.Prelude.{option_map}
 use Rattle.std.proofs.lemmas.List.{get_or_default, get_or-set_other, get_or-set_same}
 use Rattle.worm_mesh.specs.Address.{AreRadices, opposite_of}
-use Rattle.worm_mesh.specs.Links.{links_before, link_count}
+use Rattle.worm_mesh.specs.Links.{links_before}
 use Rattle.worm_wires.specs.Links.{LinkView, blank_link}
 use Rattle.worm_wires.specs.Wiring.{in_link, out_link, port_links}
 use Rattle.worm_flit.specs.SmallSet.{has, IsPut}
@@ -15,7 +15,7 @@ use Rattle.worm_wires.specs.Arrivals.{on_link, state_at, with_state}
 use Rattle.worm_wires.specs.declared.links.Arrivals.{Arrivals}
 use Rattle.worm_wires.specs.declared.wiring.PortLinks.{PortLinks}
 use Rattle.worm_wires.proofs.Apart.{number_cases, in_once, into_beyond, out_beyond, out_once}
-use Rattle.worm_wires.proofs.Wired.{parts}
+use Rattle.worm_wires.proofs.Wired.{entered_within, parts, port_within, ports_within}
 
 -- One of the two lists of a link, and the ports to which the link leads
 
@@ -147,8 +147,8 @@ wrote_credits l kept k x o bits new radices are by there x_in x_there same put =
 
 module _ (mesh : List ℕ) (states : List LinkView) (kept : List Arrivals)
     (are : AreKept (record { mesh = mesh; states = states }) kept) (all : length kept ≡ 256)
-    (radices : AreRadices mesh) (m x p i j bits : ℕ) (d : Arrivals) (read new : LinkView)
-    (there : m < length states) (reads : read ≡ get_or states m read) (x_in : x < 256) (at_i : i ≡ x)
+    (m x p i j bits : ℕ) (d : Arrivals) (read new : LinkView) (there : m < length states)
+    (reads : read ≡ get_or states m read) (x_in : x < 256) (at_i : i ≡ x)
     (at_j : j ≡ x) where
   entry : get_or kept i d ≡ get_or kept x no_arrivals
   entry = get_or_default kept i d no_arrivals (omega arith) ∙ ap (λ (v : ℕ). get_or kept v no_arrivals) at_i
@@ -164,9 +164,10 @@ module _ (mesh : List ℕ) (states : List LinkView) (kept : List Arrivals)
       let put_here : IsPut (get_or kept x no_arrivals).flits bits p (has_front new.flits) =
       subst (λ (a : Arrivals). IsPut a.flits bits p (has_front new.flits)) entry put in
       record {
+        radices = are.radices;
         all = rw length-set are.all;
         known =
-            rw (at_j, entry) (wrote_flits (record { mesh = mesh; states = states }) kept m x p bits new radices
+            rw (at_j, entry) (wrote_flits (record { mesh = mesh; states = states }) kept m x p bits new are.radices
             are.known by there x_in (omega arith) (same ∙ ap (λ (s : LinkView). s.credits) link) put_here);
       }
 
@@ -178,29 +179,37 @@ module _ (mesh : List ℕ) (states : List LinkView) (kept : List Arrivals)
       let put_here : IsPut (get_or kept x no_arrivals).credits bits p (has_front new.credits) =
       subst (λ (a : Arrivals). IsPut a.credits bits p (has_front new.credits)) entry put in
       record {
+        radices = are.radices;
         all = rw length-set are.all;
         known =
-            rw (at_j, entry) (wrote_credits (record { mesh = mesh; states = states }) kept m x p bits new radices
+            rw (at_j, entry) (wrote_credits (record { mesh = mesh; states = states }) kept m x p bits new are.radices
             are.known by there x_in (omega arith) (same ∙ ap (λ (s : LinkView). s.flits) link) put_here);
       }
 
--- What a call is told of the links, of the lists within them
+-- What a call is told of the links of a port, of the lists within
 
-module _ (mesh : List ℕ) (states : List LinkView) (now : LinksView)
-    (same : record { mesh = mesh; states = states } ≡ now) where
-  pub radices_within : AreRadices now.mesh → AreRadices mesh
-  radices_within radices = subst (λ (v : LinksView). AreRadices v.mesh) (sym same) radices
+pub record AreWithin (mesh : List ℕ) (states : List LinkView) (x p : ℕ) (links : PortLinks) : Type 0 where
+  pub linked : ◌≡◌ {A = Option PortLinks} (Some links) (port_links mesh x p)
+  pub out : links.out < length states
+  pub into : links.into < length states
+  pub port : p < 6
+  pub entered : links.entered < 6
 
-  pub links_within : (x p : ℕ) (links : PortLinks)
-      → ◌≡◌ {A = Option PortLinks} (Some links) (port_links now.mesh x p)
-      → ◌≡◌ {A = Option PortLinks} (Some links) (port_links mesh x p)
-  links_within x p links linked =
-      subst (λ (v : LinksView). ◌≡◌ {A = Option PortLinks} (Some links) (port_links v.mesh x p)) (sym same) linked
-
-  pub link_there : (k m : ℕ) → m ≡ k → k < link_count now.mesh → length states ≡ link_count mesh → m < length states
-  link_there k m at below full =
-      let counted : link_count mesh ≡ link_count now.mesh = ap (λ (v : LinksView). link_count v.mesh) same in
-      omega arith
+pub are_within : (mesh : List ℕ) (states : List LinkView) (kept : List Arrivals) (now : LinksView) (x p : ℕ)
+    (links : PortLinks) → AreKept (record { mesh = mesh; states = states }) kept →
+    record { mesh = mesh; states = states } ≡ now →
+    ◌≡◌ {A = Option PortLinks} (Some links) (port_links now.mesh x p) → AreWithin mesh states x p links
+are_within mesh states kept now x p links are same linked =
+    let here : ◌≡◌ {A = Option PortLinks} (Some links) (port_links mesh x p) =
+    subst (λ (v : LinksView). ◌≡◌ {A = Option PortLinks} (Some links) (port_links v.mesh x p)) (sym same) linked in
+    let numbers = ports_within mesh x p links are.radices here in
+    record {
+      linked = here;
+      out = omega (arith, are.all, numbers.0);
+      into = omega (arith, are.all, numbers.1);
+      port = port_within mesh x p links are.radices here;
+      entered = entered_within mesh x p links are.radices here;
+    }
 
 -- the links of a port, by what is kept of them
 

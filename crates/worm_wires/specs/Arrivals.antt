@@ -3,7 +3,7 @@
 use Rattle.std.specs.Prelude.{ℕ, ◌≡◌, ◌<◌, Bool, List, [], slice_get, slice_index_or, slice_set, Option, None, Some}
 use Rattle.std.specs.Prelude.{is_some, length}
 use Rattle.worm_flit.specs.declared.Flit.{Flit}
-use Rattle.worm_mesh.specs.Address.{neighbour_of}
+use Rattle.worm_mesh.specs.Address.{AreRadices, neighbour_of}
 use Rattle.worm_mesh.specs.Links.{link_count, links_before}
 use Rattle.worm_wires.specs.Links.{LinkView, blank_link}
 use Rattle.worm_wires.specs.Wiring.{in_link, into_from, out_link}
@@ -66,7 +66,9 @@ no_arrivals = record { flits = 0; credits = 0 }
 abbrev pub AreAllArrivals : LinksView → List Arrivals → Type 0
 AreAllArrivals l kept = (x : ℕ) → x < 256 → AreArrivals l x (slice_index_or kept x no_arrivals)
 
--- what holds of links: each of the mesh is in the list, and what comes in is kept
+-- what holds of links: the mesh has radices within their limits, each of its links is in the list, and what comes in
+-- is kept
 pub record AreKept (l : LinksView) (kept : List Arrivals) : Type 0 where
+  pub radices : AreRadices l.mesh
   pub all : length l.states ≡ link_count l.mesh
   pub known : AreAllArrivals l kept

@@ -110,7 +110,8 @@ impl Links {
 
     /// The mesh, with the numbers of its links.
     pub fn wiring(&self) -> &Wiring
-        ensures { result.now ≡ self.now.mesh }
+        ensures value { result.now ≡ self.now.mesh }
+        ensures mesh { AreRadices self.now.mesh }
     {
         &self.wiring
     }
@@ -190,8 +191,7 @@ impl Links {
 
     /// Drops the front flit of the link into this port, whose links are these.
     pub fn pop(&mut self, node: u8, port: u8, links: PortLinks)
-        requires mesh { AreRadices self.old.mesh }
-        requires ports { Some links ≡ port_links self.old.mesh node port }
+        requires { Some links ≡ port_links self.old.mesh node port }
         ensures { self.new ≡ with_state self.old (number_into self.old node port)
             (record (state_at self.old (number_into self.old node port))
             { flits = drop 1 (state_at self.old (number_into self.old node port)).flits }) }
@@ -221,8 +221,7 @@ impl Links {
 
     /// Drops the front credit of the link out of this port, whose links are these.
     pub fn pop_credit(&mut self, node: u8, port: u8, links: PortLinks)
-        requires mesh { AreRadices self.old.mesh }
-        requires ports { Some links ≡ port_links self.old.mesh node port }
+        requires { Some links ≡ port_links self.old.mesh node port }
         ensures { self.new ≡ with_state self.old (number_out self.old node port)
             (record (state_at self.old (number_out self.old node port))
             { credits = drop 1 (state_at self.old (number_out self.old node port)).credits }) }
@@ -236,7 +235,6 @@ impl Links {
 
     /// Puts a credit of the channel at the end of the credits of the link into this port, whose links are these.
     pub fn push_credit(&mut self, node: u8, port: u8, links: PortLinks, vc: u8)
-        requires mesh { AreRadices self.old.mesh }
         requires ports { Some links ≡ port_links self.old.mesh node port }
         requires room { length (state_at self.old (number_into self.old node port)).credits
             < (state_at self.old (number_into self.old node port)).room }

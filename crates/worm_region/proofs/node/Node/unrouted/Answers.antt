@@ -12,7 +12,7 @@ pub returns : goal.returns
 returns c =
     let r = c.args.self.now.router in
     record {
-      all = λ p v p_few v_few p_in v_in none.
+      rest = λ p v p_few v_few p_in v_in none.
           let left = c.difference-2.ensures p v p_few v_few in
           let over = c.difference.ensures p v p_few v_few in
           let occupied = c.occupied.ensures.inside p v p_in v_in in

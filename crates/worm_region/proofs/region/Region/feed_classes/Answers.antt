@@ -21,7 +21,7 @@ feed_class-requires-clause-node c = c.loop-class.invariant.1.there
 
 pub feed_class-requires-clause-class : goal.feed_class-requires-clause-class
 feed_class-requires-clause-class c =
-    let first = c.in-Some.ensures in c.loop-class.invariant.1.places c.in-Some.class first.in_range first.was_in
+    let first = c.in-Some.ensures in (c.loop-class.invariant.1.places c.in-Some.class first.in_range first.was_in).1
 
 pub loop-class-preserved : goal.loop-class-preserved
 loop-class-preserved c =

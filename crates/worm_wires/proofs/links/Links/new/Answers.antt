@@ -22,6 +22,7 @@ loop-node-preserved c =
 
 pub invariant_of-result : goal.invariant_of-result
 invariant_of-result c = record {
+  radices = rw c.new-wiring.ensures c.requires.mesh;
   all = rw c.new-wiring.ensures c.requires.states;
   known = λ x x_in. c.loop-node.invariant.known x (omega (arith, c.loop-node-test.false));
 }

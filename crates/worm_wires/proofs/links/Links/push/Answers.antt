@@ -11,7 +11,7 @@ invariant_of-self c =
     let links = c.links_beyond-links in
     let there : c.from.result < length c.self.inside.states.items = search rules in
     flits_written c.self.inside.wiring c.self.inside.states.items c.self.inside.arrivals c.self.invariant all
-    links.ensures.mesh c.from.result links.result.beyond links.result.entered c.from-2.result c.from-2.result
+    c.from.result links.result.beyond links.result.entered c.from-2.result c.from-2.result
     c.put.new.self c.index-self-from.result c.index_mut-link.result.now c.push.new.self there
     c.index_mut-link.ensures.value (omega arith) c.from-2.ensures c.from-2.ensures
     (into_entered c.self.inside.wiring c.args.node c.args.port c.from.result links.result links.ensures.mesh
