@@ -1,6 +1,5 @@
 pub mod RunSteps
 pub mod Headline
-pub mod Pointers
 pub mod TotalsUnderWay
 pub mod NetWays
 pub mod Lifting

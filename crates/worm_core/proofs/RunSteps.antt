@@ -13,7 +13,7 @@ use Rattle.worm_region.specs.declared.fault.StepFault.{StepFault}
 use Rattle.worm_region.specs.State.{NetState, IsSameConfig, shape, network_of}
 use Rattle.worm_region.specs.Answers.{Answers, ArbitersStand}
 use Rattle.worm_region.specs.Runs.{AreAnswered, IsRun, event_of}
-use Rattle.worm_core.proofs.Pointers.{arbiters_stand, same_stands}
+use Rattle.worm_region.proofs.ArbitersStand.{arbiters_stand, same_stands}
 
 -- one step
 

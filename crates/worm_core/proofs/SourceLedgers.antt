@@ -1,10 +1,9 @@
 -- What a source keeps of its lanes: only what is asked of it changes that, and only what is asked is refused.
-use Rattle.std.proofs.Common.{◌≡◌, ℕ, zero, suc, ◌*◌, ◌==◌, Bool, true, false, inl, inr, List, [], ◌∷◌, ◌++◌, length}
+use Rattle.std.proofs.Common.{◌≡◌, ℕ, zero, suc, ◌*◌, ◌==◌, Bool, true, false, inl, inr, List, [], ◌∷◌, length}
 use Rattle.std.proofs.Common.{map, Ok, Err, Option, Some, None, refl, sym, subst, ◌∙◌}
-use Rattle.std.specs.Prelude.{Result, MatchBool, slice_index_or, option_map}
-use Rattle.std.specs.List.{flat_map}
+use Rattle.std.specs.Prelude.{All, Result, MatchBool, option_map}
+use Rattle.std.proofs.lemmas.List.Elements.{All-cons, All-head, All-nil, All-tail}
 use Rattle.std.specs.Option.{option_to_list}
-use Rattle.worm_swalloc.specs.declared.grant.SwGrant.{SwGrant}
 use Rattle.worm_flit.specs.declared.Flit.{Flit}
 use Rattle.worm_router.specs.Router.{leaving}
 use Rattle.worm_router.specs.Allocation.{switch_grants}
@@ -26,8 +25,9 @@ use Rattle.worm_core.specs.Acceptable.{EndsForMemory}
 use Rattle.worm_region.specs.Turns.{ComesIn, Passage, Stays, ◌and_then◌, Each, Tries, NodeTurn, AsksSource}
 use Rattle.worm_region.specs.Turns.{TakesCredits, TakesFlits, FeedsClasses, RoutesChannels, RoutesPort, Allocates}
 use Rattle.worm_region.specs.Turns.{SendsGranted, GivesCredit, GivesCredits, Turn, Drains, fault_of, all_nodes}
-use Rattle.worm_region.specs.Turns.{all_ports, all_classes, all_channels, mesh_ports, granted_send, lowest_owed}
-use Rattle.worm_core.proofs.Pointers.{read_over}
+use Rattle.worm_region.specs.Turns.{all_ports, all_classes, all_channels, mesh_ports, lowest_owed}
+use Rattle.worm_region.proofs.ArbitersStand.{read_over}
+use Rattle.worm_region.proofs.GrantedSent.{each_granted}
 
 pub record Ledger : Type 0 where
   pub node : ℕ
@@ -193,43 +193,21 @@ quiet_allocates x old new fault a =
     (subst (λ (s : NetState). LedgersStand old s) (sym a.1) (node_stands old x _ refl), inl a.0)
 
 -- of a list of steps
-AllAskNone : List Step → Type 0
-AllAskNone [] = Unit {0}
-AllAskNone (step ∷ steps) = AsksNone step × AllAskNone steps
-
-quiet_list : (steps : List Step) → AllAskNone steps → IsQuiet (Each Tries steps)
-unfolding AllAskNone
+quiet_list : (steps : List Step) → All AsksNone steps → IsQuiet (Each Tries steps)
 quiet_list [] none = quiet_stays
 quiet_list (step ∷ steps) none =
-    quiet_then (Tries step) (Each Tries steps) (quiet_tries step none.0) (quiet_list steps none.1)
+    quiet_then (Tries step) (Each Tries steps) (quiet_tries step (All-head AsksNone step steps none))
+    (quiet_list steps (All-tail AsksNone step steps none))
 
-none-append : (steps more : List Step) → AllAskNone steps → AllAskNone more → AllAskNone (steps ++ more)
-unfolding AllAskNone
-none-append [] more first then = then
-none-append (step ∷ steps) more first then = (first.0, none-append steps more first.1 then)
-
-sends_none : (x p : ℕ) (grant : Option SwGrant) → AllAskNone (option_to_list (option_map (λ g. Send x p g.vc) grant))
-unfolding AllAskNone
-sends_none x p None = tt
-sends_none x p (Some g) = (tt, tt)
-
-all_sends_none : (grants : List (Option SwGrant)) (x : ℕ) (ports : List ℕ) →
-    AllAskNone (flat_map (granted_send grants x) ports)
-unfolding AllAskNone
-all_sends_none grants x [] = tt
-all_sends_none grants x (p ∷ ports) =
-    none-append (granted_send grants x p) (flat_map (granted_send grants x) ports)
-    (sends_none x p (slice_index_or grants p None)) (all_sends_none grants x ports)
-
-gives_none : (x p : ℕ) (owed : Option ℕ) → AllAskNone (option_to_list (option_map (GiveCredit x p) owed))
-unfolding AllAskNone
-gives_none x p None = tt
-gives_none x p (Some v) = (tt, tt)
+gives_none : (x p : ℕ) (owed : Option ℕ) → All AsksNone (option_to_list (option_map (GiveCredit x p) owed))
+gives_none x p None = All-nil AsksNone
+gives_none x p (Some v) = All-cons AsksNone (GiveCredit x p v) [] tt (All-nil AsksNone)
 
 quiet_sends : (x : ℕ) → IsQuiet (SendsGranted x)
 quiet_sends x old new fault a =
     let chosen = with_router old x (chosen_router (router_at old x)) in
-    let sent = quiet_list _ (all_sends_none (switch_grants (router_at old x)) x (all_ports old)) chosen new fault a in
+    let none = each_granted AsksNone x (λ p v. tt) (switch_grants (router_at old x)) (all_ports old) in
+    let sent = quiet_list _ none chosen new fault a in
     (stand_then old chosen new (node_stands old x _ refl) sent.0, sent.1)
 
 quiet_gives : (x p : ℕ) → IsQuiet (GivesCredit x p)

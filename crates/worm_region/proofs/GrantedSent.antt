@@ -1,15 +1,17 @@
 -- What a pass of the switch allocator granted is sent, ports rising: one channel at a time comes out of the set of
 -- those granted.
-use Rattle.std.proofs.Common.{◌≡◌, ℕ, ◌+◌, ◌*◌, ◌<◌, ◌≤◌, true, false, inl, inr, List, length, Option, Some, None}
-use Rattle.std.proofs.Common.{refl, arith, ap, sym, subst, ◌∙◌, slice_index_or}
-use Rattle.std.specs.Prelude.{Result, IfSome}
-use Rattle.std.specs.List.{range_with_len}
+use Rattle.std.proofs.Common.{◌≡◌, ℕ, ◌+◌, ◌*◌, ◌<◌, ◌≤◌, true, false, inl, inr, List, [], ◌∷◌, length, Option, Some}
+use Rattle.std.proofs.Common.{None, refl, arith, ap, sym, subst, ◌∙◌, slice_index_or}
+use Rattle.std.specs.Prelude.{All, Result, IfSome, option_map}
+use Rattle.std.specs.List.{flat_map, range_with_len}
+use Rattle.std.specs.Option.{option_to_list}
+use Rattle.std.proofs.lemmas.List.Elements.{All-append, All-cons, All-nil}
 use Rattle.std.proofs.lemmas.Bool.{cases_eq, cases_lt, eqb-true, eq-eqb, ne_eqb, true≢false}
 use Rattle.worm_vcalloc.specs.ChannelSet.{has, IsFirst, IsFirstPort}
 use Rattle.worm_swalloc.specs.declared.grant.SwGrant.{SwGrant}
 use Rattle.worm_swalloc.specs.SwAlloc.{AreGranted, is_of}
 use Rattle.worm_swalloc.proofs.PortsWalked.{IsWalked, walked_start, walked_from, walked_over, walked_more, walked_all}
-use Rattle.worm_theory.specs.Steps.{Send, IsThere}
+use Rattle.worm_theory.specs.Steps.{Step, Send, IsThere}
 use Rattle.worm_region.specs.State.{NetState, shape}
 use Rattle.worm_region.specs.Workable.{IsWorkable}
 use Rattle.worm_region.specs.Replies.{Attempts, Replies}
@@ -198,3 +200,14 @@ pub sent_there : (x : ℕ) (grants : List (Option SwGrant)) (all left left' port
 sent_there x grants all left left' port vc a b net are there sent first =
     let at = walked_there x grants all left left' sent.next port vc a net are there sent.walked first in
     (there_still a b x port vc sent.passed.reaches.config at.0, at.1)
+
+-- what holds of each Send of the node holds of those that were granted
+pub each_granted : (P : Step → Type 0) (x : ℕ) → ((p v : ℕ) → P (Send x p v)) → (grants : List (Option SwGrant))
+    (ports : List ℕ) → All P (flat_map (granted_send grants x) ports)
+each_granted P x holds grants [] = All-nil P
+each_granted P x holds grants (p ∷ ports) =
+    All-append P (granted_send grants x p) (flat_map (granted_send grants x) ports)
+    (of_port (slice_index_or grants p None)) (each_granted P x holds grants ports) where
+      of_port : (grant : Option SwGrant) → All P (option_to_list (option_map (λ g. Send x p g.vc) grant))
+      of_port None = All-nil P
+      of_port (Some g) = All-cons P (Send x p g.vc) [] (holds p g.vc) (All-nil P)

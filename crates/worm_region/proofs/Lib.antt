@@ -23,6 +23,7 @@ pub mod SendAgrees
 pub mod OwnEdges
 pub mod EdgeMoves
 pub mod EmptyLinks
+pub mod ArbitersStand
 pub mod GrantedSent
 pub mod OfferAgrees
 pub mod NewNet

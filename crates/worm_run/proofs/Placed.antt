@@ -1,6 +1,5 @@
 -- A turn is never ended by a step whose place is not there: such a step is passed over.
 use Rattle.std.proofs.Common.{◌≡◌, ℕ, inl, inr, List, Option, Some, None, Result, Ok, Err, sym, ◌∙◌}
-use Rattle.worm_swalloc.specs.declared.grant.SwGrant.{SwGrant}
 use Rattle.worm_theory.specs.Steps.{Step, Send, GiveCredit}
 use Rattle.worm_region.specs.Replies.{Attempts}
 use Rattle.worm_region.specs.State.{NetState}
@@ -11,9 +10,10 @@ use Rattle.worm_region.specs.declared.step.Moved.{Moved}
 use Rattle.worm_region.specs.declared.fault.StepFault.{StepFault}
 use Rattle.worm_region.specs.declared.fault.StepFault.TheVariants.{NoSuchPlace, Refused, NoMemory}
 use Rattle.worm_split.specs.PartState.{PartState}
-use Rattle.worm_split.specs.PartTurns.{Within, PullsCredits, PullsFlits, SendsGranted, SendsGrant, Sends}
+use Rattle.worm_split.specs.PartTurns.{Within, PullsCredits, PullsFlits, SendsGranted, Sends}
 use Rattle.worm_split.specs.PartTurns.{GivesCredit, Gives, NodeTurn, Turn, PullsCredit, PullsFlit}
 use Rattle.worm_split.proofs.PassagesTell.{Tells, TellsOf, then_tells, each_tells, then_tells_of, each_tells_of}
+use Rattle.worm_split.proofs.PassagesTell.{sends_tell}
 
 abbrev Placed : Passage
 Placed old fault new = fault ≡ Some NoSuchPlace → ⊥
@@ -73,8 +73,7 @@ node_turn entries x =
     (then (Within (ComesInBy Attempts x)) _ (within (ComesInBy Attempts x) (comes_in x))
     (then (Within (Allocates x)) _ (within (Allocates x) (λ old new fault made. no_fault old new fault made.0))
     (then (SendsGranted x) _
-    (λ old new fault made. each_tells_of Placed at_rest on (SendsGrant _ x)
-    (λ p. each_tells_of Placed at_rest on (λ (g : SwGrant). Sends x p g.vc) (λ g. sends x p g.vc) _) _ _ new fault made)
+    (λ old new fault made. sends_tell Placed at_rest on x (sends x) _ _ new fault made)
     (λ old. each_tells_of Placed at_rest on (GivesCredit x)
     (λ p mid. each_tells_of Placed at_rest on (Gives x p) (gives x p) _ mid) _ old))))))
 

@@ -4,9 +4,8 @@ use Rattle.std.proofs.Common.{length, sum, replicate, Option, Some, None, refl, 
 use Rattle.std.specs.Prelude.{slice_index_or, All}
 use Rattle.std.specs.List.{count_by}
 use Rattle.worm_flit.specs.declared.Flit.{Flit}
-use Rattle.worm_flit.specs.Channels.{AreChannels}
 use Rattle.worm_flit.specs.Stamps.{on_channel}
-use Rattle.worm_mesh.specs.Address.{has_neighbour, AreRadices, neighbour_of, node_count}
+use Rattle.worm_mesh.specs.Address.{has_neighbour, neighbour_of}
 use Rattle.worm_mesh.specs.Links.{links_before, link_count}
 use Rattle.worm_mesh.specs.declared.mesh.LinkEnds.{LinkEnds}
 use Rattle.worm_mesh.proofs.Digits.{AreLarge, AreLarge-from_radices}
@@ -19,13 +18,13 @@ use Rattle.worm_theory.proofs.Places.{bool_cases}
 use Rattle.worm_wires.specs.Links.{empty_link}
 use Rattle.worm_region.specs.Owned.{owned_by}
 use Rattle.worm_region.specs.Shape.{net_shape}
-use Rattle.worm_region.specs.State.{NetState, IsFramed, IsNet, IsNodeOf, fresh_node, link_at}
+use Rattle.worm_region.specs.State.{NetState, IsFramed, IsNet, fresh_node, link_at}
 use Rattle.worm_region.specs.State.{network_of, node_at, shape, sink_at}
 use Rattle.worm_region.specs.Workable.{IsBound, IsKept, IsSent, IsWorkable, Works, owned}
 use Rattle.worm_region.specs.declared.node.Node.{Node}
 use Rattle.worm_region.proofs.FrameKept.{framed_mesh}
 use Rattle.worm_region.proofs.LinkWritten.{credits_there, out_there}
-use Rattle.worm_region.proofs.NewNet.{workable, fresh_is, stands_for}
+use Rattle.worm_region.proofs.NewNet.{workable, stands_for}
 use Rattle.worm_region.proofs.AllOwned.{all_within}
 use Rattle.worm_region.proofs.StaysWorking.{sound_works}
 use Rattle.worm_parts.specs.Openings.{past_of}
@@ -57,10 +56,8 @@ pub record IsDealtPart (ways : List LinkEnds) (p : PartState) : Type 0 where
   pub credits : (k : ℕ) → (link_at p.net k).credits ≡ cond (near_of p.net.own ways k) (link_at p.opening k).credits []
   pub ends : (k : ℕ) → end_at p.ends k ≡ end_made (near_of p.net.own ways k) (far_of p.net.own ways k)
       (line_at p.lines k)
-  pub all_nodes : length p.net.nodes ≡ node_count p.opening.mesh
-  pub all_links : length p.net.links ≡ link_count p.opening.mesh
   pub all_ends : length p.ends ≡ link_count p.opening.mesh
-  pub rooms : (k : ℕ) → k < length p.net.links → sum p.opening.channels * p.opening.depth ≤ (link_at p.net k).room
+  pub framed : IsFramed p.net
 
 both_none : {A : Type 0} (b : Bool) → ◌≡◌ {A = List A} (cond b [] []) []
 both_none {A} true = refl
@@ -107,36 +104,6 @@ module _ (p : PartState) (net : IsNet p.opening) (ways : List LinkEnds) (are : A
   same_others : (x : ℕ) → owns p x ≡ false → SameAt N (empty (shape p.opening)) x
   same_others x e = subst (λ (n : Network). SameAt N n x) fresh_stands (same_at p.net F x (node_others x e))
 
-  node_framed : (x : ℕ) → x < length p.net.nodes → IsNodeOf p.net.mesh p.net.channels p.net.depth x (node_at p.net x)
-  node_framed x there =
-      let all = dealt.all_nodes in
-      let frame = net.framed.all_nodes in
-      let here : IsNodeOf O.mesh O.channels O.depth x (node_at p.net x) = elim (bool_cases (owns p x)) [
-        | inl e ↦ subst (λ (n : Node). IsNodeOf O.mesh O.channels O.depth x n) (sym (node_mine x e))
-            (net.framed.each_node x (omega arith))
-        | inr e ↦ subst (λ (n : Node). IsNodeOf O.mesh O.channels O.depth x n) (sym (node_others x e))
-            (fresh_is O.mesh O.channels O.depth net.framed.radices x (omega arith))
-      ] in
-      subst (λ (d : ℕ). IsNodeOf p.net.mesh p.net.channels d x (node_at p.net x)) (sym dealt.config.depth)
-      (subst (λ (c : List ℕ). IsNodeOf p.net.mesh c O.depth x (node_at p.net x)) (sym dealt.config.channels)
-      (subst (λ (m : List ℕ). IsNodeOf m O.channels O.depth x (node_at p.net x)) (sym dealt.config.mesh) here))
-
-  pub framed : IsFramed p.net
-  framed = record {
-    radices = subst AreRadices (sym dealt.config.mesh) net.framed.radices;
-    classes = subst AreChannels (sym dealt.config.channels) net.framed.classes;
-    least_depth = rw dealt.config.depth net.framed.least_depth;
-    most_depth = rw dealt.config.depth net.framed.most_depth;
-    all_nodes = dealt.all_nodes ∙ ap node_count (sym dealt.config.mesh);
-    all_links = dealt.all_links ∙ ap link_count (sym dealt.config.mesh);
-    each_node = node_framed;
-    rooms = λ k there.
-        let product : sum p.net.channels * p.net.depth ≡ sum O.channels * O.depth = λ t. sum
-        (dealt.config.channels t) * dealt.config.depth t in
-        let room = dealt.rooms k there in
-        omega arith;
-  }
-
   -- a link, from node y by port o to node x
   module _ (y o x : ℕ) (linked : (shape p.opening).neighbour y o ≡ Some x) where
     linked_by : neighbour_of O.mesh y o ≡ Some x
@@ -165,12 +132,13 @@ module _ (p : PartState) (net : IsNet p.opening) (ways : List LinkEnds) (are : A
     far_is = ap (λ (z : ℕ). owned_by p.net.own z) way.to
 
     pub out_linked : N.out y o ≡ cond (owns p x) (old.out y o) []
-    out_linked = out_there p.net y o framed has_now ∙ (ap (λ (n : ℕ). (link_at p.net n).flits) number ∙ (dealt.flits k
+    out_linked = out_there p.net y o dealt.framed has_now ∙ (ap (λ (n : ℕ). (link_at p.net n).flits) number
+        ∙ (dealt.flits k
         ∙ ((λ t. cond (far_is t) (link_at O k).flits []) ∙ ap (λ (l : List Flit). cond (owns p x) l []) (sym
         (out_there O y o net.framed has)))))
 
     pub line_linked : N.credit_list y o ≡ cond (owns p y) (old.credit_list y o) []
-    line_linked = credits_there p.net y o framed has_now ∙ (ap (λ (n : ℕ). (link_at p.net n).credits) number
+    line_linked = credits_there p.net y o dealt.framed has_now ∙ (ap (λ (n : ℕ). (link_at p.net n).credits) number
         ∙ (dealt.credits k
         ∙ ((λ t. cond (near_is t) (link_at O k).credits []) ∙ ap (λ (l : List ℕ). cond (owns p y) l []) (sym
         (credits_there O y o net.framed has)))))
@@ -305,7 +273,7 @@ module _ (p : PartState) (net : IsNet p.opening) (ways : List LinkEnds) (are : A
 
   pub first_works : IsWorkable p.net
   first_works = record {
-    framed = framed;
+    framed = dealt.framed;
     works = subst (λ (s : Shape). Works s (owned p.net) N) (λ t. net_shape (sym dealt.config.mesh t)
         (sym dealt.config.channels t) (sym dealt.config.depth t)) works;
   }

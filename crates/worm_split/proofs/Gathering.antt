@@ -1,36 +1,32 @@
 -- A part put back: what is gathered is one worker's more.
-use Rattle.std.proofs.Common.{◌≡◌, ℕ, ◌+◌, ◌*◌, ◌<◌, ◌≤◌, ◌%◌, Bool, true, false, cond, inl, inr, List, length}
-use Rattle.std.proofs.Common.{sum, refl, arith, sym, ap, subst, ◌∙◌, eq-eqb}
+use Rattle.std.proofs.Common.{◌≡◌, ℕ, ◌+◌, ◌<◌, ◌≤◌, ◌%◌, Bool, true, false, cond, inl, inr, List, length}
+use Rattle.std.proofs.Common.{refl, arith, sym, ap, subst, ◌∙◌, eq-eqb}
 use Rattle.std.specs.Prelude.{slice_index_or}
 use Rattle.std.proofs.lemmas.Bool.{cases_eq}
 use Rattle.worm_region.specs.Owned.{owned_by}
-use Rattle.worm_region.specs.State.{NetState, IsFramed, link_at}
+use Rattle.worm_region.specs.State.{IsFramed, link_at}
 use Rattle.worm_region.specs.declared.node.Node.{Node}
 use Rattle.worm_region.specs.declared.own.Own.{Own}
 use Rattle.worm_split.specs.declared.ends.End.{End}
-use Rattle.worm_split.specs.declared.exchange.Kept.{Kept}
-use Rattle.worm_split.specs.Apart.{HaveRoom}
+use Rattle.worm_split.specs.Apart.{Apart, IsPutBack}
 use Rattle.worm_split.specs.Ends.{end_at, line_at}
-use Rattle.worm_split.specs.Exchange.{EndsPutBack, LinksPutBack, NodesPutBack, way_at}
+use Rattle.worm_split.specs.Exchange.{way_at}
 use Rattle.worm_split.specs.Joins.{AreParts, IsBetween, IsGathered, owner_of}
 use Rattle.worm_split.specs.PartState.{PartState, IsPart}
 use Rattle.worm_split.specs.Splits.{part_at}
+use Rattle.worm_split.proofs.Exchanged.{config_then}
 use Rattle.worm_split.proofs.Gathered.{not_same}
-use Rattle.worm_split.proofs.Swapped.{ends_now, link_in, links_now, nodes_now, rooms_now}
+use Rattle.worm_split.proofs.Swapped.{ends_now, link_in, links_now, nodes_now}
 
 pub either_way : (b : Bool) (a : End) → cond b a a ≡ a
 either_way true a = refl
 either_way false a = refl
 
-module _ (parts : List PartState) (are : AreParts parts) (n : ℕ) (there : n < length parts) (kept new : Kept)
+module _ (parts : List PartState) (are : AreParts parts) (n : ℕ) (there : n < length parts) (kept new : Apart)
     (gathered : IsGathered parts (n + 1) kept)
     (part : IsPart (part_at parts n)) (framed : IsFramed (part_at parts n).net)
-    (same_config : new.config ≡ kept.config) (same_ways : new.ways ≡ kept.ways)
-    (nodes : NodesPutBack (part_at parts n).net.own kept.nodes.items (part_at parts n).net.nodes new.nodes.items)
-    (links : LinksPutBack (part_at parts n).net.own kept.ways.items kept.links.items
-    (part_at parts n).net.links new.links.items)
-    (ends : EndsPutBack (part_at parts n).net.own kept.ways.items kept.lines.items
-    (part_at parts n).ends new.lines.items) where
+    (back : IsPutBack (part_at parts n).net.own kept new (part_at parts n).net.nodes (part_at parts n).net.links
+    (part_at parts n).ends) where
   abbrev p : PartState
   p = part_at parts n
 
@@ -49,10 +45,10 @@ module _ (parts : List PartState) (are : AreParts parts) (n : ℕ) (there : n < 
   further_on : (x : ℕ) → n ≤ x % W → (x % W ≡ n → ⊥) → n + 1 ≤ x % W
   further_on x from apart = elim (cases_eq (x % W) n) [ inl e ↦ absurd (apart e) | inr other ↦ omega arith ]
 
-  new_node : (x : ℕ) → n ≤ x % W → (d : Node) → slice_index_or new.nodes.items x d ≡ slice_index_or
+  new_node : (x : ℕ) → n ≤ x % W → (d : Node) → slice_index_or new.net.nodes x d ≡ slice_index_or
       (owner_of parts x).net.nodes x d
   new_node x from d =
-      let now = (nodes_now p.net.own kept.nodes.items p.net.nodes new.nodes.items nodes.0 nodes.1 x d).0 in
+      let now = (nodes_now p.net.own kept.net.nodes p.net.nodes new.net.nodes back.0 back.3.nodes x d).0 in
       elim (cases_eq (x % W) n) [
         | inl e ↦
             let mine = owned_here x e in
@@ -62,11 +58,11 @@ module _ (parts : List PartState) (are : AreParts parts) (n : ℕ) (there : n < 
             now ∙ (rw other refl ∙ gathered.nodes x (further_on x from apart) d)
       ]
 
-  new_flits : (k : ℕ) → let x = (way_at kept.ways.items k).to in n ≤ x % W
-      → (link_in new.links.items k).flits ≡ (link_at (owner_of parts x).net k).flits
+  new_flits : (k : ℕ) → let x = (way_at kept.ways k).to in n ≤ x % W
+      → (link_in new.net.links k).flits ≡ (link_at (owner_of parts x).net k).flits
   new_flits k from =
-      let x = (way_at kept.ways.items k).to in
-      let now = (links_now p.net.own kept.ways.items kept.links.items p.net.links new.links.items links.0 links.1
+      let x = (way_at kept.ways k).to in
+      let now = (links_now p.net.own kept.ways kept.net.links p.net.links new.net.links back.1 back.3.links
       k).flits in
       elim (cases_eq (x % W) n) [
         | inl e ↦
@@ -77,11 +73,11 @@ module _ (parts : List PartState) (are : AreParts parts) (n : ℕ) (there : n < 
             now ∙ (rw other refl ∙ gathered.flits k (further_on x from apart))
       ]
 
-  new_credits : (k : ℕ) → let y = (way_at kept.ways.items k).from in n ≤ y % W
-      → (link_in new.links.items k).credits ≡ (link_at (owner_of parts y).net k).credits
+  new_credits : (k : ℕ) → let y = (way_at kept.ways k).from in n ≤ y % W
+      → (link_in new.net.links k).credits ≡ (link_at (owner_of parts y).net k).credits
   new_credits k from =
-      let y = (way_at kept.ways.items k).from in
-      let now = (links_now p.net.own kept.ways.items kept.links.items p.net.links new.links.items links.0 links.1
+      let y = (way_at kept.ways k).from in
+      let now = (links_now p.net.own kept.ways kept.net.links p.net.links new.net.links back.1 back.3.links
       k).credits in
       elim (cases_eq (y % W) n) [
         | inl e ↦
@@ -92,11 +88,11 @@ module _ (parts : List PartState) (are : AreParts parts) (n : ℕ) (there : n < 
             now ∙ (rw other refl ∙ gathered.credits k (further_on y from apart))
       ]
 
-  new_out : (k : ℕ) → let way = way_at kept.ways.items k in IsBetween W kept.ways.items k → n ≤ way.from % W
-      → (line_at new.lines.items k).out ≡ end_at (owner_of parts way.from).ends k
+  new_out : (k : ℕ) → let way = way_at kept.ways k in IsBetween W kept.ways k → n ≤ way.from % W
+      → (line_at new.lines k).out ≡ end_at (owner_of parts way.from).ends k
   new_out k between from =
-      let way = way_at kept.ways.items k in
-      let now = (ends_now p.net.own kept.ways.items kept.lines.items p.ends new.lines.items ends.0 ends.1 k).out in
+      let way = way_at kept.ways k in
+      let now = (ends_now p.net.own kept.ways kept.lines p.ends new.lines back.2 back.3.ends k).out in
       elim (cases_eq (way.from % W) n) [
         | inl e ↦
             let near = owned_here way.from e in
@@ -107,11 +103,11 @@ module _ (parts : List PartState) (are : AreParts parts) (n : ℕ) (there : n < 
             now ∙ (rw near refl ∙ gathered.outs k between (further_on way.from from apart))
       ]
 
-  new_into : (k : ℕ) → let way = way_at kept.ways.items k in IsBetween W kept.ways.items k → n ≤ way.to % W
-      → (line_at new.lines.items k).into ≡ end_at (owner_of parts way.to).ends k
+  new_into : (k : ℕ) → let way = way_at kept.ways k in IsBetween W kept.ways k → n ≤ way.to % W
+      → (line_at new.lines k).into ≡ end_at (owner_of parts way.to).ends k
   new_into k between from =
-      let way = way_at kept.ways.items k in
-      let now = (ends_now p.net.own kept.ways.items kept.lines.items p.ends new.lines.items ends.0 ends.1 k).into in
+      let way = way_at kept.ways k in
+      let now = (ends_now p.net.own kept.ways kept.lines p.ends new.lines back.2 back.3.ends k).into in
       elim (cases_eq (way.to % W) n) [
         | inl e ↦
             let far = owned_here way.to e in
@@ -119,24 +115,9 @@ module _ (parts : List PartState) (are : AreParts parts) (n : ℕ) (there : n < 
             now ∙ (rw (near, far) refl ∙ ap (λ (q : PartState). end_at q.ends k) (sym (owner_here way.to e)))
         | inr apart ↦
             let far = owned_not way.to apart in
-            now ∙ (rw far (either_way (owned_by p.net.own way.from) (line_at kept.lines.items k).into)
+            now ∙ (rw far (either_way (owned_by p.net.own way.from) (line_at kept.lines k).into)
             ∙ gathered.intos k between (further_on way.to from apart))
       ]
-
-  new_rooms : HaveRoom (part_at parts 0).opening new.links.items
-  new_rooms k below =
-      let O = (part_at parts 0).opening in
-      let long = links.1.same_length in
-      let opening = are.one_opening n there in
-      let all = framed.rooms in
-      let product : sum p.net.channels * p.net.depth ≡ sum O.channels * O.depth
-      = λ t. sum ((part.config.channels ∙ ap (λ (z : NetState). z.channels) opening) t) * (part.config.depth
-      ∙ ap (λ (z : NetState). z.depth) opening) t in
-      let theirs : (j : ℕ) → j < length p.net.links → sum O.channels * O.depth ≤
-      (link_in p.net.links j).room = λ j inside. let r = all j inside in omega arith in
-      (rooms_now p.net.own kept.ways.items kept.links.items p.net.links new.links.items links.0 links.1
-      (sum O.channels * O.depth)
-      gathered.apart.rooms theirs k (omega arith)).0
 
   holds_on : (w : ℕ) → n ≤ w → w < length parts → IsPart (part_at parts w) × IsFramed (part_at parts w).net
   holds_on w from below = elim (cases_eq w n) [
@@ -146,18 +127,12 @@ module _ (parts : List PartState) (are : AreParts parts) (n : ℕ) (there : n < 
 
   pub gathered_more : IsGathered parts n new
   gathered_more = record {
-    apart = record {
-      config = rw same_config gathered.apart.config;
-      ways = rw same_ways gathered.apart.ways;
-      all_nodes = nodes.1.same_length ∙ gathered.apart.all_nodes;
-      all_links = links.1.same_length ∙ gathered.apart.all_links;
-      rooms = new_rooms;
-      all_lines = ends.1.same_length ∙ gathered.apart.all_lines;
-    };
+    fits = back.3.fits;
+    config = config_then (part_at parts 0).opening kept.net new.net gathered.config back.3.config;
     parts_hold = holds_on;
     nodes = new_node;
-    flits = rw same_ways new_flits;
-    credits = rw same_ways new_credits;
-    outs = rw same_ways new_out;
-    intos = rw same_ways new_into;
+    flits = rw back.3.ways new_flits;
+    credits = rw back.3.ways new_credits;
+    outs = rw back.3.ways new_out;
+    intos = rw back.3.ways new_into;
   }

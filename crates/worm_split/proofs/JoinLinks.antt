@@ -13,7 +13,7 @@ use Rattle.worm_wires.specs.Links.{LinkView, blank_link}
 use Rattle.worm_region.proofs.LinkWritten.{credits_there, out_there}
 use Rattle.worm_split.specs.declared.ends.End.{End}
 use Rattle.worm_split.specs.declared.ends.End.TheVariants.{Inner, Leaving}
-use Rattle.worm_split.specs.declared.exchange.Kept.{Kept}
+use Rattle.worm_split.specs.Apart.{Apart, AreWays}
 use Rattle.worm_split.specs.Ends.{end_at, given_on, line_at, returned_on, sent_on, taken_on}
 use Rattle.worm_split.specs.Exchange.{way_at}
 use Rattle.worm_split.specs.Joins.{AreEmptied, AreOfOne, AreParts, IsBetween, IsEmptied, IsEmptiedOf, IsGathered}
@@ -22,12 +22,15 @@ use Rattle.worm_split.specs.PartState.{PartState, IsPart, end_of, part_network, 
 use Rattle.worm_split.specs.Splits.{part_at}
 use Rattle.worm_split.proofs.Gathered.{IsWay, ends_of_link, end_within, large, owner_below, part_mesh, way_is}
 
-module _ (parts : List PartState) (are : AreParts parts) (kept : Kept) (gathered : IsGathered parts 0 kept) where
+module _ (parts : List PartState) (are : AreParts parts) (kept : Apart) (gathered : IsGathered parts 0 kept) where
   pub hold : (w : ℕ) → w < length parts → IsPart (part_at parts w)
   hold w below = (gathered.parts_hold w (omega arith) below).0
 
   pub framed : (w : ℕ) → w < length parts → IsFramed (part_at parts w).net
   framed w below = (gathered.parts_hold w (omega arith) below).1
+
+  pub ways : AreWays (part_at parts 0).opening.mesh kept.ways
+  ways = subst (λ (m : List ℕ). AreWays m kept.ways) gathered.config.mesh gathered.fits.ways
 
   -- What the queues of the link by port o from node y to node x still held, and what the link has with it where there
   -- is room.
@@ -37,11 +40,11 @@ module _ (parts : List PartState) (are : AreParts parts) (kept : Kept) (gathered
         → ((part_network (owner_of parts y)).out y o ≡ taken_by (owner_of parts x) y o ++ fs)
         × ((part_network (owner_of parts x)).credit_list y o ≡ returned_to (owner_of parts y) y o ++ cs)
     pub flits : let far = (network_of (owner_of parts x).net).out y o in
-        length far + length fs ≤ (slice_index_or kept.links.items (links_before
+        length far + length fs ≤ (slice_index_or kept.net.links (links_before
         (part_at parts 0).opening.mesh y o) blank_link).room
         → (slice_index_or links (links_before (part_at parts 0).opening.mesh y o) blank_link).flits ≡ far ++ fs
     pub credits : let near = (network_of (owner_of parts y).net).credit_list y o in
-        length near + length cs ≤ (slice_index_or kept.links.items (links_before
+        length near + length cs ≤ (slice_index_or kept.net.links (links_before
         (part_at parts 0).opening.mesh y o) blank_link).room
         → (slice_index_or links (links_before (part_at parts 0).opening.mesh y o) blank_link).credits ≡ near ++ cs
 
@@ -60,9 +63,9 @@ module _ (parts : List PartState) (are : AreParts parts) (kept : Kept) (gathered
     unfolding net_shape
     linked_by = linked
 
-    pub way : IsWay kept.ways.items k y o x
-    way = way_is (part_at parts 0).opening.mesh kept.ways.items
-        (large parts are hold) gathered.apart.ways y o x linked_by
+    pub way : IsWay kept.ways k y o x
+    way = way_is (part_at parts 0).opening.mesh kept.ways
+        (large parts are hold) ways y o x linked_by
 
     pub has : has_neighbour (part_at parts 0).opening.mesh y o ≡ true
     has =
@@ -91,38 +94,38 @@ module _ (parts : List PartState) (are : AreParts parts) (kept : Kept) (gathered
       credits_here = credits_there p.net y o (framed w below) has_now ∙ ap (λ (n : ℕ). (link_at p.net n).credits) number
 
     -- what is gathered
-    pub flits_gathered : (slice_index_or kept.links.items k blank_link).flits ≡ (network_of far.net).out y o
+    pub flits_gathered : (slice_index_or kept.net.links k blank_link).flits ≡ (network_of far.net).out y o
     flits_gathered =
-        subst (λ (z : ℕ). (slice_index_or kept.links.items k blank_link).flits ≡ (link_at
+        subst (λ (z : ℕ). (slice_index_or kept.net.links k blank_link).flits ≡ (link_at
         (owner_of parts z).net k).flits) way.to
         (gathered.flits k (omega arith)) ∙ sym (flits_here (x % length parts) (owner_below parts are hold x))
 
-    pub credits_gathered : (slice_index_or kept.links.items k blank_link).credits ≡
+    pub credits_gathered : (slice_index_or kept.net.links k blank_link).credits ≡
         (network_of near.net).credit_list y o
     credits_gathered =
-        subst (λ (z : ℕ). (slice_index_or kept.links.items k blank_link).credits ≡ (link_at
+        subst (λ (z : ℕ). (slice_index_or kept.net.links k blank_link).credits ≡ (link_at
         (owner_of parts z).net k).credits) way.from
         (gathered.credits k (omega arith)) ∙ sym (credits_here (y % length parts) (owner_below parts are hold y))
 
-    between : (y % length parts ≡ x % length parts → ⊥) → IsBetween (length parts) kept.ways.items k
+    between : (y % length parts ≡ x % length parts → ⊥) → IsBetween (length parts) kept.ways k
     between apart e = apart (subst (λ (z : ℕ). y % length parts ≡ z % length parts) way.to
-        (subst (λ (z : ℕ). z % length parts ≡ (way_at kept.ways.items k).to % length parts) way.from e))
+        (subst (λ (z : ℕ). z % length parts ≡ (way_at kept.ways k).to % length parts) way.from e))
 
-    out_gathered : (y % length parts ≡ x % length parts → ⊥) → (line_at kept.lines.items k).out ≡ end_of near y o
+    out_gathered : (y % length parts ≡ x % length parts → ⊥) → (line_at kept.lines k).out ≡ end_of near y o
     out_gathered apart =
-        subst (λ (z : ℕ). (line_at kept.lines.items k).out ≡ end_at (owner_of parts z).ends k) way.from
+        subst (λ (z : ℕ). (line_at kept.lines k).out ≡ end_at (owner_of parts z).ends k) way.from
         (gathered.outs k (between apart) (omega arith)) ∙ sym (end_here (y % length parts)
         (owner_below parts are hold y))
 
-    into_gathered : (y % length parts ≡ x % length parts → ⊥) → (line_at kept.lines.items k).into ≡ end_of far y o
+    into_gathered : (y % length parts ≡ x % length parts → ⊥) → (line_at kept.lines k).into ≡ end_of far y o
     into_gathered apart =
-        subst (λ (z : ℕ). (line_at kept.lines.items k).into ≡ end_at (owner_of parts z).ends k) way.to
+        subst (λ (z : ℕ). (line_at kept.lines k).into ≡ end_at (owner_of parts z).ends k) way.to
         (gathered.intos k (between apart) (omega arith)) ∙ sym (end_here (x % length parts)
         (owner_below parts are hold x))
 
     -- the two ends that were put back are of one queue
-    pub of_one : (y % length parts ≡ x % length parts → ⊥) → AreOfOne (line_at kept.lines.items k).out
-        (line_at kept.lines.items k).into
+    pub of_one : (y % length parts ≡ x % length parts → ⊥) → AreOfOne (line_at kept.lines k).out
+        (line_at kept.lines k).into
     of_one apart =
         let meet = ends_of_link parts are hold y o x linked apart in
         rw (out_gathered apart, into_gathered apart, meet.near_is, meet.far_is) (meet.queue, meet.line)
@@ -148,11 +151,11 @@ module _ (parts : List PartState) (are : AreParts parts) (kept : Kept) (gathered
     ]
 
     module _ (links : List LinkView) (emptied : AreEmptied (length parts)
-        (length kept.ways.items) kept.ways.items kept.lines.items kept.links.items links) where
+        (length kept.ways) kept.ways kept.lines kept.net.links links) where
       rest_within : y % length parts ≡ x % length parts → IsRest y o x links [] []
       rest_within same =
-          let k_same : (way_at kept.ways.items k).from % length parts ≡
-          (way_at kept.ways.items k).to % length parts = rw (way.from, way.to) same in
+          let k_same : (way_at kept.ways k).from % length parts ≡
+          (way_at kept.ways k).to % length parts = rw (way.from, way.to) same in
           let stays = emptied.within k k_same in
           record {
             within = λ e. (refl, refl);
@@ -165,10 +168,10 @@ module _ (parts : List PartState) (are : AreParts parts) (kept : Kept) (gathered
           × IsRest y o x links fs cs
       rest_between apart =
           let meet = ends_of_link parts are hold y o x linked apart in
-          let a = slice_index_or kept.links.items k blank_link in
+          let a = slice_index_or kept.net.links k blank_link in
           let b = slice_index_or links k blank_link in
           let did = emptied.done k way.within (between apart) in
-          let did_near = subst (λ (e : End). IsEmptied e (line_at kept.lines.items k).into a b) (out_gathered apart
+          let did_near = subst (λ (e : End). IsEmptied e (line_at kept.lines k).into a b) (out_gathered apart
           ∙ meet.near_is) did in
           let is : IsEmptiedOf meet.tx meet.back meet.rx meet.give a b
           = subst (λ (e : End). IsEmptied (Leaving meet.tx meet.back) e a b) (into_gathered apart

@@ -20,26 +20,15 @@ use Rattle.worm_region.proofs.Room.{credits_counted, bounded, counted}
 use Rattle.worm_parts.specs.Join.{Holds}
 use Rattle.worm_parts.specs.Whole.{AreQueues, link_of as link_joined, line_of as line_joined, whole}
 use Rattle.worm_parts.proofs.Regions.{parts_hold}
-use Rattle.worm_split.specs.declared.ends.End.{End}
-use Rattle.worm_split.specs.declared.ends.End.TheVariants.{Inner}
-use Rattle.worm_split.specs.declared.exchange.Kept.{Kept}
-use Rattle.worm_split.specs.Joins.{AreEmptied, AreParts, IsEmptied, IsGathered, owner_of}
+use Rattle.worm_split.specs.Apart.{Apart}
+use Rattle.worm_split.specs.Joins.{AreEmptied, AreParts, IsGathered, owner_of}
 use Rattle.worm_split.specs.PartState.{PartState, part_network, returned_to, taken_by}
 use Rattle.worm_split.specs.Splits.{part_at}
-use Rattle.worm_split.specs.declared.ends.End.TheVariants.{Leaving, Entering}
 use Rattle.worm_split.proofs.Gathered.{has_part, mesh, was}
 use Rattle.worm_split.proofs.JoinLinks.{IsRest, far_sees, hold, near_sees, rest, way}
 
 some_is : (a b : ℕ) → ◌≡◌ {A = Option ℕ} (Some a) (Some b) → a ≡ b
 some_is a b e = cc
-
--- a link that is emptied keeps its room
-pub emptied_room : (out into : End) (a b : LinkView) → IsEmptied out into a b → b.room ≡ a.room
-emptied_room Inner into a b h = ap (λ (l : LinkView). l.room) h
-emptied_room (Leaving tx back) Inner a b h = ap (λ (l : LinkView). l.room) h
-emptied_room (Leaving tx back) (Leaving tx2 back2) a b h = ap (λ (l : LinkView). l.room) h
-emptied_room (Leaving tx back) (Entering rx give) a b h = h.room
-emptied_room (Entering rx give) into a b h = ap (λ (l : LinkView). l.room) h
 
 -- no neighbour, no link
 pub no_link_there : (m : List ℕ) (y o : ℕ) → neighbour_of m y o ≡ None → has_neighbour m y o ≡ false
@@ -48,10 +37,10 @@ no_link_there m y o e = elim (bool_cases (has_neighbour m y o)) [
   | inr none ↦ none
 ]
 
-module _ (parts : List PartState) (are : AreParts parts) (kept : Kept) (gathered : IsGathered parts 0 kept)
+module _ (parts : List PartState) (are : AreParts parts) (kept : Apart) (gathered : IsGathered parts 0 kept)
     (links : List LinkView)
     (emptied : AreEmptied (length parts)
-    (length kept.ways.items) kept.ways.items kept.lines.items kept.links.items links) where
+    (length kept.ways) kept.ways kept.lines kept.net.links links) where
   abbrev O : NetState
   O = (part_at parts 0).opening
 
@@ -148,14 +137,18 @@ module _ (parts : List PartState) (are : AreParts parts) (kept : Kept) (gathered
   abbrev number : ℕ → ℕ → ℕ
   number = λ y o. links_before (part_at parts 0).opening.mesh y o
 
-  room_there : (y o x : ℕ) → s.neighbour y o ≡ Some x → sum O.channels * O.depth ≤ (slice_index_or kept.links.items
+  room_there : (y o x : ℕ) → s.neighbour y o ≡ Some x → sum O.channels * O.depth ≤ (slice_index_or kept.net.links
       (number y o) blank_link).room
   room_there y o x linked =
       let at = way parts are kept gathered y o x linked in
       let within = at.within in
-      let ways = gathered.apart.ways.all in
-      let all = gathered.apart.all_links in
-      gathered.apart.rooms (number y o) (omega arith)
+      let config = gathered.config in
+      let all = gathered.fits.framed.all_links in
+      let each = gathered.fits.ways.all in
+      let product : sum kept.net.channels * kept.net.depth ≡ sum O.channels * O.depth = λ t. sum
+      (config.channels t) * config.depth t in
+      let room = gathered.fits.framed.rooms (number y o) (omega arith) in
+      omega arith
 
   pub out_put : (y o x : ℕ) → s.neighbour y o ≡ Some x → (slice_index_or links
       (number y o) blank_link).flits ≡ joined.out y o

@@ -1,39 +1,35 @@
 -- The lists of the parts joined, as one network's.
-use Rattle.std.proofs.Common.{◌≡◌, ℕ, ◌*◌, ◌<◌, ◌%◌, ◌==◌, true, false, cond, inl, inr, List, [], length, sum}
-use Rattle.std.proofs.Common.{Option, Some, None, refl, arith, sym, ap, subst, ◌∙◌}
+use Rattle.std.proofs.Common.{◌≡◌, ℕ, ◌*◌, ◌<◌, ◌%◌, ◌==◌, true, false, cond, List, [], length}
+use Rattle.std.proofs.Common.{Option, Some, None, refl, arith, sym, ap, ◌∙◌}
 use Rattle.std.specs.Prelude.{slice_index_or}
-use Rattle.worm_mesh.specs.Address.{has_neighbour, AreRadices, node_count}
-use Rattle.worm_mesh.specs.Links.{links_before, link_count}
-use Rattle.worm_flit.specs.Channels.{AreChannels}
+use Rattle.worm_mesh.specs.Address.{has_neighbour}
+use Rattle.worm_mesh.specs.Links.{links_before}
 use Rattle.worm_theory.proofs.Bridge.{same_network}
-use Rattle.worm_theory.proofs.Places.{number_cases}
 use Rattle.worm_term.specs.Source.{queue_at}
-use Rattle.worm_region.specs.Owned.{sole}
 use Rattle.worm_region.specs.Shape.{net_shape}
-use Rattle.worm_region.specs.State.{NetState, IsFramed, IsNodeOf, fresh_node, input_of}
-use Rattle.worm_wires.specs.Links.{LinkView, blank_link}
-use Rattle.worm_region.specs.State.{link_at, net_state, network_of, node_at, output_of, shape, sink_at, texts_of}
+use Rattle.worm_region.specs.State.{NetState, IsFramed, fresh_node, input_of}
+use Rattle.worm_wires.specs.Links.{LinkView}
+use Rattle.worm_region.specs.State.{link_at, network_of, node_at, output_of, shape, sink_at}
 use Rattle.worm_region.specs.declared.node.Node.{Node}
 use Rattle.worm_region.proofs.LinkWritten.{credits_there, out_there}
 use Rattle.worm_split.specs.declared.ends.End.{End}
 use Rattle.worm_split.specs.declared.ends.End.TheVariants.{Inner}
-use Rattle.worm_split.specs.declared.exchange.Kept.{Kept}
+use Rattle.worm_split.specs.Apart.{Apart, with_lists}
 use Rattle.worm_split.specs.Ends.{sent_on}
-use Rattle.worm_split.specs.Exchange.{way_at}
 use Rattle.worm_split.specs.Joins.{AreEmptied, AreParts, IsGathered, owner_of}
 use Rattle.worm_split.specs.PartState.{PartState, IsPart, end_of}
 use Rattle.worm_split.specs.Splits.{part_at}
-use Rattle.worm_split.proofs.Gathered.{first, owner_below, part_channels, part_depth, part_mesh}
-use Rattle.worm_split.proofs.JoinLinks.{framed, has, hold}
-use Rattle.worm_split.proofs.JoinNet.{emptied_room, joined, line_put, no_link_there, out_put}
+use Rattle.worm_split.proofs.Gathered.{owner_below, part_channels, part_depth, part_mesh}
+use Rattle.worm_split.proofs.JoinLinks.{has, hold}
+use Rattle.worm_split.proofs.JoinNet.{joined, line_put, no_link_there, out_put}
+use Rattle.worm_split.proofs.LinesEmptied.{emptied_framed}
 
-module _ (parts : List PartState) (are : AreParts parts) (kept : Kept) (gathered : IsGathered parts 0 kept)
+module _ (parts : List PartState) (are : AreParts parts) (kept : Apart) (gathered : IsGathered parts 0 kept)
     (links : List LinkView)
     (emptied : AreEmptied (length parts)
-    (length kept.ways.items) kept.ways.items kept.lines.items kept.links.items links) where
+    (length kept.ways) kept.ways kept.lines kept.net.links links) where
   abbrev pub new : NetState
-  new = net_state kept.config.radices.items kept.config.channels.items kept.config.depth
-      (texts_of kept.config.classes.items) kept.nodes.items links sole
+  new = with_lists kept.net kept.net.nodes links
 
   abbrev O : NetState
   O = (part_at parts 0).opening
@@ -42,8 +38,8 @@ module _ (parts : List PartState) (are : AreParts parts) (kept : Kept) (gathered
   each = hold parts are kept gathered
 
   pub shape_same : shape new ≡ shape (part_at parts 0).opening
-  shape_same = let config = gathered.apart.config in
-      λ t. net_shape (config.radices t) (config.channels t) (config.depth t)
+  shape_same = let config = gathered.config in
+      λ t. net_shape (config.mesh t) (config.channels t) (config.depth t)
 
   -- the configuration is that of each part
   module _ (x : ℕ) where
@@ -54,13 +50,13 @@ module _ (parts : List PartState) (are : AreParts parts) (kept : Kept) (gathered
     below = owner_below parts are each x
 
     mesh_as : new.mesh ≡ q.net.mesh
-    mesh_as = gathered.apart.config.radices ∙ sym (part_mesh parts are each (x % length parts) below)
+    mesh_as = gathered.config.mesh ∙ sym (part_mesh parts are each (x % length parts) below)
 
     channels_as : new.channels ≡ q.net.channels
-    channels_as = gathered.apart.config.channels ∙ sym (part_channels parts are each (x % length parts) below)
+    channels_as = gathered.config.channels ∙ sym (part_channels parts are each (x % length parts) below)
 
     depth_as : new.depth ≡ q.net.depth
-    depth_as = gathered.apart.config.depth ∙ sym (part_depth parts are each (x % length parts) below)
+    depth_as = gathered.config.depth ∙ sym (part_depth parts are each (x % length parts) below)
 
     pub node_same : node_at new x ≡ node_at (owner_of parts x).net x
     node_same =
@@ -69,51 +65,8 @@ module _ (parts : List PartState) (are : AreParts parts) (kept : Kept) (gathered
         gathered.nodes x (omega arith) (fresh_node new.mesh new.channels new.depth x)
         ∙ ap (λ (n : Node). slice_index_or q.net.nodes x n) fresh
 
-    node_framed : x < length kept.nodes.items → IsNodeOf new.mesh new.channels new.depth x (node_at new x)
-    node_framed there =
-        let frame = framed parts are kept gathered (x % length parts) below in
-        let all = frame.all_nodes in
-        let mine = gathered.apart.all_nodes in
-        let count : node_count q.net.mesh ≡ node_count O.mesh = ap node_count (part_mesh parts are each
-        (x % length parts) below) in
-        let node = frame.each_node x (omega arith) in
-        subst (λ (n : Node). IsNodeOf new.mesh new.channels new.depth x n) (sym node_same)
-        (subst (λ (d : ℕ). IsNodeOf new.mesh new.channels d x (node_at q.net x)) (sym depth_as)
-        (subst (λ (c : List ℕ). IsNodeOf new.mesh c q.net.depth x (node_at q.net x)) (sym channels_as)
-        (subst (λ (m : List ℕ). IsNodeOf m q.net.channels q.net.depth x (node_at q.net x)) (sym mesh_as) node)))
-
-  link_room : (k : ℕ) → k < length links → (slice_index_or links k blank_link).room ≡
-      (slice_index_or kept.links.items k blank_link).room
-  link_room k below =
-      let ways = gathered.apart.ways.all in
-      let all = gathered.apart.all_links in
-      let long = emptied.same_length in
-      elim (number_cases ((way_at kept.ways.items k).from % length parts)
-      ((way_at kept.ways.items k).to % length parts)) [
-        | inl here ↦ ap (λ (l : LinkView). l.room) (emptied.within k here.1)
-        | inr away ↦ emptied_room _ _ _ _ (emptied.done k (omega arith) away.1)
-      ]
-
   pub new_framed : IsFramed new
-  new_framed =
-      let config = gathered.apart.config in
-      let frame = (first parts are each).opened.framed in
-      record {
-        radices = subst AreRadices (sym config.radices) frame.radices;
-        classes = subst AreChannels (sym config.channels) frame.classes;
-        least_depth = rw config.depth frame.least_depth;
-        most_depth = rw config.depth frame.most_depth;
-        all_nodes = gathered.apart.all_nodes ∙ ap node_count (sym config.radices);
-        all_links = emptied.same_length ∙ (gathered.apart.all_links ∙ ap link_count (sym config.radices));
-        each_node = λ x there. node_framed x there;
-        rooms = λ k there.
-            let long = emptied.same_length in
-            let room = gathered.apart.rooms k (omega arith) in
-            let same = link_room k there in
-            let product : sum new.channels * new.depth ≡ sum O.channels * O.depth = λ t. sum
-            (config.channels t) * config.depth t in
-            omega arith;
-      }
+  new_framed = emptied_framed (length parts) kept links gathered.fits emptied
 
   -- where there is no link, a port has the sink's list, or nothing
   module _ (y o : ℕ) (none : (shape (part_at parts 0).opening).neighbour y o ≡ None) where
@@ -122,7 +75,7 @@ module _ (parts : List PartState) (are : AreParts parts) (kept : Kept) (gathered
     none_then = no_link_there O.mesh y o none
 
     none_now : has_neighbour new.mesh y o ≡ false
-    none_now = ap (λ (m : List ℕ). has_neighbour m y o) gathered.apart.config.radices ∙ none_then
+    none_now = ap (λ (m : List ℕ). has_neighbour m y o) gathered.config.mesh ∙ none_then
 
     none_part : has_neighbour (q y).net.mesh y o ≡ false
     none_part = ap (λ (m : List ℕ). has_neighbour m y o) (sym (mesh_as y)) ∙ none_now
@@ -150,11 +103,11 @@ module _ (parts : List PartState) (are : AreParts parts) (kept : Kept) (gathered
 
   module _ (y o x : ℕ) (linked : (shape (part_at parts 0).opening).neighbour y o ≡ Some x) where
     has_now : has_neighbour new.mesh y o ≡ true
-    has_now = ap (λ (m : List ℕ). has_neighbour m y o) gathered.apart.config.radices
+    has_now = ap (λ (m : List ℕ). has_neighbour m y o) gathered.config.mesh
         ∙ has parts are kept gathered y o x linked
 
     number_now : links_before new.mesh y o ≡ links_before O.mesh y o
-    number_now = ap (λ (m : List ℕ). links_before m y o) gathered.apart.config.radices
+    number_now = ap (λ (m : List ℕ). links_before m y o) gathered.config.mesh
 
     out_linked : (network_of new).out y o ≡ (joined parts are kept gathered links emptied).out y o
     out_linked = out_there new y o new_framed has_now ∙ (ap (λ (n : ℕ). (link_at new n).flits) number_now

@@ -22,6 +22,7 @@ pub mod JoinNet
 pub mod LinesEmptied
 pub mod JoinState
 pub mod Swapped
+pub mod Exchanged
 pub mod Gathering
 pub mod JoinResult
 pub mod Popping

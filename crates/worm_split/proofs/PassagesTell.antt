@@ -1,11 +1,12 @@
 -- What is told of two networks and of a fault between them, if it holds where nothing is done and is handed on from
 -- each passage to the next, holds of passages one after another.
-use Rattle.std.proofs.Common.{◌≡◌, inl, inr, List, [], ◌∷◌, Option, None, sym, subst, ap}
+use Rattle.std.proofs.Common.{◌≡◌, ℕ, inl, inr, List, [], ◌∷◌, Option, None, sym, subst, ap}
+use Rattle.worm_swalloc.specs.declared.grant.SwGrant.{SwGrant}
 use Rattle.worm_region.specs.State.{NetState}
 use Rattle.worm_region.specs.Turns.{Passage, ◌and_then◌, Each}
 use Rattle.worm_region.specs.declared.fault.StepFault.{StepFault}
 use Rattle.worm_split.specs.PartState.{PartState}
-use Rattle.worm_split.specs.PartTurns.{PartPassage, ◌then◌, EachOf}
+use Rattle.worm_split.specs.PartTurns.{PartPassage, ◌then◌, EachOf, Sends, SendsGrant, SendsGrants}
 
 -- each of its passages is told so
 abbrev pub Tells : Passage → Passage → Type 0
@@ -44,3 +45,10 @@ module _ (R : Passage) (at_rest : (s : NetState) → R s None s)
       rests_so old.net new.net fault made.0 (ap (λ (p : PartState). p.net) made.1)
   each_tells_of P here (a ∷ list) old new fault made =
       then_tells_of (P a) (EachOf P list) (here a) (each_tells_of P here list) old new fault made
+
+  -- of Sends, whichever channels were granted
+  pub sends_tell : (x : ℕ) → ((p v : ℕ) → TellsOf R (Sends x p v)) → (grants : List (Option SwGrant)) →
+      TellsOf R (SendsGrants grants x)
+  sends_tell x each grants old new fault made =
+      each_tells_of (SendsGrant grants x)
+      (λ p. each_tells_of (λ (g : SwGrant). Sends x p g.vc) (λ g. each p g.vc) _) _ old new fault made

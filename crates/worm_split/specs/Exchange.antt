@@ -9,7 +9,6 @@ use Rattle.worm_region.specs.declared.node.Node.{Node}
 use Rattle.worm_region.specs.declared.own.Own.{Own}
 use Rattle.worm_split.specs.declared.ends.End.{End}
 use Rattle.worm_split.specs.declared.ends.Line.{Line}
-use Rattle.worm_split.specs.declared.exchange.Kept.{Kept}
 
 -- by number of the link, its two nodes and its two ports
 abbrev pub way_at : List LinkEnds → ℕ → LinkEnds
@@ -21,16 +20,6 @@ near_of own ways k = owned_by own (way_at ways k).from
 
 abbrev pub far_of : Own → List LinkEnds → ℕ → Bool
 far_of own ways k = owned_by own (way_at ways k).to
-
--- a worker's lists beside those of a network taken apart: each as long as the one that it is exchanged with
-pub record ArePaired (kept : Kept) (own_nodes : List Node) (own_links : List LinkView)
-    (own_ends : List End) : Type 0 where
-  pub nodes : length own_nodes ≡ length kept.nodes.items
-  pub few : length kept.nodes.items < 257
-  pub links : length own_links ≡ length kept.links.items
-  pub ends : length own_ends ≡ length kept.lines.items
-  pub link_ways : length kept.ways.items ≡ length kept.links.items
-  pub line_ways : length kept.ways.items ≡ length kept.lines.items
 
 -- two nodes change places where they are the worker's
 abbrev pub SwapsNode : Bool → Node → Node → Node → Node → Type 0
@@ -72,13 +61,3 @@ LinksSwapped own ways = AreSwapped (λ k. SwapsLink (near_of own ways k) (far_of
 
 abbrev pub EndsSwapped : Own → List LinkEnds → ℕ → List Line → List End → List Line → List End → Type 0
 EndsSwapped own ways = AreSwapped (λ k. SwapsEnd (near_of own ways k) (far_of own ways k))
-
--- the same without what becomes of the worker's own lists
-abbrev pub NodesPutBack : Own → List Node → List Node → List Node → Type 0
-NodesPutBack own old nodes new = (left : List Node) × NodesSwapped own (length old) old nodes new left
-
-abbrev pub LinksPutBack : Own → List LinkEnds → List LinkView → List LinkView → List LinkView → Type 0
-LinksPutBack own ways old links new = (left : List LinkView) × LinksSwapped own ways (length old) old links new left
-
-abbrev pub EndsPutBack : Own → List LinkEnds → List Line → List End → List Line → Type 0
-EndsPutBack own ways old ends new = (left : List End) × EndsSwapped own ways (length old) old ends new left

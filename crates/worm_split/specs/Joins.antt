@@ -17,9 +17,8 @@ use Rattle.worm_split.specs.declared.ends.End.TheVariants.{Inner, Leaving, Enter
 use Rattle.worm_split.specs.declared.ends.Line.{Line}
 use Rattle.worm_split.specs.Ends.{end_at, line_at}
 use Rattle.worm_split.specs.PartState.{PartState, IsPart, HasConfigOf, part_network, returned_to, taken_by}
-use Rattle.worm_split.specs.declared.exchange.Kept.{Kept}
 use Rattle.worm_split.specs.Exchange.{way_at}
-use Rattle.worm_split.specs.Apart.{IsApart}
+use Rattle.worm_split.specs.Apart.{Apart, Fits}
 use Rattle.worm_split.specs.Splits.{part_at}
 
 -- the parts of one split, one for each worker in rising number
@@ -38,21 +37,22 @@ abbrev pub owner_of : List PartState → ℕ → PartState
 owner_of parts x = part_at parts (x % length parts)
 
 -- A network taken apart to which the workers from this one on have put back what is theirs.
-pub record IsGathered (parts : List PartState) (from : ℕ) (kept : Kept) : Type 0 where
-  pub apart : IsApart (part_at parts 0).opening kept
+pub record IsGathered (parts : List PartState) (from : ℕ) (kept : Apart) : Type 0 where
+  pub fits : Fits kept
+  pub config : HasConfigOf (part_at parts 0).opening kept.net
   pub parts_hold : (w : ℕ) → from ≤ w → w < length parts → IsPart (part_at parts w) × IsFramed (part_at parts w).net
   pub nodes : (x : ℕ) → from ≤ x % length parts → (n : Node) →
-      slice_index_or kept.nodes.items x n ≡ slice_index_or (owner_of parts x).net.nodes x n
-  pub flits : (k : ℕ) → let x = (way_at kept.ways.items k).to in from ≤ x % length parts →
-      (slice_index_or kept.links.items k blank_link).flits ≡ (link_at (owner_of parts x).net k).flits
-  pub credits : (k : ℕ) → let y = (way_at kept.ways.items k).from in from ≤ y % length parts →
-      (slice_index_or kept.links.items k blank_link).credits ≡ (link_at (owner_of parts y).net k).credits
-  pub outs : (k : ℕ) → let way = way_at kept.ways.items k in
-      IsBetween (length parts) kept.ways.items k → from ≤ way.from % length parts →
-      (line_at kept.lines.items k).out ≡ end_at (owner_of parts way.from).ends k
-  pub intos : (k : ℕ) → let way = way_at kept.ways.items k in
-      IsBetween (length parts) kept.ways.items k → from ≤ way.to % length parts →
-      (line_at kept.lines.items k).into ≡ end_at (owner_of parts way.to).ends k
+      slice_index_or kept.net.nodes x n ≡ slice_index_or (owner_of parts x).net.nodes x n
+  pub flits : (k : ℕ) → let x = (way_at kept.ways k).to in from ≤ x % length parts →
+      (slice_index_or kept.net.links k blank_link).flits ≡ (link_at (owner_of parts x).net k).flits
+  pub credits : (k : ℕ) → let y = (way_at kept.ways k).from in from ≤ y % length parts →
+      (slice_index_or kept.net.links k blank_link).credits ≡ (link_at (owner_of parts y).net k).credits
+  pub outs : (k : ℕ) → let way = way_at kept.ways k in
+      IsBetween (length parts) kept.ways k → from ≤ way.from % length parts →
+      (line_at kept.lines k).out ≡ end_at (owner_of parts way.from).ends k
+  pub intos : (k : ℕ) → let way = way_at kept.ways k in
+      IsBetween (length parts) kept.ways k → from ≤ way.to % length parts →
+      (line_at kept.lines k).into ≡ end_at (owner_of parts way.to).ends k
 
 -- what a queue still held stands behind the link's flits, or its credits, if there is room
 pub record FlitsEmptied (sent taken : List Flit) (old new : LinkView) : Type 0 where

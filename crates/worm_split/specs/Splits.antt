@@ -14,11 +14,10 @@ use Rattle.worm_parts.specs.Openings.{past_of}
 use Rattle.worm_parts.specs.Region.{Begins}
 use Rattle.worm_split.specs.declared.ends.End.TheVariants.{Inner}
 use Rattle.worm_split.specs.declared.ends.Line.{Line}
-use Rattle.worm_split.specs.declared.exchange.Kept.{Kept}
 use Rattle.worm_split.specs.declared.making.Rooms.{Rooms}
 use Rattle.worm_split.specs.declared.making.Seat.{Seat}
 use Rattle.worm_split.specs.Ends.{AreEndsMade, line_at}
-use Rattle.worm_split.specs.Apart.{AreWays, IsApart}
+use Rattle.worm_split.specs.Apart.{Apart, AreWays}
 use Rattle.worm_split.specs.Exchange.{way_at}
 use Rattle.worm_split.specs.PartState.{PartState, HasConfigOf, owns, part_network}
 
@@ -52,12 +51,12 @@ pub record AreRooms (s : NetState) (workers : ℕ) (rooms : Rooms) : Type 0 wher
   pub room : workers ≤ vec_capacity rooms.parts
 
 -- The network taken apart, nothing of it given to a worker yet: what is opened.
-pub record IsOpened (s : NetState) (workers : ℕ) (lines : List Line) (kept : Kept) : Type 0 where
-  pub apart : IsApart s kept
-  pub nodes : kept.nodes.items ≡ s.nodes
-  pub links : kept.links.items ≡ s.links
-  pub lines_made : AreLinesMade s workers kept.ways.items lines
-  pub all_made : kept.lines.items ≡ lines
+pub record IsOpened (s : NetState) (workers : ℕ) (lines : List Line) (kept : Apart) : Type 0 where
+  pub config : HasConfigOf s kept.net
+  pub nodes : kept.net.nodes ≡ s.nodes
+  pub links : kept.net.links ≡ s.links
+  pub lines_made : AreLinesMade s workers kept.ways lines
+  pub all_made : kept.lines ≡ lines
 
 -- the lists of all workers, and room for their parts
 pub record AreSeats (s : NetState) (lines : List Line) (workers : ℕ) (seats : List Seat) (parts : List PartState)

@@ -3,10 +3,11 @@
 
 ghost use Rattle.std.specs.Prelude.{◌≡◌, ◌<◌, length};
 ghost use Rattle.worm_region.specs.Owned.{owned_by};
-ghost use Rattle.worm_split.specs.Exchange.{ArePaired, EndsSwapped, LinksSwapped, NodesSwapped, SwapsEnd, SwapsLink};
-ghost use Rattle.worm_split.specs.Exchange.{SwapsNode};
+ghost use Rattle.worm_split.specs.Apart.{ArePaired, Fits, IsExchanged};
+ghost use Rattle.worm_split.specs.Exchange.{EndsSwapped, LinksSwapped, NodesSwapped, SwapsEnd, SwapsLink, SwapsNode};
 
 use crate::ends::{End, Line};
+use std::marker::Model;
 use std::mem::swap;
 use worm_core::{Config, LinkState, Node, Own};
 use worm_mesh::LinkEnds;
@@ -25,6 +26,16 @@ pub struct Kept {
     pub(crate) links: Vec<LinkState>,
     /// Both ends of each link between two workers, by the link's number.
     pub(crate) lines: Vec<Line>,
+}
+
+impl Model for Kept {
+    ghost use Rattle.worm_split.specs.Apart.{Apart, Fits, taken_apart};
+
+    ghost Value = { Apart };
+
+    ghost view = { λ k. taken_apart k.config k.ways.items k.nodes.items k.links.items k.lines.items };
+
+    ghost invariant = { λ k. Fits (taken_apart k.config k.ways.items k.nodes.items k.links.items k.lines.items) };
 }
 
 /// Whether the worker owns the node.
@@ -118,6 +129,13 @@ fn swap_ends(lines: &mut Vec<Line>, ends: &mut Vec<End>, ways: &Vec<LinkEnds>, o
 }
 
 impl Kept {
+    /// Tells that the lists fit one another.
+    pub(crate) fn recall(&self)
+        ensures { Fits self.now }
+    {
+        let _config = &self.config;
+    }
+
     /// Exchanges all that is the worker's.
     pub(crate) fn exchange(
         &mut self,
@@ -128,14 +146,8 @@ impl Kept {
     )
         requires workers { 0 < own.workers }
         requires paired { ArePaired self.old nodes.old.items links.old.items ends.old.items }
-        ensures config { self.new.config ≡ self.old.config }
-        ensures ways { self.new.ways ≡ self.old.ways }
-        ensures nodes { NodesSwapped own (length self.old.nodes.items) self.old.nodes.items nodes.old.items
-            self.new.nodes.items nodes.new.items }
-        ensures links { LinksSwapped own self.old.ways.items (length self.old.links.items) self.old.links.items
-            links.old.items self.new.links.items links.new.items }
-        ensures ends { EndsSwapped own self.old.ways.items (length self.old.lines.items) self.old.lines.items
-            ends.old.items self.new.lines.items ends.new.items }
+        ensures { IsExchanged own self.old self.new nodes.old.items nodes.new.items links.old.items links.new.items
+            ends.old.items ends.new.items }
     {
         swap_nodes(&mut self.nodes, nodes, own);
         swap_links(&mut self.links, links, &self.ways, own);

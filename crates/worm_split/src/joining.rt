@@ -3,7 +3,7 @@
 ghost use Rattle.std.specs.Prelude.{◌≡◌, ◌<◌, ◌≤◌, ◌++◌, ◌∷◌, ◌%◌, ◌==◌, [], ℕ, false, length, true};
 ghost use Rattle.worm_core.specs.Headline.{DeliversInOrder};
 ghost use Rattle.worm_split.specs.Ends.{line_at};
-ghost use Rattle.worm_split.specs.Exchange.{ArePaired, EndsPutBack, LinksPutBack, NodesPutBack};
+ghost use Rattle.worm_split.specs.Apart.{ArePaired, IsPutBack, with_lists};
 ghost use Rattle.worm_split.specs.Joins.{AreEmptied, AreOfOne, AreParts, CreditsEmptied, FlitsEmptied, IsBetween};
 ghost use Rattle.worm_split.specs.Joins.{IsEmptied, IsGathered, IsJoinOf, IsLaterThan};
 ghost use Rattle.worm_split.specs.Splits.{part_at};
@@ -108,12 +108,7 @@ impl Kept {
     fn put_back(&mut self, region: Region, mut ends: Vec<End>)
         requires workers { 0 < region.own.workers }
         requires paired { ArePaired self.old region.nodes region.links ends.items }
-        ensures config { self.new.config ≡ self.old.config }
-        ensures ways { self.new.ways ≡ self.old.ways }
-        ensures nodes { NodesPutBack region.own self.old.nodes.items region.nodes self.new.nodes.items }
-        ensures links { LinksPutBack region.own self.old.ways.items self.old.links.items region.links
-            self.new.links.items }
-        ensures ends { EndsPutBack region.own self.old.ways.items self.old.lines.items ends.items self.new.lines.items }
+        ensures { IsPutBack region.own self.old self.new region.nodes region.links ends.items }
     {
         let own = region.own();
         let NetParts {
@@ -127,14 +122,11 @@ impl Kept {
     /// Puts what all queues still hold onto their links.
     fn empty_lines<R: Wait>(&mut self, rt: &R, workers: usize)
         requires workers { 0 < workers }
-        requires link_ways { length self.old.ways.items ≡ length self.old.links.items }
-        requires line_ways { length self.old.ways.items ≡ length self.old.lines.items }
-        requires queues { (k : ℕ) → IsBetween workers self.old.ways.items k →
-            AreOfOne (line_at self.old.lines.items k).out (line_at self.old.lines.items k).into }
-        ensures links { AreEmptied workers (length self.old.ways.items) self.old.ways.items self.old.lines.items
-            self.old.links.items self.new.links.items }
-        ensures nodes { self.new.nodes ≡ self.old.nodes }
-        ensures config { self.new.config ≡ self.old.config }
+        requires queues { (k : ℕ) → IsBetween workers self.old.ways k →
+            AreOfOne (line_at self.old.lines k).out (line_at self.old.lines k).into }
+        ensures links { AreEmptied workers (length self.old.ways) self.old.ways self.old.lines self.old.net.links
+            self.new.net.links }
+        ensures rest { self.new.net ≡ with_lists self.old.net self.old.net.nodes self.new.net.links }
     {
         for k in 0..self.ways.len() {
             let within = is_within(self.ways[k], workers);
@@ -162,6 +154,7 @@ fn gather(mut parts: Vec<Part>) -> Kept
         unreachable!()
     };
     region.recall();
+    whole.recall();
     whole.put_back(region, ends);
     while let Some(part) = parts.pop() {
         let Part {

@@ -3,7 +3,7 @@ use Rattle.worm_region.specs.Answers.{Answers, ArbitersStand}
 use Rattle.worm_region.specs.Runs.{event_of}
 use Rattle.worm_region.specs.State.{NetState}
 use Rattle.worm_core.proofs.Lifting.{net_answers}
-use Rattle.worm_core.proofs.Pointers.{arbiters_stand}
+use Rattle.worm_region.proofs.ArbitersStand.{arbiters_stand}
 use Rattle.worm_core.proofs.net.Net.step.Goals as goal
 
 pub invariant_of-self : goal.invariant_of-self
