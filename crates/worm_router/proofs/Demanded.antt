@@ -19,7 +19,6 @@ use Rattle.worm_vcalloc.specs.VcRequest.{may_use}
 use Rattle.worm_vcalloc.specs.ChannelSet.{has}
 use Rattle.worm_vcalloc.specs.Table.{cell, with_cell}
 use Rattle.worm_vcalloc.specs.VcAlloc.{VcAllocState, vc_pass}
-use Rattle.worm_vcalloc.proofs.PassAgrees.{none_where_not_some}
 use Rattle.worm_vcalloc.proofs.SetMembers.{has-empty}
 use Rattle.worm_vcalloc.proofs.TableCells.{cell-replicate, IsTable-replicate}
 use Rattle.worm_swalloc.proofs.TableRows.{same_tables, IsTable-table}
@@ -215,12 +214,6 @@ waiting_set r s asked set same few_ports few_channels fronts is members =
     ]
 
 -- ---- the grants of a pass
-
-pub none_of_keys : (grants : List (List (Option ℕ))) (keys : ℕ)
-    → ((p v : ℕ) → p < 7 → v < 8 → has keys p v ≡ is_some (cell grants p v None)) → (keys == 0) ≡ true
-    → (p v : ℕ) → p < 7 → v < 8 → cell grants p v None ≡ None
-none_of_keys grants keys are none = λ p v p_in v_in.
-    none_where_not_some (cell grants p v None) (sym (are p v p_in v_in) ∙ has-empty keys p v none)
 
 pub pass_of : (r s : RouterState) (asked : List (List (Option VcRequest))) (free : List (List Bool))
     (alloc : VcAllocState) (grants : List (List (Option ℕ))) → r ≡ s → asked ≡ requests r → free ≡ free_channels r

@@ -1,7 +1,7 @@
 -- What a pass of the channel allocator may grant, and to whom.
-use Rattle.std.proofs.Common.{◌≡◌, ℕ, ◌+◌, ◌<◌, ◌≤◌, ◌&&◌, Bool, true, false, is_none, if◌then◌else◌, inl, inr}
-use Rattle.std.proofs.Common.{List, [], ◌∷◌, length, Option, None, Some, refl, arith, ap, sym, subst, ◌∙◌}
-use Rattle.std.proofs.lemmas.Bool.{cases_Bool, and_from, and_parts, eqb-true, true≢false}
+use Rattle.std.proofs.Common.{◌≡◌, ℕ, ◌+◌, ◌≤◌, ◌&&◌, Bool, true, is_none, if◌then◌else◌}
+use Rattle.std.proofs.Common.{List, [], ◌∷◌, length, Option, None, Some, refl, ap, sym, subst, ◌∙◌}
+use Rattle.std.proofs.lemmas.Bool.{and_from, and_parts, eqb-true, true≢false}
 use Rattle.worm_flit.specs.declared.Flit.{Flit}
 use Rattle.worm_flit.specs.Channels.{owns}
 use Rattle.worm_flit.proofs.Masks.{class_bits-owns}
@@ -9,14 +9,12 @@ use Rattle.worm_records.specs.declared.InRecord.{InRecord}
 use Rattle.worm_records.specs.declared.InRecord.TheVariants.{Idle, Waiting, Active}
 use Rattle.worm_vcalloc.specs.declared.request.VcRequest.{VcRequest}
 use Rattle.worm_vcalloc.specs.VcRequest.{may_use}
-use Rattle.worm_vcalloc.specs.Table.{cell}
 use Rattle.worm_vcalloc.specs.VcAlloc.{IsChannelMatching}
 use Rattle.worm_router.specs.Router.{RouterState, IsPlace, terminal, width, places, output_at, granting, can_grant}
-use Rattle.worm_router.specs.Allocation.{asking, request_at, requests, is_free, free_channels}
+use Rattle.worm_router.specs.Allocation.{asking, requests, is_free, free_channels}
 use Rattle.worm_router.specs.Busy.{IsKept}
-use Rattle.worm_router.specs.Demand.{DemandView, GrantsNothing}
+use Rattle.worm_router.specs.Demand.{DemandView}
 use Rattle.worm_router.specs.declared.busy.BusyChannels.{BusyChannels}
-use Rattle.worm_router.proofs.TableRows.{cell_has}
 
 -- who may use a channel of a port waits for that port
 pub waits_for : (r : RouterState) (s : InRecord) (fs : List Flit) (o c : ℕ) → may_use (asking r.channels s fs) o c ≡ true
@@ -68,37 +66,6 @@ grantable r sets asked masks waiting free grants kept is is' matching = record {
       (subst (λ n. IsChannelMatching n r.channel_alloc.channels waiting free grants)
       kept.router.allocators.channel_ports matching)));
 }
-
--- had a request been for a free channel, that channel would have been granted
-pub grants_none : (r : RouterState) (sets : BusyChannels) (asked : DemandView) (masks : List ℕ)
-    (grants : List (List (Option ℕ))) → IsKept r sets asked masks → IsGrantable r grants
-    → ((p v : ℕ) → p < 7 → v < 8 → cell grants p v None ≡ None) → GrantsNothing asked.requests asked.free
-grants_none r sets asked masks grants kept given none =
-    subst (λ t. GrantsNothing t asked.free) (sym kept.demand.requests)
-    (subst (GrantsNothing (requests r)) (sym kept.demand.free) (λ out c p v unheld.
-    elim (cases_Bool (may_use (cell (requests r) p v None) out c)) [
-      | inr unused ↦ unused
-      | inl uses ↦
-          let from : IsPlace r p v =
-          cell_has (λ q. may_use q out c ≡ true → IsPlace r p v) r None (request_at r) p v
-          (λ no. absurd (true≢false (sym no))) (λ place yes. place) uses in
-          let to : IsPlace r out c =
-          cell_has (λ b. b ≡ true → IsPlace r out c) r false (is_free r) out c
-          (λ no. absurd (true≢false (sym no))) (λ place yes. place) unheld in
-          let few_ports = given.few_ports in
-          let few = given.few in
-          let port_in = from.port_in in
-          let vc_in = from.channel_in in
-          let out_in = to.port_in in
-          let c_in = to.channel_in in
-          let won = given.matching.complete out c p v (omega arith) (omega arith) (omega arith) (omega arith) unheld
-          uses (none p v (omega arith) (omega arith)) in
-          let at = given.matching.requested won.0 won.1 c won.2.granted in
-          let low = at.3 in
-          let low' = at.4 in
-          let clash : None ≡ Some c = sym (none won.0 won.1 (omega arith) (omega arith)) ∙ won.2.granted in
-          absurd (cc)
-    ]))
 
 -- an input channel may be given this channel of the output port that it waits for
 pub record MayHold (r : RouterState) (port vc out out_vc : ℕ) : Type 0 where

@@ -132,11 +132,11 @@ impl Demand {
         self.grants_nothing
     }
 
-    /// Keeps it whether a pass grants nothing, until that may change. Where it grants nothing false may be kept.
-    pub fn set_grants_nothing(&mut self, nothing: bool)
-        requires { IsTrue nothing → GrantsNothing self.old.requests self.old.free }
+    /// Keeps it that a pass grants nothing, until that may change.
+    pub fn set_grants_nothing(&mut self)
+        requires { GrantsNothing self.old.requests self.old.free }
         ensures { self.new ≡ self.old }
     {
-        self.grants_nothing = nothing;
+        self.grants_nothing = true;
     }
 }

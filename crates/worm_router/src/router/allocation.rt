@@ -42,7 +42,6 @@ impl Router {
             .channel_alloc
             .grant(self.demand.requests(), self.demand.free());
         let mut left = grants.keys();
-        self.demand.set_grants_nothing(left.is_empty());
         // A pass grants what is asked for and free, and nothing twice, so a grant is written without a test of that.
         while let Some((port, vc)) = left.pop_first() {
             if let Some(out_vc) = grants.get(port, vc) {
@@ -51,6 +50,8 @@ impl Router {
                 }
             }
         }
+        // Whoever asks for a channel that was free was granted one, or another was granted that channel.
+        self.demand.set_grants_nothing();
         grants
     }
 

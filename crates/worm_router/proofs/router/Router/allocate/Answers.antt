@@ -1,9 +1,11 @@
-use Rattle.std.proofs.Common.{sym, ◌∙◌}
+use Rattle.std.proofs.Common.{refl, sym, subst, ◌∙◌}
+use Rattle.worm_router.specs.Router.{RouterState}
+use Rattle.worm_router.specs.Allocation.{IsSameSize, AreHeld, LeavesRest}
 use Rattle.worm_router.proofs.NothingWaits.{nothing_granted, nothing_matched}
-use Rattle.worm_router.proofs.Demanded.{none_of_keys}
 use Rattle.worm_router.proofs.GrantsWritten.{writing_begins}
-use Rattle.worm_router.proofs.Grantable.{grantable, grants_none}
-use Rattle.worm_router.proofs.GrantsHeld.{passed_by, next_place, next_held, next_waits, next_written}
+use Rattle.worm_router.proofs.Grantable.{grantable}
+use Rattle.worm_router.proofs.GrantsHeld.{IsPassed, passed_by, next_place, next_held, next_waits, next_written}
+use Rattle.worm_router.proofs.NothingLeft.{nothing_left}
 use Rattle.worm_router.proofs.router.Router.allocate.Goals as goal
 
 pub returns-then-allocates_nothing-clause-grants : goal.returns-then-allocates_nothing-clause-grants
@@ -15,12 +17,6 @@ pub returns-then-allocates_nothing-clause-matching : goal.returns-then-allocates
 returns-then-allocates_nothing-clause-matching c =
     nothing_matched c.args.self.now c.new.result (c.allocates_nothing.ensures.asked c.if-allocates_nothing.true)
     c.new.ensures
-
-pub set_grants_nothing-requires : goal.set_grants_nothing-requires
-set_grants_nothing-requires c = λ none.
-    let given = grantable _ _ _ _ _ _ _ c.self.invariant c.requests.ensures c.free.ensures
-    c.grant-grants.ensures.matching in
-    grants_none _ _ _ _ _ c.self.invariant given (none_of_keys _ _ c.keys-left.ensures (sym c.is_empty.ensures ∙ none))
 
 pub loop-port-init : goal.loop-port-init
 loop-port-init c = writing_begins _ _ _ c.keys-left.ensures
@@ -66,22 +62,30 @@ loop-port-preserved-in_default-in_record c =
     (sym c.get.ensures ∙ c.in-Some-get.is) in
     absurd (c.in_default-in_record.not-Waiting waits.0 (c.in_record.ensures ∙ waits.1))
 
+pub set_grants_nothing-requires : goal.set_grants_nothing-requires
+set_grants_nothing-requires c =
+    let given = grantable _ _ _ _ _ _ _ c.self.invariant c.requests.ensures c.free.ensures
+    c.grant-grants.ensures.matching in
+    nothing_left _ _ _ _ _ given (passed_by _ _ _ _ _ _ _ _ _ _ _ refl c.self.invariant c.requests.ensures
+    c.free.ensures c.grant-grants.ensures.pass c.grant-grants.ensures.matching c.loop-port.invariant
+    c.in_default.ensures.0) c.self-2.view_is c.self-2.invariant.demand
+
+passed : (c : goal.After-set_grants_nothing) → IsPassed c.args.self.now c.loop-port.self c.grant-grants.result
+passed c =
+    passed_by _ c.args.self.now _ _ _ _ _ _ _ _ _ c.self.view_is c.self.invariant c.requests.ensures c.free.ensures
+    c.grant-grants.ensures.pass c.grant-grants.ensures.matching c.loop-port.invariant c.in_default.ensures.0
+
 pub returns-clause-after : goal.returns-clause-after
-returns-clause-after c =
-    (passed_by _ c.args.self.now _ _ _ _ _ _ _ _ _ c.self.view_is c.self.invariant c.requests.ensures c.free.ensures
-    c.grant-grants.ensures.pass c.grant-grants.ensures.matching c.loop-port.invariant c.in_default.ensures.0).after
+returns-clause-after c = c.self-2.view_is ∙ (passed c).after
 
 pub returns-clause-same : goal.returns-clause-same
-returns-clause-same c =
-    (passed_by _ c.args.self.now _ _ _ _ _ _ _ _ _ c.self.view_is c.self.invariant c.requests.ensures c.free.ensures
-    c.grant-grants.ensures.pass c.grant-grants.ensures.matching c.loop-port.invariant c.in_default.ensures.0).same
+returns-clause-same c = subst (IsSameSize c.args.self.now) (sym c.self-2.view_is) (passed c).same
 
 pub returns-clause-held : goal.returns-clause-held
 returns-clause-held c =
-    (passed_by _ c.args.self.now _ _ _ _ _ _ _ _ _ c.self.view_is c.self.invariant c.requests.ensures c.free.ensures
-    c.grant-grants.ensures.pass c.grant-grants.ensures.matching c.loop-port.invariant c.in_default.ensures.0).held
+    subst (λ (r : RouterState). AreHeld c.args.self.now r c.grant-grants.result) (sym c.self-2.view_is) (passed c).held
 
 pub returns-clause-rest : goal.returns-clause-rest
 returns-clause-rest c =
-    (passed_by _ c.args.self.now _ _ _ _ _ _ _ _ _ c.self.view_is c.self.invariant c.requests.ensures c.free.ensures
-    c.grant-grants.ensures.pass c.grant-grants.ensures.matching c.loop-port.invariant c.in_default.ensures.0).rest
+    subst (λ (r : RouterState). LeavesRest c.args.self.now r c.grant-grants.result) (sym c.self-2.view_is)
+    (passed c).rest
