@@ -85,8 +85,8 @@ fn prefers(rt: &impl Abort, mut alloc: SwAlloc, vc: u8) {
     passes(rt, &mut alloc, &ready, &[(0, sends(vc, 1))]);
 }
 
-/// Port 0 names its channel 1 in vain while port 2 sends, and names it again in the next pass: with its pointer moved
-/// it would name channel 0.
+/// Port 0 names its channel 1, which is not granted while port 2 sends, and names it again in the next pass: with its
+/// pointer moved it would name channel 0.
 #[test]
 fn an_ungranted_request_is_named_again(rt: HostRuntime) {
     let mut alloc = SwAlloc::new(3, 2);

@@ -130,7 +130,7 @@ port_passed waiting free first start here there out r is same_ports same_channel
 
 -- ---- where nobody asks
 
--- an output channel that nobody asks for is offered in vain
+-- an output channel that nobody asks for is offered to nobody
 offered_unasked : (waiting : List (List (Option VcRequest))) (pass : VcPass) (out channel : ℕ)
     → IsVcAlloc pass.alloc.ports pass.alloc.channels pass.alloc.arbiters
     → out < pass.alloc.ports → channel < pass.alloc.channels
