@@ -1,4 +1,5 @@
 pub mod ComesByEnd
+pub mod CreditsGiven
 pub mod Crossing
 pub mod EndFacts
 pub mod GoesByEnd

@@ -1,13 +1,13 @@
 //! What a part does in a turn of one of its nodes.
 
-ghost use Rattle.std.specs.Prelude.{◌≡◌, ◌<◌, ◌+◌, ◌*◌, ◌%◌, ◌↔◌, ◌∷◌, [], filter, true, None, Some, IfSome, IsTrue};
+ghost use Rattle.std.specs.Prelude.{◌≡◌, ◌<◌, ◌+◌, ◌*◌, ◌%◌, ◌↔◌, ◌∷◌, [], filter, true, None, Some, IsTrue};
 ghost use Rattle.std.specs.Prelude.{false, List, Option, length, sum};
 ghost use Rattle.std.specs.Result.{result_err};
 ghost use Rattle.worm_mesh.specs.Address.{node_count, stride_of};
 ghost use Rattle.worm_region.specs.Replies.{Attempts};
 ghost use Rattle.worm_script.specs.Script.{due};
 ghost use Rattle.worm_region.specs.Prepared.{Prepares};
-ghost use Rattle.worm_region.specs.Turns.{AreGrants, AreThere, AsksSourceBy, lowest_owed};
+ghost use Rattle.worm_region.specs.Turns.{AreGrants, AreThere, AsksSourceBy};
 ghost use Rattle.worm_region.specs.Workable.{owned};
 ghost use Rattle.worm_split.specs.Effects.{HasWords, HaveWords, IsRefused, SinksTakeOne, SourcesTake};
 ghost use Rattle.worm_split.specs.PartState.{IsSamePart};
@@ -16,7 +16,7 @@ ghost use Rattle.worm_swalloc.specs.SwAlloc.{AreGranted};
 ghost use Rattle.worm_swalloc.specs.declared.grant.SwGrant.{SwGrant};
 ghost use Rattle.worm_router.specs.Router.{input_at, leaving};
 ghost use Rattle.worm_theory.specs.Steps.{IsThere, Step as Event};
-ghost use Rattle.worm_split.specs.PartTurns.{ComesBy, EachOf, GivesAcross, GivesCredit, GivesCredits, LeavesBy};
+ghost use Rattle.worm_split.specs.PartTurns.{ComesBy, EachOf, Gives, GivesAcross, GivesCredits, LeavesBy};
 ghost use Rattle.worm_split.specs.PartTurns.{NodePasses, NodeTurn, Sends, SendsAcross, SendsGrants, StaysWithin, Turn};
 ghost use Rattle.worm_split.specs.PartTurns.{AreShared, PullsCredit, PullsCredits, PullsFlit, PullsFlits, Within};
 
@@ -277,17 +277,15 @@ impl Part {
         is_entering(&self.ends[usize::from(links.into)])
     }
 
-    /// Gives a credit of the lowest channel of the port that owes one to the link into it.
-    fn give<R: Wait>(&mut self, rt: &R, node: u8, port: u8)
+    /// Gives a credit that a channel of the port owes to the link into it, whoever's node that comes from.
+    fn give<R: Wait>(&mut self, rt: &R, node: u8, port: u8, vc: u8)
         requires own { owned self.old.net node ≡ true }
         requires node { node < node_count self.old.net.mesh }
-        requires port { port < 2 * length self.old.net.mesh }
-        ensures gives { GivesCredit node port self.old None self.new }
+        requires channel { vc < sum self.old.net.channels }
+        requires owed { 0 < (input_at (router_at self.old.net node) port vc).owed }
+        ensures gives { Gives node port vc self.old None self.new }
         ensures same { IsSamePart self.old self.new }
     {
-        let Some(vc) = self.owed(node, port) else {
-            return;
-        };
         if self.comes(node, port) {
             self.give_across(rt, node, port, vc);
         } else {
@@ -295,27 +293,23 @@ impl Part {
         }
     }
 
-    /// The lowest channel of the port that owes a credit.
-    fn owed(&self, node: u8, port: u8) -> Option<u8>
-        requires node { node < node_count self.now.net.mesh }
-        requires port { port < 2 * length self.now.net.mesh }
-        ensures lowest { result ≡ lowest_owed (router_at self.now.net node) port }
-        ensures channel { IfSome result (λ vc. (vc < sum self.now.net.channels)
-            × (0 < (input_at (router_at self.now.net node) port vc).owed)) }
-    {
-        self.region.recall();
-        self.region.owed(node, port)
-    }
-
-    /// Gives a credit of each port that owes one, ports rising.
+    /// Gives a credit of the lowest channel of each port that owes one, ports rising.
     fn give_credits<R: Wait>(&mut self, rt: &R, node: u8)
         requires node { node < node_count self.old.net.mesh }
         requires own { owned self.old.net node ≡ true }
         ensures gives { GivesCredits node self.old None self.new }
         ensures same { IsSamePart self.old self.new }
     {
-        for port in 0..self.region.terminal() {
-            self.give(rt, node, port);
+        let terminal = self.region.terminal();
+        let mut left = self.region.owing(node);
+        while let Some((port, vc)) = left.pop_port_lowest() {
+            // The terminal has no link, and owes none.
+            if port >= terminal {
+                return;
+            }
+            self.give(rt, node, port, vc);
+            // For the proof: the network is sound with the credit given.
+            self.region.recall();
         }
     }
 
