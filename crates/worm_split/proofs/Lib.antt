@@ -42,3 +42,4 @@ pub mod NodeEffects
 pub mod Effects
 pub mod AtRest
 pub mod Sharing
+pub mod PortsAsked

@@ -24,7 +24,7 @@ use crate::ends::{is_entering, is_leaving, pop_credit, pop_flit, push_credit, pu
 use crate::part::Part;
 use std::sync::Wait;
 use worm_core::{Act, Due, Entry, Script, StepFault, tried};
-use worm_flit::Flit;
+use worm_flit::{Flit, SmallSet};
 use worm_vcalloc::ChannelSet;
 
 impl Part {
@@ -41,30 +41,27 @@ impl Part {
         u16::from(beyond) % self.region.own().workers != 0
     }
 
-    /// By mesh port, whether a link by it may lead to another worker's node. The links by the others stay within the
-    /// part, so their queues need not be asked.
-    fn shared_ports(&self) -> [bool; 6]
+    /// The mesh ports by which a link may lead to another worker's node. The links by the others stay within the part,
+    /// so their queues need not be asked.
+    fn shared_ports(&self) -> SmallSet
         ensures { AreShared self.now.net result }
     {
         self.region.recall();
-        let mut shared = [false; 6];
+        let mut shared = SmallSet::new();
         for port in 0..self.region.terminal() {
-            shared[usize::from(port)] = self.leads_away(port / 2);
+            shared.put(port, self.leads_away(port / 2));
         }
         shared
     }
 
     /// Asks for the next credit of the link out of the port, where the link leaves the worker's nodes and no credit of
     /// it waits.
-    fn pull_credit(&mut self, node: u8, port: u8, shared: &[bool])
+    fn pull_credit(&mut self, node: u8, port: u8)
         requires node { node < node_count self.old.net.mesh }
         requires own { owned self.old.net node ≡ true }
         ensures pulls { PullsCredit node port self.old None self.new }
         ensures same { IsSamePart self.old self.new }
     {
-        if !shared.get(usize::from(port)).copied().unwrap_or(true) {
-            return;
-        }
         self.region.recall();
         let Some(links) = self.region.links_at(node, port) else {
             return;
@@ -84,15 +81,12 @@ impl Part {
 
     /// Asks for the next flit of the link into the port, where the link enters the worker's nodes and no flit of it
     /// waits.
-    fn pull_flit(&mut self, node: u8, port: u8, shared: &[bool])
+    fn pull_flit(&mut self, node: u8, port: u8)
         requires node { node < node_count self.old.net.mesh }
         requires own { owned self.old.net node ≡ true }
         ensures pulls { PullsFlit node port self.old None self.new }
         ensures same { IsSamePart self.old self.new }
     {
-        if !shared.get(usize::from(port)).copied().unwrap_or(true) {
-            return;
-        }
         self.region.recall();
         let Some(links) = self.region.links_at(node, port) else {
             return;
@@ -110,27 +104,29 @@ impl Part {
         self.region.arrive(links.beyond, links.entered, flit);
     }
 
-    /// Asks for a credit of each link out of the node, ports rising.
-    fn pull_credits(&mut self, node: u8, shared: &[bool])
+    /// Asks for a credit of each link out of the node by one of these ports, rising.
+    fn pull_credits(&mut self, node: u8, shared: SmallSet)
         requires node { node < node_count self.old.net.mesh }
         requires own { owned self.old.net node ≡ true }
         ensures pulls { PullsCredits node self.old None self.new }
         ensures same { IsSamePart self.old self.new }
     {
-        for port in 0..self.region.terminal() {
-            self.pull_credit(node, port, shared);
+        let mut left = shared;
+        while let Some(port) = left.pop_first() {
+            self.pull_credit(node, port);
         }
     }
 
-    /// Asks for a flit of each link into the node, ports rising.
-    fn pull_flits(&mut self, node: u8, shared: &[bool])
+    /// Asks for a flit of each link into the node by one of these ports, rising.
+    fn pull_flits(&mut self, node: u8, shared: SmallSet)
         requires node { node < node_count self.old.net.mesh }
         requires own { owned self.old.net node ≡ true }
         ensures pulls { PullsFlits node self.old None self.new }
         ensures same { IsSamePart self.old self.new }
     {
-        for port in 0..self.region.terminal() {
-            self.pull_flit(node, port, shared);
+        let mut left = shared;
+        while let Some(port) = left.pop_first() {
+            self.pull_flit(node, port);
         }
     }
 
@@ -346,7 +342,7 @@ impl Part {
         rt: &R,
         node: u8,
         entries: &Due<'_>,
-        shared: &[bool],
+        shared: SmallSet,
     ) -> Result<(), StepFault>
         requires node { node < node_count self.old.net.mesh }
         requires own { owned self.old.net node ≡ true }
@@ -366,7 +362,7 @@ impl Part {
         node: u8,
         owner: u16,
         entries: &Due<'_>,
-        shared: &[bool],
+        shared: SmallSet,
     ) -> Result<(), StepFault>
         requires node { node < node_count self.old.net.mesh }
         requires owner { owner ≡ node % self.old.net.own.workers }
@@ -389,7 +385,7 @@ impl Part {
         let workers = self.region.own().workers;
         let mut owner = 0;
         for node in 0..self.region.nodes() {
-            self.own_turn(rt, node as u8, owner, entries, &shared)?;
+            self.own_turn(rt, node as u8, owner, entries, shared)?;
             owner = next_owner(owner, workers);
         }
         Ok(())
