@@ -28,7 +28,7 @@ use Rattle.worm_region.proofs.PlacesThere.{net_place}
 use Rattle.worm_region.proofs.Passages.{does_for, does_nothing, loop_more, loop_on}
 use Rattle.worm_region.proofs.TurnInParts.{gives_none, owed_lowest, owing_some}
 
-unchanged : (a b : NetState) (x p v : ℕ) → b ≡ a → v < width (router_at b x) → OwesTheSame a b x p v
+pub unchanged : (a b : NetState) (x p v : ℕ) → b ≡ a → v < width (router_at b x) → OwesTheSame a b x p v
 unchanged a b x p v same within = record {
   there = subst (λ (s : NetState). v < width (router_at s x)) same within;
   owed = ap (λ (s : NetState). (input_at (router_at s x) p v).owed) same;
@@ -45,7 +45,7 @@ input_elsewhere a x q c p v one net there q_in c_in away v_in =
     let apart = same-false p v q c away in
     sym (input_of-there (with_input r q c one) p v v_in) ∙ (put ∙ (rw apart (input_of-there r p v v_in)))
 
-gave_elsewhere : (a : NetState) (x q c p v : ℕ) → IsWorkable a → x < length a.nodes → q ≤ terminal (router_at a x) →
+pub gave_elsewhere : (a : NetState) (x q c p v : ℕ) → IsWorkable a → x < length a.nodes → q ≤ terminal (router_at a x) →
     c < width (router_at a x) → (p ≡ q → ⊥) → v < width (router_at a x)
     → (input_at (after_gave (router_at a x) q c) p v).owed ≡ (input_at (router_at a x) p v).owed
 gave_elsewhere a x q c p v net there q_in c_in away v_in =
@@ -78,7 +78,7 @@ give_elsewhere a b x q c (Err NoMemory) net none p v away within = unchanged a b
 
 -- the set of a router's channels that owe
 
-none_owed : (n : ℕ) → nat_lt 0 n ≡ false → n ≡ 0
+pub none_owed : (n : ℕ) → nat_lt 0 n ≡ false → n ≡ 0
 none_owed n none = grind (arith, nat_tests)
 
 -- the ports and channels of a router that is there are those of the network

@@ -11,7 +11,7 @@ ghost use Rattle.worm_region.specs.State.{IsNet, shape, router_at, texts_of, wit
 ghost use Rattle.worm_region.specs.Owned.{sole};
 ghost use Rattle.worm_wires.specs.Wiring.{port_links};
 ghost use Rattle.worm_region.specs.Workable.{EndsWithin, IsWorkable, owned};
-ghost use Rattle.worm_region.specs.Turns.{AreThere, Chooses, ComesInBy, ReachesAt, NodePassesBy, lowest_owed};
+ghost use Rattle.worm_region.specs.Turns.{AreThere, Chooses, ComesInBy, ReachesAt, NodePassesBy};
 ghost use Rattle.worm_mesh.specs.Address.{node_count, neighbour_of};
 ghost use Rattle.worm_router.specs.Router.{input_at, leaving};
 ghost use Rattle.worm_router.specs.Busy.{IsSetOf, owes};
@@ -206,15 +206,6 @@ impl Region {
         ensures sound { IsWorkable self.now }
     {
         self.fabric.node(node).router.owing()
-    }
-
-    /// The lowest channel of the mesh port that owes a credit.
-    pub fn owed(&self, node: u8, port: u8) -> Option<u8>
-        requires node { node < node_count self.now.mesh }
-        requires port { port < 2 * length self.now.mesh }
-        ensures { result ≡ lowest_owed (router_at self.now node) port }
-    {
-        self.fabric.node(node).router.owed(port)
     }
 
     /// Whether the node is at rest, so that its turn goes past all but what its source is asked. Where it is at rest

@@ -1,4 +1,5 @@
 pub mod ComesByEnd
+pub mod CreditsGiven
 pub mod Crossing
 pub mod EndFacts
 pub mod GoesByEnd
@@ -41,3 +42,4 @@ pub mod NodeEffects
 pub mod Effects
 pub mod AtRest
 pub mod Sharing
+pub mod PortsAsked

@@ -1,8 +1,9 @@
 -- Nodes whose numbers are a multiple of the number of workers apart have one owner.
-use Rattle.std.proofs.Common.{◌≡◌, ℕ, ◌+◌, ◌-◌, ◌*◌, ◌/◌, ◌%◌, ◌==◌, ◌<◌, Bool, true, false, inl, inr, List, length}
+use Rattle.std.proofs.Common.{◌≡◌, ℕ, ◌+◌, ◌-◌, ◌*◌, ◌/◌, ◌%◌, ◌==◌, ◌<◌, false, inl, inr, length}
 use Rattle.std.proofs.Common.{Option, Some, arith, ap, sym, subst, ◌∙◌, refl}
 use Rattle.std.proofs.Math.Nat.{add-mul-mod_self_left, div-add-mod}
-use Rattle.std.specs.Prelude.{IsSome, slice_index_or}
+use Rattle.std.specs.Prelude.{IsSome}
+use Rattle.worm_flit.specs.SmallSet.{has}
 use Rattle.worm_mesh.specs.Address.{neighbour_of, stride_of}
 use Rattle.worm_theory.proofs.Places.{number_cases}
 use Rattle.worm_region.specs.State.{IsFramed, NetState}
@@ -15,8 +16,8 @@ same_rest y s w none =
     let whole : s ≡ w * (s / w) = omega (arith, div-add-mod s w, none) in
     ap (λ (n : ℕ). (y + n) % w) whole ∙ add-mul-mod_self_left y w (s / w)
 
-pub are_shared : (net : NetState) (shared : List Bool) → IsFramed net
-    → ((p : ℕ) → p < 2 * length net.mesh → slice_index_or shared p true ≡ false
+pub are_shared : (net : NetState) (shared : ℕ) → IsFramed net
+    → ((p : ℕ) → p < 2 * length net.mesh → has shared p ≡ false
     → stride_of net.mesh (p / 2) % net.own.workers ≡ 0) → AreShared net shared
 are_shared net shared framed each x o y linked unnamed =
     let radices = framed.radices in

@@ -1,20 +1,18 @@
 -- A flit that leaves for a node of the part's own, or for its sink, goes as in a network.
-use Rattle.std.proofs.Common.{◌≡◌, ℕ, ◌<◌, arith, Bool, true, false, Option, Some}
+use Rattle.std.proofs.Common.{◌≡◌, ℕ, Bool, true, false, Option, Some}
 use Rattle.std.proofs.Common.{None, Ok, Err, refl, sym, ap, subst, ◌∙◌}
-use Rattle.std.specs.Prelude.{IfSome, IsTrue, Result, nat_lt}
+use Rattle.std.specs.Prelude.{IfSome, IsTrue, Result}
 use Rattle.worm_flit.specs.declared.Flit.{Flit}
 use Rattle.worm_links.specs.Links.{TxView, RxView, CreditTxView, CreditRxView}
 use Rattle.worm_mesh.specs.Address.{neighbour_of, opposite_of}
 use Rattle.worm_records.specs.declared.InRecord.{InRecord}
 use Rattle.worm_records.specs.declared.InRecord.TheVariants.{Idle}
-use Rattle.worm_router.specs.Router.{RouterState, width, input_at, leaving}
-use Rattle.worm_vcalloc.proofs.Winner.{find-range_found}
+use Rattle.worm_router.specs.Router.{leaving}
 use Rattle.worm_theory.specs.Steps.{Send, GiveCredit, IsActiveAt}
 use Rattle.worm_region.specs.Shape.{net_shape}
 use Rattle.worm_region.specs.State.{NetState, IsFramed, IsSameConfig, shape, network_of, router_at}
 use Rattle.worm_region.specs.Moves.{after_ready}
 use Rattle.worm_region.specs.Replies.{Replies}
-use Rattle.worm_region.specs.Turns.{lowest_owed}
 use Rattle.worm_region.specs.Workable.{owned, EndsWithin}
 use Rattle.worm_region.specs.declared.step.Moved.{Moved}
 use Rattle.worm_region.specs.declared.step.Moved.TheVariants.{Done, Idle}
@@ -45,9 +43,6 @@ leaves_means (Entering rx give) b is = (
   λ yes_it. let clash : true ≡ false = sym yes_it ∙ is in absurd (cc),
   λ l. let e = l.2 in absurd (cc),
 )
-
-owes_some : (n : ℕ) → nat_lt 0 n ≡ true → 0 < n
-owes_some n e = grind arith
 
 module _ (p : PartState) (part : IsPart p) (x : ℕ) (here : owns p x ≡ true) where
   -- a link out of the node that does not leave the part leads to another of its nodes
@@ -160,12 +155,3 @@ comes_means p x o beyond b linked is =
           let same : comes.0 ≡ beyond = cc in
           means.1 (comes.2.0, comes.2.1, ap (λ (y : ℕ). end_of p y (opposite_of o)) (sym same) ∙ comes.2.2),
     )
-
--- the lowest channel that owes a credit is there, and owes one
-pub lowest_found : (r : RouterState) (port : ℕ) (o : Option ℕ) → o ≡ lowest_owed r port
-    → IfSome o (λ vc. (vc < width r) × (0 < (input_at r port vc).owed))
-lowest_found r port None e = tt
-lowest_found r port (Some vc) e =
-    let found = find-range_found (λ v. nat_lt 0 (input_at r port v).owed) 0 (width r) vc (sym e) in
-    let some : nat_lt 0 (input_at r port vc).owed ≡ true = found.2 in
-    (omega (arith, found.1), owes_some (input_at r port vc).owed some)

@@ -1,9 +1,10 @@
 -- The turn of a node in a worker's part: the turn of a node, in which what goes to another worker goes by the worker's
 -- end of the link, and what comes from one comes by it (Dally and Towles, chapters 13 and 16).
 use Rattle.std.specs.Prelude.{ℕ, ◌≡◌, ◌≤◌, ◌⊎◌, List, [], ◌∷◌, ◌++◌, length, filter, slice_set}
-use Rattle.std.specs.Prelude.{Bool, true, false, slice_index_or, Option, Some, None, IsSome}
+use Rattle.std.specs.Prelude.{false, slice_index_or, Option, Some, None, IsSome}
 use Rattle.std.specs.Option.{option_to_list}
 use Rattle.worm_flit.specs.declared.Flit.{Flit}
+use Rattle.worm_flit.specs.SmallSet.{has}
 use Rattle.worm_mesh.specs.Address.{neighbour_of, opposite_of}
 use Rattle.worm_mesh.specs.Links.{links_before}
 use Rattle.worm_links.specs.Links.{TxView, RxView, CreditTxView, CreditRxView, link_capacity}
@@ -94,9 +95,9 @@ pub record FlitComes (x p : ℕ) (old new : PartState) : Type 0 where
 abbrev pub PullsFlit : ℕ → ℕ → PartPassage
 PullsFlit x p old fault new = (fault ≡ None) × ((new ≡ old) ⊎ FlitComes x p old new)
 
--- by a port that is not named no link leads from a worker's node to another worker's
-abbrev pub AreShared : NetState → List Bool → Type 0
-AreShared net shared = (x o y : ℕ) → neighbour_of net.mesh x o ≡ Some y → slice_index_or shared o true ≡ false
+-- by a port that is not in the set no link leads from a worker's node to another worker's
+abbrev pub AreShared : NetState → ℕ → Type 0
+AreShared net shared = (x o y : ℕ) → neighbour_of net.mesh x o ≡ Some y → has shared o ≡ false
     → owned net y ≡ owned net x
 
 -- The flit that is ready leaves by a link to another worker: its push lands, and it left; or the push comes back full,

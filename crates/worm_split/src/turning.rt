@@ -1,13 +1,13 @@
 //! What a part does in a turn of one of its nodes.
 
-ghost use Rattle.std.specs.Prelude.{◌≡◌, ◌<◌, ◌+◌, ◌*◌, ◌%◌, ◌↔◌, ◌∷◌, [], filter, true, None, Some, IfSome, IsTrue};
+ghost use Rattle.std.specs.Prelude.{◌≡◌, ◌<◌, ◌+◌, ◌*◌, ◌%◌, ◌↔◌, ◌∷◌, [], filter, true, None, Some, IsTrue};
 ghost use Rattle.std.specs.Prelude.{false, List, Option, length, sum};
 ghost use Rattle.std.specs.Result.{result_err};
 ghost use Rattle.worm_mesh.specs.Address.{node_count, stride_of};
 ghost use Rattle.worm_region.specs.Replies.{Attempts};
 ghost use Rattle.worm_script.specs.Script.{due};
 ghost use Rattle.worm_region.specs.Prepared.{Prepares};
-ghost use Rattle.worm_region.specs.Turns.{AreGrants, AreThere, AsksSourceBy, lowest_owed};
+ghost use Rattle.worm_region.specs.Turns.{AreGrants, AreThere, AsksSourceBy};
 ghost use Rattle.worm_region.specs.Workable.{owned};
 ghost use Rattle.worm_split.specs.Effects.{HasWords, HaveWords, IsRefused, SinksTakeOne, SourcesTake};
 ghost use Rattle.worm_split.specs.PartState.{IsSamePart};
@@ -16,7 +16,7 @@ ghost use Rattle.worm_swalloc.specs.SwAlloc.{AreGranted};
 ghost use Rattle.worm_swalloc.specs.declared.grant.SwGrant.{SwGrant};
 ghost use Rattle.worm_router.specs.Router.{input_at, leaving};
 ghost use Rattle.worm_theory.specs.Steps.{IsThere, Step as Event};
-ghost use Rattle.worm_split.specs.PartTurns.{ComesBy, EachOf, GivesAcross, GivesCredit, GivesCredits, LeavesBy};
+ghost use Rattle.worm_split.specs.PartTurns.{ComesBy, EachOf, Gives, GivesAcross, GivesCredits, LeavesBy};
 ghost use Rattle.worm_split.specs.PartTurns.{NodePasses, NodeTurn, Sends, SendsAcross, SendsGrants, StaysWithin, Turn};
 ghost use Rattle.worm_split.specs.PartTurns.{AreShared, PullsCredit, PullsCredits, PullsFlit, PullsFlits, Within};
 
@@ -24,7 +24,7 @@ use crate::ends::{is_entering, is_leaving, pop_credit, pop_flit, push_credit, pu
 use crate::part::Part;
 use std::sync::Wait;
 use worm_core::{Act, Due, Entry, Script, StepFault, tried};
-use worm_flit::Flit;
+use worm_flit::{Flit, SmallSet};
 use worm_vcalloc::ChannelSet;
 
 impl Part {
@@ -41,30 +41,27 @@ impl Part {
         u16::from(beyond) % self.region.own().workers != 0
     }
 
-    /// By mesh port, whether a link by it may lead to another worker's node. The links by the others stay within the
-    /// part, so their queues need not be asked.
-    fn shared_ports(&self) -> [bool; 6]
+    /// The mesh ports by which a link may lead to another worker's node. The links by the others stay within the part,
+    /// so their queues need not be asked.
+    fn shared_ports(&self) -> SmallSet
         ensures { AreShared self.now.net result }
     {
         self.region.recall();
-        let mut shared = [false; 6];
+        let mut shared = SmallSet::new();
         for port in 0..self.region.terminal() {
-            shared[usize::from(port)] = self.leads_away(port / 2);
+            shared.put(port, self.leads_away(port / 2));
         }
         shared
     }
 
     /// Asks for the next credit of the link out of the port, where the link leaves the worker's nodes and no credit of
     /// it waits.
-    fn pull_credit(&mut self, node: u8, port: u8, shared: &[bool])
+    fn pull_credit(&mut self, node: u8, port: u8)
         requires node { node < node_count self.old.net.mesh }
         requires own { owned self.old.net node ≡ true }
         ensures pulls { PullsCredit node port self.old None self.new }
         ensures same { IsSamePart self.old self.new }
     {
-        if !shared.get(usize::from(port)).copied().unwrap_or(true) {
-            return;
-        }
         self.region.recall();
         let Some(links) = self.region.links_at(node, port) else {
             return;
@@ -84,15 +81,12 @@ impl Part {
 
     /// Asks for the next flit of the link into the port, where the link enters the worker's nodes and no flit of it
     /// waits.
-    fn pull_flit(&mut self, node: u8, port: u8, shared: &[bool])
+    fn pull_flit(&mut self, node: u8, port: u8)
         requires node { node < node_count self.old.net.mesh }
         requires own { owned self.old.net node ≡ true }
         ensures pulls { PullsFlit node port self.old None self.new }
         ensures same { IsSamePart self.old self.new }
     {
-        if !shared.get(usize::from(port)).copied().unwrap_or(true) {
-            return;
-        }
         self.region.recall();
         let Some(links) = self.region.links_at(node, port) else {
             return;
@@ -110,27 +104,29 @@ impl Part {
         self.region.arrive(links.beyond, links.entered, flit);
     }
 
-    /// Asks for a credit of each link out of the node, ports rising.
-    fn pull_credits(&mut self, node: u8, shared: &[bool])
+    /// Asks for a credit of each link out of the node by one of these ports, rising.
+    fn pull_credits(&mut self, node: u8, shared: SmallSet)
         requires node { node < node_count self.old.net.mesh }
         requires own { owned self.old.net node ≡ true }
         ensures pulls { PullsCredits node self.old None self.new }
         ensures same { IsSamePart self.old self.new }
     {
-        for port in 0..self.region.terminal() {
-            self.pull_credit(node, port, shared);
+        let mut left = shared;
+        while let Some(port) = left.pop_first() {
+            self.pull_credit(node, port);
         }
     }
 
-    /// Asks for a flit of each link into the node, ports rising.
-    fn pull_flits(&mut self, node: u8, shared: &[bool])
+    /// Asks for a flit of each link into the node by one of these ports, rising.
+    fn pull_flits(&mut self, node: u8, shared: SmallSet)
         requires node { node < node_count self.old.net.mesh }
         requires own { owned self.old.net node ≡ true }
         ensures pulls { PullsFlits node self.old None self.new }
         ensures same { IsSamePart self.old self.new }
     {
-        for port in 0..self.region.terminal() {
-            self.pull_flit(node, port, shared);
+        let mut left = shared;
+        while let Some(port) = left.pop_first() {
+            self.pull_flit(node, port);
         }
     }
 
@@ -277,17 +273,15 @@ impl Part {
         is_entering(&self.ends[usize::from(links.into)])
     }
 
-    /// Gives a credit of the lowest channel of the port that owes one to the link into it.
-    fn give<R: Wait>(&mut self, rt: &R, node: u8, port: u8)
+    /// Gives a credit that a channel of the port owes to the link into it, whoever's node that comes from.
+    fn give<R: Wait>(&mut self, rt: &R, node: u8, port: u8, vc: u8)
         requires own { owned self.old.net node ≡ true }
         requires node { node < node_count self.old.net.mesh }
-        requires port { port < 2 * length self.old.net.mesh }
-        ensures gives { GivesCredit node port self.old None self.new }
+        requires channel { vc < sum self.old.net.channels }
+        requires owed { 0 < (input_at (router_at self.old.net node) port vc).owed }
+        ensures gives { Gives node port vc self.old None self.new }
         ensures same { IsSamePart self.old self.new }
     {
-        let Some(vc) = self.owed(node, port) else {
-            return;
-        };
         if self.comes(node, port) {
             self.give_across(rt, node, port, vc);
         } else {
@@ -295,27 +289,23 @@ impl Part {
         }
     }
 
-    /// The lowest channel of the port that owes a credit.
-    fn owed(&self, node: u8, port: u8) -> Option<u8>
-        requires node { node < node_count self.now.net.mesh }
-        requires port { port < 2 * length self.now.net.mesh }
-        ensures lowest { result ≡ lowest_owed (router_at self.now.net node) port }
-        ensures channel { IfSome result (λ vc. (vc < sum self.now.net.channels)
-            × (0 < (input_at (router_at self.now.net node) port vc).owed)) }
-    {
-        self.region.recall();
-        self.region.owed(node, port)
-    }
-
-    /// Gives a credit of each port that owes one, ports rising.
+    /// Gives a credit of the lowest channel of each port that owes one, ports rising.
     fn give_credits<R: Wait>(&mut self, rt: &R, node: u8)
         requires node { node < node_count self.old.net.mesh }
         requires own { owned self.old.net node ≡ true }
         ensures gives { GivesCredits node self.old None self.new }
         ensures same { IsSamePart self.old self.new }
     {
-        for port in 0..self.region.terminal() {
-            self.give(rt, node, port);
+        let terminal = self.region.terminal();
+        let mut left = self.region.owing(node);
+        while let Some((port, vc)) = left.pop_port_lowest() {
+            // The terminal has no link, and owes none.
+            if port >= terminal {
+                return;
+            }
+            self.give(rt, node, port, vc);
+            // For the proof: the network is sound with the credit given.
+            self.region.recall();
         }
     }
 
@@ -352,7 +342,7 @@ impl Part {
         rt: &R,
         node: u8,
         entries: &Due<'_>,
-        shared: &[bool],
+        shared: SmallSet,
     ) -> Result<(), StepFault>
         requires node { node < node_count self.old.net.mesh }
         requires own { owned self.old.net node ≡ true }
@@ -372,7 +362,7 @@ impl Part {
         node: u8,
         owner: u16,
         entries: &Due<'_>,
-        shared: &[bool],
+        shared: SmallSet,
     ) -> Result<(), StepFault>
         requires node { node < node_count self.old.net.mesh }
         requires owner { owner ≡ node % self.old.net.own.workers }
@@ -395,7 +385,7 @@ impl Part {
         let workers = self.region.own().workers;
         let mut owner = 0;
         for node in 0..self.region.nodes() {
-            self.own_turn(rt, node as u8, owner, entries, &shared)?;
+            self.own_turn(rt, node as u8, owner, entries, shared)?;
             owner = next_owner(owner, workers);
         }
         Ok(())

@@ -1,11 +1,9 @@
-use Rattle.std.proofs.Common.{None}
-use Rattle.std.specs.List.{range_with_len}
-use Rattle.worm_split.specs.PartState.{IsSamePart}
-use Rattle.worm_split.specs.PartTurns.{EachOf, GivesCredit}
+use Rattle.std.proofs.Common.{ℕ}
+use Rattle.worm_split.proofs.CreditsGiven.{Gave}
 use Rattle.worm_split.proofs.part.Part.give_credits.Given as goal
 
 abbrev pub invariant-loop-port : goal.invariant-loop-port
-invariant-loop-port g l = record {
-  given : EachOf (GivesCredit l.node) (range_with_len 0 l.port) l.fn.self None l.self;
-  same : IsSamePart l.fn.self l.self;
-}
+invariant-loop-port g l = (from : ℕ) × Gave l.node l.initial.self l.self l.left from
+
+abbrev pub decreases-loop-port : goal.decreases-loop-port
+decreases-loop-port g l = l.left
