@@ -1,4 +1,5 @@
-//! A script's entries, what a new region is made from, where a route goes on, and what a node may send.
+//! A script's entries and those of a source, what a new region is made from, where a route goes on, and what a node may
+//! send.
 
 ghost use Rattle.std.specs.Prelude.{◌<◌};
 
@@ -6,7 +7,7 @@ use crate::cases::{are_equal, config, lane, to_offer};
 use std::alloc::Global;
 use std::process::Abort;
 use worm_flit::Lane;
-use worm_region::{Config, NetFault, Region, Script, ScriptFault};
+use worm_region::{Config, Due, NetFault, Region, Script, ScriptFault};
 
 /// The script of an entry in each of these turns: a word for the node of the turn's number.
 fn script_of_turns(rt: &impl Abort, alloc: Global, turns: &[u8]) -> Script {
@@ -39,7 +40,28 @@ fn begins_with(rt: &impl Abort, script: &Script, turn: u64, lane: Lane) {
     let due = script.due(turn);
     assert!(rt; !due.is_empty());
     assert_eq!(rt; due.entry(0).act.lane(), lane);
-    assert_eq!(rt; due.source(0), lane.src);
+    assert_eq!(rt; due.first_of(lane.src), Some(0));
+}
+
+/// The script of an entry for the source of each of these nodes, in the turn beside it.
+fn script_of_sources(rt: &impl Abort, alloc: Global, sources: &[(u32, u8)]) -> Script {
+    let mut script = Script::empty(alloc);
+    for (turn, source) in sources {
+        let entry = to_offer(rt, *turn, lane(*source, 9, 0), &[1]);
+        script.push(entry).expect(rt, "an entry more");
+    }
+    script
+}
+
+/// The entries of the turn that ask the node's source are those at these places, and no others.
+fn asks_at(rt: &impl Abort, due: &Due<'_>, node: u8, places: &[usize]) {
+    let mut next = due.first_of(node);
+    for place in places {
+        assert_eq!(rt; next, Some(*place));
+        assert!(rt; *place < due.len());
+        next = due.next_of(*place);
+    }
+    assert_eq!(rt; next, None);
 }
 
 #[test]
@@ -53,6 +75,31 @@ fn the_entries_of_a_turn(rt: HostRuntime) {
     has_due(&rt, &script, 5, 1);
     begins_with(&rt, &script, 5, lane(0, 5, 0));
     has_due(&rt, &script, 1_000_000_000_000, 0);
+}
+
+#[test]
+fn the_entries_of_a_source(rt: HostRuntime) {
+    let sources = [
+        (3, 0),
+        (3, 255),
+        (3, 0),
+        (3, 2),
+        (3, 255),
+        (3, 0),
+        (4, 255),
+        (4, 0),
+    ];
+    let script = script_of_sources(&rt, rt.alloc(), &sources);
+    let due = script.due(3);
+    asks_at(&rt, &due, 0, &[0, 2, 5]);
+    asks_at(&rt, &due, 255, &[1, 4]);
+    asks_at(&rt, &due, 2, &[3]);
+    asks_at(&rt, &due, 1, &[]);
+    let due = script.due(4);
+    asks_at(&rt, &due, 0, &[1]);
+    asks_at(&rt, &due, 255, &[0]);
+    asks_at(&rt, &due, 2, &[]);
+    asks_at(&rt, &script.due(5), 0, &[]);
 }
 
 /// A number of the configuration is out of its range.

@@ -1,10 +1,7 @@
 -- Passages one after another: as each is made, and where a fault ends one.
-use Rattle.std.proofs.Common.{Bool, true, false, length, get_or, take, drop, ◌≡◌, ℕ, zero, suc, ◌+◌, ◌-◌, ◌<◌, ◌≤◌}
-use Rattle.std.proofs.Common.{inl, inr, List, [], ◌∷◌, ◌++◌, map, Option, Some, None, Ok, Err, refl, arith, ap, sym}
-use Rattle.std.proofs.Common.{subst, ◌∙◌}
-use Rattle.std.specs.Prelude.{Result, IsSome, filter}
-use Rattle.std.proofs.lemmas.List.{take_more, take-append-drop, map-append, append-nil}
-use Rattle.std.proofs.lemmas.List.Elements.{filter-append}
+use Rattle.std.proofs.Common.{◌≡◌, ℕ, zero, suc, ◌+◌, ◌-◌, ◌<◌, ◌≤◌, inl, inr, List, [], ◌∷◌, ◌++◌, map, Option}
+use Rattle.std.proofs.Common.{Some, None, Ok, Err, refl, arith, ap, sym, subst, ◌∙◌}
+use Rattle.std.specs.Prelude.{Result, IsSome}
 use Rattle.std.specs.List.{range_with_len, flat_map}
 use Rattle.worm_theory.specs.Steps.{Step}
 use Rattle.worm_region.specs.State.{NetState, shape, network_of}
@@ -169,49 +166,6 @@ does_ranged list f m n a b is same done = record {
       (each_map Attempts f (range_with_len 0 n) a b None done.exact));
   reaches = done.reaches;
 }
-
--- over the elements of a list that pass a test, as far as the first i of the list
-pub does_passing : {A : Type 0} (f : A → Step) (p : A → Bool) (xs : List A) (i : ℕ) (x : A) (a b c : NetState)
-    (fault : Option StepFault) → i < length xs → get_or xs i x ≡ x → p x ≡ true
-    → Does (Each Attempts (map f (filter p (take i xs)))) a None b → Does (Attempts (f x)) b fault c →
-    Does (Each Attempts (map f (filter p (take (i + 1) xs)))) a fault c
-does_passing {A} f p xs i x a b c fault below at passes first then =
-    let one : filter p (x ∷ []) ≡ x ∷ [] = rw passes refl in
-    let more : map f (filter p (take (i + 1) xs)) ≡ map f (filter p (take i xs)) ++ f x ∷ [] =
-    ap (λ (ys : List A). map f (filter p ys)) (take_more xs i x below ∙ ap (λ (y : A). take i xs ++ y ∷ []) at)
-    ∙ (ap (λ (ys : List A). map f ys) (filter-append p (take i xs) (x ∷ []) ∙
-    ap (λ (ys : List A). filter p (take i xs) ++ ys) one) ∙ map-append f (filter p (take i xs)) (x ∷ [])) in
-    subst (λ (steps : List Step). Does (Each Attempts steps) a fault c) (sym more)
-    (does_more Attempts (map f (filter p (take i xs))) (f x) a b c fault first then)
-
-pub does_failing : {A : Type 0} (f : A → Step) (p : A → Bool) (xs : List A) (i : ℕ) (x : A) (a b : NetState) →
-    i < length xs → get_or xs i x ≡ x → p x ≡ false
-    → Does (Each Attempts (map f (filter p (take i xs)))) a None b →
-    Does (Each Attempts (map f (filter p (take (i + 1) xs)))) a None b
-does_failing {A} f p xs i x a b below at fails first =
-    let none : filter p (x ∷ []) ≡ [] = rw fails refl in
-    let same : map f (filter p (take (i + 1) xs)) ≡ map f (filter p (take i xs)) =
-    ap (λ (ys : List A). map f (filter p ys)) (take_more xs i x below ∙ ap (λ (y : A). take i xs ++ y ∷ []) at)
-    ∙ ap (λ (ys : List A). map f ys) (filter-append p (take i xs) (x ∷ []) ∙
-    (ap (λ (ys : List A). filter p (take i xs) ++ ys) none ∙ append-nil (filter p (take i xs)))) in
-    subst (λ (steps : List Step). Does (Each Attempts steps) a None b) (sym same) first
-
--- a fault in the first i ends the whole
-pub does_part : {A : Type 0} (f : A → Step) (p : A → Bool) (xs : List A) (i : ℕ) (a b : NetState) (fault : StepFault)
-    → Does (Each Attempts (map f (filter p (take i xs)))) a (Some fault) b →
-    Does (Each Attempts (map f (filter p xs))) a (Some fault) b
-does_part {A} f p xs i a b fault first =
-    let parts : map f (filter p xs) ≡ map f (filter p (take i xs)) ++ map f (filter p (drop i xs)) =
-    ap (λ (ys : List A). map f (filter p ys)) (sym (take-append-drop i xs)) ∙
-    (ap (λ (ys : List A). map f ys) (filter-append p (take i xs) (drop i xs)) ∙
-    map-append f (filter p (take i xs)) (filter p (drop i xs))) in
-    record {
-      exact =
-          subst (λ (steps : List Step). Each Attempts steps a (Some fault) b) (sym parts)
-          (each_cut Attempts (map f (filter p (take i xs))) (map f (filter p (drop i xs))) a b
-          (Some fault) refl first.exact);
-      reaches = first.reaches;
-    }
 
 -- one turn more
 pub turns_more : (script : List Entry) (n : ℕ) (a b c : NetState) (fault : Option StepFault) →

@@ -1,19 +1,20 @@
 -- The parts of a node's turn, as its calls make them.
-use Rattle.std.proofs.Common.{◌≡◌, ℕ, zero, suc, Bool, nat_lt, ◌≤◌, inl, inr, ◌+◌, ◌*◌, ◌<◌, ◌==◌, true, false, eq-eqb}
-use Rattle.std.proofs.Common.{get_or, take, map, List, [], ◌∷◌, ◌++◌, slice_set, length, Option, Some, None, refl}
+use Rattle.std.proofs.Common.{◌≡◌, ℕ, zero, suc, Bool, nat_lt, ◌≤◌, inl, inr, ◌+◌, ◌*◌, ◌<◌, ◌==◌, true, false}
+use Rattle.std.proofs.Common.{get_or, drop, take, map, List, [], ◌∷◌, ◌++◌, slice_set, length, Option, Some, None, refl}
 use Rattle.std.proofs.Common.{arith, ap, sym, subst, ◌∙◌}
+use Rattle.std.proofs.lemmas.Bool.{eqb-true}
 use Rattle.std.proofs.lemmas.Bool.Decides.{nat_tests}
-use Rattle.std.proofs.lemmas.List.{get_or-map, take_all, take_more}
-use Rattle.std.proofs.lemmas.List.Elements.{filter-append}
+use Rattle.std.proofs.lemmas.List.{get_or-map, take_more}
+use Rattle.std.proofs.lemmas.List.Elements.{All-head, filter-append, filter_passes}
 use Rattle.std.specs.Prelude.{Result, option_map, filter, slice_index, slice_index_or, IfSome, IfNone}
-use Rattle.std.specs.List.{range_with_len, find}
+use Rattle.std.specs.List.{All, range_with_len, find}
 use Rattle.std.specs.Option.{option_to_list}
 use Rattle.worm_router.specs.Router.{RouterState, width, input_at}
 use Rattle.worm_router.specs.Allocation.{switch_grants}
 use Rattle.worm_swalloc.specs.SwAlloc.{AreGranted}
 use Rattle.worm_swalloc.specs.declared.grant.SwGrant.{SwGrant}
 use Rattle.worm_theory.specs.Steps.{Step, Send, GiveCredit}
-use Rattle.worm_script.specs.Script.{begun_at, lane_of, sources_of}
+use Rattle.worm_script.specs.Script.{IsNext, begun_at, lane_of, sources_of}
 use Rattle.worm_region.specs.State.{NetState, router_at}
 use Rattle.worm_region.specs.Replies.{Attempts, Replies}
 use Rattle.worm_region.specs.Turns.{Each, Does, Passage, Reaches, ReachesAt, Allocates, ask, fault_of, granted_send}
@@ -24,10 +25,9 @@ use Rattle.worm_script.specs.declared.script.Entry.{Entry}
 use Rattle.worm_region.specs.declared.step.Moved.{Moved}
 use Rattle.worm_region.specs.declared.fault.StepFault.{StepFault}
 use Rattle.worm_theory.proofs.Places.{number_cases}
-use Rattle.worm_region.proofs.ReachedBySteps.{joined}
+use Rattle.worm_region.proofs.ReachedBySteps.{joined, reached}
 use Rattle.worm_region.proofs.StaysAtNode.{asks_at}
-use Rattle.worm_region.proofs.Passages.{each_flat, does_quietly, does_try, does_more, does_nothing, does_passing}
-use Rattle.worm_region.proofs.Passages.{does_failing, does_part}
+use Rattle.worm_region.proofs.Passages.{each_flat, does_quietly, does_try, does_more, does_nothing}
 
 -- a credit of the lowest channel that owes one is given; or none owes one
 
@@ -54,7 +54,102 @@ gives_none x p a is = gives_by x p None a a is (does_nothing a)
 -- the source is asked what each entry asks whose lane begins at the node
 
 abbrev asked : ℕ → List Entry → List Step
-asked x entries = map (λ (e : Entry). ask x e.act) (filter (λ (e : Entry). (lane_of e.act).src == x) entries)
+asked x entries = map (λ (e : Entry). ask x e.act) (begun_at x entries)
+
+-- the source was asked for the entries before a place, and this is the next one that is for it: who asks for those from
+-- the place on has asked for all
+pub record Asked (x : ℕ) (entries : List Entry) (next : Option ℕ) (a b : NetState) : Type 0 where
+  place : ℕ
+  left : IsNext x entries place next
+  whole : (c : NetState) (fault : Option StepFault) → Each Attempts (asked x (drop place entries)) b fault c →
+      Each Attempts (asked x entries) a fault c
+  reaches : Reaches a b
+
+pub asks_first : (x : ℕ) (entries : List Entry) (next : Option ℕ) (a : NetState) → IsNext x entries 0 next →
+    Asked x entries next a a
+asks_first x entries next a is =
+    record { place = 0; left = is; whole = λ c fault made. made; reaches = reached a }
+
+pub asks_within : (x : ℕ) (entries : List Entry) (i : ℕ) (a b : NetState) → Asked x entries (Some i) a b →
+    i < length entries
+asks_within x entries i a b so_far = so_far.left.0
+
+-- the next one is for the source, so what comes next of the source that it asks comes next for this one
+pub next_left : (x : ℕ) (entries : List Entry) (i : ℕ) (e : Entry) (a b : NetState) (next : Option ℕ) →
+    Asked x entries (Some i) a b → IsNext (slice_index (sources_of entries) i) entries (i + 1) next →
+    IsNext x entries (i + 1) next
+next_left x entries i e a b next so_far is =
+    let source_of : Entry → ℕ = λ (e : Entry). (lane_of e.act).src in
+    let begins : Entry → Bool = λ (e : Entry). source_of e == x in
+    let here = get_or entries i e in
+    let own : begins here ≡ true = All-head (λ (e : Entry). begins e ≡ true) here (begun_at x (drop (i + 1) entries))
+    (subst (λ (es : List Entry). All (λ (e : Entry). begins e ≡ true) es) (so_far.left.1 e)
+    (filter_passes begins (drop so_far.place entries))) in
+    let source : slice_index (sources_of entries) i ≡ x =
+    get_or-map source_of entries i e 0 so_far.left.0 ∙ eqb-true (source_of here) x own in
+    subst (λ (y : ℕ). IsNext y entries (i + 1) next) source is
+
+-- how many entries for the source there are from the next one on
+abbrev pub how_many_left : ℕ → List Entry → Option ℕ → ℕ
+how_many_left x entries None = 0
+how_many_left x entries (Some i) = length (begun_at x (drop (i + 1) entries)) + 1
+
+pub fewer_left : (x : ℕ) (entries : List Entry) (i : ℕ) (e : Entry) (next : Option ℕ) → IsNext x entries (i + 1) next →
+    how_many_left x entries next < how_many_left x entries (Some i)
+fewer_left x entries i e None is = omega arith
+fewer_left x entries i e (Some j) is = let count = ap length (is.1 e) in omega arith
+
+-- who asks for the next one, and then for those behind it, asks for all that are left
+asks_on : (x : ℕ) (entries : List Entry) (i : ℕ) (e : Entry) (a b c : NetState) (fault : Option StepFault) →
+    Asked x entries (Some i) a b → get_or entries i e ≡ e →
+    (Attempts (ask x e.act) and_then Each Attempts (asked x (drop (i + 1) entries))) b fault c →
+    Each Attempts (asked x entries) a fault c
+asks_on x entries i e a b c fault so_far at made =
+    let behind = begun_at x (drop (i + 1) entries) in
+    let from_here : begun_at x (drop so_far.place entries) ≡ e ∷ behind =
+    so_far.left.1 e ∙ ap (λ (y : Entry). y ∷ behind) at in
+    so_far.whole c fault (subst (λ (es : List Entry). Each Attempts (map (λ (e : Entry). ask x e.act) es) b fault c)
+    (sym from_here) made)
+
+pub asks_more : (x : ℕ) (entries : List Entry) (i : ℕ) (e : Entry) (next : Option ℕ) (a b c : NetState)
+    (answer : Result Moved StepFault) → Asked x entries (Some i) a b → get_or entries i e ≡ e →
+    Replies b (ask x e.act) answer c → None ≡ fault_of answer → IsNext x entries (i + 1) next →
+    Asked x entries next a c
+asks_more x entries i e next a b c answer so_far at answered ends is =
+    let one = does_try b c (ask x e.act) answer None answered ends in
+    record {
+      place = i + 1;
+      left = is;
+      whole = λ d fault made. asks_on x entries i e a b d fault so_far at (inr (c, one.exact, made));
+      reaches = joined a b c so_far.reaches one.reaches;
+    }
+
+asks_source : (x : ℕ) (entries : List Entry) (a b : NetState) (fault : Option StepFault) →
+    Each Attempts (asked x entries) a fault b → Reaches a b →
+    Does (AsksSourceBy Attempts entries x) a fault b × ReachesAt x a b
+asks_source x entries a b fault made reaches =
+    (record { exact = made; reaches = reaches }, asks_at x entries a b fault made)
+
+-- up to a fault
+pub asks_until : (x : ℕ) (entries : List Entry) (i : ℕ) (e : Entry) (a b c : NetState)
+    (answer : Result Moved StepFault) (fault : StepFault) → Asked x entries (Some i) a b → get_or entries i e ≡ e →
+    Replies b (ask x e.act) answer c → Some fault ≡ fault_of answer →
+    Does (AsksSourceBy Attempts entries x) a (Some fault) c × ReachesAt x a c
+asks_until x entries i e a b c answer fault so_far at answered ends =
+    let one = does_try b c (ask x e.act) answer (Some fault) answered ends in
+    asks_source x entries a c (Some fault)
+    (asks_on x entries i e a b c (Some fault) so_far at (inl (refl, one.exact)))
+    (joined a b c so_far.reaches one.reaches)
+
+-- or all of them
+pub asks_all : (x : ℕ) (entries : List Entry) (a b : NetState) → Asked x entries None a b →
+    Does (AsksSourceBy Attempts entries x) a None b × ReachesAt x a b
+asks_all x entries a b so_far =
+    asks_source x entries a b None
+    (so_far.whole b None (subst (λ (es : List Entry). Each Attempts (map (λ (e : Entry). ask x e.act) es) b None b)
+    (sym so_far.left) (refl, refl))) so_far.reaches
+
+-- an entry more that is not for the source
 
 differ : (a b : ℕ) → (a ≡ b → ⊥) → (a == b) ≡ false
 differ a b away = grind arith
@@ -71,59 +166,6 @@ source_beside entries i source e below at is =
     let source_of : Entry → ℕ = λ (e : Entry). (lane_of e.act).src in
     is ∙ (get_or-map source_of entries i e 0 below ∙ ap source_of at)
 
-pub asks_more : (x : ℕ) (entries : List Entry) (i source : ℕ) (e : Entry) (a b c : NetState)
-    (answer : Result Moved StepFault) (fault : Option StepFault) → i < length entries → get_or entries i e ≡ e →
-    source ≡ slice_index (sources_of entries) i → source ≡ x
-    → Does (Each Attempts (asked x (take i entries))) a None b → Replies b (ask x e.act) answer c →
-    fault ≡ fault_of answer → Does (Each Attempts (asked x (take (i + 1) entries))) a fault c
-asks_more x entries i source e a b c answer fault below at is for_it done answered ends =
-    does_passing (λ (e : Entry). ask x e.act) (λ (e : Entry). (lane_of e.act).src == x) entries i e a b c fault below at
-    (eq-eqb (lane_of e.act).src x (sym (source_beside entries i source e below at is) ∙ for_it)) done
-    (does_try b c (ask x e.act) answer fault answered ends)
-
-pub asks_same : (x : ℕ) (entries : List Entry) (i source : ℕ) (a b : NetState) → i < length entries →
-    source ≡ slice_index (sources_of entries) i → (source ≡ x → ⊥)
-    → Does (Each Attempts (asked x (take i entries))) a None b →
-    Does (Each Attempts (asked x (take (i + 1) entries))) a None b
-asks_same x entries i source a b below is away done =
-    let here = some_entry entries i below in
-    does_failing (λ (e : Entry). ask x e.act) (λ (e : Entry). (lane_of e.act).src == x) entries i here.0 a b below
-    here.1 (differ (lane_of here.0.act).src x (λ same. away (source_beside entries i source here.0 below here.1 is
-    ∙ same))) done
-
-pub asks_part : (x : ℕ) (entries : List Entry) (i : ℕ) (a b : NetState) (fault : StepFault) →
-    Does (Each Attempts (asked x (take i entries))) a (Some fault) b →
-    Does (AsksSourceBy Attempts entries x) a (Some fault) b
-asks_part x entries i a b fault done =
-    let whole =
-    does_part (λ (e : Entry). ask x e.act) (λ (e : Entry). (lane_of e.act).src == x) entries i a b fault done in
-    record { exact = whole.exact; reaches = whole.reaches }
-
--- up to a fault
-pub asks_until : (x : ℕ) (entries : List Entry) (i source : ℕ) (e : Entry) (a b c : NetState)
-    (answer : Result Moved StepFault) (fault : StepFault) → i < length entries → get_or entries i e ≡ e →
-    source ≡ slice_index (sources_of entries) i → source ≡ x
-    → Does (Each Attempts (asked x (take i entries))) a None b → Replies b (ask x e.act) answer c →
-    Some fault ≡ fault_of answer
-    → Does (AsksSourceBy Attempts entries x) a (Some fault) c × ReachesAt x a c
-asks_until x entries i source e a b c answer fault below at is for_it done answered ends =
-    let whole = asks_part x entries (i + 1) a c fault
-    (asks_more x entries i source e a b c answer (Some fault) below at is for_it done answered ends) in
-    (whole, asks_at x entries a c (Some fault) whole.exact)
-
--- or all of them
-pub asks_all : (x : ℕ) (entries : List Entry) (i : ℕ) (a b : NetState) → length entries ≤ i
-    → Does (Each Attempts (asked x (take i entries))) a None b
-    → Does (AsksSourceBy Attempts entries x) a None b × ReachesAt x a b
-asks_all x entries i a b past done =
-    let all : take i entries ≡ entries = take_all i entries past in
-    let whole : Does (AsksSourceBy Attempts entries x) a None b = record {
-      exact = subst (λ (es : List Entry). Each Attempts (asked x es) a None b) all done.exact;
-      reaches = done.reaches;
-    } in
-    (whole, asks_at x entries a b None whole.exact)
-
--- an entry more that is not for the source
 pub begun_same : (x : ℕ) (entries : List Entry) (i source : ℕ) → i < length entries →
     source ≡ slice_index (sources_of entries) i → (source ≡ x → ⊥)
     → begun_at x (take i entries) ≡ [] → begun_at x (take (i + 1) entries) ≡ []

@@ -77,10 +77,10 @@ impl Region {
         ensures does { Does (AsksSourceBy Attempts entries.now node) self.old (result_err result) self.new }
         ensures at_node { ReachesAt node self.old self.new }
     {
-        for i in 0..entries.len() {
-            if entries.source(i) == node {
-                tried(self.ask(node, &entries.entry(i).act))?;
-            }
+        let mut next = entries.first_of(node);
+        while let Some(i) = next {
+            tried(self.ask(node, &entries.entry(i).act))?;
+            next = entries.next_of(i);
         }
         Ok(())
     }

@@ -1,1 +1,5 @@
 pub mod DueEntries
+pub mod NextOfSource
+pub mod GapsOfPart
+pub mod GapsLinked
+pub mod ScriptKept

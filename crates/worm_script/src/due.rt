@@ -1,38 +1,39 @@
-ghost use Rattle.std.specs.Prelude.{◌≡◌, ◌<◌, ◌==◌, length, slice_index, slice_index_or};
-ghost use Rattle.worm_script.specs.Script.{sources_of};
+ghost use Rattle.std.specs.Prelude.{◌≡◌, ◌<◌, ◌==◌, ◌+◌, length, slice_index, slice_index_or};
+ghost use Rattle.worm_script.specs.Script.{AreGaps, IsNext, sources_of};
 ghost use Rattle.worm_script.specs.declared.script.Entry.{Entry};
 
 use crate::script::Entry;
 use std::marker::Model;
 
-/// The entries of a turn, in order. The node of the source that each asks stands beside it, one byte each, so that who
-/// looks for those of one node goes over these bytes, and not over the entries.
+/// The entries of a turn, in order. From each the next is known that asks the same source, so that nobody looks through
+/// those of other nodes.
 #[derive(Drop)]
 pub struct Due<'a> {
     entries: &'a [Entry],
-    /// The source of each of them, in the same order.
-    sources: &'a [u8],
+    /// From each of them, how many places on the next one stands that asks the same source: 0, or past them all, where
+    /// none does.
+    gaps: &'a [usize],
 }
 
 impl<'a> Model for Due<'a> {
-    ghost use Rattle.std.specs.Prelude.{◌≡◌, List};
-    ghost use Rattle.worm_script.specs.Script.{sources_of};
+    ghost use Rattle.std.specs.Prelude.{List};
+    ghost use Rattle.worm_script.specs.Script.{AreGaps, sources_of};
     ghost use Rattle.worm_script.specs.declared.script.Entry.{Entry};
 
     ghost Value = { List Entry };
 
     ghost view = { λ d. d.entries.now };
 
-    ghost invariant = { λ d. d.sources.now ≡ sources_of d.entries.now };
+    ghost invariant = { λ d. AreGaps (sources_of d.entries.now) d.gaps.now };
 }
 
 impl<'a> Due<'a> {
-    /// These entries, whose sources these are.
-    pub(crate) fn new(entries: &'a [Entry], sources: &'a [u8]) -> Due<'a>
-        requires { sources.now ≡ sources_of entries.now }
+    /// These entries, from each of which so many places on the next one stands that asks the same source.
+    pub(crate) fn new(entries: &'a [Entry], gaps: &'a [usize]) -> Due<'a>
+        requires { AreGaps (sources_of entries.now) gaps.now }
         ensures { result ≡ entries.now }
     {
-        Due { entries, sources }
+        Due { entries, gaps }
     }
 
     /// The entries, in order.
@@ -70,6 +71,34 @@ impl<'a> Due<'a> {
         requires { i < length self.now }
         ensures { result ≡ slice_index (sources_of self.now) i }
     {
-        self.sources[i]
+        self.entry(i).act.lane().src
+    }
+
+    /// The place of the first entry that asks this node's source.
+    pub fn first_of(&self, node: u8) -> Option<usize>
+        ensures { IsNext node self.now 0 result }
+    {
+        let entries = self.entries;
+        for i in 0..entries.len() {
+            if entries[i].act.lane().src == node {
+                return Some(i);
+            }
+        }
+        None
+    }
+
+    /// The place of the next entry that asks the source that the one at this place asks.
+    pub fn next_of(&self, i: usize) -> Option<usize>
+        requires { i < length self.now }
+        ensures { IsNext (slice_index (sources_of self.now) i) self.now (i + 1) result }
+    {
+        let gaps = self.gaps;
+        let gap = gaps[i];
+        // So it cannot overflow, whatever the gap.
+        if gap != 0 && gap < self.entries.len() - i {
+            Some(i + gap)
+        } else {
+            None
+        }
     }
 }

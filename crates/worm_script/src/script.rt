@@ -1,4 +1,5 @@
-ghost use Rattle.std.specs.Prelude.{◌≡◌, ◌<◌, ◌≤◌, ◌↔◌, ◌++◌, ◌∷◌, [], IsTrue, OnOk, OnErr, length, slice_range};
+ghost use Rattle.std.specs.Prelude.{◌≡◌, ◌<◌, ◌≤◌, ◌-◌, ◌↔◌, ◌++◌, ◌∷◌, [], IsTrue, OnOk, OnErr, length};
+ghost use Rattle.std.specs.Prelude.{slice_range, slice_set};
 ghost use Rattle.worm_script.specs.Script.{AreInOrder, due, lane_of, last_turn};
 
 use crate::due::Due;
@@ -49,8 +50,10 @@ pub enum ScriptFault {
 #[derive(Debug, Drop)]
 pub struct Script {
     entries: Vec<Entry>,
-    /// The node of the source that each entry asks, in the same order.
-    sources: Vec<u8>,
+    /// From each entry, how many places on the next one stands that asks the same source: 0 where none does.
+    gaps: Vec<usize>,
+    /// By node, how many entries there are up to the last one that asks its source: 0 where none does.
+    lasts: [usize; 256],
 }
 
 impl Model for Script {
@@ -62,7 +65,7 @@ impl Model for Script {
 
     ghost view = { λ s. s.entries.items };
 
-    ghost invariant = { λ s. IsScript s.entries.items s.sources.items };
+    ghost invariant = { λ s. IsScript s.entries.items s.gaps.items s.lasts };
 }
 
 /// Where the entries of a turn begin, and where those of later turns.
@@ -77,6 +80,18 @@ fn due_places(entries: &[Entry], turn: u64) -> (usize, usize)
     (first, next)
 }
 
+/// Leads from the last entry of a source, if it has one, to the entry at the end.
+fn lead_to_end(gaps: &mut Vec<usize>, last: usize)
+    requires { last ≤ length gaps.old.items }
+    ensures none { last ≡ 0 → gaps.new.items ≡ gaps.old.items }
+    ensures some { 0 < last → gaps.new.items ≡ slice_set gaps.old.items (last - 1) (length gaps.old.items - last) }
+{
+    if last > 0 {
+        let count = gaps.len();
+        gaps[last - 1] = count - last;
+    }
+}
+
 impl Script {
     /// A script with no entry.
     pub fn empty(alloc: Global) -> Script
@@ -84,7 +99,8 @@ impl Script {
     {
         Script {
             entries: Vec::new(alloc),
-            sources: Vec::new(alloc),
+            gaps: Vec::new(alloc),
+            lasts: [0; 256],
         }
     }
 
@@ -102,14 +118,16 @@ impl Script {
         if entry.turn < last {
             return Err(ScriptFault::TurnFalls);
         }
-        if self.sources.reserve(1).is_err() {
+        if self.gaps.reserve(1).is_err() {
             return Err(ScriptFault::NoMemory);
         }
-        let source = entry.act.lane().src;
+        let source = usize::from(entry.act.lane().src);
         if self.entries.push(entry).is_err() {
             return Err(ScriptFault::NoMemory);
         }
-        let _ = self.sources.push(source);
+        let _ = self.gaps.push(0);
+        lead_to_end(&mut self.gaps, self.lasts[source]);
+        self.lasts[source] = self.entries.len();
         Ok(())
     }
 
@@ -131,13 +149,13 @@ impl Script {
         }
     }
 
-    /// The entries between two places, with their sources.
+    /// The entries between two places, each with where the next stands.
     fn between(&self, first: usize, next: usize) -> Due<'_>
         requires rise { first ≤ next }
         requires within { next ≤ length self.now }
         ensures { result ≡ slice_range self.now first next }
     {
-        Due::new(&self.entries[first..next], &self.sources[first..next])
+        Due::new(&self.entries[first..next], &self.gaps[first..next])
     }
 
     /// The entries of a turn, in order.

@@ -1,19 +1,18 @@
-use Rattle.std.proofs.Common.{◌≡◌, ◌-◌, ◌∙◌, List, ℕ, ap, sym, take, drop}
-use Rattle.std.proofs.lemmas.List.{drop-map, take-map}
-use Rattle.worm_script.specs.Script.{lane_of, sources_of}
+use Rattle.std.proofs.Common.{◌≡◌, ◌≤◌, ◌∙◌, List, ap, arith, length, subst, sym}
+use Rattle.worm_script.specs.Script.{sources_of, AreGaps}
 use Rattle.worm_script.specs.declared.script.Entry.{Entry}
+use Rattle.worm_script.proofs.GapsOfPart.{gaps_between}
+use Rattle.worm_script.proofs.NextOfSource.{as_many}
 use Rattle.worm_script.proofs.script.Script.between.Goals as goal
-
--- what stands beside a part of the entries is the part of what stands beside them
-of_part : (entries : List Entry) (from count : ℕ) →
-    take count (drop from (sources_of entries)) ≡ sources_of (take count (drop from entries))
-of_part entries from count =
-    let source_of : Entry → ℕ = λ (e : Entry). (lane_of e.act).src in
-    ap (λ (ss : List ℕ). take count ss) (drop-map source_of from entries) ∙ take-map source_of count (drop from entries)
 
 pub new-requires : goal.new-requires
 new-requires c =
-    let count = c.args.next - c.args.first in
-    let sources : c.deref-2.result.now ≡ sources_of c.deref.result.now =
-    c.deref-2.ensures.value ∙ (c.self.invariant.beside ∙ ap sources_of (sym c.deref.ensures.value)) in
-    ap (λ (ss : List ℕ). take count (drop c.args.first ss)) sources ∙ of_part c.deref.result.now c.args.first count
+    let entries = c.deref.result.now in
+    let same : entries ≡ c.args.self.now = c.deref.ensures.value ∙ c.self.view_is in
+    let many = as_many entries in
+    let long : length entries ≡ length c.args.self.now = ap (length {A = Entry}) same in
+    let within : c.args.next ≤ length (sources_of entries) = omega arith in
+    let gaps : AreGaps (sources_of entries) c.deref-2.result.now =
+    subst (λ (es : List Entry). AreGaps (sources_of es) c.deref-2.result.now) (sym c.deref.ensures.value)
+    (subst (AreGaps (sources_of c.self.inside.entries.items)) (sym c.deref-2.ensures.value) c.self.invariant.nexts) in
+    gaps_between entries c.deref-2.result.now c.args.first c.args.next c.requires.rise within gaps
