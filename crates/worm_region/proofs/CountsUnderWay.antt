@@ -1,6 +1,6 @@
--- A change of one node changes the count of flits under way by what it accepts and takes, and leaves just that node out
--- of those kept as still.
-use Rattle.std.proofs.Common.{◌≡◌, ℕ, ◌+◌, ◌++◌, ◌∷◌, [], ◌<◌, Bool, true, false, List, length, set, get_or, Option}
+-- A change of one node, but for its source, changes the count of flits under way by what its sink takes; where the
+-- source is lent the count is given up. Either leaves just that node out of those kept as still.
+use Rattle.std.proofs.Common.{◌≡◌, ℕ, ◌+◌, ◌∷◌, [], ◌<◌, Bool, true, false, List, length, set, get_or, Option}
 use Rattle.std.proofs.Common.{Some, None, inl, inr, arith, ap, refl, ◌∙◌, length-append}
 use Rattle.std.specs.Prelude.{if◌then◌else◌}
 use Rattle.std.specs.List.{sum_by}
@@ -8,11 +8,8 @@ use Rattle.std.proofs.lemmas.List.{set_past}
 use Rattle.std.proofs.lemmas.List.Sums.{sum_by-set}
 use Rattle.std.proofs.lemmas.Bool.{cases_lt}
 use Rattle.worm_flit.specs.declared.Flit.{Flit}
-use Rattle.worm_flit.specs.declared.Lane.{Lane}
-use Rattle.worm_flit.specs.Packets.{PacketState, mark, packet_flits}
-use Rattle.worm_flit.proofs.Packets.{length-packet_flits}
 use Rattle.worm_term.specs.Queue.{QueueState, empty_queue, one_fed}
-use Rattle.worm_term.specs.Source.{SourceState, after_close, after_offer, next_number, queue_at}
+use Rattle.worm_term.specs.Source.{queue_at}
 use Rattle.worm_router.specs.Router.{RouterState}
 use Rattle.worm_region.specs.Moves.{delivered_node, fed_node}
 use Rattle.worm_region.specs.Resting.{KnowsResting}
@@ -37,27 +34,6 @@ sum_same f xs i y d e = elim (cases_lt i (length xs)) [
 ]
 
 -- what the operations of a node accept and take
-
-pub offered_more : (n : Node) (p : PacketState) → p.lane.class < length n.source.queues
-    → accepted_by (record n { source = after_offer n.source p }) ≡ accepted_by n + length p.words
-unfolding accepted_by
-offered_more n p there =
-    let q = queue_at n.source p.lane.class in
-    let flits = packet_flits p.lane (next_number n.source p.lane) p.words in
-    let grown = length-append q.injected flits in
-    let count = length-packet_flits p.lane (next_number n.source p.lane) p.words in
-    sum_more (λ (q : QueueState). length q.injected) n.source.queues p.lane.class (length p.words)
-    (record q { injected = q.injected ++ flits }) empty_queue there (omega arith)
-
-pub closed_more : (n : Node) (lane : Lane) → lane.class < length n.source.queues
-    → accepted_by (record n { source = after_close n.source lane }) ≡ accepted_by n + 1
-unfolding accepted_by
-closed_more n lane there =
-    let q = queue_at n.source lane.class in
-    let flits = mark lane (next_number n.source lane) ∷ [] in
-    let grown = length-append q.injected flits in
-    sum_more (λ (q : QueueState). length q.injected) n.source.queues lane.class 1
-    (record q { injected = q.injected ++ flits }) empty_queue there grown
 
 pub fed_same : (n : Node) (k : ℕ) (o : Option Flit)
     → (accepted_by (fed_node n k o) ≡ accepted_by n) × (taken_by (fed_node n k o) ≡ taken_by n)
@@ -85,10 +61,6 @@ pub routed_same : (n : Node) (r : RouterState)
 unfolding accepted_by taken_by
 routed_same n r = (refl, refl)
 
-pub sources_same : (n : Node) (t : SourceState) → taken_by (record n { source = t }) ≡ taken_by n
-unfolding taken_by
-sources_same n t = refl
-
 -- a place where false was written has false, there or past the end
 left_out : (kept : List Bool) (x : ℕ) → get_or (set kept x false) x false ≡ false
 left_out kept x = elim (cases_lt x (length kept)) [
@@ -112,9 +84,9 @@ touched nodes kept x n known = λ y there still. elim (number_cases y x) [
 module _ (nodes : List Node) (kept : List Bool) (count : Option ℕ) (i j x : ℕ) (n m : Node)
     (knows : KnowsResting nodes kept × IsUnderWay (accepted_in nodes) (taken_in nodes) count) (at_i : i ≡ x)
     (at_j : j ≡ x) (there : x < length nodes) (read : n ≡ get_or nodes j n) where
-  accepted_new : (a : ℕ) → accepted_by m ≡ accepted_by n + a → accepted_in (set nodes j m) ≡ accepted_in nodes + a
+  accepted_same : accepted_by m ≡ accepted_by n → accepted_in (set nodes j m) ≡ accepted_in nodes
   unfolding accepted_in
-  accepted_new a e = sum_more accepted_by nodes j a m n (omega arith) (e ∙ ap (λ (k : Node). accepted_by k + a) read)
+  accepted_same same = sum_same accepted_by nodes j m n (same ∙ ap accepted_by read)
 
   taken_new : (t : ℕ) → taken_by m ≡ taken_by n + t → taken_in (set nodes j m) ≡ taken_in nodes + t
   unfolding taken_in
@@ -123,28 +95,23 @@ module _ (nodes : List Node) (kept : List Bool) (count : Option ℕ) (i j x : �
   still_new : KnowsResting (set nodes j m) (set kept i false)
   still_new = rw (at_i, at_j) (touched nodes kept x m knows.0)
 
-  pub accepts : (a : ℕ) (new_count : Option ℕ) → accepted_by m ≡ accepted_by n + a → taken_by m ≡ taken_by n
-      → ((accepted taken : ℕ) → IsUnderWay accepted taken count → IsUnderWay (accepted + a) taken new_count)
-      → KnowsResting (set nodes j m) (set kept i false)
-      × IsUnderWay (accepted_in (set nodes j m)) (taken_in (set nodes j m)) new_count
-  accepts a new_count more same counts =
-      let taken : taken_in (set nodes j m) ≡ taken_in nodes = taken_new 0 (same ∙ omega arith) ∙ omega arith in
-      (still_new, rw (accepted_new a more, taken) (counts (accepted_in nodes) (taken_in nodes) knows.1))
+  -- where the count is given up nothing is to be shown of it
+  pub uncounted : KnowsResting (set nodes j m) (set kept i false)
+      × IsUnderWay (accepted_in (set nodes j m)) (taken_in (set nodes j m)) None
+  uncounted = (still_new, tt)
 
   pub takes : (new_count : Option ℕ) → accepted_by m ≡ accepted_by n → taken_by m ≡ taken_by n + 1
       → ((accepted taken : ℕ) → IsUnderWay accepted taken count → IsUnderWay accepted (taken + 1) new_count)
       → KnowsResting (set nodes j m) (set kept i false)
       × IsUnderWay (accepted_in (set nodes j m)) (taken_in (set nodes j m)) new_count
-  takes new_count same more counts =
-      let accepted : accepted_in (set nodes j m) ≡ accepted_in nodes =
-      accepted_new 0 (same ∙ omega arith) ∙ omega arith in
-      (still_new, rw (accepted, taken_new 1 more) (counts (accepted_in nodes) (taken_in nodes) knows.1))
+  takes new_count same more counts = (
+    still_new,
+    rw (accepted_same same, taken_new 1 more) (counts (accepted_in nodes) (taken_in nodes) knows.1),
+  )
 
   pub stays : (accepted_by m ≡ accepted_by n) × (taken_by m ≡ taken_by n)
       → KnowsResting (set nodes j m) (set kept i false)
       × IsUnderWay (accepted_in (set nodes j m)) (taken_in (set nodes j m)) count
   stays same =
-      let accepted : accepted_in (set nodes j m) ≡ accepted_in nodes =
-      accepted_new 0 (same.0 ∙ omega arith) ∙ omega arith in
       let taken : taken_in (set nodes j m) ≡ taken_in nodes = taken_new 0 (same.1 ∙ omega arith) ∙ omega arith in
-      (still_new, rw (accepted, taken) knows.1)
+      (still_new, rw (accepted_same same.0, taken) knows.1)

@@ -15,7 +15,7 @@ use Rattle.worm_theory.proofs.Places.{bool_cases, number_cases, place_cases, pla
 use Rattle.worm_theory.proofs.Bridge.{get_or-set, same_network}
 use Rattle.worm_region.specs.declared.node.Node.{Node}
 use Rattle.worm_region.specs.State.{NetState, network_of, node_at, router_at, source_at, sink_at, with_node}
-use Rattle.worm_region.specs.State.{with_router, fresh_node, input_of, output_of, link_of}
+use Rattle.worm_region.specs.State.{with_router, with_source, fresh_node, input_of, output_of, link_of}
 use Rattle.std.proofs.lemmas.List.{set-get_or}
 
 pub below_cases : (a b : ℕ) → ((nat_lt a b ≡ true) × (a < b)) ⊎ ((nat_lt a b ≡ false) × (b ≤ a))
@@ -331,5 +331,10 @@ output_bridge s x o k u there place all =
 -- a node written back as it was
 pub with_router_same : (s : NetState) (x : ℕ) → x < length s.nodes → with_router s x (router_at s x) ≡ s
 with_router_same s x there =
+    ap (λ (nodes : List Node). record s { nodes = nodes })
+    (set-get_or s.nodes x (fresh_node s.mesh s.channels s.depth x))
+
+pub with_source_same : (s : NetState) (x : ℕ) → x < length s.nodes → with_source s x (source_at s x) ≡ s
+with_source_same s x there =
     ap (λ (nodes : List Node). record s { nodes = nodes })
     (set-get_or s.nodes x (fresh_node s.mesh s.channels s.depth x))

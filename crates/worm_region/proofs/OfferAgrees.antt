@@ -3,7 +3,7 @@
 use Rattle.std.proofs.Common.{◌≡◌, ℕ, ◌+◌, ◌*◌, ◌<◌, ◌≤◌, ◌==◌, nat_le, nat_lt, ◌&&◌, Bool, true, false, inl, inr}
 use Rattle.std.proofs.Common.{List, [], ◌∷◌, ◌++◌, length, drop, Ok, Err, Option, Some, None, refl, arith, ap, sym}
 use Rattle.std.proofs.Common.{subst, ◌∙◌}
-use Rattle.std.specs.Prelude.{slice_index, slice_set, Result, unwrap_or}
+use Rattle.std.specs.Prelude.{slice_index, Result, unwrap_or}
 use Rattle.std.proofs.lemmas.List.{drop-append-le}
 use Rattle.worm_flit.specs.declared.Lane.{Lane}
 use Rattle.worm_flit.specs.declared.Flit.{Flit}
@@ -25,9 +25,7 @@ use Rattle.worm_theory.specs.Network.{Network, put2, put3}
 use Rattle.worm_theory.specs.Steps.{Step, Offer, CloseLane, IsThere, Enabled, Accepts, after, offered, packets_in}
 use Rattle.worm_theory.specs.Steps.{has_mark, lane_injected, next_number}
 use Rattle.worm_mesh.specs.Address.{node_count}
-use Rattle.worm_region.specs.Resting.{nth_node, put_source}
 use Rattle.worm_region.specs.Shape.{net_shape}
-use Rattle.worm_region.specs.declared.node.Node.{Node}
 use Rattle.worm_region.specs.declared.step.Moved.{Moved}
 use Rattle.worm_region.specs.declared.step.Moved.TheVariants.{Done}
 use Rattle.worm_region.specs.declared.fault.StepFault.{StepFault}
@@ -38,8 +36,8 @@ use Rattle.worm_region.specs.Workable.{IsWorkableBy}
 use Rattle.worm_region.specs.Moves.{done_step}
 use Rattle.worm_region.specs.Replies.{Hindered, Replies}
 use Rattle.worm_region.specs.Answers.{accepted_of, refusal_of, Grows}
-use Rattle.worm_region.proofs.NodeWritten.{put2_same, put3_same, node_bridge, itself3, below_cases}
-use Rattle.worm_region.proofs.FrameKept.{is_nth, kept, node_framed}
+use Rattle.worm_region.proofs.NodeWritten.{put2_same, put3_same, node_bridge, itself3, below_cases, with_source_same}
+use Rattle.worm_region.proofs.FrameKept.{kept, node_framed}
 use Rattle.worm_region.proofs.Sources.{counted_packets, queue_grown, within_grown, none_refused, refuses_none}
 use Rattle.worm_region.proofs.Sources.{refusal_named}
 
@@ -271,16 +269,16 @@ err_answers s x lane is_last step after_it {own} net there judges (Some fault) e
     subst (λ (answer : Result Moved StepFault). IsWorkableBy own s ×
     Replies s step answer s) (sym (refused_is fault named)) (net, (there, idle, judges.refuses ∙ e, refl))
 
-answers : (s : NetState) (x : ℕ) (lane : Lane) (is_last : Bool) (step : Step) (after_it nodes : List Node) →
-    {own : ℕ → Bool} → IsWorkableBy own s → IsThere (shape s) step →
-    Judges own s x lane is_last step (record s { nodes = after_it }) → (answer : Result (Unit {0}) OfferFault)
-    → IsAnswered (refusal (source_at s x) lane is_last) answer s.nodes after_it nodes
-    → Outcome own s step (accepted_of answer) (record s { nodes = nodes })
+answers : (s : NetState) (x : ℕ) (lane : Lane) (is_last : Bool) (step : Step) (after_it new : SourceState) →
+    {own : ℕ → Bool} → IsWorkableBy own s → x < length s.nodes → IsThere (shape s) step →
+    Judges own s x lane is_last step (with_source s x after_it) → (answer : Result ℕ OfferFault)
+    → IsAnswered (refusal (source_at s x) lane is_last) answer (source_at s x) after_it new
+    → Outcome own s step (accepted_of answer) (with_source s x new)
 unfolding Outcome
-answers s x lane is_last step after_it nodes {own} net there judges (Ok number) answered =
+answers s x lane is_last step after_it new {own} net x_in there judges (Ok number) answered =
     let made = judges.made answered.ok.0 in
-    subst (λ (n : List Node). IsWorkableBy own (record s { nodes = n })
-    × Replies s step (Ok Done) (record s { nodes = n })) (sym answered.ok.1) (
+    subst (λ (t : SourceState). IsWorkableBy own (with_source s x t)
+    × Replies s step (Ok Done) (with_source s x t)) (sym answered.ok.1) (
       made.0,
       record {
         there = there;
@@ -292,13 +290,14 @@ answers s x lane is_last step after_it nodes {own} net there judges (Ok number) 
         framed = made.0.framed;
       },
     )
-answers s x lane is_last step after_it nodes {own} net there judges (Err e) answered =
+answers s x lane is_last step after_it new {own} net x_in there judges (Err e) answered =
+    let same : with_source s x new ≡ s =
+    ap (λ (t : SourceState). with_source s x t) answered.err ∙ with_source_same s x x_in in
     let at : IsWorkableBy own s × Replies s step
     (accepted_of (Err (unwrap_or (refusal (source_at s x) lane is_last) NoRoom))) s =
-    err_answers s x lane is_last step (record s { nodes = after_it }) net there judges
+    err_answers s x lane is_last step (with_source s x after_it) net there judges
     (refusal (source_at s x) lane is_last) refl in
-    subst (λ (n : List Node). IsWorkableBy own (record s { nodes = n })
-    × Replies s step (accepted_of (Err e)) (record s { nodes = n })) (sym answered.err)
+    subst (λ (t : NetState). IsWorkableBy own t × Replies s step (accepted_of (Err e)) t) (sym same)
     (subst (λ (g : OfferFault). IsWorkableBy own s × Replies s step (accepted_of (Err g)) s) (sym answered.fault) at)
 
 module _ (s : NetState) (x : ℕ) {own : ℕ → Bool} (net : IsWorkableBy own s) where
@@ -389,29 +388,23 @@ module _ (s : NetState) (x : ℕ) {own : ℕ → Bool} (net : IsWorkableBy own s
       }
 
   pub offer_answers : (p : PacketState) → 1 ≤ length p.words → length p.words ≤ 32 → x < (shape s).nodes →
-      (answer : Result (Unit {0}) OfferFault) (nodes : List Node)
-      → IsAnswered (refusal (nth_node s.nodes x).source p.lane false) answer s.nodes
-      (put_source s.nodes x (after_offer (nth_node s.nodes x).source p)) nodes
-      → IsWorkableBy own (record s { nodes = nodes })
-      × Replies s (Offer x p.lane p.words) (accepted_of answer) (record s { nodes = nodes })
+      (answer : Result ℕ OfferFault) (t new : SourceState) → t ≡ source_at s x
+      → IsAnswered (refusal t p.lane false) answer t (after_offer t p) new
+      → IsWorkableBy own (with_source s x new)
+      × Replies s (Offer x p.lane p.words) (accepted_of answer) (with_source s x new)
   unfolding Outcome net_shape
-  offer_answers p some few there answer nodes answered =
-      answers s x p.lane false (Offer x p.lane p.words) (with_source s x (after_offer (source_at s x) p)).nodes nodes
-      net there (offer_judges p some few there) answer
-      (subst (λ (n : Node). IsAnswered (refusal n.source p.lane false) answer s.nodes
-      (slice_set s.nodes x (record n { source = after_offer n.source p })) nodes)
-      (is_nth s x net.framed there) answered)
+  offer_answers p some few there answer t new is answered =
+      answers s x p.lane false (Offer x p.lane p.words) (after_offer (source_at s x) p) new
+      net (node_in there) there (offer_judges p some few there) answer
+      (subst (λ (u : SourceState). IsAnswered (refusal u p.lane false) answer u (after_offer u p) new) is answered)
 
-  pub close_answers : (lane : Lane) → x < (shape s).nodes → (answer : Result (Unit {0}) OfferFault)
-      (nodes : List Node)
-      → IsAnswered (refusal (nth_node s.nodes x).source lane true) answer s.nodes
-      (put_source s.nodes x (after_close (nth_node s.nodes x).source lane)) nodes
-      → IsWorkableBy own (record s { nodes = nodes })
-      × Replies s (CloseLane x lane) (accepted_of answer) (record s { nodes = nodes })
+  pub close_answers : (lane : Lane) → x < (shape s).nodes → (answer : Result ℕ OfferFault) (t new : SourceState)
+      → t ≡ source_at s x
+      → IsAnswered (refusal t lane true) answer t (after_close t lane) new
+      → IsWorkableBy own (with_source s x new)
+      × Replies s (CloseLane x lane) (accepted_of answer) (with_source s x new)
   unfolding Outcome net_shape
-  close_answers lane there answer nodes answered =
-      answers s x lane true (CloseLane x lane) (with_source s x (after_close (source_at s x) lane)).nodes nodes
-      net there (close_judges lane there) answer
-      (subst (λ (n : Node). IsAnswered (refusal n.source lane true) answer s.nodes
-      (slice_set s.nodes x (record n { source = after_close n.source lane })) nodes)
-      (is_nth s x net.framed there) answered)
+  close_answers lane there answer t new is answered =
+      answers s x lane true (CloseLane x lane) (after_close (source_at s x) lane) new
+      net (node_in there) there (close_judges lane there) answer
+      (subst (λ (u : SourceState). IsAnswered (refusal u lane true) answer u (after_close u lane) new) is answered)

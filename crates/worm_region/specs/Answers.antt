@@ -66,8 +66,8 @@ moved_of true = Done
 moved_of false = Idle
 
 -- what a source's answer is as that of a step
-abbrev pub accepted_of : Result (Unit {0}) OfferFault → Result Moved StepFault
-accepted_of (Ok accepted) = Ok Done
+abbrev pub accepted_of : Result ℕ OfferFault → Result Moved StepFault
+accepted_of (Ok number) = Ok Done
 accepted_of (Err WrongSource) = Err (Refused WrongSource)
 accepted_of (Err NoSuchNode) = Err (Refused NoSuchNode)
 accepted_of (Err NoSuchClass) = Err (Refused NoSuchClass)

@@ -1,12 +1,11 @@
 ghost use Rattle.std.specs.Prelude.{true, false, IfOk, ◌==◌, ◌≡◌, ◌*◌, ◌<◌, ◌≤◌, ◌↔◌};
-ghost use Rattle.std.specs.Prelude.{IsTrue, IsSome, ◌⊎◌, None, Some, OnOk, OnErr, IfErr, IfSome, unwrap_or};
+ghost use Rattle.std.specs.Prelude.{IsTrue, IsSome, ◌⊎◌, None, Some, IfSome};
 ghost use Rattle.std.specs.Prelude.{if◌then◌else◌, length, sum};
 ghost use Rattle.worm_flit.specs.Channels.{AreChannels};
 ghost use Rattle.worm_region.specs.NewNet.{IsFresh};
 ghost use Rattle.worm_mesh.specs.Address.{AreRadices, node_count, neighbour_of};
 ghost use Rattle.worm_mesh.specs.Links.{link_count};
 ghost use Rattle.worm_router.specs.Router.{input_at, leaving, terminal};
-ghost use Rattle.worm_term.specs.Source.{after_close, after_offer, classes, front_of, refusal};
 ghost use Rattle.worm_region.specs.State.{IsNetPlace, link_at, node_at, router_at, sink_at, source_at, texts_of};
 ghost use Rattle.worm_region.specs.State.{with_node, with_router, with_source};
 ghost use Rattle.worm_region.specs.Moves.{CreditFits, FrontFits, LeavesByLink, Sends, after_getting, after_giving};
@@ -17,6 +16,7 @@ ghost use Rattle.worm_region.specs.UnderWay.{IsUnderWay, accepted_in, taken_in};
 ghost use Rattle.std.specs.Borrow.{Lends, sem};
 ghost use Rattle.worm_region.specs.contracts.fabric.Fabric.{the_row};
 ghost use Rattle.worm_router.specs.contracts.router.Router.{the_row as router_row};
+ghost use Rattle.worm_term.specs.contracts.source.Source.{the_row as source_row};
 
 pub(crate) mod parts;
 mod readers;
@@ -28,10 +28,10 @@ use crate::{Moved, Name, Node, Own, StepFault};
 use arrayvec::ArrayVec;
 use std::alloc::{AllocError, Global};
 use std::marker::Model;
-use worm_flit::{ClassChannels, Flit, Lane, Packet};
+use worm_flit::{ClassChannels, Flit};
 use worm_mesh::Mesh;
 use worm_router::Router;
-use worm_term::OfferFault;
+use worm_term::Source;
 use worm_wires::{Links, PortLinks};
 
 /// The nodes by number and the links by number, whatever they hold (Dally and Towles, chapters 5, 13 and 16).
@@ -78,7 +78,7 @@ impl Fabric {
         let nodes = make_nodes(alloc, &mesh, channels, depth)?;
         let room = u16::from(classes.total()) * u16::from(depth);
         let links = make_links(alloc, mesh.links(), room)?;
-        let nodes = Nodes::new(nodes, classes.classes());
+        let nodes = Nodes::new(nodes);
         Ok(Fabric {
             links: Links::new(mesh, links),
             classes,
@@ -244,6 +244,15 @@ impl Fabric {
         ensures value { result.now ≡ router_at self.old node }
     {
         self.nodes.router_mut(node)
+    }
+
+    /// The source of this node, for a change.
+    pub(crate) fn source_mut(&mut self, node: u8) -> &mut Source
+        requires { node < length self.old.nodes }
+        ensures* lends { sem 𝓛 (Lends the_row source_row self.entry result (with_source self.old node)) }
+        ensures value { result.now ≡ source_at self.old node }
+    {
+        self.nodes.source_mut(node)
     }
 
     /// The links, with what is on them.

@@ -1,22 +1,22 @@
 //! The nodes of a network by number, which of them are known to rest, so that a turn goes past them, and how many
 //! flits are under way, so that a drain ends without a look at each node.
 
-ghost use Rattle.std.specs.Prelude.{ℕ, ◌≡◌, ◌+◌, ◌<◌, ◌≤◌, IsTrue, IfErr, None, OnErr, OnOk, Some, length, slice_set};
-ghost use Rattle.std.specs.Prelude.{true, false, unwrap_or, if◌then◌else◌, IfSome};
+ghost use Rattle.std.specs.Prelude.{ℕ, ◌≡◌, ◌+◌, ◌<◌, IsTrue, Some, length, slice_set, if◌then◌else◌, IfSome};
 ghost use Rattle.std.specs.Borrow.{Lends, sem};
 ghost use Rattle.worm_router.specs.Router.{IsPlace, leaving, terminal};
-ghost use Rattle.worm_term.specs.Source.{IsAnswered, after_close, after_offer, classes, front_of, refusal};
+ghost use Rattle.worm_term.specs.Source.{classes, front_of};
 ghost use Rattle.worm_region.specs.Moves.{FrontFits, can_enter, delivered_node, fed_node};
 ghost use Rattle.worm_region.specs.Resting.{IsResting, nth_node, put_router, put_source};
 ghost use Rattle.worm_region.specs.UnderWay.{HasClasses, HaveClasses, IsUnderWay, accepted_by, accepted_in, taken_in};
 ghost use Rattle.worm_region.specs.contracts.nodes.Nodes.{the_row};
 ghost use Rattle.worm_router.specs.contracts.router.Router.{the_row as router_row};
+ghost use Rattle.worm_term.specs.contracts.source.Source.{the_row as source_row};
 
 use crate::Node;
 use std::marker::Model;
-use worm_flit::{Flit, Lane, Packet};
+use worm_flit::Flit;
 use worm_router::Router;
-use worm_term::OfferFault;
+use worm_term::Source;
 
 /// The nodes by number.
 #[derive(Drop)]
@@ -43,13 +43,6 @@ impl Model for Nodes {
 
     ghost invariant = { λ n. KnowsResting n.list.items n.resting
         × IsUnderWay (accepted_in n.list.items) (taken_in n.list.items) n.under_way };
-}
-
-/// The count after so many flits were accepted.
-fn more(count: Option<u64>, flits: u64) -> Option<u64>
-    ensures { (accepted taken : ℕ) → IsUnderWay accepted taken count → IsUnderWay (accepted + flits) taken result }
-{
-    count?.checked_add(flits)
 }
 
 /// The count after a flit was taken.
@@ -86,16 +79,14 @@ fn count_under_way(nodes: &[Node], classes: u8) -> Option<u64>
 }
 
 impl Nodes {
-    /// These nodes, whose sources have so many classes. None is known to rest yet.
-    pub fn new(list: Vec<Node>, classes: u8) -> Nodes
-        requires { HaveClasses classes list.items }
+    /// These nodes. None is known to rest yet, and how many flits are under way is not known until it is counted.
+    pub fn new(list: Vec<Node>) -> Nodes
         ensures { result ≡ list.items }
     {
-        let under_way = count_under_way(list.as_slice(), classes);
         Nodes {
             list,
             resting: [false; 256],
-            under_way,
+            under_way: None,
         }
     }
 
@@ -130,6 +121,18 @@ impl Nodes {
         &mut here.router
     }
 
+    /// The source of this node, for a change. How many flits are under way is then not known until it is counted.
+    pub fn source_mut(&mut self, node: u8) -> &mut Source
+        requires { node < length self.old }
+        ensures* lends { sem 𝓛 (Lends the_row source_row self.entry result (put_source self.old node)) }
+        ensures value { result.now ≡ (nth_node self.old node).source }
+    {
+        self.resting[usize::from(node)] = false;
+        self.under_way = None;
+        let here = &mut self.list[usize::from(node)];
+        &mut here.source
+    }
+
     /// Whether the node is known to rest.
     pub fn is_resting(&self, node: u8) -> bool
         requires { node < length self.now }
@@ -144,6 +147,16 @@ impl Nodes {
         ensures { self.new ≡ self.old }
     {
         self.resting[usize::from(node)] = true;
+    }
+
+    /// Counts the flits under way where their number is not known. The sources have so many classes.
+    pub fn count_under_way(&mut self, classes: u8)
+        requires { HaveClasses classes self.old }
+        ensures { self.new ≡ self.old }
+    {
+        if self.under_way.is_none() {
+            self.under_way = count_under_way(self.list.as_slice(), classes);
+        }
     }
 
     /// How many flits are under way, where it is known.
@@ -189,35 +202,5 @@ impl Nodes {
         }
         self.under_way = one_fewer(self.under_way);
         true
-    }
-
-    /// Hands the packet to the node's source.
-    pub fn offer(&mut self, node: u8, packet: &Packet) -> Result<(), OfferFault>
-        requires { node < length self.old }
-        ensures answer { IsAnswered (refusal (nth_node self.old node).source packet.now.lane false) result self.old
-            (put_source self.old node (after_offer (nth_node self.old node).source packet.now)) self.new }
-        ensures some { 1 ≤ length packet.now.words }
-        ensures few { length packet.now.words ≤ 32 }
-    {
-        // For the proof, too: a packet has words, and at most 32.
-        let flits = packet.words().len() as u64;
-        self.resting[usize::from(node)] = false;
-        let here = &mut self.list[usize::from(node)];
-        let _number = here.source.offer(packet)?;
-        self.under_way = more(self.under_way, flits);
-        Ok(())
-    }
-
-    /// Hands the lane's close mark to the node's source.
-    pub fn close(&mut self, node: u8, lane: Lane) -> Result<(), OfferFault>
-        requires { node < length self.old }
-        ensures { IsAnswered (refusal (nth_node self.old node).source lane true) result self.old
-            (put_source self.old node (after_close (nth_node self.old node).source lane)) self.new }
-    {
-        self.resting[usize::from(node)] = false;
-        let here = &mut self.list[usize::from(node)];
-        let _number = here.source.close(lane)?;
-        self.under_way = more(self.under_way, 1);
-        Ok(())
     }
 }

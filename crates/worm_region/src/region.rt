@@ -58,11 +58,11 @@ fn moved(done: bool) -> Moved
     if done { Moved::Done } else { Moved::Idle }
 }
 
-fn accepted(answer: Result<(), OfferFault>) -> Result<Moved, StepFault>
+fn accepted(answer: Result<u16, OfferFault>) -> Result<Moved, StepFault>
     ensures { result ≡ accepted_of answer }
 {
     match answer {
-        Ok(()) => Ok(Moved::Done),
+        Ok(_number) => Ok(Moved::Done),
         Err(OfferFault::NoMemory) => Err(StepFault::NoMemory),
         Err(fault) => Err(StepFault::Refused(fault)),
     }
@@ -224,13 +224,23 @@ impl Region {
         self.fabric.is_resting(node)
     }
 
+    /// Counts the flits under way where their number is not known.
+    pub fn count_under_way(&mut self)
+        ensures { self.new ≡ self.old }
+    {
+        let classes = self.fabric.classes();
+        self.fabric.nodes.count_under_way(classes);
+    }
+
     pub(crate) fn offer(&mut self, node: u8, packet: &Packet) -> Result<Moved, StepFault>
         ensures { Replies self.old (Event.Offer node packet.now.lane packet.now.words) result self.new }
     {
         if !self.fabric.has_node(node) {
             return Err(StepFault::NoSuchPlace);
         }
-        accepted(self.fabric.nodes.offer(node, packet))
+        // For the proof: a packet has words, and at most 32.
+        let _words = packet.words();
+        accepted(self.fabric.source_mut(node).offer(packet))
     }
 
     pub(crate) fn close(&mut self, node: u8, lane: Lane) -> Result<Moved, StepFault>
@@ -239,7 +249,7 @@ impl Region {
         if !self.fabric.has_node(node) {
             return Err(StepFault::NoSuchPlace);
         }
-        accepted(self.fabric.nodes.close(node, lane))
+        accepted(self.fabric.source_mut(node).close(lane))
     }
 
     pub(crate) fn feed(&mut self, node: u8, class: u8) -> Result<Moved, StepFault>

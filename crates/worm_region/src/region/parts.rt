@@ -35,7 +35,7 @@ impl Region {
             unreachable!()
         };
         let classes = ClassChannels::new(channels.as_slice());
-        let nodes = Nodes::new(nodes, classes.classes());
+        let nodes = Nodes::new(nodes);
         Region {
             fabric: Fabric {
                 links: Links::new(mesh, links),

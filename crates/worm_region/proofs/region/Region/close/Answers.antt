@@ -1,13 +1,15 @@
-use Rattle.std.proofs.Common.{ap, refl, subst, sym, ◌∙◌, ◌<◌}
+use Rattle.std.proofs.Common.{refl, subst, ◌<◌}
 use Rattle.worm_mesh.specs.Address.{node_count}
 use Rattle.worm_theory.specs.Steps.{CloseLane, IsThere}
 use Rattle.worm_region.specs.Shape.{net_shape}
-use Rattle.worm_region.specs.State.{NetState, shape}
+use Rattle.worm_region.specs.State.{NetState, shape, with_source}
 use Rattle.worm_region.specs.Workable.{IsWorkable}
 use Rattle.worm_region.specs.Answers.{accepted_of}
+use Rattle.worm_region.specs.Replies.{Replies}
 use Rattle.worm_region.proofs.OfferAgrees.{close_answers}
 use Rattle.worm_region.proofs.ReachedBySteps.{replies_from, still_workable}
 use Rattle.worm_region.proofs.region.Region.close.Goals as goal
+use Rattle.worm_region.proofs.region.Region.close.Goals.{After-close}
 
 pub returns-then-not-has_node : goal.returns-then-not-has_node
 unfolding net_shape
@@ -18,25 +20,25 @@ returns-then-not-has_node c = (
   refl,
 )
 
-pub invariant_of-self : goal.invariant_of-self
+-- the region's lists after it
+made : (c : goal.After-close) → c.args.node < node_count c.self.inside.fabric.mesh
+    → IsWorkable (with_source c.self.inside.fabric c.args.node c.close.new.self)
+    × Replies c.self.inside.fabric (CloseLane c.args.node c.args.lane)
+    (accepted_of c.close.result) (with_source c.self.inside.fabric c.args.node c.close.new.self)
 unfolding net_shape
-invariant_of-self c =
-    let same = ap (λ i. i.fabric) c.self-inside.view_is in
-    let net = subst IsWorkable (sym same) c.self.invariant in
-    let there = subst (λ (s : NetState). c.args.node < node_count s.mesh) (sym same)
-    (c.has_node.ensures.0 c.if-not-has_node.false) in
-    still_workable _ _ (CloseLane c.args.node c.args.lane) (accepted_of c.close.result)
-    (close_answers _ c.args.node net c.args.lane there
-    c.close.result c.close.new.self c.close.ensures)
+made c there =
+    let s = c.self.inside.fabric in
+    let step = CloseLane c.args.node c.args.lane in
+    let a = close_answers s c.args.node c.self.invariant c.args.lane there c.close.result
+    c.source_mut.result.now c.close.new.self c.source_mut.ensures.value c.close.ensures.answer in
+    (still_workable s _ step (accepted_of c.close.result) a, a.1)
+
+pub invariant_of-self : goal.invariant_of-self
+invariant_of-self c = (made (goal.at.invariant_of-self c).After-close
+    (c.has_node.ensures.0 c.if-not-has_node.false)).0
 
 pub returns : goal.returns
-unfolding net_shape
 returns c =
-    let same = ap (λ i. i.fabric) c.self-inside.view_is in
-    let net = subst IsWorkable (sym same) c.self.invariant in
-    let there = subst (λ (s : NetState). c.args.node < node_count s.mesh) (sym same)
-    (c.has_node.ensures.0 c.if-not-has_node.false) in
-    let replies = (close_answers _ c.args.node net c.args.lane there
-    c.close.result c.close.new.self c.close.ensures).1 in
+    let a = (made (goal.at.returns c).After-close (c.has_node.ensures.0 c.if-not-has_node.false)).1 in
     rw c.accepted.ensures (replies_from _ _ _ (CloseLane c.args.node c.args.lane)
-    (accepted_of c.close.result) (same ∙ c.self.view_is) replies)
+    (accepted_of c.close.result) c.self.view_is a)

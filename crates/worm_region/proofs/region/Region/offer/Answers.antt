@@ -1,13 +1,15 @@
-use Rattle.std.proofs.Common.{ap, refl, subst, sym, ◌∙◌, ◌<◌}
+use Rattle.std.proofs.Common.{refl, subst, ◌<◌}
 use Rattle.worm_mesh.specs.Address.{node_count}
 use Rattle.worm_theory.specs.Steps.{Offer, IsThere}
 use Rattle.worm_region.specs.Shape.{net_shape}
-use Rattle.worm_region.specs.State.{NetState, shape}
+use Rattle.worm_region.specs.State.{NetState, shape, with_source}
 use Rattle.worm_region.specs.Workable.{IsWorkable}
 use Rattle.worm_region.specs.Answers.{accepted_of}
+use Rattle.worm_region.specs.Replies.{Replies}
 use Rattle.worm_region.proofs.OfferAgrees.{offer_answers}
 use Rattle.worm_region.proofs.ReachedBySteps.{replies_from, still_workable}
 use Rattle.worm_region.proofs.region.Region.offer.Goals as goal
+use Rattle.worm_region.proofs.region.Region.offer.Goals.{After-offer}
 
 pub returns-then-not-has_node : goal.returns-then-not-has_node
 unfolding net_shape
@@ -18,25 +20,26 @@ returns-then-not-has_node c = (
   refl,
 )
 
-pub invariant_of-self : goal.invariant_of-self
+-- the region's lists after it
+made : (c : goal.After-offer) → c.args.node < node_count c.self.inside.fabric.mesh
+    → IsWorkable (with_source c.self.inside.fabric c.args.node c.offer.new.self)
+    × Replies c.self.inside.fabric (Offer c.args.node c.args.packet.now.lane c.args.packet.now.words)
+    (accepted_of c.offer.result) (with_source c.self.inside.fabric c.args.node c.offer.new.self)
 unfolding net_shape
-invariant_of-self c =
-    let same = ap (λ i. i.fabric) c.self-inside.view_is in
-    let net = subst IsWorkable (sym same) c.self.invariant in
-    let there = subst (λ (s : NetState). c.args.node < node_count s.mesh) (sym same)
-    (c.has_node.ensures.0 c.if-not-has_node.false) in
-    still_workable _ _ (Offer c.args.node c.args.packet.now.lane c.args.packet.now.words) (accepted_of c.offer.result)
-    (offer_answers _ c.args.node net c.args.packet.now c.offer.ensures.some c.offer.ensures.few there
-    c.offer.result c.offer.new.self c.offer.ensures.answer)
+made c there =
+    let s = c.self.inside.fabric in
+    let step = Offer c.args.node c.args.packet.now.lane c.args.packet.now.words in
+    let words = c.words-words.ensures in
+    let a = offer_answers s c.args.node c.self.invariant c.args.packet.now words.some words.few there c.offer.result
+    c.source_mut.result.now c.offer.new.self c.source_mut.ensures.value c.offer.ensures.answer in
+    (still_workable s _ step (accepted_of c.offer.result) a, a.1)
+
+pub invariant_of-self : goal.invariant_of-self
+invariant_of-self c = (made (goal.at.invariant_of-self c).After-offer
+    (c.has_node.ensures.0 c.if-not-has_node.false)).0
 
 pub returns : goal.returns
-unfolding net_shape
 returns c =
-    let same = ap (λ i. i.fabric) c.self-inside.view_is in
-    let net = subst IsWorkable (sym same) c.self.invariant in
-    let there = subst (λ (s : NetState). c.args.node < node_count s.mesh) (sym same)
-    (c.has_node.ensures.0 c.if-not-has_node.false) in
-    let replies = (offer_answers _ c.args.node net c.args.packet.now c.offer.ensures.some c.offer.ensures.few there
-    c.offer.result c.offer.new.self c.offer.ensures.answer).1 in
+    let a = (made (goal.at.returns c).After-offer (c.has_node.ensures.0 c.if-not-has_node.false)).1 in
     rw c.accepted.ensures (replies_from _ _ _ (Offer c.args.node c.args.packet.now.lane c.args.packet.now.words)
-    (accepted_of c.offer.result) (same ∙ c.self.view_is) replies)
+    (accepted_of c.offer.result) c.self.view_is a)
