@@ -177,12 +177,17 @@ impl Net {
     }
 
     /// Whether it is known that a turn without entries changes nothing, or found: only where no flit is under way are
-    /// the nodes asked, since credits travel on.
+    /// the nodes asked, since credits travel on. The flits are counted here, so that the turns behind it, and a drain
+    /// that asks after each, know their number until a packet is offered.
     fn finds_rest(&mut self) -> bool
         ensures rests { IsTrue result → NetRests self.old }
         ensures same { self.new ≡ self.old }
     {
-        self.rests || self.region.fabric().under_way() == Some(0) && self.region.all_rest()
+        if self.rests {
+            return true;
+        }
+        self.region.count_under_way();
+        self.region.fabric().under_way() == Some(0) && self.region.all_rest()
     }
 
     /// The turns of all nodes with these entries, in rising number.
