@@ -1,16 +1,14 @@
 -- Where nothing can come into a node and its router is at rest, what the node does in a turn changes nothing.
-use Rattle.std.proofs.Common.{◌≡◌, ℕ, zero, suc, ◌*◌, ◌<◌, ◌≤◌, true, false, List, [], ◌∷◌, length, replicate, get_or}
+use Rattle.std.proofs.Common.{◌≡◌, ℕ, zero, suc, ◌*◌, ◌<◌, ◌≤◌, false, List, [], ◌∷◌, length, replicate, get_or}
 use Rattle.std.proofs.Common.{Option, Some, None, Ok, Err, inr, refl, arith, ap, sym, subst, ◌∙◌}
-use Rattle.std.specs.Prelude.{IfSome, IsSome, option_map}
+use Rattle.std.specs.Prelude.{IsSome, option_map}
 use Rattle.std.specs.List.{flat_map}
 use Rattle.std.specs.Option.{option_to_list}
 use Rattle.worm_mesh.specs.Address.{node_count, neighbour_of}
 use Rattle.worm_router.specs.Router.{RouterState, terminal}
 use Rattle.worm_router.specs.Allocation.{after_allocate, after_choose, switch_grants}
 use Rattle.worm_router.specs.Rest.{IsAtRest, OwesNothing}
-use Rattle.worm_swalloc.specs.SwAlloc.{AreGranted, is_of}
 use Rattle.worm_swalloc.specs.declared.grant.SwGrant.{SwGrant}
-use Rattle.worm_vcalloc.proofs.SetMembers.{has-zero}
 use Rattle.worm_term.specs.Source.{front_of}
 use Rattle.worm_theory.specs.Steps.{Step, Feed, Send, Take, TakeCredit}
 use Rattle.worm_region.specs.Shape.{net_shape}
@@ -20,7 +18,7 @@ use Rattle.worm_region.specs.Moves.{NothingComes, can_enter, can_get, chosen_rou
 use Rattle.worm_region.specs.Resting.{IsResting, nth_node}
 use Rattle.worm_region.specs.Replies.{Attempts}
 use Rattle.worm_region.specs.Turns.{Each, all_ports, granted_send, SendsGrantedBy, GivesCreditBy}
-use Rattle.worm_region.specs.Turns.{NodePassesBy, ComesInBy, AreThere, Chooses}
+use Rattle.worm_region.specs.Turns.{NodePassesBy, ComesInBy}
 use Rattle.worm_region.specs.declared.step.Moved.TheVariants.{Idle}
 use Rattle.worm_region.specs.declared.fault.StepFault.TheVariants.{NoSuchPlace}
 use Rattle.worm_region.proofs.GetAgrees.{get_answers}
@@ -78,23 +76,6 @@ sends_nothing : (grants : List (Option SwGrant)) (x p : ℕ) → grants ≡ repl
 sends_nothing grants x p is =
     ap (λ (gs : List (Option SwGrant)). granted_send gs x p) is
     ∙ ap (λ (g : Option SwGrant). option_to_list (option_map (λ g. Send x p g.vc) g)) (same_all_through None 7 p)
-
-none_granted : AreGranted (replicate 7 None) 0
-none_granted = record {
-  each = λ p v p_in v_in. has-zero p v ∙ sym (ap (λ o. is_of o v) (same_all_through None 7 p));
-  few = λ p. subst (λ (o : Option SwGrant). IfSome o (λ g. g.vc < 8)) (sym (same_all_through None 7 p)) tt;
-}
-
-pub chooses_still : (s : NetState) (x : ℕ) → x < length s.nodes → after_choose (router_at s x) ≡ router_at s x →
-    switch_grants (router_at s x) ≡ replicate 7 None → Chooses x 0 s s
-unfolding chosen_router
-chooses_still s x there same none = (
-  rw none none_granted,
-  sym (ap (λ (q : RouterState). with_router s x q) same ∙ with_router_same s x there),
-)
-
-pub none_there : (s : NetState) (x : ℕ) → AreThere s x 0
-none_there s x p v p_in v_in is = let no : true ≡ false = sym is ∙ has-zero p v in absurd (cc)
 
 sends_still : (s : NetState) (x : ℕ) → x < length s.nodes → after_choose (router_at s x) ≡ router_at s x →
     switch_grants (router_at s x) ≡ replicate 7 None → SendsGrantedBy Attempts x s None s

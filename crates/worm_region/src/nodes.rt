@@ -187,6 +187,7 @@ impl Nodes {
 
     /// Lets the flit that is ready at this place out into the node's sink, by the output port `out`, if the sink can
     /// take it.
+    #[inline(always)]
     pub fn deliver(&mut self, node: u8, port: u8, vc: u8, out: u8, flit: Flit) -> bool
         requires node { node < length self.old }
         requires place { IsPlace (nth_node self.old node).router port vc }

@@ -154,15 +154,6 @@ impl Region {
         self.fabric.router_mut(node).choose().granted()
     }
 
-    /// Whether no channel of the node may send; then a pass of the switch allocator grants nothing. Where none may this
-    /// may not be found.
-    pub(crate) fn sends_nothing(&self, node: u8) -> bool
-        requires { node < node_count self.now.mesh }
-        ensures { IsTrue result → Chooses node 0 self.now self.now }
-    {
-        self.fabric.node(node).router.sends_nothing()
-    }
-
     /// The channels of the node with a flit that lack a route; no other has anything to route.
     pub(crate) fn unrouted(&self, node: u8) -> ChannelSet
         requires { node < node_count self.now.mesh }

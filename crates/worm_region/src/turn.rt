@@ -253,9 +253,6 @@ impl Region {
         self.recall();
         self.allocate(node);
         self.recall();
-        if self.sends_nothing(node) {
-            return ChannelSet::new();
-        }
         self.choose(node)
     }
 

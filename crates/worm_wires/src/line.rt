@@ -74,7 +74,12 @@ impl<T: Copy> Line<T> {
     pub(crate) fn pop(&mut self)
         ensures { self.new ≡ record self.old { items = drop 1 self.old.items } }
     {
-        self.front = self.behind.pop_front();
+        // Mostly nothing is behind.
+        if self.behind.is_empty() {
+            self.front = None;
+        } else {
+            self.front = self.behind.pop_front();
+        }
     }
 
     /// Puts one at the end.

@@ -2,27 +2,8 @@ use Rattle.std.proofs.Common.{subst}
 use Rattle.worm_region.specs.State.{NetState}
 use Rattle.worm_region.specs.Turns.{Chooses}
 use Rattle.worm_region.specs.Workable.{IsWorkable}
-use Rattle.worm_region.proofs.Resting.{none_there}
 use Rattle.worm_region.proofs.StaysAtNode.{joined_at}
 use Rattle.worm_region.proofs.region.Region.prepare.Goals as goal
-
-pub returns-then-sends_nothing-clause-prepares : goal.returns-then-sends_nothing-clause-prepares
-returns-then-sends_nothing-clause-prepares c = rw c.new.ensures (record {
-  came = c.come_in.new.self;
-  comes = c.come_in.ensures.does.exact;
-  chooses = subst (λ (s : NetState). Chooses c.args.node 0 s c.allocate.new.self) c.allocate.ensures.after
-      (c.sends_nothing.ensures c.if-sends_nothing.true);
-  workable = c.recall.ensures;
-  still_workable = subst IsWorkable c.allocate.ensures.after c.recall-2.ensures;
-})
-
-pub returns-then-sends_nothing-clause-there : goal.returns-then-sends_nothing-clause-there
-returns-then-sends_nothing-clause-there c = rw c.new.ensures (none_there c.allocate.new.self c.args.node)
-
-pub returns-then-sends_nothing-clause-at_node : goal.returns-then-sends_nothing-clause-at_node
-returns-then-sends_nothing-clause-at_node c =
-    joined_at c.args.node c.args.self.now c.come_in.new.self c.allocate.new.self c.come_in.ensures.at_node
-    c.allocate.ensures.reaches
 
 pub returns-clause-prepares : goal.returns-clause-prepares
 returns-clause-prepares c = record {
