@@ -38,7 +38,8 @@ PacketsAreCut ks s net = (lane : Lane) (k : ℕ) → HasLane s lane
     → packet_items ks s net lane k ≡ packet_held lane k (net.injected lane.src lane.class)
 
 -- Where a packet is open past a buffer of its route, exactly one input channel of that node is active for it, it is at
--- the buffer's port, what left it last is the last flit of the packet past it, and what comes next is the packet's next.
+-- the buffer's port, what left it last is the last flit of the packet past it, and what comes next is the packet's
+-- next.
 abbrev pub OpenPacketsAreActive : List ℕ → Shape → Network → Type 0
 OpenPacketsAreActive ks s net = (lane : Lane) (k : ℕ) → HasLane s lane →
     (nearer farther : List Place) (x p : ℕ) → places_of ks lane.src lane.dst ≡ nearer ++ Buffer x p ∷ farther →
