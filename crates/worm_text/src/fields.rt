@@ -1,9 +1,9 @@
 //! The fields of a line, read from the left.
 
-ghost use Rattle.std.specs.Prelude.{◌≡◌, ◌<◌, IsTrue, [], ◌∷◌, length, drop, position, ◌==◌, MatchOption};
-ghost use Rattle.std.specs.Prelude.{true, false, Some, None, nat_le, if◌then◌else◌, List, ℕ};
-ghost use Rattle.worm_text.specs.Lines.{cut, space, fields_left};
-ghost use Rattle.worm_text.specs.Numerals.{is_digit, is_numeral, value_of, is_name, is_lower_or_digit};
+ghost use Rattle.std.specs.Prelude.{◌≡◌, ◌<◌, ◌+◌, min, [], ◌∷◌, length, drop, position, ◌==◌, MatchOption};
+ghost use Rattle.std.specs.Prelude.{true, false, List, ℕ};
+ghost use Rattle.worm_text.specs.Lines.{cut, space, fields_left, next_field};
+ghost use Rattle.worm_text.specs.Numerals.{leading_digits, is_numeral, value_of, is_name, is_lower_or_digit};
 ghost use Rattle.std.specs.List.{list_all};
 ghost use Rattle.worm_text.specs.Reading.{Reads, Gives, number_at, name_at, word_at, key_at, no_more};
 
@@ -31,36 +31,32 @@ pub fn cut_first(bytes: &[u8], end: u8) -> Option<(&[u8], &[u8])>
     }
 }
 
-/// Whether these are decimal digits, as no bytes are.
-fn are_digits(field: &[u8]) -> bool
-    ensures { result ≡ list_all is_digit field.now }
-{
-    field.iter().all(|b| *b >= b'0' && *b <= b'9')
+/// The digits at the front of some bytes.
+#[derive(Clone, Copy)]
+struct Digits {
+    /// How many there are.
+    count: usize,
+    /// The number that they represent, where that is within the limit; else some number past the limit.
+    value: u64,
 }
 
-/// Whether a field is `0`, or digits of which the first is not 0.
-pub fn is_number(field: &[u8]) -> bool
-    ensures { result ≡ is_numeral field.now }
-{
-    match field {
-        [] => false,
-        [first, others @ ..] => { are_digits(field) && (*first != b'0' || others.is_empty()) }
-    }
-}
+/// The digits at the front of these bytes, and the number that they represent, up to `high`.
+fn front_digits(bytes: &[u8], high: u32) -> Digits
+    ensures count { result.count ≡ length (leading_digits bytes.now) }
 
-/// The value of digits, if it is at most `high`; they may be as many as the line has room for.
-pub fn value_within(digits: &[u8], high: u32) -> Option<u32>
-    requires { IsTrue (list_all is_digit digits.now) }
-    ensures { result ≡ (if nat_le (value_of digits.now) high then Some (value_of digits.now) else None) }
+    // Both are the same number, or both are past `high`.
+    ensures value { min result.value (high + 1) ≡ min (value_of (leading_digits bytes.now)) (high + 1) }
 {
-    let mut value: u64 = 0;
-    for digit in digits {
-        value = value * 10 + u64::from(*digit - b'0');
-        if value > u64::from(high) {
-            return None;
+    let mut value = 0u64;
+    let mut count = 0;
+    while count < bytes.len() && bytes[count] >= b'0' && bytes[count] <= b'9' {
+        // Past `high` it stays so, however many digits follow.
+        if value <= u64::from(high) {
+            value = value * 10 + u64::from(bytes[count] - b'0');
         }
+        count += 1;
     }
-    Some(value as u32)
+    Digits { count, value }
 }
 
 /// Whether a field is a lower-case letter, and then at most 15 lower-case letters or digits.
@@ -152,16 +148,36 @@ impl<'a> Fields<'a> {
         ensures answer { Reads (λ x. x) result self.new (number_at low high self.old) }
         ensures one { self.new ≡ drop 1 self.old }
     {
-        let Some(field) = self.next() else {
+        let Some(rest) = self.rest else {
             return Err(Why::Missing);
         };
-        if !is_number(field) {
+        let front = front_digits(rest, high);
+        if !self.take_numeral(rest, front.count) {
             return Err(Why::Number);
         }
-        match value_within(field, high) {
-            Some(value) if low <= value => Ok(value),
-            _ => Err(Why::Range),
+        if front.value < u64::from(low) || front.value > u64::from(high) {
+            return Err(Why::Range);
         }
+        Ok(front.value as u32)
+    }
+
+    /// Takes the next field, and says whether it is a numeral; `count` digits are at the front of the rest.
+    fn take_numeral(&mut self, rest: &'a [u8], count: usize) -> bool
+        requires rest { self.old ≡ cut space rest.now }
+        requires count { count ≡ length (leading_digits rest.now) }
+        ensures answer { result ≡ is_numeral (next_field self.old) }
+        ensures one { self.old ≡ next_field self.old ∷ self.new }
+    {
+        match &rest[count..] {
+            [] => self.rest = None,
+            [b' ', after @ ..] => self.rest = Some(after),
+            // Another byte is in the field: it is no number, and all of it is taken.
+            _ => {
+                let _ = self.next();
+                return false;
+            }
+        }
+        count == 1 || count > 1 && rest[0] != b'0'
     }
 
     /// A name. `Missing` where no field is left, `Name` where the field is none.
