@@ -1,6 +1,6 @@
 //! The fields of a line, read from the left.
 
-ghost use Rattle.std.specs.Prelude.{◌≡◌, ◌<◌, ◌+◌, min, [], ◌∷◌, length, drop, position, ◌==◌, MatchOption};
+ghost use Rattle.std.specs.Prelude.{◌≡◌, ◌<◌, ◌≤◌, ◌+◌, min, [], ◌∷◌, length, take, drop, position, ◌==◌, MatchOption};
 ghost use Rattle.std.specs.Prelude.{true, false, List, ℕ};
 ghost use Rattle.worm_text.specs.Lines.{cut, space, fields_left, next_field};
 ghost use Rattle.worm_text.specs.Numerals.{leading_digits, is_numeral, value_of, is_name, is_lower_or_digit};
@@ -10,13 +10,45 @@ ghost use Rattle.worm_text.specs.Reading.{Reads, Gives, number_at, name_at, word
 use crate::fault::Why;
 use crate::key::Key;
 use std::marker::Model;
+use std::simd::Simd;
 use worm_core::Name;
 
 /// The place of the first such byte.
 fn position_of(bytes: &[u8], end: u8) -> Option<usize>
     ensures { result ≡ position (λ b. b == end) bytes.now }
 {
+    // Most bytes of a text end no line, so sixteen are passed at a time.
+    let mut at = 0;
+    while bytes.len() - at >= 16 {
+        if let Some(place) = place_within(bytes, at, end) {
+            return Some(at + place);
+        }
+        at += 16;
+    }
+    let place = place_byte_by_byte(&bytes[at..], end)?;
+    Some(at + place)
+}
+
+/// The place of the first such byte, where too few are left to be compared at once.
+fn place_byte_by_byte(bytes: &[u8], end: u8) -> Option<usize>
+    ensures { result ≡ position (λ b. b == end) bytes.now }
+{
     bytes.iter().position(|b| *b == end)
+}
+
+/// The place of the first such byte among the sixteen from `at` on, counted from `at`.
+fn place_within(bytes: &[u8], at: usize, end: u8) -> Option<usize>
+    requires { at + 16 ≤ length bytes.now }
+    ensures { result ≡ position (λ b. b == end) (take 16 (drop at bytes.now)) }
+{
+    // One comparison tests all sixteen; bit k of the mask tells of byte k.
+    let marks = Simd::<u8, 16>::from_slice(&bytes[at..])
+        .simd_eq(Simd::splat(end))
+        .to_bitmask();
+    if marks == 0 {
+        return None;
+    }
+    Some(marks.trailing_zeros() as usize)
 }
 
 /// The bytes before the first `end`, and those after it.
