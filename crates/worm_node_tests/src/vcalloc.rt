@@ -108,7 +108,7 @@ fn waiting_of(rt: &impl Abort, asks: &[(u8, u8, VcRequest)]) -> VcRequests {
     let mut waiting = VcRequests::new();
     for (port, vc, request) in asks {
         assert!(rt; *port < 7 && *vc < 8);
-        waiting.set(*port, *vc, Some(*request));
+        waiting.add(*port, *vc, *request);
     }
     waiting
 }
@@ -193,7 +193,7 @@ fn requests_are_found_by_what_they_ask(rt: HostRuntime) {
     finds(&rt, &waiting, 3, &[0, 1, 2, 3, 4, 5, 6, 7], &[]);
     finds(&rt, &waiting, 2, &[1], &[(1, 3)]);
     finds(&rt, &waiting, 2, &[0, 1], &[(0, 5), (1, 3)]);
-    waiting.set(1, 3, None);
+    waiting.remove(1, 3, 2);
     finds(&rt, &waiting, 2, &[0, 1], &[(0, 5)]);
     gives(&rt, &mut waiting.waiting(), Some((0, 5)));
 }

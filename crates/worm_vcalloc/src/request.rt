@@ -1,4 +1,5 @@
-ghost use Rattle.std.specs.Prelude.{◌≡◌, ℕ, ◌<◌, List, Option, None, true, false, is_some, replicate, slice_index_or};
+ghost use Rattle.std.specs.Prelude.{◌≡◌, ℕ, ◌<◌, ◌==◌, List, Option, Some, None, true, false, is_some, replicate};
+ghost use Rattle.std.specs.Prelude.{slice_index_or};
 ghost use Rattle.worm_vcalloc.specs.VcRequest.{is_for};
 ghost use Rattle.worm_vcalloc.specs.ChannelSet.{has, IsPut};
 ghost use Rattle.worm_vcalloc.specs.Table.{cell, with_cell};
@@ -21,7 +22,7 @@ pub struct VcRequest {
 ///
 /// ```text
 /// let mut waiting = VcRequests::new();
-/// waiting.set(0, 1, Some(VcRequest { out: 2, allowed: 0b11 }));
+/// waiting.add(0, 1, VcRequest { out: 2, allowed: 0b11 });
 /// ```
 #[derive(Clone, Copy)]
 pub struct VcRequests {
@@ -92,19 +93,32 @@ impl VcRequests {
         self.table.rows[port as usize][vc as usize]
     }
 
-    /// From now on the input channel waits for this; None where it waits no more. A request for
-    /// a port or channel that the router does not have is kept and never met.
-    pub fn set(&mut self, port: u8, vc: u8, request: Option<VcRequest>)
+    /// The input channel, which waited for nothing, waits for this. A request for a port or channel that the router
+    /// does not have is kept and never met.
+    pub fn add(&mut self, port: u8, vc: u8, request: VcRequest)
         requires port { port < 7 }
         requires vc { vc < 8 }
-        ensures { self.new ≡ with_cell self.old port vc request }
+        requires none { cell self.old port vc None ≡ None }
+        ensures { self.new ≡ with_cell self.old port vc (Some request) }
     {
-        let old = self.get(port, vc);
-        put_at(&mut self.by_port, old, port, vc, false);
-        put_at(&mut self.by_port, request, port, vc, true);
-        self.waiting.put(port, vc, request.is_some());
+        file_at(&mut self.by_port, request.out, port, vc);
+        self.waiting.put(port, vc, true);
         let row = &mut self.table.rows[port as usize];
-        row[vc as usize] = request;
+        row[vc as usize] = Some(request);
+    }
+
+    /// The input channel, which waited for a channel of this output port, waits no more.
+    pub fn remove(&mut self, port: u8, vc: u8, out: u8)
+        requires port { port < 7 }
+        requires vc { vc < 8 }
+        requires out { out < 7 }
+        requires waits { is_for (cell self.old port vc None) out ≡ true }
+        ensures { self.new ≡ with_cell self.old port vc None }
+    {
+        self.by_port[out as usize].put(port, vc, false);
+        self.waiting.put(port, vc, false);
+        let row = &mut self.table.rows[port as usize];
+        row[vc as usize] = None;
     }
 
     /// The input channels that wait.
@@ -136,18 +150,15 @@ impl VcRequests {
     }
 }
 
-/// Puts an input channel into the set of the output port that a request is for, or takes it out.
-fn put_at(by_port: &mut [ChannelSet; 7], request: Option<VcRequest>, port: u8, vc: u8, within: bool)
+/// Puts an input channel into the set of those that wait for this output port, if the router may have that port.
+fn file_at(by_port: &mut [ChannelSet; 7], out: u8, port: u8, vc: u8)
     requires port { port < 7 }
     requires vc { vc < 8 }
-    ensures asked { (out : ℕ) → out < 7 → is_for request out ≡ true
-        → IsPut (slice_index_or by_port.old out 0) (slice_index_or by_port.new out 0) port vc within }
-    ensures others { (out : ℕ) → out < 7 → is_for request out ≡ false
-        → slice_index_or by_port.new out 0 ≡ slice_index_or by_port.old out 0 }
+    ensures asked { out < 7 → IsPut (slice_index_or by_port.old out 0) (slice_index_or by_port.new out 0) port vc true }
+    ensures others { (o : ℕ) → o < 7 → (out == o) ≡ false
+        → slice_index_or by_port.new o 0 ≡ slice_index_or by_port.old o 0 }
 {
-    if let Some(request) = request
-        && request.out < 7
-    {
-        by_port[request.out as usize].put(port, vc, within);
+    if out < 7 {
+        by_port[out as usize].put(port, vc, true);
     }
 }
