@@ -127,7 +127,7 @@ impl Fabric {
     {
         // For the proof: a mesh has radices within their limits.
         let _wiring = self.links.wiring();
-        let Some(flit) = self.links.link(links.into).front() else {
+        let Some(flit) = self.links.link(links.into).front().copied() else {
             return false;
         };
         if self.router_mut(node).accept(port, flit).is_err() {
