@@ -79,7 +79,7 @@ fn a_link_keeps_its_order(rt: HostRuntime) {
     let mut link = link_with(&rt, rt.alloc(), 3, &[5, 6, 7], &[0, 2]);
     link.pop();
     has_flit(&rt, &link, 2, 1, single(0, 7));
-    assert_eq!(rt; link.front(), Some(single(0, 6)));
+    assert_eq!(rt; link.front().copied(), Some(single(0, 6)));
     gives_credit(&rt, &mut link, Some(0));
     gives_credit(&rt, &mut link, Some(2));
     gives_credit(&rt, &mut link, None);

@@ -25,10 +25,9 @@ end_of {A} (g ∷ xs) zero e = none_of (g ∷ xs) e
 end_of {A} (g ∷ xs) (suc i) e = end_of xs i e
 
 -- a list has a front, or is empty
-pub front_is : {A : Type 0} (xs : List A) (o : Option A) (some : Bool) → o ≡ slice_get xs 0 → some ≡ is_some o →
-    (some ≡ false) ↔ (xs ≡ [])
-front_is [] o some at is = (λ e. refl, λ e. is ∙ ap is_some at)
-front_is {A} (x ∷ xs) o some at is = (
-  λ e. let yes : some ≡ true = is ∙ ap is_some at in absurd (cc),
+pub front_is : {A : Type 0} (xs : List A) (some : Bool) → some ≡ is_some (slice_get xs 0) → (some ≡ false) ↔ (xs ≡ [])
+front_is [] some is = (λ e. refl, λ e. is)
+front_is {A} (x ∷ xs) some is = (
+  λ e. let yes : some ≡ true = is in absurd (cc),
   λ e. let no : ◌≡◌ {A = List A} (x ∷ xs) [] = e in absurd (cc),
 )

@@ -130,7 +130,8 @@ impl Fabric {
         let Some(flit) = self.links.link(links.into).front() else {
             return false;
         };
-        if self.router_mut(node).accept(port, flit).is_err() {
+        // It is copied once, from the link into the buffer.
+        if !self.nodes.router_mut(node).accept_copy(port, flit) {
             return false;
         }
         self.links.pop(node, port, links);

@@ -332,15 +332,16 @@ impl Region {
         self.give_owed(node, port, vc)
     }
 
-    /// A GiveCredit where the node and the channel are there, and the channel of the port owes a credit.
+    /// A GiveCredit where the port is a mesh port, the channel is there, and the channel of the port owes a credit.
     #[inline(always)]
     pub fn give_owed(&mut self, node: u8, port: u8, vc: u8) -> Result<Moved, StepFault>
+        requires mesh_port { port < 6 }
         requires channel { vc < sum self.old.channels }
         requires owed { 0 < (input_at (router_at self.old node) port vc).owed }
         requires within { EndsWithin (shape self.old) (owned self.old) node port }
         ensures { Replies self.old (Event.GiveCredit node port vc) result self.new }
     {
-        let Some(links) = self.fabric.wires().links_at(node, port) else {
+        let Some(links) = self.fabric.wires().links_of_mesh_port(node, port) else {
             return Err(StepFault::NoSuchPlace);
         };
         self.fabric.give_credit(node, port, vc, links);

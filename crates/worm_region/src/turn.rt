@@ -196,6 +196,7 @@ impl Region {
 
     /// Gives a credit that a channel of the port owes to the link into it.
     fn give_credit_at(&mut self, node: u8, port: u8, vc: u8)
+        requires mesh_port { port < 6 }
         requires channel { vc < sum self.old.channels }
         requires owed { 0 < (input_at (router_at self.old node) port vc).owed }
         requires whole { self.old.own ≡ sole }

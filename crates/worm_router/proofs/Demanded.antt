@@ -1,8 +1,7 @@
 -- What a router keeps for its channel allocator is what its records say: what a write of one channel leaves of that.
 use Rattle.std.proofs.Common.{◌≡◌, ◌==◌, ℕ, ◌+◌, ◌<◌, ◌≤◌, nat_lt, Bool, true, false, List, [], ◌∷◌, ◌++◌, length}
 use Rattle.std.proofs.Common.{length-append, slice_set, slice_get, slice_index_or, replicate, Option, None, Some}
-use Rattle.std.proofs.Common.{is_none, is_some, All, if◌then◌else◌, Result, Ok, Err, OnOk, IfErr, inl, inr, refl}
-use Rattle.std.proofs.Common.{arith, ap, sym, subst, ◌∙◌}
+use Rattle.std.proofs.Common.{is_none, is_some, All, if◌then◌else◌, inl, inr, refl, arith, ap, sym, subst, ◌∙◌}
 use Rattle.std.proofs.lemmas.Grind.{get_or-set_at}
 use Rattle.std.proofs.lemmas.Bool.{cases_lt, eq-eqb, true≢false}
 use Rattle.std.proofs.lemmas.Bool.Decides.{nat_tests}
@@ -73,21 +72,21 @@ asks_behind channels (Active o c) fs gs some = refl
 asks_behind channels (Waiting o) [] gs some = let no = some refl in absurd (grind (arith, nat_tests))
 asks_behind channels (Waiting o) (f ∷ fs) gs some = refl
 
-pub put_asks : (channels : List ℕ) (had now : ChannelState) (f : Flit) (put : Result (Unit {0}) Flit) → HasFront had
-    → OnOk put (now ≡ put_in had f) → IfErr put (λ g. (g ≡ f) × (now ≡ had))
+pub put_asks : (channels : List ℕ) (had now : ChannelState) (f : Flit) (came : Bool) → HasFront had
+    → now ≡ (if came then put_in had f else had)
     → asking channels now.state now.buffer ≡ asking channels had.state had.buffer
-put_asks channels had now f (Ok u) front is err =
+put_asks channels had now f true front is =
     ap (λ (c : ChannelState). asking channels c.state c.buffer) is
     ∙ asks_behind channels had.state had.buffer (f ∷ []) front
-put_asks channels had now f (Err g) front ok is = ap (λ (c : ChannelState). asking channels c.state c.buffer) is.1
+put_asks channels had now f false front is = ap (λ (c : ChannelState). asking channels c.state c.buffer) is
 
-pub put_fronted : (had now : ChannelState) (f : Flit) (put : Result (Unit {0}) Flit) → HasFront had
-    → OnOk put (now ≡ put_in had f) → IfErr put (λ g. (g ≡ f) × (now ≡ had)) → HasFront now
-put_fronted had now f (Ok u) front is err =
+pub put_fronted : (had now : ChannelState) (f : Flit) (came : Bool) → HasFront had
+    → now ≡ (if came then put_in had f else had) → HasFront now
+put_fronted had now f true front is =
     let more = length-append had.buffer (f ∷ []) in
     let some : nat_lt 0 (length (had.buffer ++ f ∷ [])) ≡ true = grind (arith, nat_tests) in
     λ waiting. ap is_occupied is ∙ some
-put_fronted had now f (Err g) front ok is = subst HasFront (sym is.1) front
+put_fronted had now f false front is = subst HasFront (sym is) front
 
 -- a channel that holds an output channel does not wait, nor does it once a flit left
 pub holds_waits_not : (s : InRecord) → holds s ≡ true → waits s ≡ false

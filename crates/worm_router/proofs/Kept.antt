@@ -1,10 +1,11 @@
 -- What a change of one input channel and one output channel leaves sound.
-use Rattle.std.proofs.Common.{ℕ, ◌+◌, ◌-◌, ◌*◌, ◌≤◌, ◌<◌, ◌≡◌, List, [], ◌∷◌, All, Result, Ok, Err, IsOk, OnOk, IfErr}
-use Rattle.std.proofs.Common.{length, length-append, drop, sum, slice_set, get_or, Bool, true, false, arith, inl, inr}
+use Rattle.std.proofs.Common.{ℕ, ◌+◌, ◌-◌, ◌*◌, ◌≤◌, ◌<◌, ◌≡◌, nat_lt, List, [], ◌∷◌, All, length, length-append}
+use Rattle.std.proofs.Common.{drop, sum, slice_set, get_or, Bool, true, false, arith, inl, inr}
 use Rattle.std.proofs.Common.{refl, sym, subst, ap, ◌∙◌, if◌then◌else◌}
 use Rattle.std.proofs.Math.ListN.{length-set}
 use Rattle.std.proofs.lemmas.Grind.{common_steps, elements, get_or-set_at}
 use Rattle.std.proofs.lemmas.Bool.{cases_eq, eq-eqb}
+use Rattle.std.proofs.lemmas.Bool.Decides.{nat_tests}
 use Rattle.std.proofs.lemmas.Nat.{same_from_place}
 use Rattle.std.proofs.lemmas.List.{get_or-set_other, get_or_default}
 use Rattle.std.proofs.lemmas.List.Elements.{All-set, All-get_or}
@@ -112,11 +113,11 @@ read_sound mesh channels depth inputs i had read within all =
     subst (IsChannel mesh channels depth) (sym read)
     (All-get_or (IsChannel mesh channels depth) inputs i had within all)
 
-pub put_sound : (mesh channels : List ℕ) (depth : ℕ) (had now : ChannelState) (f : Flit) (put : Result (Unit {0}) Flit)
-    → IsChannel mesh channels depth had → f.lane.dst < node_count mesh → (IsOk put → length had.buffer < had.depth)
-    → OnOk put (now ≡ put_in had f) → IfErr put (λ g. (g ≡ f) × (now ≡ had)) → IsChannel mesh channels depth now
-put_sound mesh channels depth had now f (Ok u) sound bound room is err =
-    let free : length had.buffer < had.depth = room refl in
+pub put_sound : (mesh channels : List ℕ) (depth : ℕ) (had now : ChannelState) (f : Flit) (came : Bool)
+    → IsChannel mesh channels depth had → f.lane.dst < node_count mesh → came ≡ nat_lt (length had.buffer) had.depth
+    → now ≡ (if came then put_in had f else had) → IsChannel mesh channels depth now
+put_sound mesh channels depth had now f true sound bound room is =
+    let free : length had.buffer < had.depth = grind (arith, nat_tests) in
     subst (IsChannel mesh channels depth) (sym is) record {
       same_depth = sound.same_depth;
       fits = omega (arith, length-append had.buffer (f ∷ []), sound.same_depth);
@@ -124,8 +125,8 @@ put_sound mesh channels depth had now f (Ok u) sound bound room is err =
       state_fits = sound.state_fits;
       owed_fits = sound.owed_fits;
     }
-put_sound mesh channels depth had now f (Err g) sound bound room ok is =
-    subst (IsChannel mesh channels depth) (sym is.1) sound
+put_sound mesh channels depth had now f false sound bound room is =
+    subst (IsChannel mesh channels depth) (sym is) sound
 
 pub waiting_sound : (mesh channels : List ℕ) (depth : ℕ) (had now : ChannelState) (out : ℕ)
     → IsChannel mesh channels depth had → out ≤ 2 * length mesh

@@ -294,11 +294,26 @@ impl Router {
         ensures ok { OnOk result (self.new ≡ after_accept self.old port flit) }
         ensures err { IfErr result (λ f. (f ≡ flit) × (self.new ≡ self.old)) }
     {
+        if self.accept_copy(port, &flit) {
+            Ok(())
+        } else {
+            Err(flit)
+        }
+    }
+
+    /// The same for a caller that keeps the flit: a copy of it comes in, where the buffer has room.
+    #[inline(always)]
+    pub fn accept_copy(&mut self, port: u8, flit: &Flit) -> bool
+        requires place { IsPlace self.old port flit.now.vc }
+        requires node { flit.now.lane.dst < node_count self.old.mesh }
+        ensures room { result ≡ nat_lt (length (input_at self.old port flit.now.vc).buffer) self.old.depth }
+        ensures after { self.new ≡ (if result then after_accept self.old port flit.now else self.old) }
+    {
         let i = self.line(port, flit.vc);
         let channel = &mut self.inputs[i];
-        let put = channel.put(flit);
-        self.busy.file_put(port, flit.vc, put.is_ok());
-        put
+        let came = channel.put(*flit);
+        self.busy.file_put(port, flit.vc, came);
+        came
     }
 
     /// Route computation: an idle channel with an opening flit at its front comes to wait for the output port that the

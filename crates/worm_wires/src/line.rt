@@ -1,6 +1,7 @@
 //! One way of a link. Mostly one flit or credit is on it at most, so the front lies apart from the queue.
 
 ghost use Rattle.std.specs.Prelude.{◌≡◌, [], ◌∷◌, ◌++◌, ◌<◌, ◌≤◌, length, drop, slice_get, Some, IfOk};
+ghost use Rattle.std.specs.Prelude.{is_some, option_copied};
 
 use std::alloc::{AllocError, Global};
 use std::collections::VecDeque;
@@ -42,11 +43,12 @@ impl<T: Copy> Line<T> {
     }
 
     /// The front, if there is one.
-    pub(crate) fn front(&self) -> Option<T>
-        ensures { result ≡ slice_get self.now.items 0 }
+    pub(crate) fn front(&self) -> Option<&T>
+        ensures value { option_copied result ≡ slice_get self.now.items 0 }
+        ensures variant { is_some result ≡ is_some (slice_get self.now.items 0) }
     {
         // Nothing is behind where there is no front.
-        self.front
+        self.front.as_ref()
     }
 
     /// How many are on it.

@@ -2,6 +2,7 @@
 
 ghost use Rattle.worm_wires.specs.Links.{empty_link};
 ghost use Rattle.std.specs.Prelude.{◌≡◌, [], ◌∷◌, ◌++◌, ◌<◌, ◌≤◌, length, drop, min, slice_get, Some, IfOk};
+ghost use Rattle.std.specs.Prelude.{is_some, option_copied};
 
 use crate::line::Line;
 use std::alloc::{AllocError, Global};
@@ -69,9 +70,10 @@ impl LinkState {
         self.room
     }
 
-    /// The front flit, if there is one.
-    pub fn front(&self) -> Option<Flit>
-        ensures { result ≡ slice_get self.now.flits 0 }
+    /// The front flit, if there is one: where it lies, since what takes it asks first whether there is room for it.
+    pub fn front(&self) -> Option<&Flit>
+        ensures value { option_copied result ≡ slice_get self.now.flits 0 }
+        ensures variant { is_some result ≡ is_some (slice_get self.now.flits 0) }
     {
         self.flits.front()
     }
@@ -110,7 +112,7 @@ impl LinkState {
     pub fn front_credit(&self) -> Option<u8>
         ensures { result ≡ slice_get self.now.credits 0 }
     {
-        self.credits.front()
+        self.credits.front().copied()
     }
 
     /// How many credits are on their way back over it.

@@ -1,6 +1,4 @@
-use Rattle.std.proofs.Common.{◌≡◌, ◌<◌, Bool, Option, length, get_or, ap, subst, ◌∙◌, arith, rules}
-use Rattle.std.specs.Prelude.{is_some}
-use Rattle.worm_flit.specs.declared.Flit.{Flit}
+use Rattle.std.proofs.Common.{◌≡◌, ◌<◌, Bool, length, get_or, ap, subst, ◌∙◌, arith, rules}
 use Rattle.worm_wires.specs.Links.{LinkView}
 use Rattle.worm_flit.specs.SmallSet.{IsPut}
 use Rattle.worm_wires.proofs.ArrivalsKept.{AreWithin, are_within, flits_written, into_port}
@@ -36,4 +34,4 @@ invariant_of-self c =
     (ap (λ (s : LinkView). s.credits) c.pop.ensures)
     (subst (λ (b : Bool).
     IsPut (get_or c.self.inside.arrivals c.from-2.result c.index-self-from.result).flits c.put.new.self c.args.port b)
-    (c.is_some-has_more.ensures ∙ ap (λ (o : Option Flit). is_some o) c.front.ensures) c.put.ensures)
+    (c.is_some-has_more.ensures ∙ c.front.ensures.variant) c.put.ensures)
