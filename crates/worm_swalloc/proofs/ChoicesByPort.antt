@@ -289,35 +289,20 @@ pub choosing_start : (s : SwAllocState) (requests grants : List (Option SwGrant)
 choosing_start s requests grants askers few long e =
     record { next = 0; walked = walked_start askers s.ports; chosen_are = chosen_none s requests grants few long e }
 
--- those that ask for the next output port have no grant
-pub not_granted : (s : SwAllocState) (requests : List (Option SwGrant)) (askers left left' out port : ℕ)
-    (now : SwAllocState) (grants : List (Option SwGrant))
-    → ChoosingBelow s requests askers left now grants → IsFirstPort left left' out
-    → is_for (slice_index_or requests port None) out ≡ true → slice_index_or grants port None ≡ None
-not_granted s requests askers left left' out port now grants b f asks =
-    let from = walked_from askers left left' b.next s.ports out b.walked f in
-    ap (λ xs. slice_index_or xs port None) b.chosen_are.grants_are
-    ∙ elim (cases_lt port s.ports) [
-      | inl below ↦ slice_index_or-with_front_below s.ports port (granted s requests b.next)
-          (replicate 7 None) None below ∙ not_yet s requests b.next out port
-          (slice_index_or requests port None) from asks
-      | inr past ↦ slice_index_or-with_front_past s.ports port (granted s requests b.next) (replicate 7 None) None past
-          ∙ get_or-replicate_same 7 port None
-    ]
-
--- the chosen input port asks for the output port
+-- the chosen input port is one of the router's that asks for the output port
 pub chosen_asks : (s : SwAllocState) (requests : List (Option SwGrant)) (out lines : ℕ) (d : ArbiterState) (port : ℕ)
     → IsSwAlloc s.ports s.channels s.inputs s.outputs → out < s.ports → out < length s.outputs
     → ((line : ℕ) → line < s.ports → line_requests lines line ≡ is_for (slice_index_or requests line None) out)
     → Some port ≡ winner (slice_index_or s.outputs out d) (line_requests lines)
-    → is_for (slice_index_or requests port None) out ≡ true
+    → (port < s.ports) × (is_for (slice_index_or requests port None) out ≡ true)
 chosen_asks s requests out lines d port r lo within same won =
     let few = r.few_ports in
     let wide = r.output_width out (omega arith) in
     let low = r.output_pointer out (omega arith) in
-    (winner_requests (slice_index_or s.outputs out no_arbiter)
+    let w = winner_requests (slice_index_or s.outputs out no_arbiter)
     (λ line. is_for (slice_index_or requests line None) out) port (omega arith)
-    (sym (chosen_is s requests out lines d (Some port) r lo within same won))).1
+    (sym (chosen_is s requests out lines d (Some port) r lo within same won)) in
+    (omega (arith, w.0), w.1)
 
 -- the next output port has chosen
 pub choosing_more : (s : SwAllocState) (requests : List (Option SwGrant)) (askers left left' out : ℕ)

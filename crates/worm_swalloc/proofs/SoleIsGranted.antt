@@ -1,7 +1,7 @@
 -- Lemmas on a pass in which one input port alone may name anything.
 use Rattle.std.proofs.Common.{◌≡◌, IfSome, Bool, ℕ, ◌+◌, ◌-◌, zero, suc, ◌<◌, ◌≤◌, true, false, List, Option, Some}
 use Rattle.std.proofs.Common.{None, refl, sym, ap, ◌∙◌, arith, slice_index_or, slice_set, length, inl, inr, replicate}
-use Rattle.std.proofs.Common.{subst, get_or-set_same, get_or-set_other}
+use Rattle.std.proofs.Common.{subst}
 use Rattle.std.proofs.lemmas.Bool.{cases_eq, eq-eqb, ne_eqb, true≢false}
 use Rattle.worm_vcalloc.specs.Arbiter.{ArbiterState, no_arbiter, winner, after_pick}
 use Rattle.worm_vcalloc.proofs.Winner.{winner_none, winner_none_requests, winner_requests}
@@ -10,15 +10,10 @@ use Rattle.worm_swalloc.specs.SwAlloc.{SwAllocState, IsSwAlloc, sole_named, is_f
 use Rattle.worm_swalloc.specs.SwAlloc.{IsSolePort, channel_of, with_move, named, all_named}
 use Rattle.worm_swalloc.proofs.FrontGiven.{slice_set-with_front, with_front_kept, with_front_skip}
 use Rattle.worm_swalloc.proofs.SwitchPass.{get_or-replicate_same, named_unready, named_within}
+use Rattle.worm_swalloc.proofs.GrantsOfSet.{sole_here, sole_elsewhere}
 use Rattle.worm_swalloc.proofs.ChoicesByPort.{ChosenBelow, chosen_none, chosen_more, chosen_pass}
 
 -- what the ports name
-
-pub sole_here : (port : ℕ) (o : Option SwGrant) → port < 7 → slice_index_or (sole_named port o) port None ≡ o
-sole_here port o within = get_or-set_same (replicate 7 None) port o None within
-
-sole_elsewhere : (port p : ℕ) (o : Option SwGrant) → (p ≡ port → ⊥) → slice_index_or (sole_named port o) p None ≡ None
-sole_elsewhere port p o other = get_or-set_other (replicate 7 None) port p o None other ∙ get_or-replicate_same 7 p None
 
 module _ (s : SwAllocState) (ready : List (List (Option ℕ))) (port : ℕ) (request : Option SwGrant)
     (r : IsSwAlloc s.ports s.channels s.inputs s.outputs) (within : port < s.ports) (sole : IsSolePort ready port)

@@ -1,5 +1,5 @@
 -- One pass of switch allocation, separable and input first (Dally and Towles, chapter 19).
-use Rattle.std.specs.Prelude.{◌≡◌, ℕ, ◌<◌, ◌≤◌, ◌==◌, ◌&&◌, nat_lt, Bool, false, if◌then◌else◌, List, [], Option, Some}
+use Rattle.std.specs.Prelude.{◌≡◌, ℕ, ◌<◌, ◌≤◌, ◌==◌, ◌&&◌, nat_lt, Bool, true, false, if◌then◌else◌, List, [], Option, Some}
 use Rattle.std.specs.Prelude.{None, IfSome, is_some, replicate, slice_index_or, slice_set}
 use Rattle.std.specs.Option.{option_map}
 use Rattle.worm_vcalloc.specs.Arbiter.{ArbiterState, no_arbiter, winner, after_pick}
@@ -95,6 +95,23 @@ sole_named port request = slice_set (replicate 7 None) port request
 abbrev pub is_of : Option SwGrant → ℕ → Bool
 is_of None vc = false
 is_of (Some g) vc = g.vc == vc
+
+-- each channel of the set is that of its port's request
+abbrev pub AreRequested : List (Option SwGrant) → ℕ → Type 0
+AreRequested requests set = (port vc : ℕ) → port < 7 → vc < 8 → has set port vc ≡ true
+    → is_of (slice_index_or requests port None) vc ≡ true
+
+-- a request, where its channel is in the set
+abbrev pub if_in : ℕ → ℕ → Option SwGrant → Option SwGrant
+if_in set port None = None
+if_in set port (Some g) = if has set port g.vc then Some g else None
+
+abbrev pub granted_at : List (Option SwGrant) → ℕ → ℕ → Option SwGrant
+granted_at requests set port = if_in set port (slice_index_or requests port None)
+
+-- the grants that a set of channels makes of the requests
+abbrev pub granted_of : List (Option SwGrant) → ℕ → List (Option SwGrant)
+granted_of requests set = with_front 7 (granted_at requests set) (replicate 7 None)
 
 -- the channels that are granted, as a set
 pub record AreGranted (grants : List (Option SwGrant)) (channels : ℕ) : Type 0 where

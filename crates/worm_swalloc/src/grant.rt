@@ -1,5 +1,6 @@
-ghost use Rattle.std.specs.Prelude.{◌≡◌, ◌<◌, None, Some, replicate, slice_index_or, slice_set};
-ghost use Rattle.worm_swalloc.specs.SwAlloc.{AreGranted};
+ghost use Rattle.std.specs.Prelude.{◌≡◌, ◌<◌, None, Some, replicate, slice_index_or};
+ghost use Rattle.worm_swalloc.specs.SwAlloc.{AreChannelsBelow, AreRequested, AreGranted};
+ghost use Rattle.worm_swalloc.specs.SwAlloc.{granted_of, sole_named};
 
 use std::marker::Model;
 use worm_vcalloc::{ChannelMap, ChannelSet};
@@ -16,8 +17,8 @@ pub struct SwGrant {
 /// The output port that each input channel would send to, by port and channel.
 pub type ReadyOuts = ChannelMap;
 
-/// What each input port may send. Beside the list it knows the channels that may send, so that whoever sends goes past
-/// all other ports.
+/// What each input port may send: of what the ports named in a pass, that whose channel is in a set. So a grant is one
+/// bit, and whoever sends takes the set alone and goes past all other ports.
 ///
 /// ```text
 /// let mut left = grants.granted();
@@ -25,22 +26,22 @@ pub type ReadyOuts = ChannelMap;
 /// ```
 #[derive(Drop)]
 pub struct SwGrants {
-    /// By input port.
-    grants: [Option<SwGrant>; 7],
+    /// What each input port named, granted or not.
+    requests: [Option<SwGrant>; 7],
     /// The channels that may send, one of each port that has a grant.
     granted: ChannelSet,
 }
 
 impl Model for SwGrants {
     ghost use Rattle.std.specs.Prelude.{List, Option};
-    ghost use Rattle.worm_swalloc.specs.SwAlloc.{AreGranted};
+    ghost use Rattle.worm_swalloc.specs.SwAlloc.{AreChannelsBelow, AreRequested, granted_of};
     ghost use Rattle.worm_swalloc.specs.declared.grant.SwGrant.{SwGrant};
 
     ghost Value = { List (Option SwGrant) };
 
-    ghost view = { λ g. g.grants };
+    ghost view = { λ g. granted_of g.requests g.granted };
 
-    ghost invariant = { λ g. AreGranted g.grants g.granted };
+    ghost invariant = { λ g. AreChannelsBelow 8 g.requests × AreRequested g.requests g.granted };
 }
 
 impl SwGrants {
@@ -49,20 +50,31 @@ impl SwGrants {
         ensures { result ≡ replicate 7 None }
     {
         SwGrants {
-            grants: [None; 7],
+            requests: [None; 7],
             granted: ChannelSet::new(),
         }
     }
 
-    /// An input port without a grant is granted this.
-    pub fn put(&mut self, port: u8, grant: SwGrant)
+    /// Of these requests, one an input port, those whose channels are in the set.
+    pub(crate) fn among(requests: [Option<SwGrant>; 7], granted: ChannelSet) -> SwGrants
+        requires channels { AreChannelsBelow 8 requests }
+        requires requested { AreRequested requests granted }
+        ensures { result ≡ granted_of requests granted }
+    {
+        SwGrants { requests, granted }
+    }
+
+    /// One input port alone is granted something.
+    pub(crate) fn sole(port: u8, grant: SwGrant) -> SwGrants
         requires port { port < 7 }
         requires channel { grant.vc < 8 }
-        requires none { slice_index_or self.old port None ≡ None }
-        ensures { self.new ≡ slice_set self.old port (Some grant) }
+        ensures { result ≡ sole_named port (Some grant) }
     {
-        self.grants[port as usize] = Some(grant);
-        self.granted.put(port, grant.vc, true);
+        let mut requests = [None; 7];
+        requests[port as usize] = Some(grant);
+        let mut granted = ChannelSet::new();
+        granted.put(port, grant.vc, true);
+        SwGrants::among(requests, granted)
     }
 
     /// What an input port may send, if anything.
@@ -70,7 +82,8 @@ impl SwGrants {
         requires { port < 7 }
         ensures { result ≡ slice_index_or self.now port None }
     {
-        self.grants[usize::from(port)]
+        let request = self.requests[port as usize]?;
+        self.granted.contains(port, request.vc).then_some(request)
     }
 
     /// The channels that may send, at most one of each input port.

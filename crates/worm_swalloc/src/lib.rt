@@ -12,6 +12,9 @@
 //! ready channel are passed over, and so are output ports that nobody asks for: who asks for which is
 //! gathered in one set as the input ports are looked at.
 //!
+//! What a pass grants is what the input ports named beside a set: the channels that are granted, a bit for each.
+//! Whoever asks for the set alone is given one word, and no table of grants is made.
+//!
 //! It makes one pass and no second for the ports left over, so its matching need not be a largest one.
 #![tactic(auto)]
 

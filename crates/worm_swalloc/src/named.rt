@@ -60,6 +60,13 @@ impl Named {
         self.requests[usize::from(port)]
     }
 
+    /// What each input port names.
+    pub(crate) fn into_requests(self) -> [Option<SwGrant>; 7]
+        ensures { result ≡ self }
+    {
+        self.requests
+    }
+
     /// The input ports that ask for each output port.
     pub(crate) fn askers(&self) -> ChannelSet
         ensures { AreAskers self.now result }

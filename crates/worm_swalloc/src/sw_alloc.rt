@@ -1,18 +1,19 @@
 ghost use Rattle.std.specs.Prelude.{◌≡◌, ℕ, ◌^◌, ◌<◌, ◌≤◌, IfSome, None, is_some, replicate, true, slice_index_or};
-ghost use Rattle.std.specs.Prelude.{slice_set};
+ghost use Rattle.std.specs.Prelude.{Some, slice_set};
 ghost use Rattle.worm_vcalloc.specs.Arbiter.{no_arbiter, line_requests, after_pick};
+ghost use Rattle.worm_vcalloc.specs.ChannelSet.{IsPut};
 ghost use Rattle.worm_vcalloc.specs.Table.{cell};
 ghost use Rattle.worm_swalloc.specs.Front.{with_front};
 ghost use Rattle.worm_swalloc.specs.SwAlloc.{SwAllocState, IsSwAlloc, IsSwitchMatching, AreChannelsBelow};
 ghost use Rattle.worm_swalloc.specs.SwAlloc.{named, all_named, sole_named, IsSolePort, is_for, channel_of, chosen};
 ghost use Rattle.worm_swalloc.specs.SwAlloc.{granted, sw_grants, sw_after, output_after, after_grant, with_choice};
-ghost use Rattle.worm_swalloc.specs.SwAlloc.{with_move};
+ghost use Rattle.worm_swalloc.specs.SwAlloc.{with_move, AreRequested, granted_of};
 
 use crate::grant::{SwGrant, SwGrants};
 use crate::named::Named;
 use crate::ready::Ready;
 use std::marker::Model;
-use worm_vcalloc::Arbiter;
+use worm_vcalloc::{Arbiter, ChannelSet};
 
 /// The allocator of the switch, separable and input first (Dally and Towles, chapter 19).
 ///
@@ -84,7 +85,8 @@ impl SwAlloc {
         }
         let mut named = Named::new();
         self.gather(ready, &mut named);
-        self.grant_named(&named)
+        let granted = self.grant_named(&named);
+        SwGrants::among(named.into_requests(), granted)
     }
 
     /// The port that alone has ready channels, if there is one.
@@ -139,26 +141,28 @@ impl SwAlloc {
     }
 
     /// The second half of a pass: the arbiter of each output port that is asked for chooses among the input ports that
-    /// ask for it. It moves, and so does that of the chosen input port, past the channel that it named.
-    fn grant_named(&mut self, named: &Named) -> SwGrants
+    /// ask for it. It moves, and so does that of the chosen input port, past the channel that it named. Tells the
+    /// channels that are granted.
+    fn grant_named(&mut self, named: &Named) -> ChannelSet
         requires { AreChannelsBelow self.old.channels named.now }
-        ensures grants { result ≡ with_front self.old.ports (granted self.old named.now self.old.ports)
-            (replicate 7 None) }
+        ensures requested { AreRequested named.now result }
+        ensures grants { granted_of named.now result
+            ≡ with_front self.old.ports (granted self.old named.now self.old.ports) (replicate 7 None) }
         ensures after { self.new ≡ record self.old {
-          inputs = with_front self.old.ports (after_grant self.old result) self.old.inputs;
+          inputs = with_front self.old.ports (after_grant self.old (granted_of named.now result)) self.old.inputs;
           outputs = with_front self.old.ports (output_after self.old named.now) self.old.outputs;
         } }
     {
         let ports = self.ports;
         let askers = named.askers();
-        let mut grants = SwGrants::new();
+        let mut granted = ChannelSet::new();
         let mut left = askers;
         while let Some(out) = left.pop_port() {
             if out < ports {
-                self.choose_for(out, askers.row(out, ports), named, &mut grants);
+                self.choose_for(out, askers.row(out, ports), named, &mut granted);
             }
         }
-        grants
+        granted
     }
 
     /// The second half of a pass in which one input port alone may name anything: it has no rival, so what it names is
@@ -174,52 +178,54 @@ impl SwAlloc {
         } }
     {
         let ports = self.ports;
-        let mut grants = SwGrants::new();
         let Some(grant) = request else {
-            return grants;
+            return SwGrants::new();
         };
-        if grant.out < ports {
-            self.outputs[grant.out as usize].move_past(port);
-            self.commit(port, request, &mut grants);
+        if grant.out >= ports {
+            return SwGrants::new();
         }
-        grants
+        self.outputs[grant.out as usize].move_past(port);
+        self.inputs[port as usize].move_past(grant.vc);
+        SwGrants::sole(port, grant)
     }
 
     /// The arbiter of one output port chooses, and that of the chosen input port moves.
-    fn choose_for(&mut self, out: u8, lines: u64, named: &Named, grants: &mut SwGrants)
+    fn choose_for(&mut self, out: u8, lines: u64, named: &Named, granted: &mut ChannelSet)
         requires out { out < self.old.ports }
         requires channels { AreChannelsBelow self.old.channels named.now }
         requires few { lines < 2 ^ self.old.ports }
         requires lines { (line : ℕ) → line < self.old.ports
             → line_requests lines line ≡ is_for (slice_index_or named.now line None) out }
-        requires none { (port : ℕ) → is_for (slice_index_or named.now port None) out ≡ true
-            → slice_index_or grants.old port None ≡ None }
-        ensures grants { grants.new ≡ with_choice grants.old named.now (chosen self.old named.now out) }
+        requires requested { AreRequested named.now granted.old }
+        ensures requested { AreRequested named.now granted.new }
+        ensures grants { granted_of named.now granted.new
+            ≡ with_choice (granted_of named.now granted.old) named.now (chosen self.old named.now out) }
         ensures after { self.new ≡ record self.old {
           inputs = with_move self.old.inputs named.now (chosen self.old named.now out);
           outputs = slice_set self.old.outputs out (output_after self.old named.now out);
         } }
     {
-        if let Some(port) = self.outputs[out as usize].pick(lines) {
-            self.commit(port, named.get(port), grants);
-        }
+        let Some(port) = self.outputs[out as usize].pick(lines) else {
+            return;
+        };
+        let Some(request) = named.get(port) else {
+            return;
+        };
+        self.commit(port, request.vc, granted);
     }
 
-    /// An input port is granted what it named, and its arbiter moves past that channel.
-    fn commit(&mut self, port: u8, request: Option<SwGrant>, grants: &mut SwGrants)
+    /// An input port is granted the channel that it named, and its arbiter moves past it.
+    fn commit(&mut self, port: u8, vc: u8, granted: &mut ChannelSet)
         requires port { port < self.old.ports }
-        requires channel { IfSome request (λ g. g.vc < self.old.channels) }
-        requires none { slice_index_or grants.old port None ≡ None }
-        ensures grants { grants.new ≡ slice_set grants.old port request }
+        requires channel { vc < self.old.channels }
+        ensures granted { IsPut granted.old granted.new port vc true }
         ensures after { self.new ≡ record self.old {
           inputs = slice_set self.old.inputs port
-              (after_pick (slice_index_or self.old.inputs port no_arbiter) (channel_of request));
+              (after_pick (slice_index_or self.old.inputs port no_arbiter) (Some vc));
         } }
     {
-        if let Some(grant) = request {
-            grants.put(port, grant);
-            self.inputs[port as usize].move_past(grant.vc);
-        }
+        self.inputs[port as usize].move_past(vc);
+        granted.put(port, vc, true);
     }
 }
 

@@ -4,8 +4,9 @@ use Rattle.worm_vcalloc.proofs.PassAgrees.{none_where_not_some}
 use Rattle.worm_vcalloc.proofs.SetMembers.{has-empty}
 use Rattle.worm_swalloc.specs.Front.{with_front}
 use Rattle.worm_swalloc.specs.SwAlloc.{SwAllocState, IsSwAlloc, sw_grants, IsSwitchMatching, granted, all_named}
-use Rattle.worm_swalloc.specs.SwAlloc.{sole_named}
+use Rattle.worm_swalloc.specs.SwAlloc.{sole_named, granted_of}
 use Rattle.worm_swalloc.proofs.SwitchPass.{matching, sw_grants_none, sw_after_none, named_within, pass_is}
+use Rattle.worm_swalloc.proofs.GrantsOfSet.{below_more}
 use Rattle.worm_swalloc.proofs.SoleIsGranted.{sole_is_all, sole_within}
 use Rattle.worm_swalloc.proofs.sw_alloc.SwAlloc.grant.Goals as goal
 
@@ -86,29 +87,40 @@ returns-in-Some-clause-matching c =
 
 -- several have
 
-pub grant_named-requires : goal.grant_named-requires
-grant_named-requires c = named_within c.args.self.now c.args.ready.now c.gather.new.asked c.gather.ensures.ready
+pub grant_named-granted-requires : goal.grant_named-granted-requires
+grant_named-granted-requires c = named_within c.args.self.now c.args.ready.now c.gather.new.asked c.gather.ensures.ready
     c.gather.ensures.named
+
+pub among-requires-clause-channels : goal.among-requires-clause-channels
+among-requires-clause-channels c =
+    rw c.into_requests.ensures
+    (below_more c.args.self.now.channels 8 c.gather.new.asked c.gather.ensures.ready.few_channels
+    (named_within c.args.self.now c.args.ready.now c.gather.new.asked c.gather.ensures.ready c.gather.ensures.named))
+
+pub among-requires-clause-requested : goal.among-requires-clause-requested
+among-requires-clause-requested c = rw c.into_requests.ensures c.grant_named-granted.ensures.requested
+
+-- the grants are those of the pass
+granted_is : (c : goal.After-among) → granted_of c.gather.new.asked c.grant_named-granted.result
+    ≡ sw_grants c.args.self.now c.args.ready.now
+granted_is c =
+    c.grant_named-granted.ensures.grants
+    ∙ ap (λ r. with_front c.args.self.now.ports (granted c.args.self.now r c.args.self.now.ports) (replicate 7 None))
+    c.gather.ensures.named
+
+among_is : (c : goal.After-among) → c.among.result ≡ sw_grants c.args.self.now c.args.ready.now
+among_is c = c.among.ensures ∙ ap (λ r. granted_of r c.grant_named-granted.result) c.into_requests.ensures
+    ∙ granted_is c
 
 pub returns-clause-after : goal.returns-clause-after
 returns-clause-after c =
-    let s : SwAllocState = record {
-      ports = c.self.inside.ports;
-      channels = c.self.inside.channels;
-      inputs = c.self.inside.inputs;
-      outputs = c.self.inside.outputs;
-    } in
     let few = c.self.invariant.few_ports in
-    let is : c.grant_named.result ≡ sw_grants c.args.self.now c.args.ready.now =
-    c.grant_named.ensures.grants ∙ ap (λ r. with_front c.args.self.now.ports
-    (granted c.args.self.now r c.args.self.now.ports) (replicate 7 None)) c.gather.ensures.named in
-    pass_is c.args.self.now c.grant_named.new.self c.args.ready.now c.gather.new.asked c.grant_named.result
-    (rw (← c.self.view_is) (omega arith)) c.gather.ensures.named is c.grant_named.ensures.after
+    pass_is c.args.self.now c.grant_named-granted.new.self c.args.ready.now c.gather.new.asked
+    (granted_of c.gather.new.asked c.grant_named-granted.result)
+    (rw (← c.self.view_is) (omega arith)) c.gather.ensures.named (granted_is c)
+    c.grant_named-granted.ensures.after
 
 pub returns-clause-matching : goal.returns-clause-matching
 returns-clause-matching c =
-    let is : c.grant_named.result ≡ sw_grants c.args.self.now c.args.ready.now =
-    c.grant_named.ensures.grants ∙ ap (λ r. with_front c.args.self.now.ports
-    (granted c.args.self.now r c.args.self.now.ports) (replicate 7 None)) c.gather.ensures.named in
-    subst (IsSwitchMatching c.args.self.now c.args.ready.now) (sym is)
+    subst (IsSwitchMatching c.args.self.now c.args.ready.now) (sym (among_is c))
     (matching c.args.self.now c.args.ready.now c.gather.ensures.ready)

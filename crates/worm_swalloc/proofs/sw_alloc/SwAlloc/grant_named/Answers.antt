@@ -1,6 +1,7 @@
-use Rattle.std.proofs.Common.{arith}
-use Rattle.worm_swalloc.specs.SwAlloc.{SwAllocState}
-use Rattle.worm_swalloc.proofs.ChoicesByPort.{ChoosingBelow, choosing_start, choosing_more, choosing_all, not_granted}
+use Rattle.std.proofs.Common.{arith, ap, ◌∙◌, sym, subst}
+use Rattle.worm_swalloc.specs.SwAlloc.{SwAllocState, AreRequested, granted_of}
+use Rattle.worm_swalloc.proofs.GrantsOfSet.{none_granted, none_requested}
+use Rattle.worm_swalloc.proofs.ChoicesByPort.{ChosenBelow, ChoosingBelow, choosing_start, choosing_more, choosing_all}
 use Rattle.worm_swalloc.proofs.sw_alloc.SwAlloc.grant_named.Goals as goal
 
 pub loop-out-init : goal.loop-out-init
@@ -12,8 +13,11 @@ loop-out-init c =
       outputs = c.self.inside.outputs;
     } in
     let few = c.self.invariant.few_ports in
-    rw (← c.self.view_is) (choosing_start s c.args.named.now c.new-grants.result c.askers-askers.result few
-    (omega arith) c.new-grants.ensures)
+    rw (← c.self.view_is) (
+      choosing_start s c.args.named.now (granted_of c.args.named.now c.new-granted.result) c.askers-askers.result few
+          (omega arith) (ap (granted_of c.args.named.now) c.new-granted.ensures ∙ none_granted c.args.named.now),
+      subst (AreRequested c.args.named.now) (sym c.new-granted.ensures) (none_requested c.args.named.now),
+    )
 
 pub loop-out-preserved-then-out-ports : goal.loop-out-preserved-then-out-ports
 loop-out-preserved-then-out-ports c =
@@ -24,53 +28,42 @@ loop-out-preserved-then-out-ports c =
       outputs = c.self.inside.outputs;
     } in
     let few = c.self.invariant.few_ports in
-    let b : ChoosingBelow s c.args.named.now c.askers-askers.result c.loop-out.left c.loop-out.self c.loop-out.grants =
-    rw (← c.self.view_is) at c.loop-out.invariant in
-    rw (← c.self.view_is)
-    (choosing_more s c.args.named.now c.askers-askers.result c.loop-out.left c.pop_port.new.self c.in-Some.out
-    c.loop-out.self c.choose_for.new.self c.loop-out.grants c.choose_for.new.grants
-    c.self.invariant (omega arith) (omega arith) c.askers-askers.ensures b c.in-Some.ensures c.if-out-ports.true
-    c.choose_for.ensures.grants c.choose_for.ensures.after)
+    let b : ChoosingBelow s c.args.named.now c.askers-askers.result c.loop-out.left c.loop-out.self
+    (granted_of c.args.named.now c.loop-out.granted) = rw (← c.self.view_is) at c.loop-out.invariant.0 in
+    rw (← c.self.view_is) (
+      choosing_more s c.args.named.now c.askers-askers.result c.loop-out.left c.pop_port.new.self c.in-Some.out
+          c.loop-out.self c.choose_for.new.self (granted_of c.args.named.now c.loop-out.granted)
+          (granted_of c.args.named.now c.choose_for.new.granted)
+          c.self.invariant (omega arith) (omega arith) c.askers-askers.ensures b c.in-Some.ensures c.if-out-ports.true
+          c.choose_for.ensures.grants c.choose_for.ensures.after,
+      c.choose_for.ensures.requested,
+    )
+
+-- all have chosen
+chosen_all : (c : goal.In_default)
+    → ChosenBelow (record {
+      ports = c.self.inside.ports;
+      channels = c.self.inside.channels;
+      inputs = c.self.inside.inputs;
+      outputs = c.self.inside.outputs;
+    }) c.args.named.now c.self.inside.ports c.loop-out.self
+    (granted_of c.args.named.now c.loop-out.granted)
+chosen_all c =
+    let s : SwAllocState = record {
+      ports = c.self.inside.ports;
+      channels = c.self.inside.channels;
+      inputs = c.self.inside.inputs;
+      outputs = c.self.inside.outputs;
+    } in
+    let b : ChoosingBelow s c.args.named.now c.askers-askers.result c.loop-out.left c.loop-out.self
+    (granted_of c.args.named.now c.loop-out.granted) = rw (← c.self.view_is) at c.loop-out.invariant.0 in
+    let few = c.self.invariant.few_ports in
+    choosing_all s c.args.named.now c.askers-askers.result c.loop-out.left c.loop-out.self
+    (granted_of c.args.named.now c.loop-out.granted)
+    c.self.invariant (omega arith) c.askers-askers.ensures b c.in_default.ensures.0
 
 pub returns-clause-grants : goal.returns-clause-grants
-returns-clause-grants c =
-    let s : SwAllocState = record {
-      ports = c.self.inside.ports;
-      channels = c.self.inside.channels;
-      inputs = c.self.inside.inputs;
-      outputs = c.self.inside.outputs;
-    } in
-    let few = c.self.invariant.few_ports in
-    let b : ChoosingBelow s c.args.named.now c.askers-askers.result c.loop-out.left c.loop-out.self c.loop-out.grants =
-    rw (← c.self.view_is) at c.loop-out.invariant in
-    rw (← c.self.view_is)
-    (choosing_all s c.args.named.now c.askers-askers.result c.loop-out.left c.loop-out.self c.loop-out.grants
-    c.self.invariant (omega arith) c.askers-askers.ensures b c.in_default.ensures.0).grants_are
+returns-clause-grants c = rw (← c.self.view_is) (chosen_all c).grants_are
 
 pub returns-clause-after : goal.returns-clause-after
-returns-clause-after c =
-    let s : SwAllocState = record {
-      ports = c.self.inside.ports;
-      channels = c.self.inside.channels;
-      inputs = c.self.inside.inputs;
-      outputs = c.self.inside.outputs;
-    } in
-    let few = c.self.invariant.few_ports in
-    let b : ChoosingBelow s c.args.named.now c.askers-askers.result c.loop-out.left c.loop-out.self c.loop-out.grants =
-    rw (← c.self.view_is) at c.loop-out.invariant in
-    rw (← c.self.view_is)
-    (choosing_all s c.args.named.now c.askers-askers.result c.loop-out.left c.loop-out.self c.loop-out.grants
-    c.self.invariant (omega arith) c.askers-askers.ensures b c.in_default.ensures.0).state
-
-pub choose_for-requires-clause-none : goal.choose_for-requires-clause-none
-choose_for-requires-clause-none c =
-    let s : SwAllocState = record {
-      ports = c.self.inside.ports;
-      channels = c.self.inside.channels;
-      inputs = c.self.inside.inputs;
-      outputs = c.self.inside.outputs;
-    } in
-    let b : ChoosingBelow s c.args.named.now c.askers-askers.result c.loop-out.left c.loop-out.self c.loop-out.grants =
-    rw (← c.self.view_is) at c.loop-out.invariant in
-    λ port asks. not_granted s c.args.named.now c.askers-askers.result c.loop-out.left c.pop_port.new.self c.in-Some.out
-    port c.loop-out.self c.loop-out.grants b c.in-Some.ensures asks
+returns-clause-after c = rw (← c.self.view_is) (chosen_all c).state
