@@ -23,7 +23,7 @@ use Rattle.worm_vcalloc.proofs.TableCells.{cell-replicate, IsTable-replicate}
 use Rattle.worm_swalloc.proofs.TableRows.{same_tables, IsTable-table}
 use Rattle.worm_router.specs.Router.{RouterState, ChannelState, IsPlace, terminal, width, line, fresh_channel}
 use Rattle.worm_router.specs.Router.{free_output, put_in, input_at}
-use Rattle.worm_router.specs.Busy.{HasFront, IsSetOf, waits, holds, is_occupied, is_waiting}
+use Rattle.worm_router.specs.Busy.{HasFront, IsSetOf, waits, is_occupied, is_waiting}
 use Rattle.worm_router.specs.Tables.{PutsRows}
 use Rattle.worm_router.specs.Allocation.{within, asking, request_at, requests, is_free, free_channels}
 use Rattle.worm_router.specs.Allocation.{channel_pass}
@@ -88,12 +88,7 @@ put_fronted had now f true front is =
     λ waiting. ap is_occupied is ∙ some
 put_fronted had now f false front is = subst HasFront (sym is) front
 
--- a channel that holds an output channel does not wait, nor does it once a flit left
-pub holds_waits_not : (s : InRecord) → holds s ≡ true → waits s ≡ false
-holds_waits_not Idle e = refl
-holds_waits_not (Waiting o) e = absurd (cc)
-holds_waits_not (Active o c) e = refl
-
+-- a channel that did not wait does not once a flit left
 pub waits_not_after : (closed : Bool) (s : InRecord) → waits s ≡ false → waits (if closed then Idle else s) ≡ false
 waits_not_after true s e = refl
 waits_not_after false s e = e

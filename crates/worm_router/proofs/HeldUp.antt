@@ -63,12 +63,11 @@ free_where : (d : ℕ × Flit) (b : Bool) (f : Flit) (o : ℕ) → (if b then So
 free_where d true f o e = refl
 free_where d false f o e = absurd (cc)
 
-pub leaves_free : (r s : RouterState) (port vc set : ℕ) (d : ℕ × Flit) → r ≡ s → IsPlace r port vc → AreHeldUp r set
-    → leaving s port vc ≡ Some d → has set port vc ≡ false
-leaves_free r s port vc set d same place held leaves =
+pub leaves_free : (r : RouterState) (port vc set : ℕ) (d : ℕ × Flit) → IsPlace r port vc → AreHeldUp r set
+    → leaving r port vc ≡ Some d → has set port vc ≡ false
+leaves_free r port vc set d place held leaves =
     held.each port vc place.port_in place.channel_in
-    ∙ free_by (input_at r port vc) (input_at r port vc).state (input_at r port vc).buffer
-    (ap (λ (q : RouterState). leaving q port vc) same ∙ leaves) where
+    ∙ free_by (input_at r port vc) (input_at r port vc).state (input_at r port vc).buffer leaves where
       free_by : (c : ChannelState) (t : InRecord) (fs : List Flit) → leaving_by r port c t fs ≡ Some d
           → (holds t && not (could_send r port t c.owed)) ≡ false
       free_by c Idle fs is = refl
@@ -115,7 +114,7 @@ owes_all owed depth fits = grind (arith, nat_tests)
 
 -- ---- one input channel is written, and the output channels may be
 
-unfiled : (set port vc : ℕ) (within : Bool) → has set port vc ≡ within → IsFiled set set port vc within
+pub unfiled : (set port vc : ℕ) (within : Bool) → has set port vc ≡ within → IsFiled set set port vc within
 unfiled set port vc within is = record { here = is; elsewhere = λ p c p_in c_in other. refl }
 
 module _ (r : RouterState) (port vc i : ℕ) (had now : ChannelState) (input : IsInput r port vc i had)
@@ -189,19 +188,17 @@ module _ (r : RouterState) (port vc i : ℕ) (had now : ChannelState) (input : I
         credits = ap (nat_lt 0) same ∙ ap (λ (w : OutRecord). nat_lt 0 w.credits) output.was
 
   -- it let a flit out
-  pub held_left : (out out_vc o : ℕ) (had_out u : OutRecord) (spent more old new : ℕ) (closed follows : Bool)
+  pub held_left : (out out_vc o : ℕ) (had_out u : OutRecord) (spent more old new : ℕ) (closed : Bool)
       → IsOutput r out out_vc o had_out
       → had.state ≡ Active out out_vc → now.state ≡ (if closed then Idle else had.state)
       → spent ≡ credit_of r out → more ≡ credit_of r port
-      → follows ≡ ((spent == 0 || nat_lt 0 u.credits) && (more == 0 || nat_lt now.owed r.depth))
-      → IsFiled old new port vc (not closed && not follows) → AreHolders r → AreHeldUp r old
-      → AreHeldUp (written (slice_set r.outputs o u)) new
-  held_left out out_vc o had_out u spent more old new closed follows output held_it after a b follows_is filed held
-      are =
+      → IsFiled old new port vc
+      (not closed && not ((spent == 0 || nat_lt 0 u.credits) && (more == 0 || nat_lt now.owed r.depth)))
+      → AreHolders r → AreHeldUp r old → AreHeldUp (written (slice_set r.outputs o u)) new
+  held_left out out_vc o had_out u spent more old new closed output held_it after a b filed held are =
       held_filed (slice_set r.outputs o u) old new
       (subst (IsFiled old new port vc)
-      (ap (λ k. not closed && not k) follows_is
-      ∙ follows_as (record r { outputs = slice_set r.outputs o u }) port out out_vc now.owed spent more u now.state
+      (follows_as (record r { outputs = slice_set r.outputs o u }) port out out_vc now.owed spent more u now.state
       closed (after ∙ ap (λ s. if closed then Idle else s) held_it)
       (get_or-set_at r.outputs o (line r out out_vc) u (free_output r.depth) (sym output.at) output.within) a b) filed)
       (λ p v place other. held_out r o u p (input_at r p v) output.within

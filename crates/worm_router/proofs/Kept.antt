@@ -1,7 +1,7 @@
 -- What a change of one input channel and one output channel leaves sound.
 use Rattle.std.proofs.Common.{ℕ, ◌+◌, ◌-◌, ◌*◌, ◌≤◌, ◌<◌, ◌≡◌, nat_lt, List, [], ◌∷◌, All, length, length-append}
 use Rattle.std.proofs.Common.{drop, sum, slice_set, get_or, Bool, true, false, arith, inl, inr}
-use Rattle.std.proofs.Common.{refl, sym, subst, ap, ◌∙◌, if◌then◌else◌}
+use Rattle.std.proofs.Common.{Some, refl, sym, subst, ap, ◌∙◌, if◌then◌else◌}
 use Rattle.std.proofs.Math.ListN.{length-set}
 use Rattle.std.proofs.lemmas.Grind.{common_steps, elements, get_or-set_at}
 use Rattle.std.proofs.lemmas.Bool.{cases_eq, eq-eqb}
@@ -10,13 +10,12 @@ use Rattle.std.proofs.lemmas.Nat.{same_from_place}
 use Rattle.std.proofs.lemmas.List.{get_or-set_other, get_or_default}
 use Rattle.std.proofs.lemmas.List.Elements.{All-set, All-get_or}
 use Rattle.worm_flit.specs.declared.Flit.{Flit}
-use Rattle.worm_flit.specs.Kinds.{closes}
 use Rattle.worm_mesh.specs.Address.{node_count}
 use Rattle.worm_records.specs.declared.InRecord.{InRecord}
 use Rattle.worm_records.specs.declared.InRecord.TheVariants.{Idle, Waiting}
 use Rattle.worm_records.specs.declared.OutRecord.{OutRecord}
 use Rattle.worm_router.specs.Router.{HasLists, IsChannel, ChannelState, StateFits, RouterState, terminal, width}
-use Rattle.worm_router.specs.Router.{credit_of, free_output, fresh_channel, line, input_at, put_in, in_state, let_out}
+use Rattle.worm_router.specs.Router.{credit_of, free_output, fresh_channel, line, input_at, put_in, in_state}
 
 pub both_set_sound : (mesh : List ℕ) (node : ℕ) (channels : List ℕ) (depth : ℕ) (inputs : List ChannelState)
     (outputs : List OutRecord) (i o : ℕ) (c : ChannelState) (u : OutRecord)
@@ -41,14 +40,24 @@ idle_or_same : (closing : Bool) (terminal width : ℕ) (s : InRecord) → StateF
 idle_or_same true terminal width s fits = tt
 idle_or_same false terminal width s fits = fits
 
-pub let_out_sound : (mesh channels : List ℕ) (depth : ℕ) (c : ChannelState) (f : Flit) (more : ℕ)
-    → IsChannel mesh channels depth c → c.owed + more ≤ depth → IsChannel mesh channels depth (let_out c f more)
-let_out_sound mesh channels depth c f more sound room = record {
+-- an input channel without its front, which left as f, and whose packet has left whole where that `closed` it
+abbrev pub left_by : Bool → ChannelState → Flit → ℕ → ChannelState
+left_by closed c f more =
+    record c {
+      buffer = drop 1 c.buffer;
+      state = (if closed then Idle else c.state);
+      owed = c.owed + more;
+      last_out = Some f;
+    }
+
+pub left_sound : (mesh channels : List ℕ) (depth : ℕ) (closed : Bool) (c : ChannelState) (f : Flit) (more : ℕ)
+    → IsChannel mesh channels depth c → c.owed + more ≤ depth → IsChannel mesh channels depth (left_by closed c f more)
+left_sound mesh channels depth closed c f more sound room = record {
   same_depth = sound.same_depth;
   fits = let less : length (drop 1 c.buffer) ≤ length c.buffer = grind (arith, common_steps) in let fits = sound.fits in
       omega arith;
   bound_for_nodes = let all = sound.bound_for_nodes in grind (arith, elements);
-  state_fits = idle_or_same (closes f.kind) (2 * length mesh) (sum channels) c.state sound.state_fits;
+  state_fits = idle_or_same closed (2 * length mesh) (sum channels) c.state sound.state_fits;
   owed_fits = room;
 }
 

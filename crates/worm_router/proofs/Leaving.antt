@@ -10,7 +10,6 @@ use Rattle.worm_records.specs.declared.InRecord.{InRecord}
 use Rattle.worm_records.specs.declared.InRecord.TheVariants.{Idle, Waiting, Active}
 use Rattle.worm_router.specs.Router.{RouterState, ChannelState, IsRouter, IsChannel, IsPlace, StateFits, MayLeave}
 use Rattle.worm_router.specs.Router.{terminal, width, line, fresh_channel, input_at, output_at, leaving, leaving_by}
-use Rattle.worm_router.specs.Busy.{holds}
 use Rattle.worm_router.proofs.Laws.{line-places}
 
 pub channel_at : (r : RouterState) (port vc : ℕ) → IsRouter r → IsPlace r port vc
@@ -56,14 +55,7 @@ may_leave r port vc d sound place is =
     may_leave_by r port vc (input_at r port vc).state
     (input_at r port vc).buffer d here.state_fits here.bound_for_nodes here.owed_fits is
 
--- what may leave is of a channel that holds an output channel
-pub leaves_active : (r : RouterState) (port : ℕ) (c : ChannelState) (s : InRecord) (fs : List Flit) (d : ℕ × Flit)
-    → leaving_by r port c s fs ≡ Some d → holds s ≡ true
-leaves_active r port c Idle fs d is = absurd (cc)
-leaves_active r port c (Waiting o) fs d is = absurd (cc)
-leaves_active r port c (Active o v) fs d is = refl
-
--- namely the one that it leaves by
+-- what may leave is of a channel that holds the output channel that it leaves by
 pub leaves_by_state : (r : RouterState) (port : ℕ) (c : ChannelState) (s : InRecord) (fs : List Flit) (d : ℕ × Flit)
     → leaving_by r port c s fs ≡ Some d → s ≡ Active d.0 d.1.vc
 leaves_by_state r port c Idle fs d is = absurd (cc)

@@ -1,7 +1,6 @@
 ghost use Rattle.std.specs.Prelude.{◌≡◌, ◌<◌, ◌&&◌, ◌||◌, not, false, true, None, IfSome, MatchOption};
-ghost use Rattle.std.specs.Prelude.{replicate, if◌then◌else◌};
+ghost use Rattle.std.specs.Prelude.{replicate};
 ghost use Rattle.worm_vcalloc.specs.ChannelSet.{has};
-ghost use Rattle.worm_vcalloc.specs.Table.{with_cell};
 ghost use Rattle.worm_router.specs.Busy.{AreReady, IsFiled, is_occupied, owes};
 
 use crate::channel::InputChannel;
@@ -81,32 +80,30 @@ impl BusyChannels {
         join_if(&mut self.occupied, port, vc, came);
     }
 
-    /// Files a channel that could send, and has let a flit out by the output channel that it held: it holds that no
-    /// more where the flit `closes`, and otherwise is held up unless a next flit `follows`.
-    pub fn file_left(
-        &mut self,
-        port: u8,
-        vc: u8,
-        channel: &InputChannel,
-        closes: bool,
-        follows: bool,
-    )
+    /// Files a channel that had a flit and has let one out: what it has and what it owes.
+    pub fn file_left(&mut self, port: u8, vc: u8, channel: &InputChannel)
         requires port { port < 7 }
         requires vc { vc < 8 }
-        requires could_send { has self.old.held_up port vc ≡ false }
-        ensures outs { self.new.outs ≡ (if closes then with_cell self.old.outs port vc None else self.old.outs) }
-        ensures held_up { IsFiled self.old.held_up self.new.held_up port vc (not closes && not follows) }
+        requires occupied { has self.old.occupied port vc ≡ true }
         ensures occupied { IsFiled self.old.occupied self.new.occupied port vc (is_occupied channel.now) }
         ensures owing { IsFiled self.old.owing self.new.owing port vc
             (owes channel.now || has self.old.owing port vc) }
+        ensures others { self.new ≡ record self.old { occupied = self.new.occupied; owing = self.new.owing } }
     {
-        self.occupied.put(port, vc, channel.is_occupied());
-        if closes {
-            self.outs.set(port, vc, None);
-        } else {
-            join_if(&mut self.held_up, port, vc, !follows);
-        }
+        leave_if(&mut self.occupied, port, vc, !channel.is_occupied());
         join_if(&mut self.owing, port, vc, channel.owed() > 0);
+    }
+
+    /// Files a channel that could send, and has let a flit out with more of its packet to come: it is held up unless a
+    /// next flit may follow.
+    pub fn file_follower(&mut self, port: u8, vc: u8, may_follow: bool)
+        requires port { port < 7 }
+        requires vc { vc < 8 }
+        requires could_send { has self.old.held_up port vc ≡ false }
+        ensures held_up { IsFiled self.old.held_up self.new.held_up port vc (not may_follow) }
+        ensures others { self.new ≡ record self.old { held_up = self.new.held_up } }
+    {
+        join_if(&mut self.held_up, port, vc, !may_follow);
     }
 
     /// Files a channel whose credit, one that it owed, has gone out; `freed` where it was held up as long as it owed

@@ -1,7 +1,7 @@
 //! What the channel allocator goes over, kept as it comes: which output channels input channels ask for, and which are
 //! free.
 
-ghost use Rattle.std.specs.Prelude.{◌≡◌, ◌<◌, ◌≤◌, Some, None, IsTrue, false, true, replicate, if◌then◌else◌};
+ghost use Rattle.std.specs.Prelude.{◌≡◌, ◌<◌, ◌≤◌, Some, None, IsTrue, false, true, replicate};
 ghost use Rattle.worm_vcalloc.specs.Table.{IsTable, cell, with_cell};
 ghost use Rattle.worm_vcalloc.specs.VcRequest.{is_for};
 ghost use Rattle.worm_router.specs.Tables.{PutsRow, PutsRows};
@@ -115,18 +115,14 @@ impl Demand {
         self.grants_nothing = false;
     }
 
-    /// The output channel is free again, where a closing flit left by it.
-    pub fn release_if(&mut self, closed: bool, out: u8, out_vc: u8)
+    /// The output channel is free again.
+    pub fn release(&mut self, out: u8, out_vc: u8)
         requires out { out < 7 }
         requires out_vc { out_vc < 8 }
-        ensures { self.new ≡ record self.old {
-          free = (if closed then with_cell self.old.free out out_vc true else self.old.free);
-        } }
+        ensures { self.new ≡ record self.old { free = with_cell self.old.free out out_vc true } }
     {
-        if closed {
-            self.free[usize::from(out)][usize::from(out_vc)] = true;
-            self.grants_nothing = false;
-        }
+        self.free[usize::from(out)][usize::from(out_vc)] = true;
+        self.grants_nothing = false;
     }
 
     /// Whether a pass grants nothing: no request is for a free channel. Where none is this may not be known.

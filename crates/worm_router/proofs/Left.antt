@@ -1,0 +1,231 @@
+-- What a flit that left leaves of all that a router keeps.
+use Rattle.std.proofs.Common.{ℕ, ◌+◌, ◌-◌, ◌*◌, ◌≤◌, ◌<◌, ◌≡◌, ◌==◌, ◌&&◌, ◌||◌, nat_lt, Bool, true, false, not, Option, None}
+use Rattle.std.proofs.Common.{Some, slice_set, slice_index_or, get_or, length, List, if◌then◌else◌, arith, inl, refl}
+use Rattle.std.proofs.Common.{ap, sym, subst, ◌∙◌}
+use Rattle.std.proofs.lemmas.List.Elements.{All-set, All-get_or}
+use Rattle.worm_flit.specs.declared.Flit.{Flit}
+use Rattle.worm_records.specs.declared.InRecord.TheVariants.{Idle, Active}
+use Rattle.worm_records.specs.declared.OutRecord.{OutRecord}
+use Rattle.worm_vcalloc.specs.ChannelSet.{has}
+use Rattle.worm_vcalloc.specs.Table.{with_cell}
+use Rattle.worm_router.specs.declared.busy.BusyChannels.{BusyChannels}
+use Rattle.worm_router.specs.Router.{RouterState, ChannelState, IsChannel, IsPlace, terminal, width, line, in_state}
+use Rattle.worm_router.specs.Router.{fresh_channel, free_output, input_at, output_at, leaving, credit_of}
+use Rattle.worm_router.specs.Demand.{DemandView}
+use Rattle.worm_router.specs.Busy.{IsKept, HasFront, IsFiled, is_occupied, is_waiting, owes, waits}
+use Rattle.worm_router.proofs.Kept.{both_set_sound, left_by, left_sound, full_after, no_credit}
+use Rattle.worm_router.proofs.Places.{IsInput, IsOutput, input_of, output_of}
+use Rattle.worm_router.proofs.Filed.{busy_filed, inside_of}
+use Rattle.worm_router.proofs.Leaving.{may_leave, leaves_by_state, owes_more}
+use Rattle.worm_router.proofs.Demanded.{requests_kept, free_left, asks_nothing, waits_not_after}
+use Rattle.worm_router.proofs.Holders.{holders_left}
+use Rattle.worm_router.proofs.HeldOuts.{outs_left}
+use Rattle.worm_router.proofs.HeldUp.{held_left, leaves_free, unfiled}
+
+-- a flit that may leave, for so many credits spent and owed: its input channel and the output channel that this holds,
+-- as they were read
+pub record IsLeaving (r : RouterState) (sets : BusyChannels) (port vc i out out_vc o : ℕ) (had : ChannelState)
+    (had_out : OutRecord) (spent more : ℕ) : Type 0 where
+  pub input : IsInput r port vc i had
+  pub output : IsOutput r out out_vc o had_out
+  pub held_it : had.state ≡ Active out out_vc
+  pub its : had_out.holder ≡ Some (port, vc)
+  pub could_send : has sets.held_up port vc ≡ false
+  pub spends : spent ≡ credit_of r out
+  pub owes_more : more ≡ credit_of r port
+  pub has_credit : spent ≤ had_out.credits
+  pub may_owe : had.owed + more ≤ r.depth
+
+pub leaving_of : (r s : RouterState) (sets : BusyChannels) (asked : DemandView) (masks : List ℕ)
+    (port vc i out o : ℕ) (f : Flit) (had : ChannelState) (had_out : OutRecord) (spent more : ℕ)
+    → r ≡ s → IsKept r sets asked masks → IsPlace s port vc → leaving s port vc ≡ Some (out, f)
+    → i ≡ line s port vc → i < length s.inputs → had ≡ get_or r.inputs i had
+    → o ≡ line s out f.vc → o < length s.outputs → had_out ≡ get_or r.outputs o had_out
+    → spent ≡ credit_of s out → more ≡ credit_of s port
+    → IsLeaving r sets port vc i out f.vc o had had_out spent more
+leaving_of r s sets asked masks port vc i out o f had had_out spent more same kept place leaves at within read at_out
+    within_out read_out spends owes_more =
+    let may : leaving r port vc ≡ Some (out, f) = ap (λ (q : RouterState). leaving q port vc) same ∙ leaves in
+    let input = input_of r s port vc i had same place at within read in
+    let there = may_leave r port vc (out, f) kept.router input.place may in
+    let there_out : IsPlace r out f.vc = record { port_in = there.out_in; channel_in = there.channel_in } in
+    let output = output_of r s out f.vc o had_out same
+    (subst (λ (q : RouterState). IsPlace q out f.vc) same there_out) at_out within_out read_out in
+    let was : had ≡ input_at r port vc =
+    input.was ∙ ap (λ k. slice_index_or r.inputs k (fresh_channel r.depth)) input.at in
+    let was_out : had_out ≡ output_at r out f.vc =
+    output.was ∙ ap (λ k. slice_index_or r.outputs k (free_output r.depth)) output.at in
+    let active : (input_at r port vc).state ≡ Active out f.vc =
+    leaves_by_state r port (input_at r port vc) (input_at r port vc).state (input_at r port vc).buffer (out, f) may in
+    let spends_it : spent ≡ credit_of r out = spends ∙ ap (λ (q : RouterState). credit_of q out) (sym same) in
+    let owes_it : more ≡ credit_of r port = owes_more ∙ ap (λ (q : RouterState). credit_of q port) (sym same) in
+    record {
+      input = input;
+      output = output;
+      held_it = ap (λ (c : ChannelState). c.state) was ∙ active;
+      its = ap (λ (u : OutRecord). u.holder) was_out
+          ∙ kept.holders.held port vc out f.vc input.place.port_in input.place.channel_in active;
+      could_send = leaves_free r port vc sets.held_up (out, f) input.place kept.held_up may;
+      spends = spends_it;
+      owes_more = owes_it;
+      has_credit = let credits = ap (λ (u : OutRecord). u.credits) was_out in
+          omega (arith, there.has_credit, credits, spends_it);
+      may_owe = let owed = ap (λ (c : ChannelState). c.owed) was in omega (arith, there.may_owe, owed, owes_it);
+    }
+
+-- its front is out, and filed so: all of it that is the same whether that closed the packet
+pub record IsOut (sets mid : BusyChannels) (port vc : ℕ) (had gone : ChannelState) (f : Flit) (more : ℕ) : Type 0 where
+  pub gone_is : gone ≡ left_by false had f more
+  pub occupied : IsFiled sets.occupied mid.occupied port vc (is_occupied gone)
+  pub owing : IsFiled sets.owing mid.owing port vc (owes gone || has sets.owing port vc)
+  pub others : mid ≡ record sets { occupied = mid.occupied; owing = mid.owing }
+
+-- what is written in all: where that `closed` the packet both channels are free
+record HasLeft (r : RouterState) (sets new : BusyChannels) (asked now_asked : DemandView)
+    (port vc out out_vc : ℕ) (had now : ChannelState) (had_out u : OutRecord) (f : Flit) (spent more : ℕ)
+    (closed : Bool) : Type 0 where
+  now_is : now ≡ left_by closed had f more
+  credits : u.credits ≡ had_out.credits - spent
+  holder : u.holder ≡ (if closed then None else had_out.holder)
+  occupied : IsFiled sets.occupied new.occupied port vc (is_occupied now)
+  owing : IsFiled sets.owing new.owing port vc (owes now || has sets.owing port vc)
+  outs : new.outs ≡ (if closed then with_cell sets.outs port vc None else sets.outs)
+  held_up : IsFiled sets.held_up new.held_up port vc
+      (not closed && not ((spent == 0 || nat_lt 0 u.credits) && (more == 0 || nat_lt now.owed r.depth)))
+  requests : now_asked.requests ≡ asked.requests
+  free : now_asked.free ≡ (if closed then with_cell asked.free out out_vc true else asked.free)
+
+module _ (r : RouterState) (sets new : BusyChannels) (asked now_asked : DemandView) (masks : List ℕ)
+    (port vc i out out_vc o : ℕ) (had now : ChannelState) (had_out u : OutRecord) (f : Flit) (spent more : ℕ)
+    (closed : Bool) (kept : IsKept r sets asked masks)
+    (leaving : IsLeaving r sets port vc i out out_vc o had had_out spent more)
+    (left : HasLeft r sets new asked now_asked port vc out out_vc had now had_out u f spent more closed) where
+  state_now : now.state ≡ (if closed then Idle else had.state)
+  state_now = ap (λ (c : ChannelState). c.state) left.now_is
+
+  waited_not : is_waiting had ≡ false
+  waited_not = ap waits leaving.held_it
+
+  waits_not : is_waiting now ≡ false
+  waits_not = ap waits state_now ∙ waits_not_after closed had.state waited_not
+
+  owes_no_less : (owes now || has sets.owing port vc) ≡ owes now
+  owes_no_less =
+      ap (λ b. owes now || b) (inside_of owes r port vc i sets.owing had leaving.input kept.busy.owing)
+      ∙ ap (λ (c : ChannelState). owes c || owes had) left.now_is
+      ∙ owes_more had.owed more
+      ∙ sym (ap owes left.now_is)
+
+  sound_now : IsChannel r.mesh r.channels r.depth now
+  sound_now =
+      subst (IsChannel r.mesh r.channels r.depth) (sym left.now_is)
+      (left_sound r.mesh r.channels r.depth closed had f more
+      (subst (IsChannel r.mesh r.channels r.depth) (sym leaving.input.was)
+      (All-get_or (IsChannel r.mesh r.channels r.depth) r.inputs i (fresh_channel r.depth) leaving.input.within
+      kept.router.lists.inputs_sound)) leaving.may_owe)
+
+  had_fits : had_out.credits ≤ r.depth
+  had_fits =
+      subst (λ (w : OutRecord). w.credits ≤ r.depth) (sym leaving.output.was)
+      (All-get_or (λ (w : OutRecord). w.credits ≤ r.depth) r.outputs o (free_output r.depth) leaving.output.within
+      kept.router.lists.credits_fit)
+
+  -- a flit that leaves by the terminal costs no credit
+  full_now : (v : ℕ) → v < width r → terminal r * width r + v ≡ o → u.credits ≡ r.depth
+  full_now v below same =
+      let full : (slice_index_or r.outputs o (free_output r.depth)).credits ≡ r.depth =
+      subst (λ k. (slice_index_or r.outputs k (free_output r.depth)).credits ≡ r.depth) same
+      (kept.router.lists.terminal_full v below) in
+      let had_full : had_out.credits ≡ r.depth = ap (λ (w : OutRecord). w.credits) leaving.output.was ∙ full in
+      let none : spent ≡ 0 =
+      no_credit r out out_vc (terminal r) (width r) v o spent leaving.output.place.channel_in refl refl below same
+      leaving.output.at leaving.spends in
+      omega (arith, left.credits, had_full, none)
+
+  left_kept : IsKept (record r { inputs = slice_set r.inputs i now; outputs = slice_set r.outputs o u })
+      new now_asked masks
+  left_kept = record {
+    router = record {
+      lists = both_set_sound r.mesh r.node r.channels r.depth r.inputs r.outputs i o now u kept.router.lists sound_now
+          (omega (arith, left.credits, had_fits))
+          (full_after r.outputs (terminal r) (width r) r.depth o u (free_output r.depth) leaving.output.within
+          kept.router.lists.terminal_full full_now);
+      allocators = kept.router.allocators;
+    };
+    arbiters = kept.arbiters;
+    busy = busy_filed r sets new port vc i had now leaving.input kept.busy (inl left.occupied)
+        (inl (subst (IsFiled sets.owing new.owing port vc) owes_no_less left.owing));
+    demand = record {
+      requests = left.requests ∙ kept.demand.requests
+          ∙ sym (requests_kept r port vc i had now leaving.input
+          (asks_nothing r.channels now.state now.buffer waits_not
+          ∙ sym (asks_nothing r.channels had.state had.buffer waited_not)));
+      free = free_left r out out_vc o had_out u leaving.output closed asked.free now_asked.free kept.busy.few_ports
+          kept.busy.few_channels kept.demand.free left.free left.holder;
+    };
+    fronts = All-set HasFront r.inputs i now (λ waiting. let no : true ≡ false = sym waiting ∙ waits_not in absurd (cc))
+        kept.fronts;
+    holders = holders_left r port vc i out out_vc o had now had_out u closed leaving.input leaving.output
+        leaving.held_it state_now left.holder kept.holders;
+    outs = outs_left r port vc i had now leaving.input sets.outs new.outs closed kept.busy.few_ports
+        kept.busy.few_channels left.outs state_now kept.outs;
+    held_up = held_left r port vc i had now leaving.input kept.busy.few_ports kept.busy.few_channels out out_vc o
+        had_out u spent more sets.held_up new.held_up closed leaving.output leaving.held_it state_now leaving.spends
+        leaving.owes_more left.held_up kept.holders kept.held_up;
+    classes = kept.classes;
+  }
+
+module _ (r : RouterState) (sets mid : BusyChannels) (asked : DemandView) (masks : List ℕ)
+    (port vc i out out_vc o : ℕ) (had gone : ChannelState) (had_out : OutRecord) (f : Flit) (spent more : ℕ)
+    (kept : IsKept r sets asked masks) (leaving : IsLeaving r sets port vc i out out_vc o had had_out spent more)
+    (is_out : IsOut sets mid port vc had gone f more) where
+  -- it closed its packet: both channels are free
+  pub closed_kept : (now : ChannelState) (u : OutRecord) (outs : List (List (Option ℕ))) (now_asked : DemandView)
+      → now ≡ in_state gone Idle → u ≡ record { holder = None; credits = had_out.credits - spent }
+      → outs ≡ with_cell mid.outs port vc None
+      → now_asked ≡ record asked { free = with_cell asked.free out out_vc true }
+      → IsKept (record r { inputs = slice_set r.inputs i now; outputs = slice_set r.outputs o u })
+      (record mid { outs = outs }) now_asked masks
+  closed_kept now u outs now_asked now_is u_is outs_are asks =
+      left_kept r sets (record mid { outs = outs }) asked now_asked masks port vc i out out_vc o had now had_out u f
+      spent more true kept leaving (record {
+        now_is = now_is ∙ ap (λ (c : ChannelState). in_state c Idle) is_out.gone_is;
+        credits = ap (λ (w : OutRecord). w.credits) u_is;
+        holder = ap (λ (w : OutRecord). w.holder) u_is;
+        occupied = subst (λ (c : ChannelState). IsFiled sets.occupied mid.occupied port vc (is_occupied c)) (sym now_is)
+            is_out.occupied;
+        owing = subst (λ (c : ChannelState). IsFiled sets.owing mid.owing port vc (owes c || has sets.owing port vc))
+            (sym now_is) is_out.owing;
+        outs = outs_are ∙ ap (λ (b : BusyChannels). with_cell b.outs port vc None) is_out.others;
+        held_up = subst (λ (b : BusyChannels). IsFiled sets.held_up b.held_up port vc false) (sym is_out.others)
+            (unfiled sets.held_up port vc false leaving.could_send);
+        requests = ap (λ (d : DemandView). d.requests) asks;
+        free = ap (λ (d : DemandView). d.free) asks;
+      })
+
+  -- more of its packet comes: the channel is held up unless a next flit may follow
+  pub followed_kept : (new : BusyChannels) (follows : Bool)
+      → follows
+      ≡ ((spent == 0 || nat_lt 0 (had_out.credits - spent)) && (more == 0 || nat_lt gone.owed r.depth))
+      → IsFiled mid.held_up new.held_up port vc (not follows) → new ≡ record mid { held_up = new.held_up }
+      → IsKept (record r {
+        inputs = slice_set r.inputs i gone;
+        outputs = slice_set r.outputs o (record had_out { credits = had_out.credits - spent });
+      }) new asked masks
+  followed_kept new follows follows_is filed others =
+      left_kept r sets new asked asked masks port vc i out out_vc o had gone had_out
+      (record had_out { credits = had_out.credits - spent }) f spent more false kept leaving (record {
+        now_is = is_out.gone_is;
+        credits = refl;
+        holder = refl;
+        occupied = subst (λ (b : BusyChannels). IsFiled sets.occupied b.occupied port vc (is_occupied gone))
+            (sym others) is_out.occupied;
+        owing = subst (λ (b : BusyChannels). IsFiled sets.owing b.owing port vc (owes gone || has sets.owing port vc))
+            (sym others) is_out.owing;
+        outs = ap (λ (b : BusyChannels). b.outs) others ∙ ap (λ (b : BusyChannels). b.outs) is_out.others;
+        held_up = subst (λ (b : BusyChannels). IsFiled b.held_up new.held_up port vc (not ((spent == 0 ||
+            nat_lt 0 (had_out.credits - spent)) && (more == 0 || nat_lt gone.owed r.depth)))) is_out.others
+            (subst (λ b. IsFiled mid.held_up new.held_up port vc (not b)) follows_is filed);
+        requests = refl;
+        free = refl;
+      })
