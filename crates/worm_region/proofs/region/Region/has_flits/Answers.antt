@@ -12,4 +12,5 @@ returns c =
     front_is link.flits c.is_some.result
     (c.is_some.ensures ∙ c.front.ensures.variant
     ∙ ap (λ (l : LinkView). is_some (slice_get l.flits 0)) c.link_from.ensures
-    ∙ ap (λ (s : NetState). is_some (slice_get (link_at s (link_out s c.args.node c.args.port)).flits 0)) c.self.view_is)
+    ∙ ap (λ (s : NetState). is_some (slice_get (link_at s (link_out s c.args.node c.args.port)).flits 0))
+    c.self.view_is)
