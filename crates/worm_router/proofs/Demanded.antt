@@ -22,12 +22,13 @@ use Rattle.worm_vcalloc.proofs.SetMembers.{has-empty}
 use Rattle.worm_vcalloc.proofs.TableCells.{cell-replicate, IsTable-replicate}
 use Rattle.worm_swalloc.proofs.TableRows.{same_tables, IsTable-table}
 use Rattle.worm_router.specs.Router.{RouterState, ChannelState, IsPlace, terminal, width, line, fresh_channel}
-use Rattle.worm_router.specs.Router.{free_output, put_in, input_at}
+use Rattle.worm_router.specs.Router.{free_output, input_at}
 use Rattle.worm_router.specs.Busy.{HasFront, IsSetOf, waits, is_occupied, is_waiting}
 use Rattle.worm_router.specs.Tables.{PutsRows}
 use Rattle.worm_router.specs.Allocation.{within, asking, request_at, requests, is_free, free_channels}
 use Rattle.worm_router.specs.Allocation.{channel_pass}
 use Rattle.worm_router.specs.Demand.{DemandView, GrantsNothing, IsDemandOf}
+use Rattle.worm_router.proofs.Accepted.{IsPut}
 use Rattle.worm_router.proofs.NothingReady.{get_or-replicate_same}
 use Rattle.worm_router.proofs.Places.{IsInput, IsOutput, same_at}
 use Rattle.worm_router.proofs.TableRows.{cell_has, cell_is, table_kept, table_put, rows_are}
@@ -73,20 +74,19 @@ asks_behind channels (Waiting o) [] gs some = let no = some refl in absurd (grin
 asks_behind channels (Waiting o) (f ∷ fs) gs some = refl
 
 pub put_asks : (channels : List ℕ) (had now : ChannelState) (f : Flit) (came : Bool) → HasFront had
-    → now ≡ (if came then put_in had f else had)
-    → asking channels now.state now.buffer ≡ asking channels had.state had.buffer
-put_asks channels had now f true front is =
-    ap (λ (c : ChannelState). asking channels c.state c.buffer) is
+    → IsPut had now f came → asking channels now.state now.buffer ≡ asking channels had.state had.buffer
+put_asks channels had now f true front put =
+    ap (λ (c : ChannelState). asking channels c.state c.buffer) put.after
     ∙ asks_behind channels had.state had.buffer (f ∷ []) front
-put_asks channels had now f false front is = ap (λ (c : ChannelState). asking channels c.state c.buffer) is
+put_asks channels had now f false front put = ap (λ (c : ChannelState). asking channels c.state c.buffer) put.after
 
-pub put_fronted : (had now : ChannelState) (f : Flit) (came : Bool) → HasFront had
-    → now ≡ (if came then put_in had f else had) → HasFront now
-put_fronted had now f true front is =
+pub put_fronted : (had now : ChannelState) (f : Flit) (came : Bool) → HasFront had → IsPut had now f came
+    → HasFront now
+put_fronted had now f true front put =
     let more = length-append had.buffer (f ∷ []) in
     let some : nat_lt 0 (length (had.buffer ++ f ∷ [])) ≡ true = grind (arith, nat_tests) in
-    λ waiting. ap is_occupied is ∙ some
-put_fronted had now f false front is = subst HasFront (sym is) front
+    λ waiting. ap is_occupied put.after ∙ some
+put_fronted had now f false front put = subst HasFront (sym put.after) front
 
 -- a channel that did not wait does not once a flit left
 pub waits_not_after : (closed : Bool) (s : InRecord) → waits s ≡ false → waits (if closed then Idle else s) ≡ false

@@ -1,5 +1,5 @@
 -- What a change of one input channel and one output channel leaves sound.
-use Rattle.std.proofs.Common.{ℕ, ◌+◌, ◌-◌, ◌*◌, ◌≤◌, ◌<◌, ◌≡◌, nat_lt, List, [], ◌∷◌, All, length, length-append}
+use Rattle.std.proofs.Common.{ℕ, ◌+◌, ◌-◌, ◌*◌, ◌≤◌, ◌<◌, ◌≡◌, List, [], ◌∷◌, All, length, length-append}
 use Rattle.std.proofs.Common.{drop, sum, slice_set, get_or, Bool, true, false, arith, inl, inr}
 use Rattle.std.proofs.Common.{Some, refl, sym, subst, ap, ◌∙◌, if◌then◌else◌}
 use Rattle.std.proofs.Math.ListN.{length-set}
@@ -15,7 +15,8 @@ use Rattle.worm_records.specs.declared.InRecord.{InRecord}
 use Rattle.worm_records.specs.declared.InRecord.TheVariants.{Idle, Waiting}
 use Rattle.worm_records.specs.declared.OutRecord.{OutRecord}
 use Rattle.worm_router.specs.Router.{HasLists, IsChannel, ChannelState, StateFits, RouterState, terminal, width}
-use Rattle.worm_router.specs.Router.{credit_of, free_output, fresh_channel, line, input_at, put_in, in_state}
+use Rattle.worm_router.specs.Router.{credit_of, free_output, fresh_channel, line, input_at, in_state}
+use Rattle.worm_router.proofs.Accepted.{IsPut}
 
 pub both_set_sound : (mesh : List ℕ) (node : ℕ) (channels : List ℕ) (depth : ℕ) (inputs : List ChannelState)
     (outputs : List OutRecord) (i o : ℕ) (c : ChannelState) (u : OutRecord)
@@ -123,19 +124,20 @@ read_sound mesh channels depth inputs i had read within all =
     (All-get_or (IsChannel mesh channels depth) inputs i had within all)
 
 pub put_sound : (mesh channels : List ℕ) (depth : ℕ) (had now : ChannelState) (f : Flit) (came : Bool)
-    → IsChannel mesh channels depth had → f.lane.dst < node_count mesh → came ≡ nat_lt (length had.buffer) had.depth
-    → now ≡ (if came then put_in had f else had) → IsChannel mesh channels depth now
-put_sound mesh channels depth had now f true sound bound room is =
+    → IsChannel mesh channels depth had → f.lane.dst < node_count mesh → IsPut had now f came
+    → IsChannel mesh channels depth now
+put_sound mesh channels depth had now f true sound bound put =
+    let room = put.room in
     let free : length had.buffer < had.depth = grind (arith, nat_tests) in
-    subst (IsChannel mesh channels depth) (sym is) record {
+    subst (IsChannel mesh channels depth) (sym put.after) record {
       same_depth = sound.same_depth;
       fits = omega (arith, length-append had.buffer (f ∷ []), sound.same_depth);
       bound_for_nodes = let all = sound.bound_for_nodes in grind (arith, elements);
       state_fits = sound.state_fits;
       owed_fits = sound.owed_fits;
     }
-put_sound mesh channels depth had now f false sound bound room is =
-    subst (IsChannel mesh channels depth) (sym is) sound
+put_sound mesh channels depth had now f false sound bound put =
+    subst (IsChannel mesh channels depth) (sym put.after) sound
 
 pub waiting_sound : (mesh channels : List ℕ) (depth : ℕ) (had now : ChannelState) (out : ℕ)
     → IsChannel mesh channels depth had → out ≤ 2 * length mesh

@@ -1,7 +1,7 @@
 -- What a flit that left leaves of all that a router keeps.
-use Rattle.std.proofs.Common.{ℕ, ◌+◌, ◌-◌, ◌*◌, ◌≤◌, ◌<◌, ◌≡◌, ◌==◌, ◌&&◌, ◌||◌, nat_lt, Bool, true, false, not, Option, None}
-use Rattle.std.proofs.Common.{Some, slice_set, slice_index_or, get_or, length, List, if◌then◌else◌, arith, inl, refl}
-use Rattle.std.proofs.Common.{ap, sym, subst, ◌∙◌}
+use Rattle.std.proofs.Common.{ℕ, ◌+◌, ◌-◌, ◌*◌, ◌≤◌, ◌<◌, ◌≡◌, ◌==◌, ◌&&◌, ◌||◌, nat_lt, Bool, true, false, not}
+use Rattle.std.proofs.Common.{Option, None, Some, slice_set, slice_index_or, get_or, length, List, if◌then◌else◌}
+use Rattle.std.proofs.Common.{arith, inl, refl, ap, sym, subst, ◌∙◌}
 use Rattle.std.proofs.lemmas.List.Elements.{All-set, All-get_or}
 use Rattle.worm_flit.specs.declared.Flit.{Flit}
 use Rattle.worm_records.specs.declared.InRecord.TheVariants.{Idle, Active}
