@@ -83,9 +83,10 @@ abbrev pub AreAskers : List (Option SwGrant) → ℕ → Type 0
 AreAskers requests askers = (out port : ℕ) → out < 7 → port < 8
     → has askers out port ≡ is_for (slice_index_or requests port None) out
 
--- no other port has ready channels
-abbrev pub IsSolePort : List (List (Option ℕ)) → ℕ → Type 0
-IsSolePort ready port = (p v : ℕ) → p < 7 → v < 8 → ((p ≡ port) → ⊥) → cell ready p v None ≡ None
+-- the set is that of the ready channels of the router's own ports and their channels
+pub record AreOwnReady (s : SwAllocState) (ready : List (List (Option ℕ))) (among : ℕ) : Type 0 where
+  pub each : (p v : ℕ) → p < s.ports → v < s.channels → has among p v ≡ is_some (cell ready p v None)
+  pub own : (p v : ℕ) → p < 7 → v < 8 → has among p v ≡ true → (p < s.ports) × (v < s.channels)
 
 -- what the input ports name where one of them alone may name anything
 abbrev pub sole_named : ℕ → Option SwGrant → List (Option SwGrant)
@@ -106,6 +107,7 @@ abbrev pub if_in : ℕ → ℕ → Option SwGrant → Option SwGrant
 if_in set port None = None
 if_in set port (Some g) = if has set port g.vc then Some g else None
 
+-- that of a port
 abbrev pub granted_at : List (Option SwGrant) → ℕ → ℕ → Option SwGrant
 granted_at requests set port = if_in set port (slice_index_or requests port None)
 

@@ -21,16 +21,16 @@ within c =
       outputs = c.self.inside.outputs;
     } in
     let out_in : c.args.out < c.self.inside.ports = rw (← c.self.view_is) at c.requires.out in
-    let few = c.self.invariant.few_ports in
+    let few = c.self.invariant.0.few_ports in
     let lines : (line : ℕ) → line < c.self.inside.ports
     → line_requests c.args.lines line ≡ is_for (slice_index_or c.args.named.now line None) c.args.out =
     rw (← c.self.view_is) at c.requires.lines in
     let w = chosen_asks s c.args.named.now c.args.out c.args.lines c.index-self-out.result c.in-Some.port
-    c.self.invariant out_in (omega arith) lines c.in-Some.ensures.winner in
+    c.self.invariant.0 out_in (omega arith) lines c.in-Some.ensures.winner in
     omega (arith, w.0)
 
 below : (c : goal.After-commit) → AreChannelsBelow 8 c.args.named.now
-below c = below_more c.self.inside.channels 8 c.args.named.now c.self.invariant.few_channels
+below c = below_more c.self.inside.channels 8 c.args.named.now c.self.invariant.0.few_channels
     (rw (← c.self.view_is) at c.requires.channels)
 
 pub returns-clause-requested : goal.returns-clause-requested
@@ -46,7 +46,7 @@ returns-clause-grants c =
       outputs = c.self.inside.outputs;
     } in
     let out_in : c.args.out < c.self.inside.ports = rw (← c.self.view_is) at c.requires.out in
-    let few = c.self.invariant.few_ports in
+    let few = c.self.invariant.0.few_ports in
     let lines : (line : ℕ) → line < c.self.inside.ports
     → line_requests c.args.lines line ≡ is_for (slice_index_or c.args.named.now line None) c.args.out =
     rw (← c.self.view_is) at c.requires.lines in
@@ -55,7 +55,7 @@ returns-clause-grants c =
     (within c) (below c) (asked c) c.commit.ensures.granted
     ∙ ap (slice_set (granted_of c.args.named.now c.args.granted.now) c.in-Some.port) (sym (asked c))
     ∙ (choice_is s c.args.named.now (granted_of c.args.named.now c.args.granted.now) c.args.out c.args.lines
-    c.index-self-out.result c.pick.new.self (Some c.in-Some.port) c.self.invariant out_in
+    c.index-self-out.result c.pick.new.self (Some c.in-Some.port) c.self.invariant.0 out_in
     (omega arith) lines c.in-Some.ensures.winner c.in-Some.ensures.pointer).0)
 
 pub returns-clause-after : goal.returns-clause-after
@@ -67,7 +67,7 @@ returns-clause-after c =
       outputs = c.self.inside.outputs;
     } in
     let out_in : c.args.out < c.self.inside.ports = rw (← c.self.view_is) at c.requires.out in
-    let few = c.self.invariant.few_ports in
+    let few = c.self.invariant.0.few_ports in
     let lines : (line : ℕ) → line < c.self.inside.ports
     → line_requests c.args.lines line ≡ is_for (slice_index_or c.args.named.now line None) c.args.out =
     rw (← c.self.view_is) at c.requires.lines in
@@ -79,7 +79,7 @@ returns-clause-after c =
       outputs = slice_set c.self.inside.outputs c.args.out c.pick.new.self;
     }) (sym (asked c))
     ∙ (choice_is s c.args.named.now (granted_of c.args.named.now c.args.granted.now) c.args.out c.args.lines
-    c.index-self-out.result c.pick.new.self (Some c.in-Some.port) c.self.invariant out_in
+    c.index-self-out.result c.pick.new.self (Some c.in-Some.port) c.self.invariant.0 out_in
     (omega arith) lines c.in-Some.ensures.winner c.in-Some.ensures.pointer).1)
 
 -- it chooses none
@@ -93,12 +93,12 @@ returns-in_default-clause-grants c =
       outputs = c.self.inside.outputs;
     } in
     let out_in : c.args.out < c.self.inside.ports = rw (← c.self.view_is) at c.requires.out in
-    let few = c.self.invariant.few_ports in
+    let few = c.self.invariant.0.few_ports in
     let lines : (line : ℕ) → line < c.self.inside.ports
     → line_requests c.args.lines line ≡ is_for (slice_index_or c.args.named.now line None) c.args.out =
     rw (← c.self.view_is) at c.requires.lines in
     rw (← c.self.view_is) (choice_is s c.args.named.now (granted_of c.args.named.now c.args.granted.now) c.args.out
-    c.args.lines c.index-self-out.result c.pick.new.self None c.self.invariant out_in
+    c.args.lines c.index-self-out.result c.pick.new.self None c.self.invariant.0 out_in
     (omega arith) lines c.in_default.ensures.winner c.in_default.ensures.pointer).0
 
 pub returns-in_default-clause-after : goal.returns-in_default-clause-after
@@ -110,12 +110,12 @@ returns-in_default-clause-after c =
       outputs = c.self.inside.outputs;
     } in
     let out_in : c.args.out < c.self.inside.ports = rw (← c.self.view_is) at c.requires.out in
-    let few = c.self.invariant.few_ports in
+    let few = c.self.invariant.0.few_ports in
     let lines : (line : ℕ) → line < c.self.inside.ports
     → line_requests c.args.lines line ≡ is_for (slice_index_or c.args.named.now line None) c.args.out =
     rw (← c.self.view_is) at c.requires.lines in
     rw (← c.self.view_is) (choice_is s c.args.named.now (granted_of c.args.named.now c.args.granted.now) c.args.out
-    c.args.lines c.index-self-out.result c.pick.new.self None c.self.invariant out_in
+    c.args.lines c.index-self-out.result c.pick.new.self None c.self.invariant.0 out_in
     (omega arith) lines c.in_default.ensures.winner c.in_default.ensures.pointer).1
 
 -- the port that it chooses has a request
@@ -129,12 +129,12 @@ chosen_has c =
       outputs = c.self.inside.outputs;
     } in
     let out_in : c.args.out < c.self.inside.ports = rw (← c.self.view_is) at c.requires.out in
-    let few = c.self.invariant.few_ports in
+    let few = c.self.invariant.0.few_ports in
     let lines : (line : ℕ) → line < c.self.inside.ports
     → line_requests c.args.lines line ≡ is_for (slice_index_or c.args.named.now line None) c.args.out =
     rw (← c.self.view_is) at c.requires.lines in
     true≢false (sym (chosen_asks s c.args.named.now c.args.out c.args.lines c.index-self-out.result
-    c.in-Some.port c.self.invariant out_in (omega arith) lines c.in-Some.ensures.winner).1
+    c.in-Some.port c.self.invariant.0 out_in (omega arith) lines c.in-Some.ensures.winner).1
     ∙ ap (λ o. is_for o c.args.out) (sym c.get.ensures ∙ c.in_default-get.is))
 
 pub returns-in_default-get-clause-grants : goal.returns-in_default-get-clause-grants

@@ -3,72 +3,69 @@ use Rattle.worm_vcalloc.specs.Table.{cell}
 use Rattle.worm_vcalloc.proofs.PassAgrees.{none_where_not_some}
 use Rattle.worm_vcalloc.proofs.SetMembers.{has-empty}
 use Rattle.worm_swalloc.specs.Front.{with_front}
-use Rattle.worm_swalloc.specs.SwAlloc.{SwAllocState, IsSwAlloc, sw_grants, IsSwitchMatching, granted, all_named}
+use Rattle.worm_swalloc.specs.SwAlloc.{IsSwAlloc, sw_grants, IsSwitchMatching, granted, all_named}
 use Rattle.worm_swalloc.specs.SwAlloc.{sole_named, granted_of}
 use Rattle.worm_swalloc.proofs.SwitchPass.{matching, sw_grants_none, sw_after_none, named_within, pass_is}
+use Rattle.worm_swalloc.proofs.SwitchPass.{unnamed_past}
 use Rattle.worm_swalloc.proofs.GrantsOfSet.{below_more}
-use Rattle.worm_swalloc.proofs.SoleIsGranted.{sole_is_all, sole_within}
+use Rattle.worm_swalloc.proofs.SoleIsGranted.{sole_own, sole_is_all, sole_within}
 use Rattle.worm_swalloc.proofs.sw_alloc.SwAlloc.grant.Goals as goal
 
 -- where no channel is ready
-nothing_ready : (c : goal.After-new) (p v : ℕ) → p < 7 → v < 8 → cell c.args.ready.now p v None ≡ None
+nothing_ready : (c : goal.After-new) (p v : ℕ) → p < c.args.self.now.ports → v < c.args.self.now.channels
+    → cell c.args.ready.now p v None ≡ None
 nothing_ready c p v lp lv = none_where_not_some (cell c.args.ready.now p v None)
-    (sym (c.keys.ensures p v lp lv) ∙ has-empty c.keys.result p v (sym c.is_empty.ensures ∙ c.if-is_empty.true))
+    (sym (c.own_ready-among.ensures.each p v lp lv)
+    ∙ has-empty c.own_ready-among.result p v (sym c.is_empty.ensures ∙ c.if-is_empty.true))
+
+sound_new : (c : goal.After-new)
+    → IsSwAlloc c.args.self.now.ports c.args.self.now.channels c.args.self.now.inputs c.args.self.now.outputs
+sound_new c = rw (← c.self.view_is) c.self.invariant.0
 
 pub returns-then-is_empty-clause-grants : goal.returns-then-is_empty-clause-grants
 returns-then-is_empty-clause-grants c =
-    let s : SwAllocState = record {
-      ports = c.self.inside.ports;
-      channels = c.self.inside.channels;
-      inputs = c.self.inside.inputs;
-      outputs = c.self.inside.outputs;
-    } in
-    rw (← c.self.view_is) (c.new.ensures ∙ sym (sw_grants_none s c.args.ready.now c.self.invariant (nothing_ready c)))
+    c.new.ensures ∙ sym (sw_grants_none c.args.self.now c.args.ready.now (sound_new c) (nothing_ready c))
 
 pub returns-then-is_empty-clause-after : goal.returns-then-is_empty-clause-after
 returns-then-is_empty-clause-after c =
-    let s : SwAllocState = record {
-      ports = c.self.inside.ports;
-      channels = c.self.inside.channels;
-      inputs = c.self.inside.inputs;
-      outputs = c.self.inside.outputs;
-    } in
-    let few = c.self.invariant.few_ports in
-    rw (← c.self.view_is) (sym (sw_after_none s c.args.ready.now c.self.invariant (omega arith) (omega arith)
-    (nothing_ready c)))
+    let few = c.self.invariant.0.few_ports in
+    sym (sw_after_none c.args.self.now c.args.ready.now (sound_new c) (rw (← c.self.view_is) (omega arith))
+    (rw (← c.self.view_is) (omega arith)) (nothing_ready c))
 
 pub returns-then-is_empty-clause-matching : goal.returns-then-is_empty-clause-matching
 returns-then-is_empty-clause-matching c =
-    let s : SwAllocState = record {
-      ports = c.self.inside.ports;
-      channels = c.self.inside.channels;
-      inputs = c.self.inside.inputs;
-      outputs = c.self.inside.outputs;
-    } in
-    rw (← c.self.view_is) (subst (IsSwitchMatching s c.args.ready.now)
-    (sw_grants_none s c.args.ready.now c.self.invariant (nothing_ready c) ∙ sym c.new.ensures)
-    (matching s c.args.ready.now c.self.invariant))
+    subst (IsSwitchMatching c.args.self.now c.args.ready.now)
+    (sw_grants_none c.args.self.now c.args.ready.now (sound_new c) (nothing_ready c) ∙ sym c.new.ensures)
+    (matching c.args.self.now c.args.ready.now (sound_new c))
 
 -- one port alone has ready channels
 
+pub request-request-requires-clause-port : goal.request-request-requires-clause-port
+request-request-requires-clause-port c = sole_own c.args.self.now c.args.ready.now c.own_ready-among.result
+    c.in-Some.port c.own_ready-among.ensures c.in-Some.ensures
+
+pub grant_sole-requires-clause-port : goal.grant_sole-requires-clause-port
+grant_sole-requires-clause-port c = sole_own c.args.self.now c.args.ready.now c.own_ready-among.result
+    c.in-Some.port c.own_ready-among.ensures c.in-Some.ensures
+
+pub grant_sole-requires-clause-channel : goal.grant_sole-requires-clause-channel
+grant_sole-requires-clause-channel c =
+    sole_within c.args.self.now c.args.ready.now c.own_ready-among.result c.in-Some.port c.request-request.result
+    (rw (← c.self.view_is) c.self.invariant.0) c.own_ready-among.ensures c.in-Some.ensures c.request-request.ensures
+
 sound : (c : goal.After-grant_sole)
     → IsSwAlloc c.args.self.now.ports c.args.self.now.channels c.args.self.now.inputs c.args.self.now.outputs
-sound c = rw (← c.self.view_is) c.self.invariant
+sound c = rw (← c.self.view_is) c.self.invariant.0
 
 sole_named_is : (c : goal.After-grant_sole)
     → sole_named c.in-Some.port c.request-request.result ≡ all_named c.args.self.now c.args.ready.now
-sole_named_is c = sole_is_all c.args.self.now c.args.ready.now c.in-Some.port c.request-request.result (sound c)
-    c.in-Some.ensures.within c.in-Some.ensures.sole c.request-request.ensures
+sole_named_is c = sole_is_all c.args.self.now c.args.ready.now c.own_ready-among.result c.in-Some.port
+    c.request-request.result (sound c) c.own_ready-among.ensures c.in-Some.ensures c.request-request.ensures
 
 sole_granted_is : (c : goal.After-grant_sole) → c.grant_sole.result ≡ sw_grants c.args.self.now c.args.ready.now
 sole_granted_is c =
     c.grant_sole.ensures.grants ∙ ap (λ r. with_front c.args.self.now.ports
     (granted c.args.self.now r c.args.self.now.ports) (replicate 7 None)) (sole_named_is c)
-
-pub grant_sole-requires-clause-channel : goal.grant_sole-requires-clause-channel
-grant_sole-requires-clause-channel c =
-    sole_within c.args.self.now c.args.ready.now c.in-Some.port c.request-request.result
-    (rw (← c.self.view_is) c.self.invariant) c.in-Some.ensures.within c.in-Some.ensures.sole c.request-request.ensures
 
 pub returns-in-Some-clause-grants : goal.returns-in-Some-clause-grants
 returns-in-Some-clause-grants c = sole_granted_is c
@@ -77,7 +74,7 @@ pub returns-in-Some-clause-after : goal.returns-in-Some-clause-after
 returns-in-Some-clause-after c =
     pass_is c.args.self.now c.grant_sole.new.self c.args.ready.now
     (sole_named c.in-Some.port c.request-request.result) c.grant_sole.result
-    (rw (← c.self.view_is) (let few = c.self.invariant.few_ports in omega arith)) (sole_named_is c) (sole_granted_is c)
+    (rw (← c.self.view_is) (let few = c.self.invariant.0.few_ports in omega arith)) (sole_named_is c) (sole_granted_is c)
     c.grant_sole.ensures.after
 
 pub returns-in-Some-clause-matching : goal.returns-in-Some-clause-matching
@@ -87,9 +84,13 @@ returns-in-Some-clause-matching c =
 
 -- several have
 
-pub grant_named-granted-requires : goal.grant_named-granted-requires
-grant_named-granted-requires c = named_within c.args.self.now c.args.ready.now c.gather.new.asked c.gather.ensures.ready
-    c.gather.ensures.named
+pub grant_named-granted-requires-clause-channels : goal.grant_named-granted-requires-clause-channels
+grant_named-granted-requires-clause-channels c = named_within c.args.self.now c.args.ready.now c.gather.new.asked
+    c.gather.ensures.ready c.gather.ensures.named
+
+pub grant_named-granted-requires-clause-ports : goal.grant_named-granted-requires-clause-ports
+grant_named-granted-requires-clause-ports c = λ port past. unnamed_past c.args.self.now c.args.ready.now
+    c.gather.new.asked port c.gather.ensures.named past
 
 pub among-requires-clause-channels : goal.among-requires-clause-channels
 among-requires-clause-channels c =
@@ -114,7 +115,7 @@ among_is c = c.among.ensures ∙ ap (λ r. granted_of r c.grant_named-granted.re
 
 pub returns-clause-after : goal.returns-clause-after
 returns-clause-after c =
-    let few = c.self.invariant.few_ports in
+    let few = c.self.invariant.0.few_ports in
     pass_is c.args.self.now c.grant_named-granted.new.self c.args.ready.now c.gather.new.asked
     (granted_of c.gather.new.asked c.grant_named-granted.result)
     (rw (← c.self.view_is) (omega arith)) c.gather.ensures.named (granted_is c)

@@ -29,7 +29,7 @@ granted_here c =
       inputs = c.self.inside.inputs;
       outputs = c.self.inside.outputs;
     } in
-    let few = c.self.invariant.few_ports in
+    let few = c.self.invariant.0.few_ports in
     let within : c.args.port < c.self.inside.ports = rw (← c.self.view_is) at c.requires.port in
     sole_granted s (record {
       ports = c.self.inside.ports;
@@ -37,7 +37,7 @@ granted_here c =
       inputs = slice_set c.self.inside.inputs c.args.port c.move_past-2.new.self;
       outputs = slice_set c.self.inside.outputs c.in-Some.grant.out c.move_past.new.self;
     }) c.args.port c.in-Some.grant (replicate 7 None) c.sole.result
-    c.self.invariant (omega arith) (omega arith) within c.if-grant-ports.false refl c.sole.ensures
+    c.self.invariant.0 (omega arith) (omega arith) within c.if-grant-ports.false refl c.sole.ensures
     (ap (λ (a : ArbiterState). record s {
       inputs = slice_set c.self.inside.inputs c.args.port a;
       outputs = slice_set c.self.inside.outputs c.in-Some.grant.out c.move_past.new.self;
@@ -80,9 +80,9 @@ unnamed c =
       inputs = c.self.inside.inputs;
       outputs = c.self.inside.outputs;
     } in
-    let few = c.self.invariant.few_ports in
+    let few = c.self.invariant.0.few_ports in
     let within : c.args.port < c.self.inside.ports = rw (← c.self.view_is) at c.requires.port in
-    sole_none s c.args.port c.args.request c.new.result c.self.invariant (omega arith) (omega arith) within
+    sole_none s c.args.port c.args.request c.new.result c.self.invariant.0 (omega arith) (omega arith) within
     (λ out _. asks_none c.args.request out c.in_default.is) c.new.ensures
 
 pub returns-in_default-clause-grants : goal.returns-in_default-clause-grants
@@ -113,9 +113,9 @@ past_ports c =
       inputs = c.self.inside.inputs;
       outputs = c.self.inside.outputs;
     } in
-    let few = c.self.invariant.few_ports in
+    let few = c.self.invariant.0.few_ports in
     let within : c.args.port < c.self.inside.ports = rw (← c.self.view_is) at c.requires.port in
-    sole_none s c.args.port c.args.request c.new-then-grant-ports.result c.self.invariant (omega arith) (omega arith)
+    sole_none s c.args.port c.args.request c.new-then-grant-ports.result c.self.invariant.0 (omega arith) (omega arith)
     within
     (λ out below. asks_past c.args.request c.in-Some.grant c.self.inside.ports out c.in-Some.is
     c.if-grant-ports.true below) c.new-then-grant-ports.ensures
