@@ -1,6 +1,7 @@
 pub mod NodeWritten
 pub mod LinkWritten
 pub mod OwnCredits
+pub mod OwesToLinks
 pub mod StaysWorking
 pub mod FrameKept
 pub mod PlacesThere
