@@ -1,9 +1,10 @@
 pub mod NodeWritten
 pub mod LinkWritten
 pub mod OwnCredits
-pub mod OwesToLinks
 pub mod StaysWorking
 pub mod FrameKept
+pub mod NewNet
+pub mod OwesToLinks
 pub mod PlacesThere
 pub mod AllOwned
 pub mod LinksThere
@@ -27,7 +28,6 @@ pub mod EmptyLinks
 pub mod ArbitersStand
 pub mod GrantedSent
 pub mod OfferAgrees
-pub mod NewNet
 pub mod ReachedBySteps
 pub mod LowestGiven
 pub mod Passages
