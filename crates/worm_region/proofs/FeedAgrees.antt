@@ -24,6 +24,7 @@ use Rattle.worm_region.specs.Moves.{done_step, FrontFits, has_room, can_enter, f
 use Rattle.worm_region.proofs.NodeWritten.{put2_same, put3_same, node_bridge, itself3, input_of-put, input_of-there}
 use Rattle.worm_region.proofs.NodeWritten.{below_cases}
 use Rattle.worm_region.proofs.AsListed.{buffer_there}
+use Rattle.worm_region.proofs.OwesToLinks.{owes_less}
 use Rattle.worm_region.proofs.FrameKept.{is_nth, step_made, framed_mesh, node_framed}
 use Rattle.worm_region.proofs.ListFronts.{next_of, end_of}
 use Rattle.worm_region.proofs.Sources.{queue_after, fed_source, within_fed}
@@ -51,8 +52,8 @@ module _ (s : NetState) (x k : ℕ) (f : Flit) (framed : IsFramed s) (x_in : x <
       let same = ap (λ (cs : List ℕ). length cs) node.source_channels in
       omega arith
 
-  pub new_node : IsNodeOf s.mesh s.channels s.depth x new
-  new_node =
+  pub new_node : IsNetPlace s x port vc → IsNodeOf s.mesh s.channels s.depth x new
+  new_node place =
       let old = framed.each_node x x_in in
       record {
         same_mesh = old.same_mesh;
@@ -61,6 +62,7 @@ module _ (s : NetState) (x k : ℕ) (f : Flit) (framed : IsFramed s) (x_in : x <
         same_depth = old.same_depth;
         all_inputs = rw length-set old.all_inputs;
         all_outputs = old.all_outputs;
+        owing = owes_less s x port vc _ framed place (λ some. some);
         source_node = old.source_node;
         source_nodes = old.source_nodes;
         source_channels = old.source_channels;
@@ -204,7 +206,7 @@ module _ (s : NetState) (x k : ℕ) (f : Flit) {own : ℕ → Bool} (net : IsWor
       ap (λ (fs : List Flit). fed (shape s) N x k fs) (sym unfed) in (
         (some, theirs),
         feed_bridge s x k f net.framed x_in k_in next place.0 ∙ to_after,
-        node_framed s x _ net.framed x_in (new_node s x k f net.framed x_in k_in next),
+        node_framed s x _ net.framed x_in (new_node s x k f net.framed x_in k_in next place.0),
       )
 
   feed_full : has_room (router_at s x) (terminal (router_at s x))

@@ -3,6 +3,8 @@ pub mod LinkWritten
 pub mod OwnCredits
 pub mod StaysWorking
 pub mod FrameKept
+pub mod NewNet
+pub mod OwesToLinks
 pub mod PlacesThere
 pub mod AllOwned
 pub mod LinksThere
@@ -26,7 +28,6 @@ pub mod EmptyLinks
 pub mod ArbitersStand
 pub mod GrantedSent
 pub mod OfferAgrees
-pub mod NewNet
 pub mod ReachedBySteps
 pub mod LowestGiven
 pub mod Passages

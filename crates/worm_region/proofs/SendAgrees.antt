@@ -30,7 +30,7 @@ use Rattle.worm_region.proofs.AsListed.{buffer_there, record_there, owed_there, 
 use Rattle.worm_region.proofs.FrameKept.{kept, framed_mesh, node_framed, node_of, router_framed}
 use Rattle.worm_region.proofs.PlacesThere.{net_place}
 use Rattle.worm_region.proofs.LinksThere.{leader}
-use Rattle.worm_region.proofs.SentToLink.{active_leads, sent_to_link}
+use Rattle.worm_region.proofs.SentToLink.{active_leads, owes_left, sent_to_link}
 use Rattle.worm_region.proofs.SentToSink.{delivered_bridge}
 
 -- where the front of an active channel goes: into the sink, or over a link
@@ -210,7 +210,7 @@ module _ (s : NetState) (x p v o c : ℕ) (f : Flit) (rest : List Flit) {own : �
       node_framed s x _ net.framed place.node_in
       (node_of s.mesh s.channels s.depth x (node_at s x) r.inputs r.outputs
       ((sink_at s x).delivered ++ with_channel f c ∷ []) (net.framed.each_node x place.node_in) (rw length-set refl)
-      (rw length-set refl)) in (
+      (rw length-set refl) (owes_left s x p v (o, with_channel f c) net.framed place port)) in (
         kept s at_home.nodes s.links (Send x p v) net there enabled framed step,
         record {
           there = there;
@@ -233,7 +233,8 @@ module _ (s : NetState) (x p v o c : ℕ) (f : Flit) (rest : List Flit) {own : �
       let r = after_leaving (router_at s x) p v leaves in
       let mid = with_router s x r in
       let mid_framed =
-      router_framed s x r.inputs r.outputs net.framed place.node_in (rw length-set refl) (rw length-set refl) in
+      router_framed s x r.inputs r.outputs net.framed place.node_in (rw length-set refl) (rw length-set refl)
+      (owes_left s x p v (o, with_channel f c) net.framed place port) in
       let framed =
       link_framed mid (link_out s x o) (record (link_at s (link_out s x o)) {
         flits = (link_at s (link_out s x o)).flits ++ with_channel f c ∷ [];

@@ -16,12 +16,13 @@ use Rattle.worm_router.specs.Router.{with_input, with_output, let_out, passed, c
 use Rattle.worm_theory.specs.Network.{Network, put2, put3}
 use Rattle.worm_theory.specs.Steps.{IsPort, sent_by}
 use Rattle.worm_region.specs.Shape.{net_shape}
-use Rattle.worm_region.specs.State.{NetState, IsNetPlace, shape, network_of, router_at, with_router, link_at}
+use Rattle.worm_region.specs.State.{NetState, IsFramed, IsNetPlace, OwesToLinks, shape, network_of, router_at}
 use Rattle.worm_wires.specs.Links.{LinkView}
-use Rattle.worm_region.specs.State.{with_link}
+use Rattle.worm_region.specs.State.{link_at, with_link, with_router}
 use Rattle.worm_region.specs.Workable.{IsWorkableBy, LeadsOn}
 use Rattle.worm_region.proofs.NodeWritten.{put2_same, router_bridge, input_of-put, output_of-put}
 use Rattle.worm_region.proofs.FrameKept.{router_framed}
+use Rattle.worm_region.proofs.OwesToLinks.{owes_less, owes_put}
 use Rattle.worm_region.proofs.LinkWritten.{link_bridge, out_there, credits_there}
 use Rattle.worm_theory.proofs.Places.{bool_cases}
 use Rattle.worm_region.proofs.AsListed.{record_there, holder_there, owed_there, spent_there}
@@ -44,6 +45,21 @@ owes s x p a same port =
         | inl at ↦ absurd (not_same_test p (2 * length (router_at s x).mesh) away (rw same at))
         | inr some ↦ let there : is_some (neighbour_of s.mesh x p) ≡ true = some in rw (away, there) refl
       ]
+    ]
+
+-- after a flit left, too
+pub owes_left : (s : NetState) (x p v : ℕ) (d : ℕ × Flit) → IsFramed s → IsNetPlace s x p v → IsPort (shape s) x p
+    → OwesToLinks s.mesh x (after_leaving (router_at s x) p v (Some d))
+owes_left s x p v d framed place port =
+    let i = input_at (router_at s x) p v in
+    let c : ChannelState = let_out i d.1 (credit_of (router_at s x) p) in
+    let node = framed.each_node x place.node_in in
+    let more = owes s x p i.owed node.same_mesh port in
+    elim (bool_cases (is_some (neighbour_of s.mesh x p))) [
+      | inl linked ↦ owes_put s x p v c framed place (λ some. linked)
+      | inr none ↦
+          let same : c.owed ≡ i.owed = rw none at more in
+          owes_less s x p v c framed place (λ some. rw same at some)
     ]
 
 pub spends : (s : NetState) (x o a : ℕ) → (router_at s x).mesh ≡ s.mesh →
@@ -148,7 +164,8 @@ sent_to_link s x p v o c f rest net place port has o_in c_in e b =
     let r = after_leaving (router_at s x) p v (Some (o, with_channel f c)) in
     let mid = with_router s x r in
     let mid_framed =
-    router_framed s x r.inputs r.outputs net.framed place.node_in (rw length-set refl) (rw length-set refl) in
+    router_framed s x r.inputs r.outputs net.framed place.node_in (rw length-set refl) (rw length-set refl)
+    (owes_left s x p v (o, with_channel f c) net.framed place port) in
     let l : LinkView = record (link_at s k) { flits = (link_at s k).flits ++ with_channel f c ∷ [] } in
     let from_mid = link_bridge mid x o l mid_framed has in
     let mid_is = sent_bridge s x p v o c f rest net place port o_in c_in e b in

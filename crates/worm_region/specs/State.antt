@@ -1,9 +1,9 @@
 -- What a contract sees of a network, and the functions of places that it stands for.
 use Rattle.std.specs.Prelude.{ℕ, ◌*◌, ◌<◌, ◌≤◌, ◌≡◌, ◌==◌, cond, nat_lt, List, [], length, map, drop, sum}
-use Rattle.std.specs.Prelude.{slice_index_or, slice_set}
+use Rattle.std.specs.Prelude.{slice_index_or, slice_set, IsSome}
 use Rattle.arrayvec.specs.ArrayString.{ArrayString}
 use Rattle.worm_flit.specs.Channels.{AreChannels}
-use Rattle.worm_mesh.specs.Address.{AreRadices, node_count, has_neighbour}
+use Rattle.worm_mesh.specs.Address.{AreRadices, node_count, has_neighbour, neighbour_of}
 use Rattle.worm_mesh.specs.Links.{links_before, link_count}
 use Rattle.worm_records.specs.declared.OutRecord.{OutRecord}
 use Rattle.worm_router.specs.Router.{RouterState, ChannelState, IsPlace, width, places, fresh_channel, free_output}
@@ -115,6 +115,10 @@ network_of s = record {
 abbrev pub shape : NetState → Shape
 shape s = net_shape s.mesh s.channels s.depth
 
+-- a channel of the router owes a credit only where its port has a link
+abbrev pub OwesToLinks : List ℕ → ℕ → RouterState → Type 0
+OwesToLinks mesh x r = (p v : ℕ) → 0 < (input_of r p v).owed → IsSome (neighbour_of mesh x p)
+
 -- the node's parts are those of this node of this network
 pub record IsNodeOf (mesh channels : List ℕ) (depth x : ℕ) (n : Node) : Type 0 where
   pub same_mesh : n.router.mesh ≡ mesh
@@ -123,6 +127,7 @@ pub record IsNodeOf (mesh channels : List ℕ) (depth x : ℕ) (n : Node) : Type
   pub same_depth : n.router.depth ≡ depth
   pub all_inputs : length n.router.inputs ≡ places n.router
   pub all_outputs : length n.router.outputs ≡ places n.router
+  pub owing : OwesToLinks mesh x n.router
   pub source_node : n.source.node ≡ x
   pub source_nodes : n.source.nodes ≡ node_count mesh
   pub source_channels : n.source.channels ≡ channels

@@ -6,6 +6,7 @@ ghost use Rattle.worm_theory.specs.Steps.{IsThere, Step as Event};
 ghost use Rattle.worm_region.specs.Runs.{event_of};
 ghost use Rattle.worm_region.specs.Replies.{Attempts, Replies};
 ghost use Rattle.worm_region.specs.Answers.{accepted_of, moved_of};
+ghost use Rattle.worm_region.specs.declared.step.Moved.TheVariants.{Done};
 ghost use Rattle.worm_region.specs.NewNet.{IsConfig, IsFresh};
 ghost use Rattle.worm_region.specs.State.{IsNet, shape, router_at, texts_of, with_router};
 ghost use Rattle.worm_region.specs.Owned.{sole};
@@ -329,23 +330,20 @@ impl Region {
         if self.fabric.node(node).router.owed_count(port, vc) == 0 {
             return Ok(Moved::Idle);
         }
-        self.give_owed(node, port, vc)
+        self.give_owed(node, port, vc);
+        Ok(Moved::Done)
     }
 
-    /// A GiveCredit where the port is a mesh port, the channel is there, and the channel of the port owes a credit.
+    /// A GiveCredit where the channel is there and owes a credit: its port then has a link.
     #[inline(always)]
-    pub fn give_owed(&mut self, node: u8, port: u8, vc: u8) -> Result<Moved, StepFault>
-        requires mesh_port { port < 6 }
+    pub fn give_owed(&mut self, node: u8, port: u8, vc: u8)
         requires channel { vc < sum self.old.channels }
         requires owed { 0 < (input_at (router_at self.old node) port vc).owed }
         requires within { EndsWithin (shape self.old) (owned self.old) node port }
-        ensures { Replies self.old (Event.GiveCredit node port vc) result self.new }
+        ensures { Replies self.old (Event.GiveCredit node port vc) (Ok Done) self.new }
     {
-        let Some(links) = self.fabric.wires().links_of_mesh_port(node, port) else {
-            return Err(StepFault::NoSuchPlace);
-        };
+        let links = self.fabric.wires().links_beyond(node, port);
         self.fabric.give_credit(node, port, vc, links);
-        Ok(Moved::Done)
     }
 
     pub(crate) fn take_credit(&mut self, node: u8, port: u8) -> Result<Moved, StepFault>

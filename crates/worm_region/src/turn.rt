@@ -196,7 +196,6 @@ impl Region {
 
     /// Gives a credit that a channel of the port owes to the link into it.
     fn give_credit_at(&mut self, node: u8, port: u8, vc: u8)
-        requires mesh_port { port < 6 }
         requires channel { vc < sum self.old.channels }
         requires owed { 0 < (input_at (router_at self.old node) port vc).owed }
         requires whole { self.old.own ≡ sole }
@@ -207,7 +206,7 @@ impl Region {
         ensures sound { IsWorkable self.new }
     {
         self.recall();
-        let _moved = self.give_owed(node, port, vc);
+        self.give_owed(node, port, vc);
         self.recall();
     }
 
