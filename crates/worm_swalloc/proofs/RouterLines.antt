@@ -1,7 +1,7 @@
 -- Lemmas on the channels of a router's ports, as sets and as lines.
-use Rattle.std.proofs.Common.{◌≡◌, ℕ, ◌+◌, ◌-◌, ◌*◌, ◌/◌, ◌%◌, ◌^◌, ◌<◌, ◌≤◌, true, false, ltb, ◌&&◌, ◌==◌, min, bit_and}
-use Rattle.std.proofs.Common.{List, [], Option, Some, None, is_some, replicate, slice_index_or, sym, ap, ◌∙◌}
-use Rattle.std.proofs.Common.{arith, inl, inr}
+use Rattle.std.proofs.Common.{◌≡◌, ℕ, ◌+◌, ◌-◌, ◌*◌, ◌/◌, ◌%◌, ◌^◌, ◌<◌, ◌≤◌, true, false, ltb, ◌&&◌, ◌==◌}
+use Rattle.std.proofs.Common.{min, bit_and, List, [], Option, Some, None, is_some, replicate, slice_index_or, ap}
+use Rattle.std.proofs.Common.{sym, ◌∙◌, arith, inl, inr}
 use Rattle.std.specs.Int.{bit_at}
 use Rattle.std.proofs.lemmas.Bool.{cases_eq, cases_lt, cases_Bool, lt-ltb, le-ltb}
 use Rattle.std.proofs.lemmas.Bool.{eq-eqb, true≢false}
@@ -10,11 +10,10 @@ use Rattle.std.proofs.lemmas.Nat.{and_le_r}
 use Rattle.std.proofs.lemmas.Nat.Bits.{bit_at-lt, bit_at_and, bit_at_ones, bit_at_ones_above, same_from_bits_below}
 use Rattle.std.proofs.Math.Pow.{pow_pos, pow_mono}
 use Rattle.worm_vcalloc.specs.Arbiter.{line_requests}
-use Rattle.worm_vcalloc.specs.ChannelSet.{has, IsPut, IsFirstPort}
+use Rattle.worm_vcalloc.specs.ChannelSet.{has, IsPut}
 use Rattle.worm_vcalloc.specs.Table.{cell}
 use Rattle.worm_vcalloc.proofs.PlacesPassing.{has-places, places_only}
-use Rattle.worm_vcalloc.proofs.SetMembers.{has-empty}
-use Rattle.worm_swalloc.specs.RouterPlaces.{router_places, IsSolePort}
+use Rattle.worm_swalloc.specs.RouterPlaces.{router_places}
 
 -- ---- the places
 
@@ -76,15 +75,6 @@ pub places_all : (ports channels set : ℕ) → ArePlacesBelow ports channels 56
 places_all ports channels set b =
     places_only is_some (replicate ports (replicate channels (Some 0))) set b.small
     (λ p c lp lc. b.each p c lp lc (omega arith) ∙ sym (has_cell ports channels p c 0))
-
--- ---- a port alone
-
-pub sole_is : (set left port : ℕ) → IsFirstPort set left port → (left == 0) ≡ true → IsSolePort set port
-sole_is set left port f e = record {
-  port_in = f.port_in;
-  some_in = f.some_in;
-  none_else = λ p c lp lc other. sym (f.elsewhere p c lp lc other) ∙ has-empty left p c e;
-}
 
 -- ---- lines
 

@@ -23,8 +23,8 @@ sole_own s ready among port own sole =
     let c = sole.some_in in (own.own port c.0 sole.port_in c.1 c.2).0
 
 module _ (s : SwAllocState) (ready : List (List (Option ℕ))) (among port : ℕ) (request : Option SwGrant)
-    (r : IsSwAlloc s.ports s.channels s.inputs s.outputs) (own : AreOwnReady s ready among) (sole : IsSolePort among port)
-    (e : request ≡ named s ready port) where
+    (r : IsSwAlloc s.ports s.channels s.inputs s.outputs)
+    (own : AreOwnReady s ready among) (sole : IsSolePort among port) (e : request ≡ named s ready port) where
   others : (i : ℕ) → i < s.ports → ((i ≡ port) → ⊥) → named s ready i ≡ slice_index_or (replicate 7 None) i None
   others i l other =
       let few = r.few_ports in

@@ -59,7 +59,7 @@ named_ready s ready port lines d vc r lp within same e =
     let few = r.few_ports in
     let wide = r.input_width port (omega arith) in
     let low = r.input_pointer port (omega arith) in
-    (winner_requests (slice_index_or s.inputs port no_arbiter) (λ vc. is_some (cell ready port vc None)) vc (omega arith)
+    (winner_requests (slice_index_or s.inputs port no_arbiter) (λ v. is_some (cell ready port v None)) vc (omega arith)
     (sym (named_is s ready port lines d (Some vc) r lp within same e))).1
 
 -- the input port that an output arbiter chooses, likewise
@@ -445,7 +445,8 @@ all_named_none s ready r none =
 
 -- nothing is granted
 pub sw_grants_none : (s : SwAllocState) (ready : List (List (Option ℕ)))
-    → IsSwAlloc s.ports s.channels s.inputs s.outputs → ((p v : ℕ) → p < s.ports → v < s.channels → cell ready p v None ≡ None)
+    → IsSwAlloc s.ports s.channels s.inputs s.outputs
+    → ((p v : ℕ) → p < s.ports → v < s.channels → cell ready p v None ≡ None)
     → sw_grants s ready ≡ replicate 7 None
 sw_grants_none s ready r none =
     with_front_kept s.ports (granted s (all_named s ready) s.ports) (replicate 7 None) None r.few_ports
