@@ -253,14 +253,13 @@ impl Part {
     /// Gives the credit over a link within the part.
     fn give_within(&mut self, node: u8, port: u8, vc: u8)
         requires own { owned self.old.net node ≡ true }
-        requires mesh_port { port < 6 }
         requires channel { vc < sum self.old.net.channels }
         requires owed { 0 < (input_at (router_at self.old.net node) port vc).owed }
         requires stays { ComesBy self.old node port → ⊥ }
         ensures gives { Within (Attempts (Event.GiveCredit node port vc)) self.old None self.new }
         ensures same { IsSamePart self.old self.new }
     {
-        let _done = self.region.give_owed(node, port, vc);
+        self.region.give_owed(node, port, vc);
     }
 
     /// Whether the link into the port comes from another worker's node.
@@ -277,7 +276,6 @@ impl Part {
     /// Gives a credit that a channel of the port owes to the link into it, whoever's node that comes from.
     fn give<R: Wait>(&mut self, rt: &R, node: u8, port: u8, vc: u8)
         requires own { owned self.old.net node ≡ true }
-        requires mesh_port { port < 6 }
         requires node { node < node_count self.old.net.mesh }
         requires channel { vc < sum self.old.net.channels }
         requires owed { 0 < (input_at (router_at self.old.net node) port vc).owed }

@@ -174,16 +174,6 @@ impl Links {
         self.wiring.links_at(node, port)
     }
 
-    /// The links of this mesh port, if the node has a neighbour there: no test of the port, for who knows it.
-    pub fn links_of_mesh_port(&self, node: u8, port: u8) -> Option<PortLinks>
-        requires { port < 6 }
-        ensures there { IsSome result ↔ IsSome (neighbour_of self.now.mesh node port) }
-        ensures value { result ≡ port_links self.now.mesh node port }
-        ensures mesh { AreRadices self.now.mesh }
-    {
-        self.wiring.links_of_mesh_port(node, port)
-    }
-
     /// The links of this port of the node, which has a neighbour there.
     pub fn links_beyond(&self, node: u8, port: u8) -> PortLinks
         requires { IsSome (neighbour_of self.now.mesh node port) }

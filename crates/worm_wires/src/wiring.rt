@@ -193,28 +193,6 @@ impl Wiring {
         }
     }
 
-    /// The links of this mesh port of the node, if there is a neighbour: no test of the port, for who knows it.
-    pub fn links_of_mesh_port(&self, node: u8, port: u8) -> Option<PortLinks>
-        requires { port < 6 }
-        ensures value { result ≡ port_links self.now node port }
-        ensures mesh { AreRadices self.now }
-
-        // The numbers again, by themselves.
-        ensures out { IfSome result (λ links. links.out ≡ links_before self.now node port) }
-        ensures into { IfSome result (λ links. links.into ≡ into_from self.now port (neighbour_of self.now node port)) }
-        ensures bound { IfSome result (λ links. (links.out < link_count self.now)
-            × (links.into < link_count self.now)) }
-        ensures mesh_ports { IfSome result (λ links. (port < 6) × (links.entered < 6)) }
-    {
-        // For the proof: a mesh has radices within their limits.
-        let _nodes = self.mesh.nodes();
-        let out = self.kept(node, port);
-        if out == NO_LINK {
-            return None;
-        }
-        Some(self.links_by(node, port, out))
-    }
-
     /// The links of this port of the node, if there is a neighbour.
     pub fn links_at(&self, node: u8, port: u8) -> Option<PortLinks>
         ensures value { result ≡ port_links self.now node port }
@@ -232,7 +210,11 @@ impl Wiring {
         if port >= 6 {
             return None;
         }
-        self.links_of_mesh_port(node, port)
+        let out = self.kept(node, port);
+        if out == NO_LINK {
+            return None;
+        }
+        Some(self.links_by(node, port, out))
     }
 
     /// The links of this port of the node, which has a neighbour there.

@@ -1,7 +1,7 @@
 use Rattle.std.proofs.Common.{subst, sym, ◌∙◌}
 use Rattle.worm_mesh.specs.Address.{AreRadices}
 use Rattle.worm_wires.proofs.Wired.{none_kept, no_links_there, ports_within}
-use Rattle.worm_wires.proofs.wiring.Wiring.links_of_mesh_port.Goals as goal
+use Rattle.worm_wires.proofs.wiring.Wiring.links_at.Goals as goal
 
 pub returns-then-out-clause-value : goal.returns-then-out-clause-value
 returns-then-out-clause-value c =
