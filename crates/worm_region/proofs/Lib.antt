@@ -28,6 +28,7 @@ pub mod GrantedSent
 pub mod OfferAgrees
 pub mod NewNet
 pub mod ReachedBySteps
+pub mod SetWalked
 pub mod LowestGiven
 pub mod Passages
 pub mod TurnInParts

@@ -148,10 +148,14 @@ NoFlit s x p = IsSome (neighbour_of s.mesh x p) → front_into s x p ≡ None
 abbrev pub NoFeed : NetState → ℕ → ℕ → Type 0
 NoFeed s x k = front_of (source_at s x) k ≡ None
 
--- a set of mesh ports or of classes, of which there are so many, and at each that is left out there is none
-pub record Covers (NoneAt : ℕ → Type 0) (count set : ℕ) : Type 0 where
-  pub rest : (n : ℕ) → n < count → has_small set n ≡ false → NoneAt n
-  pub places : (n : ℕ) → n < 8 → has_small set n ≡ true → n < count
+-- a set of places, of those that it can hold, and at each place that is left out there is none
+pub record Covers {K : Type 0} (CanHold IsPlace NoneAt : K → Type 0) (member : K → Bool) : Type 0 where
+  pub rest : (k : K) → CanHold k → IsPlace k → member k ≡ false → NoneAt k
+  pub places : (k : K) → CanHold k → member k ≡ true → IsPlace k
+
+-- of mesh ports or of classes, of which there are so many
+abbrev pub CoversNumbers : (ℕ → Type 0) → ℕ → ℕ → Type 0
+CoversNumbers NoneAt count set = Covers (λ n. n < 8) (λ n. n < count) NoneAt (λ n. has_small set n)
 
 -- a set of mesh ports, by each of which the node has a neighbour
 abbrev pub AreLinked : NetState → ℕ → ℕ → Type 0
