@@ -5,6 +5,7 @@ use Rattle.std.proofs.Common.{false}
 use Rattle.std.specs.List.{range_with_len}
 use Rattle.std.proofs.lemmas.Bool.{cases_lt, true≢false}
 use Rattle.worm_flit.specs.SmallSet.{has, IsFirst}
+use Rattle.worm_vcalloc.specs.ChannelSet.{has as has_channel, IsFirstPort}
 use Rattle.worm_theory.proofs.Places.{number_cases}
 use Rattle.worm_region.specs.State.{NetState}
 use Rattle.worm_region.specs.Turns.{Does, Each, Passage}
@@ -109,6 +110,20 @@ number_taken first = record {
   none_before = λ n below n_few. first.none_before n below;
   here = λ n_few. first.taken.here;
   elsewhere = λ n away out n_few. first.taken.elsewhere n n_few away ∙ out n_few;
+}
+
+-- of the ports of a set of channels, below a count
+
+abbrev pub IsPortOut : ℕ → ℕ → ℕ → Type 0
+IsPortOut count set p = p < count → (v : ℕ) → v < 8 → has_channel set p v ≡ false
+
+pub port_taken : {count set new first : ℕ} → count ≤ 7 → first < count → IsFirstPort set new first
+    → IsTaken (IsPortOut count set) (IsPortOut count new) first
+port_taken few within port = record {
+  was_in = λ out. true≢false (sym port.some_in.2 ∙ out within port.some_in.0 port.some_in.1);
+  none_before = λ p below p_in v v_few. port.none_before p v below v_few;
+  here = λ p_in. port.taken;
+  elsewhere = λ p away out p_in v v_few. port.elsewhere p v (omega arith) v_few away ∙ out p_in v v_few;
 }
 
 -- of the passages of a network, of which all below a number were made
