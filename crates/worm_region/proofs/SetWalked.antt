@@ -1,11 +1,11 @@
 -- How far a loop has come that takes the members out of a set, the first one first, and does at each what there is to
 -- do: over the numbers below a count, at which there is nothing to do but at the members.
-use Rattle.std.proofs.Common.{◌≡◌, ℕ, zero, suc, ◌+◌, ◌-◌, ◌<◌, ◌≤◌, ◌⊎◌, inl, inr, None, arith, sym, subst, ◌∙◌}
-use Rattle.std.proofs.Common.{false}
+use Rattle.std.proofs.Common.{◌≡◌, ℕ, zero, suc, ◌+◌, ◌-◌, ◌*◌, ◌<◌, ◌≤◌, ◌⊎◌, inl, inr, None, arith, sym, subst, ◌∙◌}
+use Rattle.std.proofs.Common.{false, ap, refl}
 use Rattle.std.specs.List.{range_with_len}
 use Rattle.std.proofs.lemmas.Bool.{cases_lt, true≢false}
 use Rattle.worm_flit.specs.SmallSet.{has, IsFirst}
-use Rattle.worm_vcalloc.specs.ChannelSet.{has as has_channel, IsFirstPort}
+use Rattle.worm_vcalloc.specs.ChannelSet.{has as has_channel, IsFirst as IsFirstChannel, IsFirstPort}
 use Rattle.worm_theory.proofs.Places.{number_cases}
 use Rattle.worm_region.specs.State.{NetState}
 use Rattle.worm_region.specs.Turns.{Does, Each, Passage}
@@ -124,6 +124,21 @@ port_taken few within port = record {
   none_before = λ p below p_in v v_few. port.none_before p v below v_few;
   here = λ p_in. port.taken;
   elsewhere = λ p away out p_in v v_few. port.elsewhere p v (omega arith) v_few away ∙ out p_in v v_few;
+}
+
+-- of a set of channels, the number of each its place, eight to a port
+
+abbrev pub IsChannelOut : ℕ → ℕ → Type 0
+IsChannelOut set n = (p v : ℕ) → 8 * p + v ≡ n → p < 7 → v < 8 → has_channel set p v ≡ false
+
+pub channel_taken : {set new port vc : ℕ} → IsFirstChannel set new port vc
+    → IsTaken (IsChannelOut set) (IsChannelOut new) (8 * port + vc)
+channel_taken {new = new} {port = port} {vc = vc} first = record {
+  was_in = λ out. true≢false (sym first.was_in ∙ out port vc refl first.port_in first.channel_in);
+  none_before = λ n below p v is p_few v_few. first.none_before p v v_few (omega arith);
+  here = λ p v is p_few v_few. ap (λ (n : ℕ). has new n) is ∙ first.taken.here;
+  elsewhere = λ n away out p v is p_few v_few.
+      first.taken.elsewhere p v p_few v_few (λ e f. away (omega arith)) ∙ out p v is p_few v_few;
 }
 
 -- of the passages of a network, of which all below a number were made
