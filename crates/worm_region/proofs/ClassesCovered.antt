@@ -1,5 +1,5 @@
 -- What a source has to feed, class by class.
-use Rattle.std.proofs.Common.{◌≡◌, ℕ, ◌<◌, false, inl, inr, length, List, None, Some, Ok, Err, Option, refl}
+use Rattle.std.proofs.Common.{◌≡◌, ℕ, ◌<◌, ◌≤◌, false, inl, inr, length, List, None, Some, Ok, Err, Option, refl}
 use Rattle.std.proofs.Common.{arith, ap, sym, subst, ◌∙◌}
 use Rattle.std.specs.Prelude.{Result, is_some, option_map}
 use Rattle.std.proofs.lemmas.Bool.{cases_lt}
@@ -14,15 +14,15 @@ use Rattle.worm_term.specs.Queue.{QueueState, empty_queue, one_fed, waiting}
 use Rattle.worm_term.specs.Source.{AreUnfed, SourceState, after_fed, front_of, queue_at}
 use Rattle.worm_region.specs.Shape.{net_shape}
 use Rattle.worm_region.specs.State.{NetState, fresh_node, node_at, router_at, source_at, with_node}
-use Rattle.worm_region.specs.Moves.{Covers, NoFeed, can_enter, fed_node}
+use Rattle.worm_region.specs.Moves.{CoversNumbers, NoFeed, can_enter, fed_node}
 use Rattle.worm_region.specs.Workable.{IsWorkable}
-use Rattle.worm_region.specs.Replies.{Attempts, Replies}
+use Rattle.worm_region.specs.Replies.{Replies}
 use Rattle.worm_region.specs.declared.node.Node.{Node}
 use Rattle.worm_region.specs.declared.step.Moved.{Moved}
 use Rattle.worm_region.specs.declared.step.Moved.TheVariants.{Done, Idle}
 use Rattle.worm_region.specs.declared.fault.StepFault.{StepFault}
 use Rattle.worm_region.specs.declared.fault.StepFault.TheVariants.{NoSuchPlace, Refused, NoMemory}
-use Rattle.worm_region.proofs.EachCovered.{class_count}
+use Rattle.worm_region.proofs.EachCovered.{Kind}
 use Rattle.worm_region.proofs.Resting.{feed_still}
 
 -- what is fed of one class is not of another, nor was it
@@ -60,11 +60,20 @@ feed_elsewhere a b x q (Err NoMemory) net refused k away none =
     subst (λ (s : NetState). NoFeed s x k) (sym refused.3) none
 
 -- where there is none a step feeds none
-pub no_feed_still : (x : ℕ) (s : NetState) (k : ℕ) → IsWorkable s → x < node_count s.mesh → k < class_count s
-    → NoFeed s x k → Attempts (Feed x k) s None s
-no_feed_still x s k net x_in k_in none =
-    feed_still s x k net x_in k_in
-    (ap (λ (o : Option Flit). can_enter (router_at s x) (terminal (router_at s x)) o) none)
+
+pub few_classes : (s : NetState) → IsWorkable s → length s.channels ≤ 8
+few_classes s net = let few = net.framed.classes.few in omega arith
+
+abbrev pub classes : (x : ℕ) → Kind x
+classes x = record {
+  count = λ s. length s.channels;
+  same = λ a b config. ap (λ (counts : List ℕ). length counts) config.channels;
+  few = few_classes;
+  step = Feed x;
+  NoneAt = λ s. NoFeed s x;
+  still = λ s k net x_in k_in none. feed_still s x k net x_in k_in
+      (ap (λ (o : Option Flit). can_enter (router_at s x) (terminal (router_at s x)) o) none);
+}
 
 -- the set that the source keeps
 
@@ -73,19 +82,19 @@ none_of None none = refl
 none_of (Some f) none = absurd (cc)
 
 pub unfed_cover : (s : NetState) (x set : ℕ) → IsWorkable s → x < node_count s.mesh
-    → AreUnfed (source_at s x).queues set → Covers (NoFeed s x) (class_count s) set
+    → AreUnfed (source_at s x).queues set → CoversNumbers (NoFeed s x) (length s.channels) set
 unfed_cover s x set net x_in unfed =
     let all = net.framed.all_nodes in
     let few = net.framed.classes.few in
     let node = net.framed.each_node x (omega arith) in
     let source = source_at s x in
-    let queues : length source.queues ≡ class_count s =
+    let queues : length source.queues ≡ length s.channels =
     node.source_holds.all_queues ∙ ap (λ (counts : List ℕ). length counts) node.source_channels in
     record {
-      rest = λ k k_in off.
+      rest = λ k k_few k_in off.
           ap (λ (o : Option Flit). option_map (λ f. with_channel f (first_channel source.channels k)) o)
           (none_of (waiting (queue_at source k)) (sym (unfed k (omega arith)) ∙ off));
-      places = λ k k_few on. elim (cases_lt k (class_count s)) [
+      places = λ k k_few on. elim (cases_lt k (length s.channels)) [
         | inl below ↦ below
         | inr above ↦
             let past = get_or_past source.queues k empty_queue (omega arith) in

@@ -1,10 +1,10 @@
 -- What comes in at a node is taken port by port, and fed class by class: at each number of a set, and at the others
 -- there is none.
-use Rattle.std.proofs.Common.{◌≡◌, ℕ, ◌+◌, ◌*◌, ◌<◌, ◌≤◌, true, false, inl, inr, List, drop, length, map, None, Some}
+use Rattle.std.proofs.Common.{◌≡◌, ℕ, ◌+◌, ◌*◌, ◌<◌, ◌≤◌, false, inl, inr, List, drop, length, map, None, Some}
 use Rattle.std.proofs.Common.{Ok, Err, Option, refl, arith, ap, sym, subst, ◌∙◌}
 use Rattle.std.specs.Prelude.{IsSome, Result, slice_get}
 use Rattle.std.specs.List.{range_with_len}
-use Rattle.std.proofs.lemmas.Bool.{cases_lt}
+use Rattle.std.proofs.lemmas.Bool.{false_from_ne_true}
 use Rattle.std.proofs.lemmas.List.{get_or-set_other}
 use Rattle.worm_mesh.specs.Address.{AreRadices, neighbour_of, node_count}
 use Rattle.worm_mesh.specs.Links.{links_before}
@@ -21,12 +21,12 @@ use Rattle.worm_wires.proofs.ArrivalsFound.{nothing_in}
 use Rattle.worm_wires.proofs.ArrivalsFound.{nothing_out}
 use Rattle.worm_region.specs.Shape.{net_shape}
 use Rattle.worm_region.specs.State.{IsSameConfig, NetState, link_at, with_link}
-use Rattle.worm_region.specs.Moves.{AreLinked, Covers, NoCredit, NoFlit, after_getting, after_take, front_credit}
+use Rattle.worm_region.specs.Moves.{AreLinked, CoversNumbers, NoCredit, NoFlit, after_getting, after_take, front_credit}
 use Rattle.worm_region.specs.Moves.{front_into}
 use Rattle.worm_region.specs.Moves.{link_into, link_out}
 use Rattle.worm_region.specs.Workable.{IsWorkable}
 use Rattle.worm_region.specs.Replies.{Attempts, Replies}
-use Rattle.worm_region.specs.Turns.{Does, Each, ForEach}
+use Rattle.worm_region.specs.Turns.{Does, ForEach}
 use Rattle.worm_region.specs.declared.step.Moved.{Moved}
 use Rattle.worm_region.specs.declared.step.Moved.TheVariants.{Done, Idle}
 use Rattle.worm_region.specs.declared.fault.StepFault.{StepFault}
@@ -34,108 +34,70 @@ use Rattle.worm_region.specs.declared.fault.StepFault.TheVariants.{NoSuchPlace, 
 use Rattle.worm_flit.specs.declared.Flit.{Flit}
 use Rattle.worm_region.proofs.LinkedPorts.{links_of}
 use Rattle.worm_region.proofs.Resting.{credit_still, flit_still}
-use Rattle.worm_region.proofs.Passages.{does_nothing, does_ranged, loop_more, loop_on}
+use Rattle.worm_region.proofs.Passages.{does_ranged}
+use Rattle.worm_region.proofs.SetWalked.{IsOut, Passed, Walked, number_taken, passed_more, passed_none, passed_still}
+use Rattle.worm_region.proofs.SetWalked.{walked_all, walked_more, walked_start}
 
--- how many mesh ports or classes there are
-abbrev pub port_count : NetState → ℕ
-port_count s = 2 * length s.mesh
+-- the mesh ports of a node or its classes: how many there are, the step at each, and where that has nothing to do
+pub record Kind (x : ℕ) : Type 1 where
+  pub count : NetState → ℕ
+  pub same : (a b : NetState) → IsSameConfig a b → count b ≡ count a
+  pub few : (s : NetState) → IsWorkable s → count s ≤ 8
+  pub step : ℕ → Step
+  pub NoneAt : NetState → ℕ → Type 0
+  pub still : (s : NetState) (n : ℕ) → IsWorkable s → x < node_count s.mesh → n < count s → NoneAt s n
+      → Attempts (step n) s None s
 
-abbrev pub class_count : NetState → ℕ
-class_count s = length s.channels
+-- how far they have come
+abbrev pub Covered : {x : ℕ} → Kind x → NetState → NetState → ℕ → Type 0
+Covered kind a b set =
+    Walked (Passed (λ n. Attempts (kind.step n)) a b) (λ n. has set n ≡ false → kind.NoneAt b n) (IsOut set)
+    (kind.count a)
 
-pub few_ports : (s : NetState) → IsWorkable s → port_count s ≤ 8
+module _ {x : ℕ} (kind : Kind x) (a : NetState) where
+  pub covered_start : (set : ℕ) → IsWorkable a → CoversNumbers (kind.NoneAt a) (kind.count a) set
+      → Covered kind a a set
+  covered_start set sound covers =
+      let few = kind.few a sound in
+      walked_start (passed_none (λ n. Attempts (kind.step n)) a sound)
+      (λ n past n_few. false_from_ne_true (has set n)
+      (λ on. let within = covers.places n n_few on in omega arith))
+      (λ n n_in none. covers.rest n (omega arith) n_in none)
+
+  module _ (x_in : x < node_count a.mesh) (b : NetState) (set : ℕ) where
+    stays : (n : ℕ) → n < kind.count a → (has set n ≡ false → kind.NoneAt b n) → IsOut set n
+        → Passed (λ n. Attempts (kind.step n)) a b n → Passed (λ n. Attempts (kind.step n)) a b (n + 1)
+    stays n n_in none out passed =
+        let config = passed.does.reaches.config in
+        let nodes = ap node_count config.mesh in
+        let same = kind.same a b config in
+        let few = kind.few b passed.sound in
+        passed_still (λ n. Attempts (kind.step n)) a b n passed
+        (kind.still b n passed.sound (omega (arith, nodes)) (omega (arith, same)) (none (out (omega arith))))
+
+    pub covered_more : (c : NetState) (new q : ℕ) → Covered kind a b set → IsFirst set new q
+        → Does (Attempts (kind.step q)) b None c → ((p : ℕ) → (p ≡ q → ⊥) → kind.NoneAt b p → kind.NoneAt c p)
+        → IsWorkable c → Covered kind a c new
+    covered_more c new q covered first does others sound =
+        let same = kind.same a b covered.done.does.reaches.config in
+        let few = kind.few b covered.done.sound in
+        walked_more stays q covered (number_taken first)
+        (λ passed. passed_more (λ n. Attempts (kind.step n)) a b c q passed does sound)
+        (λ n above n_in none out.
+        let differs : n ≡ q → ⊥ = λ e. omega arith in
+        others n differs (none (sym (first.taken.elsewhere n (omega arith) differs) ∙ out)))
+
+    pub covered_all : (list : NetState → List Step) → Covered kind a b set → set ≡ 0
+        → list a ≡ map kind.step (range_with_len 0 (kind.count a)) → Does (ForEach list Attempts) a None b
+    covered_all list covered none is =
+        does_ranged list kind.step (kind.count a) (kind.count a) a b is refl
+        (walked_all stays covered (λ n n_few. ap (λ (s : ℕ). has s n) none ∙ has_none 0 n refl)).does
+
+pub few_ports : (s : NetState) → IsWorkable s → 2 * length s.mesh ≤ 8
 few_ports s net = let few = net.framed.radices.few_dims in omega arith
 
-pub few_classes : (s : NetState) → IsWorkable s → class_count s ≤ 8
-few_classes s net = let few = net.framed.classes.few in omega arith
-
-pub same_ports : (a b : NetState) → IsSameConfig a b → port_count b ≡ port_count a
+pub same_ports : (a b : NetState) → IsSameConfig a b → 2 * length b.mesh ≡ 2 * length a.mesh
 same_ports a b config = ap (λ (m : List ℕ). 2 * length m) config.mesh
-
-pub same_classes : (a b : NetState) → IsSameConfig a b → class_count b ≡ class_count a
-same_classes a b config = ap (λ (counts : List ℕ). length counts) config.channels
-
--- how far they have come, of which there are so many: all below `next` are done, and of the others there is none but at
--- those of the set
-pub record Covered (x : ℕ) (size : NetState → ℕ) (E : ℕ → Step) (NoneAt : NetState → ℕ → Type 0) (a b : NetState)
-    (set next : ℕ) : Type 0 where
-  pub passed : Does (Each (λ p. Attempts (E p)) (range_with_len 0 next)) a None b
-  pub there : x < node_count b.mesh
-  pub sound : IsWorkable b
-  pub few : size b ≤ 8
-  pub next_in : next ≤ size b
-  pub rest : (p : ℕ) → next ≤ p → p < size b → has set p ≡ false → NoneAt b p
-  pub places : (p : ℕ) → p < 8 → has set p ≡ true → (next ≤ p) × (p < size b)
-
-pub covered_start : (x : ℕ) (size : NetState → ℕ) (E : ℕ → Step) (NoneAt : NetState → ℕ → Type 0) (a : NetState)
-    (set : ℕ) → x < node_count a.mesh → IsWorkable a → size a ≤ 8 → Covers (NoneAt a) (size a) set
-    → Covered x size E NoneAt a a set 0
-covered_start x size E NoneAt a set there sound few covers = record {
-  passed = does_nothing a;
-  there = there;
-  sound = sound;
-  few = few;
-  next_in = omega arith;
-  rest = λ p above p_in none. covers.rest p p_in none;
-  places = λ p p_few some. (omega arith, covers.places p p_few some);
-}
-
-module _ (x : ℕ) (size : NetState → ℕ) (same : (a b : NetState) → IsSameConfig a b → size b ≡ size a) (E : ℕ → Step)
-    (NoneAt : NetState → ℕ → Type 0)
-    (still : (s : NetState) (p : ℕ) → IsWorkable s → x < node_count s.mesh → p < size s → NoneAt s p
-    → Attempts (E p) s None s) where
-  -- numbers at which there is none are passed
-  along : (a b : NetState) (set next to : ℕ) → Covered x size E NoneAt a b set next → next ≤ to → to ≤ size b
-      → ((p : ℕ) → next ≤ p → p < to → has set p ≡ false)
-      → Does (Each (λ p. Attempts (E p)) (range_with_len 0 to)) a None b
-  along a b set next to covered less to_in none =
-      loop_on (λ p. Attempts (E p)) next to a b less covered.passed
-      (λ p above below. still b p covered.sound covered.there (omega arith)
-      (covered.rest p above (omega arith) (none p above below)))
-
-  pub covered_more : (a b c : NetState) (set new next q : ℕ) → Covered x size E NoneAt a b set next
-      → IsFirst set new q → Does (Attempts (E q)) b None c → ((p : ℕ) → (p ≡ q → ⊥) → NoneAt b p → NoneAt c p)
-      → IsWorkable c → Covered x size E NoneAt a c new (q + 1)
-  covered_more a b c set new next q covered first taken others sound =
-      let place = covered.places q first.in_range first.was_in in
-      let above : next ≤ q = place.0 in
-      let q_in : q < size b = place.1 in
-      let up_to = along a b set next q covered above (omega arith) (λ p from below. first.none_before p below) in
-      let few = covered.few in
-      let config = taken.reaches.config in
-      let sizes : size c ≡ size b = same b c config in
-      let nodes = ap node_count config.mesh in
-      record {
-        passed = loop_more (λ p. Attempts (E p)) q a b c None up_to taken;
-        there = omega (arith, covered.there);
-        sound = sound;
-        few = omega arith;
-        next_in = omega arith;
-        rest = λ p from p_in none.
-            let differs : p ≡ q → ⊥ = λ e. omega arith in
-            others p differs (covered.rest p (omega arith) (omega arith)
-            (sym (first.taken.elsewhere p (omega arith) differs) ∙ none));
-        places = λ p p_few some. elim (number_cases p q) [
-          | inl same ↦ absurd (let off = ap (has new) same.1 ∙ first.taken.here in cc)
-          | inr away ↦
-              let differs = away.1 in
-              let on = sym (first.taken.elsewhere p p_few away.1) ∙ some in
-              let was = covered.places p p_few on in (
-                elim (cases_lt p q) [
-                  | inl before ↦ absurd (let off = first.none_before p before in cc)
-                  | inr after ↦ omega arith
-                ],
-                omega (arith, was.1),
-              )
-        ];
-      }
-
-  pub covered_all : (a b : NetState) (list : NetState → List Step) (set next : ℕ) → Covered x size E NoneAt a b set next
-      → set ≡ 0 → list a ≡ map E (range_with_len 0 (size a)) → Does (ForEach list Attempts) a None b
-  covered_all a b list set next covered none is =
-      let whole = along a b set next (size b) covered covered.next_in (omega arith)
-      (λ p above below. ap (λ (s : ℕ). has s p) none ∙ has_none 0 p refl) in
-      does_ranged list E (size a) (size b) a b is (sym (same a b whole.reaches.config)) whole
 
 -- the links of two ports are two
 
@@ -209,39 +171,52 @@ flit_elsewhere a b x q (Err NoMemory) net refused p away none =
     subst (λ (s : NetState). NoFlit s x p) (sym refused.3) none
 
 -- where there is none a step takes none
-pub no_credit_still : (x : ℕ) (s : NetState) (p : ℕ) → IsWorkable s → x < node_count s.mesh → p < port_count s
-    → NoCredit s x p → Attempts (TakeCredit x p) s None s
-no_credit_still x s p net x_in p_in none = credit_still s x p (neighbour_of s.mesh x p) net x_in refl none
 
-pub no_flit_still : (x : ℕ) (s : NetState) (p : ℕ) → IsWorkable s → x < node_count s.mesh → p < port_count s
-    → NoFlit s x p → Attempts (Take x p) s None s
-no_flit_still x s p net x_in p_in none = flit_still s x p (neighbour_of s.mesh x p) net x_in refl none
+abbrev pub credits : (x : ℕ) → Kind x
+credits x = record {
+  count = λ s. 2 * length s.mesh;
+  same = same_ports;
+  few = few_ports;
+  step = TakeCredit x;
+  NoneAt = λ s. NoCredit s x;
+  still = λ s p net x_in p_in none. credit_still s x p (neighbour_of s.mesh x p) net x_in refl none;
+}
+
+abbrev pub flits : (x : ℕ) → Kind x
+flits x = record {
+  count = λ s. 2 * length s.mesh;
+  same = same_ports;
+  few = few_ports;
+  step = Take x;
+  NoneAt = λ s. NoFlit s x;
+  still = λ s p net x_in p_in none. flit_still s x p (neighbour_of s.mesh x p) net x_in refl none;
+}
 
 -- the sets that the links keep
 
 pub credits_cover : (s : NetState) (x set : ℕ) → IsWorkable s → AreFronts (credits_to (links_of s) x) set
-    → Covers (NoCredit s x) (2 * length s.mesh) set
+    → CoversNumbers (NoCredit s x) (2 * length s.mesh) set
 credits_cover s x set net fronts =
     let few = net.framed.radices.few_dims in
     let last = 2 * length s.mesh in
     let six : last ≤ 6 = omega arith in
     let past = credits_past (links_of s) x in
     record {
-      rest = λ p p_in none linked.
+      rest = λ p p_few p_in none linked.
           nothing_out (links_of s) x p linked
           (lacks (credits_to (links_of s) x) set last fronts six past p (λ below. none));
       places = λ p p_in on. is_below (credits_to (links_of s) x) set last fronts six past p p_in on;
     }
 
 pub flits_cover : (s : NetState) (x set : ℕ) → IsWorkable s → AreFronts (flits_to (links_of s) x) set
-    → Covers (NoFlit s x) (2 * length s.mesh) set
+    → CoversNumbers (NoFlit s x) (2 * length s.mesh) set
 flits_cover s x set net fronts =
     let few = net.framed.radices.few_dims in
     let last = 2 * length s.mesh in
     let six : last ≤ 6 = omega arith in
     let past = flits_past (links_of s) x in
     record {
-      rest = λ p p_in none linked.
+      rest = λ p p_few p_in none linked.
           nothing_in (links_of s) x p linked
           (lacks (flits_to (links_of s) x) set last fronts six past p (λ below. none));
       places = λ p p_in on. is_below (flits_to (links_of s) x) set last fronts six past p p_in on;

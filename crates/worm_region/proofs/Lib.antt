@@ -29,6 +29,7 @@ pub mod ArbitersStand
 pub mod GrantedSent
 pub mod OfferAgrees
 pub mod ReachedBySteps
+pub mod SetWalked
 pub mod LowestGiven
 pub mod Passages
 pub mod TurnInParts

@@ -1,31 +1,31 @@
 -- Credits are given by the ports that owe one, and what any other port owes stays.
-use Rattle.std.proofs.Common.{◌≡◌, ◌==◌, ℕ, ◌+◌, ◌-◌, ◌*◌, ◌<◌, ◌≤◌, true, false, inl, inr, List, length, nat_lt, sum}
+use Rattle.std.proofs.Common.{◌≡◌, ◌==◌, ℕ, ◌+◌, ◌-◌, ◌*◌, ◌<◌, ◌≤◌, true, false, inr, List, length, nat_lt, sum}
 use Rattle.std.proofs.Common.{Some, None, Ok, Err, refl, arith, ap, sym, subst, ◌∙◌}
 use Rattle.std.specs.Prelude.{Result}
-use Rattle.std.specs.List.{range_with_len}
-use Rattle.std.proofs.lemmas.Bool.{cases_lt, eq-eqb}
+use Rattle.std.proofs.lemmas.Bool.{eq-eqb}
 use Rattle.std.proofs.lemmas.Bool.Decides.{nat_tests}
 use Rattle.worm_vcalloc.specs.ChannelSet.{has, IsFirstPort, IsLowest}
 use Rattle.worm_mesh.specs.Address.{node_count}
 use Rattle.worm_router.specs.Router.{ChannelState, RouterState, input_at, with_input, terminal, width, after_gave}
 use Rattle.worm_router.specs.Busy.{IsSetOf, owes}
 use Rattle.worm_theory.specs.Steps.{GiveCredit}
-use Rattle.worm_theory.proofs.Places.{number_cases, same-false}
+use Rattle.worm_theory.proofs.Places.{same-false}
 use Rattle.worm_region.specs.Shape.{net_shape}
-use Rattle.worm_region.specs.State.{NetState, node_at, router_at, with_node}
+use Rattle.worm_region.specs.State.{IsSameConfig, NetState, node_at, router_at, with_node}
 use Rattle.worm_region.specs.Workable.{IsWorkable}
 use Rattle.worm_region.specs.Replies.{Attempts, Replies}
 use Rattle.worm_region.specs.Moves.{OwesTheSame, can_give}
-use Rattle.worm_region.specs.Turns.{Each, Does, lowest_owed, mesh_ports, GivesCreditBy, GivesCreditsBy}
+use Rattle.worm_region.specs.Turns.{Does, lowest_owed, mesh_ports, GivesCreditBy, GivesCreditsBy}
 use Rattle.worm_region.specs.declared.node.Node.{Node}
 use Rattle.worm_region.specs.declared.step.Moved.{Moved}
 use Rattle.worm_region.specs.declared.step.Moved.TheVariants.{Done, Idle}
 use Rattle.worm_region.specs.declared.fault.StepFault.{StepFault}
 use Rattle.worm_region.specs.declared.fault.StepFault.TheVariants.{NoSuchPlace, Refused, NoMemory}
-use Rattle.worm_wires.proofs.ArrivalsFound.{true_of}
 use Rattle.worm_region.proofs.NodeWritten.{node_at-put, input_of-put, input_of-there}
 use Rattle.worm_region.proofs.PlacesThere.{net_place}
-use Rattle.worm_region.proofs.Passages.{does_for, does_nothing, loop_more, loop_on}
+use Rattle.worm_region.proofs.Passages.{does_for}
+use Rattle.worm_region.proofs.SetWalked.{IsPortOut, IsTaken, Passed, Walked, passed_more, passed_none, passed_still}
+use Rattle.worm_region.proofs.SetWalked.{port_taken, walked_all, walked_more, walked_place, walked_start}
 use Rattle.worm_region.proofs.TurnInParts.{gives_none, owed_lowest, owing_some}
 
 pub unchanged : (a b : NetState) (x p v : ℕ) → b ≡ a → v < width (router_at b x) → OwesTheSame a b x p v
@@ -89,119 +89,115 @@ router_size s x net there =
     let node = net.framed.each_node x (omega arith) in
     (ap (λ (m : List ℕ). 2 * length m) node.same_mesh, ap (λ (m : List ℕ). sum m) node.same_channels)
 
--- how far the ports have come that owe a credit: those below `from` are done, and of the others just the channels of
--- the set owe one
-pub record Gave (x : ℕ) (a b : NetState) (owing from : ℕ) : Type 0 where
-  pub passed : Does (Each (GivesCreditBy Attempts x) (range_with_len 0 from)) a None b
-  pub there : x < node_count b.mesh
-  pub sound : IsWorkable b
-  pub few : from ≤ 2 * length b.mesh
-  pub rest : (p v : ℕ) → from ≤ p → p < 2 * length b.mesh → v < sum b.channels → has owing p v ≡ can_give b x p v
-  pub places : (p v : ℕ) → p < 7 → v < 8 → has owing p v ≡ true → (from ≤ p) × (v < sum b.channels)
+-- what a set has of a port is what owes a credit there
+pub record OwesAt (owing : ℕ) (s : NetState) (x p : ℕ) : Type 0 where
+  pub owed : (v : ℕ) → v < sum s.channels → has owing p v ≡ can_give s x p v
+  pub channels : (v : ℕ) → v < 8 → has owing p v ≡ true → v < sum s.channels
 
-pub gave_start : (x : ℕ) (a : NetState) (owing : ℕ) → x < node_count a.mesh → IsWorkable a →
-    IsSetOf owes (router_at a x) owing → Gave x a a owing 0
-gave_start x a owing there sound set =
-    let size = router_size a x sound there in
-    record {
-      passed = does_nothing a;
-      there = there;
-      sound = sound;
-      few = omega arith;
-      rest = λ p v above p_in v_in. set.inside p v (omega (arith, size.0)) (omega (arith, size.1));
-      places = λ p v p_few v_few some. (omega arith, omega (arith, size.1, (set.outside p v p_few v_few some).1));
-    }
+-- the lowest channel that the set has of a port owes a credit, as no lower one does
+pub record IsNext (s : NetState) (x p v : ℕ) : Type 0 where
+  pub channel_in : v < sum s.channels
+  pub owes : 0 < (input_at (router_at s x) p v).owed
+  pub lowest : Some v ≡ lowest_owed (router_at s x) p
 
-port_still : (x p : ℕ) (b : NetState) → IsWorkable b → x < node_count b.mesh →
-    ((v : ℕ) → v < sum b.channels → can_give b x p v ≡ false) → GivesCreditBy Attempts x p b None b
-port_still x p b net there none =
-    let wide = (router_size b x net there).1 in
-    (gives_none x p b (owed_lowest (router_at b x) p None tt tt
-    (λ v v_in. none_owed (input_at (router_at b x) p v).owed (none v (omega arith))))).exact
+module _ (owing : ℕ) (s : NetState) (x p : ℕ) (sound : IsWorkable s) (there : x < node_count s.mesh) where
+  pub owes_first : IsSetOf owes (router_at s x) owing → p < 2 * length s.mesh → OwesAt owing s x p
+  owes_first set p_in =
+      let size = router_size s x sound there in
+      let few = sound.framed.radices.few_dims in
+      record {
+        owed = λ v v_in. set.inside p v (omega (arith, size.0)) (omega (arith, size.1));
+        channels = λ v v_few some. omega (arith, size.1, (set.outside p v (omega arith) v_few some).1);
+      }
 
--- the ports up to one are passed where no channel of them is in the set
-along : (x : ℕ) (a b : NetState) (owing from to : ℕ) → Gave x a b owing from → from ≤ to → to ≤ 2 * length b.mesh →
-    ((p v : ℕ) → p < to → v < 8 → has owing p v ≡ false)
-    → Does (Each (GivesCreditBy Attempts x) (range_with_len 0 to)) a None b
-along x a b owing from to gave less to_in none =
-    let few = gave.sound.framed.classes.total in
-    loop_on (GivesCreditBy Attempts x) from to a b less gave.passed
-    (λ p above below. port_still x p b gave.sound gave.there
-    (λ v v_in. sym (gave.rest p v above (omega arith) v_in) ∙ none p v below (omega (arith, few))))
+  pub lowest_next : (v : ℕ) → OwesAt owing s x p → IsLowest owing p v → IsNext s x p v
+  lowest_next v at lowest =
+      let v_in = at.channels v lowest.channel_in lowest.is_in in
+      let wide = (router_size s x sound there).1 in
+      let owes = owing_some (input_at (router_at s x) p v).owed (sym (at.owed v v_in) ∙ lowest.is_in) in
+      record {
+        channel_in = v_in;
+        owes = owes;
+        lowest =
+            owed_lowest (router_at s x) p (Some v) (omega arith, owes)
+            (λ k less. none_owed (input_at (router_at s x) p k).owed
+            (sym (at.owed k (omega arith)) ∙ lowest.none_below k less)) tt;
+      }
 
--- the lowest channel that the set has of a port with a link owes a credit, as no lower one does, and none was given yet
-pub record IsNext (x : ℕ) (b : NetState) (from q c : ℕ) : Type 0 where
-  pub port_in : q < 2 * length b.mesh
-  pub to_give : from ≤ q
-  pub channel_in : c < sum b.channels
-  pub owes : 0 < (input_at (router_at b x) q c).owed
-  pub lowest : Some c ≡ lowest_owed (router_at b x) q
+  pub none_lowest : OwesAt owing s x p → ((v : ℕ) → v < 8 → has owing p v ≡ false) → None ≡ lowest_owed (router_at s x) p
+  none_lowest at none =
+      let few = sound.framed.classes.total in
+      let wide = (router_size s x sound there).1 in
+      owed_lowest (router_at s x) p None tt tt
+      (λ v v_in. none_owed (input_at (router_at s x) p v).owed (sym (at.owed v (omega arith)) ∙ none v (omega arith)))
 
-pub next_lowest : (x : ℕ) (a b : NetState) (owing from q c : ℕ) → Gave x a b owing from → q < 7 →
-    IsLowest owing q c → q < 2 * length a.mesh → IsNext x b from q c
-next_lowest x a b owing from q c gave q_few lowest below =
-    let mesh = ap (λ (m : List ℕ). length m) gave.passed.reaches.config.mesh in
-    let q_in : q < 2 * length b.mesh = omega arith in
-    let on : has owing q c ≡ true = true_of (has owing q c) lowest.is_in in
-    let place = gave.places q c q_few lowest.channel_in on in
-    let c_in = place.1 in
-    let wide = (router_size b x gave.sound gave.there).1 in
-    let owes = owing_some (input_at (router_at b x) q c).owed (sym (gave.rest q c place.0 q_in c_in) ∙ on) in
-    record {
-      port_in = q_in;
-      to_give = place.0;
-      channel_in = c_in;
-      owes = owes;
-      lowest =
-          owed_lowest (router_at b x) q (Some c) (omega arith, owes)
-          (λ k less. none_owed (input_at (router_at b x) q k).owed
-          (sym (gave.rest q k place.0 q_in (omega arith)) ∙ lowest.none_below k less)) tt;
-    }
+  -- it was so before, and nothing has changed of the port
+  pub owes_still : (before : NetState) (set : ℕ) → OwesAt set before x p → sum s.channels ≡ sum before.channels
+      → ((v : ℕ) → v < 8 → has owing p v ≡ has set p v)
+      → ((v : ℕ) → v < width (router_at s x) → OwesTheSame before s x p v) → OwesAt owing s x p
+  owes_still before set at same kept others =
+      let few = sound.framed.classes.total in
+      let wide = (router_size s x sound there).1 in
+      record {
+        owed = λ v v_in.
+            kept v (omega arith) ∙ at.owed v (omega arith)
+            ∙ ap (λ (n : ℕ). nat_lt 0 n) (sym (others v (omega arith)).owed);
+        channels = λ v v_few some.
+            let before_in = at.channels v v_few (sym (kept v v_few) ∙ some) in omega arith;
+      }
 
-pub gave_more : (x : ℕ) (a b b_new : NetState) (owing new from q c : ℕ) → Gave x a b owing from →
-    IsFirstPort owing new q → IsNext x b from q c →
-    (Some c ≡ lowest_owed (router_at b x) q → Does (GivesCreditBy Attempts x q) b None b_new)
-    → ((p v : ℕ) → (p ≡ q → ⊥) → v < width (router_at b_new x) → OwesTheSame b b_new x p v) → IsWorkable b_new →
-    Gave x a b_new new (q + 1)
-gave_more x a b b_new owing new from q c gave first next given same net_new =
-    let few = gave.sound.framed.classes.total in
-    let few_dims = gave.sound.framed.radices.few_dims in
-    let to_give = next.to_give in
-    let q_in = next.port_in in
-    let does = given next.lowest in
-    let config = does.reaches.config in
-    let mesh = ap (λ (m : List ℕ). length m) config.mesh in
-    let nodes = ap node_count config.mesh in
-    let wide = ap (λ (cs : List ℕ). sum cs) config.channels in
-    let there : x < node_count b_new.mesh = omega (arith, gave.there) in
-    let wide_new = (router_size b_new x net_new there).1 in
-    let up_to = along x a b owing from q gave to_give (omega arith) first.none_before in
-    record {
-      passed = loop_more (GivesCreditBy Attempts x) q a b b_new None up_to does;
-      there = there;
-      sound = net_new;
-      few = omega arith;
-      rest = λ p v above p_in v_in.
-          let kept = same p v (λ e. omega arith) (omega arith) in
-          first.elsewhere p v (omega (arith, few_dims)) (omega (arith, few)) (λ e. omega arith) ∙
-          (gave.rest p v (omega arith) (omega arith) (omega arith) ∙ ap (λ (n : ℕ). nat_lt 0 n) (sym kept.owed));
-      places = λ p v p_few v_few some. elim (number_cases p q) [
-        | inl here ↦ absurd (let off = ap (λ (p : ℕ). has new p v) here.1 ∙ first.taken v v_few in cc)
-        | inr away ↦
-            let kept = first.elsewhere p v p_few v_few away.1 in
-            let was = gave.places p v p_few v_few (sym kept ∙ some) in (
-              elim (cases_lt p q) [
-                | inl before ↦ absurd (let none = first.none_before p v before v_few in cc)
-                | inr after ↦ let differs = away.1 in omega arith
-              ],
-              omega (arith, was.1),
-            )
-      ];
-    }
+-- how far the ports have come
+abbrev pub Gave : ℕ → NetState → NetState → ℕ → Type 0
+Gave x a b owing =
+    Walked (Passed (GivesCreditBy Attempts x) a b) (λ p. OwesAt owing b x p) (IsPortOut (2 * length a.mesh) owing)
+    (2 * length a.mesh)
 
-pub gave_all : (x : ℕ) (a b : NetState) (owing from : ℕ) → Gave x a b owing from →
-    ((p v : ℕ) → p < 2 * length b.mesh → v < 8 → has owing p v ≡ false) → Does (GivesCreditsBy Attempts x) a None b
-gave_all x a b owing from gave none =
-    let mesh = ap (λ (m : List ℕ). length m) gave.passed.reaches.config.mesh in
-    does_for mesh_ports (GivesCreditBy Attempts x) (2 * length a.mesh) (2 * length b.mesh) a b None refl (omega arith)
-    (along x a b owing from (2 * length b.mesh) gave gave.few (omega arith) none)
+module _ (x : ℕ) (a : NetState) (x_in : x < node_count a.mesh) where
+  pub gave_start : (owing : ℕ) → IsWorkable a → IsSetOf owes (router_at a x) owing → Gave x a a owing
+  gave_start owing sound set =
+      walked_start (passed_none (GivesCreditBy Attempts x) a sound) (λ p past p_in. absurd (omega arith))
+      (λ p p_in. owes_first owing a x p sound x_in set p_in)
+
+  still_there : (b : NetState) → IsSameConfig a b → x < node_count b.mesh
+  still_there b config = subst (λ (m : List ℕ). x < node_count m) (sym config.mesh) x_in
+
+  module _ (b : NetState) (owing : ℕ) where
+    stays : (p : ℕ) → p < 2 * length a.mesh → OwesAt owing b x p → IsPortOut (2 * length a.mesh) owing p
+        → Passed (GivesCreditBy Attempts x) a b p → Passed (GivesCreditBy Attempts x) a b (p + 1)
+    stays p p_in at out passed =
+        let there = still_there b passed.does.reaches.config in
+        passed_still (GivesCreditBy Attempts x) a b p passed
+        (gives_none x p b (none_lowest owing b x p passed.sound there at (out p_in))).exact
+
+    pub gave_all : Gave x a b owing → ((p v : ℕ) → p < 2 * length a.mesh → v < 8 → has owing p v ≡ false)
+        → Does (GivesCreditsBy Attempts x) a None b
+    gave_all gave none =
+        does_for mesh_ports (GivesCreditBy Attempts x) (2 * length a.mesh) (2 * length a.mesh) a b None refl refl
+        (walked_all stays gave (λ p p_in v v_few. none p v p_in v_few)).does
+
+    module _ (gave : Gave x a b owing) (new q : ℕ) (first : IsFirstPort owing new q) (q_in : q < 2 * length a.mesh) where
+      taken : IsTaken (IsPortOut (2 * length a.mesh) owing) (IsPortOut (2 * length a.mesh) new) q
+      taken =
+          let few = gave.done.sound.framed.radices.few_dims in
+          let mesh = ap (λ (m : List ℕ). length m) gave.done.does.reaches.config.mesh in
+          port_taken (omega arith) q_in first
+
+      pub gave_next : (v : ℕ) → IsLowest owing q v → IsNext b x q v
+      gave_next v lowest =
+          lowest_next owing b x q gave.done.sound (still_there b gave.done.does.reaches.config) v
+          (gave.rest q (walked_place gave taken).0 q_in) lowest
+
+      pub gave_more : (c : NetState) → Does (GivesCreditBy Attempts x q) b None c
+          → ((p v : ℕ) → (p ≡ q → ⊥) → v < width (router_at c x) → OwesTheSame b c x p v) → IsWorkable c
+          → Gave x a c new
+      gave_more c does others sound =
+          let few = gave.done.sound.framed.radices.few_dims in
+          let passed = gave.done.does.reaches.config in
+          let mesh = ap (λ (m : List ℕ). length m) passed.mesh in
+          let config = does.reaches.config in
+          let there = subst (λ (m : List ℕ). x < node_count m) (sym config.mesh) (still_there b passed) in
+          walked_more stays q gave taken (λ before. passed_more (GivesCreditBy Attempts x) a b c q before does sound)
+          (λ p above p_in at.
+          let away : p ≡ q → ⊥ = λ e. omega arith in
+          owes_still new c x p sound there b owing at (ap (λ (cs : List ℕ). sum cs) config.channels)
+          (λ v v_few. first.elsewhere p v (omega arith) v_few away) (λ v v_in. others p v away v_in))

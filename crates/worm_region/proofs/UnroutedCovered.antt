@@ -1,9 +1,9 @@
 -- The channels of a node that lack a route are routed, and any other has nothing to route.
-use Rattle.std.proofs.Common.{◌≡◌, ◌==◌, ℕ, ◌+◌, ◌*◌, ◌<◌, ◌≤◌, ◌&&◌, ◌⊎◌, true, false, inl, inr, List, length, map}
+use Rattle.std.proofs.Common.{◌≡◌, ◌==◌, ℕ, zero, suc, ◌+◌, ◌-◌, ◌*◌, ◌<◌, ◌≤◌, ◌&&◌, ◌⊎◌, true, false, inl, inr, List, length, map}
 use Rattle.std.proofs.Common.{sum, None, Ok, Err, refl, arith, ap, sym, subst, ◌∙◌}
 use Rattle.std.specs.Prelude.{Result}
 use Rattle.std.specs.List.{range_with_len}
-use Rattle.std.proofs.lemmas.Bool.{cases_lt, eq-eqb}
+use Rattle.std.proofs.lemmas.Bool.{cases_lt, eq-eqb, false_from_ne_true}
 use Rattle.worm_vcalloc.specs.ChannelSet.{has, IsFirst}
 use Rattle.worm_vcalloc.proofs.SetMembers.{has-zero}
 use Rattle.worm_mesh.specs.Address.{node_count}
@@ -17,7 +17,8 @@ use Rattle.worm_region.specs.State.{NetState, node_at, router_at, with_node}
 use Rattle.worm_region.specs.Workable.{IsWorkable}
 use Rattle.worm_region.specs.Replies.{Attempts, Replies}
 use Rattle.worm_region.specs.Moves.{AreUnrouted, RoutesTheSame}
-use Rattle.worm_region.specs.Turns.{Each, Does, all_channels, all_ports, RoutesChannelsBy, RoutesPortBy}
+use Rattle.worm_region.specs.Turns.{Each, Does, Reaches, all_channels, all_ports, RoutesChannelsBy}
+use Rattle.worm_region.specs.Turns.{RoutesPortBy}
 use Rattle.worm_region.specs.declared.node.Node.{Node}
 use Rattle.worm_region.specs.declared.step.Moved.{Moved}
 use Rattle.worm_region.specs.declared.step.Moved.TheVariants.{Done, Idle}
@@ -27,8 +28,11 @@ use Rattle.worm_wires.proofs.ArrivalsFound.{true_of}
 use Rattle.worm_region.proofs.NodeWritten.{node_at-put}
 use Rattle.worm_region.proofs.LowestGiven.{input_elsewhere, router_size}
 use Rattle.worm_region.proofs.PlacesThere.{net_place}
-use Rattle.worm_region.proofs.Passages.{does_for, does_nothing, does_ranged, loop_more, loop_on}
-use Rattle.worm_region.proofs.RoutedStays.{each_still, route_still}
+use Rattle.worm_region.proofs.Passages.{does_for, does_nothing, does_ranged, does_still, loop_more}
+use Rattle.worm_region.proofs.ReachedBySteps.{joined, reached}
+use Rattle.worm_region.proofs.RoutedStays.{route_still}
+use Rattle.worm_region.proofs.SetWalked.{IsChannelOut, Walked, channel_taken, walked_all, walked_more, walked_place}
+use Rattle.worm_region.proofs.SetWalked.{walked_start}
 
 -- a route leaves what other channels have to route
 
@@ -71,177 +75,176 @@ route_elsewhere a b x q c (Err NoSuchPlace) net none p v away within = unchanged
 route_elsewhere a b x q c (Err (Refused why)) net none p v away within = unchanged a b x p v none.3 within
 route_elsewhere a b x q c (Err NoMemory) net none p v away within = unchanged a b x p v none.3 within
 
--- how far the channels have come: all of the ports below `port` are done, and of it those below `vc`
-pub record Passed (x : ℕ) (a b : NetState) (port vc : ℕ) : Type 0 where
+-- all of the ports below one are done, and of it the channels below one
+pub record Routed (x : ℕ) (a b : NetState) (port vc : ℕ) : Type 0 where
   pub mid : NetState
   pub ports : Does (Each (RoutesPortBy Attempts x) (range_with_len 0 port)) a None mid
   pub channels : Does (Each (λ c. Attempts (Route x port c)) (range_with_len 0 vc)) mid None b
 
--- and of the others none has anything to route but those of the set
-pub record Routed (x : ℕ) (a b : NetState) (set port vc : ℕ) : Type 0 where
-  pub passed : Passed x a b port vc
-  pub there : x < node_count b.mesh
+-- all places below one are done, eight to a port, of which the last may be no channels
+pub record Passed (x : ℕ) (a b : NetState) (n : ℕ) : Type 0 where
   pub sound : IsWorkable b
-  pub port_in : port ≤ 2 * length b.mesh
-  pub vc_in : vc ≤ sum b.channels
-  pub rest : (p v : ℕ) → 8 * port + vc ≤ 8 * p + v → p ≤ 2 * length b.mesh → v < sum b.channels → has set p v ≡ false →
-      can_route (router_at b x) p v ≡ false
-  pub places : (p v : ℕ) → p < 7 → v < 8 → has set p v ≡ true →
-      (8 * port + vc ≤ 8 * p + v) × (p ≤ 2 * length b.mesh) × (v < sum b.channels)
+  pub reaches : Reaches a b
+  pub to : (p v : ℕ) → 8 * p + v ≡ n → v < 8 → Routed x a b p (sum a.channels - (sum a.channels - v))
 
-pub routed_start : (x : ℕ) (a : NetState) (set : ℕ) → x < node_count a.mesh → IsWorkable a →
-    AreUnrouted (router_at a x) set → Routed x a a set 0 0
-routed_start x a set there sound unrouted =
-    let size = router_size a x sound there in
-    let few_ports = sound.framed.radices.few_dims in
-    let few_channels = sound.framed.classes.total in
-    record {
-      passed = record { mid = a; ports = does_nothing a; channels = does_nothing a };
-      there = there;
-      sound = sound;
-      port_in = omega arith;
-      vc_in = omega arith;
-      rest =
-          λ p v above p_in v_in none. unrouted.rest p v (omega (arith, few_ports)) (omega (arith, few_channels))
-          (omega (arith, size.0)) (omega (arith, size.1)) none;
-      places = λ p v p_few v_few some.
-          let place = unrouted.places p v p_few v_few some in
-          (omega arith, omega (arith, place.0, size.0), omega (arith, place.1, size.1));
-    }
+-- a place of which the set has no channel has none to route, and a channel of the set is one of the port
+pub record RoutesAt (set : ℕ) (s : NetState) (x n : ℕ) : Type 0 where
+  pub rest : (p v : ℕ) → 8 * p + v ≡ n → v < sum s.channels → has set p v ≡ false → can_route (router_at s x) p v ≡ false
+  pub channels : (p v : ℕ) → 8 * p + v ≡ n → v < 8 → has set p v ≡ true → v < sum s.channels
 
--- channels of a port with nothing to route are passed
-along : (x : ℕ) (a b : NetState) (port vc c : ℕ) → Passed x a b port vc → IsWorkable b → x < node_count b.mesh →
-    vc ≤ c → c ≤ sum b.channels → ((v : ℕ) → vc ≤ v → v < c → can_route (router_at b x) port v ≡ false) →
-    Passed x a b port c
-along x a b port vc c passed net there less c_in none = record {
-  mid = passed.mid;
-  ports = passed.ports;
-  channels =
-      loop_on (λ i. Attempts (Route x port i)) vc c passed.mid b less passed.channels
-      (λ i above below. route_still b x port i net there (omega arith) (none i above below));
-}
+abbrev pub place_count : NetState → ℕ
+place_count s = 8 * (2 * length s.mesh + 1)
 
--- all channels of a port are passed, and so is the port
-port_done : (x : ℕ) (a b : NetState) (port : ℕ) → Passed x a b port (sum b.channels) →
-    Does (Each (RoutesPortBy Attempts x) (range_with_len 0 (port + 1))) a None b
-port_done x a b port passed =
-    let same : sum passed.mid.channels ≡ sum b.channels =
-    ap (λ (cs : List ℕ). sum cs) (sym passed.channels.reaches.config.channels) in
-    loop_more (RoutesPortBy Attempts x) port a passed.mid b None passed.ports
-    (does_ranged (λ s. map (Route x port) (all_channels s)) (Route x port) (sum passed.mid.channels)
-    (sum b.channels) passed.mid b refl same passed.channels)
+-- how far the channels have come
+abbrev pub Covered : ℕ → NetState → NetState → ℕ → Type 0
+Covered x a b set = Walked (Passed x a b) (RoutesAt set b x) (IsChannelOut set) (place_count a)
 
-port_still : (x p : ℕ) (b : NetState) → IsWorkable b → x < node_count b.mesh →
-    ((v : ℕ) → v < sum b.channels → can_route (router_at b x) p v ≡ false) → RoutesPortBy Attempts x p b None b
-port_still x p b net there none =
-    each_still Attempts (Route x p) b (sum b.channels) 0
-    (λ v below. route_still b x p v net there (omega arith) (none v (omega arith)))
+module _ (x : ℕ) (a : NetState) where
+  -- a channel more, or none where the port has no such
+  channel_done : (b c : NetState) (p v : ℕ) → Routed x a b p (sum a.channels - (sum a.channels - v))
+      → (v < sum a.channels → Does (Attempts (Route x p v)) b None c) → (sum a.channels ≤ v → c ≡ b)
+      → Routed x a c p (sum a.channels - (sum a.channels - suc v))
+  channel_done b c p v routed step stays = elim (cases_lt v (sum a.channels)) [
+    | inl within ↦
+        let now : sum a.channels - (sum a.channels - v) ≡ v = omega arith in
+        let then : v + 1 ≡ sum a.channels - (sum a.channels - suc v) = omega arith in
+        let done = subst (λ (n : ℕ). Does (Each (λ i. Attempts (Route x p i)) (range_with_len 0 n)) routed.mid None b)
+        now routed.channels in
+        subst (λ (n : ℕ). Routed x a c p n) then (record {
+          mid = routed.mid;
+          ports = routed.ports;
+          channels = loop_more (λ i. Attempts (Route x p i)) v routed.mid b c None done (step within);
+        })
+    | inr past ↦
+        let same : sum a.channels - (sum a.channels - v) ≡ sum a.channels - (sum a.channels - suc v) = omega arith in
+        subst (λ (s : NetState). Routed x a s p (sum a.channels - (sum a.channels - suc v))) (sym (stays past))
+        (subst (λ (n : ℕ). Routed x a b p n) same routed)
+  ]
 
--- all between two channels have nothing to route
-passed_to : (x : ℕ) (a b : NetState) (port vc q c : ℕ) → Passed x a b port vc → IsWorkable b → x < node_count b.mesh →
-    vc ≤ sum b.channels → q ≤ 2 * length b.mesh → c ≤ sum b.channels
-    → (port < q) ⊎ ((port ≡ q) × (vc ≤ c)) →
-    ((p v : ℕ) → 8 * port + vc ≤ 8 * p + v → 8 * p + v < 8 * q + c → p ≤ 2 * length b.mesh → v < sum b.channels →
-    can_route (router_at b x) p v ≡ false) → Passed x a b q c
-passed_to x a b port vc q c passed net there vc_in q_in c_in (inl below) none =
-    let few = net.framed.classes.total in
-    let whole =
-    along x a b port vc (sum b.channels) passed net there vc_in (omega arith)
-    (λ v above v_in. none port v (omega arith) (omega (arith, few)) (omega arith) v_in) in
-    let up_to = loop_on (RoutesPortBy Attempts x) (port + 1) q a b (omega arith) (port_done x a b port whole)
-    (λ p above before. port_still x p b net there
-    (λ v v_in. none p v (omega (arith, few)) (omega (arith, few)) (omega arith) v_in)) in
-    along x a b q 0 c (record { mid = b; ports = up_to; channels = does_nothing b }) net there (omega arith) c_in
-    (λ v above v_in. none q v (omega (arith, few)) (omega arith) q_in (omega arith))
-passed_to x a b port vc q c passed net there vc_in q_in c_in (inr here) none =
-    subst (λ (p : ℕ). Passed x a b p c) here.0
-    (let same = here.0 in
-    along x a b port vc c passed net there here.1 c_in
-    (λ v above v_in. none port v (omega arith) (omega arith) (omega arith) (omega arith)))
+  -- all channels of a port are done, and so is the port
+  port_done : (b : NetState) (p n : ℕ) → n ≡ sum a.channels → Routed x a b p n → Routed x a b (p + 1) 0
+  port_done b p n whole routed =
+      let same = ap (λ (cs : List ℕ). sum cs) routed.ports.reaches.config.channels ∙ sym whole in
+      record {
+        mid = b;
+        ports =
+            loop_more (RoutesPortBy Attempts x) p a routed.mid b None routed.ports
+            (does_ranged (λ s. map (Route x p) (all_channels s)) (Route x p) (sum routed.mid.channels) n routed.mid b
+            refl same routed.channels);
+        channels = does_nothing b;
+      }
 
-order : (port vc q c : ℕ) → c < 8 → 8 * port + vc ≤ 8 * q + c → (port < q) ⊎ ((port ≡ q) × (vc ≤ c))
-order port vc q c c_in after = elim (number_cases port q) [
-  | inl same ↦ let is = same.1 in inr (is, omega arith)
-  | inr away ↦ let differs = away.1 in inl (omega arith)
-]
+  place_done : (b c : NetState) (n : ℕ) → sum a.channels ≤ 8 → Passed x a b n
+      → ((p v : ℕ) → 8 * p + v ≡ n → v < sum a.channels → Does (Attempts (Route x p v)) b None c)
+      → ((p v : ℕ) → 8 * p + v ≡ n → v < 8 → sum a.channels ≤ v → c ≡ b)
+      → (p v : ℕ) → 8 * p + v ≡ n + 1 → v < 8 → Routed x a c p (sum a.channels - (sum a.channels - v))
+  place_done b c n few passed step stays p zero is v_few =
+      let last : 8 * (p - 1) + 7 ≡ n = omega arith in
+      let one : (p - 1) + 1 ≡ p = omega arith in
+      let none : 0 ≡ sum a.channels - (sum a.channels - 0) = omega arith in
+      subst (λ (n : ℕ). Routed x a c p n) none (subst (λ (p : ℕ). Routed x a c p 0) one
+      (port_done c (p - 1) (sum a.channels - (sum a.channels - 8)) (omega arith)
+      (channel_done b c (p - 1) 7 (passed.to (p - 1) 7 last (omega arith)) (step (p - 1) 7 last)
+      (stays (p - 1) 7 last (omega arith)))))
+  place_done b c n few passed step stays p (suc v) is v_few =
+      let at : 8 * p + v ≡ n = omega arith in
+      channel_done b c p v (passed.to p v at (omega arith)) (step p v at) (stays p v at (omega arith))
 
--- what is left of a set without its first channel was in it, and stands behind that one
-left_behind : (set new q c p v : ℕ) → IsFirst set new q c → p < 7 → v < 8 → has new p v ≡ true →
-    (8 * q + c < 8 * p + v) × (has set p v ≡ true)
-left_behind set new q c p v first p_few v_few some = elim (number_cases (8 * p + v) (8 * q + c)) [
-  | inl same ↦
-      let at = same.1 in
-      let p_is : p ≡ q = omega (arith, first.channel_in) in
-      let v_is : v ≡ c = omega arith in
-      absurd (let is = (λ t. has new (p_is t) (v_is t)) ∙ first.taken.here in cc)
-  | inr away ↦
-      let differs = away.1 in
-      let on : has set p v ≡ true = sym (first.taken.elsewhere p v p_few v_few (λ e f. differs (omega arith))) ∙ some in
-      elim (cases_lt (8 * p + v) (8 * q + c)) [
-        | inl before ↦ absurd (let off = first.none_before p v v_few before in cc)
-        | inr after ↦ (omega arith, on)
-      ]
-]
+  pub routed_start : (set : ℕ) → x < node_count a.mesh → IsWorkable a → AreUnrouted (router_at a x) set
+      → Covered x a a set
+  routed_start set there sound unrouted =
+      let size = router_size a x sound there in
+      let few = sound.framed.radices.few_dims in
+      let total = sound.framed.classes.total in
+      walked_start
+      (record {
+        sound = sound;
+        reaches = reached a;
+        to = λ p v is v_few.
+            let none : 0 ≡ sum a.channels - (sum a.channels - v) = omega arith in
+            let first : 0 ≡ p = omega arith in
+            subst (λ (n : ℕ). Routed x a a p n) none (subst (λ (p : ℕ). Routed x a a p 0) first
+            (record { mid = a; ports = does_nothing a; channels = does_nothing a }));
+      })
+      (λ n past p v is p_few v_few. false_from_ne_true (has set p v)
+      (λ on. let place = unrouted.places (p, v) (p_few, v_few) on in omega (arith, size.0, place.0)))
+      (λ n n_in. record {
+        rest = λ p v is v_in none. unrouted.rest (p, v) (omega arith, omega arith)
+            (omega (arith, size.0), omega (arith, size.1)) none;
+        channels = λ p v is v_few some.
+            let place = unrouted.places (p, v) (omega arith, v_few) some in omega (arith, size.1, place.1);
+      })
 
-pub routed_more : (x : ℕ) (a b b_new : NetState) (set new port vc q c : ℕ) → Routed x a b set port vc →
-    IsFirst set new q c → Does (Attempts (Route x q c)) b None b_new
-    → ((p v : ℕ) → (p ≡ q → v ≡ c → ⊥) → v < width (router_at b_new x) → RoutesTheSame b b_new x p v) →
-    IsWorkable b_new → Routed x a b_new new q (c + 1)
-routed_more x a b b_new set new port vc q c routed first does same net_new =
-    let net = routed.sound in
-    let on : has set q c ≡ true = true_of (has set q c) first.was_in in
-    let place = routed.places q c first.port_in first.channel_in on in
-    let few = net.framed.classes.total in
-    let few_dims = net.framed.radices.few_dims in
-    let config = does.reaches.config in
-    let mesh = ap (λ (m : List ℕ). length m) config.mesh in
-    let nodes = ap node_count config.mesh in
-    let wide = ap (λ (cs : List ℕ). sum cs) config.channels in
-    let q_in : q ≤ 2 * length b.mesh = place.1 in
-    let c_in : c < sum b.channels = place.2 in
-    let up_to =
-    passed_to x a b port vc q c routed.passed net routed.there routed.vc_in q_in (omega arith)
-    (order port vc q c first.channel_in place.0)
-    (λ p v above before p_in v_in. routed.rest p v above p_in v_in
-    (first.none_before p v (omega (arith, few)) before)) in
-    let width_new = (router_size b_new x net_new (omega (arith, routed.there))).1 in
-    record {
-      passed =
-          record {
-            mid = up_to.mid;
-            ports = up_to.ports;
-            channels = loop_more (λ i. Attempts (Route x q i)) c up_to.mid b b_new None up_to.channels does;
-          };
-      there = omega (arith, routed.there);
-      sound = net_new;
-      port_in = omega arith;
-      vc_in = omega arith;
-      rest = λ p v above p_in v_in none.
-          let away : p ≡ q → v ≡ c → ⊥ = λ e f. omega arith in
-          let kept = same p v away (omega arith) in
-          kept.routes
-          ∙ routed.rest p v (omega arith) (omega arith) (omega arith)
-          (sym (first.taken.elsewhere p v (omega (arith, few_dims)) (omega (arith, few)) away) ∙ none);
-      places = λ p v p_few v_few some.
-          let left = left_behind set new q c p v first p_few v_few some in
-          let was = routed.places p v p_few v_few left.1 in
-          (omega (arith, left.0), omega (arith, was.1), omega (arith, was.2));
-    }
+  module _ (x_in : x < node_count a.mesh) (b : NetState) (set : ℕ) where
+    stays : (n : ℕ) → n < place_count a → RoutesAt set b x n → IsChannelOut set n → Passed x a b n
+        → Passed x a b (n + 1)
+    stays n n_in at out passed =
+        let config = passed.reaches.config in
+        let wide = ap (λ (cs : List ℕ). sum cs) config.channels in
+        let mesh = ap (λ (m : List ℕ). length m) config.mesh in
+        let there = subst (λ (m : List ℕ). x < node_count m) (sym config.mesh) x_in in
+        let few = passed.sound.framed.radices.few_dims in
+        let total = passed.sound.framed.classes.total in
+        record {
+          sound = passed.sound;
+          reaches = passed.reaches;
+          to = place_done b b n (omega arith) passed
+              (λ p v is v_in. does_still (Attempts (Route x p v)) b
+              (route_still b x p v passed.sound there (omega arith)
+              (at.rest p v is (omega arith) (out p v is (omega arith) (omega arith)))))
+              (λ p v is v_few past. refl);
+        }
 
-pub routed_all : (x : ℕ) (a b : NetState) (set port vc : ℕ) → Routed x a b set port vc → set ≡ 0 →
-    Does (RoutesChannelsBy Attempts x) a None b
-routed_all x a b set port vc routed none =
-    let net = routed.sound in
-    let port_in = routed.port_in in
-    let whole =
-    passed_to x a b port vc (2 * length b.mesh) (sum b.channels) routed.passed net routed.there routed.vc_in
-    (omega arith) (omega arith)
-    (elim (number_cases port (2 * length b.mesh)) [
-      | inl same ↦ inr (same.1, routed.vc_in)
-      | inr away ↦ let differs = away.1 in inl (omega arith)
-    ])
-    (λ p v above before p_in v_in. routed.rest p v above p_in v_in (ap (λ (s : ℕ). has s p v) none ∙ has-zero p v)) in
-    let done = port_done x a b (2 * length b.mesh) whole in
-    let mesh = ap (λ (m : List ℕ). length m) done.reaches.config.mesh in
-    does_for all_ports (RoutesPortBy Attempts x) (2 * length a.mesh + 1) (2 * length b.mesh + 1) a b None refl
-    (omega arith) done
+    pub routed_more : (c : NetState) (new q v : ℕ) → Covered x a b set → IsFirst set new q v
+        → Does (Attempts (Route x q v)) b None c
+        → ((p u : ℕ) → (p ≡ q → u ≡ v → ⊥) → u < width (router_at c x) → RoutesTheSame b c x p u) → IsWorkable c
+        → Covered x a c new
+    routed_more c new q v covered first does others sound =
+        let config = does.reaches.config in
+        let before = covered.done.reaches.config in
+        let there = subst (λ (m : List ℕ). x < node_count m) (sym (config.mesh ∙ before.mesh)) x_in in
+        let wide = (router_size c x sound there).1 in
+        let same = ap (λ (cs : List ℕ). sum cs) config.channels in
+        let same_before = ap (λ (cs : List ℕ). sum cs) before.channels in
+        let mesh = ap (λ (m : List ℕ). length m) before.mesh in
+        let few = covered.done.sound.framed.radices.few_dims in
+        let total = covered.done.sound.framed.classes.total in
+        let taken = channel_taken first in
+        let place = walked_place covered taken in
+        let v_few = first.channel_in in
+        let v_in : v < sum b.channels =
+        (covered.rest (8 * q + v) place.0 place.1).channels q v refl first.channel_in first.was_in in
+        walked_more stays (8 * q + v) covered taken
+        (λ passed. record {
+          sound = sound;
+          reaches = joined a b c passed.reaches does.reaches;
+          to = place_done b c (8 * q + v) (omega arith) passed
+              (λ p u is u_in.
+              let p_is : q ≡ p = omega arith in
+              let u_is : v ≡ u = omega arith in
+              subst (λ (i : ℕ). Does (Attempts (Route x i u)) b None c) p_is
+              (subst (λ (i : ℕ). Does (Attempts (Route x q i)) b None c) u_is does))
+              (λ p u is u_few past. absurd (omega arith));
+        })
+        (λ n above n_in at. record {
+          rest = λ p u is u_in none.
+              let away : p ≡ q → u ≡ v → ⊥ = λ e f. omega arith in
+              (others p u away (omega arith)).routes
+              ∙ at.rest p u is (omega arith)
+              (sym (first.taken.elsewhere p u (omega arith) (omega arith) away) ∙ none);
+          channels = λ p u is u_few some.
+              let kept = first.taken.elsewhere p u (omega arith) u_few (λ e f. omega arith) in
+              let was = at.channels p u is u_few (sym kept ∙ some) in
+              omega arith;
+        })
+
+    pub routed_all : Covered x a b set → set ≡ 0 → Does (RoutesChannelsBy Attempts x) a None b
+    routed_all covered none =
+        let passed = walked_all stays covered (λ n p v is p_few v_few. ap (λ (s : ℕ). has s p v) none ∙ has-zero p v) in
+        let routed = passed.to (2 * length a.mesh + 1) 0 (omega arith) (omega arith) in
+        let zero_is : sum a.channels - (sum a.channels - 0) ≡ 0 = omega arith in
+        let same = subst (λ (n : ℕ). Does (Each (λ i. Attempts (Route x (2 * length a.mesh + 1) i))
+        (range_with_len 0 n)) routed.mid None b) zero_is routed.channels in
+        does_for all_ports (RoutesPortBy Attempts x) (2 * length a.mesh + 1) (2 * length a.mesh + 1) a b None refl
+        refl (subst (λ (s : NetState). Does (Each (RoutesPortBy Attempts x) (range_with_len 0 (2 * length a.mesh + 1)))
+        a None s) (sym same.exact.1) routed.ports)

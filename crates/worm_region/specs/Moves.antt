@@ -27,10 +27,20 @@ use Rattle.worm_region.specs.declared.fault.StepFault.TheVariants.{NoSuchPlace, 
 unfoldable pub chosen_router : RouterState → RouterState
 chosen_router r = after_choose r
 
--- a set of the router's channels, and at each that is left out no opening flit waits for its route
-pub record AreUnrouted (r : RouterState) (set : ℕ) : Type 0 where
-  pub rest : (p v : ℕ) → p < 7 → v < 8 → p ≤ terminal r → v < width r → has set p v ≡ false → can_route r p v ≡ false
-  pub places : (p v : ℕ) → p < 7 → v < 8 → has set p v ≡ true → (p ≤ terminal r) × (v < width r)
+-- a set of places, of those that it can hold, and at each place that is left out there is none
+pub record Covers {K : Type 0} (CanHold IsPlace NoneAt : K → Type 0) (member : K → Bool) : Type 0 where
+  pub rest : (k : K) → CanHold k → IsPlace k → member k ≡ false → NoneAt k
+  pub places : (k : K) → CanHold k → member k ≡ true → IsPlace k
+
+-- of mesh ports or of classes, of which there are so many
+abbrev pub CoversNumbers : (ℕ → Type 0) → ℕ → ℕ → Type 0
+CoversNumbers NoneAt count set = Covers (λ n. n < 8) (λ n. n < count) NoneAt (λ n. has_small set n)
+
+-- of the router's channels, where no opening flit waits for its route at those that are left out
+abbrev pub AreUnrouted : RouterState → ℕ → Type 0
+AreUnrouted r set =
+    Covers (λ (c : ℕ × ℕ). (c.0 < 7) × (c.1 < 8)) (λ c. (c.0 ≤ terminal r) × (c.1 < width r))
+    (λ c. can_route r c.0 c.1 ≡ false) (λ c. has set c.0 c.1)
 
 -- a flit may leave this channel now
 pub record IsReady (r : RouterState) (p v : ℕ) : Type 0 where
@@ -147,11 +157,6 @@ NoFlit s x p = IsSome (neighbour_of s.mesh x p) → front_into s x p ≡ None
 -- the source has no flit of the class that was not fed
 abbrev pub NoFeed : NetState → ℕ → ℕ → Type 0
 NoFeed s x k = front_of (source_at s x) k ≡ None
-
--- a set of mesh ports or of classes, of which there are so many, and at each that is left out there is none
-pub record Covers (NoneAt : ℕ → Type 0) (count set : ℕ) : Type 0 where
-  pub rest : (n : ℕ) → n < count → has_small set n ≡ false → NoneAt n
-  pub places : (n : ℕ) → n < 8 → has_small set n ≡ true → n < count
 
 -- a set of mesh ports, by each of which the node has a neighbour
 abbrev pub AreLinked : NetState → ℕ → ℕ → Type 0

@@ -18,7 +18,7 @@ ghost use Rattle.worm_router.specs.Router.{input_at, leaving};
 ghost use Rattle.worm_router.specs.Busy.{IsSetOf, owes};
 ghost use Rattle.worm_router.specs.Rest.{IsAtRest};
 ghost use Rattle.worm_router.specs.Allocation.{after_allocate};
-ghost use Rattle.worm_region.specs.Moves.{AreLinked, AreUnrouted, Covers, NoCredit, NoFeed, NoFlit};
+ghost use Rattle.worm_region.specs.Moves.{AreLinked, AreUnrouted, CoversNumbers, NoCredit, NoFeed, NoFlit};
 
 mod edges;
 mod parts;
@@ -166,7 +166,7 @@ impl Region {
 
     /// The mesh ports of the node by which a credit comes back.
     pub(crate) fn credits_in(&self, node: u8) -> SmallSet
-        ensures ports { Covers (NoCredit self.now node) (2 * length self.now.mesh) result }
+        ensures ports { CoversNumbers (NoCredit self.now node) (2 * length self.now.mesh) result }
         ensures linked { AreLinked self.now node result }
         ensures sound { IsWorkable self.now }
     {
@@ -175,7 +175,7 @@ impl Region {
 
     /// The mesh ports of the node by which a flit comes in.
     pub(crate) fn flits_in(&self, node: u8) -> SmallSet
-        ensures ports { Covers (NoFlit self.now node) (2 * length self.now.mesh) result }
+        ensures ports { CoversNumbers (NoFlit self.now node) (2 * length self.now.mesh) result }
         ensures linked { AreLinked self.now node result }
         ensures sound { IsWorkable self.now }
     {
@@ -185,7 +185,7 @@ impl Region {
     /// The classes of which the node's source has a flit that was not fed.
     pub(crate) fn unfed(&self, node: u8) -> SmallSet
         requires { node < node_count self.now.mesh }
-        ensures classes { Covers (NoFeed self.now node) (length self.now.channels) result }
+        ensures classes { CoversNumbers (NoFeed self.now node) (length self.now.channels) result }
         ensures sound { IsWorkable self.now }
     {
         self.fabric.node(node).source.unfed()

@@ -12,19 +12,23 @@ pub returns : goal.returns
 returns c =
     let r = c.args.self.now.router in
     record {
-      rest = λ p v p_few v_few p_in v_in none.
-          let left = c.difference-2.ensures p v p_few v_few in
-          let over = c.difference.ensures p v p_few v_few in
-          let occupied = c.occupied.ensures.inside p v p_in v_in in
-          let waiting = c.waiting.ensures.inside p v p_in v_in in
-          let active = c.active.ensures.inside p v p_in v_in in
+      rest = λ at few place none.
+          let p = at.0 in
+          let v = at.1 in
+          let left = c.difference-2.ensures p v few.0 few.1 in
+          let over = c.difference.ensures p v few.0 few.1 in
+          let occupied = c.occupied.ensures.inside p v place.0 place.1 in
+          let waiting = c.waiting.ensures.inside p v place.0 place.1 in
+          let active = c.active.ensures.inside p v place.0 place.1 in
           routes_none (input_at r p v)
           (sym ((λ t. ((occupied t) && not (waiting t)) && not (active t)))
           ∙ (ap (λ (b : Bool). b && not (has c.active.result p v)) (sym over) ∙ (sym left ∙ none)));
-      places = λ p v p_few v_few some.
-          let left = c.difference-2.ensures p v p_few v_few in
-          let over = c.difference.ensures p v p_few v_few in
-          c.occupied.ensures.outside p v p_few v_few
+      places = λ at few some.
+          let p = at.0 in
+          let v = at.1 in
+          let left = c.difference-2.ensures p v few.0 few.1 in
+          let over = c.difference.ensures p v few.0 few.1 in
+          c.occupied.ensures.outside p v few.0 few.1
           (both (has c.occupied.result p v) (has c.waiting.result p v) (has c.active.result p v)
           (ap (λ (b : Bool). b && not (has c.active.result p v)) (sym over) ∙ (sym left ∙ some)));
     }

@@ -1,9 +1,8 @@
-use Rattle.std.proofs.Common.{ℕ}
-use Rattle.worm_region.proofs.UnroutedCovered.{Routed}
+use Rattle.worm_region.proofs.UnroutedCovered.{Covered}
 use Rattle.worm_region.proofs.region.Region.route_channels.Given as goal
 
 abbrev pub invariant-loop-port : goal.invariant-loop-port
-invariant-loop-port l = (port : ℕ) × (vc : ℕ) × Routed l.node l.initial.self l.self l.unrouted port vc
+invariant-loop-port l = Covered l.node l.initial.self l.self l.unrouted
 
 abbrev pub decreases-loop-port : goal.decreases-loop-port
 decreases-loop-port l = l.unrouted
