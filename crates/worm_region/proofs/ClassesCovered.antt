@@ -1,6 +1,6 @@
 -- What a source has to feed, class by class.
-use Rattle.std.proofs.Common.{◌≡◌, ℕ, ◌<◌, ◌≤◌, false, inl, inr, length, List, None, Some, Ok, Err, Option, refl}
-use Rattle.std.proofs.Common.{arith, ap, sym, subst, ◌∙◌}
+use Rattle.std.proofs.Common.{◌≡◌, ℕ, ◌<◌, ◌≤◌, false, inl, inr, length, List, None, Some, Option, refl}
+use Rattle.std.proofs.Common.{arith, ap, sym, ◌∙◌}
 use Rattle.std.specs.Prelude.{Result, is_some, option_map}
 use Rattle.std.proofs.lemmas.Bool.{cases_lt}
 use Rattle.std.proofs.lemmas.List.{get_or-set_other, get_or-set_same, get_or_past}
@@ -19,9 +19,8 @@ use Rattle.worm_region.specs.Workable.{IsWorkable}
 use Rattle.worm_region.specs.Replies.{Replies}
 use Rattle.worm_region.specs.declared.node.Node.{Node}
 use Rattle.worm_region.specs.declared.step.Moved.{Moved}
-use Rattle.worm_region.specs.declared.step.Moved.TheVariants.{Done, Idle}
 use Rattle.worm_region.specs.declared.fault.StepFault.{StepFault}
-use Rattle.worm_region.specs.declared.fault.StepFault.TheVariants.{NoSuchPlace, Refused, NoMemory}
+use Rattle.worm_region.proofs.ReachedBySteps.{by_made}
 use Rattle.worm_region.proofs.EachCovered.{Kind}
 use Rattle.worm_region.proofs.Resting.{feed_still}
 
@@ -46,18 +45,12 @@ feed_kept s x q k (Some f) there away none =
 pub feed_elsewhere : (a b : NetState) (x q : ℕ) (answer : Result Moved StepFault) → IsWorkable a
     → Replies a (Feed x q) answer b → (k : ℕ) → (k ≡ q → ⊥) → NoFeed a x k → NoFeed b x k
 unfolding net_shape
-feed_elsewhere a b x q (Ok Done) net done k away none =
+feed_elsewhere a b x q answer net replies k away none =
+    by_made (λ s. NoFeed s x k) a b (Feed x q) answer replies none
+    (λ done.
     let all = net.framed.all_nodes in
     let x_in = done.there.0 in
-    subst (λ (s : NetState). NoFeed s x k) (sym done.exact)
-    (feed_kept a x q k (front_of (source_at a x) q) (omega arith) away none)
-feed_elsewhere a b x q (Ok Idle) net idle k away none = subst (λ (s : NetState). NoFeed s x k) (sym idle.3) none
-feed_elsewhere a b x q (Err NoSuchPlace) net refused k away none =
-    subst (λ (s : NetState). NoFeed s x k) (sym refused.1) none
-feed_elsewhere a b x q (Err (Refused why)) net refused k away none =
-    subst (λ (s : NetState). NoFeed s x k) (sym refused.3) none
-feed_elsewhere a b x q (Err NoMemory) net refused k away none =
-    subst (λ (s : NetState). NoFeed s x k) (sym refused.3) none
+    feed_kept a x q k (front_of (source_at a x) q) (omega arith) away none)
 
 -- where there is none a step feeds none
 

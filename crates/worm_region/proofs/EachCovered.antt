@@ -1,7 +1,7 @@
 -- What comes in at a node is taken port by port, and fed class by class: at each number of a set, and at the others
 -- there is none.
 use Rattle.std.proofs.Common.{◌≡◌, ℕ, ◌+◌, ◌*◌, ◌<◌, ◌≤◌, false, inl, inr, List, drop, length, map, None, Some}
-use Rattle.std.proofs.Common.{Ok, Err, Option, refl, arith, ap, sym, subst, ◌∙◌}
+use Rattle.std.proofs.Common.{Option, refl, arith, ap, sym, subst, ◌∙◌}
 use Rattle.std.specs.Prelude.{IsSome, Result, slice_get}
 use Rattle.std.specs.List.{range_with_len}
 use Rattle.std.proofs.lemmas.Bool.{false_from_ne_true}
@@ -28,12 +28,11 @@ use Rattle.worm_region.specs.Workable.{IsWorkable}
 use Rattle.worm_region.specs.Replies.{Attempts, Replies}
 use Rattle.worm_region.specs.Turns.{Does, ForEach}
 use Rattle.worm_region.specs.declared.step.Moved.{Moved}
-use Rattle.worm_region.specs.declared.step.Moved.TheVariants.{Done, Idle}
 use Rattle.worm_region.specs.declared.fault.StepFault.{StepFault}
-use Rattle.worm_region.specs.declared.fault.StepFault.TheVariants.{NoSuchPlace, Refused, NoMemory}
 use Rattle.worm_flit.specs.declared.Flit.{Flit}
 use Rattle.worm_region.proofs.LinkedPorts.{links_of}
 use Rattle.worm_region.proofs.Resting.{credit_still, flit_still}
+use Rattle.worm_region.proofs.ReachedBySteps.{by_made}
 use Rattle.worm_region.proofs.Passages.{does_ranged}
 use Rattle.worm_region.proofs.SetWalked.{IsOut, Passed, Walked, number_taken, passed_more, passed_none, passed_still}
 use Rattle.worm_region.proofs.SetWalked.{walked_all, walked_more, walked_start}
@@ -145,30 +144,16 @@ flit_kept s x q p (Some f) radices at_q away none = λ at_p.
 pub credit_elsewhere : (a b : NetState) (x q : ℕ) (answer : Result Moved StepFault) → IsWorkable a
     → Replies a (TakeCredit x q) answer b → (p : ℕ) → (p ≡ q → ⊥) → NoCredit a x p → NoCredit b x p
 unfolding net_shape
-credit_elsewhere a b x q (Ok Done) net done p away none =
-    subst (λ (s : NetState). NoCredit s x p) (sym done.exact)
-    (credit_kept a x q p (front_credit a x q) net.framed.radices done.there.1 away none)
-credit_elsewhere a b x q (Ok Idle) net idle p away none = subst (λ (s : NetState). NoCredit s x p) (sym idle.3) none
-credit_elsewhere a b x q (Err NoSuchPlace) net refused p away none =
-    subst (λ (s : NetState). NoCredit s x p) (sym refused.1) none
-credit_elsewhere a b x q (Err (Refused why)) net refused p away none =
-    subst (λ (s : NetState). NoCredit s x p) (sym refused.3) none
-credit_elsewhere a b x q (Err NoMemory) net refused p away none =
-    subst (λ (s : NetState). NoCredit s x p) (sym refused.3) none
+credit_elsewhere a b x q answer net replies p away none =
+    by_made (λ s. NoCredit s x p) a b (TakeCredit x q) answer replies none
+    (λ done. credit_kept a x q p (front_credit a x q) net.framed.radices done.there.1 away none)
 
 pub flit_elsewhere : (a b : NetState) (x q : ℕ) (answer : Result Moved StepFault) → IsWorkable a
     → Replies a (Take x q) answer b → (p : ℕ) → (p ≡ q → ⊥) → NoFlit a x p → NoFlit b x p
 unfolding net_shape
-flit_elsewhere a b x q (Ok Done) net done p away none =
-    subst (λ (s : NetState). NoFlit s x p) (sym done.exact)
-    (flit_kept a x q p (front_into a x q) net.framed.radices done.there.1 away none)
-flit_elsewhere a b x q (Ok Idle) net idle p away none = subst (λ (s : NetState). NoFlit s x p) (sym idle.3) none
-flit_elsewhere a b x q (Err NoSuchPlace) net refused p away none =
-    subst (λ (s : NetState). NoFlit s x p) (sym refused.1) none
-flit_elsewhere a b x q (Err (Refused why)) net refused p away none =
-    subst (λ (s : NetState). NoFlit s x p) (sym refused.3) none
-flit_elsewhere a b x q (Err NoMemory) net refused p away none =
-    subst (λ (s : NetState). NoFlit s x p) (sym refused.3) none
+flit_elsewhere a b x q answer net replies p away none =
+    by_made (λ s. NoFlit s x p) a b (Take x q) answer replies none
+    (λ done. flit_kept a x q p (front_into a x q) net.framed.radices done.there.1 away none)
 
 -- where there is none a step takes none
 

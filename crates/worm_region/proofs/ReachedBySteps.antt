@@ -11,7 +11,8 @@ use Rattle.worm_region.specs.declared.fault.StepFault.{StepFault}
 use Rattle.worm_region.specs.declared.fault.StepFault.TheVariants.{NoSuchPlace, Refused, NoMemory}
 use Rattle.worm_region.specs.State.{NetState, IsSameConfig, shape, network_of}
 use Rattle.worm_region.specs.Owned.{owned_by, sole}
-use Rattle.worm_region.specs.Replies.{Replies}
+use Rattle.worm_region.specs.Moves.{done_step}
+use Rattle.worm_region.specs.Replies.{IsMade, Replies}
 use Rattle.worm_region.specs.Workable.{IsWorkable, IsWorkableBy, owned}
 use Rattle.worm_region.specs.declared.own.Own.{Own}
 use Rattle.worm_region.specs.Turns.{Reaches}
@@ -43,18 +44,23 @@ joined old mid new first then =
           };
     }
 
--- whatever a step was answered
+-- what holds of a network, and of what a step makes of it, holds of the next one, whatever the step was answered
+pub by_made : (Holds : NetState → Type 0) (old new : NetState) (step : Step) (answer : Result Moved StepFault)
+    → Replies old step answer new → Holds old → (IsMade old step new → Holds (done_step old step)) → Holds new
+by_made Holds old new step (Ok Done) made holds done = subst Holds (sym made.exact) (done made)
+by_made Holds old new step (Ok Idle) same holds done = subst Holds (sym same.3) holds
+by_made Holds old new step (Err NoSuchPlace) same holds done = subst Holds (sym same.1) holds
+by_made Holds old new step (Err (Refused fault)) same holds done = subst Holds (sym same.3) holds
+by_made Holds old new step (Err NoMemory) same holds done = subst Holds (sym same.3) holds
+
 pub by_answer : (old new : NetState) (step : Step) (answer : Result Moved StepFault) → Replies old step answer new →
     Reaches old new
-by_answer old new step (Ok Done) a = record {
-  steps = step ∷ [];
-  led = (network_of new, inl (a.there, a.enabled, a.after_it), refl);
-  config = a.config;
-}
-by_answer old new step (Ok Idle) a = subst (λ (s : NetState). Reaches old s) (sym a.3) (reached old)
-by_answer old new step (Err NoSuchPlace) a = subst (λ (s : NetState). Reaches old s) (sym a.1) (reached old)
-by_answer old new step (Err (Refused fault)) a = subst (λ (s : NetState). Reaches old s) (sym a.3) (reached old)
-by_answer old new step (Err NoMemory) a = subst (λ (s : NetState). Reaches old s) (sym a.3) (reached old)
+by_answer old new step answer replies = by_made (λ s. Reaches old s) old new step answer replies (reached old)
+    (λ made. subst (λ (s : NetState). Reaches old s) made.exact (record {
+      steps = step ∷ [];
+      led = (network_of new, inl (made.there, made.enabled, made.after_it), refl);
+      config = made.config;
+    }))
 
 -- the network before a step under another name
 pub replies_from : (inside old new : NetState) (step : Step) (answer : Result Moved StepFault) → inside ≡ old →

@@ -1,79 +1,49 @@
 -- The channels of a node that lack a route are routed, and any other has nothing to route.
-use Rattle.std.proofs.Common.{◌≡◌, ◌==◌, ℕ, zero, suc, ◌+◌, ◌-◌, ◌*◌, ◌<◌, ◌≤◌, ◌&&◌, ◌⊎◌, true, false, inl, inr, List, length, map}
-use Rattle.std.proofs.Common.{sum, None, Ok, Err, refl, arith, ap, sym, subst, ◌∙◌}
+use Rattle.std.proofs.Common.{◌≡◌, ℕ, zero, suc, ◌+◌, ◌-◌, ◌*◌, ◌<◌, ◌≤◌, ◌&&◌, true, false, inl, inr, List, length, map}
+use Rattle.std.proofs.Common.{sum, None, refl, arith, ap, sym, subst, ◌∙◌}
 use Rattle.std.specs.Prelude.{Result}
 use Rattle.std.specs.List.{range_with_len}
-use Rattle.std.proofs.lemmas.Bool.{cases_lt, eq-eqb, false_from_ne_true}
+use Rattle.std.proofs.lemmas.Bool.{cases_lt, false_from_ne_true}
 use Rattle.worm_vcalloc.specs.ChannelSet.{has, IsFirst}
 use Rattle.worm_vcalloc.proofs.SetMembers.{has-zero}
 use Rattle.worm_mesh.specs.Address.{node_count}
 use Rattle.worm_records.specs.declared.InRecord.TheVariants.{Waiting}
-use Rattle.worm_router.specs.Router.{ChannelState, RouterState, input_at, in_state, is_idle, opens_front, front_port}
-use Rattle.worm_router.specs.Router.{terminal, width, can_route, after_route}
+use Rattle.worm_router.specs.Router.{ChannelState, input_at, in_state, is_idle, opens_front, front_port}
+use Rattle.worm_router.specs.Router.{width, can_route}
 use Rattle.worm_theory.specs.Steps.{Route}
-use Rattle.worm_theory.proofs.Places.{number_cases}
 use Rattle.worm_region.specs.Shape.{net_shape}
-use Rattle.worm_region.specs.State.{NetState, node_at, router_at, with_node}
+use Rattle.worm_region.specs.State.{NetState, router_at}
 use Rattle.worm_region.specs.Workable.{IsWorkable}
 use Rattle.worm_region.specs.Replies.{Attempts, Replies}
 use Rattle.worm_region.specs.Moves.{AreUnrouted, RoutesTheSame}
 use Rattle.worm_region.specs.Turns.{Each, Does, Reaches, all_channels, all_ports, RoutesChannelsBy}
 use Rattle.worm_region.specs.Turns.{RoutesPortBy}
-use Rattle.worm_region.specs.declared.node.Node.{Node}
 use Rattle.worm_region.specs.declared.step.Moved.{Moved}
-use Rattle.worm_region.specs.declared.step.Moved.TheVariants.{Done, Idle}
 use Rattle.worm_region.specs.declared.fault.StepFault.{StepFault}
-use Rattle.worm_region.specs.declared.fault.StepFault.TheVariants.{NoSuchPlace, Refused, NoMemory}
-use Rattle.worm_wires.proofs.ArrivalsFound.{true_of}
-use Rattle.worm_region.proofs.NodeWritten.{node_at-put}
 use Rattle.worm_region.proofs.LowestGiven.{input_elsewhere, router_size}
 use Rattle.worm_region.proofs.PlacesThere.{net_place}
 use Rattle.worm_region.proofs.Passages.{does_for, does_nothing, does_ranged, does_still, loop_more}
-use Rattle.worm_region.proofs.ReachedBySteps.{joined, reached}
+use Rattle.worm_region.proofs.ReachedBySteps.{by_made, joined, reached}
 use Rattle.worm_region.proofs.RoutedStays.{route_still}
 use Rattle.worm_region.proofs.SetWalked.{IsChannelOut, Walked, channel_taken, walked_all, walked_more, walked_place}
 use Rattle.worm_region.proofs.SetWalked.{walked_start}
 
 -- a route leaves what other channels have to route
 
-unchanged : (a b : NetState) (x p v : ℕ) → b ≡ a → v < width (router_at b x) → RoutesTheSame a b x p v
-unchanged a b x p v same within = record {
-  there = subst (λ (s : NetState). v < width (router_at s x)) same within;
-  routes = ap (λ (s : NetState). can_route (router_at s x) p v) same;
-}
-
-routed_elsewhere : (a : NetState) (x q c p v : ℕ) → IsWorkable a → x < length a.nodes → q ≤ terminal (router_at a x) →
-    c < width (router_at a x) → (p ≡ q → v ≡ c → ⊥) → v < width (router_at a x)
-    → can_route (after_route (router_at a x) q c) p v ≡ can_route (router_at a x) p v
-routed_elsewhere a x q c p v net there q_in c_in away v_in =
-    let r = router_at a x in
-    let one : ChannelState = in_state (input_at r q c) (Waiting (front_port r (input_at r q c).buffer)) in
-    ap (λ (s : ChannelState). is_idle s.state && opens_front s.buffer)
-    (input_elsewhere a x q c p v one net there q_in c_in away v_in)
-
 pub route_elsewhere : (a b : NetState) (x q c : ℕ) (answer : Result Moved StepFault) → IsWorkable a →
     Replies a (Route x q c) answer b → (p v : ℕ) → (p ≡ q → v ≡ c → ⊥) → v < width (router_at b x) →
     RoutesTheSame a b x p v
 unfolding net_shape
-route_elsewhere a b x q c (Ok Done) net done p v away within =
+route_elsewhere a b x q c answer net replies p v away =
+    by_made (λ s. v < width (router_at s x) → RoutesTheSame a s x p v) a b (Route x q c) answer replies
+    (λ within. record { there = within; routes = refl })
+    (λ done within.
     let place = net_place a x q c net.framed done.there.0 done.there.1 done.there.2 in
-    let r = after_route (router_at a x) q c in
-    let itself : (x == x) ≡ true = eq-eqb x x refl in
-    let m : Node = record (node_at a x) { router = r } in
-    let at : node_at (with_node a x m) x ≡ m = rw (node_at-put a x m x place.node_in, itself) refl in
-    let router : router_at b x ≡ r =
-    ap (λ (s : NetState). router_at s x) done.exact ∙ ap (λ (n : Node). n.router) at in
-    let v_in : v < width (router_at a x) = subst (λ (q : RouterState). v < width q) router within in
-    record {
-      there = v_in;
-      routes =
-          ap (λ (q : RouterState). can_route q p v) router ∙
-          routed_elsewhere a x q c p v net place.node_in place.place.port_in place.place.channel_in away v_in;
-    }
-route_elsewhere a b x q c (Ok Idle) net idle p v away within = unchanged a b x p v idle.3 within
-route_elsewhere a b x q c (Err NoSuchPlace) net none p v away within = unchanged a b x p v none.1 within
-route_elsewhere a b x q c (Err (Refused why)) net none p v away within = unchanged a b x p v none.3 within
-route_elsewhere a b x q c (Err NoMemory) net none p v away within = unchanged a b x p v none.3 within
+    let r = router_at a x in
+    let one : ChannelState = in_state (input_at r q c) (Waiting (front_port r (input_at r q c).buffer)) in
+    let kept = input_elsewhere a x q c p v one net place.node_in place.place.port_in place.place.channel_in away within
+    in
+    record { there = kept.0; routes = ap (λ (s : ChannelState). is_idle s.state && opens_front s.buffer) kept.1 })
 
 -- all of the ports below one are done, and of it the channels below one
 pub record Routed (x : ℕ) (a b : NetState) (port vc : ℕ) : Type 0 where
