@@ -169,8 +169,8 @@ module _ {Done : ℕ → Type 0} {x count owing : ℕ} {s : NetState} (left : Ow
 
     pub owing_next : {v : ℕ} → IsLowest owing q v → IsNext s x q v
     owing_next {v = v} lowest =
-        lowest_next owing s x q left.sound left.there v (left.walked.rest q (walked_place left.walked taken.was_in).0 q_in)
-        lowest
+        lowest_next owing s x q left.sound left.there v
+        (left.walked.rest q (walked_place left.walked taken.was_in).0 q_in) lowest
 
   module _ (still : (p : ℕ) → None ≡ lowest_owed (router_at s x) p → Done p → Done (p + 1)) where
     stays : (p : ℕ) → p < count → OwesAt owing s x p → IsPortOut count owing p → Done p → Done (p + 1)

@@ -3,7 +3,8 @@ use Rattle.std.proofs.lemmas.Result.{err_from_is_err_and}
 use Rattle.worm_region.specs.Owned.{owned_by}
 use Rattle.worm_region.specs.Workable.{IsWorkable}
 use Rattle.worm_region.specs.declared.own.Own.{Own}
-use Rattle.worm_region.proofs.GrantedSent.{sent_all, sent_grant, sent_more, sent_place, sent_start, sent_to, was_granted}
+use Rattle.worm_region.proofs.GrantedSent.{sent_all, sent_grant, sent_more, sent_place, sent_start, sent_to}
+use Rattle.worm_region.proofs.GrantedSent.{was_granted}
 use Rattle.worm_region.proofs.PassIsGrants.{there_still}
 use Rattle.worm_split.specs.PartState.{PartState}
 use Rattle.worm_split.specs.PartTurns.{SendsGrant}
