@@ -6,11 +6,11 @@ use Rattle.std.specs.Prelude.{All, Result, IfSome, option_map}
 use Rattle.std.specs.List.{flat_map, range_with_len}
 use Rattle.std.specs.Option.{option_to_list}
 use Rattle.std.proofs.lemmas.List.Elements.{All-append, All-cons, All-nil}
-use Rattle.std.proofs.lemmas.Bool.{cases_eq, cases_lt, eqb-true, eq-eqb, ne_eqb, true≢false}
-use Rattle.worm_vcalloc.specs.ChannelSet.{has, IsFirst, IsFirstPort}
+use Rattle.std.proofs.lemmas.Bool.{cases_eq, eqb-true, eq-eqb, false_from_ne_true, ne_eqb, true≢false}
+use Rattle.worm_vcalloc.specs.ChannelSet.{has, IsFirst}
+use Rattle.worm_vcalloc.proofs.SetMembers.{has-zero}
 use Rattle.worm_swalloc.specs.declared.grant.SwGrant.{SwGrant}
 use Rattle.worm_swalloc.specs.SwAlloc.{AreGranted, is_of}
-use Rattle.worm_swalloc.proofs.PortsWalked.{IsWalked, walked_start, walked_from, walked_over, walked_more, walked_all}
 use Rattle.worm_theory.specs.Steps.{Step, Send, IsThere}
 use Rattle.worm_region.specs.State.{NetState, shape}
 use Rattle.worm_region.specs.Workable.{IsWorkable}
@@ -18,9 +18,10 @@ use Rattle.worm_region.specs.Replies.{Attempts, Replies}
 use Rattle.worm_region.specs.Turns.{AreThere, Each, Does, fault_of, granted_send}
 use Rattle.worm_region.specs.declared.step.Moved.{Moved}
 use Rattle.worm_region.specs.declared.fault.StepFault.{StepFault}
-use Rattle.worm_region.proofs.PassIsGrants.{there_still}
 use Rattle.worm_region.proofs.PlacesThere.{net_place}
-use Rattle.worm_region.proofs.Passages.{loop_cut, loop_more, loop_on}
+use Rattle.worm_region.proofs.Passages.{loop_more}
+use Rattle.worm_region.proofs.SetWalked.{IsPortOut, IsTaken, Walked, walked_all, walked_more, walked_place}
+use Rattle.worm_region.proofs.SetWalked.{walked_start, walked_to}
 use Rattle.worm_region.proofs.TurnInParts.{sends_one, sends_none}
 
 -- the grant of a channel of the set
@@ -56,125 +57,10 @@ granted_none grants all p are p_in none = by_grant (slice_index_or grants p None
       let is : has all p g.vc ≡ true = are.each p g.vc p_in few ∙ ap (λ o. is_of o g.vc) e ∙ eq-eqb g.vc g.vc refl in
       absurd (true≢false (sym is ∙ none g.vc few))
 
--- how far the ports have come
-pub record Sent (x : ℕ) (grants : List (Option SwGrant)) (all left : ℕ) (a b : NetState) : Type 0 where
-  pub next : ℕ
-  pub walked : IsWalked all left next 7
-  pub few : 2 * length a.mesh + 1 ≤ 7
-  pub in_net : next ≤ 2 * length a.mesh + 1
-  pub passed : Does (Each (λ p. Each Attempts (granted_send grants x p)) (range_with_len 0 next)) a None b
-
--- with its channel all channels of a port have come out
-pub first_port : (grants : List (Option SwGrant)) (all left left' n port vc : ℕ) → AreGranted grants all →
-    IsWalked all left n 7 → IsFirst left left' port vc → IsFirstPort left left' port
-first_port grants all left left' n port vc are walked first =
-    let from : n ≤ port = elim (cases_lt port n) [
-      | inl below ↦ absurd (true≢false (sym first.was_in ∙ walked.gone port vc below first.channel_in))
-      | inr above ↦ above
-    ] in
-    let is : has all port vc ≡ true = sym (walked.kept port vc from first.port_in first.channel_in) ∙ first.was_in in
-    record {
-      port_in = first.port_in;
-      some_in = (vc, first.channel_in, first.was_in);
-      none_before = λ p c below c_in. first.none_before p c c_in (omega arith);
-      taken = λ c c_in. elim (cases_eq c vc) [
-        | inl same ↦ ap (λ k. has left' port k) same ∙ first.taken.here
-        | inr other ↦
-            first.taken.elsewhere port c first.port_in c_in (λ _ e. other e)
-            ∙ walked.kept port c from first.port_in c_in
-            ∙ granted_once grants all port vc c are first.port_in first.channel_in c_in is other
-      ];
-      elsewhere = λ p c p_in c_in other. first.taken.elsewhere p c p_in c_in (λ e _. other e);
-      fewer = first.fewer;
-    }
-
--- and is one of the set
-pub was_granted : (grants : List (Option SwGrant)) (all left left' n port vc : ℕ) → AreGranted grants all →
-    IsWalked all left n 7 → IsFirst left left' port vc → has all port vc ≡ true
-was_granted grants all left left' n port vc are walked first =
-    let from =
-    walked_from all left left' n 7 port walked (first_port grants all left left' n port vc are walked first) in
-    sym (walked.kept port vc from first.port_in first.channel_in) ∙ first.was_in
-
-pub sent_start : (x : ℕ) (grants : List (Option SwGrant)) (all : ℕ) (a : NetState) → 2 * length a.mesh + 1 ≤ 7 →
-    Does (Each (λ p. Each Attempts (granted_send grants x p)) (range_with_len 0 0)) a None a →
-    Sent x grants all all a a
-sent_start x grants all a few done =
-    record { next = 0; walked = walked_start all 7; few = few; in_net = omega arith; passed = done }
-
--- a channel that comes out was granted
-pub sent_in : (x : ℕ) (grants : List (Option SwGrant)) (all left left' port vc : ℕ) (a b : NetState) →
-    AreGranted grants all → Sent x grants all left a b → IsFirst left left' port vc
-    → (g : SwGrant) × (slice_index_or grants port None ≡ Some g) × (g.vc ≡ vc)
-sent_in x grants all left left' port vc a b are sent first =
-    granted_one grants all port vc are first.port_in first.channel_in
-    (was_granted grants all left left' sent.next port vc are sent.walked first)
-
--- the ports before it have no grant
-sent_to : (x : ℕ) (grants : List (Option SwGrant)) (all left left' port vc : ℕ) (a b : NetState) →
-    AreGranted grants all → Sent x grants all left a b → IsFirst left left' port vc
-    → Does (Each (λ p. Each Attempts (granted_send grants x p)) (range_with_len 0 port)) a None b
-sent_to x grants all left left' port vc a b are sent first =
-    let whole = first_port grants all left left' sent.next port vc are sent.walked first in
-    loop_on (λ p. Each Attempts (granted_send grants x p)) sent.next port a b
-    (walked_from all left left' sent.next 7 port sent.walked whole) sent.passed
-    (λ i above below. (sends_none grants x i b
-    (granted_none grants all i are (let port_in = first.port_in in
-    omega arith) (λ v v_in. walked_over all left left' sent.next 7 port i v sent.walked whole above below
-    (let port_in = first.port_in in omega arith) v_in))).exact)
-
-sent_by : (x : ℕ) (grants : List (Option SwGrant)) (port vc : ℕ) (b c : NetState) (answer : Result Moved StepFault)
-    (fault : Option StepFault) (g : SwGrant) → slice_index_or grants port None ≡ Some g → g.vc ≡ vc
-    → Replies b (Send x port vc) answer c → fault ≡ fault_of answer →
-    Does (Each Attempts (granted_send grants x port)) b fault c
-sent_by x grants port vc b c answer fault g is same answered ends =
-    sends_one grants x port g b c answer fault is
-    (subst (λ (v : ℕ). Replies b (Send x port v) answer c) (sym same) answered) ends
-
--- one more has sent
-pub sent_more : (x : ℕ) (grants : List (Option SwGrant)) (all left left' port vc : ℕ) (a b c : NetState)
-    (answer : Result Moved StepFault) → AreGranted grants all → Sent x grants all left a b → IsFirst left left' port vc
-    → port ≤ 2 * length a.mesh → Replies b (Send x port vc) answer c → None ≡ fault_of answer →
-    Sent x grants all left' a c
-sent_more x grants all left left' port vc a b c answer are sent first port_in answered ends =
-    let grant = sent_in x grants all left left' port vc a b are sent first in
-    record {
-      next = port + 1;
-      walked =
-          walked_more all left left' sent.next 7 port sent.walked
-          (first_port grants all left left' sent.next port vc are sent.walked first) first.port_in (omega arith);
-      few = sent.few;
-      in_net = omega arith;
-      passed =
-          loop_more (λ p. Each Attempts (granted_send grants x p)) port a b c None
-          (sent_to x grants all left left' port vc a b are sent first)
-          (sent_by x grants port vc b c answer None grant.0 grant.1 grant.2 answered ends);
-    }
-
--- or has failed
-pub sent_until : (x : ℕ) (grants : List (Option SwGrant)) (all left left' port vc : ℕ) (a b c : NetState)
-    (answer : Result Moved StepFault) (fault : StepFault) → AreGranted grants all → Sent x grants all left a b →
-    IsFirst left left' port vc
-    → port ≤ 2 * length a.mesh → Replies b (Send x port vc) answer c → Some fault ≡ fault_of answer →
-    Does (Each (λ p. Each Attempts (granted_send grants x p)) (range_with_len 0 (2 * length a.mesh + 1))) a
-    (Some fault) c
-sent_until x grants all left left' port vc a b c answer fault are sent first port_in answered ends =
-    let grant = sent_in x grants all left left' port vc a b are sent first in
-    loop_cut (λ p. Each Attempts (granted_send grants x p)) port (2 * length a.mesh + 1) a b c fault (omega arith)
-    (sent_to x grants all left left' port vc a b are sent first)
-    (sent_by x grants port vc b c answer (Some fault) grant.0 grant.1 grant.2 answered ends)
-
--- all have sent
-pub sent_all : (x : ℕ) (grants : List (Option SwGrant)) (all left : ℕ) (a b : NetState) → AreGranted grants all →
-    Sent x grants all left a b → left ≡ 0
-    → Does (Each (λ p. Each Attempts (granted_send grants x p)) (range_with_len 0 (2 * length a.mesh + 1))) a None b
-sent_all x grants all left a b are sent e =
-    loop_on (λ p. Each Attempts (granted_send grants x p)) sent.next
-    (2 * length a.mesh + 1) a b sent.in_net sent.passed
-    (λ i above below. (sends_none grants x i b
-    (granted_none grants all i are (let few = sent.few in
-    omega arith) (λ v v_in. walked_all all left sent.next 7 i v sent.walked e above (let few = sent.few in
-    omega arith) v_in))).exact)
+-- a walk over the ports of a node, at those of which that have a channel left of all that were granted
+pub record Sent (Done : ℕ → Type 0) (all left count : ℕ) : Type 0 where
+  pub few : count ≤ 7
+  pub walked : Walked Done (λ p. (v : ℕ) → v < 8 → has left p v ≡ has all p v) (IsPortOut 7 left) count
 
 -- a Send that is there is by a port of the node
 send_port : (s : NetState) (x p v : ℕ) → IsWorkable s → IsThere (shape s) (Send x p v) → p ≤ 2 * length s.mesh
@@ -185,21 +71,98 @@ send_port s x p v net there =
     let port_in = place.place.port_in in
     omega arith
 
-pub walked_there : (x : ℕ) (grants : List (Option SwGrant)) (all left left' n port vc : ℕ) (a : NetState) →
-    IsWorkable a → AreGranted grants all → AreThere a x all → IsWalked all left n 7 → IsFirst left left' port vc →
-    IsThere (shape a) (Send x port vc) × (port ≤ 2 * length a.mesh)
-walked_there x grants all left left' n port vc a net are there walked first =
-    let at : IsThere (shape a) (Send x port vc) =
-    there port vc first.port_in first.channel_in (was_granted grants all left left' n port vc are walked first) in
-    (at, send_port a x port vc net at)
+pub sent_start : {Done : ℕ → Type 0} (x all : ℕ) (s : NetState) → IsWorkable s → AreThere s x all → Done 0
+    → Sent Done all all (2 * length s.mesh + 1)
+sent_start x all s net there done =
+    let few = net.framed.radices.few_dims in
+    record {
+      few = omega arith;
+      walked = walked_start done
+          (λ p past p_few v v_few. false_from_ne_true (has all p v)
+          (λ on. let port_in = send_port s x p v net (there p v p_few v_few on) in omega arith))
+          (λ p p_in v v_few. refl);
+    }
 
--- a channel that comes out is there to send
-pub sent_there : (x : ℕ) (grants : List (Option SwGrant)) (all left left' port vc : ℕ) (a b : NetState) →
-    IsWorkable a → AreGranted grants all → AreThere a x all → Sent x grants all left a b → IsFirst left left' port vc →
-    IsThere (shape b) (Send x port vc) × (port ≤ 2 * length a.mesh)
-sent_there x grants all left left' port vc a b net are there sent first =
-    let at = walked_there x grants all left left' sent.next port vc a net are there sent.walked first in
-    (there_still a b x port vc sent.passed.reaches.config at.0, at.1)
+module _ (grants : List (Option SwGrant)) {Done : ℕ → Type 0} {all left count : ℕ} (are : AreGranted grants all)
+    (sent : Sent Done all left count) where
+  module _ {new port vc : ℕ} (first : IsFirst left new port vc) where
+    is_in : IsPortOut 7 left port → ⊥
+    is_in out = true≢false (sym first.was_in ∙ out first.port_in vc first.channel_in)
+
+    pub sent_place : (sent.walked.next ≤ port) × (port < count)
+    sent_place = walked_place sent.walked is_in
+
+    -- a channel that comes out was granted
+    pub was_granted : has all port vc ≡ true
+    was_granted = sym (sent.walked.rest port sent_place.0 sent_place.1 vc first.channel_in) ∙ first.was_in
+
+    pub sent_grant : (g : SwGrant) × (slice_index_or grants port None ≡ Some g) × (g.vc ≡ vc)
+    sent_grant = granted_one grants all port vc are first.port_in first.channel_in was_granted
+
+    -- with it all channels of its port have come out
+    taken : IsTaken (IsPortOut 7 left) (IsPortOut 7 new) port
+    taken = record {
+      was_in = is_in;
+      none_before = λ p below p_few v v_few. first.none_before p v v_few (omega arith);
+      here = λ p_few v v_few. elim (cases_eq v vc) [
+        | inl same ↦ ap (λ k. has new port k) same ∙ first.taken.here
+        | inr other ↦
+            first.taken.elsewhere port v p_few v_few (λ _ e. other e)
+            ∙ sent.walked.rest port sent_place.0 sent_place.1 v v_few
+            ∙ granted_once grants all port vc v are p_few first.channel_in v_few was_granted other
+      ];
+      elsewhere = λ p away out p_few v v_few.
+          first.taken.elsewhere p v p_few v_few (λ e _. away e) ∙ out p_few v v_few;
+    }
+
+  module _ (still : (p : ℕ) → slice_index_or grants p None ≡ None → Done p → Done (p + 1)) where
+    stays : (p : ℕ) → p < count → ((v : ℕ) → v < 8 → has left p v ≡ has all p v) → IsPortOut 7 left p → Done p
+        → Done (p + 1)
+    stays p p_in same out done =
+        let few = sent.few in
+        still p (granted_none grants all p are (omega arith)
+        (λ v v_few. sym (same v v_few) ∙ out (omega arith) v v_few)) done
+
+    -- all have sent
+    pub sent_all : left ≡ 0 → Done count
+    sent_all none = walked_all stays sent.walked (λ p p_few v v_few. ap (λ (s : ℕ). has s p v) none ∙ has-zero p v)
+
+    module _ {new port vc : ℕ} (first : IsFirst left new port vc) where
+      -- the ports before it have no grant
+      pub sent_to : Done port
+      sent_to =
+          let place = sent_place first in
+          let within = place.1 in
+          walked_to stays sent.walked port place.0 (omega arith) (taken first).none_before
+
+      -- one more has sent
+      pub sent_more : {DoneNow : ℕ → Type 0} → (Done port → DoneNow (port + 1)) → Sent DoneNow all new count
+      sent_more step =
+          let few = sent.few in
+          record {
+            few = few;
+            walked = walked_more stays port sent.walked (taken first) step
+                (λ p above p_in same v v_few.
+                first.taken.elsewhere p v (omega arith) v_few (λ e _. omega arith) ∙ same v v_few);
+          }
+
+-- the ports below one have sent what was granted
+abbrev pub SentBelow : ℕ → List (Option SwGrant) → NetState → NetState → ℕ → Type 0
+SentBelow x grants a b n = Does (Each (λ p. Each Attempts (granted_send grants x p)) (range_with_len 0 n)) a None b
+
+pub sent_still : (x : ℕ) (grants : List (Option SwGrant)) (a b : NetState) (p : ℕ) → slice_index_or grants p None ≡ None
+    → SentBelow x grants a b p → SentBelow x grants a b (p + 1)
+sent_still x grants a b p none sent =
+    loop_more (λ p. Each Attempts (granted_send grants x p)) p a b b None sent (sends_none grants x p b none)
+
+-- one was answered
+pub sent_by : (x : ℕ) (grants : List (Option SwGrant)) (port vc : ℕ) (b c : NetState) (answer : Result Moved StepFault)
+    (fault : Option StepFault) → (g : SwGrant) × (slice_index_or grants port None ≡ Some g) × (g.vc ≡ vc)
+    → Replies b (Send x port vc) answer c → fault ≡ fault_of answer →
+    Does (Each Attempts (granted_send grants x port)) b fault c
+sent_by x grants port vc b c answer fault grant answered ends =
+    sends_one grants x port grant.0 b c answer fault grant.1
+    (subst (λ (v : ℕ). Replies b (Send x port v) answer c) (sym grant.2) answered) ends
 
 -- what holds of each Send of the node holds of those that were granted
 pub each_granted : (P : Step → Type 0) (x : ℕ) → ((p v : ℕ) → P (Send x p v)) → (grants : List (Option SwGrant))

@@ -119,7 +119,8 @@ module _ (owing : ℕ) (s : NetState) (x p : ℕ) (sound : IsWorkable s) (there 
             (sym (at.owed k (omega arith)) ∙ lowest.none_below k less)) tt;
       }
 
-  pub none_lowest : OwesAt owing s x p → ((v : ℕ) → v < 8 → has owing p v ≡ false) → None ≡ lowest_owed (router_at s x) p
+  pub none_lowest : OwesAt owing s x p → ((v : ℕ) → v < 8 → has owing p v ≡ false)
+      → None ≡ lowest_owed (router_at s x) p
   none_lowest at none =
       let few = sound.framed.classes.total in
       let wide = (router_size s x sound there).1 in
@@ -168,8 +169,8 @@ module _ {Done : ℕ → Type 0} {x count owing : ℕ} {s : NetState} (left : Ow
 
     pub owing_next : {v : ℕ} → IsLowest owing q v → IsNext s x q v
     owing_next {v = v} lowest =
-        lowest_next owing s x q left.sound left.there v (left.walked.rest q (walked_place left.walked taken).0 q_in)
-        lowest
+        lowest_next owing s x q left.sound left.there v
+        (left.walked.rest q (walked_place left.walked taken.was_in).0 q_in) lowest
 
   module _ (still : (p : ℕ) → None ≡ lowest_owed (router_at s x) p → Done p → Done (p + 1)) where
     stays : (p : ℕ) → p < count → OwesAt owing s x p → IsPortOut count owing p → Done p → Done (p + 1)

@@ -40,17 +40,17 @@ walked_start done past holds = record {
   rest = λ n above n_in. holds n n_in;
 }
 
--- the first member is none of those that are done
-pub walked_place : {Done Holds IsOut IsOutNow : ℕ → Type 0} {count first : ℕ} (w : Walked Done Holds IsOut count)
-    → IsTaken IsOut IsOutNow first → (w.next ≤ first) × (first < count)
-walked_place {count = count} {first = first} w taken = (
-  elim (cases_lt first w.next) [
-    | inl below ↦ absurd (taken.was_in (w.gone first (inl below)))
+-- a member is none of those that are done
+pub walked_place : {Done Holds IsOut : ℕ → Type 0} {count n : ℕ} (w : Walked Done Holds IsOut count)
+    → (IsOut n → ⊥) → (w.next ≤ n) × (n < count)
+walked_place {count = count} {n = n} w is_in = (
+  elim (cases_lt n w.next) [
+    | inl below ↦ absurd (is_in (w.gone n (inl below)))
     | inr above ↦ above
   ],
-  elim (cases_lt first count) [
+  elim (cases_lt n count) [
     | inl within ↦ within
-    | inr past ↦ absurd (taken.was_in (w.gone first (inr past)))
+    | inr past ↦ absurd (is_in (w.gone n (inr past)))
   ],
 )
 
@@ -78,7 +78,7 @@ module _ {Done Holds IsOut : ℕ → Type 0} {count : ℕ}
       → IsTaken IsOut IsOutNow first → (Done first → DoneNow (first + 1))
       → ((n : ℕ) → first < n → n < count → Holds n → HoldsNow n) → Walked DoneNow HoldsNow IsOutNow count
   walked_more {IsOutNow = IsOutNow} first w taken step others =
-      let place = walked_place w taken in
+      let place = walked_place w taken.was_in in
       let from = place.0 in
       let within = place.1 in
       record {

@@ -1,5 +1,6 @@
 -- The channels of a node that lack a route are routed, and any other has nothing to route.
-use Rattle.std.proofs.Common.{◌≡◌, ℕ, zero, suc, ◌+◌, ◌-◌, ◌*◌, ◌<◌, ◌≤◌, ◌&&◌, true, false, inl, inr, List, length, map}
+use Rattle.std.proofs.Common.{◌≡◌, ℕ, zero, suc, ◌+◌, ◌-◌, ◌*◌, ◌<◌, ◌≤◌, ◌&&◌, true, false, inl, inr}
+use Rattle.std.proofs.Common.{List, length, map}
 use Rattle.std.proofs.Common.{sum, None, refl, arith, ap, sym, subst, ◌∙◌}
 use Rattle.std.specs.Prelude.{Result}
 use Rattle.std.specs.List.{range_with_len}
@@ -59,7 +60,8 @@ pub record Passed (x : ℕ) (a b : NetState) (n : ℕ) : Type 0 where
 
 -- a place of which the set has no channel has none to route, and a channel of the set is one of the port
 pub record RoutesAt (set : ℕ) (s : NetState) (x n : ℕ) : Type 0 where
-  pub rest : (p v : ℕ) → 8 * p + v ≡ n → v < sum s.channels → has set p v ≡ false → can_route (router_at s x) p v ≡ false
+  pub rest : (p v : ℕ) → 8 * p + v ≡ n → v < sum s.channels → has set p v ≡ false
+      → can_route (router_at s x) p v ≡ false
   pub channels : (p v : ℕ) → 8 * p + v ≡ n → v < 8 → has set p v ≡ true → v < sum s.channels
 
 abbrev pub place_count : NetState → ℕ
@@ -180,7 +182,7 @@ module _ (x : ℕ) (a : NetState) where
         let few = covered.done.sound.framed.radices.few_dims in
         let total = covered.done.sound.framed.classes.total in
         let taken = channel_taken first in
-        let place = walked_place covered taken in
+        let place = walked_place covered taken.was_in in
         let v_few = first.channel_in in
         let v_in : v < sum b.channels =
         (covered.rest (8 * q + v) place.0 place.1).channels q v refl first.channel_in first.was_in in

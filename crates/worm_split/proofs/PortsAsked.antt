@@ -1,14 +1,15 @@
 -- What comes to a node of a part is asked for by the ports of a set, rising. No other is looked at: to ask for nothing
 -- is a way in which a port is asked.
-use Rattle.std.proofs.Common.{◌≡◌, ℕ, ◌+◌, ◌*◌, ◌<◌, ◌≤◌, false, inl, inr, List, length, Option, Some, None, refl}
+use Rattle.std.proofs.Common.{◌≡◌, ℕ, ◌+◌, ◌-◌, ◌*◌, ◌≤◌, inl, inr, List, length, Option, Some, None, refl}
 use Rattle.std.proofs.Common.{arith, ap, sym, subst, ◌∙◌}
 use Rattle.std.specs.List.{range_with_len}
 use Rattle.std.proofs.lemmas.Bool.{cases_lt}
 use Rattle.worm_flit.specs.SmallSet.{has, IsFirst}
+use Rattle.worm_flit.proofs.SmallSets.{has_none}
 use Rattle.worm_mesh.specs.Address.{neighbour_of}
 use Rattle.worm_mesh.proofs.Neighbours.{neighbour_of-none, no_port}
-use Rattle.worm_theory.proofs.Places.{number_cases}
 use Rattle.worm_region.specs.Turns.{mesh_ports}
+use Rattle.worm_region.proofs.SetWalked.{IsOut, Walked, number_taken, walked_all, walked_more, walked_start}
 use Rattle.worm_split.specs.PartState.{PartState, IsSamePart}
 use Rattle.worm_split.specs.PartTurns.{EachOf, PartPassage, PullsCredit, PullsFlit}
 use Rattle.worm_split.proofs.PartLoops.{of_more, of_rest, same_on, same_still}
@@ -41,79 +42,56 @@ asks_flits x = record {
   ];
 }
 
--- how far the ports have come: those below `next` were asked, and none of them is left
-pub record Asked (P : ℕ → PartPassage) (a b : PartState) (left : ℕ) : Type 0 where
-  pub next : ℕ
-  pub passed : EachOf P (range_with_len 0 next) a None b
+-- the ports of the mesh below one were asked
+pub record AskedBelow (P : ℕ → PartPassage) (a b : PartState) (n : ℕ) : Type 0 where
+  pub each : EachOf P (range_with_len 0 (2 * length a.net.mesh - (2 * length a.net.mesh - n))) a None b
   pub same : IsSamePart a b
-  pub in_mesh : next ≤ 2 * length a.net.mesh
-  pub none_left : (p : ℕ) → p < next → has left p ≡ false
 
-module _ (P : ℕ → PartPassage) (asks : Asks P) where
-  pub asked_start : (a : PartState) (all : ℕ) → Asked P a a all
-  asked_start a all = record {
-    next = 0;
-    passed = (refl, refl);
-    same = same_still a;
-    in_mesh = omega arith;
-    none_left = λ p below. absurd (omega arith);
-  }
+-- how far the ports have come
+abbrev pub Asked : (ℕ → PartPassage) → PartState → PartState → ℕ → Type 0
+Asked P a b left = Walked (AskedBelow P a b) (λ p. Unit {0}) (IsOut left) 8
 
-  -- the ports up to one are passed
-  asked_to : (a b : PartState) (left to : ℕ) → (asked : Asked P a b left) → asked.next ≤ to
-      → EachOf P (range_with_len 0 to) a None b
-  asked_to a b left to asked less =
-      of_rest P asked.next to a b less asked.passed (λ i above below. asks.still i b)
-
-  -- the port that comes out is not one of those asked
-  comes_next : (a b : PartState) (left new port : ℕ) → (asked : Asked P a b left) → IsFirst left new port
-      → asked.next ≤ port
-  comes_next a b left new port asked first = elim (cases_lt port asked.next) [
-    | inl past ↦
-        let off = asked.none_left port past in
-        let on = first.was_in in
-        absurd (cc)
-    | inr above ↦ above
-  ]
-
-  below_gone : (left new port p : ℕ) → IsFirst left new port → p < port → has new p ≡ false
-  below_gone left new port p first below =
-      let in_range = first.in_range in
-      first.taken.elsewhere p (omega arith) (λ e. omega arith) ∙ first.none_before p below
-
-  gone : (left new port p : ℕ) → IsFirst left new port → p < port + 1 → has new p ≡ false
-  gone left new port p first below = elim (number_cases p port) [
-    | inl here ↦ ap (λ (n : ℕ). has new n) here.1 ∙ first.taken.here
-    | inr other ↦ let differs = other.1 in below_gone left new port p first (omega arith)
-  ]
+module _ (P : ℕ → PartPassage) (asks : Asks P) (a : PartState) where
+  pub asked_start : (all : ℕ) → Asked P a a all
+  asked_start all =
+      let none : 0 ≡ 2 * length a.net.mesh - (2 * length a.net.mesh - 0) = omega arith in
+      walked_start (record {
+        each = subst (λ (n : ℕ). EachOf P (range_with_len 0 n) a None a) none (refl, refl);
+        same = same_still a;
+      })
+      (λ p past few. absurd (omega arith)) (λ p few. tt)
 
   -- one more was asked; behind the ports of the mesh that changes nothing
-  pub asked_more : (a b c : PartState) (left new port : ℕ) → Asked P a b left → IsFirst left new port → P port b None c
+  asked_one : (b c : PartState) (p : ℕ) → P p b None c → IsSamePart b c → AskedBelow P a b p
+      → AskedBelow P a c (p + 1)
+  asked_one b c p pulls same asked = record {
+    each = elim (cases_lt p (2 * length a.net.mesh)) [
+      | inl within ↦
+          let now : 2 * length a.net.mesh - (2 * length a.net.mesh - p) ≡ p = omega arith in
+          let then : p + 1 ≡ 2 * length a.net.mesh - (2 * length a.net.mesh - (p + 1)) = omega arith in
+          subst (λ (n : ℕ). EachOf P (range_with_len 0 n) a None c) then
+          (of_more P p a b c (subst (λ (n : ℕ). EachOf P (range_with_len 0 n) a None b) now asked.each) pulls)
+      | inr past ↦
+          let mesh = ap (λ (m : List ℕ). length m) asked.same.config.mesh in
+          let kept : 2 * length a.net.mesh - (2 * length a.net.mesh - p)
+          ≡ 2 * length a.net.mesh - (2 * length a.net.mesh - (p + 1)) = omega arith in
+          subst (λ (n : ℕ). EachOf P (range_with_len 0 n) a None c) kept
+          (subst (λ (q : PartState). EachOf P (range_with_len 0 (2 * length a.net.mesh - (2 * length a.net.mesh - p))) a
+          None q) (sym (asks.behind p b c (omega arith) pulls)) asked.each)
+    ];
+    same = same_on a b c asked.same same;
+  }
+
+  pub asked_more : (b c : PartState) (left new port : ℕ) → Asked P a b left → IsFirst left new port → P port b None c
       → IsSamePart b c → Asked P a c new
-  asked_more a b c left new port asked first pulls same =
-      let mesh = ap (λ (m : List ℕ). length m) asked.same.config.mesh in
-      let in_mesh = asked.in_mesh in
-      elim (cases_lt port (2 * length a.net.mesh)) [
-        | inl linked ↦ record {
-          next = port + 1;
-          passed = of_more P port a b c
-              (asked_to a b left port asked (comes_next a b left new port asked first)) pulls;
-          same = same_on a b c asked.same same;
-          in_mesh = omega arith;
-          none_left = λ p below. gone left new port p first below;
-        }
-        | inr behind ↦
-            let still : c ≡ b = asks.behind port b c (omega arith) pulls in
-            record {
-              next = 2 * length a.net.mesh;
-              passed = subst (λ (q : PartState). EachOf P (range_with_len 0 (2 * length a.net.mesh)) a None q)
-                  (sym still) (asked_to a b left (2 * length a.net.mesh) asked in_mesh);
-              same = same_on a b c asked.same same;
-              in_mesh = omega arith;
-              none_left = λ p below. below_gone left new port p first (omega arith);
-            }
-      ]
+  asked_more b c left new port asked first pulls same =
+      walked_more (λ p few _ _. asked_one b b p (asks.still p b) (same_still b)) port asked (number_taken first)
+      (asked_one b c port pulls same) (λ p above few _. tt)
 
   -- all were asked
-  pub asked_all : (a b : PartState) (left : ℕ) → Asked P a b left → EachOf P (mesh_ports a.net) a None b
-  asked_all a b left asked = asked_to a b left (2 * length a.net.mesh) asked asked.in_mesh
+  pub asked_all : (b : PartState) (left : ℕ) → Asked P a b left → left ≡ 0 → EachOf P (mesh_ports a.net) a None b
+  asked_all b left asked none =
+      of_rest P (2 * length a.net.mesh - (2 * length a.net.mesh - 8)) (2 * length a.net.mesh) a b (omega arith)
+      (walked_all (λ p few _ _. asked_one b b p (asks.still p b) (same_still b)) asked
+      (λ p few. ap (λ (s : ℕ). has s p) none ∙ has_none 0 p refl)).each
+      (λ p above below. asks.still p b)

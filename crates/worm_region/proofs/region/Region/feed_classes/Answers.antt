@@ -21,7 +21,7 @@ pub feed_class-requires-clause-class : goal.feed_class-requires-clause-class
 feed_class-requires-clause-class c =
     let inv = c.loop-class.invariant in
     subst (λ (counts : List ℕ). c.in-Some.class < length counts) (sym inv.done.does.reaches.config.channels)
-    (walked_place inv (number_taken c.in-Some.ensures)).1
+    (walked_place inv (number_taken c.in-Some.ensures).was_in).1
 
 pub loop-class-preserved : goal.loop-class-preserved
 loop-class-preserved c =

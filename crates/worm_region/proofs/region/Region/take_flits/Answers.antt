@@ -30,5 +30,5 @@ take_flit_at-requires c =
 pub returns : goal.returns
 returns c =
     let x = c.args.node in
-    covered_all (flits x) c.args.self.now c.requires c.loop-port.self c.loop-port.left (λ s. map (Take x) (mesh_ports s))
-    c.loop-port.invariant.0 c.in_default.ensures.0 refl
+    covered_all (flits x) c.args.self.now c.requires c.loop-port.self c.loop-port.left
+    (λ s. map (Take x) (mesh_ports s)) c.loop-port.invariant.0 c.in_default.ensures.0 refl

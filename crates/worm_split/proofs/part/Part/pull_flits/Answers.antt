@@ -11,11 +11,11 @@ loop-port-init c = asked_start (PullsFlit c.args.node) (asks_flits c.args.node) 
 
 pub pull_flit-requires-clause-node : goal.pull_flit-requires-clause-node
 pull_flit-requires-clause-node c = subst (λ (ks : List ℕ). c.args.node < node_count ks)
-    (sym c.loop-port.invariant.same.config.mesh) c.requires.node
+    (sym c.loop-port.invariant.done.same.config.mesh) c.requires.node
 
 pub pull_flit-requires-clause-own : goal.pull_flit-requires-clause-own
 pull_flit-requires-clause-own c = subst (λ (w : Own). owned_by w c.args.node ≡ true)
-    (sym c.loop-port.invariant.same.config.own) c.requires.own
+    (sym c.loop-port.invariant.done.same.config.own) c.requires.own
 
 pub loop-port-preserved : goal.loop-port-preserved
 loop-port-preserved c =
@@ -26,7 +26,7 @@ loop-port-preserved c =
 pub returns-clause-pulls : goal.returns-clause-pulls
 returns-clause-pulls c =
     asked_all (PullsFlit c.args.node) (asks_flits c.args.node) c.args.self.now c.loop-port.self c.loop-port.left
-    c.loop-port.invariant
+    c.loop-port.invariant c.in_default.ensures.0
 
 pub returns-clause-same : goal.returns-clause-same
-returns-clause-same c = c.loop-port.invariant.same
+returns-clause-same c = c.loop-port.invariant.done.same
