@@ -115,7 +115,8 @@ filed_remove requests waiting waiting' sets port vc out d set filed lp lv lo wai
       here = subst (λ s. IsPut s set port vc false) (filed_at (λ o r. is_for r o) 7 requests sets out d lo filed.ports
           ∙ sym (filed_at (λ o r. is_for r o) 7 requests sets out 0 lo filed.ports)) taken
 
-      puts : (i : ℕ) → i < 7 → IsPut (slice_index_or sets i 0) (slice_index_or (slice_set sets out set) i 0) port vc false
+      puts : (i : ℕ) → i < 7
+          → IsPut (slice_index_or sets i 0) (slice_index_or (slice_set sets out set) i 0) port vc false
       puts i l = elim (cases_Bool (out == i)) [
         | inl t ↦
             let is : out ≡ i = eqb-true out i t in
@@ -123,7 +124,8 @@ filed_remove requests waiting waiting' sets port vc out d set filed lp lv lo wai
             (subst (λ s. IsPut (slice_index_or sets out 0) s port vc false)
             (sym (get_or-set_same sets out set 0 long)) here)
         | inr f ↦ left_alone requests sets (slice_set sets out set) i port vc l lp lv filed.ports
-            (get_or-set_other sets out i set 0 (λ e. eqb-false out i f (sym e))) (for_one (cell requests port vc None) out i waits f)
+            (get_or-set_other sets out i set 0 (λ e. eqb-false out i f (sym e)))
+            (for_one (cell requests port vc None) out i waits f)
       ]
 
 -- no request
