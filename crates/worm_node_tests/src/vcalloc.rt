@@ -108,6 +108,7 @@ fn waiting_of(rt: &impl Abort, asks: &[(u8, u8, VcRequest)]) -> VcRequests {
     let mut waiting = VcRequests::new();
     for (port, vc, request) in asks {
         assert!(rt; *port < 7 && *vc < 8);
+        assert!(rt; waiting.get(*port, *vc).is_none());
         waiting.add(*port, *vc, *request);
     }
     waiting
@@ -184,6 +185,16 @@ fn waits_for(rt: &impl Abort, waiting: &VcRequests, port: u8, vc: u8, request: O
     assert_eq!(rt; waiting.get(port, vc), request);
 }
 
+/// The input channel takes back what it asked for.
+fn takes_back(rt: &impl Abort, waiting: &mut VcRequests, port: u8, vc: u8) {
+    assert!(rt; port < 7 && vc < 8);
+    let Some(request) = waiting.get(port, vc) else {
+        panic!(rt; "it asked for nothing");
+    };
+    assert!(rt; request.out < 7);
+    waiting.remove(port, vc, request.out);
+}
+
 /// An allocator finds a waiting channel at the port that it asks for, and there by the channels that it takes.
 #[test]
 fn requests_are_found_by_what_they_ask(rt: HostRuntime) {
@@ -193,7 +204,7 @@ fn requests_are_found_by_what_they_ask(rt: HostRuntime) {
     finds(&rt, &waiting, 3, &[0, 1, 2, 3, 4, 5, 6, 7], &[]);
     finds(&rt, &waiting, 2, &[1], &[(1, 3)]);
     finds(&rt, &waiting, 2, &[0, 1], &[(0, 5), (1, 3)]);
-    waiting.remove(1, 3, 2);
+    takes_back(&rt, &mut waiting, 1, 3);
     finds(&rt, &waiting, 2, &[0, 1], &[(0, 5)]);
     gives(&rt, &mut waiting.waiting(), Some((0, 5)));
 }
