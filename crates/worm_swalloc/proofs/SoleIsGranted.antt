@@ -7,35 +7,26 @@ use Rattle.worm_vcalloc.specs.Arbiter.{ArbiterState, no_arbiter, winner, after_p
 use Rattle.worm_vcalloc.proofs.Winner.{winner_none, winner_none_requests, winner_requests}
 use Rattle.worm_swalloc.specs.declared.grant.SwGrant.{SwGrant}
 use Rattle.worm_swalloc.specs.SwAlloc.{SwAllocState, IsSwAlloc, sole_named, is_for, chosen, with_choice, output_after}
-use Rattle.worm_swalloc.specs.SwAlloc.{AreOwnReady, channel_of, with_move, named, all_named}
+use Rattle.worm_swalloc.specs.SwAlloc.{IsSolePort, channel_of, with_move, named, all_named}
 use Rattle.worm_swalloc.proofs.FrontGiven.{slice_set-with_front, with_front_kept, with_front_skip}
-use Rattle.worm_swalloc.proofs.SwitchPass.{get_or-replicate_same, named_absent, named_within}
-use Rattle.worm_swalloc.specs.RouterPlaces.{IsSolePort}
+use Rattle.worm_swalloc.proofs.SwitchPass.{get_or-replicate_same, named_unready, named_within}
 use Rattle.worm_swalloc.proofs.GrantsOfSet.{sole_here, sole_elsewhere}
 use Rattle.worm_swalloc.proofs.ChoicesByPort.{ChosenBelow, chosen_none, chosen_more, chosen_pass}
 
 -- what the ports name
 
--- it is one of the router's ports
-pub sole_own : (s : SwAllocState) (ready : List (List (Option ℕ))) (among port : ℕ) → AreOwnReady s ready among
-    → IsSolePort among port → port < s.ports
-sole_own s ready among port own sole =
-    let c = sole.some_in in (own.own port c.0 sole.port_in c.1 c.2).0
-
-module _ (s : SwAllocState) (ready : List (List (Option ℕ))) (among port : ℕ) (request : Option SwGrant)
-    (r : IsSwAlloc s.ports s.channels s.inputs s.outputs)
-    (own : AreOwnReady s ready among) (sole : IsSolePort among port) (e : request ≡ named s ready port) where
+module _ (s : SwAllocState) (ready : List (List (Option ℕ))) (port : ℕ) (request : Option SwGrant)
+    (r : IsSwAlloc s.ports s.channels s.inputs s.outputs) (within : port < s.ports) (sole : IsSolePort ready port)
+    (e : request ≡ named s ready port) where
   others : (i : ℕ) → i < s.ports → ((i ≡ port) → ⊥) → named s ready i ≡ slice_index_or (replicate 7 None) i None
   others i l other =
       let few = r.few_ports in
-      named_absent s ready among i r own l (λ v lv. sole.none_else i v (omega arith) lv other)
-      ∙ sym (get_or-replicate_same 7 i None)
+      named_unready s ready i r l (λ v lv. sole i v (omega arith) lv other) ∙ sym (get_or-replicate_same 7 i None)
 
   -- what it names is all that is named
   pub sole_is_all : sole_named port request ≡ all_named s ready
   sole_is_all =
       let few = r.few_ports in
-      let within = sole_own s ready among port own sole in
       ap (slice_set (replicate 7 None) port) e
       ∙ ap (λ xs. slice_set xs port (named s ready port))
       (sym (with_front_kept port (named s ready) (replicate 7 None) None (omega arith)
@@ -47,7 +38,7 @@ module _ (s : SwAllocState) (ready : List (List (Option ℕ))) (among port : ℕ
   -- a channel of the router
   pub sole_within : IfSome request (λ g. g.vc < s.channels)
   sole_within =
-      let within = sole.port_in in
+      let few = r.few_ports in
       subst (λ (o : Option SwGrant). IfSome o (λ g. g.vc < s.channels)) (sole_here port request (omega arith))
       (named_within s ready (sole_named port request) r sole_is_all port)
 

@@ -13,15 +13,13 @@ use Rattle.worm_vcalloc.specs.Table.{cell}
 use Rattle.worm_vcalloc.proofs.Winner.{winner_same, winner_none, winner_requests, winner_none_requests}
 use Rattle.worm_swalloc.specs.declared.grant.SwGrant.{SwGrant}
 use Rattle.worm_swalloc.specs.Front.{with_front}
-use Rattle.worm_swalloc.specs.SwAlloc.{SwAllocState, IsSwAlloc, IsSwitchMatching, AreChannelsBelow, AreOwnReady}
+use Rattle.worm_swalloc.specs.SwAlloc.{SwAllocState, IsSwAlloc, IsSwitchMatching, AreChannelsBelow}
 use Rattle.worm_swalloc.specs.SwAlloc.{request_of, named_channel, named, all_named, is_for, chosen, with_choice}
 use Rattle.worm_swalloc.specs.SwAlloc.{is_line, if_chosen, granted, sw_grants, sw_after, output_after, input_after}
 use Rattle.worm_swalloc.specs.SwAlloc.{channel_of, with_move, after_grant}
 use Rattle.worm_swalloc.proofs.FrontGiven.{with_front_zero, slice_set-with_front, slice_index_or-with_front_below}
 use Rattle.worm_swalloc.proofs.FrontGiven.{slice_index_or-with_front_past, with_front_same, with_front_kept}
 use Rattle.worm_swalloc.proofs.FrontGiven.{with_front_skip}
-use Rattle.worm_swalloc.specs.RouterPlaces.{router_places}
-use Rattle.worm_swalloc.proofs.RouterLines.{has-router_places}
 use Rattle.worm_swalloc.proofs.PortsWalked.{IsWalked, walked_start, walked_from, walked_over, walked_more, walked_all}
 
 pub get_or-replicate_same : {X : Type 0} (n i : ℕ) (x : X) → slice_index_or (replicate n x) i x ≡ x
@@ -48,19 +46,6 @@ named_is s ready port lines d w r lp within same e =
     ∙ winner_of_lines (slice_index_or s.inputs port no_arbiter) s.channels lines
     (λ vc. is_some (cell ready port vc None)) (r.input_width port (omega arith))
     (r.input_pointer port (omega arith)) same
-
--- it is ready
-pub named_ready : (s : SwAllocState) (ready : List (List (Option ℕ))) (port lines : ℕ) (d : ArbiterState) (vc : ℕ)
-    → IsSwAlloc s.ports s.channels s.inputs s.outputs → port < s.ports → port < length s.inputs
-    → ((line : ℕ) → line < s.channels → line_requests lines line ≡ is_some (cell ready port line None))
-    → Some vc ≡ winner (slice_index_or s.inputs port d) (line_requests lines)
-    → is_some (cell ready port vc None) ≡ true
-named_ready s ready port lines d vc r lp within same e =
-    let few = r.few_ports in
-    let wide = r.input_width port (omega arith) in
-    let low = r.input_pointer port (omega arith) in
-    (winner_requests (slice_index_or s.inputs port no_arbiter) (λ v. is_some (cell ready port v None)) vc (omega arith)
-    (sym (named_is s ready port lines d (Some vc) r lp within same e))).1
 
 -- the input port that an output arbiter chooses, likewise
 pub chosen_is : (s : SwAllocState) (requests : List (Option SwGrant)) (out lines : ℕ) (d : ArbiterState) (w : Option ℕ)
@@ -110,137 +95,89 @@ choice_is s requests grants out lines d new w r lo within same won moved =
 
 -- ---- the requests
 
--- the ready channels of the router's own ports are those of its places
-pub own_ready : (s : SwAllocState) (ready : List (List (Option ℕ))) (keys places among : ℕ)
-    → IsSwAlloc s.ports s.channels s.inputs s.outputs → places ≡ router_places s.ports s.channels
-    → ((p v : ℕ) → p < 7 → v < 8 → has keys p v ≡ is_some (cell ready p v None))
-    → ((p v : ℕ) → has among p v ≡ (has keys p v && has places p v))
-    → AreOwnReady s ready among
-own_ready s ready keys places among r e keyed both = record {
-  each = λ p v lp lv.
-      let few = r.few_ports in
-      let few' = r.few_channels in
-      both p v
-      ∙ ap (λ b. has keys p v && b)
-      (placed p v (omega arith) (omega arith)
-      ∙ and_from (ltb p s.ports) (ltb v s.channels) (lt-ltb p s.ports lp) (lt-ltb v s.channels lv))
-      ∙ and_true (has keys p v) ∙ keyed p v (omega arith) (omega arith);
-  own = λ p v lp lv h.
-      let inside = and_parts (has keys p v) (has places p v) (sym (both p v) ∙ h) in
-      let q = and_parts (ltb p s.ports) (ltb v s.channels) (sym (placed p v lp lv) ∙ inside.1) in
-      (ltb-true p s.ports q.0, ltb-true v s.channels q.1);
-} where
-  placed : (p v : ℕ) → p < 7 → v < 8 → has places p v ≡ (ltb p s.ports && ltb v s.channels)
-  placed p v lp lv = ap (λ k. has k p v) e ∙ has-router_places s.ports s.channels p v lp lv
-
-  and_true : (b : Bool) → (b && true) ≡ b
-  and_true true = refl
-  and_true false = refl
-
 -- where no channel of an input port is ready, it names none
 pub named_unready : (s : SwAllocState) (ready : List (List (Option ℕ))) (port : ℕ)
     → IsSwAlloc s.ports s.channels s.inputs s.outputs → port < s.ports
-    → ((v : ℕ) → v < s.channels → cell ready port v None ≡ None) → named s ready port ≡ None
+    → ((v : ℕ) → v < 8 → cell ready port v None ≡ None) → named s ready port ≡ None
 named_unready s ready port r lp none =
     let few = r.few_ports in
+    let few' = r.few_channels in
     let wide = r.input_width port (omega arith) in
     let low = r.input_pointer port (omega arith) in
     ap (request_of (slice_index_or ready port []))
     (winner_none (slice_index_or s.inputs port no_arbiter) (λ vc. is_some (cell ready port vc None)) (omega arith)
     (λ vc l. ap is_some (none vc (omega arith))))
 
--- nor where none of its channels is in the set of those that are ready
-pub named_absent : (s : SwAllocState) (ready : List (List (Option ℕ))) (among port : ℕ)
-    → IsSwAlloc s.ports s.channels s.inputs s.outputs → AreOwnReady s ready among → port < s.ports
-    → ((v : ℕ) → v < 8 → has among port v ≡ false) → named s ready port ≡ None
-named_absent s ready among port r own lp none =
-    let few = r.few_channels in
-    named_unready s ready port r lp
-    (λ v lv. none_where_not_some (cell ready port v None) (sym (own.each port v lp lv) ∙ none v (omega arith)))
-
 -- the input ports below n have been asked, where n is as far as the walk has come
-pub record AskedBelow (s : SwAllocState) (ready : List (List (Option ℕ))) (among left : ℕ)
+pub record AskedBelow (s : SwAllocState) (ready : List (List (Option ℕ))) (keys left : ℕ)
     (requests : List (Option SwGrant)) : Type 0 where
   pub next : ℕ
-  pub few : next ≤ s.ports
-  pub walked : IsWalked among left next 7
+  pub walked : IsWalked keys left next s.ports
   pub requests_are : requests ≡ with_front next (named s ready) (replicate 7 None)
 
 -- the requests as far as the next port that has a ready channel
-asked_to : (s : SwAllocState) (ready : List (List (Option ℕ))) (among n m : ℕ)
-    → IsSwAlloc s.ports s.channels s.inputs s.outputs → AreOwnReady s ready among → n ≤ m → m ≤ s.ports
-    → ((p v : ℕ) → n ≤ p → p < m → v < 8 → has among p v ≡ false)
+asked_to : (s : SwAllocState) (ready : List (List (Option ℕ))) (keys left n m : ℕ)
+    → IsSwAlloc s.ports s.channels s.inputs s.outputs → n ≤ m → m ≤ s.ports
+    → ((p v : ℕ) → p < 7 → v < 8 → has keys p v ≡ is_some (cell ready p v None))
+    → ((p v : ℕ) → n ≤ p → p < m → v < 8 → has keys p v ≡ false)
     → with_front n (named s ready) (replicate 7 None) ≡ with_front m (named s ready) (replicate 7 None)
-asked_to s ready among n m r own from within none =
+asked_to s ready keys left n m r from within keyed none =
     let few = r.few_ports in
     with_front_skip n m (named s ready) (replicate 7 None) None from (omega arith)
-    (λ i l l'. named_absent s ready among i r own (omega arith) (λ v lv. none i v l l' lv)
+    (λ i l l'.
+    named_unready s ready i r (omega arith)
+    (λ v lv. none_where_not_some (cell ready i v None) (sym (keyed i v (omega arith) lv) ∙ none i v l l' lv))
     ∙ sym (get_or-replicate_same 7 i None))
 
-pub asked_start : (s : SwAllocState) (ready : List (List (Option ℕ))) (among : ℕ) (requests : List (Option SwGrant))
+pub asked_start : (s : SwAllocState) (ready : List (List (Option ℕ))) (keys : ℕ) (requests : List (Option SwGrant))
     → requests ≡ replicate 7 None
-    → AskedBelow s ready among among requests
-asked_start s ready among requests e = record {
+    → AskedBelow s ready keys keys requests
+asked_start s ready keys requests e = record {
   next = 0;
-  few = omega arith;
-  walked = walked_start among 7;
+  walked = walked_start keys s.ports;
   requests_are = e ∙ sym (with_front_zero (named s ready) (replicate 7 None));
 }
 
-module _ (s : SwAllocState) (ready : List (List (Option ℕ))) (among left left' port : ℕ)
-    (requests : List (Option SwGrant)) (b : AskedBelow s ready among left requests)
-    (f : IsFirstPort left left' port) where
-  from : b.next ≤ port
-  from = walked_from among left left' b.next 7 port b.walked f
+-- a port that has yet to be asked has no request
+pub not_asked : (s : SwAllocState) (ready : List (List (Option ℕ))) (keys left left' port : ℕ)
+    (requests : List (Option SwGrant)) → AskedBelow s ready keys left requests → IsFirstPort left left' port
+    → slice_index_or requests port None ≡ None
+not_asked s ready keys left left' port requests b f =
+    let from = walked_from keys left left' b.next s.ports port b.walked f in
+    ap (λ xs. slice_index_or xs port None) b.requests_are
+    ∙ slice_index_or-with_front_past b.next port (named s ready) (replicate 7 None) None from
+    ∙ get_or-replicate_same 7 port None
 
-  -- a port that has yet to be asked has no request
-  pub not_asked : slice_index_or requests port None ≡ None
-  not_asked =
-      ap (λ xs. slice_index_or xs port None) b.requests_are
-      ∙ slice_index_or-with_front_past b.next port (named s ready) (replicate 7 None) None from
-      ∙ get_or-replicate_same 7 port None
-
-  -- it is one of the router's
-  pub asked_own : AreOwnReady s ready among → port < s.ports
-  asked_own own =
-      let c = f.some_in in
-      (own.own port c.0 f.port_in c.1 (sym (b.walked.kept port c.0 from f.port_in c.1) ∙ c.2)).0
-
-  -- once it has been asked
-  pub asked_more : (requests' : List (Option SwGrant)) → IsSwAlloc s.ports s.channels s.inputs s.outputs
-      → AreOwnReady s ready among → requests' ≡ slice_set requests port (named s ready port)
-      → AskedBelow s ready among left' requests'
-  asked_more requests' r own e =
-      let few = r.few_ports in
-      let within = asked_own own in
-      let past = from in
-      record {
-        next = port + 1;
-        few = omega arith;
-        walked = walked_more among left left' b.next 7 port b.walked f f.port_in (omega arith);
-        requests_are = e
-            ∙ ap (λ xs. slice_set xs port (named s ready port))
-            (b.requests_are ∙ asked_to s ready among b.next port r own from (omega arith)
-            (λ p v l l' lv. walked_over among left left' b.next 7 port p v b.walked f l l' (omega arith) lv))
-            ∙ slice_set-with_front port (named s ready) (replicate 7 None) None (omega arith);
-      }
+-- the next port has been asked
+pub asked_more : (s : SwAllocState) (ready : List (List (Option ℕ))) (keys left left' port : ℕ)
+    (requests requests' : List (Option SwGrant))
+    → IsSwAlloc s.ports s.channels s.inputs s.outputs
+    → ((p v : ℕ) → p < 7 → v < 8 → has keys p v ≡ is_some (cell ready p v None))
+    → AskedBelow s ready keys left requests → IsFirstPort left left' port → port < s.ports
+    → requests' ≡ slice_set requests port (named s ready port)
+    → AskedBelow s ready keys left' requests'
+asked_more s ready keys left left' port requests requests' r keyed b f within e =
+    let few = r.few_ports in
+    let from = walked_from keys left left' b.next s.ports port b.walked f in
+    record {
+      next = port + 1;
+      walked = walked_more keys left left' b.next s.ports port b.walked f within few;
+      requests_are = e
+          ∙ ap (λ xs. slice_set xs port (named s ready port))
+          (b.requests_are ∙ asked_to s ready keys left b.next port r from (omega arith) keyed
+          (λ p v l l' lv. walked_over keys left left' b.next s.ports port p v b.walked f l l' (omega arith) lv))
+          ∙ slice_set-with_front port (named s ready) (replicate 7 None) None (omega arith);
+    }
 
 -- all have been asked
-pub asked_all : (s : SwAllocState) (ready : List (List (Option ℕ))) (among left : ℕ) (requests : List (Option SwGrant))
-    → IsSwAlloc s.ports s.channels s.inputs s.outputs → AreOwnReady s ready among
-    → AskedBelow s ready among left requests → left ≡ 0 → requests ≡ all_named s ready
-asked_all s ready among left requests r own b e =
-    let few = r.few_ports in
-    b.requests_are ∙ asked_to s ready among b.next s.ports r own b.few (omega arith)
-    (λ p v l l' lv. walked_all among left b.next 7 p v b.walked e l (omega arith) lv)
-
--- only the router's ports name anything
-pub unnamed_past : (s : SwAllocState) (ready : List (List (Option ℕ))) (requests : List (Option SwGrant)) (port : ℕ)
-    → requests ≡ all_named s ready → s.ports ≤ port → slice_index_or requests port None ≡ None
-unnamed_past s ready requests port e past =
-    ap (λ xs. slice_index_or xs port None) e
-    ∙ slice_index_or-with_front_past s.ports port (named s ready) (replicate 7 None) None past
-    ∙ get_or-replicate_same 7 port None
+pub asked_all : (s : SwAllocState) (ready : List (List (Option ℕ))) (keys left : ℕ) (requests : List (Option SwGrant))
+    → IsSwAlloc s.ports s.channels s.inputs s.outputs
+    → ((p v : ℕ) → p < 7 → v < 8 → has keys p v ≡ is_some (cell ready p v None))
+    → AskedBelow s ready keys left requests → left ≡ 0 → requests ≡ all_named s ready
+asked_all s ready keys left requests r keyed b e =
+    let few = b.walked.few in
+    b.requests_are ∙ asked_to s ready keys left b.next s.ports r few (omega arith) keyed
+    (λ p v l l' lv. walked_all keys left b.next s.ports p v b.walked e l l' lv)
 
 -- ---- the matching
 
@@ -437,16 +374,16 @@ pass_is s now ready requests grants long are_named are_granted e =
 -- ---- where nothing is ready
 
 all_named_none : (s : SwAllocState) (ready : List (List (Option ℕ))) → IsSwAlloc s.ports s.channels s.inputs s.outputs
-    → ((p v : ℕ) → p < s.ports → v < s.channels → cell ready p v None ≡ None)
+    → ((p v : ℕ) → p < 7 → v < 8 → cell ready p v None ≡ None)
     → all_named s ready ≡ replicate 7 None
 all_named_none s ready r none =
     with_front_kept s.ports (named s ready) (replicate 7 None) None r.few_ports
-    (λ i l. named_unready s ready i r l (λ v lv. none i v l lv) ∙ sym (get_or-replicate_same 7 i None))
+    (λ i l. let few = r.few_ports in named_unready s ready i r l (λ v lv. none i v (omega arith) lv)
+    ∙ sym (get_or-replicate_same 7 i None))
 
 -- nothing is granted
 pub sw_grants_none : (s : SwAllocState) (ready : List (List (Option ℕ)))
-    → IsSwAlloc s.ports s.channels s.inputs s.outputs
-    → ((p v : ℕ) → p < s.ports → v < s.channels → cell ready p v None ≡ None)
+    → IsSwAlloc s.ports s.channels s.inputs s.outputs → ((p v : ℕ) → p < 7 → v < 8 → cell ready p v None ≡ None)
     → sw_grants s ready ≡ replicate 7 None
 sw_grants_none s ready r none =
     with_front_kept s.ports (granted s (all_named s ready) s.ports) (replicate 7 None) None r.few_ports
@@ -457,7 +394,7 @@ sw_grants_none s ready r none =
 -- no arbiter moves
 pub sw_after_none : (s : SwAllocState) (ready : List (List (Option ℕ)))
     → IsSwAlloc s.ports s.channels s.inputs s.outputs → s.ports ≤ length s.inputs → s.ports ≤ length s.outputs
-    → ((p v : ℕ) → p < s.ports → v < s.channels → cell ready p v None ≡ None)
+    → ((p v : ℕ) → p < 7 → v < 8 → cell ready p v None ≡ None)
     → sw_after s ready ≡ s
 sw_after_none s ready r long long' none =
     ap (λ i. record s { inputs = i; outputs = with_front s.ports (output_after s (all_named s ready)) s.outputs })

@@ -1,6 +1,6 @@
 -- One pass of switch allocation, separable and input first (Dally and Towles, chapter 19).
-use Rattle.std.specs.Prelude.{◌≡◌, ℕ, ◌<◌, ◌≤◌, ◌==◌, ◌&&◌, nat_lt, Bool, true, false, if◌then◌else◌, List, []}
-use Rattle.std.specs.Prelude.{Option, Some, None, IfSome, is_some, replicate, slice_index_or, slice_set}
+use Rattle.std.specs.Prelude.{◌≡◌, ℕ, ◌<◌, ◌≤◌, ◌==◌, ◌&&◌, nat_lt, Bool, true, false, if◌then◌else◌, List, [], Option, Some}
+use Rattle.std.specs.Prelude.{None, IfSome, is_some, replicate, slice_index_or, slice_set}
 use Rattle.std.specs.Option.{option_map}
 use Rattle.worm_vcalloc.specs.Arbiter.{ArbiterState, no_arbiter, winner, after_pick}
 use Rattle.worm_vcalloc.specs.ChannelSet.{has}
@@ -83,10 +83,9 @@ abbrev pub AreAskers : List (Option SwGrant) → ℕ → Type 0
 AreAskers requests askers = (out port : ℕ) → out < 7 → port < 8
     → has askers out port ≡ is_for (slice_index_or requests port None) out
 
--- the set is that of the ready channels of the router's own ports and their channels
-pub record AreOwnReady (s : SwAllocState) (ready : List (List (Option ℕ))) (among : ℕ) : Type 0 where
-  pub each : (p v : ℕ) → p < s.ports → v < s.channels → has among p v ≡ is_some (cell ready p v None)
-  pub own : (p v : ℕ) → p < 7 → v < 8 → has among p v ≡ true → (p < s.ports) × (v < s.channels)
+-- no other port has ready channels
+abbrev pub IsSolePort : List (List (Option ℕ)) → ℕ → Type 0
+IsSolePort ready port = (p v : ℕ) → p < 7 → v < 8 → ((p ≡ port) → ⊥) → cell ready p v None ≡ None
 
 -- what the input ports name where one of them alone may name anything
 abbrev pub sole_named : ℕ → Option SwGrant → List (Option SwGrant)
@@ -107,7 +106,6 @@ abbrev pub if_in : ℕ → ℕ → Option SwGrant → Option SwGrant
 if_in set port None = None
 if_in set port (Some g) = if has set port g.vc then Some g else None
 
--- that of a port
 abbrev pub granted_at : List (Option SwGrant) → ℕ → ℕ → Option SwGrant
 granted_at requests set port = if_in set port (slice_index_or requests port None)
 

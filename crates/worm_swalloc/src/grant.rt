@@ -49,10 +49,9 @@ impl SwGrants {
     pub fn new() -> SwGrants
         ensures { result ≡ replicate 7 None }
     {
-        let granted = ChannelSet::new();
         SwGrants {
             requests: [None; 7],
-            granted,
+            granted: ChannelSet::new(),
         }
     }
 

@@ -6,12 +6,11 @@
 //! its choice; an input arbiter moves only where its request was granted, so a channel that was named in
 //! vain is named again.
 //!
-//! Ready channels come as a set beside a map of output ports, so a pass in which nothing is ready is a
-//! load or two, and an input port's lines are a shift and a mask. The map may have output ports for more
-//! channels than are ready: it changes once a packet, and the set is worked out for each pass. A pass takes
-//! those of the router's own ports out of the set once, so the first half tests no port or channel against
-//! the router's. Input ports without a ready channel are passed over, and so are output ports that nobody
-//! asks for: who asks for which is gathered in one set as the input ports are looked at.
+//! Ready channels come as a set beside a map of output ports, so a pass in which nothing is ready is one
+//! load, and an input port's lines are a shift and a mask. The map may have output ports for more channels
+//! than are ready: it changes once a packet, and the set is worked out for each pass. Input ports without a
+//! ready channel are passed over, and so are output ports that nobody asks for: who asks for which is
+//! gathered in one set as the input ports are looked at.
 //!
 //! What a pass grants is what the input ports named beside a set: the channels that are granted, a bit for each.
 //! Whoever asks for the set alone is given one word, and no table of grants is made.
@@ -21,7 +20,6 @@
 
 mod grant;
 mod named;
-mod places;
 mod ready;
 mod sw_alloc;
 

@@ -5,13 +5,12 @@ ghost use Rattle.worm_vcalloc.specs.ChannelSet.{IsPut};
 ghost use Rattle.worm_vcalloc.specs.Table.{cell};
 ghost use Rattle.worm_swalloc.specs.Front.{with_front};
 ghost use Rattle.worm_swalloc.specs.SwAlloc.{SwAllocState, IsSwAlloc, IsSwitchMatching, AreChannelsBelow};
-ghost use Rattle.worm_swalloc.specs.SwAlloc.{named, all_named, sole_named, AreOwnReady, is_for, channel_of, chosen};
+ghost use Rattle.worm_swalloc.specs.SwAlloc.{named, all_named, sole_named, IsSolePort, is_for, channel_of, chosen};
 ghost use Rattle.worm_swalloc.specs.SwAlloc.{granted, sw_grants, sw_after, output_after, after_grant, with_choice};
 ghost use Rattle.worm_swalloc.specs.SwAlloc.{with_move, AreRequested, granted_of};
 
 use crate::grant::{SwGrant, SwGrants};
 use crate::named::Named;
-use crate::places::{lines_of, places_of, sole_port};
 use crate::ready::Ready;
 use std::marker::Model;
 use worm_vcalloc::{Arbiter, ChannelSet};
@@ -29,8 +28,6 @@ pub struct SwAlloc {
     ports: u8,
     /// The channels of a port, 1 to 8.
     channels: u8,
-    /// The channels of its ports: what a pass goes over of those that are ready.
-    places: ChannelSet,
     /// The arbiter of each input port, a line for each of its channels.
     inputs: [Arbiter; 7],
     /// The arbiter of each output port, a line for each input port.
@@ -38,33 +35,13 @@ pub struct SwAlloc {
 }
 
 impl Model for SwAlloc {
-    ghost use Rattle.std.specs.Prelude.{◌≡◌};
-    ghost use Rattle.std.proofs.Common.{sym};
-    ghost use Rattle.worm_swalloc.specs.RouterPlaces.{router_places};
-    ghost use Rattle.worm_swalloc.specs.SwAlloc.{SwAllocState, IsSwAlloc};
-
     ghost Value = { SwAllocState };
 
     ghost view = { λ a. record { ports = a.ports; channels = a.channels; inputs = a.inputs; outputs = a.outputs } };
 
-    ghost invariant = { λ a. IsSwAlloc a.ports a.channels a.inputs a.outputs
-        × (a.places ≡ router_places a.ports a.channels) };
+    ghost invariant = { λ a. IsSwAlloc a.ports a.channels a.inputs a.outputs };
 
-    ghost inverse = { λ v. record {
-      ports = v.ports;
-      channels = v.channels;
-      places = router_places v.ports v.channels;
-      inputs = v.inputs;
-      outputs = v.outputs;
-    } };
-
-    ghost inverse_ok = { λ a h i. record {
-      ports = a.ports;
-      channels = a.channels;
-      places = sym h.1 i;
-      inputs = a.inputs;
-      outputs = a.outputs;
-    } };
+    ghost inverse = { λ v. record { ports = v.ports; channels = v.channels; inputs = v.inputs; outputs = v.outputs } };
 }
 
 impl SwAlloc {
@@ -85,7 +62,6 @@ impl SwAlloc {
         SwAlloc {
             ports,
             channels,
-            places: places_of(ports, channels),
             inputs: [Arbiter::new(channels); 7],
             outputs: [Arbiter::new(ports); 7],
         }
@@ -100,63 +76,67 @@ impl SwAlloc {
     {
         // The proof of the first answer needs the widths of the arbiters.
         let _ = &self.ports;
-        let among = self.own_ready(ready);
-        if among.is_empty() {
+        if ready.keys().is_empty() {
             return SwGrants::new();
         }
-        if let Some(port) = sole_port(&among) {
-            let request = self.request(port, ready, &among);
+        if let Some(port) = self.sole_port(ready) {
+            let request = self.request(port, ready);
             return self.grant_sole(port, request);
         }
         let mut named = Named::new();
-        self.gather(ready, &among, &mut named);
+        self.gather(ready, &mut named);
         let granted = self.grant_named(&named);
         SwGrants::among(named.into_requests(), granted)
     }
 
-    /// The ready channels of the router's own ports. Among them the pass needs no test of a port or a channel.
-    fn own_ready(&self, ready: &Ready<'_>) -> ChannelSet
-        ensures { AreOwnReady self.now ready.now result }
+    /// The port that alone has ready channels, if there is one.
+    fn sole_port(&self, ready: &Ready<'_>) -> Option<u8>
+        ensures within { IfSome result (λ port. port < self.now.ports) }
+        ensures sole { IfSome result (IsSolePort ready.now) }
     {
-        ready.keys().intersection(&self.places)
+        let mut left = ready.keys();
+        let port = left.pop_port()?;
+        if left.is_empty() && port < self.ports {
+            Some(port)
+        } else {
+            None
+        }
     }
 
-    /// Gathers what each input port names of these ready channels.
-    fn gather(&self, ready: &Ready<'_>, among: &ChannelSet, asked: &mut Named)
-        requires none { asked.old ≡ replicate 7 None }
-        requires own { AreOwnReady self.now ready.now among.now }
+    /// Gathers what each input port names.
+    fn gather(&self, ready: &Ready<'_>, asked: &mut Named)
+        requires { asked.old ≡ replicate 7 None }
         ensures named { asked.new ≡ all_named self.now ready.now }
         ensures ready { IsSwAlloc self.now.ports self.now.channels self.now.inputs self.now.outputs }
     {
-        // The proof needs the widths of the arbiters.
-        let _ = &self.ports;
-        let mut left = *among;
+        let ports = self.ports;
+        let mut left = ready.keys();
         while let Some(port) = left.pop_port() {
-            self.ask(port, ready, among, asked);
+            if port < ports {
+                self.ask(port, ready, asked);
+            }
         }
     }
 
     /// Adds what one input port names.
-    fn ask(&self, port: u8, ready: &Ready<'_>, among: &ChannelSet, asked: &mut Named)
+    fn ask(&self, port: u8, ready: &Ready<'_>, asked: &mut Named)
         requires port { port < self.now.ports }
         requires few { port < 7 }
-        requires own { AreOwnReady self.now ready.now among.now }
         requires none { slice_index_or asked.old port None ≡ None }
         ensures { asked.new ≡ slice_set asked.old port (named self.now ready.now port) }
     {
-        if let Some(request) = self.request(port, ready, among) {
+        if let Some(request) = self.request(port, ready) {
             asked.put(port, request);
         }
     }
 
-    /// What one input port names of these ready channels.
-    fn request(&self, port: u8, ready: &Ready<'_>, among: &ChannelSet) -> Option<SwGrant>
-        requires port { port < self.now.ports }
-        requires own { AreOwnReady self.now ready.now among.now }
+    /// What one input port names.
+    fn request(&self, port: u8, ready: &Ready<'_>) -> Option<SwGrant>
+        requires { port < self.now.ports }
         ensures { result ≡ named self.now ready.now port }
     {
-        let arbiter = &self.inputs[port as usize];
-        let vc = arbiter.peek(lines_of(among, port))?;
+        let lines = ready_lines(ready, port, self.channels);
+        let vc = self.inputs[port as usize].peek(lines)?;
         ready.get(port, vc).map(|out| SwGrant { vc, out })
     }
 
@@ -164,8 +144,7 @@ impl SwAlloc {
     /// ask for it. It moves, and so does that of the chosen input port, past the channel that it named. Tells the
     /// channels that are granted.
     fn grant_named(&mut self, named: &Named) -> ChannelSet
-        requires channels { AreChannelsBelow self.old.channels named.now }
-        requires ports { (port : ℕ) → self.old.ports ≤ port → slice_index_or named.now port None ≡ None }
+        requires { AreChannelsBelow self.old.channels named.now }
         ensures requested { AreRequested named.now result }
         ensures grants { granted_of named.now result
             ≡ with_front self.old.ports (granted self.old named.now self.old.ports) (replicate 7 None) }
@@ -180,7 +159,7 @@ impl SwAlloc {
         let mut left = askers;
         while let Some(out) = left.pop_port() {
             if out < ports {
-                self.choose_for(out, lines_of(&askers, out), named, &mut granted);
+                self.choose_for(out, askers.row(out, ports), named, &mut granted);
             }
         }
         granted
@@ -248,4 +227,14 @@ impl SwAlloc {
         self.inputs[port as usize].move_past(vc);
         granted.put(port, vc, true);
     }
+}
+
+/// The lines of the ready channels of an input port.
+fn ready_lines(ready: &Ready<'_>, port: u8, channels: u8) -> u64
+    requires port { port < 7 }
+    requires channels { channels ≤ 8 }
+    ensures few { result < 2 ^ channels }
+    ensures lines { (line : ℕ) → line < channels → line_requests result line ≡ is_some (cell ready.now port line None) }
+{
+    ready.keys().row(port, channels)
 }
