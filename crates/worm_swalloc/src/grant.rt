@@ -49,9 +49,10 @@ impl SwGrants {
     pub fn new() -> SwGrants
         ensures { result ≡ replicate 7 None }
     {
+        let granted = ChannelSet::new();
         SwGrants {
             requests: [None; 7],
-            granted: ChannelSet::new(),
+            granted,
         }
     }
 

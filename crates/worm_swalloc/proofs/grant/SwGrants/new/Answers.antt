@@ -4,4 +4,4 @@ use Rattle.worm_swalloc.proofs.GrantsOfSet.{none_granted}
 use Rattle.worm_swalloc.proofs.grant.SwGrants.new.Goals as goal
 
 pub returns : goal.returns
-returns c = ap (granted_of (replicate 7 None)) c.new.ensures ∙ none_granted (replicate 7 None)
+returns c = ap (granted_of (replicate 7 None)) c.new-granted.ensures ∙ none_granted (replicate 7 None)
