@@ -17,8 +17,9 @@ use Rattle.worm_router.proofs.Places.{IsInput, IsOutput, same_at}
 -- an input channel is written that holds nothing new
 pub holders_in : (r : RouterState) (port vc i : ℕ) (had now : ChannelState) → IsInput r port vc i had
     → ((o c : ℕ) → now.state ≡ Active o c → had.state ≡ Active o c)
+    → ((o c : ℕ) → had.state ≡ Active o c → now.state ≡ Active o c)
     → AreHolders r → AreHolders (record r { inputs = slice_set r.inputs i now })
-holders_in r port vc i had now input before are = record {
+holders_in r port vc i had now input before after are = record {
   held = λ p v o c p_in v_in holds. elim (cases_eq (line r p v) i) [
     | inl same ↦
         let now_is = get_or-set_at r.inputs i (line r p v) now (fresh_channel r.depth) same input.within in
@@ -30,6 +31,18 @@ holders_in r port vc i had now input before are = record {
         (sym (ap (λ (x : ChannelState). x.state)
         (get_or-set_other r.inputs i (line r p v) now (fresh_channel r.depth) other)) ∙ holds)
   ];
+  holds = λ o c h o_in c_in held.
+      let holds = are.holds o c h o_in c_in held in
+      elim (cases_eq (line r h.0 h.1) i) [
+        | inl same ↦
+            let was : had ≡ input_at r h.0 h.1 = input.was
+            ∙ ap (λ k. slice_index_or r.inputs k (fresh_channel r.depth)) (sym same) in
+            ap (λ (x : ChannelState). x.state)
+            (get_or-set_at r.inputs i (line r h.0 h.1) now (fresh_channel r.depth) same input.within)
+            ∙ after o c (ap (λ (x : ChannelState). x.state) was ∙ holds)
+        | inr other ↦ ap (λ (x : ChannelState). x.state)
+            (get_or-set_other r.inputs i (line r h.0 h.1) now (fresh_channel r.depth) other) ∙ holds
+      ];
   fit = are.fit;
 }
 
@@ -41,6 +54,9 @@ holders_out r out vc o had u output same are = record {
       same_at (λ (w : OutRecord). w.holder) r.outputs o (line r q c) u (free_output r.depth) output.within
       (same ∙ ap (λ (w : OutRecord). w.holder) output.was)
       ∙ are.held p v q c p_in v_in holds;
+  holds = λ q c h q_in c_in held. are.holds q c h q_in c_in
+      (sym (same_at (λ (w : OutRecord). w.holder) r.outputs o (line r q c) u (free_output r.depth) output.within
+      (same ∙ ap (λ (w : OutRecord). w.holder) output.was)) ∙ held);
   fit = All-set (λ (w : OutRecord). IsHolder (terminal r) (width r) w.holder) r.outputs o u
       (subst (IsHolder (terminal r) (width r)) (sym (same ∙ ap (λ (w : OutRecord). w.holder) output.was))
       (All-get_or (λ (w : OutRecord). IsHolder (terminal r) (width r) w.holder) r.outputs o
@@ -51,9 +67,10 @@ holders_out r out vc o had u output same are = record {
 -- a channel is granted a free output channel
 pub holders_held : (r : RouterState) (port vc i out out_vc o : ℕ) (had now : ChannelState) (had_out u : OutRecord)
     → IsInput r port vc i had → IsOutput r out out_vc o had_out
+    → ((q c : ℕ) → had.state ≡ Active q c → ⊥)
     → now.state ≡ Active out out_vc → had_out.holder ≡ None → u.holder ≡ Some (port, vc)
     → AreHolders r → AreHolders (record r { inputs = slice_set r.inputs i now; outputs = slice_set r.outputs o u })
-holders_held r port vc i out out_vc o had now had_out u input output granted free takes are = record {
+holders_held r port vc i out out_vc o had now had_out u input output held_none granted free takes are = record {
   held = λ p v q c p_in v_in holds. elim (cases_eq (line r p v) i) [
     | inl same ↦
         let at = same_from_place p v port vc (width r) v_in input.place.channel_in (same ∙ input.at) in
@@ -78,6 +95,29 @@ holders_held r port vc i out out_vc o had now had_out u input output granted fre
               absurd (cc)
           | inr away ↦ ap (λ (w : OutRecord). w.holder)
               (get_or-set_other r.outputs o (line r q c) u (free_output r.depth) away) ∙ held
+        ]
+  ];
+  holds = λ q c h q_in c_in held. elim (cases_eq (line r q c) o) [
+    | inl here ↦
+        let at = same_from_place q c out out_vc (width r) c_in output.place.channel_in (here ∙ output.at) in
+        let both : Some (port, vc) ≡ Some h = sym takes
+        ∙ sym (ap (λ (w : OutRecord). w.holder)
+        (get_or-set_at r.outputs o (line r q c) u (free_output r.depth) here output.within)) ∙ held in
+        let pair : (port, vc) ≡ h = cc in
+        let same : line r h.0 h.1 ≡ i = ap (λ (k : ℕ × ℕ). line r k.0 k.1) (sym pair) ∙ sym input.at in
+        ap (λ (x : ChannelState). x.state)
+        (get_or-set_at r.inputs i (line r h.0 h.1) now (fresh_channel r.depth) same input.within)
+        ∙ granted ∙ ap (λ k. Active k out_vc) (sym at.0) ∙ ap (λ k. Active q k) (sym at.1)
+    | inr away ↦
+        let holds = are.holds q c h q_in c_in (sym (ap (λ (w : OutRecord). w.holder)
+        (get_or-set_other r.outputs o (line r q c) u (free_output r.depth) away)) ∙ held) in
+        elim (cases_eq (line r h.0 h.1) i) [
+          | inl same ↦
+              let was : had ≡ input_at r h.0 h.1 = input.was
+              ∙ ap (λ k. slice_index_or r.inputs k (fresh_channel r.depth)) (sym same) in
+              absurd (held_none q c (ap (λ (x : ChannelState). x.state) was ∙ holds))
+          | inr other ↦ ap (λ (x : ChannelState). x.state)
+              (get_or-set_other r.inputs i (line r h.0 h.1) now (fresh_channel r.depth) other) ∙ holds
         ]
   ];
   fit = All-set (λ (w : OutRecord). IsHolder (terminal r) (width r) w.holder) r.outputs o u
@@ -116,6 +156,29 @@ holders_freed r port vc i out out_vc o had now had_out u input output held_it id
               (get_or-set_other r.outputs o (line r q c) u (free_output r.depth) away) ∙ held
         ]
   ];
+  holds = λ q c h q_in c_in held. elim (cases_eq (line r q c) o) [
+    | inl here ↦
+        let unlike : None ≡ Some h = sym free
+        ∙ sym (ap (λ (w : OutRecord). w.holder)
+        (get_or-set_at r.outputs o (line r q c) u (free_output r.depth) here output.within)) ∙ held in
+        absurd (cc)
+    | inr away ↦
+        let holds = are.holds q c h q_in c_in (sym (ap (λ (w : OutRecord). w.holder)
+        (get_or-set_other r.outputs o (line r q c) u (free_output r.depth) away)) ∙ held) in
+        elim (cases_eq (line r h.0 h.1) i) [
+          | inl same ↦
+              let was : had ≡ input_at r h.0 h.1 = input.was
+              ∙ ap (λ k. slice_index_or r.inputs k (fresh_channel r.depth)) (sym same) in
+              let both : Active out out_vc ≡ Active q c = sym held_it
+              ∙ ap (λ (x : ChannelState). x.state) was ∙ holds in
+              let out_is : out ≡ q = cc in
+              let vc_is : out_vc ≡ c = cc in
+              absurd (away (ap (λ k. k * width r + c) (sym out_is) ∙ ap (λ k. out * width r + k) (sym vc_is)
+              ∙ sym output.at))
+          | inr other ↦ ap (λ (x : ChannelState). x.state)
+              (get_or-set_other r.inputs i (line r h.0 h.1) now (fresh_channel r.depth) other) ∙ holds
+        ]
+  ];
   fit = All-set (λ (w : OutRecord). IsHolder (terminal r) (width r) w.holder) r.outputs o u
       (subst (IsHolder (terminal r) (width r)) (sym free) tt) are.fit;
 }
@@ -128,6 +191,11 @@ fresh_holders r count all free = record {
       let unlike : Idle ≡ Active o c = sym (ap (λ (x : ChannelState). x.state)
       (ap (λ l. slice_index_or l (line r p v) (fresh_channel r.depth)) all
       ∙ get_or-replicate_same count (line r p v) (fresh_channel r.depth))) ∙ holds in
+      absurd (cc);
+  holds = λ o c h o_in c_in held.
+      let unlike : None ≡ Some h = sym (ap (λ (w : OutRecord). w.holder)
+      (ap (λ l. slice_index_or l (line r o c) (free_output r.depth)) free
+      ∙ get_or-replicate_same count (line r o c) (free_output r.depth))) ∙ held in
       absurd (cc);
   fit = subst (All (λ (w : OutRecord). IsHolder (terminal r) (width r) w.holder)) (sym free)
       (All-replicate (λ (w : OutRecord). IsHolder (terminal r) (width r) w.holder) count (free_output r.depth) tt);
@@ -149,4 +217,4 @@ holders_left r port vc i out out_vc o had now had_out u false input output held_
       within = output.within;
       was = output.was;
     }) kept
-    (holders_in r port vc i had now input (λ q c holds. sym same ∙ holds) are)
+    (holders_in r port vc i had now input (λ q c holds. sym same ∙ holds) (λ q c holds. same ∙ holds) are)

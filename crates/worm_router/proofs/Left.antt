@@ -20,7 +20,9 @@ use Rattle.worm_router.proofs.Leaving.{may_leave, leaves_by_state, owes_more}
 use Rattle.worm_router.proofs.Demanded.{requests_kept, free_left, asks_nothing, waits_not_after}
 use Rattle.worm_router.proofs.Holders.{holders_left}
 use Rattle.worm_router.proofs.HeldOuts.{outs_left}
-use Rattle.worm_router.proofs.HeldUp.{held_left, leaves_free, unfiled}
+use Rattle.worm_router.proofs.Those.{unfiled}
+use Rattle.worm_router.proofs.LackCredit.{lack_left, leaves_with_credit}
+use Rattle.worm_router.proofs.OweAll.{owe_left}
 
 -- a flit that may leave, for so many credits spent and owed: its input channel and the output channel that this holds,
 -- as they were read
@@ -30,10 +32,10 @@ pub record IsLeaving (r : RouterState) (sets : BusyChannels) (port vc i out out_
   pub output : IsOutput r out out_vc o had_out
   pub held_it : had.state ≡ Active out out_vc
   pub its : had_out.holder ≡ Some (port, vc)
-  pub could_send : has sets.held_up port vc ≡ false
+  pub has_credit : has sets.no_credit port vc ≡ false
   pub spends : spent ≡ credit_of r out
   pub owes_more : more ≡ credit_of r port
-  pub has_credit : spent ≤ had_out.credits
+  pub enough : spent ≤ had_out.credits
   pub may_owe : had.owed + more ≤ r.depth
 
 pub leaving_of : (r s : RouterState) (sets : BusyChannels) (asked : DemandView) (masks : List ℕ)
@@ -65,20 +67,22 @@ leaving_of r s sets asked masks port vc i out o f had had_out spent more same ke
       held_it = ap (λ (c : ChannelState). c.state) was ∙ active;
       its = ap (λ (u : OutRecord). u.holder) was_out
           ∙ kept.holders.held port vc out f.vc input.place.port_in input.place.channel_in active;
-      could_send = leaves_free r port vc sets.held_up (out, f) input.place kept.held_up may;
+      has_credit = leaves_with_credit r port vc sets.no_credit (out, f) input.place kept.no_credit may;
       spends = spends_it;
       owes_more = owes_it;
-      has_credit = let credits = ap (λ (u : OutRecord). u.credits) was_out in
+      enough = let credits = ap (λ (u : OutRecord). u.credits) was_out in
           omega (arith, there.has_credit, credits, spends_it);
       may_owe = let owed = ap (λ (c : ChannelState). c.owed) was in omega (arith, there.may_owe, owed, owes_it);
     }
 
 -- its front is out, and filed so: all of it that is the same whether that closed the packet
-pub record IsOut (sets mid : BusyChannels) (port vc : ℕ) (had gone : ChannelState) (f : Flit) (more : ℕ) : Type 0 where
+pub record IsOut (depth : ℕ) (sets mid : BusyChannels) (port vc : ℕ) (had gone : ChannelState) (f : Flit)
+    (more : ℕ) : Type 0 where
   pub gone_is : gone ≡ left_by false had f more
   pub occupied : IsFiled sets.occupied mid.occupied port vc (is_occupied gone)
-  pub owing : IsFiled sets.owing mid.owing port vc (owes gone || has sets.owing port vc)
-  pub others : mid ≡ record sets { occupied = mid.occupied; owing = mid.owing }
+  pub owing : IsFiled sets.owing mid.owing port vc (owes gone)
+  pub owes_all : IsFiled sets.owes_all mid.owes_all port vc (nat_lt depth (gone.owed + more))
+  pub others : mid ≡ record sets { occupied = mid.occupied; owing = mid.owing; owes_all = mid.owes_all }
 
 -- what is written in all: where that `closed` the packet both channels are free
 record HasLeft (r : RouterState) (sets new : BusyChannels) (asked now_asked : DemandView)
@@ -88,10 +92,10 @@ record HasLeft (r : RouterState) (sets new : BusyChannels) (asked now_asked : De
   credits : u.credits ≡ had_out.credits - spent
   holder : u.holder ≡ (if closed then None else had_out.holder)
   occupied : IsFiled sets.occupied new.occupied port vc (is_occupied now)
-  owing : IsFiled sets.owing new.owing port vc (owes now || has sets.owing port vc)
+  owing : IsFiled sets.owing new.owing port vc (owes now)
+  owes_all : IsFiled sets.owes_all new.owes_all port vc (nat_lt r.depth (now.owed + more))
   outs : new.outs ≡ (if closed then with_cell sets.outs port vc None else sets.outs)
-  held_up : IsFiled sets.held_up new.held_up port vc
-      (not closed && not ((spent == 0 || nat_lt 0 u.credits) && (more == 0 || nat_lt now.owed r.depth)))
+  no_credit : IsFiled sets.no_credit new.no_credit port vc (not closed && nat_lt u.credits spent)
   requests : now_asked.requests ≡ asked.requests
   free : now_asked.free ≡ (if closed then with_cell asked.free out out_vc true else asked.free)
 
@@ -108,13 +112,6 @@ module _ (r : RouterState) (sets new : BusyChannels) (asked now_asked : DemandVi
 
   waits_not : is_waiting now ≡ false
   waits_not = ap waits state_now ∙ waits_not_after closed had.state waited_not
-
-  owes_no_less : (owes now || has sets.owing port vc) ≡ owes now
-  owes_no_less =
-      ap (λ b. owes now || b) (inside_of owes r port vc i sets.owing had leaving.input kept.busy.owing)
-      ∙ ap (λ (c : ChannelState). owes c || owes had) left.now_is
-      ∙ owes_more had.owed more
-      ∙ sym (ap owes left.now_is)
 
   sound_now : IsChannel r.mesh r.channels r.depth now
   sound_now =
@@ -154,7 +151,7 @@ module _ (r : RouterState) (sets new : BusyChannels) (asked now_asked : DemandVi
     };
     arbiters = kept.arbiters;
     busy = busy_filed r sets new port vc i had now leaving.input kept.busy (inl left.occupied)
-        (inl (subst (IsFiled sets.owing new.owing port vc) owes_no_less left.owing));
+        (inl left.owing);
     demand = record {
       requests = left.requests ∙ kept.demand.requests
           ∙ sym (requests_kept r port vc i had now leaving.input
@@ -169,16 +166,21 @@ module _ (r : RouterState) (sets new : BusyChannels) (asked now_asked : DemandVi
         leaving.held_it state_now left.holder kept.holders;
     outs = outs_left r port vc i had now leaving.input sets.outs new.outs closed kept.busy.few_ports
         kept.busy.few_channels left.outs state_now kept.outs;
-    held_up = held_left r port vc i had now leaving.input kept.busy.few_ports kept.busy.few_channels out out_vc o
-        had_out u spent more sets.held_up new.held_up closed leaving.output leaving.held_it state_now leaving.spends
-        leaving.owes_more left.held_up kept.holders kept.held_up;
+    no_credit = lack_left r port vc i had now leaving.input kept.busy.few_ports kept.busy.few_channels out out_vc o
+        had_out u leaving.output closed spent sets.no_credit new.no_credit leaving.held_it state_now leaving.spends
+        left.no_credit
+        (λ h held. let both : Some h ≡ Some (port, vc) = sym held ∙ leaving.its in let same : h ≡ (port, vc) = cc in same)
+        kept.holders kept.no_credit;
+    owes_all = owe_left r port vc i had now leaving.input kept.busy.few_ports kept.busy.few_channels
+        (slice_set r.outputs o u) sets.owes_all new.owes_all more sound_now.owed_fits leaving.owes_more left.owes_all
+        kept.owes_all;
     classes = kept.classes;
   }
 
 module _ (r : RouterState) (sets mid : BusyChannels) (asked : DemandView) (masks : List ℕ)
     (port vc i out out_vc o : ℕ) (had gone : ChannelState) (had_out : OutRecord) (f : Flit) (spent more : ℕ)
     (kept : IsKept r sets asked masks) (leaving : IsLeaving r sets port vc i out out_vc o had had_out spent more)
-    (is_out : IsOut sets mid port vc had gone f more) where
+    (is_out : IsOut r.depth sets mid port vc had gone f more) where
   -- it closed its packet: both channels are free
   pub closed_kept : (now : ChannelState) (u : OutRecord) (outs : List (List (Option ℕ))) (now_asked : DemandView)
       → now ≡ in_state gone Idle → u ≡ record { holder = None; credits = had_out.credits - spent }
@@ -194,38 +196,35 @@ module _ (r : RouterState) (sets mid : BusyChannels) (asked : DemandView) (masks
         holder = ap (λ (w : OutRecord). w.holder) u_is;
         occupied = subst (λ (c : ChannelState). IsFiled sets.occupied mid.occupied port vc (is_occupied c)) (sym now_is)
             is_out.occupied;
-        owing = subst (λ (c : ChannelState). IsFiled sets.owing mid.owing port vc (owes c || has sets.owing port vc))
-            (sym now_is) is_out.owing;
+        owing = subst (λ (c : ChannelState). IsFiled sets.owing mid.owing port vc (owes c)) (sym now_is) is_out.owing;
+        owes_all = subst (λ (c : ChannelState). IsFiled sets.owes_all mid.owes_all port vc
+            (nat_lt r.depth (c.owed + more))) (sym now_is) is_out.owes_all;
         outs = outs_are ∙ ap (λ (b : BusyChannels). with_cell b.outs port vc None) is_out.others;
-        held_up = subst (λ (b : BusyChannels). IsFiled sets.held_up b.held_up port vc false) (sym is_out.others)
-            (unfiled sets.held_up port vc false leaving.could_send);
+        no_credit = subst (λ (b : BusyChannels). IsFiled sets.no_credit b.no_credit port vc false) (sym is_out.others)
+            (unfiled sets.no_credit port vc false leaving.has_credit);
         requests = ap (λ (d : DemandView). d.requests) asks;
         free = ap (λ (d : DemandView). d.free) asks;
       })
 
-  -- more of its packet comes: the channel is held up unless a next flit may follow
-  pub followed_kept : (new : BusyChannels) (follows : Bool)
-      → follows
-      ≡ ((spent == 0 || nat_lt 0 (had_out.credits - spent)) && (more == 0 || nat_lt gone.owed r.depth))
-      → IsFiled mid.held_up new.held_up port vc (not follows) → new ≡ record mid { held_up = new.held_up }
+  -- more of its packet comes: the channel lacks a credit where none is left
+  pub followed_kept : (no_credit : ℕ)
+      → IsFiled mid.no_credit no_credit port vc (nat_lt (had_out.credits - spent) spent)
       → IsKept (record r {
         inputs = slice_set r.inputs i gone;
         outputs = slice_set r.outputs o (record had_out { credits = had_out.credits - spent });
-      }) new asked masks
-  followed_kept new follows follows_is filed others =
-      left_kept r sets new asked asked masks port vc i out out_vc o had gone had_out
+      }) (record mid { no_credit = no_credit }) asked masks
+  followed_kept no_credit filed =
+      left_kept r sets (record mid { no_credit = no_credit }) asked asked masks port vc i out out_vc o had gone had_out
       (record had_out { credits = had_out.credits - spent }) f spent more false kept leaving (record {
         now_is = is_out.gone_is;
         credits = refl;
         holder = refl;
-        occupied = subst (λ (b : BusyChannels). IsFiled sets.occupied b.occupied port vc (is_occupied gone))
-            (sym others) is_out.occupied;
-        owing = subst (λ (b : BusyChannels). IsFiled sets.owing b.owing port vc (owes gone || has sets.owing port vc))
-            (sym others) is_out.owing;
-        outs = ap (λ (b : BusyChannels). b.outs) others ∙ ap (λ (b : BusyChannels). b.outs) is_out.others;
-        held_up = subst (λ (b : BusyChannels). IsFiled b.held_up new.held_up port vc (not ((spent == 0 ||
-            nat_lt 0 (had_out.credits - spent)) && (more == 0 || nat_lt gone.owed r.depth)))) is_out.others
-            (subst (λ b. IsFiled mid.held_up new.held_up port vc (not b)) follows_is filed);
+        occupied = is_out.occupied;
+        owing = is_out.owing;
+        owes_all = is_out.owes_all;
+        outs = ap (λ (b : BusyChannels). b.outs) is_out.others;
+        no_credit = subst (λ (b : BusyChannels). IsFiled b.no_credit no_credit port vc
+            (nat_lt (had_out.credits - spent) spent)) is_out.others filed;
         requests = refl;
         free = refl;
       })

@@ -19,8 +19,7 @@ use Rattle.worm_router.specs.Router.{leaving, leaving_by}
 use Rattle.worm_router.specs.Allocation.{within, ready_at, ready_outs}
 use Rattle.worm_router.specs.Demand.{DemandView}
 use Rattle.worm_router.specs.declared.busy.BusyChannels.{BusyChannels}
-use Rattle.worm_router.specs.Busy.{AreReady, IsKept, could_send, could_send_to, holds, is_held_up, is_occupied}
-use Rattle.worm_router.specs.Busy.{port_held}
+use Rattle.worm_router.specs.Busy.{AreReady, IsKept, is_occupied, lacks_credit, owes_all, port_held}
 use Rattle.worm_router.specs.Rest.{SendsNothing}
 use Rattle.worm_router.proofs.HeldOuts.{out_at}
 use Rattle.worm_router.proofs.Leaving.{leaving_is}
@@ -30,23 +29,39 @@ none_either : (b : Bool) → ◌≡◌ {A = Option ℕ} None (if b then None els
 none_either true = refl
 none_either false = refl
 
+none_none : (a b : Bool) → ◌≡◌ {A = Option ℕ} None (if a then (if b then None else None) else None)
+none_none true b = none_either b
+none_none false b = refl
+
 out_if : (b : Bool) (o v : ℕ) (f : Flit)
     → option_map {T = ℕ × Flit} (λ leave. leave.0) (if b then Some (o, with_channel f v) else None)
     ≡ (if b then Some o else None)
 out_if true o v f = refl
 out_if false o v f = refl
 
--- it is what the channel could send to, where it has a flit
+-- a channel of this port, in this state and with so many credits owed, has a credit and may owe one more
+abbrev free : RouterState → ℕ → InRecord → ℕ → Bool
+free r p s owed = not (lacks_credit r s) && not (owes_all r p owed)
+
+not_not : (a : Bool) → not (not a) ≡ a
+not_not true = refl
+not_not false = refl
+
+-- what may leave is bound for the output port that the channel holds, where it has a flit and is free
 ready_parts : (r : RouterState) (p : ℕ) (c : ChannelState) (s : InRecord) (fs : List Flit)
     → option_map (λ leave. leave.0) (leaving_by r p c s fs)
-    ≡ (if nat_lt 0 (length fs) then could_send_to r p s c.owed else None)
-ready_parts r p c Idle fs = none_either (nat_lt 0 (length fs))
-ready_parts r p c (Waiting o) fs = none_either (nat_lt 0 (length fs))
+    ≡ (if nat_lt 0 (length fs) then (if free r p s c.owed then port_held s else None) else None)
+ready_parts r p c Idle fs = none_none (nat_lt 0 (length fs)) (free r p Idle c.owed)
+ready_parts r p c (Waiting o) fs = none_none (nat_lt 0 (length fs)) (free r p (Waiting o) c.owed)
 ready_parts r p c (Active o v) [] = refl
 ready_parts r p c (Active o v) (f ∷ fs) =
     let some : nat_lt 0 (length (f ∷ fs)) ≡ true = grind (arith, nat_tests) in
     out_if ((o == terminal r || nat_lt 0 (output_at r o v).credits) && (p == terminal r || nat_lt c.owed r.depth)) o v f
-    ∙ sym (ap (λ b. if b then could_send_to r p (Active o v) c.owed else None) some)
+    ∙ sym (ap (λ b. if not (lacks_credit r (Active o v)) && b then Some o else None)
+    (not_not (p == terminal r || nat_lt c.owed r.depth))
+    ∙ ap (λ b. if b && (p == terminal r || nat_lt c.owed r.depth) then Some o else None)
+    (not_not (o == terminal r || nat_lt 0 (output_at r o v).credits)))
+    ∙ sym (ap (λ b. if b then (if free r p (Active o v) c.owed then Some o else None) else None) some)
 
 some_mapped : (o : Option (ℕ × Flit)) → is_some (option_map (λ leave. leave.0) o) ≡ is_some o
 some_mapped None = refl
@@ -59,7 +74,7 @@ some_if false x e = absurd (cc)
 
 -- a channel that may send could send, to the output port that it holds
 out_told : (s : InRecord) (some way : Bool)
-    → (if (is_some (port_held s) && some) && not (holds s && not way) then port_held s else None)
+    → (if (is_some (port_held s) && some) && way then port_held s else None)
     ≡ (if some then (if way then port_held s else None) else None)
 out_told Idle true true = refl
 out_told Idle true false = refl
@@ -72,7 +87,7 @@ out_told (Active o c) true false = refl
 out_told (Active o c) false way = refl
 
 some_told : (s : InRecord) (some way : Bool)
-    → ((is_some (port_held s) && some) && not (holds s && not way))
+    → ((is_some (port_held s) && some) && way)
     ≡ is_some (if some then (if way then port_held s else None) else None)
 some_told Idle true true = refl
 some_told Idle true false = refl
@@ -85,33 +100,43 @@ some_told (Active o c) true false = refl
 some_told (Active o c) false way = refl
 
 -- a channel that may send holds an output channel
-pub first_of : (a b c : Bool) → ((a && b) && c) ≡ true → a ≡ true
-first_of true b c e = refl
-first_of false b c e = absurd (cc)
+pub first_of : (a b c d : Bool) → (((a && b) && c) && d) ≡ true → a ≡ true
+first_of true b c d e = refl
+first_of false b c d e = absurd (cc)
+
+and_both : (a b c : Bool) → ((a && b) && c) ≡ (a && (b && c))
+and_both true b c = refl
+and_both false b c = refl
 
 module _ (r : RouterState) (sets : BusyChannels) (asked : DemandView) (masks : List ℕ) (ready : ℕ)
     (kept : IsKept r sets asked masks) (are : AreReady sets ready) where
   ready_here : (p v : ℕ) → IsPlace r p v → has ready p v
-      ≡ ((is_some (out_at r p v) && is_occupied (input_at r p v)) && not (is_held_up r p (input_at r p v)))
+      ≡ ((is_some (out_at r p v) && is_occupied (input_at r p v))
+      && free r p (input_at r p v).state (input_at r p v).owed)
   ready_here p v place =
       let few_ports = kept.busy.few_ports in
       let few_channels = kept.busy.few_channels in
       let port_in = place.port_in in
       let vc_in = place.channel_in in
       are p v (omega arith) (omega arith)
-      ∙ ap (λ o. (is_some o && has sets.occupied p v) && not (has sets.held_up p v))
+      ∙ and_both (is_some (cell sets.outs p v None) && has sets.occupied p v) (not (has sets.no_credit p v))
+      (not (has sets.owes_all p v))
+      ∙ ap (λ o. (is_some o && has sets.occupied p v) && (not (has sets.no_credit p v) && not (has sets.owes_all p v)))
       (ap (λ t. cell t p v None) kept.outs ∙ cell_is r None (out_at r) p v few_ports few_channels place)
-      ∙ ap (λ b. (is_some (out_at r p v) && b) && not (has sets.held_up p v))
+      ∙ ap (λ b. (is_some (out_at r p v) && b) && (not (has sets.no_credit p v) && not (has sets.owes_all p v)))
       (kept.busy.occupied.inside p v port_in vc_in)
-      ∙ ap (λ b. (is_some (out_at r p v) && is_occupied (input_at r p v)) && not b)
-      (kept.held_up.each p v port_in vc_in)
+      ∙ ap (λ b. (is_some (out_at r p v) && is_occupied (input_at r p v)) && (not b && not (has sets.owes_all p v)))
+      (kept.no_credit.each p v port_in vc_in)
+      ∙ ap (λ b. (is_some (out_at r p v) && is_occupied (input_at r p v))
+      && (not (lacks_credit r (input_at r p v).state) && not b))
+      (kept.owes_all.each p v port_in vc_in)
 
   -- the set has a channel where its front may leave
   ready_leaves : (p v : ℕ) → IsPlace r p v → has ready p v ≡ is_some (leaving r p v)
   ready_leaves p v place =
       ready_here p v place
       ∙ some_told (input_at r p v).state (is_occupied (input_at r p v))
-      (could_send r p (input_at r p v).state (input_at r p v).owed)
+      (free r p (input_at r p v).state (input_at r p v).owed)
       ∙ sym (ap is_some (ready_parts r p (input_at r p v) (input_at r p v).state (input_at r p v).buffer))
       ∙ some_mapped (leaving r p v)
 
@@ -140,7 +165,7 @@ module _ (r : RouterState) (sets : BusyChannels) (asked : DemandView) (masks : L
           ap (λ b. if b then out_at r p v else None)
           (ready_here p v (record { port_in = grind arith; channel_in = grind arith }))
           ∙ out_told (input_at r p v).state (is_occupied (input_at r p v))
-          (could_send r p (input_at r p v).state (input_at r p v).owed)
+          (free r p (input_at r p v).state (input_at r p v).owed)
           ∙ sym (ready_parts r p (input_at r p v) (input_at r p v).state (input_at r p v).buffer)
       by_test p v true false e g = sym (none_either (has ready p v))
       by_test p v false b e g = sym (none_either (has ready p v))

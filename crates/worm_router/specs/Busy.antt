@@ -59,10 +59,12 @@ pub record AreBusy (terminal width depth : ℕ) (inputs : List ChannelState) (se
   pub occupied : IsSetIn is_occupied terminal width depth inputs sets.occupied
   pub owing : IsSetIn owes terminal width depth inputs sets.owing
 
--- a set has the channels that may send: they hold an output channel, have a flit and are not held up
+-- a set has the channels that may send: they hold an output channel, have a flit, lack no credit and do not owe all that
+-- they may
 abbrev pub AreReady : BusyChannels → ℕ → Type 0
 AreReady sets set = (p v : ℕ) → p < 7 → v < 8
-    → has set p v ≡ ((is_some (cell sets.outs p v None) && has sets.occupied p v) && not (has sets.held_up p v))
+    → has set p v ≡ (((is_some (cell sets.outs p v None) && has sets.occupied p v) && not (has sets.no_credit p v))
+    && not (has sets.owes_all p v))
 
 -- a set has changed at one channel alone, if at all, which is now in it or not
 pub record IsFiled (old new port vc : ℕ) (within : Bool) : Type 0 where
@@ -74,21 +76,35 @@ abbrev pub IsHolder : ℕ → ℕ → Option (ℕ × ℕ) → Type 0
 IsHolder terminal width None = Unit {0}
 IsHolder terminal width (Some h) = (h.0 ≤ terminal) × (h.1 < width)
 
--- each input channel that holds an output channel is its holder
+-- each input channel that holds an output channel is its holder, and no other is
 pub record AreHolders (r : RouterState) : Type 0 where
   pub held : (p v o c : ℕ) → p ≤ terminal r → v < width r → (input_at r p v).state ≡ Active o c
       → (output_at r o c).holder ≡ Some (p, v)
+  pub holds : (o c : ℕ) (h : ℕ × ℕ) → o ≤ terminal r → c < width r → (output_at r o c).holder ≡ Some h
+      → (input_at r h.0 h.1).state ≡ Active o c
   pub fit : All (λ u. IsHolder (terminal r) (width r) u.holder) r.outputs
 
--- there is a credit for a flit of a channel in this state, at the output channel that it holds
-abbrev pub has_way : RouterState → InRecord → Bool
-has_way r Idle = false
-has_way r (Waiting o) = false
-has_way r (Active o c) = o == terminal r || nat_lt 0 (output_at r o c).credits
+-- a channel in this state holds an output channel, and has no credit there
+abbrev pub lacks_credit : RouterState → InRecord → Bool
+lacks_credit r Idle = false
+lacks_credit r (Waiting o) = false
+lacks_credit r (Active o c) = not (o == terminal r || nat_lt 0 (output_at r o c).credits)
 
--- and so many credits owed leave room for one more
-abbrev pub could_send : RouterState → ℕ → InRecord → ℕ → Bool
-could_send r port s owed = has_way r s && (port == terminal r || nat_lt owed r.depth)
+-- so many credits owed by a channel of this port leave no room for one more
+abbrev pub owes_all : RouterState → ℕ → ℕ → Bool
+owes_all r port owed = not (port == terminal r || nat_lt owed r.depth)
+
+-- a set has those channels of a router that pass a test, and none of its others
+pub record AreThose (test : ℕ → ChannelState → Bool) (r : RouterState) (set : ℕ) : Type 0 where
+  pub each : (p v : ℕ) → p ≤ terminal r → v < width r → has set p v ≡ test p (input_at r p v)
+
+-- a set has those that lack a credit
+abbrev pub LackCredit : RouterState → ℕ → Type 0
+LackCredit r set = AreThose (λ p c. lacks_credit r c.state) r set
+
+-- a set has those that owe all that they may
+abbrev pub OweAll : RouterState → ℕ → Type 0
+OweAll r set = AreThose (λ p c. owes_all r p c.owed) r set
 
 -- the output port whose channel an input channel holds
 abbrev pub port_held : InRecord → Option ℕ
@@ -96,43 +112,9 @@ port_held Idle = None
 port_held (Waiting o) = None
 port_held (Active o c) = Some o
 
--- the output port that a channel of this port could send to, in this state and with so many credits owed
-abbrev pub could_send_to : RouterState → ℕ → InRecord → ℕ → Option ℕ
-could_send_to r port s owed = if could_send r port s owed then port_held s else None
-
 -- the output port of each channel that holds an output channel
 abbrev pub held_outs : RouterState → List (List (Option ℕ))
 held_outs r = table (within r None (λ p v. port_held (input_at r p v).state))
-
--- a channel of this port holds an output channel and may not send
-abbrev pub is_held_up : RouterState → ℕ → ChannelState → Bool
-is_held_up r port c = is_active c && not (could_send r port c.state c.owed)
-
--- a set has those channels of a router, and none of its others
-pub record AreHeldUp (r : RouterState) (set : ℕ) : Type 0 where
-  pub each : (p v : ℕ) → p ≤ terminal r → v < width r → has set p v ≡ is_held_up r p (input_at r p v)
-
--- it holds this output channel
-abbrev pub is_of : InRecord → ℕ → ℕ → Bool
-is_of Idle out vc = false
-is_of (Waiting o) out vc = false
-is_of (Active o c) out vc = o == out && c == vc
-
--- the holder of an output channel, where it waits for nothing but a credit there
-abbrev pub due : RouterState → ℕ → ℕ → Option (ℕ × ℕ) → Option (ℕ × ℕ)
-due r out vc None = None
-due r out vc (Some h) =
-    if is_of (input_at r h.0 h.1).state out vc && (h.0 == terminal r || nat_lt (input_at r h.0 h.1).owed r.depth)
-    then Some h else None
-
--- the input channel that is held up no more as soon as an output channel has one credit more
-abbrev pub freed_by : RouterState → ℕ → ℕ → Option (ℕ × ℕ)
-freed_by r out vc =
-    if nat_lt 0 (output_at r out vc).credits then None else due r out vc (output_at r out vc).holder
-
-abbrev pub is_it : Option (ℕ × ℕ) → ℕ → ℕ → Bool
-is_it None p v = false
-is_it (Some h) p v = p == h.0 && v == h.1
 
 -- the channels of each class, as a bit for each
 pub record AreMasks (channels masks : List ℕ) : Type 0 where
@@ -158,5 +140,6 @@ pub record IsKept (r : RouterState) (sets : BusyChannels) (asked : DemandView) (
   pub fronts : All HasFront r.inputs
   pub holders : AreHolders r
   pub outs : sets.outs ≡ held_outs r
-  pub held_up : AreHeldUp r sets.held_up
+  pub no_credit : LackCredit r sets.no_credit
+  pub owes_all : OweAll r sets.owes_all
   pub classes : AreMasks r.channels masks

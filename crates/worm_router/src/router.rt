@@ -11,7 +11,6 @@ ghost use Rattle.worm_router.specs.Router.{after_send, after_gave, after_credit}
 ghost use Rattle.worm_router.specs.Busy.{IsSetOf, AreMasks, is_occupied, is_waiting, is_active, owes};
 
 mod allocation;
-mod readiness;
 mod rest;
 
 use crate::busy::BusyChannels;
@@ -97,18 +96,6 @@ fn make_outputs(alloc: Global, count: usize, depth: u8) -> Result<Vec<OutRecord>
         })?;
     }
     Ok(outputs)
-}
-
-/// Whether a flit may follow one that left: there is a credit for it, and room for one more owed. `more_owed` and
-/// `spent` are what a flit costs.
-fn may_follow(owed: u8, more_owed: u8, credits: u8, spent: u8, depth: u8) -> bool
-    requires spent { spent ≤ 1 }
-    requires more_owed { more_owed ≤ 1 }
-    requires owed { owed ≤ depth }
-    requires depth { depth ≤ 16 }
-    ensures { result ≡ ((spent == 0 || nat_lt 0 credits) && (more_owed == 0 || nat_lt owed depth)) }
-{
-    credits >= spent && owed + more_owed <= depth
 }
 
 /// The channels of each class, as a bit for each. A class that is not there has none.
@@ -360,14 +347,14 @@ impl Router {
     {
         let i = self.line(port, vc);
         let o = self.line(out, out_vc);
-        let may_send = self.could_send_by(port, vc, out, out_vc);
+        let cost = self.credit_of(out);
         let channel = &mut self.inputs[i];
         channel.activate(out_vc);
         self.busy.outs.set(port, vc, Some(out));
-        self.busy.held_up.put(port, vc, !may_send);
         self.demand.meet(port, vc, out, out_vc);
         let output = &mut self.outputs[o];
         output.grant(port, vc);
+        self.busy.no_credit.put(port, vc, output.credits < cost);
     }
 
     /// A waiting channel gets channel `out_vc` of the port that it waits for, where that is free and owned by the class
@@ -434,15 +421,15 @@ impl Router {
         let output = &mut self.outputs[o];
         // `spend_credit` behind a test whether one is spent takes 0.7 percent more instructions over a whole run.
         output.credits -= spent;
-        self.busy.file_left(port, vc, channel);
+        let owes_all = channel.owed() + more_owed > self.depth;
+        self.busy.file_left(port, vc, channel, owes_all);
         if is_closing(flit.kind) {
             channel.close();
             output.release();
             self.busy.outs.set(port, vc, None);
             self.demand.release(out, flit.vc);
         } else {
-            let follows = may_follow(channel.owed(), more_owed, output.credits, spent, self.depth);
-            self.busy.file_follower(port, vc, follows);
+            self.busy.no_credit.put(port, vc, output.credits < spent);
         }
     }
 
@@ -468,10 +455,9 @@ impl Router {
         ensures { self.new ≡ after_gave self.old port vc }
     {
         let i = self.line(port, vc);
-        let freed = self.waits_to_owe_less(port, vc);
         let channel = &mut self.inputs[i];
         channel.give();
-        self.busy.file_given(port, vc, channel, freed);
+        self.busy.file_given(port, vc, channel);
     }
 
     /// A credit has come back for this output channel. `TooMany` exactly where its count is the depth, as at the
@@ -487,10 +473,10 @@ impl Router {
         if self.outputs[o].credits == depth {
             return Err(TooMany);
         }
-        let freed = self.waits_for_credit(out_port, vc);
         let output = &mut self.outputs[o];
         output.add_credit(depth);
-        self.busy.file_credit(freed);
+        let holder = output.holder;
+        self.busy.file_credit(holder);
         Ok(())
     }
 }

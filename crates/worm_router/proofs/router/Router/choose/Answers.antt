@@ -28,9 +28,14 @@ invariant_of-self c = record {
   busy = c.self.invariant.busy;
   demand = record { requests = c.self.invariant.demand.requests; free = c.self.invariant.demand.free };
   fronts = c.self.invariant.fronts;
-  holders = record { held = c.self.invariant.holders.held; fit = c.self.invariant.holders.fit };
+  holders = record {
+    held = c.self.invariant.holders.held;
+    holds = c.self.invariant.holders.holds;
+    fit = c.self.invariant.holders.fit;
+  };
   outs = c.self.invariant.outs;
-  held_up = record { each = c.self.invariant.held_up.each };
+  no_credit = record { each = c.self.invariant.no_credit.each };
+  owes_all = record { each = c.self.invariant.owes_all.each };
   classes = c.self.invariant.classes;
 }
 
@@ -56,4 +61,4 @@ returns-clause-matching c =
     (told c) c.grant.ensures.matching)
 
 pub new-ready-requires : goal.new-ready-requires
-new-ready-requires c = λ p v p_in v_in there. first_of _ _ _ (sym (c.ready-among.ensures p v p_in v_in) ∙ there)
+new-ready-requires c = λ p v p_in v_in there. first_of _ _ _ _ (sym (c.ready-among.ensures p v p_in v_in) ∙ there)

@@ -7,7 +7,8 @@ use Rattle.worm_router.proofs.Places.{output_of}
 use Rattle.worm_router.specs.declared.busy.BusyChannels.{BusyChannels}
 use Rattle.worm_router.proofs.Filed.{busy_as}
 use Rattle.worm_router.proofs.Holders.{holders_out}
-use Rattle.worm_router.proofs.Freed.{credit_filed, credited_as, freed_fits}
+use Rattle.worm_vcalloc.specs.ChannelSet.{has}
+use Rattle.worm_router.proofs.LackCredit.{lack_credited, holder_fits}
 use Rattle.worm_router.proofs.Demanded.{free_kept}
 use Rattle.worm_router.proofs.router.Router.credit.Goals as goal
 
@@ -48,18 +49,19 @@ invariant_of-self c =
           (ap (λ (u : OutRecord). u.holder) c.add_credit.ensures) c.self.invariant.holders;
       classes = c.self.invariant.classes;
       outs = ap (λ (b : BusyChannels). b.outs) c.file_credit.ensures.others ∙ c.self.invariant.outs;
-      held_up = credit_filed _ _ c.args.self.now _ _ _ _ c.waits_for_credit-freed.result c.self.view_is
-          (credited_as _ c.args.self.now _ _ _ _ _ c.self.view_is output c.add_credit.ensures)
-          (subst (λ k. k < length c.self.inside.outputs.items) output.at within) output.place
+      no_credit = lack_credited _ _ _ _ _ _ output (ap (λ (u : OutRecord). u.credits) c.add_credit.ensures)
           c.self.invariant.busy.few_ports c.self.invariant.busy.few_channels c.self.invariant.router
-          c.self.invariant.holders c.waits_for_credit-freed.ensures c.file_credit.ensures.held_up
-          c.self.invariant.held_up;
+          c.self.invariant.holders _ _ (ap (λ (u : OutRecord). u.holder) c.add_credit.ensures)
+          c.self.invariant.no_credit c.file_credit.ensures.no_credit;
+      owes_all = record {
+        each = λ p v p_in v_in. ap (λ (b : BusyChannels). has b.owes_all p v) c.file_credit.ensures.others
+            ∙ c.self.invariant.owes_all.each p v p_in v_in;
+      };
     }
 
 pub file_credit-requires : goal.file_credit-requires
 file_credit-requires c =
-    freed_fits _ c.args.self.now _ _ _ _ _ c.self.view_is
-    (output_of _ c.args.self.now c.args.out_port c.args.vc c.line-o.result c.index_mut-output.result.now
-    c.self.view_is c.requires c.line-o.ensures.value c.line-o.ensures.in_outputs c.index_mut-output.ensures.value)
+    holder_fits _ _ _ _ _ _ (output_of _ c.args.self.now c.args.out_port c.args.vc c.line-o.result
+    c.index_mut-output.result.now c.self.view_is c.requires c.line-o.ensures.value c.line-o.ensures.in_outputs
+    c.index_mut-output.ensures.value) (ap (λ (u : OutRecord). u.holder) c.add_credit.ensures)
     c.self.invariant.busy.few_ports c.self.invariant.busy.few_channels c.self.invariant.holders
-    c.waits_for_credit-freed.ensures

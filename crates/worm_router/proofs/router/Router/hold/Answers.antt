@@ -4,23 +4,22 @@ use Rattle.std.proofs.Common.{ap, sym, inr, refl}
 use Rattle.std.proofs.lemmas.Grind.{common_steps, elements}
 use Rattle.worm_records.specs.declared.InRecord.TheVariants.{Active, Waiting}
 use Rattle.worm_records.specs.declared.OutRecord.{OutRecord}
-use Rattle.worm_router.specs.Router.{RouterState, ChannelState, router_state, free_output, in_state}
+use Rattle.worm_router.specs.Router.{RouterState, ChannelState, credit_of, free_output, in_state}
 use Rattle.worm_router.specs.Allocation.{asking}
 use Rattle.worm_router.specs.Demand.{DemandView}
-use Rattle.worm_router.specs.Busy.{HasFront, could_send, port_held, is_occupied, is_waiting, owes}
+use Rattle.worm_router.specs.Busy.{HasFront, port_held, is_occupied, is_waiting, owes}
 use Rattle.worm_router.proofs.Places.{input_of, output_of, output_read}
 use Rattle.worm_router.proofs.Kept.{full_after, full_before, input_read}
 use Rattle.worm_router.proofs.Filed.{busy_filed, filed}
 use Rattle.worm_router.proofs.Holders.{holders_held}
 use Rattle.worm_router.proofs.Demanded.{requests_put, asked_for, free_put}
 use Rattle.worm_router.proofs.HeldOuts.{outs_put}
-use Rattle.worm_router.proofs.HeldUp.{held_granted}
+use Rattle.worm_router.proofs.LackCredit.{lack_held}
+use Rattle.worm_router.proofs.OweAll.{owe_stay}
 use Rattle.worm_router.proofs.router.Router.hold.Goals as goal
 
 pub invariant_of-self : goal.invariant_of-self
 invariant_of-self c =
-    let at : RouterState = router_state c.self.inside.mesh c.self.inside.node c.self.inside.classes c.self.inside.depth
-    c.self.inside.inputs.items c.self.inside.outputs.items c.self.inside.channel_alloc c.self.inside.switch_alloc in
     let within : c.line-o.result < length c.self.inside.outputs.items = grind (arith, common_steps) in
     let input = input_of _ c.args.self.now c.args.port c.args.vc c.line-i.result c.index_mut-channel.result.now
     c.self.view_is c.requires.place c.line-i.ensures.value c.line-i.ensures.in_inputs
@@ -36,13 +35,6 @@ invariant_of-self c =
     ap (λ (x : ChannelState). x.state) here ∙ c.requires.waits in
     let active : c.activate.new.self ≡ in_state c.index_mut-channel.result.now (Active c.args.out c.args.out_vc) =
     c.activate.ensures c.args.out waits in
-    let may : c.could_send_by-may_send.result ≡ could_send at c.args.port (Active c.args.out c.args.out_vc)
-    c.index_mut-channel.result.now.owed =
-    c.could_send_by-may_send.ensures
-    ∙ sym (ap (λ (x : ChannelState). could_send c.args.self.now c.args.port (Active c.args.out c.args.out_vc) x.owed)
-    here)
-    ∙ sym (ap (λ (r : RouterState). could_send r c.args.port (Active c.args.out c.args.out_vc)
-    c.index_mut-channel.result.now.owed) c.self.view_is) in
     record {
       router = record {
         lists = record {
@@ -77,15 +69,21 @@ invariant_of-self c =
       fronts = All-set HasFront c.self.inside.inputs.items c.line-i.result c.activate.new.self
           (λ waiting. let no : true ≡ false = sym waiting ∙ ap is_waiting active in absurd (cc))
           c.self.invariant.fronts;
-      holders = holders_held _ _ _ _ _ _ _ _ _ _ _ input output (ap (λ (x : ChannelState). x.state) active)
+      holders = holders_held _ _ _ _ _ _ _ _ _ _ _ input output
+          (λ o k holds. let unlike = sym waits ∙ holds in absurd (cc)) (ap (λ (x : ChannelState). x.state) active)
           (ap (λ (v : OutRecord). v.holder) read ∙ c.requires.free)
           (ap (λ (v : OutRecord). v.holder) c.grant.ensures) c.self.invariant.holders;
       classes = c.self.invariant.classes;
       outs = outs_put _ _ _ _ _ _ input _ _ _ c.self.invariant.busy.few_ports c.self.invariant.busy.few_channels
           c.set.ensures (ap (λ (x : ChannelState). port_held x.state) active) c.self.invariant.outs;
-      held_up = held_granted _ _ _ _ _ _ input c.self.invariant.busy.few_ports c.self.invariant.busy.few_channels
-          _ _ _ _ _ _ _ c.could_send_by-may_send.result output active may
-          (filed _ _ _ _ _ c.put.ensures) (ap (λ (v : OutRecord). v.credits) c.grant.ensures) c.self.invariant.held_up;
+      no_credit = lack_held _ _ _ _ _ _ input c.self.invariant.busy.few_ports c.self.invariant.busy.few_channels
+          _ _ _ _ _ output c.credit_of-cost.result _ _ (ap (λ (x : ChannelState). x.state) active)
+          (c.credit_of-cost.ensures.value ∙ ap (λ (r : RouterState). credit_of r c.args.out) (sym c.self.view_is))
+          (filed _ _ _ _ _ c.put.ensures)
+          (λ h held. let unlike = sym (ap (λ (v : OutRecord). v.holder) read ∙ c.requires.free) ∙ held in absurd (cc))
+          c.self.invariant.holders c.self.invariant.no_credit;
+      owes_all = owe_stay _ _ _ _ _ _ input c.self.invariant.busy.few_ports c.self.invariant.busy.few_channels _ _ _
+          refl (ap (λ (x : ChannelState). x.owed) active) c.self.invariant.owes_all;
     }
 
 pub meet-requires-clause-asks : goal.meet-requires-clause-asks

@@ -1,8 +1,7 @@
-use Rattle.std.proofs.Common.{◌==◌, ◌&&◌, ◌||◌, ◌-◌, nat_lt, ℕ, Option, arith}
-use Rattle.std.proofs.Common.{ap, ◌∙◌}
+use Rattle.std.proofs.Common.{◌+◌, nat_lt, ℕ, Option, ap, ◌∙◌, subst}
 use Rattle.std.specs.Prelude.{is_some}
-use Rattle.worm_vcalloc.specs.ChannelSet.{has}
-use Rattle.worm_router.specs.declared.busy.BusyChannels.{BusyChannels}
+use Rattle.worm_router.specs.Busy.{IsFiled}
+use Rattle.worm_router.proofs.Filed.{filed}
 use Rattle.worm_router.specs.Router.{RouterState, ChannelState, router_state}
 use Rattle.worm_router.proofs.Left.{IsLeaving, IsOut, leaving_of, closed_kept, followed_kept}
 use Rattle.worm_router.proofs.router.Router.let_out.Goals.{After-file_left}
@@ -35,25 +34,16 @@ pub release-requires : goal.release-requires
 release-requires c =
     ap (λ (h : Option (ℕ × ℕ)). is_some h) (leaves (goal.at.release-requires c).After-file_left).its
 
-pub may_follow-follows-requires-clause-owed : goal.may_follow-follows-requires-clause-owed
-may_follow-follows-requires-clause-owed c =
-    let it = leaves (goal.at.may_follow-follows-requires-clause-owed c).After-file_left in
-    let owed = ap (λ (k : ChannelState). k.owed) c.let_out.ensures in
-    omega (arith, it.may_owe, owed, c.owed.ensures)
-
-pub file_follower-requires-clause-could_send : goal.file_follower-requires-clause-could_send
-file_follower-requires-clause-could_send c =
-    ap (λ (b : BusyChannels). has b.held_up c.args.port c.args.vc) c.file_left.ensures.others
-    ∙ (leaves (goal.at.file_follower-requires-clause-could_send c).After-file_left).could_send
-
 -- it is out
 out : (c : After-file_left)
-    → IsOut c.self.inside.busy c.file_left.new.self c.args.port c.args.vc c.index_mut-channel.result.now
+    → IsOut c.self.inside.depth c.self.inside.busy c.file_left.new.self c.args.port c.args.vc c.index_mut-channel.result.now
     c.let_out.new.self c.args.flit c.credit_of-more_owed.result
 out c = record {
   gone_is = c.let_out.ensures;
   occupied = c.file_left.ensures.occupied;
   owing = c.file_left.ensures.owing;
+  owes_all = subst (λ n. IsFiled c.self.inside.busy.owes_all c.file_left.new.self.owes_all c.args.port c.args.vc
+      (nat_lt c.self.inside.depth (n + c.credit_of-more_owed.result))) c.owed.ensures c.file_left.ensures.owes_all;
   others = c.file_left.ensures.others;
 }
 
@@ -66,8 +56,5 @@ invariant_of-self c =
 pub invariant_of-self-else-is_closing : goal.invariant_of-self-else-is_closing
 invariant_of-self-else-is_closing c =
     let at = (goal.at.invariant_of-self-else-is_closing c).After-file_left in
-    followed_kept _ _ _ _ _ _ _ _ _ _ _ _ _ _ _ _ _ c.self.invariant (leaves at) (out at) _ _
-    (c.may_follow-follows.ensures ∙ ap (λ n. (c.credit_of-spent.result == 0 ||
-    nat_lt 0 (c.index_mut-output.result.now.credits - c.credit_of-spent.result)) &&
-    (c.credit_of-more_owed.result == 0 || nat_lt n c.self.inside.depth)) c.owed.ensures)
-    c.file_follower.ensures.held_up c.file_follower.ensures.others
+    followed_kept _ _ _ _ _ _ _ _ _ _ _ _ _ _ _ _ _ c.self.invariant (leaves at) (out at) _
+    (filed _ _ _ _ _ c.put.ensures)

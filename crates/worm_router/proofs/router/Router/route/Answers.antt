@@ -3,7 +3,7 @@ use Rattle.std.proofs.Common.{refl, slice_get, None, Some, sym, ap, ◌∙◌, i
 use Rattle.std.proofs.lemmas.List.Elements.{All-set}
 use Rattle.worm_router.specs.Allocation.{asking}
 use Rattle.worm_router.specs.Demand.{DemandView}
-use Rattle.worm_router.specs.Busy.{HasFront, is_occupied, is_active, owes, holds, port_held, waits}
+use Rattle.worm_router.specs.Busy.{HasFront, is_occupied, owes, port_held, waits}
 use Rattle.worm_router.specs.Router.{ChannelState, RouterState}
 use Rattle.worm_router.proofs.Places.{input_of}
 use Rattle.worm_router.proofs.Kept.{input_set_sound, read_sound, waiting_sound}
@@ -12,7 +12,8 @@ use Rattle.worm_records.specs.declared.InRecord.TheVariants.{Idle}
 use Rattle.worm_router.proofs.Holders.{holders_in}
 use Rattle.worm_router.proofs.Demanded.{requests_put, asked_nothing, asks_by_front, front_there}
 use Rattle.worm_router.proofs.HeldOuts.{outs_kept}
-use Rattle.worm_router.proofs.HeldUp.{held_waiting}
+use Rattle.worm_router.proofs.LackCredit.{lack_waiting}
+use Rattle.worm_router.proofs.OweAll.{owe_stay}
 use Rattle.worm_router.proofs.router.Router.route.Goals as goal
 use Rattle.worm_router.proofs.router.Router.route.Goals.{in-Idle, in_default}
 
@@ -52,11 +53,8 @@ invariant_of-self c =
       | in-Idle w ↦ w.in-Idle.is
       | in_default w ↦ absurd (cc)
     ] in
-    let was_unheld : port_held c.index_mut-channel.result.now.state ≡ None =
-    ap (λ (x : ChannelState). port_held x.state) (input.was ∙ sym read.was)
-    ∙ ap port_held (sym c.state.ensures ∙ idle) in
-    let was_idle : is_active c.index_mut-channel.result.now ≡ false =
-    ap is_active (input.was ∙ sym read.was) ∙ ap holds (sym c.state.ensures ∙ idle) in
+    let was_idle : c.index_mut-channel.result.now.state ≡ Idle =
+    ap (λ (x : ChannelState). x.state) (input.was ∙ sym read.was) ∙ sym c.state.ensures ∙ idle in
     let front : slice_get c.index_mut-channel.result.now.buffer 0 ≡ Some c.in-Some.front =
     ap (λ (x : ChannelState). slice_get x.buffer 0) (input.was ∙ sym read.was) ∙ sym c.flit_at.ensures ∙ c.in-Some.is in
     let allowed : c.mask-allowed.result ≡ class_bits c.self.inside.classes c.in-Some.front.lane.class =
@@ -85,10 +83,12 @@ invariant_of-self c =
           (λ waiting. ap is_occupied c.route_to.ensures ∙ front_there _ _ front) c.self.invariant.fronts;
       holders = holders_in _ _ _ _ _ _ input
           (λ o k holds. let unlike = sym (ap (λ (x : ChannelState). x.state) c.route_to.ensures) ∙ holds in
-          absurd (cc)) c.self.invariant.holders;
+          absurd (cc)) (λ o k holds. let unlike = sym was_idle ∙ holds in absurd (cc)) c.self.invariant.holders;
       classes = c.self.invariant.classes;
       outs = outs_kept _ _ _ _ _ _ input _ (ap (λ (x : ChannelState). port_held x.state) c.route_to.ensures
-          ∙ sym was_unheld) c.self.invariant.outs;
-      held_up = held_waiting _ _ _ _ _ _ input c.self.invariant.busy.few_ports c.self.invariant.busy.few_channels _
-          was_idle (ap is_active c.route_to.ensures) c.self.invariant.held_up;
+          ∙ sym (ap port_held was_idle)) c.self.invariant.outs;
+      no_credit = lack_waiting _ _ _ _ _ _ input c.self.invariant.busy.few_ports c.self.invariant.busy.few_channels _ _
+          refl _ was_idle (ap (λ (x : ChannelState). x.state) c.route_to.ensures) c.self.invariant.no_credit;
+      owes_all = owe_stay _ _ _ _ _ _ input c.self.invariant.busy.few_ports c.self.invariant.busy.few_channels _ _ _
+          refl (ap (λ (x : ChannelState). x.owed) c.route_to.ensures) c.self.invariant.owes_all;
     }
