@@ -1,7 +1,7 @@
 use Rattle.std.proofs.Common.{arith, ap, ◌∙◌, sym, subst}
 use Rattle.worm_swalloc.specs.SwAlloc.{SwAllocState, AreRequested, granted_of}
 use Rattle.worm_swalloc.proofs.GrantsOfSet.{none_granted, none_requested}
-use Rattle.worm_swalloc.proofs.ChoicesByPort.{ChosenBelow, ChoosingBelow, choosing_start, choosing_more, choosing_all}
+use Rattle.worm_swalloc.proofs.ChoicesByPort.{ChoosingBelow, choosing_start, choosing_more, choosing_all}
 use Rattle.worm_swalloc.proofs.sw_alloc.SwAlloc.grant_named.Goals as goal
 
 pub loop-out-init : goal.loop-out-init
@@ -40,30 +40,22 @@ loop-out-preserved-then-out-ports c =
     )
 
 -- all have chosen
-chosen_all : (c : goal.In_default)
-    → ChosenBelow (record {
-      ports = c.self.inside.ports;
-      channels = c.self.inside.channels;
-      inputs = c.self.inside.inputs;
-      outputs = c.self.inside.outputs;
-    }) c.args.named.now c.self.inside.ports c.loop-out.self
-    (granted_of c.args.named.now c.loop-out.granted)
-chosen_all c =
+pub returns : goal.returns
+returns c =
     let s : SwAllocState = record {
       ports = c.self.inside.ports;
       channels = c.self.inside.channels;
       inputs = c.self.inside.inputs;
       outputs = c.self.inside.outputs;
     } in
+    let few = c.self.invariant.few_ports in
     let b : ChoosingBelow s c.args.named.now c.askers-askers.result c.loop-out.left c.loop-out.self
     (granted_of c.args.named.now c.loop-out.granted) = rw (← c.self.view_is) at c.loop-out.invariant.0 in
-    let few = c.self.invariant.few_ports in
-    choosing_all s c.args.named.now c.askers-askers.result c.loop-out.left c.loop-out.self
-    (granted_of c.args.named.now c.loop-out.granted)
-    c.self.invariant (omega arith) c.askers-askers.ensures b c.in_default.ensures.0
-
-pub returns-clause-grants : goal.returns-clause-grants
-returns-clause-grants c = rw (← c.self.view_is) (chosen_all c).grants_are
-
-pub returns-clause-after : goal.returns-clause-after
-returns-clause-after c = rw (← c.self.view_is) (chosen_all c).state
+    let all = choosing_all s c.args.named.now c.askers-askers.result c.loop-out.left c.loop-out.self
+    (granted_of c.args.named.now c.loop-out.granted) c.self.invariant (omega arith) c.askers-askers.ensures b
+    c.in_default.ensures.0 in
+    record {
+      requested = c.loop-out.invariant.1;
+      grants = rw (← c.self.view_is) all.grants_are;
+      after = rw (← c.self.view_is) all.state;
+    }
