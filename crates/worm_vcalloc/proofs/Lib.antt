@@ -5,5 +5,6 @@ pub mod TableCells
 pub mod PlacesPassing
 pub mod RequestsFiled
 pub mod PassAgrees
+pub mod ArbitersStay
 pub mod PassMatches
 pub mod RequestersGathered

@@ -6,7 +6,7 @@ use Rattle.std.specs.List.{range_with_len}
 use Rattle.std.proofs.lemmas.Bool.{cases_eq, cases_Bool, eqb-true, and_parts, and_from, true≢false}
 use Rattle.std.proofs.lemmas.Nat.{div-mul-add, mod-mul-add}
 use Rattle.worm_vcalloc.specs.declared.request.VcRequest.{VcRequest}
-use Rattle.worm_vcalloc.specs.Arbiter.{ArbiterState, after_pick, no_arbiter}
+use Rattle.worm_vcalloc.specs.Arbiter.{ArbiterState, no_arbiter}
 use Rattle.worm_vcalloc.specs.Table.{cell, with_cell, IsTable}
 use Rattle.worm_vcalloc.specs.VcRequest.{may_use, is_for}
 use Rattle.worm_vcalloc.specs.VcAlloc.{VcAllocState, VcPass, IsVcAlloc, HasWon, IsChannelMatching, with_grant}
@@ -15,6 +15,7 @@ use Rattle.worm_vcalloc.proofs.TableCells.{IsTable-replicate, IsTable-with_cell,
 use Rattle.worm_vcalloc.proofs.TableCells.{cell-with_cell_other, cell-with_cell_keeps, cell-replicate}
 use Rattle.worm_vcalloc.proofs.Winner.{winner_requests, winner_none_requests}
 use Rattle.worm_vcalloc.proofs.LineByLine.{at_line, line_within, line_port}
+use Rattle.worm_vcalloc.proofs.ArbitersStay.{HasWidth, HasWidth-after_pick}
 use Rattle.worm_vcalloc.proofs.PassAgrees.{fold-range_next}
 
 -- ---- one step
@@ -26,19 +27,6 @@ may_use_out r out channel out' channel' a b = one r (and_parts _ _ a).0 (and_par
   one : (r : Option VcRequest) → is_for r out ≡ true → is_for r out' ≡ true → out ≡ out'
   one None e e' = absurd (cc)
   one (Some r) e e' = sym (eqb-true r.out out e) ∙ eqb-true r.out out' e'
-
--- an arbiter of so many lines
-pub record HasWidth (width : ℕ) (a : ArbiterState) : Type 0 where
-  pub wide : a.width ≡ width
-  pub within : a.pointer < width
-
-HasWidth-after_pick : (width : ℕ) (a : ArbiterState) (line : Option ℕ) → HasWidth width a
-    → HasWidth width (after_pick a line)
-HasWidth-after_pick width a None h = h
-HasWidth-after_pick width a (Some line) h = record {
-  wide = h.wide;
-  within = let wide : a.width ≡ width = h.wide in let within = h.within in rw wide (omega arith);
-}
 
 -- a pass that has come to the output channel that is number n
 pub record IsMatchingBelow (ports channels : ℕ) (waiting : List (List (Option VcRequest))) (free : List (List Bool))

@@ -129,29 +129,68 @@ impl VcAlloc {
         ensures ports { self.new.ports ≡ self.old.ports }
         ensures channels { self.new.channels ≡ self.old.channels }
     {
-        let requests = self.requests_for(out, channel, waiting, grants);
-        if let Some(line) = self.arbiters[out as usize][channel as usize].pick(requests) {
-            grants.set(line / self.channels, line % self.channels, Some(channel));
+        let asking = self.requests_for(out, channel, waiting, grants);
+        if let Some(line) = self.arbiters[out as usize][channel as usize].pick(asking.lines) {
+            let (port, vc) = asking.place_of(line, self.channels);
+            grants.set(port, vc, Some(channel));
         }
     }
 
-    /// The lines of the input channels that wait for this output channel and have no grant yet.
-    fn requests_for(&self, out: u8, channel: u8, waiting: &VcRequests, grants: &VcGrants) -> u64
+    /// The input channels that wait for this output channel and have no grant yet.
+    fn requests_for(
+        &self,
+        out: u8,
+        channel: u8,
+        waiting: &VcRequests,
+        grants: &VcGrants,
+    ) -> Requesters
         requires out { out < self.now.ports }
         requires channel { channel < self.now.channels }
-        ensures few { result < 2 ^ (self.now.ports * self.now.channels) }
+        ensures few { result.lines < 2 ^ (self.now.ports * self.now.channels) }
         ensures lines { (line : ℕ) → line < self.now.ports * self.now.channels
-            → line_requests result line ≡ is_requester waiting.now grants.now out channel (line / self.now.channels)
-            (line % self.now.channels) }
+            → line_requests result.lines line
+            ≡ is_requester waiting.now grants.now out channel (line / self.now.channels) (line % self.now.channels) }
+        ensures last_port { result.last.0 < self.now.ports }
+        ensures last_channel { result.last.1 < self.now.channels }
     {
         let (ports, channels) = (self.ports, self.channels);
         let mut lines = 0;
+        let mut last = (0, 0);
         let mut left = waiting.asking_port(out).difference(&grants.keys());
         while let Some((port, vc)) = left.pop_first() {
             if port < ports && vc < channels && waiting.takes(port, vc, channel) {
                 lines |= 1 << (port * channels + vc);
+                last = (port, vc);
             }
         }
-        lines
+        Requesters { lines, last }
+    }
+}
+
+/// The input channels that ask for an output channel.
+#[derive(Clone, Copy)]
+struct Requesters {
+    /// Their lines.
+    lines: u64,
+    /// The one that was found last, by port and channel; where none asks, any of the router's.
+    last: (u8, u8),
+}
+
+impl Requesters {
+    /// The input channel, by port and channel, of a line, where a port has so many channels.
+    fn place_of(&self, line: u8, channels: u8) -> (u8, u8)
+        requires few_channels { channels ≤ 8 }
+        requires last_port { self.now.last.0 < 7 }
+        requires last_channel { self.now.last.1 < channels }
+        ensures port { result.0 ≡ line / channels }
+        ensures channel { result.1 ≡ line % channels }
+    {
+        // Mostly one channel alone asks, which is then the winner, and a division takes as long as a dozen other
+        // instructions.
+        let (port, vc) = self.last;
+        if port * channels + vc == line {
+            return self.last;
+        }
+        (line / channels, line % channels)
     }
 }

@@ -3,6 +3,7 @@ use Rattle.std.proofs.lemmas.List.{get_or_default}
 use Rattle.worm_vcalloc.specs.Arbiter.{ArbiterState, line_requests, no_arbiter}
 use Rattle.worm_vcalloc.specs.Table.{cell, with_cell}
 use Rattle.worm_vcalloc.specs.VcAlloc.{VcAllocState, is_requester, with_grant}
+use Rattle.worm_vcalloc.proofs.ArbitersStay.{IsVcAlloc-picked}
 use Rattle.worm_vcalloc.proofs.PassAgrees.{offer_is}
 use Rattle.worm_vcalloc.proofs.vc_alloc.VcAlloc.offer.Goals as goal
 use Rattle.worm_vcalloc.proofs.vc_alloc.VcAlloc.offer.Goals.{in-Some, in_default}
@@ -26,14 +27,15 @@ returns-clause-pass c =
     let low : a.pointer < c.self.inside.ports * c.self.inside.channels =
     rw here at (c.self.invariant.pointer c.args.out c.args.channel (omega arith) (omega arith)) in
     let lines : (i : ℕ) → i < c.self.inside.ports * c.self.inside.channels
-    → line_requests c.requests_for-requests.result i
+    → line_requests c.requests_for-asking.result.lines i
     ≡ is_requester c.args.waiting.now c.args.grants.now c.args.out c.args.channel (i / c.self.inside.channels)
     (i % c.self.inside.channels)
-    = rw (← c.self.view_is) at c.requests_for-requests.ensures.lines in
+    = rw (← c.self.view_is) at c.requests_for-asking.ensures.lines in
     let granted : c.match-pick.grants ≡ with_grant c.self.inside.channels c.args.grants.now c.args.channel
     c.pick.result =
     elim c.match-pick.branch [
-      | in-Some w ↦ w.grants-is ∙ w.set.ensures
+      | in-Some w ↦ w.grants-is
+          ∙ (rw (w.place_of-port.ensures.port, w.place_of-port.ensures.channel) at w.set.ensures)
           ∙ ap (with_grant c.self.inside.channels c.args.grants.now c.args.channel) (sym w.in-Some.is)
       | in_default w ↦ w.grants-is ∙ ap (with_grant c.self.inside.channels c.args.grants.now c.args.channel)
           (sym w.in_default.is)
@@ -47,6 +49,14 @@ returns-clause-pass c =
       };
       grants = g;
     }) granted
-    ∙ offer_is c.args.waiting.now c.args.grants.now s c.args.out c.args.channel c.requests_for-requests.result a
+    ∙ offer_is c.args.waiting.now c.args.grants.now s c.args.out c.args.channel c.requests_for-asking.result.lines a
     c.pick.new.self c.pick.result
     here (omega arith) (λ i l. lines i (omega arith)) c.pick.ensures.winner c.pick.ensures.pointer)
+
+pub invariant_of-self : goal.invariant_of-self
+invariant_of-self c =
+    let out_in : c.args.out < c.self.inside.ports = rw (← c.self.view_is) at c.requires.out in
+    let channel_in : c.args.channel < c.self.inside.channels = rw (← c.self.view_is) at c.requires.channel in
+    IsVcAlloc-picked c.self.inside.ports c.self.inside.channels c.self.inside.arbiters c.args.out c.args.channel
+    _ c.pick.new.self c.pick.result c.self.invariant out_in channel_in
+    (get_or_default _ c.args.channel no_arbiter c.index-self-out.result (omega arith)) c.pick.ensures.pointer

@@ -9,17 +9,21 @@ use Rattle.worm_vcalloc.proofs.vc_alloc.VcAlloc.requests_for.Goals.{else-port-po
 
 pub loop-port-init : goal.loop-port-init
 loop-port-init c =
+    let none_yet =
     gather_start c.args.waiting.now c.args.grants.now c.args.out c.args.channel c.self.inside.ports
     c.self.inside.channels c.asking_port.result c.keys.result c.difference-left.result
     c.self.invariant.few_ports c.self.invariant.few_channels c.asking_port.ensures c.keys.ensures
-    c.difference-left.ensures
+    c.difference-left.ensures in
+    (none_yet, c.self.invariant.some_port, c.self.invariant.some_channel)
 
 pub loop-port-preserved-then-takes : goal.loop-port-preserved-then-takes
 loop-port-preserved-then-takes c =
+    let one_more =
     gather_more c.args.waiting.now c.args.grants.now c.args.out c.args.channel c.self.inside.ports
     c.self.inside.channels c.loop-port.left c.pop_first.new.self c.loop-port.lines _ c.in-Some.port c.in-Some.vc
-    c.self.invariant.few_ports c.self.invariant.few_channels c.loop-port.invariant c.in-Some.ensures
-    c.if-port-ports.true c.if-vc-channels.true (sym c.takes.ensures ∙ c.if-takes.true) refl
+    c.self.invariant.few_ports c.self.invariant.few_channels c.loop-port.invariant.0 c.in-Some.ensures
+    c.if-port-ports.true c.if-vc-channels.true (sym c.takes.ensures ∙ c.if-takes.true) refl in
+    (one_more, c.if-port-ports.true, c.if-vc-channels.true)
 
 pub loop-port-preserved : goal.loop-port-preserved
 loop-port-preserved c =
@@ -30,13 +34,21 @@ loop-port-preserved c =
       | else-port-ports-via-then-port-ports+else-vc-channels w ↦ absurd (omega (arith, lv, w.if-vc-channels.false))
       | else-port-ports-via-else-port-ports w ↦ absurd (omega (arith, lp, w.if-port-ports.false))
     ] in
+    let same_lines =
     gather_other c.args.waiting.now c.args.grants.now c.args.out c.args.channel c.self.inside.ports
     c.self.inside.channels c.loop-port.left c.pop_first.new.self c.loop-port.lines c.loop-port.lines c.in-Some.port
-    c.in-Some.vc
-    c.self.invariant.few_ports c.self.invariant.few_channels c.loop-port.invariant c.in-Some.ensures refused refl
+    c.in-Some.vc c.self.invariant.few_ports c.self.invariant.few_channels c.loop-port.invariant.0 c.in-Some.ensures
+    refused refl in
+    (same_lines, c.loop-port.invariant.1, c.loop-port.invariant.2)
 
 pub returns-clause-lines : goal.returns-clause-lines
 returns-clause-lines c = rw (← c.self.view_is)
     (gather_all c.args.waiting.now c.args.grants.now c.args.out c.args.channel c.self.inside.ports
     c.self.inside.channels c.loop-port.left c.loop-port.lines
-    c.self.invariant.some_channel c.loop-port.invariant c.in_default.ensures.0)
+    c.self.invariant.some_channel c.loop-port.invariant.0 c.in_default.ensures.0)
+
+pub returns-clause-last_port : goal.returns-clause-last_port
+returns-clause-last_port c = rw (← c.self.view_is) c.loop-port.invariant.1
+
+pub returns-clause-last_channel : goal.returns-clause-last_channel
+returns-clause-last_channel c = rw (← c.self.view_is) c.loop-port.invariant.2

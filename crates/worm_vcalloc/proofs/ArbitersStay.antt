@@ -1,0 +1,43 @@
+-- The arbiters of an allocator keep their lines.
+use Rattle.std.proofs.Common.{◌≡◌, ℕ, ◌*◌, ◌<◌, List, Option, None, Some, arith}
+use Rattle.worm_vcalloc.specs.Arbiter.{ArbiterState, after_pick, no_arbiter}
+use Rattle.worm_vcalloc.specs.Table.{cell, with_cell}
+use Rattle.worm_vcalloc.specs.VcAlloc.{IsVcAlloc}
+use Rattle.worm_vcalloc.proofs.TableCells.{cell-with_cell_keeps}
+
+-- an arbiter of so many lines
+pub record HasWidth (width : ℕ) (a : ArbiterState) : Type 0 where
+  pub wide : a.width ≡ width
+  pub within : a.pointer < width
+
+pub HasWidth-after_pick : (width : ℕ) (a : ArbiterState) (line : Option ℕ) → HasWidth width a
+    → HasWidth width (after_pick a line)
+HasWidth-after_pick width a None h = h
+HasWidth-after_pick width a (Some line) h = record {
+  wide = h.wide;
+  within = let wide : a.width ≡ width = h.wide in let within = h.within in rw wide (omega arith);
+}
+
+-- an allocator is one still where an arbiter of it has picked
+pub IsVcAlloc-picked : (ports channels : ℕ) (arbiters : List (List ArbiterState)) (out channel : ℕ)
+    (old new : ArbiterState) (line : Option ℕ) → IsVcAlloc ports channels arbiters → out < ports
+    → channel < channels → cell arbiters out channel no_arbiter ≡ old → new ≡ after_pick old line
+    → IsVcAlloc ports channels (with_cell arbiters out channel new)
+IsVcAlloc-picked ports channels arbiters out channel old new line v lo lc here moved = record {
+  some_port = v.some_port;
+  few_ports = v.few_ports;
+  some_channel = v.some_channel;
+  few_channels = v.few_channels;
+  width = λ i j li lj. (all i j li lj).wide;
+  pointer = λ i j li lj. (all i j li lj).within;
+} where
+  ready : (i j : ℕ) → i < 7 → j < 8 → HasWidth (ports * channels) (cell arbiters i j no_arbiter)
+  ready i j li lj = record { wide = v.width i j li lj; within = v.pointer i j li lj }
+
+  all : (i j : ℕ) → i < 7 → j < 8
+      → HasWidth (ports * channels) (cell (with_cell arbiters out channel new) i j no_arbiter)
+  all i j li lj =
+      cell-with_cell_keeps (HasWidth (ports * channels)) arbiters out channel i j new no_arbiter
+      (rw (moved, ← here) (HasWidth-after_pick (ports * channels) _ line
+      (ready out channel (omega (arith, v.few_ports)) (omega (arith, v.few_channels)))))
+      (ready i j li lj)
