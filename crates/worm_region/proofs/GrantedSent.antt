@@ -60,7 +60,7 @@ granted_none grants all p are p_in none = by_grant (slice_index_or grants p None
 -- a walk over the ports of a node, at those of which that have a channel left of all that were granted
 pub record Sent (Done : ℕ → Type 0) (all left count : ℕ) : Type 0 where
   pub few : count ≤ 7
-  pub walked : Walked Done (λ p. (v : ℕ) → v < 8 → has left p v ≡ has all p v) (IsPortOut 7 left) count
+  pub walked : Walked Done (λ p. (v : ℕ) → v < 8 → has left p v ≡ has all p v) (IsPortOut left) count
 
 -- a Send that is there is by a port of the node
 send_port : (s : NetState) (x p v : ℕ) → IsWorkable s → IsThere (shape s) (Send x p v) → p ≤ 2 * length s.mesh
@@ -86,7 +86,7 @@ sent_start x all s net there done =
 module _ (grants : List (Option SwGrant)) {Done : ℕ → Type 0} {all left count : ℕ} (are : AreGranted grants all)
     (sent : Sent Done all left count) where
   module _ {new port vc : ℕ} (first : IsFirst left new port vc) where
-    is_in : IsPortOut 7 left port → ⊥
+    is_in : IsPortOut left port → ⊥
     is_in out = true≢false (sym first.was_in ∙ out first.port_in vc first.channel_in)
 
     pub sent_place : (sent.walked.next ≤ port) × (port < count)
@@ -100,7 +100,7 @@ module _ (grants : List (Option SwGrant)) {Done : ℕ → Type 0} {all left coun
     sent_grant = granted_one grants all port vc are first.port_in first.channel_in was_granted
 
     -- with it all channels of its port have come out
-    taken : IsTaken (IsPortOut 7 left) (IsPortOut 7 new) port
+    taken : IsTaken (IsPortOut left) (IsPortOut new) port
     taken = record {
       was_in = is_in;
       none_before = λ p below p_few v v_few. first.none_before p v v_few (omega arith);
@@ -116,7 +116,7 @@ module _ (grants : List (Option SwGrant)) {Done : ℕ → Type 0} {all left coun
     }
 
   module _ (still : (p : ℕ) → slice_index_or grants p None ≡ None → Done p → Done (p + 1)) where
-    stays : (p : ℕ) → p < count → ((v : ℕ) → v < 8 → has left p v ≡ has all p v) → IsPortOut 7 left p → Done p
+    stays : (p : ℕ) → p < count → ((v : ℕ) → v < 8 → has left p v ≡ has all p v) → IsPortOut left p → Done p
         → Done (p + 1)
     stays p p_in same out done =
         let few = sent.few in

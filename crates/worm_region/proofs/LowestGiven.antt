@@ -3,10 +3,12 @@ use Rattle.std.proofs.Common.{◌≡◌, ◌==◌, ℕ, ◌+◌, ◌-◌, ◌*�
 use Rattle.std.proofs.Common.{Some, None, refl, arith, ap, sym, subst, ◌∙◌}
 use Rattle.std.specs.Prelude.{Result}
 use Rattle.std.specs.List.{range_with_len}
-use Rattle.std.proofs.lemmas.Bool.{eq-eqb}
+use Rattle.std.proofs.lemmas.Bool.{eq-eqb, false_from_ne_true}
 use Rattle.std.proofs.lemmas.Bool.Decides.{nat_tests}
 use Rattle.worm_vcalloc.specs.ChannelSet.{has, IsFirstPort, IsLowest}
+use Rattle.worm_vcalloc.proofs.SetMembers.{has-zero}
 use Rattle.worm_mesh.specs.Address.{node_count}
+use Rattle.worm_mesh.proofs.Digits.{AreLarge-from_radices}
 use Rattle.worm_router.specs.Router.{ChannelState, RouterState, input_at, with_input, terminal, width, after_gave}
 use Rattle.worm_router.specs.Busy.{IsSetOf, owes}
 use Rattle.worm_theory.specs.Steps.{GiveCredit}
@@ -21,10 +23,11 @@ use Rattle.worm_region.specs.declared.node.Node.{Node}
 use Rattle.worm_region.specs.declared.step.Moved.{Moved}
 use Rattle.worm_region.specs.declared.fault.StepFault.{StepFault}
 use Rattle.worm_region.proofs.NodeWritten.{node_at-put, input_of-put, input_of-there}
-use Rattle.worm_region.proofs.PlacesThere.{net_place}
+use Rattle.worm_region.proofs.OwesToLinks.{owes_there}
+use Rattle.worm_region.proofs.PlacesThere.{linked_port, net_place}
 use Rattle.worm_region.proofs.ReachedBySteps.{by_made}
 use Rattle.worm_region.proofs.Passages.{loop_more}
-use Rattle.worm_region.proofs.SetWalked.{IsPortOut, IsTaken, Walked}
+use Rattle.worm_region.proofs.SetWalked.{IsPortOut, Walked}
 use Rattle.worm_region.proofs.SetWalked.{port_taken, walked_all, walked_more, walked_place, walked_start}
 use Rattle.worm_region.proofs.TurnInParts.{gives_none, owed_lowest, owing_some}
 
@@ -105,6 +108,17 @@ module _ (owing : ℕ) (s : NetState) (x p : ℕ) (sound : IsWorkable s) (there 
         channels = λ v v_few some. omega (arith, size.1, (set.outside p v (omega arith) v_few some).1);
       }
 
+  -- a port with a channel that owes has a link, so it is below the terminal
+  pub port_owing : (v : ℕ) → IsSetOf owes (router_at s x) owing → p < 7 → v < 8 → has owing p v ≡ true
+      → p < 2 * length s.mesh
+  unfolding net_shape
+  port_owing v set p_few v_few some =
+      let at = set.outside p v p_few v_few some in
+      let wide = (router_size s x sound there).1 in
+      let owes = owing_some (input_at (router_at s x) p v).owed (sym (set.inside p v at.0 at.1) ∙ some) in
+      linked_port s.mesh x p (AreLarge-from_radices s.mesh sound.framed.radices.radices) _ refl
+      (owes_there s x p v sound.framed (omega (arith, at.1)) owes).1
+
   pub lowest_next : (v : ℕ) → OwesAt owing s x p → IsLowest owing p v → IsNext s x p v
   lowest_next v at lowest =
       let v_in = at.channels v lowest.channel_in lowest.is_in in
@@ -147,7 +161,7 @@ pub record Owing (Done : ℕ → Type 0) (x count owing : ℕ) (s : NetState) : 
   pub sound : IsWorkable s
   pub there : x < node_count s.mesh
   pub ports : 2 * length s.mesh ≡ count
-  pub walked : Walked Done (λ p. OwesAt owing s x p) (IsPortOut count owing) count
+  pub walked : Walked Done (λ p. OwesAt owing s x p) (IsPortOut owing) count
 
 pub owing_start : {Done : ℕ → Type 0} (x owing : ℕ) (s : NetState) → IsWorkable s → x < node_count s.mesh
     → IsSetOf owes (router_at s x) owing → Done 0 → Owing Done x (2 * length s.mesh) owing s
@@ -155,35 +169,36 @@ owing_start x owing s sound there set done = record {
   sound = sound;
   there = there;
   ports = refl;
-  walked = walked_start done (λ p past p_in. absurd (omega arith))
+  walked = walked_start done
+      (λ p past p_few v v_few. false_from_ne_true (has owing p v)
+      (λ on. let p_in = port_owing owing s x p sound there v set p_few v_few on in omega arith))
       (λ p p_in. owes_first owing s x p sound there set p_in);
 }
 
 module _ {Done : ℕ → Type 0} {x count owing : ℕ} {s : NetState} (left : Owing Done x count owing s) where
-  module _ {new q : ℕ} (first : IsFirstPort owing new q) (q_in : q < count) where
-    taken : IsTaken (IsPortOut count owing) (IsPortOut count new) q
-    taken =
-        let few = left.sound.framed.radices.few_dims in
-        let ports = left.ports in
-        port_taken (omega arith) q_in first
+  module _ {new q : ℕ} (first : IsFirstPort owing new q) where
+    pub owing_place : (left.walked.next ≤ q) × (q < count)
+    owing_place = walked_place left.walked (port_taken first).was_in
 
     pub owing_next : {v : ℕ} → IsLowest owing q v → IsNext s x q v
     owing_next {v = v} lowest =
-        lowest_next owing s x q left.sound left.there v
-        (left.walked.rest q (walked_place left.walked taken.was_in).0 q_in) lowest
+        lowest_next owing s x q left.sound left.there v (left.walked.rest q owing_place.0 owing_place.1) lowest
 
   module _ (still : (p : ℕ) → None ≡ lowest_owed (router_at s x) p → Done p → Done (p + 1)) where
-    stays : (p : ℕ) → p < count → OwesAt owing s x p → IsPortOut count owing p → Done p → Done (p + 1)
-    stays p p_in at out done = still p (none_lowest owing s x p left.sound left.there at (out p_in)) done
+    stays : (p : ℕ) → p < count → OwesAt owing s x p → IsPortOut owing p → Done p → Done (p + 1)
+    stays p p_in at out done =
+        let few = left.sound.framed.radices.few_dims in
+        let ports = left.ports in
+        still p (none_lowest owing s x p left.sound left.there at (out (omega arith))) done
 
-    pub owing_all : ((p v : ℕ) → p < count → v < 8 → has owing p v ≡ false) → Done count
-    owing_all none = walked_all stays left.walked (λ p p_in v v_few. none p v p_in v_few)
+    pub owing_all : owing ≡ 0 → Done count
+    owing_all none = walked_all stays left.walked (λ p p_few v v_few. ap (λ (n : ℕ). has n p v) none ∙ has-zero p v)
 
-    pub owing_more : {DoneNow : ℕ → Type 0} {new q : ℕ} (first : IsFirstPort owing new q) → q < count
-        → (to : NetState) → IsSameConfig s to → IsWorkable to → (Done q → DoneNow (q + 1))
+    pub owing_more : {DoneNow : ℕ → Type 0} {new q : ℕ} (first : IsFirstPort owing new q) → (to : NetState)
+        → IsSameConfig s to → IsWorkable to → (Done q → DoneNow (q + 1))
         → ((p v : ℕ) → (p ≡ q → ⊥) → v < width (router_at to x) → OwesTheSame s to x p v)
         → Owing DoneNow x count new to
-    owing_more {new = new} {q = q} first q_in to config sound step others =
+    owing_more {new = new} {q = q} first to config sound step others =
         let few = sound.framed.radices.few_dims in
         let mesh = ap (λ (m : List ℕ). 2 * length m) config.mesh ∙ left.ports in
         let there = subst (λ (m : List ℕ). x < node_count m) (sym config.mesh) left.there in
@@ -191,7 +206,7 @@ module _ {Done : ℕ → Type 0} {x count owing : ℕ} {s : NetState} (left : Ow
           sound = sound;
           there = there;
           ports = mesh;
-          walked = walked_more stays q left.walked (taken first q_in) step
+          walked = walked_more stays q left.walked (port_taken first) step
               (λ p above p_in at.
               let away : p ≡ q → ⊥ = λ e. omega arith in
               owes_still new to x p sound there s owing at (ap (λ (cs : List ℕ). sum cs) config.channels)

@@ -112,18 +112,17 @@ number_taken first = record {
   elsewhere = λ n away out n_few. first.taken.elsewhere n n_few away ∙ out n_few;
 }
 
--- of the ports of a set of channels, below a count
+-- of the ports of a set of channels
 
-abbrev pub IsPortOut : ℕ → ℕ → ℕ → Type 0
-IsPortOut count set p = p < count → (v : ℕ) → v < 8 → has_channel set p v ≡ false
+abbrev pub IsPortOut : ℕ → ℕ → Type 0
+IsPortOut set p = p < 7 → (v : ℕ) → v < 8 → has_channel set p v ≡ false
 
-pub port_taken : {count set new first : ℕ} → count ≤ 7 → first < count → IsFirstPort set new first
-    → IsTaken (IsPortOut count set) (IsPortOut count new) first
-port_taken few within port = record {
-  was_in = λ out. true≢false (sym port.some_in.2 ∙ out within port.some_in.0 port.some_in.1);
-  none_before = λ p below p_in v v_few. port.none_before p v below v_few;
-  here = λ p_in. port.taken;
-  elsewhere = λ p away out p_in v v_few. port.elsewhere p v (omega arith) v_few away ∙ out p_in v v_few;
+pub port_taken : {set new first : ℕ} → IsFirstPort set new first → IsTaken (IsPortOut set) (IsPortOut new) first
+port_taken port = record {
+  was_in = λ out. true≢false (sym port.some_in.2 ∙ out port.port_in port.some_in.0 port.some_in.1);
+  none_before = λ p below p_few v v_few. port.none_before p v below v_few;
+  here = λ p_few. port.taken;
+  elsewhere = λ p away out p_few v v_few. port.elsewhere p v p_few v_few away ∙ out p_few v v_few;
 }
 
 -- of a set of channels, the number of each its place, eight to a port

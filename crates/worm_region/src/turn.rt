@@ -216,13 +216,8 @@ impl Region {
         requires whole { self.old.own ≡ sole }
         ensures { Does (GivesCreditsBy Attempts node) self.old None self.new }
     {
-        let terminal = self.terminal();
         let mut left = self.owing(node);
         while let Some((port, vc)) = left.pop_port_lowest() {
-            // The terminal has no link, and owes none.
-            if port >= terminal {
-                return;
-            }
             self.give_credit_at(node, port, vc);
         }
     }

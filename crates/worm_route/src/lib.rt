@@ -12,7 +12,7 @@
 //! stand nowhere here, nor do channels or flits.
 #![tactic(auto)]
 
-ghost use Rattle.std.specs.Prelude.{◌≡◌, ◌≢◌, ◌+◌, ◌*◌, ◌%◌, ◌<◌, ◌≤◌, ◌==◌, ◌↔◌, if◌then◌else◌, length, IsTrue};
+ghost use Rattle.std.specs.Prelude.{◌≡◌, ◌≢◌, ◌+◌, ◌*◌, ◌/◌, ◌%◌, ◌<◌, ◌≤◌, ◌==◌, ◌↔◌, if◌then◌else◌, length, IsTrue};
 ghost use Rattle.worm_mesh.specs.Address.{node_count};
 ghost use Rattle.worm_route.specs.Crossing.{Follows, crosses, steps_down, steps_up};
 ghost use Rattle.worm_route.specs.Places.{ArePlaces, places_of};
@@ -35,15 +35,16 @@ pub fn next_port(mesh: &Mesh, here: u8, dst: u8) -> u8
     let (mut at, mut goal) = (here, dst);
     for d in 0..mesh.dims() {
         let radix = mesh.radix(d);
-        let (digit, aim) = (at % radix, goal % radix);
+        let (digit, at_above) = split(at, radix);
+        let (aim, goal_above) = split(goal, radix);
         if digit < aim {
             return 2 * d + 1;
         }
         if digit > aim {
             return 2 * d;
         }
-        at /= radix;
-        goal /= radix;
+        at = at_above;
+        goal = goal_above;
     }
     2 * mesh.dims()
 }
@@ -78,18 +79,34 @@ pub fn crosses(mesh: &Mesh, node: u8, port: u8, src: u8, dst: u8) -> bool
     let (mut at, mut first, mut last) = (node, src, dst);
     for d in 0..mesh.dims() {
         let radix = mesh.radix(d);
+        let (digit, at_above) = split(at, radix);
+        let (start, first_above) = split(first, radix);
+        let (aim, last_above) = split(last, radix);
         if d == port / 2 {
-            return steps_by(port, at % radix, first % radix, last % radix)
-                && at / radix == first / radix;
+            return steps_by(port, digit, start, aim) && at_above == first_above;
         }
-        if at % radix != last % radix {
+        if digit != aim {
             return false;
         }
-        at /= radix;
-        first /= radix;
-        last /= radix;
+        at = at_above;
+        first = first_above;
+        last = last_above;
     }
     false
+}
+
+// The lowest digit of an address in this radix, and what is left above it. A division takes longest of all that a
+// route costs, and most radices are powers of two: for these a mask and a shift do.
+fn split(address: u8, radix: u8) -> (u8, u8)
+    requires { 0 < radix }
+    ensures digit { result.0 ≡ address % radix }
+    ensures above { result.1 ≡ address / radix }
+{
+    let bits = radix.trailing_zeros();
+    if 1 << bits == radix {
+        return (address & (radix - 1), address >> bits);
+    }
+    (address % radix, address / radix)
 }
 
 // Whether a digit that runs from `first` to `last`, which it does not leave, steps from `at` to this side.

@@ -6,13 +6,12 @@ use Rattle.std.specs.Option.{option_to_list}
 use Rattle.worm_vcalloc.specs.ChannelSet.{IsFirstPort, IsLowest}
 use Rattle.worm_mesh.specs.Address.{node_count}
 use Rattle.worm_router.specs.Router.{width, after_gave}
-use Rattle.worm_router.specs.Busy.{owes}
 use Rattle.worm_region.specs.State.{NetState, router_at, with_router}
 use Rattle.worm_region.specs.Moves.{OwesTheSame}
 use Rattle.worm_region.specs.Turns.{lowest_owed}
 use Rattle.worm_region.specs.Workable.{IsWorkable}
 use Rattle.worm_region.proofs.LowestGiven.{Owing, gave_elsewhere, give_elsewhere, owing_more, owing_next}
-use Rattle.worm_region.proofs.LowestGiven.{router_size}
+use Rattle.worm_region.proofs.LowestGiven.{owing_place, router_size}
 use Rattle.worm_split.specs.PartState.{PartState, IsSamePart}
 use Rattle.worm_split.specs.PartTurns.{EachOf, Gives, GivesCredit}
 use Rattle.worm_split.proofs.PartLoops.{of_more, of_one, same_on}
@@ -72,14 +71,14 @@ abbrev pub Gave : ℕ → PartState → PartState → ℕ → Type 0
 Gave x a b owing = Owing (Given x a b) x (2 * length a.net.mesh) owing b.net
 
 pub gave_more : (x : ℕ) (a b d : PartState) (owing new q c : ℕ) → Gave x a b owing → IsFirstPort owing new q
-    → q < 2 * length a.net.mesh → IsLowest owing q c → Gives x q c b None d → IsSamePart b d → IsWorkable d.net
-    → Gave x a d new
-gave_more x a b d owing new q c gave first q_in lowest gives same sound =
-    let next = owing_next gave first q_in lowest in
+    → IsLowest owing q c → Gives x q c b None d → IsSamePart b d → IsWorkable d.net → Gave x a d new
+gave_more x a b d owing new q c gave first lowest gives same sound =
+    let next = owing_next gave first lowest in
+    let place = owing_place gave first in
     let ports = gave.ports in
-    owing_more gave (given_still x a b) first q_in d.net same.config sound
+    owing_more gave (given_still x a b) first d.net same.config sound
     (λ given. record {
       each = of_more (GivesCredit x) q a b d given.each (one_gives x q c b d next.lowest gives);
       same = same_on a b d given.same same;
     })
-    (gives_elsewhere x q c b d gave.sound gave.there (omega arith) next.channel_in gives)
+    (gives_elsewhere x q c b d gave.sound gave.there (omega (arith, place.1)) next.channel_in gives)

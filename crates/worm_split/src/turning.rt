@@ -296,13 +296,8 @@ impl Part {
         ensures gives { GivesCredits node self.old None self.new }
         ensures same { IsSamePart self.old self.new }
     {
-        let terminal = self.region.terminal();
         let mut left = self.region.owing(node);
         while let Some((port, vc)) = left.pop_port_lowest() {
-            // The terminal has no link, and owes none.
-            if port >= terminal {
-                return;
-            }
             self.give(rt, node, port, vc);
             // For the proof: the network is sound with the credit given.
             self.region.recall();

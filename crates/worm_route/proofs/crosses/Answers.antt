@@ -21,10 +21,10 @@ returns-else-steps_by-clause-exact c =
     exact_from c.args.mesh.now (AreLarge-from_radices c.args.mesh.now c.dims-d-end.ensures.mesh.radices) _ c.args.node
     c.args.port c.args.src c.args.dst c.requires.src_in c.requires.dst_in (returns-else-steps_by-clause-value c)
 
-pub returns-then-at-radix-clause-value : goal.returns-then-at-radix-clause-value
-returns-then-at-radix-clause-value c = grind (arith, common_steps)
+pub returns-then-digit-aim-clause-value : goal.returns-then-digit-aim-clause-value
+returns-then-digit-aim-clause-value c = grind (arith, common_steps)
 
-pub returns-then-at-radix-clause-exact : goal.returns-then-at-radix-clause-exact
-returns-then-at-radix-clause-exact c =
+pub returns-then-digit-aim-clause-exact : goal.returns-then-digit-aim-clause-exact
+returns-then-digit-aim-clause-exact c =
     exact_from c.args.mesh.now (AreLarge-from_radices c.args.mesh.now c.dims-d-end.ensures.mesh.radices) _ c.args.node
-    c.args.port c.args.src c.args.dst c.requires.src_in c.requires.dst_in (returns-then-at-radix-clause-value c)
+    c.args.port c.args.src c.args.dst c.requires.src_in c.requires.dst_in (returns-then-digit-aim-clause-value c)

@@ -1,6 +1,4 @@
-use Rattle.std.proofs.Common.{◌*◌, ◌∙◌, ℕ, ap, arith, length, refl, subst}
-use Rattle.worm_vcalloc.specs.ChannelSet.{has}
-use Rattle.worm_vcalloc.proofs.SetMembers.{has-zero}
+use Rattle.std.proofs.Common.{refl, subst}
 use Rattle.worm_router.specs.Busy.{IsSetOf, owes}
 use Rattle.worm_region.specs.State.{router_at}
 use Rattle.worm_region.specs.Workable.{IsWorkable}
@@ -20,32 +18,19 @@ loop-port-init g c =
 pub returns-clause-gives : goal.returns-clause-gives
 returns-clause-gives g c =
     (owing_all c.loop-port.invariant (given_still c.args.node c.args.self.now c.loop-port.self)
-    (λ p v p_in v_few. ap (λ (s : ℕ). has s p v) c.in_default.ensures.0 ∙ has-zero p v)).each
-
-pub returns-then-port-terminal-clause-gives : goal.returns-then-port-terminal-clause-gives
-returns-then-port-terminal-clause-gives g c =
-    let terminal = c.terminal-terminal.ensures.value ∙ ap (λ (p : PartState). 2 * length p.net.mesh) c.self.view_is in
-    let port = c.if-port-terminal.true in
-    (owing_all c.loop-port.invariant (given_still c.args.node c.args.self.now c.loop-port.self)
-    (λ p v p_in v_few. c.in-Some.ensures.0.none_before p v (omega arith) v_few)).each
+    c.in_default.ensures.0).each
 
 pub loop-port-preserved : goal.loop-port-preserved
 loop-port-preserved g c =
-    let terminal = c.terminal-terminal.ensures.value ∙ ap (λ (p : PartState). 2 * length p.net.mesh) c.self.view_is in
-    let port = c.if-port-terminal.false in
     let sound = subst (λ (p : PartState). IsWorkable p.net) c.self-in-Some.view_is c.recall.ensures in
     gave_more c.args.node c.args.self.now c.loop-port.self c.give.new.self c.loop-port.left c.pop_port_lowest.new.self
-    c.in-Some.port c.in-Some.vc c.loop-port.invariant c.in-Some.ensures.0 (omega arith) c.in-Some.ensures.1
+    c.in-Some.port c.in-Some.vc c.loop-port.invariant c.in-Some.ensures.0 c.in-Some.ensures.1
     c.give.ensures.gives c.give.ensures.same sound
 
 pub give-requires-clause-channel : goal.give-requires-clause-channel
 give-requires-clause-channel g c =
-    let terminal = c.terminal-terminal.ensures.value ∙ ap (λ (p : PartState). 2 * length p.net.mesh) c.self.view_is in
-    let port = c.if-port-terminal.false in
-    (owing_next c.loop-port.invariant c.in-Some.ensures.0 (omega arith) c.in-Some.ensures.1).channel_in
+    (owing_next c.loop-port.invariant c.in-Some.ensures.0 c.in-Some.ensures.1).channel_in
 
 pub give-requires-clause-owed : goal.give-requires-clause-owed
 give-requires-clause-owed g c =
-    let terminal = c.terminal-terminal.ensures.value ∙ ap (λ (p : PartState). 2 * length p.net.mesh) c.self.view_is in
-    let port = c.if-port-terminal.false in
-    (owing_next c.loop-port.invariant c.in-Some.ensures.0 (omega arith) c.in-Some.ensures.1).owes
+    (owing_next c.loop-port.invariant c.in-Some.ensures.0 c.in-Some.ensures.1).owes
