@@ -128,6 +128,14 @@ impl Region {
         self.fabric.wires().links_at(node, port)
     }
 
+    /// The links of this port, by which the node has a neighbour.
+    pub fn links_beyond(&self, node: u8, port: u8) -> PortLinks
+        requires { IsSome (neighbour_of self.now.mesh node port) }
+        ensures { Some result ≡ port_links self.now.mesh node port }
+    {
+        self.fabric.wires().links_beyond(node, port)
+    }
+
     /// The terminal port of each node.
     pub fn terminal(&self) -> u8
         ensures value { result ≡ 2 * length self.now.mesh }

@@ -161,9 +161,7 @@ impl Part {
         ensures same { IsSamePart self.old self.new }
     {
         self.region.recall();
-        let Some(links) = self.region.links_at(node, out) else {
-            unreachable!()
-        };
+        let links = self.region.links_beyond(node, out);
         if push_flit(rt, &mut self.ends[usize::from(links.out)], flit) {
             self.region.let_out(node, port, vc, out, flit);
         }
@@ -242,9 +240,7 @@ impl Part {
         ensures same { IsSamePart self.old self.new }
     {
         self.region.recall();
-        let Some(links) = self.region.links_at(node, port) else {
-            unreachable!()
-        };
+        let links = self.region.links_beyond(node, port);
         if push_credit(rt, &mut self.ends[usize::from(links.into)], vc) {
             self.region.gave(node, port, vc);
         }
@@ -262,17 +258,6 @@ impl Part {
         self.region.give_owed(node, port, vc);
     }
 
-    /// Whether the link into the port comes from another worker's node.
-    fn comes(&self, node: u8, port: u8) -> bool
-        ensures { IsTrue result ↔ ComesBy self.now node port }
-    {
-        self.region.recall();
-        let Some(links) = self.region.links_at(node, port) else {
-            return false;
-        };
-        is_entering(&self.ends[usize::from(links.into)])
-    }
-
     /// Gives a credit that a channel of the port owes to the link into it, whoever's node that comes from.
     fn give<R: Wait>(&mut self, rt: &R, node: u8, port: u8, vc: u8)
         requires own { owned self.old.net node ≡ true }
@@ -282,7 +267,10 @@ impl Part {
         ensures gives { Gives node port vc self.old None self.new }
         ensures same { IsSamePart self.old self.new }
     {
-        if self.comes(node, port) {
+        self.region.recall();
+        // A channel owes a credit only where its port has a link.
+        let links = self.region.links_beyond(node, port);
+        if is_entering(&self.ends[usize::from(links.into)]) {
             self.give_across(rt, node, port, vc);
         } else {
             self.give_within(node, port, vc);
