@@ -16,6 +16,34 @@ pub type FreeChannels = [[bool; 8]; 7];
 /// The output channel that each input channel was granted, by port and channel.
 pub type VcGrants = ChannelMap;
 
+/// The input channels that ask for an output channel.
+#[derive(Clone, Copy)]
+struct Requesters {
+    /// Their lines.
+    lines: u64,
+    /// The one that was found last, by port and channel; where none asks, any of the router's.
+    last: (u8, u8),
+}
+
+impl Requesters {
+    /// The input channel, by port and channel, of a line, where a port has so many channels.
+    fn place_of(&self, line: u8, channels: u8) -> (u8, u8)
+        requires few_channels { channels ≤ 8 }
+        requires last_port { self.now.last.0 < 7 }
+        requires last_channel { self.now.last.1 < channels }
+        ensures port { result.0 ≡ line / channels }
+        ensures channel { result.1 ≡ line % channels }
+    {
+        // Mostly one channel alone asks, which is then the winner, and a division takes as long as a dozen other
+        // instructions.
+        let (port, vc) = self.last;
+        if port * channels + vc == line {
+            return self.last;
+        }
+        (line / channels, line % channels)
+    }
+}
+
 /// The allocator of output channels to the input channels that wait for one (Dally and Towles,
 /// chapter 19).
 ///
@@ -164,33 +192,5 @@ impl VcAlloc {
             }
         }
         Requesters { lines, last }
-    }
-}
-
-/// The input channels that ask for an output channel.
-#[derive(Clone, Copy)]
-struct Requesters {
-    /// Their lines.
-    lines: u64,
-    /// The one that was found last, by port and channel; where none asks, any of the router's.
-    last: (u8, u8),
-}
-
-impl Requesters {
-    /// The input channel, by port and channel, of a line, where a port has so many channels.
-    fn place_of(&self, line: u8, channels: u8) -> (u8, u8)
-        requires few_channels { channels ≤ 8 }
-        requires last_port { self.now.last.0 < 7 }
-        requires last_channel { self.now.last.1 < channels }
-        ensures port { result.0 ≡ line / channels }
-        ensures channel { result.1 ≡ line % channels }
-    {
-        // Mostly one channel alone asks, which is then the winner, and a division takes as long as a dozen other
-        // instructions.
-        let (port, vc) = self.last;
-        if port * channels + vc == line {
-            return self.last;
-        }
-        (line / channels, line % channels)
     }
 }
