@@ -6,7 +6,7 @@ use Rattle.std.specs.Int.Bits.{or_zero_r}
 use mir.Val.{bool_byte}
 use Rattle.std.proofs.lemmas.Bool.{cases_eq, cases_lt, eq-eqb, eqb-true, ne_eqb, and_from, and_right}
 use Rattle.std.proofs.lemmas.Bool.{true≢false}
-use Rattle.std.proofs.lemmas.Nat.{one_shl, or_lt, and_le_l, shr-shr, pow_below}
+use Rattle.std.proofs.lemmas.Nat.{one_shl, or_lt, and_le_l, and_mask, shr-shr, pow_below}
 use Rattle.std.proofs.lemmas.Nat.Bits.{bit_at_and, bit_at_or, bit_at_not, bit_at_ones, bit_at-lt, bit_at_set_same}
 use Rattle.std.proofs.lemmas.Nat.Bits.{bit_at_set_other, bit_at_clear_same, bit_at_clear_other, bit_at_above}
 use Rattle.std.proofs.lemmas.Nat.Bits.{bit_at-trailing_zeros}
@@ -117,6 +117,73 @@ put_as bits port channel false fits lp lc =
     (sym (ap (bit_or (bit_and bits (bit_not w64 (1 * 2 ^ (8 * port + channel) % 2 ^ 64)))) nothing
     ∙ or_zero_r (bit_and bits (bit_not w64 (1 * 2 ^ (8 * port + channel) % 2 ^ 64)))))
     (put_out bits port channel fits lp lc)
+
+-- ---- a bit that is written only one way
+
+unchanged : (bits port channel : ℕ) (within : Bool) → bits < 2 ^ 56 → has bits port channel ≡ within
+    → IsPut bits bits port channel within
+unchanged bits port channel within fits is = record {
+  here = is;
+  elsewhere = λ p c l l' apart. refl;
+  small = fits;
+}
+
+or_true : (b : Bool) → true ≡ (b || true)
+or_true true = refl
+or_true false = refl
+
+or_false : (b : Bool) → b ≡ (b || false)
+or_false true = refl
+or_false false = refl
+
+all_kept : (bits : ℕ) → bits < 2 ^ 56 → bit_and bits (bit_not w64 0) ≡ bits
+all_kept bits fits = and_mask bits 64 ∙ (let low : bits % 2 ^ 64 ≡ bits = omega arith in low)
+
+-- the bit of the place is set where `comes` is 1
+abbrev with_place : ℕ → ℕ → ℕ → ℕ
+with_place bits place comes = bit_or bits (comes * 2 ^ place % 2 ^ 64)
+
+-- the bit of the place is cleared where `goes` is 1
+abbrev without_place : ℕ → ℕ → ℕ → ℕ
+without_place bits place goes = bit_and bits (bit_not w64 (goes * 2 ^ place % 2 ^ 64))
+
+-- the channel is put in where it comes
+put_where : (bits port channel : ℕ) (comes : Bool) → bits < 2 ^ 56 → port < 7 → channel < 8
+    → IsPut bits (with_place bits (8 * port + channel) (bool_byte comes)) port channel (has bits port channel || comes)
+put_where bits port channel true fits lp lc =
+    subst (IsPut bits (with_place bits (8 * port + channel) 1) port channel) (or_true (has bits port channel))
+    (put_in bits port channel fits lp lc)
+put_where bits port channel false fits lp lc =
+    let same : with_place bits (8 * port + channel) 0 ≡ bits =
+    ap (λ n. bit_or bits (n % 2 ^ 64)) (zero_times (2 ^ (8 * port + channel))) ∙ or_zero_r bits in
+    subst (λ n. IsPut bits n port channel (has bits port channel || false)) (sym same)
+    (unchanged bits port channel (has bits port channel || false) fits (or_false (has bits port channel)))
+
+-- the channel is taken out where it goes
+taken_where : (bits port channel : ℕ) (goes : Bool) → bits < 2 ^ 56 → port < 7 → channel < 8
+    → IsPut bits (without_place bits (8 * port + channel) (bool_byte goes)) port channel
+    (has bits port channel && not goes)
+taken_where bits port channel true fits lp lc =
+    subst (IsPut bits (without_place bits (8 * port + channel) 1) port channel)
+    (sym (and_right (has bits port channel) false refl)) (put_out bits port channel fits lp lc)
+taken_where bits port channel false fits lp lc =
+    let same : without_place bits (8 * port + channel) 0 ≡ bits =
+    ap (λ n. bit_and bits (bit_not w64 (n % 2 ^ 64))) (zero_times (2 ^ (8 * port + channel))) ∙ all_kept bits fits in
+    subst (λ n. IsPut bits n port channel (has bits port channel && true)) (sym same)
+    (unchanged bits port channel (has bits port channel && true) fits (sym (and_true (has bits port channel))))
+
+-- by the number that the code makes of whether it comes or goes
+pub put_by : (bits port channel n : ℕ) (comes : Bool) → n ≡ bool_byte comes → bits < 2 ^ 56 → port < 7 → channel < 8
+    → IsPut bits (with_place bits (8 * port + channel) n) port channel (has bits port channel || comes)
+put_by bits port channel n comes is fits lp lc =
+    subst (λ k. IsPut bits (with_place bits (8 * port + channel) k) port channel (has bits port channel || comes))
+    (sym is) (put_where bits port channel comes fits lp lc)
+
+pub taken_by : (bits port channel n : ℕ) (goes : Bool) → n ≡ bool_byte goes → bits < 2 ^ 56 → port < 7 → channel < 8
+    → IsPut bits (without_place bits (8 * port + channel) n) port channel (has bits port channel && not goes)
+taken_by bits port channel n goes is fits lp lc =
+    subst (λ k. IsPut bits (without_place bits (8 * port + channel) k) port channel (has bits port channel && not goes))
+    (sym is) (taken_where bits port channel goes fits lp lc)
 
 -- ---- two sets
 

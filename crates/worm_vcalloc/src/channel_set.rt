@@ -1,4 +1,4 @@
-ghost use Rattle.std.specs.Prelude.{◌≡◌, ℕ, ◌^◌, ◌<◌, ◌≤◌, ◌==◌, ◌&&◌, MatchOption, not};
+ghost use Rattle.std.specs.Prelude.{◌≡◌, ℕ, ◌^◌, ◌<◌, ◌≤◌, ◌==◌, ◌&&◌, ◌||◌, MatchOption, not};
 ghost use Rattle.worm_vcalloc.specs.Arbiter.{line_requests};
 ghost use Rattle.worm_vcalloc.specs.ChannelSet.{has, IsPut, IsFirst, IsFirstPort, IsLowest};
 
@@ -60,6 +60,25 @@ impl ChannelSet {
         // Without a branch, since whether it comes or goes can seldom be foretold.
         let place = 8 * port + channel;
         self.bits = self.bits & !(1 << place) | u64::from(within) << place;
+    }
+
+    /// Puts a channel into the set where it `comes`. Where it does not, the set stays as it is, so that whoever knows
+    /// that the channel is not in the set writes one bit alone.
+    pub fn insert_if(&mut self, port: u8, channel: u8, comes: bool)
+        requires port { port < 7 }
+        requires channel { channel < 8 }
+        ensures { IsPut self.old self.new port channel (has self.old port channel || comes) }
+    {
+        self.bits |= u64::from(comes) << (8 * port + channel);
+    }
+
+    /// Takes a channel out of the set where it `goes`. Where it does not, the set stays as it is.
+    pub fn remove_if(&mut self, port: u8, channel: u8, goes: bool)
+        requires port { port < 7 }
+        requires channel { channel < 8 }
+        ensures { IsPut self.old self.new port channel (has self.old port channel && not goes) }
+    {
+        self.bits &= !(u64::from(goes) << (8 * port + channel));
     }
 
     /// Takes out the first channel, by rising port and then channel; None where the set is empty.
