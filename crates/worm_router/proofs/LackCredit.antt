@@ -5,7 +5,6 @@ use Rattle.std.proofs.Common.{None, IfSome, MatchOption, refl, arith, ap, sym, â
 use Rattle.std.proofs.lemmas.Grind.{get_or-set_at}
 use Rattle.std.proofs.lemmas.Bool.{cases_eq}
 use Rattle.std.proofs.lemmas.Bool.Decides.{nat_tests}
-use Rattle.std.proofs.lemmas.Nat.{same_from_place}
 use Rattle.std.proofs.lemmas.List.{get_or-set_other}
 use Rattle.std.proofs.lemmas.List.Elements.{All-get_or}
 use Rattle.worm_flit.specs.declared.Flit.{Flit}
@@ -15,7 +14,7 @@ use Rattle.worm_records.specs.declared.InRecord.TheVariants.{Idle, Waiting, Acti
 use Rattle.worm_records.specs.declared.OutRecord.{OutRecord}
 use Rattle.worm_vcalloc.specs.ChannelSet.{has}
 use Rattle.worm_router.specs.Router.{RouterState, ChannelState, IsPlace, IsRouter, StateFits, terminal, width, line}
-use Rattle.worm_router.specs.Router.{fresh_channel, free_output, input_at, output_at, leaving, leaving_by, credit_of}
+use Rattle.worm_router.specs.Router.{free_output, input_at, output_at, leaving, leaving_by, credit_of}
 use Rattle.worm_router.specs.Busy.{AreHolders, IsHolder, LackCredit, IsFiled, lacks_credit}
 use Rattle.worm_router.proofs.Leaving.{channel_at}
 use Rattle.worm_router.proofs.Places.{IsInput, IsOutput}

@@ -1,6 +1,6 @@
 -- What is there for a flit that may leave.
 use Rattle.std.proofs.Common.{ap, sym, ◌∙◌, slice_get, ◌+◌, ℕ, ◌≤◌, ◌<◌, ◌≡◌, ◌==◌, ◌&&◌, ◌||◌, nat_lt, List}
-use Rattle.std.proofs.Common.{[], ◌∷◌, All, Bool, true, false, Some, None, arith, refl, subst, if◌then◌else◌}
+use Rattle.std.proofs.Common.{[], ◌∷◌, length, All, Bool, true, false, Some, None, arith, refl, subst, if◌then◌else◌}
 use Rattle.std.proofs.lemmas.Bool.Decides.{nat_tests}
 use Rattle.std.proofs.lemmas.List.Elements.{All-get_or}
 use Rattle.worm_flit.specs.declared.Flit.{Flit}
@@ -8,8 +8,10 @@ use Rattle.worm_flit.specs.Stamps.{with_channel}
 use Rattle.worm_mesh.specs.Address.{node_count}
 use Rattle.worm_records.specs.declared.InRecord.{InRecord}
 use Rattle.worm_records.specs.declared.InRecord.TheVariants.{Idle, Waiting, Active}
+use Rattle.worm_vcalloc.specs.ChannelSet.{has}
 use Rattle.worm_router.specs.Router.{RouterState, ChannelState, IsRouter, IsChannel, IsPlace, StateFits, MayLeave}
 use Rattle.worm_router.specs.Router.{terminal, width, line, fresh_channel, input_at, output_at, leaving, leaving_by}
+use Rattle.worm_router.specs.Busy.{IsSetOf, is_occupied}
 use Rattle.worm_router.proofs.Laws.{line-places}
 
 pub channel_at : (r : RouterState) (port vc : ℕ) → IsRouter r → IsPlace r port vc
@@ -94,3 +96,17 @@ not_both a b x e = ap (λ k. if k then Some x else None) e
 
 pub owes_more : (owed more : ℕ) → (nat_lt 0 (owed + more) || nat_lt 0 owed) ≡ nat_lt 0 (owed + more)
 owes_more owed more = grind (arith, nat_tests)
+
+-- a channel whose front may leave has a flit
+leaves_some : (r : RouterState) (port : ℕ) (c : ChannelState) (s : InRecord) (fs : List Flit) (d : ℕ × Flit)
+    → leaving_by r port c s fs ≡ Some d → nat_lt 0 (length fs) ≡ true
+leaves_some r port c Idle fs d is = absurd (cc)
+leaves_some r port c (Waiting o) fs d is = absurd (cc)
+leaves_some r port c (Active o v) [] d is = absurd (cc)
+leaves_some r port c (Active o v) (f ∷ fs) d is = grind (arith, nat_tests)
+
+pub leaves_occupied : (r : RouterState) (port vc set : ℕ) (d : ℕ × Flit) → IsPlace r port vc
+    → IsSetOf is_occupied r set → leaving r port vc ≡ Some d → has set port vc ≡ true
+leaves_occupied r port vc set d place those leaves =
+    those.inside port vc place.port_in place.channel_in
+    ∙ leaves_some r port (input_at r port vc) (input_at r port vc).state (input_at r port vc).buffer d leaves

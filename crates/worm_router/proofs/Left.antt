@@ -1,5 +1,5 @@
 -- What a flit that left leaves of all that a router keeps.
-use Rattle.std.proofs.Common.{ℕ, ◌+◌, ◌-◌, ◌*◌, ◌≤◌, ◌<◌, ◌≡◌, ◌==◌, ◌&&◌, ◌||◌, nat_lt, Bool, true, false, not}
+use Rattle.std.proofs.Common.{ℕ, ◌+◌, ◌-◌, ◌*◌, ◌≤◌, ◌<◌, ◌≡◌, ◌&&◌, ◌||◌, nat_lt, Bool, true, false, not}
 use Rattle.std.proofs.Common.{Option, None, Some, slice_set, slice_index_or, get_or, length, List, if◌then◌else◌}
 use Rattle.std.proofs.Common.{arith, inl, refl, ap, sym, subst, ◌∙◌}
 use Rattle.std.proofs.lemmas.List.Elements.{All-set, All-get_or}
@@ -15,14 +15,14 @@ use Rattle.worm_router.specs.Demand.{DemandView}
 use Rattle.worm_router.specs.Busy.{IsKept, HasFront, IsFiled, is_occupied, is_waiting, owes, waits}
 use Rattle.worm_router.proofs.Kept.{both_set_sound, left_by, left_sound, full_after, no_credit}
 use Rattle.worm_router.proofs.Places.{IsInput, IsOutput, input_of, output_of}
-use Rattle.worm_router.proofs.Filed.{busy_filed, inside_of}
-use Rattle.worm_router.proofs.Leaving.{may_leave, leaves_by_state, owes_more}
+use Rattle.worm_router.proofs.Filed.{busy_filed}
+use Rattle.worm_router.proofs.Leaving.{may_leave, leaves_by_state, leaves_occupied, owes_more}
 use Rattle.worm_router.proofs.Demanded.{requests_kept, free_left, asks_nothing, waits_not_after}
 use Rattle.worm_router.proofs.Holders.{holders_left}
 use Rattle.worm_router.proofs.HeldOuts.{outs_left}
 use Rattle.worm_router.proofs.Those.{unfiled}
 use Rattle.worm_router.proofs.LackCredit.{lack_left, leaves_with_credit}
-use Rattle.worm_router.proofs.OweAll.{owe_left}
+use Rattle.worm_router.proofs.OweAll.{owe_left, leaves_owing_less}
 
 -- a flit that may leave, for so many credits spent and owed: its input channel and the output channel that this holds,
 -- as they were read
@@ -32,7 +32,9 @@ pub record IsLeaving (r : RouterState) (sets : BusyChannels) (port vc i out out_
   pub output : IsOutput r out out_vc o had_out
   pub held_it : had.state ≡ Active out out_vc
   pub its : had_out.holder ≡ Some (port, vc)
+  pub has_flit : has sets.occupied port vc ≡ true
   pub has_credit : has sets.no_credit port vc ≡ false
+  pub owes_less : has sets.owes_all port vc ≡ false
   pub spends : spent ≡ credit_of r out
   pub owes_more : more ≡ credit_of r port
   pub enough : spent ≤ had_out.credits
@@ -67,7 +69,9 @@ leaving_of r s sets asked masks port vc i out o f had had_out spent more same ke
       held_it = ap (λ (c : ChannelState). c.state) was ∙ active;
       its = ap (λ (u : OutRecord). u.holder) was_out
           ∙ kept.holders.held port vc out f.vc input.place.port_in input.place.channel_in active;
+      has_flit = leaves_occupied r port vc sets.occupied (out, f) input.place kept.busy.occupied may;
       has_credit = leaves_with_credit r port vc sets.no_credit (out, f) input.place kept.no_credit may;
+      owes_less = leaves_owing_less r port vc sets.owes_all (out, f) input.place kept.owes_all may;
       spends = spends_it;
       owes_more = owes_it;
       enough = let credits = ap (λ (u : OutRecord). u.credits) was_out in
@@ -208,7 +212,7 @@ module _ (r : RouterState) (sets mid : BusyChannels) (asked : DemandView) (masks
 
   -- more of its packet comes: the channel lacks a credit where none is left
   pub followed_kept : (no_credit : ℕ)
-      → IsFiled mid.no_credit no_credit port vc (nat_lt (had_out.credits - spent) spent)
+      → IsFiled mid.no_credit no_credit port vc (has mid.no_credit port vc || nat_lt (had_out.credits - spent) spent)
       → IsKept (record r {
         inputs = slice_set r.inputs i gone;
         outputs = slice_set r.outputs o (record had_out { credits = had_out.credits - spent });
@@ -223,8 +227,10 @@ module _ (r : RouterState) (sets mid : BusyChannels) (asked : DemandView) (masks
         owing = is_out.owing;
         owes_all = is_out.owes_all;
         outs = ap (λ (b : BusyChannels). b.outs) is_out.others;
-        no_credit = subst (λ (b : BusyChannels). IsFiled b.no_credit no_credit port vc
-            (nat_lt (had_out.credits - spent) spent)) is_out.others filed;
+        no_credit = subst (λ b. IsFiled sets.no_credit no_credit port vc (b || nat_lt (had_out.credits - spent) spent))
+            leaving.has_credit
+            (subst (λ (b : BusyChannels). IsFiled b.no_credit no_credit port vc
+            (has b.no_credit port vc || nat_lt (had_out.credits - spent) spent)) is_out.others filed);
         requests = refl;
         free = refl;
       })

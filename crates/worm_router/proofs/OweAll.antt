@@ -1,9 +1,16 @@
 -- Which channels owe all that they may.
-use Rattle.std.proofs.Common.{◌≡◌, ℕ, ◌+◌, ◌-◌, ◌<◌, ◌≤◌, ◌||◌, ◌==◌, Bool, true, false, not, nat_lt, if◌then◌else◌}
-use Rattle.std.proofs.Common.{List, slice_set, arith, ap, ◌∙◌, refl, sym, subst}
+use Rattle.std.proofs.Common.{◌≡◌, ℕ, ◌+◌, ◌-◌, ◌<◌, ◌≤◌, ◌&&◌, ◌||◌, ◌==◌, Bool, true, false, not, nat_lt}
+use Rattle.std.proofs.Common.{if◌then◌else◌, List, [], ◌∷◌, Some, None, slice_set, arith, ap, ◌∙◌, refl, sym}
+use Rattle.std.proofs.Common.{subst}
 use Rattle.std.proofs.lemmas.Bool.Decides.{nat_tests}
+use Rattle.worm_flit.specs.declared.Flit.{Flit}
+use Rattle.worm_flit.specs.Stamps.{with_channel}
+use Rattle.worm_records.specs.declared.InRecord.{InRecord}
+use Rattle.worm_records.specs.declared.InRecord.TheVariants.{Idle, Waiting, Active}
 use Rattle.worm_records.specs.declared.OutRecord.{OutRecord}
-use Rattle.worm_router.specs.Router.{RouterState, ChannelState, credit_of, terminal, width}
+use Rattle.worm_vcalloc.specs.ChannelSet.{has}
+use Rattle.worm_router.specs.Router.{RouterState, ChannelState, IsPlace, credit_of, terminal, width, input_at}
+use Rattle.worm_router.specs.Router.{output_at, leaving, leaving_by}
 use Rattle.worm_router.specs.Busy.{IsFiled, OweAll, owes_all}
 use Rattle.worm_router.proofs.Places.{IsInput}
 use Rattle.worm_router.proofs.Those.{those_filed, those_stay}
@@ -27,6 +34,27 @@ owes_less r port owed some fits =
       none : (b : Bool) → false ≡ not (b || true)
       none true = refl
       none false = refl
+
+-- a channel whose front may leave owes less
+second_true : (a b : Bool) (d : ℕ × Flit) (o : ℕ) (f : Flit) → (if a && b then Some (o, f) else None) ≡ Some d
+    → not b ≡ false
+second_true true true d o f e = refl
+second_true true false d o f e = absurd (cc)
+second_true false b d o f e = absurd (cc)
+
+pub leaves_owing_less : (r : RouterState) (port vc set : ℕ) (d : ℕ × Flit) → IsPlace r port vc → OweAll r set
+    → leaving r port vc ≡ Some d → has set port vc ≡ false
+leaves_owing_less r port vc set d place those leaves =
+    those.each port vc place.port_in place.channel_in
+    ∙ by (input_at r port vc) (input_at r port vc).state (input_at r port vc).buffer leaves where
+      by : (c : ChannelState) (s : InRecord) (fs : List Flit) → leaving_by r port c s fs ≡ Some d
+          → owes_all r port c.owed ≡ false
+      by c Idle fs is = absurd (cc)
+      by c (Waiting o) fs is = absurd (cc)
+      by c (Active o v) [] is = absurd (cc)
+      by c (Active o v) (f ∷ fs) is =
+          second_true (o == terminal r || nat_lt 0 (output_at r o v).credits)
+          (port == terminal r || nat_lt c.owed r.depth) d o (with_channel f v) is
 
 -- one input channel is written
 module _ (r : RouterState) (port vc i : ℕ) (had now : ChannelState) (input : IsInput r port vc i had)

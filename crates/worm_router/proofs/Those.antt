@@ -1,5 +1,5 @@
 -- A set of those channels of a router that pass a test: what a write of one input channel leaves of it.
-use Rattle.std.proofs.Common.{◌≡◌, ℕ, ◌<◌, ◌≤◌, Bool, length, slice_set, slice_index_or, inl, inr}
+use Rattle.std.proofs.Common.{◌≡◌, ℕ, ◌≤◌, Bool, slice_set, slice_index_or, inl, inr}
 use Rattle.std.proofs.Common.{List, arith, ap, sym, ◌∙◌, refl, replicate, false, subst}
 use Rattle.std.proofs.lemmas.Grind.{get_or-set_at}
 use Rattle.std.proofs.lemmas.Bool.{cases_eq}

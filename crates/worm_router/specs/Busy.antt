@@ -1,7 +1,7 @@
 -- Which input channels have something to do: the sets that a router keeps beside its lists, so that a turn skips all
 -- others.
 use Rattle.std.specs.Prelude.{ℕ, ◌+◌, ◌*◌, ◌<◌, ◌≤◌, ◌≡◌, ◌==◌, ◌&&◌, ◌||◌, nat_lt, Bool, true, false, List, length}
-use Rattle.std.specs.Prelude.{slice_index, slice_index_or, All, Option, Some, None, is_some, not, if◌then◌else◌}
+use Rattle.std.specs.Prelude.{slice_index, slice_index_or, All, Option, Some, None, is_some, not}
 use Rattle.worm_flit.specs.Channels.{class_bits}
 use Rattle.worm_records.specs.declared.InRecord.{InRecord}
 use Rattle.worm_records.specs.declared.InRecord.TheVariants.{Idle, Waiting, Active}

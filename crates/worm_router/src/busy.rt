@@ -1,4 +1,4 @@
-ghost use Rattle.std.specs.Prelude.{◌≡◌, ◌<◌, ◌||◌, false, None, IfSome, MatchOption, replicate};
+ghost use Rattle.std.specs.Prelude.{◌≡◌, ◌<◌, ◌||◌, true, false, None, IfSome, MatchOption, replicate};
 ghost use Rattle.worm_vcalloc.specs.ChannelSet.{has};
 ghost use Rattle.worm_router.specs.Busy.{AreReady, IsFiled, is_occupied, owes};
 
@@ -64,11 +64,13 @@ impl BusyChannels {
         }
     }
 
-    /// Files a channel that has let a flit out: whether it has one more, whether it owes a credit, and whether that is
-    /// `all` that it may owe.
+    /// Files a channel that has let a flit out, so that it had one and might owe more: whether it has one more, whether
+    /// it owes a credit, and whether that is `all` that it may owe.
     pub fn file_left(&mut self, port: u8, vc: u8, channel: &InputChannel, all: bool)
         requires port { port < 7 }
         requires vc { vc < 8 }
+        requires had { has self.old.occupied port vc ≡ true }
+        requires might { has self.old.owes_all port vc ≡ false }
         ensures occupied { IsFiled self.old.occupied self.new.occupied port vc (is_occupied channel.now) }
         ensures owing { IsFiled self.old.owing self.new.owing port vc (owes channel.now) }
         ensures owes_all { IsFiled self.old.owes_all self.new.owes_all port vc all }
@@ -78,20 +80,21 @@ impl BusyChannels {
           owes_all = self.new.owes_all;
         } }
     {
-        self.occupied.put(port, vc, channel.is_occupied());
+        self.occupied.remove_if(port, vc, !channel.is_occupied());
         self.owing.put(port, vc, channel.owed() > 0);
-        self.owes_all.put(port, vc, all);
+        self.owes_all.insert_if(port, vc, all);
     }
 
     /// Files a channel whose credit, one that it owed, has gone out: it may owe one more.
     pub fn file_given(&mut self, port: u8, vc: u8, channel: &InputChannel)
         requires port { port < 7 }
         requires vc { vc < 8 }
+        requires owed { has self.old.owing port vc ≡ true }
         ensures owing { IsFiled self.old.owing self.new.owing port vc (owes channel.now) }
         ensures owes_all { IsFiled self.old.owes_all self.new.owes_all port vc false }
         ensures others { self.new ≡ record self.old { owing = self.new.owing; owes_all = self.new.owes_all } }
     {
-        self.owing.put(port, vc, channel.owed() > 0);
+        self.owing.remove_if(port, vc, channel.owed() == 0);
         self.owes_all.put(port, vc, false);
     }
 

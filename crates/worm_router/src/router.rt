@@ -429,7 +429,9 @@ impl Router {
             self.busy.outs.set(port, vc, None);
             self.demand.release(out, flit.vc);
         } else {
-            self.busy.no_credit.put(port, vc, output.credits < spent);
+            self.busy
+                .no_credit
+                .insert_if(port, vc, output.credits < spent);
         }
     }
 

@@ -1,4 +1,4 @@
-use Rattle.std.proofs.Common.{◌<◌, subst, ◌∙◌, sym, arith, ap, ◌*◌, sum, length}
+use Rattle.std.proofs.Common.{◌<◌, ◌∙◌, sym, arith, ap, ◌*◌, sum, length}
 use Rattle.std.proofs.lemmas.Grind.{common_steps, elements}
 use Rattle.worm_records.specs.declared.OutRecord.{OutRecord}
 use Rattle.worm_router.specs.Router.{free_output}

@@ -1,5 +1,5 @@
 use Rattle.worm_flit.specs.Channels.{class_bits}
-use Rattle.std.proofs.Common.{refl, slice_get, None, Some, sym, ap, ◌∙◌, inr, false, ◌≡◌, arith}
+use Rattle.std.proofs.Common.{refl, slice_get, Some, sym, ap, ◌∙◌, inr, ◌≡◌, arith}
 use Rattle.std.proofs.lemmas.List.Elements.{All-set}
 use Rattle.worm_router.specs.Allocation.{asking}
 use Rattle.worm_router.specs.Demand.{DemandView}
