@@ -29,7 +29,8 @@ pub file_left-requires-clause-had : goal.file_left-requires-clause-had
 file_left-requires-clause-had c = (leaves (goal.at.file_left-requires-clause-had c).After-index_mut-output).has_flit
 
 pub file_left-requires-clause-might : goal.file_left-requires-clause-might
-file_left-requires-clause-might c = (leaves (goal.at.file_left-requires-clause-might c).After-index_mut-output).owes_less
+file_left-requires-clause-might c =
+    (leaves (goal.at.file_left-requires-clause-might c).After-index_mut-output).owes_less
 
 pub close-requires : goal.close-requires
 close-requires c =
