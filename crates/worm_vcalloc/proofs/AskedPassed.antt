@@ -30,8 +30,8 @@ IsVcAlloc-steps waiting free pass ports channels out zero r lo ln = r
 IsVcAlloc-steps waiting free pass ports channels out (suc n) r lo ln =
     let before : VcPass = fold (vc_step waiting free out) pass (range_with_len 0 n) in
     let still = IsVcAlloc-steps waiting free pass ports channels out n r lo (omega arith) in
-    subst (λ (p : VcPass). IsVcAlloc ports channels p.alloc.arbiters) (sym (fold-range_next (vc_step waiting free out)
-    pass n))
+    subst (λ (p : VcPass). IsVcAlloc ports channels p.alloc.arbiters)
+    (sym (fold-range_next (vc_step waiting free out) pass n))
     (elim (cases_Bool (cell free out n false)) [
       | inl is_free ↦
           subst (λ b. IsVcAlloc ports channels (cond b (offered waiting before out n) before).alloc.arbiters)
