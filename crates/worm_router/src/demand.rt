@@ -110,7 +110,7 @@ impl Demand {
           free = with_cell self.old.free out out_vc false;
         } }
     {
-        self.requests.remove(port, vc, out);
+        self.requests.remove(port, vc);
         self.free[usize::from(out)][usize::from(out_vc)] = false;
         self.grants_nothing = false;
     }

@@ -7,4 +7,5 @@ pub mod RequestsFiled
 pub mod PassAgrees
 pub mod ArbitersStay
 pub mod PassMatches
+pub mod AskedPassed
 pub mod RequestersGathered

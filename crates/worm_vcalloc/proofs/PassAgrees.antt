@@ -7,7 +7,7 @@ use Rattle.worm_vcalloc.specs.declared.request.VcRequest.{VcRequest}
 use Rattle.worm_vcalloc.specs.Arbiter.{ArbiterState, winner, after_pick, line_requests, no_arbiter}
 use Rattle.worm_vcalloc.specs.Table.{cell, with_cell}
 use Rattle.worm_vcalloc.specs.VcAlloc.{VcAllocState, VcPass, IsVcAlloc, with_grant, is_requester, vc_winner, offered}
-use Rattle.worm_vcalloc.specs.VcAlloc.{vc_step, port_pass, vc_pass}
+use Rattle.worm_vcalloc.specs.VcAlloc.{vc_step, port_pass}
 use Rattle.worm_vcalloc.specs.VcRequest.{is_for, allows}
 use Rattle.worm_vcalloc.proofs.Winner.{winner_same, winner_none}
 use Rattle.worm_vcalloc.proofs.LineByLine.{line_port}
@@ -196,16 +196,3 @@ port_pass_unasked waiting free pass out r lo none = go pass.alloc.channels (omeg
 pub none_where_not_some : {X : Type 0} (o : Option X) → is_some o ≡ false → o ≡ None
 none_where_not_some None e = refl
 none_where_not_some (Some x) e = absurd (cc)
-
--- a pass in which nothing waits leaves all as it is
-pub vc_pass_unasked : (waiting : List (List (Option VcRequest))) (free : List (List Bool)) (pass : VcPass)
-    → IsVcAlloc pass.alloc.ports pass.alloc.channels pass.alloc.arbiters
-    → ((p v : ℕ) → p < 7 → v < 8 → cell waiting p v None ≡ None)
-    → vc_pass waiting free pass ≡ pass
-unfolding vc_pass
-vc_pass_unasked waiting free pass r none = go pass.alloc.ports (omega arith) where
-  go : (n : ℕ) → n ≤ pass.alloc.ports → fold (port_pass waiting free) pass (range_with_len 0 n) ≡ pass
-  go zero few = refl
-  go (suc n) few =
-      fold-range_next (port_pass waiting free) pass n ∙ ap (λ p. port_pass waiting free p n) (go n (omega arith))
-      ∙ port_pass_unasked waiting free pass n r (omega arith) (λ p v lp lv. ap (λ o. is_for o n) (none p v lp lv))

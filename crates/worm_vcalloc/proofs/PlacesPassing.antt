@@ -1,17 +1,18 @@
 -- Lemmas on the places of a table whose cells pass a test.
 use Rattle.std.proofs.Common.{◌≡◌, ℕ, ◌+◌, ◌*◌, ◌/◌, ◌%◌, ◌^◌, ◌<◌, ◌≤◌, zero, suc, Bool, false, cond, ◌==◌, bit_or}
-use Rattle.std.proofs.Common.{List, Option, None, sym, ap, ◌∙◌, subst, arith, inl, inr, replicate}
+use Rattle.std.proofs.Common.{List, Option, None, is_some, refl, sym, ap, ◌∙◌, subst, arith, inl, inr, replicate}
 use Rattle.std.specs.Int.{bit_at}
 use Rattle.std.proofs.lemmas.Bool.{cases_eq, cases_Bool, eqb-true, eq-eqb}
 use Rattle.std.proofs.lemmas.Nat.{one_shl}
 use Rattle.std.proofs.lemmas.Nat.Bits.{bit_at-lt, same_from_bits_below}
 use Rattle.worm_vcalloc.specs.Arbiter.{line_requests}
 use Rattle.worm_vcalloc.specs.ChannelSet.{has, IsPut}
-use Rattle.worm_vcalloc.specs.Places.{places_below, places}
+use Rattle.worm_vcalloc.specs.Places.{places_below, places, IsKeyed}
 use Rattle.worm_vcalloc.specs.Table.{cell, with_cell, IsTable}
 use Rattle.worm_vcalloc.proofs.LineByLine.{LinesBelow, lines_none, line_set, line_unset, at_line}
 use Rattle.worm_vcalloc.proofs.SetMembers.{has-zero}
 use Rattle.worm_vcalloc.proofs.TableCells.{cell-with_cell_same, cell-with_cell_other, cell-replicate}
+use Rattle.worm_vcalloc.proofs.TableCells.{IsTable-with_cell, IsTable-replicate}
 
 -- the places that pass, as lines that request
 places_lines : {X : Type 0} (test : Option X → Bool) (table : List (List (Option X))) (n : ℕ) → n ≤ 64
@@ -35,11 +36,11 @@ places_lines test table (suc n) few =
           (line_unset asks n (places_below test table n) below f))
     ]
 
-pub places_small : {X : Type 0} (test : Option X → Bool) (table : List (List (Option X))) → places test table < 2 ^ 56
+places_small : {X : Type 0} (test : Option X → Bool) (table : List (List (Option X))) → places test table < 2 ^ 56
 places_small test table = (places_lines test table 56 (omega arith)).few
 
 -- a place is in the set where its cell passes
-pub has-places : {X : Type 0} (test : Option X → Bool) (table : List (List (Option X))) (p c : ℕ) → p < 7 → c < 8
+has-places : {X : Type 0} (test : Option X → Bool) (table : List (List (Option X))) (p c : ℕ) → p < 7 → c < 8
     → has (places test table) p c ≡ test (cell table p c None)
 has-places test table p c lp lc =
     ap (line_requests (places test table)) (omega arith)
@@ -69,7 +70,7 @@ places_only test table set small same =
     (subst (λ k. (bit_at set k == 1) ≡ (bit_at (places test table) k == 1)) place here))
 
 -- a write of a cell changes the set at its place
-pub places_put : {X : Type 0} (test : Option X
+places_put : {X : Type 0} (test : Option X
     → Bool) (table : List (List (Option X))) (new port channel : ℕ) (x : Option X)
     → port < 7 → channel < 8 → IsTable table
     → IsPut (places test table) new port channel (test x) → new ≡ places test (with_cell table port channel x)
@@ -90,8 +91,29 @@ places_put test table new port channel x lp lc shape put =
     ])
 
 -- nothing stands in an empty table
-pub places_none : {X : Type 0} (test : Option X → Bool) → test None ≡ false
+places_none : {X : Type 0} (test : Option X → Bool) → test None ≡ false
     → 0 ≡ places test (replicate 7 (replicate 8 None))
 places_none test none =
     places_only test (replicate 7 (replicate 8 None)) 0 (omega arith)
     (λ p c l l'. has-zero p c ∙ sym (ap test (cell-replicate 7 8 p c None) ∙ none))
+
+-- ---- keys
+
+-- what is among the keys of a table
+pub has-keys : {X : Type 0} (table : List (List (Option X))) (keys p c : ℕ) → IsKeyed table keys → p < 7 → c < 8
+    → has keys p c ≡ is_some (cell table p c None)
+has-keys table keys p c keyed lp lc = ap (λ s. has s p c) keyed.all ∙ has-places is_some table p c lp lc
+
+-- the keys after a write of a cell
+pub keyed_put : {X : Type 0} (table : List (List (Option X))) (keys keys' port channel : ℕ) (x : Option X)
+    → IsKeyed table keys → port < 7 → channel < 8 → IsPut keys keys' port channel (is_some x)
+    → IsKeyed (with_cell table port channel x) keys'
+keyed_put table keys keys' port channel x keyed lp lc put = record {
+  shape = IsTable-with_cell table port channel x keyed.shape;
+  all = places_put is_some table keys' port channel x lp lc keyed.shape
+      (subst (λ s. IsPut s keys' port channel (is_some x)) keyed.all put);
+}
+
+-- the keys of an empty table
+pub keyed_none : {X : Type 0} (keys : ℕ) → keys ≡ 0 → IsKeyed {X = X} (replicate 7 (replicate 8 None)) keys
+keyed_none keys e = record { shape = IsTable-replicate None; all = e ∙ places_none is_some refl }

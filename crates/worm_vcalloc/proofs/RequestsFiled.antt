@@ -1,145 +1,162 @@
--- Lemmas on requests that are filed by what they ask for.
-use Rattle.std.proofs.Common.{◌≡◌, ℕ, zero, suc, ◌+◌, ◌^◌, ◌<◌, ◌==◌, Bool, false, List, ◌∷◌, Option, None, Some}
-use Rattle.std.proofs.Common.{true, is_some, slice_set, get_or-set_same, get_or-set_other}
-use Rattle.std.proofs.Common.{refl, sym, ap, ◌∙◌, subst, arith, inl, inr, map, length, slice_index_or, replicate}
-use Rattle.std.specs.List.{range_with_len}
-use Rattle.std.proofs.lemmas.Bool.{cases_Bool, eqb-true, eqb-false}
-use Rattle.std.proofs.lemmas.List.{ext_get_or, length-set}
-use Rattle.std.proofs.lemmas.List.FromFn.{length-map-range_with_len, get_or-map-range_with_len}
+-- Lemmas on requests that are filed one by one.
+use Rattle.std.proofs.Common.{◌≡◌, ℕ, ◌<◌, ◌==◌, ◌&&◌, true, false, not, List, Option, None, Some, is_some}
+use Rattle.std.proofs.Common.{slice_index_or, slice_set, length, replicate, get_or-set_same, get_or-set_other}
+use Rattle.std.proofs.Common.{refl, sym, ap, ◌∙◌, arith, inl, inr}
+use Rattle.std.proofs.lemmas.Bool.{cases_eq, eqb-true, eq-eqb, ne_eqb, true≢false}
+use Rattle.std.proofs.Math.Bool.{and-true, and-false}
+use Rattle.std.proofs.lemmas.List.{get_or-replicate, get_or_default}
+use Rattle.worm_flit.specs.SmallSet as small
 use Rattle.worm_vcalloc.specs.declared.request.VcRequest.{VcRequest}
-use Rattle.worm_vcalloc.specs.ChannelSet.{has, IsPut}
-use Rattle.worm_vcalloc.specs.Filed.{IsFiled, filed_by_port}
-use Rattle.worm_vcalloc.specs.Places.{places}
-use Rattle.worm_vcalloc.specs.Table.{cell, with_cell}
+use Rattle.worm_vcalloc.specs.Asked.{IsFiled}
+use Rattle.worm_vcalloc.specs.ChannelSet.{has, IsFirst, IsPut}
+use Rattle.worm_vcalloc.specs.Table.{cell}
 use Rattle.worm_vcalloc.specs.VcRequest.{is_for}
-use Rattle.worm_vcalloc.proofs.TableCells.{IsTable-with_cell, IsTable-replicate}
-use Rattle.worm_vcalloc.proofs.PlacesPassing.{has-places, places_put, places_none, places_small}
+use Rattle.worm_vcalloc.proofs.SetMembers.{has-zero}
 
--- ---- a set of the file
+-- all requests are filed but those of the input channels in a set
+pub record AreFiledBut (requests : List (List (Option VcRequest))) (left : ℕ) (by_port : List ℕ)
+    (ports : ℕ) : Type 0 where
+  pub each : (out p v : ℕ) → out < 7 → p < 7 → v < 8
+      → has (slice_index_or by_port out 0) p v ≡ (is_for (cell requests p v None) out && not (has left p v))
+  pub asked : (out p v : ℕ) → out < 7 → p < 7 → v < 8 → is_for (cell requests p v None) out ≡ true
+      → has left p v ≡ false → small.has ports out ≡ true
 
--- the set under number i
-filed_at : (f : ℕ → Option VcRequest → Bool) (n : ℕ) (requests : List (List (Option VcRequest))) (sets : List ℕ)
-    (i d : ℕ) → i < n
-    → sets ≡ map (λ k. places (f k) requests) (range_with_len 0 n) → slice_index_or sets i d ≡ places (f i) requests
-filed_at f n requests sets i d l e =
-    ap (λ xs. slice_index_or xs i d) e ∙ get_or-map-range_with_len (λ k. places (f k) requests) 0 n i i d l
-    (omega arith)
+-- a request that is missing is for no port
+for_none : (o : Option VcRequest) (out : ℕ) → false ≡ (is_for o out && not (is_some o))
+for_none None out = refl
+for_none (Some r) out = sym (and-false (r.out == out))
 
--- what is in it
-pub has-filed : (f : ℕ → Option VcRequest
-    → Bool) (n : ℕ) (requests : List (List (Option VcRequest))) (sets : List ℕ) (i d p v : ℕ) → i < n → p < 7 → v < 8
-    → sets ≡ map (λ k. places (f k) requests) (range_with_len 0 n)
-    → has (slice_index_or sets i d) p v ≡ f i (cell requests p v None)
-has-filed f n requests sets i d p v l lp lv e =
-    ap (λ s. has s p v) (filed_at f n requests sets i d l e) ∙ has-places (f i) requests p v lp lv
+for_some : (o : Option VcRequest) (out : ℕ) → is_for o out ≡ true → is_some o ≡ true
+for_some None out e = absurd (cc)
+for_some (Some r) out e = refl
 
--- ---- a change of one request
-
--- the set of a port for which the input channel does not wait, and which stays as it is
-left_alone : (requests : List (List (Option VcRequest))) (sets sets' : List ℕ) (i port vc : ℕ) → i < 7 → port < 7
-    → vc < 8 → sets ≡ filed_by_port requests → slice_index_or sets' i 0 ≡ slice_index_or sets i 0
-    → is_for (cell requests port vc None) i ≡ false
-    → IsPut (slice_index_or sets i 0) (slice_index_or sets' i 0) port vc false
-left_alone requests sets sets' i port vc l lp lv e same off =
-    let still : slice_index_or sets' i 0 ≡ places (λ r. is_for r i) requests =
-    same ∙ filed_at (λ out r. is_for r out) 7 requests sets i 0 l e in
-    record {
-      here = ap (λ s. has s port vc) still ∙ has-places (λ r. is_for r i) requests port vc lp lv ∙ off;
-      elsewhere = λ p c _ _ _. ap (λ s. has s p c) same;
-      small = subst (λ s. s < 2 ^ 56) (sym still) (places_small (λ r. is_for r i) requests);
-    }
-
--- a request is filed, or taken from the file
-pub filed_set : (requests : List (List (Option VcRequest))) (waiting waiting' : ℕ) (sets sets' : List ℕ) (port vc : ℕ)
-    (r : Option VcRequest) → IsFiled requests waiting sets → port < 7 → vc < 8
-    → IsPut waiting waiting' port vc (is_some r) → length sets' ≡ length sets
-    → ((i : ℕ) → i < 7 → IsPut (slice_index_or sets i 0) (slice_index_or sets' i 0) port vc (is_for r i))
-    → IsFiled (with_cell requests port vc r) waiting' sets'
-filed_set requests waiting waiting' sets sets' port vc r filed lp lv put long puts = record {
-  shape = IsTable-with_cell requests port vc r filed.shape;
-  all = places_put is_some requests waiting' port vc r lp lv filed.shape
-      (subst (λ s. IsPut s waiting' port vc (is_some r)) filed.all put);
-  ports =
-      let made = length-map-range_with_len (λ out. places (λ r. is_for r out) requests) 0 7 in
-      let made' = length-map-range_with_len (λ out. places (λ r. is_for r out) (with_cell requests port vc r)) 0 7 in
-      let same = ap length filed.ports in
-      ext_get_or 0 sets' (filed_by_port (with_cell requests port vc r)) (omega arith)
-      (λ i l.
-      let within : i < 7 = omega arith in
-      places_put (λ r. is_for r i) requests (slice_index_or sets' i 0) port vc r lp lv filed.shape
-      (subst (λ s. IsPut s (slice_index_or sets' i 0) port vc (is_for r i))
-      (filed_at (λ out r. is_for r out) 7 requests sets i 0 within filed.ports) (puts i within))
-      ∙ sym (get_or-map-range_with_len (λ out. places (λ r. is_for r out) (with_cell requests port vc r)) 0 7 i i 0
-      within (omega arith)));
+-- none is filed at first
+pub filed_start : (requests : List (List (Option VcRequest))) (waiting set ports : ℕ) → set ≡ 0
+    → ((p v : ℕ) → p < 7 → v < 8 → has waiting p v ≡ is_some (cell requests p v None))
+    → AreFiledBut requests waiting (replicate 7 set) ports
+filed_start requests waiting set ports e waits = record {
+  each = λ out p v lo lp lv.
+      ap (λ s. has s p v) (get_or-replicate 7 out set 0 lo ∙ e) ∙ has-zero p v
+      ∙ for_none (cell requests p v None) out
+      ∙ ap (λ b. is_for (cell requests p v None) out && not b) (sym (waits p v lp lv));
+  asked = λ out p v lo lp lv asks off.
+      absurd (true≢false (sym (for_some (cell requests p v None) out asks) ∙ sym (waits p v lp lv) ∙ off));
 }
 
--- a request of an input channel that waited for nothing is filed
-pub filed_add : (requests : List (List (Option VcRequest))) (waiting waiting' : ℕ) (sets sets' : List ℕ) (port vc : ℕ)
-    (r : VcRequest) → IsFiled requests waiting sets → port < 7 → vc < 8 → cell requests port vc None ≡ None
-    → IsPut waiting waiting' port vc true → length sets' ≡ length sets
-    → (r.out < 7 → IsPut (slice_index_or sets r.out 0) (slice_index_or sets' r.out 0) port vc true)
-    → ((i : ℕ) → i < 7 → (r.out == i) ≡ false → slice_index_or sets' i 0 ≡ slice_index_or sets i 0)
-    → IsFiled (with_cell requests port vc (Some r)) waiting' sets'
-filed_add requests waiting waiting' sets sets' port vc r filed lp lv none put long asked others =
-    filed_set requests waiting waiting' sets sets' port vc (Some r) filed lp lv put long puts where
-      puts : (i : ℕ) → i < 7 → IsPut (slice_index_or sets i 0) (slice_index_or sets' i 0) port vc (r.out == i)
-      puts i l = elim (cases_Bool (r.out == i)) [
-        | inl t ↦
-            let is : r.out ≡ i = eqb-true r.out i t in
-            subst (IsPut (slice_index_or sets i 0) (slice_index_or sets' i 0) port vc) (sym t)
-            (subst (λ k. IsPut (slice_index_or sets k 0) (slice_index_or sets' k 0) port vc true) is
-            (asked (subst (λ k. k < 7) (sym is) l)))
-        | inr f ↦ subst (IsPut (slice_index_or sets i 0) (slice_index_or sets' i 0) port vc) (sym f)
-            (left_alone requests sets sets' i port vc l lp lv filed.ports (others i l f) (ap (λ o. is_for o i) none))
-      ]
+-- one input channel is filed, and no other file changes
+pub record IsFiledOne (request : Option VcRequest) (by_port by_port' : List ℕ) (ports ports' port vc : ℕ)
+    : Type 0 where
+  pub here : (out : ℕ) → out < 7 → has (slice_index_or by_port' out 0) port vc ≡ is_for request out
+  pub elsewhere : (out p v : ℕ) → out < 7 → p < 7 → v < 8 → ((p ≡ port) → (v ≡ vc) → ⊥)
+      → has (slice_index_or by_port' out 0) p v ≡ has (slice_index_or by_port out 0) p v
+  pub asked : (out : ℕ) → out < 7 → is_for request out ≡ true → small.has ports' out ≡ true
+  pub more : (out : ℕ) → out < 7 → small.has ports out ≡ true → small.has ports' out ≡ true
 
--- whoever waits for one port waits for no other
-for_one : (r : Option VcRequest) (out i : ℕ) → is_for r out ≡ true → (out == i) ≡ false → is_for r i ≡ false
-for_one None out i t f = refl
-for_one (Some r) out i t f = ap (λ k. k == i) (eqb-true r.out out t) ∙ f
+-- the first input channel of those that are left is filed
+pub filed_more : (requests : List (List (Option VcRequest))) (left left' port vc : ℕ) (by_port by_port' : List ℕ)
+    (ports ports' : ℕ) → AreFiledBut requests left by_port ports → IsFirst left left' port vc
+    → IsFiledOne (cell requests port vc None) by_port by_port' ports ports' port vc
+    → AreFiledBut requests left' by_port' ports'
+filed_more requests left left' port vc by_port by_port' ports ports' b f one = record {
+  each = λ out p v lo lp lv. elim (cases_eq p port) [
+    | inl ep ↦ elim (cases_eq v vc) [
+      | inl ev ↦
+          ap (λ k. has (slice_index_or by_port' out 0) k v) ep ∙ ap (has (slice_index_or by_port' out 0) port) ev
+          ∙ one.here out lo
+          ∙ sym (and-true (is_for (cell requests port vc None) out))
+          ∙ sym (ap (λ k. is_for (cell requests k v None) out && not (has left' k v)) ep
+          ∙ ap (λ k. is_for (cell requests port k None) out && not (has left' port k)) ev
+          ∙ ap (λ t. is_for (cell requests port vc None) out && not t) f.taken.here)
+      | inr other ↦ apart out p v lo lp lv (λ _ e. other e)
+    ]
+    | inr other ↦ apart out p v lo lp lv (λ e _. other e)
+  ];
+  asked = λ out p v lo lp lv asks off. elim (cases_eq p port) [
+    | inl ep ↦ elim (cases_eq v vc) [
+      | inl ev ↦ one.asked out lo (sym (ap (λ k. is_for (cell requests k v None) out) ep
+          ∙ ap (λ k. is_for (cell requests port k None) out) ev) ∙ asks)
+      | inr other ↦ one.more out lo (b.asked out p v lo lp lv asks
+          (sym (f.taken.elsewhere p v lp lv (λ _ e. other e)) ∙ off))
+    ]
+    | inr other ↦ one.more out lo (b.asked out p v lo lp lv asks
+        (sym (f.taken.elsewhere p v lp lv (λ e _. other e)) ∙ off))
+  ];
+} where
+  apart : (out p v : ℕ) → out < 7 → p < 7 → v < 8 → ((p ≡ port) → (v ≡ vc) → ⊥)
+      → has (slice_index_or by_port' out 0) p v ≡ (is_for (cell requests p v None) out && not (has left' p v))
+  apart out p v lo lp lv other =
+      one.elsewhere out p v lo lp lv other ∙ b.each out p v lo lp lv
+      ∙ ap (λ t. is_for (cell requests p v None) out && not t) (sym (f.taken.elsewhere p v lp lv other))
 
--- the request of an input channel that waited for this port is taken from the file
-pub filed_remove : (requests : List (List (Option VcRequest))) (waiting waiting' : ℕ) (sets : List ℕ)
-    (port vc out d set : ℕ) → IsFiled requests waiting sets → port < 7 → vc < 8 → out < 7
-    → is_for (cell requests port vc None) out ≡ true → IsPut waiting waiting' port vc false
-    → IsPut (slice_index_or sets out d) set port vc false
-    → IsFiled (with_cell requests port vc None) waiting' (slice_set sets out set)
-filed_remove requests waiting waiting' sets port vc out d set filed lp lv lo waits put taken =
-    filed_set requests waiting waiting' sets (slice_set sets out set) port vc None filed lp lv put
-    (length-set sets out set) puts where
-      long : out < length sets
-      long = subst (λ n. out < n) (sym (ap length filed.ports
-          ∙ length-map-range_with_len (λ o. places (λ r. is_for r o) requests) 0 7)) lo
+-- an input channel that is left is in no file
+not_filed : (requests : List (List (Option VcRequest))) (left left' port vc out : ℕ) (by_port : List ℕ) (ports : ℕ)
+    → AreFiledBut requests left by_port ports → IsFirst left left' port vc → out < 7
+    → has (slice_index_or by_port out 0) port vc ≡ false
+not_filed requests left left' port vc out by_port ports b f lo =
+    b.each out port vc lo f.port_in f.channel_in
+    ∙ ap (λ t. is_for (cell requests port vc None) out && not t) f.was_in
+    ∙ and-false (is_for (cell requests port vc None) out)
 
-      here : IsPut (slice_index_or sets out 0) set port vc false
-      here = subst (λ s. IsPut s set port vc false) (filed_at (λ o r. is_for r o) 7 requests sets out d lo filed.ports
-          ∙ sym (filed_at (λ o r. is_for r o) 7 requests sets out 0 lo filed.ports)) taken
+-- one that asks for a port is put into its file
+pub filed_for : (requests : List (List (Option VcRequest))) (left left' port vc d set : ℕ) (by_port : List ℕ)
+    (ports ports' : ℕ) (r : VcRequest) → AreFiledBut requests left by_port ports → IsFirst left left' port vc
+    → cell requests port vc None ≡ Some r → r.out < length by_port
+    → IsPut (slice_index_or by_port r.out d) set port vc true → small.IsPut ports ports' r.out true
+    → AreFiledBut requests left' (slice_set by_port r.out set) ports'
+filed_for requests left left' port vc d set by_port ports ports' r b f is long put added =
+    filed_more requests left left' port vc by_port (slice_set by_port r.out set) ports ports' b f (record {
+      here = λ out lo. elim (cases_eq out r.out) [
+        | inl same ↦ at_file out same port vc ∙ put.here ∙ sym (asks out ∙ eq-eqb r.out out (sym same))
+        | inr other ↦ at_other out other port vc ∙ not_filed requests left left' port vc out by_port ports b f lo
+            ∙ sym (asks out ∙ ne_eqb r.out out (λ e. other (sym e)))
+      ];
+      elsewhere = λ out p v lo lp lv apart. elim (cases_eq out r.out) [
+        | inl same ↦
+            at_file out same p v ∙ put.elsewhere p v lp lv apart
+            ∙ ap (λ s. has s p v) (sym (get_or_default by_port r.out 0 d long))
+            ∙ ap (λ k. has (slice_index_or by_port k 0) p v) (sym same)
+        | inr other ↦ at_other out other p v
+      ];
+      asked = λ out lo e. ap (small.has ports') (sym (eqb-true r.out out (sym (asks out) ∙ e))) ∙ added.here;
+      more = λ out lo e. elim (cases_eq out r.out) [
+        | inl same ↦ ap (small.has ports') same ∙ added.here
+        | inr other ↦ added.elsewhere out (omega arith) other ∙ e
+      ];
+    }) where
+      asks : (out : ℕ) → is_for (cell requests port vc None) out ≡ (r.out == out)
+      asks out = ap (λ o. is_for o out) is
 
-      puts : (i : ℕ) → i < 7
-          → IsPut (slice_index_or sets i 0) (slice_index_or (slice_set sets out set) i 0) port vc false
-      puts i l = elim (cases_Bool (out == i)) [
-        | inl t ↦
-            let is : out ≡ i = eqb-true out i t in
-            subst (λ k. IsPut (slice_index_or sets k 0) (slice_index_or (slice_set sets out set) k 0) port vc false) is
-            (subst (λ s. IsPut (slice_index_or sets out 0) s port vc false)
-            (sym (get_or-set_same sets out set 0 long)) here)
-        | inr f ↦ left_alone requests sets (slice_set sets out set) i port vc l lp lv filed.ports
-            (get_or-set_other sets out i set 0 (λ e. eqb-false out i f (sym e)))
-            (for_one (cell requests port vc None) out i waits f)
-      ]
+      at_file : (out : ℕ) → out ≡ r.out → (p v : ℕ)
+          → has (slice_index_or (slice_set by_port r.out set) out 0) p v ≡ has set p v
+      at_file out same p v =
+          ap (λ k. has (slice_index_or (slice_set by_port r.out set) k 0) p v) same
+          ∙ ap (λ s. has s p v) (get_or-set_same by_port r.out set 0 long)
 
--- no request
-filed_empty : (f : ℕ → Option VcRequest → Bool) → ((i : ℕ) → f i None ≡ false) → (set : ℕ) → set ≡ 0 → (a n : ℕ)
-    → replicate n set ≡ map (λ k. places (f k) (replicate 7 (replicate 8 None))) (range_with_len a n)
-filed_empty f none set e a zero = refl
-filed_empty f none set e a (suc n) =
-    ap (λ s. s ∷ replicate n set) (e ∙ places_none (f a) (none a))
-    ∙ ap (λ xs. places (f a) (replicate 7 (replicate 8 None)) ∷ xs) (filed_empty f none set e (a + 1) n)
+      at_other : (out : ℕ) → (out ≡ r.out → ⊥) → (p v : ℕ)
+          → has (slice_index_or (slice_set by_port r.out set) out 0) p v ≡ has (slice_index_or by_port out 0) p v
+      at_other out other p v = ap (λ s. has s p v) (get_or-set_other by_port r.out out set 0 other)
 
-pub filed_none : (waiting set : ℕ) → waiting ≡ 0 → set ≡ 0
-    → IsFiled (replicate 7 (replicate 8 None)) waiting (replicate 7 set)
-filed_none waiting set e es = record {
-  shape = IsTable-replicate None;
-  all = e ∙ places_none is_some refl;
-  ports = filed_empty (λ out r. is_for r out) (λ i. refl) set es 0 7;
-}
+-- one that asks for no port of a router is put into none
+pub filed_nowhere : (requests : List (List (Option VcRequest))) (left left' port vc : ℕ) (by_port : List ℕ)
+    (ports : ℕ) → AreFiledBut requests left by_port ports → IsFirst left left' port vc
+    → ((out : ℕ) → out < 7 → is_for (cell requests port vc None) out ≡ false)
+    → AreFiledBut requests left' by_port ports
+filed_nowhere requests left left' port vc by_port ports b f none =
+    filed_more requests left left' port vc by_port by_port ports ports b f (record {
+      here = λ out lo. not_filed requests left left' port vc out by_port ports b f lo ∙ sym (none out lo);
+      elsewhere = λ out p v lo lp lv apart. refl;
+      asked = λ out lo e. absurd (true≢false (sym e ∙ none out lo));
+      more = λ out lo e. e;
+    })
+
+-- all are filed
+pub filed_all : (requests : List (List (Option VcRequest))) (left : ℕ) (by_port : List ℕ) (ports : ℕ)
+    → AreFiledBut requests left by_port ports → left ≡ 0 → IsFiled requests by_port ports
+filed_all requests left by_port ports b e = record {
+  each = λ out p v lo lp lv.
+      b.each out p v lo lp lv ∙ ap (λ t. is_for (cell requests p v None) out && not t) (none p v)
+      ∙ and-true (is_for (cell requests p v None) out);
+  asked = λ out p v lo lp lv asks. b.asked out p v lo lp lv asks (none p v);
+} where
+  none : (p v : ℕ) → has left p v ≡ false
+  none p v = ap (λ s. has s p v) e ∙ has-zero p v

@@ -3,5 +3,5 @@ pub mod ChannelSet
 pub mod Table
 pub mod Places
 pub mod VcRequest
-pub mod Filed
+pub mod Asked
 pub mod VcAlloc

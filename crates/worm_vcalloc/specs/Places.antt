@@ -14,7 +14,7 @@ places_below test table (suc n) =
 abbrev pub places : {X : Type 0} → (Option X → Bool) → List (List (Option X)) → ℕ
 places test table = places_below test table 56
 
--- the keys beside a table of numbers: the places where one stands
-pub record IsKeyed (numbers : List (List (Option ℕ))) (keys : ℕ) : Type 0 where
-  pub shape : IsTable numbers
-  pub all : keys ≡ places is_some numbers
+-- the keys beside a table: the places where something stands
+pub record IsKeyed {X : Type 0} (table : List (List (Option X))) (keys : ℕ) : Type 0 where
+  pub shape : IsTable table
+  pub all : keys ≡ places is_some table

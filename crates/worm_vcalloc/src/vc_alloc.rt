@@ -6,6 +6,7 @@ ghost use Rattle.worm_vcalloc.specs.VcAlloc.{is_requester, offered, port_pass, v
 ghost use Rattle.worm_vcalloc.specs.declared.request.VcRequest.{VcRequest};
 
 use crate::arbiter::Arbiter;
+use crate::asked::Asked;
 use crate::channel_map::ChannelMap;
 use crate::request::VcRequests;
 use std::marker::Model;
@@ -108,11 +109,12 @@ impl VcAlloc {
     {
         let ports = self.ports;
         let mut grants = VcGrants::new();
-        if waiting.waiting().is_empty() {
-            return grants;
-        }
-        for out in 0..ports {
-            self.grant_port(out, waiting, free, &mut grants);
+        let asked = Asked::of(waiting);
+        let mut left = asked.ports();
+        while let Some(out) = left.pop_first() {
+            if out < ports {
+                self.grant_port(out, &asked, free, &mut grants);
+            }
         }
         grants
     }
@@ -121,7 +123,7 @@ impl VcAlloc {
     fn grant_port(
         &mut self,
         out: u8,
-        waiting: &VcRequests,
+        waiting: &Asked<'_>,
         free: &FreeChannels,
         grants: &mut VcGrants,
     )
@@ -135,9 +137,6 @@ impl VcAlloc {
         ensures channels { self.new.channels ≡ self.old.channels }
     {
         let channels = self.channels;
-        if waiting.asking_port(out).is_empty() {
-            return;
-        }
         for channel in 0..channels {
             if free[out as usize][channel as usize] {
                 self.offer(out, channel, waiting, grants);
@@ -146,7 +145,7 @@ impl VcAlloc {
     }
 
     /// Offers one free output channel to its requesters.
-    fn offer(&mut self, out: u8, channel: u8, waiting: &VcRequests, grants: &mut VcGrants)
+    fn offer(&mut self, out: u8, channel: u8, waiting: &Asked<'_>, grants: &mut VcGrants)
         requires out { out < self.old.ports }
         requires channel { channel < self.old.channels }
         ensures pass { record {
@@ -169,7 +168,7 @@ impl VcAlloc {
         &self,
         out: u8,
         channel: u8,
-        waiting: &VcRequests,
+        waiting: &Asked<'_>,
         grants: &VcGrants,
     ) -> Requesters
         requires out { out < self.now.ports }

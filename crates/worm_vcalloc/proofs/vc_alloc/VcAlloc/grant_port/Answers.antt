@@ -1,24 +1,9 @@
-use Rattle.std.proofs.Common.{◌≡◌, ◌<◌, arith, sym, ◌∙◌, ap, fold}
+use Rattle.std.proofs.Common.{◌≡◌, arith, ◌∙◌, ap, fold}
 use Rattle.std.specs.List.{range_with_len}
-use Rattle.worm_vcalloc.specs.VcAlloc.{VcAllocState, VcPass, port_pass, vc_step}
-use Rattle.worm_vcalloc.proofs.PassAgrees.{channel_offered, channel_passed, port_pass_unasked}
-use Rattle.worm_vcalloc.proofs.SetMembers.{has-empty}
+use Rattle.worm_vcalloc.specs.VcAlloc.{VcPass, port_pass, vc_step}
+use Rattle.worm_vcalloc.proofs.PassAgrees.{channel_offered, channel_passed}
 use Rattle.worm_vcalloc.proofs.vc_alloc.VcAlloc.grant_port.Goals as goal
 use Rattle.worm_vcalloc.proofs.vc_alloc.VcAlloc.grant_port.Goals.{then-free-out, else-free-out}
-
-pub returns-then-is_empty-clause-pass : goal.returns-then-is_empty-clause-pass
-returns-then-is_empty-clause-pass c =
-    let s : VcAllocState = record {
-      ports = c.self.inside.ports;
-      channels = c.self.inside.channels;
-      arbiters = c.self.inside.arbiters;
-    } in
-    let out_in : c.args.out < c.self.inside.ports = rw (← c.self.view_is) at c.requires in
-    rw (← c.self.view_is)
-    (sym (port_pass_unasked c.args.waiting.now c.args.free.now
-    (record { alloc = s; grants = c.args.grants.now }) c.args.out c.self.invariant out_in
-    (λ p v lp lv. sym (c.asking_port.ensures p v lp lv)
-    ∙ has-empty c.asking_port.result p v (sym c.is_empty.ensures ∙ c.if-is_empty.true))))
 
 pub loop-channel-preserved : goal.loop-channel-preserved
 loop-channel-preserved c =
