@@ -3,8 +3,12 @@ use Rattle.worm_vcalloc.specs.Table.{cell}
 use Rattle.worm_vcalloc.specs.VcRequest.{allows}
 use Rattle.worm_vcalloc.proofs.RequestersGathered.{gather_start, gather_more, gather_other, gather_all}
 use Rattle.worm_vcalloc.proofs.vc_alloc.VcAlloc.requests_for.Goals as goal
-use Rattle.worm_vcalloc.proofs.vc_alloc.VcAlloc.requests_for.Goals.{else-port-ports-via-then-port-ports+then-vc-channels+else-takes}
-use Rattle.worm_vcalloc.proofs.vc_alloc.VcAlloc.requests_for.Goals.{else-port-ports-via-then-port-ports+else-vc-channels}
+use Rattle.worm_vcalloc.proofs.vc_alloc.VcAlloc.requests_for.Goals.{
+  else-port-ports-via-then-port-ports+then-vc-channels+else-takes,
+}
+use Rattle.worm_vcalloc.proofs.vc_alloc.VcAlloc.requests_for.Goals.{
+  else-port-ports-via-then-port-ports+else-vc-channels,
+}
 use Rattle.worm_vcalloc.proofs.vc_alloc.VcAlloc.requests_for.Goals.{else-port-ports-via-else-port-ports}
 
 pub loop-port-init : goal.loop-port-init
