@@ -18,10 +18,11 @@ leaves : (c : After-file_left)
     c.line-o.result c.index_mut-channel.result.now c.index_mut-output.result.now c.credit_of-spent.result
     c.credit_of-more_owed.result
 leaves c =
-    leaving_of (was c) c.args.self.now c.self.inside.busy c.self.inside.demand c.self.inside.masks c.args.port c.args.vc
-    c.line-i.result c.args.out c.line-o.result c.args.flit c.index_mut-channel.result.now c.index_mut-output.result.now
-    c.credit_of-spent.result c.credit_of-more_owed.result c.self.view_is c.self.invariant c.requires.place
-    c.requires.ready c.line-i.ensures.value c.line-i.ensures.in_inputs c.index_mut-channel.ensures.value
+    leaving_of (was c) c.args.self.now c.self.inside.busy c.self.inside.demand c.self.inside.masks
+    c.self.inside.routes.items c.args.port c.args.vc c.line-i.result c.args.out c.line-o.result c.args.flit
+    c.index_mut-channel.result.now c.index_mut-output.result.now c.credit_of-spent.result
+    c.credit_of-more_owed.result c.self.view_is c.self.invariant c.requires.place c.requires.ready
+    c.line-i.ensures.value c.line-i.ensures.in_inputs c.index_mut-channel.ensures.value
     c.line-o.ensures.value c.line-o.ensures.in_outputs c.index_mut-output.ensures.value c.credit_of-spent.ensures.value
     c.credit_of-more_owed.ensures.value
 
@@ -36,8 +37,8 @@ release-requires c =
 
 -- it is out
 out : (c : After-file_left)
-    → IsOut c.self.inside.depth c.self.inside.busy c.file_left.new.self c.args.port c.args.vc c.index_mut-channel.result.now
-    c.let_out.new.self c.args.flit c.credit_of-more_owed.result
+    → IsOut c.self.inside.depth c.self.inside.busy c.file_left.new.self c.args.port c.args.vc
+    c.index_mut-channel.result.now c.let_out.new.self c.args.flit c.credit_of-more_owed.result
 out c = record {
   gone_is = c.let_out.ensures;
   occupied = c.file_left.ensures.occupied;
@@ -50,11 +51,11 @@ out c = record {
 pub invariant_of-self : goal.invariant_of-self
 invariant_of-self c =
     let at = (goal.at.invariant_of-self c).After-file_left in
-    closed_kept _ _ _ _ _ _ _ _ _ _ _ _ _ _ _ _ _ c.self.invariant (leaves at) (out at) _ _ _ _ c.close.ensures
+    closed_kept _ _ _ _ _ _ _ _ _ _ _ _ _ _ _ _ _ _ c.self.invariant (leaves at) (out at) _ _ _ _ c.close.ensures
     c.release.ensures c.set.ensures c.release-then-is_closing.ensures
 
 pub invariant_of-self-else-is_closing : goal.invariant_of-self-else-is_closing
 invariant_of-self-else-is_closing c =
     let at = (goal.at.invariant_of-self-else-is_closing c).After-file_left in
-    followed_kept _ _ _ _ _ _ _ _ _ _ _ _ _ _ _ _ _ c.self.invariant (leaves at) (out at) _
+    followed_kept _ _ _ _ _ _ _ _ _ _ _ _ _ _ _ _ _ _ c.self.invariant (leaves at) (out at) _
     (filed _ _ _ _ _ c.put.ensures)
