@@ -1,11 +1,18 @@
 -- A fresh router is sound.
 use Rattle.std.proofs.Common.{ℕ, ◌+◌, ◌*◌, ◌≤◌, ◌<◌, ◌≡◌, List, length, sum, replicate, arith, refl}
+use Rattle.std.proofs.lemmas.Grind.{common_steps}
 use Rattle.std.proofs.lemmas.List.{length-replicate, get_or-replicate}
 use Rattle.std.proofs.lemmas.Nat.{mul-add-lt}
 use Rattle.std.proofs.lemmas.List.Elements.{All-replicate}
+use Rattle.worm_flit.specs.Channels.{AreChannels}
 use Rattle.worm_mesh.specs.Address.{node_count}
 use Rattle.worm_records.specs.declared.OutRecord.{OutRecord}
 use Rattle.worm_router.specs.Router.{HasLists, IsChannel, ChannelState, fresh_channel, free_output}
+
+-- each port of it has a channel
+pub some_channel : (channels : List ℕ) → AreChannels channels → 0 < sum channels
+some_channel channels are =
+    let some = are.some in let each = are.each in grind (arith, common_steps)
 
 fresh_channel_sound : (mesh channels : List ℕ) (depth : ℕ) → IsChannel mesh channels depth (fresh_channel depth)
 fresh_channel_sound mesh channels depth = record {

@@ -17,8 +17,8 @@ use Rattle.worm_router.specs.Demand.{DemandView}
 use Rattle.worm_router.specs.declared.busy.BusyChannels.{BusyChannels}
 
 -- who may use a channel of a port waits for that port
-pub waits_for : (r : RouterState) (s : InRecord) (fs : List Flit) (o c : ℕ) → may_use (asking r.channels s fs) o c ≡ true
-    → s ≡ Waiting o
+pub waits_for : (r : RouterState) (s : InRecord) (fs : List Flit) (o c : ℕ)
+    → may_use (asking r.channels s fs) o c ≡ true → s ≡ Waiting o
 waits_for r Idle fs o c e = absurd (true≢false (sym e))
 waits_for r (Active p v) fs o c e = absurd (true≢false (sym e))
 waits_for r (Waiting p) [] o c e = absurd (true≢false (sym e))
@@ -50,11 +50,11 @@ pub record IsGrantable (r : RouterState) (grants : List (List (Option ℕ))) : T
   pub matching : IsChannelMatching (terminal r + 1) (width r) (requests r) (free_channels r) grants
 
 -- those of a pass over what a router keeps
-pub grantable : (r : RouterState) (sets : BusyChannels) (asked : DemandView) (masks : List ℕ)
+pub grantable : (r : RouterState) (sets : BusyChannels) (asked : DemandView) (masks routes : List ℕ)
     (waiting : List (List (Option VcRequest))) (free : List (List Bool)) (grants : List (List (Option ℕ)))
-    → IsKept r sets asked masks → waiting ≡ asked.requests → free ≡ asked.free
+    → IsKept r sets asked masks routes → waiting ≡ asked.requests → free ≡ asked.free
     → IsChannelMatching r.channel_alloc.ports r.channel_alloc.channels waiting free grants → IsGrantable r grants
-grantable r sets asked masks waiting free grants kept is is' matching = record {
+grantable r sets asked masks routes waiting free grants kept is is' matching = record {
   few_ports = kept.busy.few_ports;
   few = kept.busy.few_channels;
   inputs = kept.router.lists.all_inputs;

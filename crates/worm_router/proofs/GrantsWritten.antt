@@ -74,7 +74,8 @@ module _ (grants : List (List (Option ℕ))) (r : RouterState) (few_ports : term
   port_to p zero within = ap (written_to grants r) (omega arith)
   port_to p (suc k) within =
       let more : suc k ≡ k + 1 = omega arith in
-      ap (λ n. fold (λ s v. written s p v (cell grants p v None)) (written_to grants r (8 * p)) (range_with_len 0 n)) more
+      ap (λ n. fold (λ s v. written s p v (cell grants p v None)) (written_to grants r (8 * p)) (range_with_len 0 n))
+      more
       ∙ fold-range_more (λ s v. written s p v (cell grants p v None)) (written_to grants r (8 * p)) k
       ∙ ap (λ s. written s p k (cell grants p k None)) (port_to p k (omega (arith, within)))
       ∙ sym (written_one grants r p k (omega (arith, within)))

@@ -122,8 +122,8 @@ module _ (r : RouterState) (port vc i : ℕ) (had now : ChannelState) (input : I
       (λ p c. lacks_credit (record r { outputs = slice_set r.outputs o u }) c.state) (slice_set r.outputs o u) old new
       filed (λ p v place other. lacks_out r o u (input_at r p v).state output.within
       (λ q k holds at. absurd (not_its p v q k held
-      (λ both. other (ap (λ j. line r j v) both.0 ∙ ap (λ j. line r port j) both.1 ∙ sym input.at)) its place holds at)))
-      those
+      (λ both. other (ap (λ j. line r j v) both.0 ∙ ap (λ j. line r port j) both.1 ∙ sym input.at)) its place holds
+      at))) those
 
   -- it holds that now
   pub lack_held : (spent old new : ℕ) → now.state ≡ Active out out_vc → spent ≡ credit_of r out

@@ -4,11 +4,12 @@ ghost use Rattle.std.specs.Prelude.{slice_get, replicate, if◌then◌else◌};
 ghost use Rattle.worm_flit.specs.Channels.{AreChannels};
 ghost use Rattle.worm_mesh.specs.Address.{node_count};
 ghost use Rattle.worm_records.specs.declared.InRecord.TheVariants.{Waiting};
+ghost use Rattle.worm_route.specs.Route.{port_of};
 ghost use Rattle.worm_router.specs.Router.{IsPlace, IsRouter, line, fresh_channel, free_output, fresh_router, input_at};
 ghost use Rattle.worm_router.specs.Router.{output_at, terminal, width, after_accept, can_route, after_route, can_grant};
 ghost use Rattle.worm_router.specs.Router.{after_grant, after_granting, leaving, MayLeave, credit_of};
 ghost use Rattle.worm_router.specs.Router.{after_send, after_gave, after_credit};
-ghost use Rattle.worm_router.specs.Busy.{IsSetOf, AreMasks, is_occupied, is_waiting, is_active, owes};
+ghost use Rattle.worm_router.specs.Busy.{IsSetOf, AreMasks, AreRoutes, is_occupied, is_waiting, is_active, owes};
 
 mod allocation;
 mod rest;
@@ -28,6 +29,9 @@ use worm_vcalloc::{ChannelSet, VcAlloc, VcRequest};
 
 /// The router of one node: its input channels and its output channels, each by rising port, then channel.
 ///
+/// A packet's route is looked up, not worked out: the output port for each destination stands in a table, made with the
+/// router. One read costs less at each packet than to compare two addresses digit by digit.
+///
 /// ```text
 /// router.accept(0, flit)?;            // a flit comes in by port 0
 /// router.route(0, flit.vc);           // the front packet's output port is found
@@ -46,6 +50,8 @@ pub struct Router {
     masks: [u8; 4],
     /// How many flits each buffer holds, 1 to 16.
     depth: u8,
+    /// The output port of the route to each node.
+    routes: Vec<u8>,
     /// The input channels.
     inputs: Vec<InputChannel>,
     /// The records of the output channels. The terminal's always have `depth` credits.
@@ -70,7 +76,7 @@ impl Model for Router {
         r.switch_alloc };
 
     ghost invariant = { λ r. IsKept (router_state r.mesh r.node r.classes r.depth r.inputs.items r.outputs.items
-        r.channel_alloc r.switch_alloc) r.busy r.demand r.masks };
+        r.channel_alloc r.switch_alloc) r.busy r.demand r.masks r.routes.items };
 }
 
 /// So many input channels with empty buffers.
@@ -96,6 +102,19 @@ fn make_outputs(alloc: Global, count: usize, depth: u8) -> Result<Vec<OutRecord>
         })?;
     }
     Ok(outputs)
+}
+
+/// The output port of the route from this node to each node of the mesh.
+fn make_routes(alloc: Global, mesh: &Mesh, node: u8) -> Result<Vec<u8>, AllocError>
+    requires { node < node_count mesh.now }
+    ensures { IfOk result (λ v. AreRoutes mesh.now node v.items) }
+{
+    let count = mesh.nodes();
+    let mut routes = Vec::with_capacity(alloc, usize::from(count))?;
+    for dst in 0..count {
+        routes.push(next_port(mesh, node, dst as u8))?;
+    }
+    Ok(routes)
 }
 
 /// The channels of each class, as a bit for each. A class that is not there has none.
@@ -132,12 +151,14 @@ impl Router {
         let count = usize::from(ports) * usize::from(total);
         let outputs = make_outputs(alloc, count, depth)?;
         let inputs = make_inputs(alloc, count, depth)?;
+        let routes = make_routes(alloc, mesh, node)?;
         Ok(Router {
             mesh: *mesh,
             node,
             classes,
             masks,
             depth,
+            routes,
             inputs,
             outputs,
             channel_alloc: VcAlloc::new(ports, total),
@@ -290,6 +311,15 @@ impl Router {
         came
     }
 
+    /// The output port of the route to a node.
+    fn port_to(&self, dst: u8) -> u8
+        requires { dst < node_count self.now.mesh }
+        ensures value { result ≡ port_of self.now.mesh self.now.node dst }
+        ensures bound { result ≤ terminal self.now }
+    {
+        self.routes[usize::from(dst)]
+    }
+
     /// Route computation: an idle channel with an opening flit at its front comes to wait for the output port that the
     /// packet's route takes. False, and nothing done, where it is not idle or has no such flit.
     pub fn route(&mut self, port: u8, vc: u8) -> bool
@@ -308,7 +338,7 @@ impl Router {
         if !is_opening(front.kind) {
             return false;
         }
-        let out = next_port(&self.mesh, self.node, front.lane.dst);
+        let out = self.port_to(front.lane.dst);
         let allowed = self.mask(front.lane.class);
         let channel = &mut self.inputs[i];
         channel.route_to(out);

@@ -10,7 +10,7 @@ use Rattle.worm_router.proofs.router.Router.ready.Goals as goal
 pub returns-then-not-contains-clause-leaves : goal.returns-then-not-contains-clause-leaves
 returns-then-not-contains-clause-leaves c =
     sym (none_where_not_some (leaving c.args.self.now c.args.port c.args.vc)
-    (sym (kept_leaves _ c.args.self.now _ _ _ c.ready.result c.args.port c.args.vc c.self.view_is c.self.invariant
+    (sym (kept_leaves _ c.args.self.now _ _ _ _ c.ready.result c.args.port c.args.vc c.self.view_is c.self.invariant
     c.ready.ensures c.requires)
     ∙ sym c.contains.ensures ∙ c.if-not-contains.true))
 
@@ -21,7 +21,7 @@ by_hold : (c : goal.In_ok-flit)
 by_hold c =
     leaves_by_hold c.args.self.now c.args.port c.args.vc c.in-Active.out c.in-Active.out_vc
     c.index-channel.result.now c.in_ok-flit.flit (sym c.if-not-contains.false ∙ c.contains.ensures
-    ∙ kept_leaves _ c.args.self.now _ _ _ c.ready.result c.args.port c.args.vc c.self.view_is c.self.invariant
+    ∙ kept_leaves _ c.args.self.now _ _ _ _ c.ready.result c.args.port c.args.vc c.self.view_is c.self.invariant
     c.ready.ensures c.requires)
     (input_read _ c.args.self.now c.args.port c.args.vc c.line.result c.index-channel.result.now
     c.self.view_is c.index-channel.ensures c.line.ensures.value c.line.ensures.in_inputs)

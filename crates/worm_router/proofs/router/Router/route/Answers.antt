@@ -1,5 +1,5 @@
 use Rattle.worm_flit.specs.Channels.{class_bits}
-use Rattle.std.proofs.Common.{refl, slice_get, Some, sym, ap, ◌∙◌, inr, ◌≡◌, arith}
+use Rattle.std.proofs.Common.{refl, slice_get, Some, sym, subst, ap, ◌∙◌, inr, ◌≡◌, ◌≤◌, ◌*◌, length}
 use Rattle.std.proofs.lemmas.List.Elements.{All-set}
 use Rattle.worm_router.specs.Allocation.{asking}
 use Rattle.worm_router.specs.Demand.{DemandView}
@@ -63,8 +63,9 @@ invariant_of-self c =
     record {
       router = record {
         lists = input_set_sound _ _ _ _ _ _ _ _ c.self.invariant.router.lists
-            (waiting_sound _ _ _ _ _ c.next_port-out.result had
-            (omega (arith, c.next_port-out.ensures)) c.route_to.ensures);
+            (waiting_sound _ _ _ _ _ c.port_to-out.result had
+            (subst (λ (r : RouterState). c.port_to-out.result ≤ 2 * length r.mesh) (sym c.self.view_is)
+            c.port_to-out.ensures.bound) c.route_to.ensures);
         allocators = c.self.invariant.router.allocators;
       };
       arbiters = c.self.invariant.arbiters;
@@ -85,6 +86,7 @@ invariant_of-self c =
           (λ o k holds. let unlike = sym (ap (λ (x : ChannelState). x.state) c.route_to.ensures) ∙ holds in
           absurd (cc)) (λ o k holds. let unlike = sym was_idle ∙ holds in absurd (cc)) c.self.invariant.holders;
       classes = c.self.invariant.classes;
+      destinations = c.self.invariant.destinations;
       outs = outs_kept _ _ _ _ _ _ input _ (ap (λ (x : ChannelState). port_held x.state) c.route_to.ensures
           ∙ sym (ap port_held was_idle)) c.self.invariant.outs;
       no_credit = lack_waiting _ _ _ _ _ _ input c.self.invariant.busy.few_ports c.self.invariant.busy.few_channels _ _
