@@ -3,7 +3,7 @@ use Rattle.std.proofs.Common.{◌≡◌, ◌==◌, ℕ, ◌+◌, ◌<◌, ◌≤
 use Rattle.std.proofs.Common.{length-append, slice_set, slice_get, slice_index_or, replicate, Option, None, Some}
 use Rattle.std.proofs.Common.{is_none, is_some, All, if◌then◌else◌, inl, inr, refl, arith, ap, sym, subst, ◌∙◌}
 use Rattle.std.proofs.lemmas.Grind.{get_or-set_at}
-use Rattle.std.proofs.lemmas.Bool.{cases_lt, eq-eqb, true≢false}
+use Rattle.std.proofs.lemmas.Bool.{cases_lt, true≢false}
 use Rattle.std.proofs.lemmas.Bool.Decides.{nat_tests}
 use Rattle.std.proofs.lemmas.Nat.{same_from_place}
 use Rattle.std.proofs.lemmas.List.{get_or-set_other, get_or_past}
@@ -14,7 +14,7 @@ use Rattle.worm_records.specs.declared.InRecord.{InRecord}
 use Rattle.worm_records.specs.declared.InRecord.TheVariants.{Idle, Waiting, Active}
 use Rattle.worm_records.specs.declared.OutRecord.{OutRecord}
 use Rattle.worm_vcalloc.specs.declared.request.VcRequest.{VcRequest}
-use Rattle.worm_vcalloc.specs.VcRequest.{is_for, may_use}
+use Rattle.worm_vcalloc.specs.VcRequest.{may_use}
 use Rattle.worm_vcalloc.specs.ChannelSet.{has}
 use Rattle.worm_vcalloc.specs.Table.{cell, with_cell}
 use Rattle.worm_vcalloc.specs.VcAlloc.{VcAllocState, vc_pass}
@@ -53,17 +53,6 @@ asks_by_front channels (g ∷ fs) f o allowed front is =
 pub front_there : (fs : List Flit) (f : Flit) → slice_get fs 0 ≡ Some f → nat_lt 0 (length fs) ≡ true
 front_there [] f front = absurd (cc)
 front_there (g ∷ fs) f front = grind (arith, nat_tests)
-
--- a waiting channel asks for the port that it waits for
-asks_for : (channels : List ℕ) (s : InRecord) (fs : List Flit) (o : ℕ)
-    → (waits s ≡ true → nat_lt 0 (length fs) ≡ true) → s ≡ Waiting o → is_for (asking channels s fs) o ≡ true
-asks_for channels s fs o some is = go s fs some is where
-  go : (s : InRecord) (fs : List Flit) → (waits s ≡ true → nat_lt 0 (length fs) ≡ true) → s ≡ Waiting o
-      → is_for (asking channels s fs) o ≡ true
-  go Idle fs some is = absurd (cc)
-  go (Active p c) fs some is = absurd (cc)
-  go (Waiting p) [] some is = let no = some refl in absurd (grind (arith, nat_tests))
-  go (Waiting p) (f ∷ fs) some is = let same : p ≡ o = cc in eq-eqb p o same
 
 -- a flit that comes behind others changes nothing of it
 asks_behind : (channels : List ℕ) (s : InRecord) (fs gs : List Flit) → (waits s ≡ true → nat_lt 0 (length fs) ≡ true)
@@ -119,30 +108,6 @@ module _ (r : RouterState) (port vc i : ℕ) (had now : ChannelState) (input : I
       (get_or-set_other r.inputs i (line r p v) now (fresh_channel r.depth) (λ e.
       let at = same_from_place p v port vc (width r) place.channel_in input.place.channel_in (e ∙ input.at) in
       other at.0 at.1)))
-
-  -- what it asked for
-  asked_here : (asked : List (List (Option VcRequest))) → terminal r ≤ 6 → width r ≤ 8 → asked ≡ requests r
-      → cell asked port vc None ≡ asking r.channels had.state had.buffer
-  asked_here asked few_ports few_channels is =
-      ap (λ t. cell t port vc None) is ∙ cell_is r None (request_at r) port vc few_ports few_channels input.place
-      ∙ ap (λ k. asking r.channels (slice_index_or r.inputs k (fresh_channel r.depth)).state
-      (slice_index_or r.inputs k (fresh_channel r.depth)).buffer) (sym input.at)
-      ∙ ap (λ (c : ChannelState). asking r.channels c.state c.buffer) (sym input.was)
-
-  -- nothing, where it waited for nothing
-  pub asked_nothing : (asked : List (List (Option VcRequest))) → terminal r ≤ 6 → width r ≤ 8 → asked ≡ requests r
-      → is_waiting had ≡ false → cell asked port vc None ≡ None
-  asked_nothing asked few_ports few_channels is idle =
-      asked_here asked few_ports few_channels is ∙ asks_nothing r.channels had.state had.buffer idle
-
-  -- a channel of the port that it waited for
-  pub asked_for : (asked : List (List (Option VcRequest))) (o : ℕ) → terminal r ≤ 6 → width r ≤ 8 → asked ≡ requests r
-      → All HasFront r.inputs → had.state ≡ Waiting o → is_for (cell asked port vc None) o ≡ true
-  asked_for asked o few_ports few_channels is fronts waits_for =
-      ap (λ q. is_for q o) (asked_here asked few_ports few_channels is)
-      ∙ asks_for r.channels had.state had.buffer o
-      (subst HasFront (sym input.was) (All-get_or HasFront r.inputs i (fresh_channel r.depth) input.within fronts))
-      waits_for
 
 -- ---- one output channel is written
 

@@ -3,7 +3,6 @@
 
 ghost use Rattle.std.specs.Prelude.{◌≡◌, ◌<◌, ◌≤◌, Some, None, IsTrue, false, true, replicate};
 ghost use Rattle.worm_vcalloc.specs.Table.{IsTable, cell, with_cell};
-ghost use Rattle.worm_vcalloc.specs.VcRequest.{is_for};
 ghost use Rattle.worm_router.specs.Tables.{PutsRow, PutsRows};
 ghost use Rattle.worm_router.specs.Demand.{GrantsNothing};
 
@@ -86,24 +85,21 @@ impl Demand {
         &self.free
     }
 
-    /// From now on the input channel, which asked for nothing, asks for this.
+    /// From now on the input channel asks for this.
     pub fn ask(&mut self, port: u8, vc: u8, request: VcRequest)
         requires port { port < 7 }
         requires vc { vc < 8 }
-        requires none { cell self.old.requests port vc None ≡ None }
         ensures { self.new ≡ record self.old { requests = with_cell self.old.requests port vc (Some request) } }
     {
         self.requests.add(port, vc, request);
         self.grants_nothing = false;
     }
 
-    /// The input channel has got this output channel, one of the port that it asked for: it asks no more, and that is
-    /// free no more.
+    /// The input channel has got this output channel: it asks no more, and that is free no more.
     pub fn meet(&mut self, port: u8, vc: u8, out: u8, out_vc: u8)
         requires port { port < 7 }
         requires vc { vc < 8 }
         requires out { out < 7 }
-        requires asks { is_for (cell self.old.requests port vc None) out ≡ true }
         requires out_vc { out_vc < 8 }
         ensures { self.new ≡ record {
           requests = with_cell self.old.requests port vc None;

@@ -12,18 +12,19 @@ ghost use Rattle.worm_router.specs.Router.{after_send, after_gave, after_credit}
 ghost use Rattle.worm_router.specs.Busy.{IsSetOf, AreMasks, AreRoutes, is_occupied, is_waiting, is_active, owes};
 
 mod allocation;
+mod fresh;
 mod rest;
 
 use crate::busy::BusyChannels;
 use crate::channel::InputChannel;
 use crate::demand::Demand;
 use crate::fault::{RouterFault, TooMany};
-use std::alloc::{AllocError, Global};
+use crate::router::fresh::{class_masks, make_inputs, make_outputs, make_routes};
+use std::alloc::Global;
 use std::marker::Model;
 use worm_flit::{ClassChannels, Flit, is_closing, is_opening};
 use worm_mesh::Mesh;
 use worm_records::{InRecord, OutRecord};
-use worm_route::next_port;
 use worm_swalloc::SwAlloc;
 use worm_vcalloc::{ChannelSet, VcAlloc, VcRequest};
 
@@ -77,56 +78,6 @@ impl Model for Router {
 
     ghost invariant = { λ r. IsKept (router_state r.mesh r.node r.classes r.depth r.inputs.items r.outputs.items
         r.channel_alloc r.switch_alloc) r.busy r.demand r.masks r.routes.items };
-}
-
-/// So many input channels with empty buffers.
-fn make_inputs(alloc: Global, count: usize, depth: u8) -> Result<Vec<InputChannel>, AllocError>
-    ensures { IfOk result (λ v. v.items ≡ replicate count (fresh_channel depth)) }
-{
-    let mut inputs = Vec::with_capacity(alloc, count)?;
-    for _i in 0..count {
-        inputs.push(InputChannel::new(alloc, depth)?)?;
-    }
-    Ok(inputs)
-}
-
-/// So many free output channels with all their credits.
-fn make_outputs(alloc: Global, count: usize, depth: u8) -> Result<Vec<OutRecord>, AllocError>
-    ensures { IfOk result (λ v. v.items ≡ replicate count (free_output depth)) }
-{
-    let mut outputs = Vec::with_capacity(alloc, count)?;
-    for _i in 0..count {
-        outputs.push(OutRecord {
-            holder: None,
-            credits: depth,
-        })?;
-    }
-    Ok(outputs)
-}
-
-/// The output port of the route from this node to each node of the mesh.
-fn make_routes(alloc: Global, mesh: &Mesh, node: u8) -> Result<Vec<u8>, AllocError>
-    requires { node < node_count mesh.now }
-    ensures { IfOk result (λ v. AreRoutes mesh.now node v.items) }
-{
-    let count = mesh.nodes();
-    let mut routes = Vec::with_capacity(alloc, usize::from(count))?;
-    for dst in 0..count {
-        routes.push(next_port(mesh, node, dst as u8))?;
-    }
-    Ok(routes)
-}
-
-/// The channels of each class, as a bit for each. A class that is not there has none.
-fn class_masks(classes: &ClassChannels) -> [u8; 4]
-    requires { length classes.now ≤ 4 }
-    ensures { AreMasks classes.now result }
-{
-    let mut masks = [0u8; 4];
-    for class in 0..4u8 {
-        masks[usize::from(class)] = classes.mask(class);
-    }
-    masks
 }
 
 impl Router {

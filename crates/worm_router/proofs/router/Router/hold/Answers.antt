@@ -12,7 +12,7 @@ use Rattle.worm_router.proofs.Places.{input_of, output_of, output_read}
 use Rattle.worm_router.proofs.Kept.{full_after, full_before, input_read}
 use Rattle.worm_router.proofs.Filed.{busy_filed, filed}
 use Rattle.worm_router.proofs.Holders.{holders_held}
-use Rattle.worm_router.proofs.Demanded.{requests_put, asked_for, free_put}
+use Rattle.worm_router.proofs.Demanded.{requests_put, free_put}
 use Rattle.worm_router.proofs.HeldOuts.{outs_put}
 use Rattle.worm_router.proofs.LackCredit.{lack_held}
 use Rattle.worm_router.proofs.OweAll.{owe_stay}
@@ -86,17 +86,6 @@ invariant_of-self c =
       owes_all = owe_stay _ _ _ _ _ _ input c.self.invariant.busy.few_ports c.self.invariant.busy.few_channels _ _ _
           refl (ap (λ (x : ChannelState). x.owed) active) c.self.invariant.owes_all;
     }
-
-pub meet-requires-clause-asks : goal.meet-requires-clause-asks
-meet-requires-clause-asks c =
-    let input = input_of _ c.args.self.now c.args.port c.args.vc c.line-i.result c.index_mut-channel.result.now
-    c.self.view_is c.requires.place c.line-i.ensures.value c.line-i.ensures.in_inputs
-    c.index_mut-channel.ensures.value in
-    let here = input_read _ c.args.self.now c.args.port c.args.vc c.line-i.result c.index_mut-channel.result.now
-    c.self.view_is c.index_mut-channel.ensures.value c.line-i.ensures.value c.line-i.ensures.in_inputs in
-    asked_for _ _ _ _ _ c.index_mut-channel.result.now input _ c.args.out c.self.invariant.busy.few_ports
-    c.self.invariant.busy.few_channels c.self.invariant.demand.requests c.self.invariant.fronts
-    (ap (λ (x : ChannelState). x.state) here ∙ c.requires.waits)
 
 pub activate-requires : goal.activate-requires
 activate-requires c =

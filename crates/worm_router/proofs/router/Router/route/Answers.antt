@@ -3,14 +3,14 @@ use Rattle.std.proofs.Common.{refl, slice_get, Some, sym, subst, ap, ◌∙◌, 
 use Rattle.std.proofs.lemmas.List.Elements.{All-set}
 use Rattle.worm_router.specs.Allocation.{asking}
 use Rattle.worm_router.specs.Demand.{DemandView}
-use Rattle.worm_router.specs.Busy.{HasFront, is_occupied, owes, port_held, waits}
+use Rattle.worm_router.specs.Busy.{HasFront, is_occupied, owes, port_held}
 use Rattle.worm_router.specs.Router.{ChannelState, RouterState}
 use Rattle.worm_router.proofs.Places.{input_of}
 use Rattle.worm_router.proofs.Kept.{input_set_sound, read_sound, waiting_sound}
 use Rattle.worm_router.proofs.Filed.{busy_filed}
 use Rattle.worm_records.specs.declared.InRecord.TheVariants.{Idle}
 use Rattle.worm_router.proofs.Holders.{holders_in}
-use Rattle.worm_router.proofs.Demanded.{requests_put, asked_nothing, asks_by_front, front_there}
+use Rattle.worm_router.proofs.Demanded.{requests_put, asks_by_front, front_there}
 use Rattle.worm_router.proofs.HeldOuts.{outs_kept}
 use Rattle.worm_router.proofs.LackCredit.{lack_waiting}
 use Rattle.worm_router.proofs.OweAll.{owe_stay}
@@ -29,17 +29,6 @@ route_to-requires c =
       | in_default w ↦ absurd (cc)
     ] in
     ap (λ (x : ChannelState). x.state) (input.was ∙ sym read.was) ∙ sym c.state.ensures ∙ idle
-
-pub ask-requires-clause-none : goal.ask-requires-clause-none
-ask-requires-clause-none c =
-    let input = input_of _ c.args.self.now c.args.port c.args.vc c.line-i.result c.index-channel.result.now
-    c.self.view_is c.requires c.line-i.ensures.value c.line-i.ensures.in_inputs c.index-channel.ensures in
-    let idle : c.state.result ≡ Idle = elim c.match-matches.branch [
-      | in-Idle w ↦ w.in-Idle.is
-      | in_default w ↦ absurd (cc)
-    ] in
-    asked_nothing _ _ _ _ _ c.index-channel.result.now input _ c.self.invariant.busy.few_ports
-    c.self.invariant.busy.few_channels c.self.invariant.demand.requests (ap waits (sym c.state.ensures ∙ idle))
 
 pub invariant_of-self : goal.invariant_of-self
 invariant_of-self c =

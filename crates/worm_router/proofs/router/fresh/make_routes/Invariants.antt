@@ -1,6 +1,6 @@
 use Rattle.std.proofs.Common.{ℕ, ◌≡◌, ◌<◌, ◌≤◌, ◌*◌, All, length, slice_index}
 use Rattle.worm_route.specs.Route.{port_of}
-use Rattle.worm_router.proofs.router.make_routes.Given as goal
+use Rattle.worm_router.proofs.router.fresh.make_routes.Given as goal
 
 abbrev pub invariant-loop-dst : goal.invariant-loop-dst
 invariant-loop-dst l = record {

@@ -1,0 +1,71 @@
+//! What a fresh router is made of: its lists, and what is worked out of the mesh and the classes once.
+
+ghost use Rattle.std.specs.Prelude.{◌≡◌, ◌≤◌, ◌<◌, length, IfOk, replicate};
+ghost use Rattle.worm_mesh.specs.Address.{node_count};
+ghost use Rattle.worm_router.specs.Busy.{AreMasks, AreRoutes};
+ghost use Rattle.worm_router.specs.Router.{fresh_channel, free_output};
+
+use crate::channel::InputChannel;
+use std::alloc::{AllocError, Global};
+use worm_flit::ClassChannels;
+use worm_mesh::Mesh;
+use worm_records::OutRecord;
+use worm_route::next_port;
+
+/// So many input channels with empty buffers.
+pub(super) fn make_inputs(
+    alloc: Global,
+    count: usize,
+    depth: u8,
+) -> Result<Vec<InputChannel>, AllocError>
+    ensures { IfOk result (λ v. v.items ≡ replicate count (fresh_channel depth)) }
+{
+    let mut inputs = Vec::with_capacity(alloc, count)?;
+    for _i in 0..count {
+        inputs.push(InputChannel::new(alloc, depth)?)?;
+    }
+    Ok(inputs)
+}
+
+/// So many free output channels with all their credits.
+pub(super) fn make_outputs(
+    alloc: Global,
+    count: usize,
+    depth: u8,
+) -> Result<Vec<OutRecord>, AllocError>
+    ensures { IfOk result (λ v. v.items ≡ replicate count (free_output depth)) }
+{
+    let mut outputs = Vec::with_capacity(alloc, count)?;
+    for _i in 0..count {
+        outputs.push(OutRecord {
+            holder: None,
+            credits: depth,
+        })?;
+    }
+    Ok(outputs)
+}
+
+/// The output port of the route from this node to each node of the mesh.
+pub(super) fn make_routes(alloc: Global, mesh: &Mesh, node: u8) -> Result<Vec<u8>, AllocError>
+    requires { node < node_count mesh.now }
+    ensures { IfOk result (λ v. AreRoutes mesh.now node v.items) }
+{
+    let count = mesh.nodes();
+    let mut routes = Vec::with_capacity(alloc, usize::from(count))?;
+    for dst in 0..count {
+        routes.push(next_port(mesh, node, dst as u8))?;
+    }
+    Ok(routes)
+}
+
+/// The channels of each class, as a bit for each. A class that is not there has none.
+pub(super) fn class_masks(classes: &ClassChannels) -> [u8; 4]
+    requires { length classes.now ≤ 4 }
+    ensures { AreMasks classes.now result }
+{
+    let mut masks = [0u8; 4];
+    for class in 0..4u8 {
+        masks[usize::from(class)] = classes.mask(class);
+    }
+    masks
+}
