@@ -48,10 +48,11 @@ all_last {A} P xs ys x is all =
     )
 
 -- the last of the workers has the last seat
-pub one_left : (O : NetState) (W w : ℕ) (lines : List Line) (kept : Apart) (seats rest : List Seat)
-    (parts : List PartState) (room : ℕ) (seat : Seat) → DealSoFar O W lines w kept seats parts room →
-    seats ≡ rest ++ seat ∷ [] → W - 1 ≤ w → DealSoFar O W lines (W - 1) kept seats parts room
-one_left O W w lines kept seats rest parts room seat so_far popped past =
+pub one_left : {O : NetState} {W w : ℕ} {lines : List Line} {kept : Apart} {seats : List Seat}
+    {parts : List PartState} {room : ℕ} (rest : List Seat) (seat : Seat)
+    → DealSoFar O W lines w kept seats parts room → seats ≡ rest ++ seat ∷ [] → W - 1 ≤ w
+    → DealSoFar O W lines (W - 1) kept seats parts room
+one_left {O} {W} {w} {lines} {kept} {seats} {parts} {room} rest seat so_far popped past =
     let long = ap (λ (l : List Seat). length l) popped ∙ length-append rest (seat ∷ []) in
     let count = so_far.count in
     let at : w ≡ W - 1 = omega arith in
@@ -85,11 +86,11 @@ one_more old new deals (Err e) p same is full grown =
     let over : vec_capacity old ≤ vec_len old = full in
     absurd (omega (arith, old.ok.0))
 
-module _ (O : NetState) (net : IsNet O) (W w : ℕ) (below : w < W) (lines : List Line) (kept new : Apart)
-    (seats rest : List Seat) (parts : List PartState) (room : ℕ) (so_far : DealSoFar O W lines w kept seats parts room)
-    (seat : Seat) (popped : seats ≡ rest ++ seat ∷ []) (new_nodes : List Node) (new_links : List LinkView)
-    (new_ends : List End) (did : IsExchanged (record { worker = w; workers = W }) kept new seat.nodes.items new_nodes
-    seat.links.items new_links seat.ends.items new_ends) where
+module _ {O : NetState} {W w : ℕ} {lines : List Line} {kept new : Apart} {seats : List Seat}
+    {parts : List PartState} {room : ℕ} {new_nodes : List Node} {new_links : List LinkView} {new_ends : List End}
+    (rest : List Seat) (seat : Seat) (net : IsNet O) (so_far : DealSoFar O W lines w kept seats parts room) (below : w < W)
+    (popped : seats ≡ rest ++ seat ∷ []) (did : IsExchanged (record { worker = w; workers = W }) kept new
+    seat.nodes.items new_nodes seat.links.items new_links seat.ends.items new_ends) where
   abbrev dealt : IsDealt O W lines w kept
   dealt = so_far.dealt
 
@@ -183,10 +184,12 @@ module _ (O : NetState) (net : IsNet O) (W w : ℕ) (below : w < W) (lines : Lis
       }
 
 -- a worker's lists fit the network that is taken apart
-pub seat_lists : (O : NetState) (lines : List Line) (kept : Apart) (seat : Seat) → IsNet O → HasConfigOf O kept.net
-    → IsSeat O lines seat
-    → ArePaired kept seat.nodes.items seat.links.items seat.ends.items
-seat_lists O lines kept seat net config is =
+pub seat_lists : {O : NetState} {W w : ℕ} {lines : List Line} {kept : Apart} {seats : List Seat}
+    {parts : List PartState} {room : ℕ} (rest : List Seat) (seat : Seat) → IsNet O → DealSoFar O W lines w kept seats parts room
+    → seats ≡ rest ++ seat ∷ [] → ArePaired kept seat.nodes.items seat.links.items seat.ends.items
+seat_lists {O} {lines = lines} {kept = kept} {seats = seats} rest seat net so_far popped =
+    let config = so_far.dealt.config in
+    let is = (all_last (IsSeat O lines) rest seats seat popped so_far.all).0 in
     let room = sum O.channels * O.depth in
     let all = net.framed.all_nodes in
     let all_links = net.framed.all_links in

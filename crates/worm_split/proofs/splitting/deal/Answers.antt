@@ -13,11 +13,7 @@ dealt : (c : After-exchange) →
     s.parts.items (vec_capacity s.parts) (dealt_state c.in-Some.seat
     (record { worker = s.worker; workers = c.args.workers }) x.nodes.items x.links.items x.ends.items)
 dealt c =
-    let s = c.loop-worker in
-    let x = c.exchange.new in
-    deals c.args.opening.now.value c.requires.net c.args.workers s.worker (omega arith) c.args.lines.now.value.items
-    s.whole x.self s.seats.items c.pop.new.self.items s.parts.items (vec_capacity s.parts) s.invariant
-    c.in-Some.seat c.in-Some.ensures.items x.nodes.items x.links.items x.ends.items c.exchange.ensures
+    deals c.pop.new.self.items c.in-Some.seat c.requires.net c.loop-worker.invariant (omega arith) c.in-Some.ensures.items c.exchange.ensures
 
 pub part_of-requires-clause-works : goal.part_of-requires-clause-works
 part_of-requires-clause-works c = (dealt (goal.at.part_of-requires-clause-works c).After-exchange).works
@@ -33,23 +29,12 @@ loop-worker-preserved c =
 
 pub exchange-requires-clause-paired : goal.exchange-requires-clause-paired
 exchange-requires-clause-paired c =
-    let O = c.args.opening.now.value in
-    let lines = c.args.lines.now.value.items in
-    let s = c.loop-worker in
-    let seat = c.in-Some.seat in
-    let popped : s.seats.items ≡ c.pop.new.self.items ++ seat ∷ [] = c.in-Some.ensures.items in
-    let is = (all_last (IsSeat O lines) c.pop.new.self.items s.seats.items seat popped s.invariant.all).0 in
-    seat_lists O lines s.whole seat c.requires.net s.invariant.dealt.config is
+    seat_lists c.pop.new.self.items c.in-Some.seat c.requires.net c.loop-worker.invariant c.in-Some.ensures.items
 
 pub exchange-requires-2-clause-paired : goal.exchange-requires-2-clause-paired
 exchange-requires-2-clause-paired c =
-    let O = c.args.opening.now.value in
-    let lines = c.args.lines.now.value.items in
-    let s = c.loop-worker in
-    let seat = c.in-Some-pop.seat in
-    let popped : s.seats.items ≡ c.pop-2.new.self.items ++ seat ∷ [] = c.in-Some-pop.ensures.items in
-    let is = (all_last (IsSeat O lines) c.pop-2.new.self.items s.seats.items seat popped s.invariant.all).0 in
-    seat_lists O lines s.whole seat c.requires.net s.invariant.dealt.config is
+    seat_lists c.pop-2.new.self.items c.in-Some-pop.seat c.requires.net c.loop-worker.invariant
+    c.in-Some-pop.ensures.items
 
 -- what the last worker is dealt
 dealt_last : (c : After-exchange-2) →
@@ -60,18 +45,11 @@ dealt_last : (c : After-exchange-2) →
     s.parts.items (vec_capacity s.parts) (dealt_state c.in-Some-pop.seat
     (record { worker = W - 1; workers = W }) x.nodes.items x.links.items x.ends.items)
 dealt_last c =
-    let O = c.args.opening.now.value in
-    let W = c.args.workers in
-    let lines = c.args.lines.now.value.items in
-    let s = c.loop-worker in
-    let seat = c.in-Some-pop.seat in
     let rest = c.pop-2.new.self.items in
-    let popped : s.seats.items ≡ rest ++ seat ∷ [] = c.in-Some-pop.ensures.items in
-    let x = c.exchange-2.new in
-    let so_far = one_left O W s.worker lines s.whole s.seats.items rest s.parts.items (vec_capacity s.parts) seat
-    s.invariant popped (omega arith) in
-    deals O c.requires.net W (W - 1) (omega arith) lines s.whole x.self s.seats.items rest s.parts.items
-    (vec_capacity s.parts) so_far seat popped x.nodes.items x.links.items x.ends.items c.exchange-2.ensures
+    let seat = c.in-Some-pop.seat in
+    let popped = c.in-Some-pop.ensures.items in
+    deals rest seat c.requires.net (one_left rest seat c.loop-worker.invariant popped (omega arith)) (omega arith)
+    popped c.exchange-2.ensures
 
 pub part_of-requires-2-clause-works : goal.part_of-requires-2-clause-works
 part_of-requires-2-clause-works c = (dealt_last (goal.at.part_of-requires-2-clause-works c).After-exchange-2).works
