@@ -1,8 +1,7 @@
 -- What comes by a part's end: a credit of a link that leaves its nodes, a flit of one that enters them.
-use Rattle.std.proofs.Common.{◌≡◌, ℕ, ◌<◌, false, List, [], ◌∷◌, ◌++◌, length, sum, get_or, Option, Some}
-use Rattle.std.proofs.Common.{refl, arith, sym, ap, subst, ◌∙◌}
+use Rattle.std.proofs.Common.{◌≡◌, ℕ, ◌<◌, false, List, [], ◌∷◌, ◌++◌, sum, get_or, Some}
+use Rattle.std.proofs.Common.{refl, sym, ap, subst, ◌∙◌}
 use Rattle.std.specs.Prelude.{IsSome, slice_set}
-use Rattle.std.proofs.lemmas.List.{get_or_default}
 use Rattle.worm_flit.specs.declared.Flit.{Flit}
 use Rattle.worm_flit.specs.Stamps.{on_channel}
 use Rattle.worm_flit.specs.Worms.{Continues}
@@ -12,13 +11,12 @@ use Rattle.worm_links.specs.Links.{TxView, RxView, CreditTxView, CreditRxView, M
 use Rattle.worm_region.specs.Shape.{net_shape}
 use Rattle.worm_region.specs.State.{NetState, IsFramed, IsSameConfig, shape, network_of, link_at}
 use Rattle.worm_region.specs.Edges.{Arrives, ComesBack, after_arriving, after_credit_back}
-use Rattle.worm_wires.specs.Wiring.{port_links}
 use Rattle.worm_region.specs.Workable.{owned}
 use Rattle.worm_region.specs.Moves.{link_into, link_out}
 use Rattle.worm_wires.specs.declared.wiring.PortLinks.{PortLinks}
 use Rattle.worm_split.specs.declared.ends.End.{End}
-use Rattle.worm_split.specs.declared.ends.End.TheVariants.{Inner, Leaving, Entering}
-use Rattle.worm_split.specs.Ends.{CreditPopped, FlitPopped, end_at}
+use Rattle.worm_split.specs.declared.ends.End.TheVariants.{Leaving, Entering}
+use Rattle.worm_split.specs.Ends.{CreditPopped, FlitPopped}
 use Rattle.worm_split.specs.PartState.{PartState, IsPart, IsSamePart, end_of}
 use Rattle.worm_split.specs.PartTurns.{CreditComes, FlitComes, with_end}
 use Rattle.worm_split.proofs.PartFacts.{is_leaving, is_entering}

@@ -1,5 +1,5 @@
 -- One worker more is dealt its part.
-use Rattle.std.proofs.Common.{◌≡◌, ℕ, ◌+◌, ◌-◌, ◌*◌, ◌<◌, ◌≤◌, true, List, [], ◌∷◌, ◌++◌, length}
+use Rattle.std.proofs.Common.{◌≡◌, ℕ, ◌+◌, ◌-◌, ◌*◌, ◌<◌, ◌≤◌, List, [], ◌∷◌, ◌++◌, length}
 use Rattle.std.proofs.Common.{length-append, sum, Ok, Err, refl, arith, sym, ap, subst, ◌∙◌}
 use Rattle.std.specs.Prelude.{All, OnErr, Result, Vec, if◌then◌else◌, is_ok, slice_index_or, vec_capacity, vec_len}
 use Rattle.std.proofs.lemmas.List.{get_or-replicate, get_or_append_left, get_or_at}

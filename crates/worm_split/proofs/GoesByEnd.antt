@@ -1,8 +1,8 @@
 -- What goes by a part's end: a flit over a link that leaves its nodes, a credit over one that enters them.
 use Rattle.std.proofs.Common.{◌≡◌, ℕ, ◌<◌, ◌≤◌, ◌==◌, ◌&&◌, ◌||◌, true, false, inl, inr, List, [], ◌∷◌, ◌++◌, length}
-use Rattle.std.proofs.Common.{sum, get_or, Option, Some, None, refl, arith, sym, ap, subst, ◌∙◌}
+use Rattle.std.proofs.Common.{sum, get_or, Option, Some, None, refl, sym, ap, subst, ◌∙◌}
 use Rattle.std.specs.Prelude.{slice_set, nat_lt}
-use Rattle.std.proofs.lemmas.List.{get_or_default, set-get_or}
+use Rattle.std.proofs.lemmas.List.{set-get_or}
 use Rattle.worm_flit.specs.declared.Flit.{Flit}
 use Rattle.worm_flit.specs.Stamps.{on_channel, with_channel}
 use Rattle.worm_flit.specs.Worms.{Continues}
@@ -18,10 +18,9 @@ use Rattle.worm_theory.specs.Shape.{Shape}
 use Rattle.worm_theory.specs.Steps.{IsLinked, Send, GiveCredit, IsThere, Enabled, FrontIs, after}
 use Rattle.worm_theory.proofs.Places.{bool_cases}
 use Rattle.worm_region.specs.Shape.{net_shape}
-use Rattle.worm_region.specs.State.{NetState, IsFramed, IsSameConfig, IsNetPlace, shape, network_of, router_at}
+use Rattle.worm_region.specs.State.{NetState, IsSameConfig, IsNetPlace, shape, network_of, router_at}
 use Rattle.worm_region.specs.State.{with_router}
 use Rattle.worm_region.specs.Edges.{LetsOut, LetsGive}
-use Rattle.worm_wires.specs.Wiring.{port_links}
 use Rattle.worm_region.specs.Workable.{owned, EndsElsewhere}
 use Rattle.worm_wires.specs.declared.wiring.PortLinks.{PortLinks}
 use Rattle.worm_region.proofs.PlacesThere.{net_place}
@@ -29,8 +28,8 @@ use Rattle.worm_region.proofs.AsListed.{buffer_there, record_there}
 use Rattle.worm_parts.specs.Openings.{past_of}
 use Rattle.worm_parts.proofs.Regions.{push_part}
 use Rattle.worm_split.specs.declared.ends.End.{End}
-use Rattle.worm_split.specs.declared.ends.End.TheVariants.{Inner, Leaving, Entering}
-use Rattle.worm_split.specs.Ends.{FlitPushed, CreditPushed, MayGo, MayGive, end_at, sent_on}
+use Rattle.worm_split.specs.declared.ends.End.TheVariants.{Leaving, Entering}
+use Rattle.worm_split.specs.Ends.{FlitPushed, CreditPushed, MayGo, MayGive, sent_on}
 use Rattle.worm_split.specs.PartState.{PartState, IsPart, IsSamePart, end_of, owns, part_network, taken_by, returned_to}
 use Rattle.worm_split.specs.PartTurns.{SendsAcross, GivesAcross, ComesBy, LeavesBy, with_end}
 use Rattle.worm_split.proofs.Crossing.{leaves_cross}

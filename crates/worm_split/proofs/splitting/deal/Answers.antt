@@ -1,7 +1,6 @@
-use Rattle.std.proofs.Common.{◌≡◌, ℕ, ◌+◌, ◌-◌, ◌++◌, ◌∷◌, [], arith}
+use Rattle.std.proofs.Common.{◌-◌, arith}
 use Rattle.std.specs.Prelude.{vec_capacity}
-use Rattle.worm_split.specs.Splits.{IsSeat}
-use Rattle.worm_split.proofs.DealtSoFar.{Deals, all_dealt, all_last, deals, dealt_state, one_left, one_more, seat_lists}
+use Rattle.worm_split.proofs.DealtSoFar.{Deals, all_dealt, deals, dealt_state, one_left, one_more, seat_lists}
 use Rattle.worm_split.proofs.splitting.deal.Goals as goal
 use Rattle.worm_split.proofs.splitting.deal.Goals.{After-exchange, After-exchange-2}
 
