@@ -172,14 +172,15 @@ get_by s x o net x_in there (Some y) e some =
     (can_get (router_at s x) o (front_credit s x o)) refl refl refl
 
 pub get_answers : (s : NetState) (x o : ℕ) → {own : ℕ → Bool} → IsWorkableBy own s →
-    IsThere (shape s) (TakeCredit x o) → (done : Bool) → done ≡ can_get (router_at s x) o (front_credit s x o)
-    → IsWorkableBy own (if done then after_getting s x o (front_credit s x o) else s) ×
-    Replies s (TakeCredit x o) (Ok (moved_of done)) (if done then after_getting s x o (front_credit s x o) else s)
+    IsThere (shape s) (TakeCredit x o) → (done : Bool) (new : NetState)
+    → done ≡ can_get (router_at s x) o (front_credit s x o)
+    → new ≡ (if done then after_getting s x o (front_credit s x o) else s)
+    → IsWorkableBy own new × Replies s (TakeCredit x o) (Ok (moved_of done)) new
 unfolding net_shape Outcome
-get_answers s x o net there done e =
+get_answers s x o net there done new e after =
     let all = net.framed.all_nodes in
     let node_in = there.0 in
-    rw e (get_by s x o net (omega arith) there (neighbour_of s.mesh x o) refl there.1)
+    rw after (rw e (get_by s x o net (omega arith) there (neighbour_of s.mesh x o) refl there.1))
 
 fits_from : (s : NetState) (x o : ℕ) → {own : ℕ → Bool} → IsWorkableBy own s → x < length s.nodes → (n : Option ℕ) →
     neighbour_of s.mesh x o ≡ n → IsSome n → CreditFits (router_at s x) o (front_credit s x o)

@@ -23,13 +23,15 @@ of_node mesh x p linked = elim (cases_lt x (node_count mesh)) [
   | inr past ↦ absurd (not_found (rw (no_node mesh x p past) at linked))
 ]
 
+pub port_there : (mesh : List ℕ) (x p : ℕ) → IsSome (neighbour_of mesh x p)
+    → (x < node_count mesh) × IsSome (neighbour_of mesh x p)
+port_there mesh x p linked = (of_node mesh x p linked, linked)
+
 -- a port that has a link there is a port of a node with a neighbour
 pub line_there : (s : NetState) (l : LinksView) (x p : ℕ) → l ≡ links_of s → IsSome (neighbour_of l.mesh x p)
     → (x < node_count s.mesh) × IsSome (neighbour_of s.mesh x p)
 line_there s l x p is linked =
-    let there : IsSome (neighbour_of s.mesh x p) =
-    subst (λ (l : LinksView). IsSome (neighbour_of l.mesh x p)) is linked in
-    (of_node s.mesh x p there, there)
+    port_there s.mesh x p (subst (λ (l : LinksView). IsSome (neighbour_of l.mesh x p)) is linked)
 
 -- and the other way round
 pub line_back : (s : NetState) (l : LinksView) (x p : ℕ) → l ≡ links_of s → IsSome (neighbour_of s.mesh x p)

@@ -224,15 +224,14 @@ take_by s x p net x_in there (Some y) e some same =
     same
 
 pub take_answers : (s : NetState) (x p : ℕ) → {own : ℕ → Bool} → IsWorkableBy own s → IsThere (shape s) (Take x p) →
-    (done : Bool) → done ≡ can_enter (router_at s x) p (front_into s x p)
-    → IsWorkableBy own (if done then after_take s x p (link_into s x p) (front_into s x p) else s) ×
-    Replies s (Take x p) (Ok (moved_of done))
-    (if done then after_take s x p (link_into s x p) (front_into s x p) else s)
+    (done : Bool) (new : NetState) → done ≡ can_enter (router_at s x) p (front_into s x p)
+    → new ≡ (if done then after_take s x p (link_into s x p) (front_into s x p) else s)
+    → IsWorkableBy own new × Replies s (Take x p) (Ok (moved_of done)) new
 unfolding net_shape Outcome
-take_answers s x p net there done e =
+take_answers s x p net there done new e after =
     let all = net.framed.all_nodes in
     let node_in = there.0 in
-    rw e (take_by s x p net (omega arith) there (neighbour_of s.mesh x p) refl there.1 refl)
+    rw after (rw e (take_by s x p net (omega arith) there (neighbour_of s.mesh x p) refl there.1 refl))
 
 fits_by : (s : NetState) (x p : ℕ) → {own : ℕ → Bool} → IsWorkableBy own s → x < length s.nodes → (n : Option ℕ) →
     neighbour_of s.mesh x p ≡ n → IsSome n

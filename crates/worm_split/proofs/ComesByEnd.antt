@@ -151,7 +151,8 @@ credit_put {p} {x} {o} {c} {links} {n} {new} hand net comes =
           (N.credit_list x k ++ c ∷ []);
     }) twice in
     let config = same_when_linked p.net net _ _ comes.exact in
-    let made = credit_comes p hand.has.part x o y (linked_then hand.has) net config hand.tx hand.line c hand.end_is after_it in
+    let made = credit_comes p hand.has.part x o y (linked_then hand.has) net config hand.tx hand.line c hand.end_is
+    after_it in
     let place : n ≡ links_before p.net.mesh x o = hand.number ∙ out_is hand.has in
     let to : with_end p x o (Leaving hand.tx (record hand.line { taken = hand.line.taken ++ c ∷ [] })) net
     ≡ record p { net = net; ends = slice_set p.ends n new }
@@ -188,8 +189,8 @@ flit_put {p} {x} {o} {f} {links} {n} {new} hand net comes =
     = comes.after_it ∙ ap (λ (k : ℕ). record N
     { out = Rattle.worm_theory.specs.Network.put2 N.out y k (N.out y k ++ f ∷ []) }) entered in
     let config = same_when_linked p.net net _ _ comes.exact in
-    let made = flit_comes p hand.has.part y q x (back_then hand.has) net config hand.rx hand.line f hand.end_is hand.continues
-    hand.crossing after_it in
+    let made = flit_comes p hand.has.part y q x (back_then hand.has) net config hand.rx hand.line f hand.end_is
+    hand.continues hand.crossing after_it in
     let place : n ≡ links_before p.net.mesh y q = hand.number ∙ into_is hand.has in
     let to : with_end p y q (Entering (record hand.rx { taken = hand.rx.taken ++ f ∷ [] }) hand.line) net
     ≡ record p { net = net; ends = slice_set p.ends n new }

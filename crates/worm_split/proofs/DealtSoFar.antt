@@ -88,8 +88,8 @@ one_more old new deals (Err e) p same is full grown =
 
 module _ {O : NetState} {W w : ℕ} {lines : List Line} {kept new : Apart} {seats : List Seat}
     {parts : List PartState} {room : ℕ} {new_nodes : List Node} {new_links : List LinkView} {new_ends : List End}
-    (rest : List Seat) (seat : Seat) (net : IsNet O) (so_far : DealSoFar O W lines w kept seats parts room) (below : w < W)
-    (popped : seats ≡ rest ++ seat ∷ []) (did : IsExchanged (record { worker = w; workers = W }) kept new
+    (rest : List Seat) (seat : Seat) (net : IsNet O) (so_far : DealSoFar O W lines w kept seats parts room)
+    (below : w < W) (popped : seats ≡ rest ++ seat ∷ []) (did : IsExchanged (record { worker = w; workers = W }) kept new
     seat.nodes.items new_nodes seat.links.items new_links seat.ends.items new_ends) where
   abbrev dealt : IsDealt O W lines w kept
   dealt = so_far.dealt
@@ -185,7 +185,8 @@ module _ {O : NetState} {W w : ℕ} {lines : List Line} {kept new : Apart} {seat
 
 -- a worker's lists fit the network that is taken apart
 pub seat_lists : {O : NetState} {W w : ℕ} {lines : List Line} {kept : Apart} {seats : List Seat}
-    {parts : List PartState} {room : ℕ} (rest : List Seat) (seat : Seat) → IsNet O → DealSoFar O W lines w kept seats parts room
+    {parts : List PartState} {room : ℕ} (rest : List Seat) (seat : Seat) → IsNet O
+    → DealSoFar O W lines w kept seats parts room
     → seats ≡ rest ++ seat ∷ [] → ArePaired kept seat.nodes.items seat.links.items seat.ends.items
 seat_lists {O} {lines = lines} {kept = kept} {seats = seats} rest seat net so_far popped =
     let config = so_far.dealt.config in

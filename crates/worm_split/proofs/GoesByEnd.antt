@@ -258,7 +258,8 @@ module _ {p : PartState} {x o v : ℕ} {links : PortLinks} {n : ℕ} {end : End}
   entering_facts : IsEnteringEnd p.opening.mesh p.opening.channels links.beyond (opposite_of o)
       (past_of (shape p.opening) (network_of p.opening) links.beyond (opposite_of o) x) (owns p links.beyond)
       (owns p x) rx give
-  entering_facts = is_entering p giving.has.part links.beyond (opposite_of o) x rx give (back_then giving.has) entering_is
+  entering_facts =
+      is_entering p giving.has.part links.beyond (opposite_of o) x rx give (back_then giving.has) entering_is
 
   -- the channel of the port is there to give a credit
   pub giving_there : IsThere (shape p.net) (GiveCredit x o v)

@@ -12,7 +12,8 @@ dealt : (c : After-exchange) →
     s.parts.items (vec_capacity s.parts) (dealt_state c.in-Some.seat
     (record { worker = s.worker; workers = c.args.workers }) x.nodes.items x.links.items x.ends.items)
 dealt c =
-    deals c.pop.new.self.items c.in-Some.seat c.requires.net c.loop-worker.invariant (omega arith) c.in-Some.ensures.items c.exchange.ensures
+    deals c.pop.new.self.items c.in-Some.seat c.requires.net c.loop-worker.invariant (omega arith)
+    c.in-Some.ensures.items c.exchange.ensures
 
 pub part_of-requires-clause-works : goal.part_of-requires-clause-works
 part_of-requires-clause-works c = (dealt (goal.at.part_of-requires-clause-works c).After-exchange).works
