@@ -1,5 +1,6 @@
 -- A port that has a link, of those looked up, is a port of a node of the network that has a neighbour.
-use Rattle.std.proofs.Common.{◌≡◌, ℕ, ◌<◌, ◌↔◌, Bool, true, false, List, None, Option, ap, inl, inr, not, subst, sym, ◌∙◌}
+use Rattle.std.proofs.Common.{◌≡◌, ℕ, ◌<◌, ◌↔◌, Bool, true, false, List, None, Option, ap, inl, inr, not}
+use Rattle.std.proofs.Common.{subst, sym, ◌∙◌}
 use Rattle.std.specs.Prelude.{IsSome, is_some}
 use Rattle.std.proofs.lemmas.Bool.{cases_lt}
 use Rattle.worm_mesh.specs.Address.{neighbour_of, node_count}

@@ -89,8 +89,9 @@ one_more old new deals (Err e) p same is full grown =
 module _ {O : NetState} {W w : ℕ} {lines : List Line} {kept new : Apart} {seats : List Seat}
     {parts : List PartState} {room : ℕ} {new_nodes : List Node} {new_links : List LinkView} {new_ends : List End}
     (rest : List Seat) (seat : Seat) (net : IsNet O) (so_far : DealSoFar O W lines w kept seats parts room)
-    (below : w < W) (popped : seats ≡ rest ++ seat ∷ []) (did : IsExchanged (record { worker = w; workers = W }) kept new
-    seat.nodes.items new_nodes seat.links.items new_links seat.ends.items new_ends) where
+    (below : w < W) (popped : seats ≡ rest ++ seat ∷ [])
+    (did : IsExchanged (record { worker = w; workers = W }) kept new seat.nodes.items new_nodes
+    seat.links.items new_links seat.ends.items new_ends) where
   abbrev dealt : IsDealt O W lines w kept
   dealt = so_far.dealt
 

@@ -7,6 +7,7 @@ use Rattle.worm_region.proofs.StaysAtNode.{comes_at}
 use Rattle.worm_region.proofs.region.Region.come_in.Goals as goal
 use Rattle.worm_region.proofs.region.Region.come_in.Goals.{After-route_channels}
 
+-- credits, flits, what is fed and the routes, one after the other
 came : (c : After-route_channels) → Does (ComesInBy Attempts c.args.node) c.args.self.now None c.route_channels.new.self
 came c =
     let x = c.args.node in

@@ -12,8 +12,10 @@ use Rattle.worm_region.proofs.ReachedBySteps.{replies_from, still_workable}
 use Rattle.worm_region.proofs.region.Region.take_flit_there.Goals as goal
 use Rattle.worm_region.proofs.region.Region.take_flit_there.Goals.{After-take_flit, After-wires}
 
+-- the port has a neighbour, in the network inside too
 linked : (c : After-wires) → IsSome (neighbour_of c.self.inside.fabric.mesh c.args.node c.args.port)
-linked c = subst (λ (s : NetState). IsSome (neighbour_of s.mesh c.args.node c.args.port)) (sym c.self.view_is) c.requires
+linked c =
+    subst (λ (s : NetState). IsSome (neighbour_of s.mesh c.args.node c.args.port)) (sym c.self.view_is) c.requires
 
 pub links_beyond-links-requires : goal.links_beyond-links-requires
 links_beyond-links-requires c =
