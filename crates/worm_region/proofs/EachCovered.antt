@@ -215,15 +215,26 @@ credits_linked s x set fronts = λ p p_in on. linked_out (links_of s) x set p fr
 pub flits_linked : (s : NetState) (x set : ℕ) → AreFronts (flits_to (links_of s) x) set → AreLinked s x set
 flits_linked s x set fronts = λ p p_in on. linked_in (links_of s) x set p fronts p_in on
 
--- also without the first of them
-pub linked_less : (s : NetState) (x set new q : ℕ) → IsFirst set new q → AreLinked s x set → AreLinked s x new
-linked_less s x set new q first linked = λ p p_in on. elim (number_cases p q) [
-  | inl same ↦ absurd (let off = ap (has new) same.1 ∙ first.taken.here in cc)
-  | inr away ↦ linked p p_in (sym (first.taken.elsewhere p p_in away.1) ∙ on)
-]
+-- How far they have come where a port is left only if it has a link.
+pub record PortsCovered {x : ℕ} (kind : Kind x) (a b : NetState) (set : ℕ) : Type 0 where
+  pub covered : Covered kind a b set
+  pub linked : AreLinked a x set
 
--- and by the first of them it has one still
-pub first_linked : (a b : NetState) (x set new q : ℕ) → IsSameConfig a b → IsFirst set new q → AreLinked a x set
-    → IsSome (neighbour_of b.mesh x q)
-first_linked a b x set new q config first linked =
-    subst (λ (m : List ℕ). IsSome (neighbour_of m x q)) (sym config.mesh) (linked q first.in_range first.was_in)
+-- by the first port that is left the node has a neighbour still
+pub first_linked : {x : ℕ} {kind : Kind x} {a b : NetState} {set new q : ℕ} → PortsCovered kind a b set
+    → IsFirst set new q → IsSome (neighbour_of b.mesh x q)
+first_linked {x = x} {q = q} ports first =
+    subst (λ (m : List ℕ). IsSome (neighbour_of m x q)) (sym ports.covered.done.does.reaches.config.mesh)
+    (ports.linked q first.in_range first.was_in)
+
+-- and where what comes by it is taken one port less is left
+pub ports_more : {x : ℕ} {kind : Kind x} {a b c : NetState} {set new q : ℕ} → x < node_count a.mesh
+    → PortsCovered kind a b set → IsFirst set new q → Does (Attempts (kind.step q)) b None c
+    → ((p : ℕ) → (p ≡ q → ⊥) → kind.NoneAt b p → kind.NoneAt c p) → IsWorkable c → PortsCovered kind a c new
+ports_more {x} {kind} {a} {b} {c} {set} {new} {q} x_in ports first does others sound = record {
+  covered = covered_more kind a x_in b set c new q ports.covered first does others sound;
+  linked = λ p p_in on. elim (number_cases p q) [
+    | inl same ↦ absurd (let off = ap (has new) same.1 ∙ first.taken.here in cc)
+    | inr away ↦ ports.linked p p_in (sym (first.taken.elsewhere p p_in away.1) ∙ on)
+  ];
+}

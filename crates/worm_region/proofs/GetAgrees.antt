@@ -22,6 +22,7 @@ use Rattle.worm_region.proofs.LinkWritten.{link_bridge, link_framed, out_there, 
 use Rattle.worm_region.proofs.AsListed.{holder_there, spent_there}
 use Rattle.worm_region.proofs.FrameKept.{step_made, router_framed}
 use Rattle.worm_region.proofs.LinksThere.{leader}
+use Rattle.worm_region.proofs.LinkedPorts.{of_node, port_there}
 use Rattle.worm_region.proofs.ListFronts.{first_of, none_of}
 
 -- only the credits of an output channel are changed
@@ -172,14 +173,16 @@ get_by s x o net x_in there (Some y) e some =
     (can_get (router_at s x) o (front_credit s x o)) refl refl refl
 
 pub get_answers : (s : NetState) (x o : ℕ) → {own : ℕ → Bool} → IsWorkableBy own s →
-    IsThere (shape s) (TakeCredit x o) → (done : Bool) → done ≡ can_get (router_at s x) o (front_credit s x o)
-    → IsWorkableBy own (if done then after_getting s x o (front_credit s x o) else s) ×
-    Replies s (TakeCredit x o) (Ok (moved_of done)) (if done then after_getting s x o (front_credit s x o) else s)
+    IsSome (neighbour_of s.mesh x o) → (done : Bool) (new : NetState)
+    → done ≡ can_get (router_at s x) o (front_credit s x o)
+    → new ≡ (if done then after_getting s x o (front_credit s x o) else s)
+    → IsWorkableBy own new × Replies s (TakeCredit x o) (Ok (moved_of done)) new
 unfolding net_shape Outcome
-get_answers s x o net there done e =
+get_answers s x o net linked done new e after =
     let all = net.framed.all_nodes in
+    let there = port_there s.mesh x o linked in
     let node_in = there.0 in
-    rw e (get_by s x o net (omega arith) there (neighbour_of s.mesh x o) refl there.1)
+    rw after (rw e (get_by s x o net (omega arith) there (neighbour_of s.mesh x o) refl linked))
 
 fits_from : (s : NetState) (x o : ℕ) → {own : ℕ → Bool} → IsWorkableBy own s → x < length s.nodes → (n : Option ℕ) →
     neighbour_of s.mesh x o ≡ n → IsSome n → CreditFits (router_at s x) o (front_credit s x o)
@@ -187,9 +190,8 @@ fits_from s x o net x_in None e some = absurd (cc)
 fits_from s x o net x_in (Some y) e some = fits_by s x o y net x_in e (front_credit s x o) refl
 
 pub credit_fits : (s : NetState) (x o : ℕ) → {own : ℕ → Bool} → IsWorkableBy own s →
-    IsThere (shape s) (TakeCredit x o) → CreditFits (router_at s x) o (front_credit s x o)
-unfolding net_shape
-credit_fits s x o net there =
+    IsSome (neighbour_of s.mesh x o) → CreditFits (router_at s x) o (front_credit s x o)
+credit_fits s x o net linked =
     let all = net.framed.all_nodes in
-    let node_in = there.0 in
-    fits_from s x o net (omega arith) (neighbour_of s.mesh x o) refl there.1
+    let node_in = of_node s.mesh x o linked in
+    fits_from s x o net (omega arith) (neighbour_of s.mesh x o) refl linked

@@ -39,7 +39,7 @@ credit_still s x p (Some y) net x_in e none =
     let linked : IsSome (neighbour_of s.mesh x p) = subst IsSome (sym e) refl in
     let nothing : can_get (router_at s x) p (front_credit s x p) ≡ false =
     ap (λ (o : Option ℕ). can_get (router_at s x) p o) (none linked) in
-    (Ok Idle, (get_answers s x p net (x_in, linked) false (sym nothing)).1, refl)
+    (Ok Idle, (get_answers s x p net linked false s (sym nothing) refl).1, refl)
 credit_still s x p None net x_in e none =
     (Err NoSuchPlace, (λ there. let no : IsSome {T = ℕ} None = subst IsSome e there.1 in absurd (cc), refl), refl)
 
@@ -51,7 +51,7 @@ flit_still s x p (Some y) net x_in e none =
     let linked : IsSome (neighbour_of s.mesh x p) = subst IsSome (sym e) refl in
     let nothing : can_enter (router_at s x) p (front_into s x p) ≡ false =
     ap (can_enter (router_at s x) p) (none linked) in
-    (Ok Idle, (take_answers s x p net (x_in, linked) false (sym nothing)).1, refl)
+    (Ok Idle, (take_answers s x p net linked false s (sym nothing) refl).1, refl)
 flit_still s x p None net x_in e none =
     (Err NoSuchPlace, (λ there. let no : IsSome {T = ℕ} None = subst IsSome e there.1 in absurd (cc), refl), refl)
 

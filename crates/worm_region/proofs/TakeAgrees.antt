@@ -21,6 +21,7 @@ use Rattle.worm_region.specs.Moves.{done_step, link_into, front_into, FrontFits,
 use Rattle.worm_wires.specs.Wiring.{into_from}
 use Rattle.worm_region.specs.Moves.{after_take}
 use Rattle.worm_region.proofs.LinksThere.{feeder}
+use Rattle.worm_region.proofs.LinkedPorts.{of_node, port_there}
 use Rattle.worm_region.proofs.ListFronts.{first_of, none_of}
 use Rattle.worm_region.proofs.NodeWritten.{put2_same, put3_same, input_bridge, input_of-there, below_cases}
 use Rattle.worm_region.proofs.LinkWritten.{link_bridge, link_framed, out_there, credits_there}
@@ -223,16 +224,16 @@ take_by s x p net x_in there (Some y) e some same =
     (can_enter (router_at s x) p (slice_get (link_at s (links_before s.mesh y (opposite_of p))).flits 0)) refl refl
     same
 
-pub take_answers : (s : NetState) (x p : ℕ) → {own : ℕ → Bool} → IsWorkableBy own s → IsThere (shape s) (Take x p) →
-    (done : Bool) → done ≡ can_enter (router_at s x) p (front_into s x p)
-    → IsWorkableBy own (if done then after_take s x p (link_into s x p) (front_into s x p) else s) ×
-    Replies s (Take x p) (Ok (moved_of done))
-    (if done then after_take s x p (link_into s x p) (front_into s x p) else s)
+pub take_answers : (s : NetState) (x p : ℕ) → {own : ℕ → Bool} → IsWorkableBy own s → IsSome (neighbour_of s.mesh x p) →
+    (done : Bool) (new : NetState) → done ≡ can_enter (router_at s x) p (front_into s x p)
+    → new ≡ (if done then after_take s x p (link_into s x p) (front_into s x p) else s)
+    → IsWorkableBy own new × Replies s (Take x p) (Ok (moved_of done)) new
 unfolding net_shape Outcome
-take_answers s x p net there done e =
+take_answers s x p net linked done new e after =
     let all = net.framed.all_nodes in
+    let there = port_there s.mesh x p linked in
     let node_in = there.0 in
-    rw e (take_by s x p net (omega arith) there (neighbour_of s.mesh x p) refl there.1 refl)
+    rw after (rw e (take_by s x p net (omega arith) there (neighbour_of s.mesh x p) refl linked refl))
 
 fits_by : (s : NetState) (x p : ℕ) → {own : ℕ → Bool} → IsWorkableBy own s → x < length s.nodes → (n : Option ℕ) →
     neighbour_of s.mesh x p ≡ n → IsSome n
@@ -241,10 +242,9 @@ fits_by s x p net x_in None e some = absurd (cc)
 fits_by s x p net x_in (Some y) e some =
     fits_at s x p y net x_in e (slice_get (link_at s (links_before s.mesh y (opposite_of p))).flits 0) refl
 
-pub front_fits : (s : NetState) (x p : ℕ) → {own : ℕ → Bool} → IsWorkableBy own s → IsThere (shape s) (Take x p) →
+pub front_fits : (s : NetState) (x p : ℕ) → {own : ℕ → Bool} → IsWorkableBy own s → IsSome (neighbour_of s.mesh x p) →
     FrontFits (router_at s x) p (front_into s x p)
-unfolding net_shape
-front_fits s x p net there =
+front_fits s x p net linked =
     let all = net.framed.all_nodes in
-    let node_in = there.0 in
-    fits_by s x p net (omega arith) (neighbour_of s.mesh x p) refl there.1
+    let node_in = of_node s.mesh x p linked in
+    fits_by s x p net (omega arith) (neighbour_of s.mesh x p) refl linked

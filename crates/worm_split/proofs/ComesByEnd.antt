@@ -1,8 +1,7 @@
 -- What comes by a part's end: a credit of a link that leaves its nodes, a flit of one that enters them.
-use Rattle.std.proofs.Common.{◌≡◌, ℕ, ◌<◌, false, List, [], ◌∷◌, ◌++◌, length, sum, get_or, Option, Some}
-use Rattle.std.proofs.Common.{refl, arith, sym, ap, subst, ◌∙◌}
+use Rattle.std.proofs.Common.{◌≡◌, ℕ, ◌<◌, false, List, [], ◌∷◌, ◌++◌, sum, get_or, Some}
+use Rattle.std.proofs.Common.{refl, sym, ap, subst, ◌∙◌}
 use Rattle.std.specs.Prelude.{IsSome, slice_set}
-use Rattle.std.proofs.lemmas.List.{get_or_default}
 use Rattle.worm_flit.specs.declared.Flit.{Flit}
 use Rattle.worm_flit.specs.Stamps.{on_channel}
 use Rattle.worm_flit.specs.Worms.{Continues}
@@ -12,20 +11,18 @@ use Rattle.worm_links.specs.Links.{TxView, RxView, CreditTxView, CreditRxView, M
 use Rattle.worm_region.specs.Shape.{net_shape}
 use Rattle.worm_region.specs.State.{NetState, IsFramed, IsSameConfig, shape, network_of, link_at}
 use Rattle.worm_region.specs.Edges.{Arrives, ComesBack, after_arriving, after_credit_back}
-use Rattle.worm_wires.specs.Wiring.{port_links}
 use Rattle.worm_region.specs.Workable.{owned}
 use Rattle.worm_region.specs.Moves.{link_into, link_out}
 use Rattle.worm_wires.specs.declared.wiring.PortLinks.{PortLinks}
 use Rattle.worm_split.specs.declared.ends.End.{End}
-use Rattle.worm_split.specs.declared.ends.End.TheVariants.{Inner, Leaving, Entering}
-use Rattle.worm_split.specs.Ends.{CreditPopped, FlitPopped, end_at}
+use Rattle.worm_split.specs.declared.ends.End.TheVariants.{Leaving, Entering}
+use Rattle.worm_split.specs.Ends.{CreditPopped, FlitPopped}
 use Rattle.worm_split.specs.PartState.{PartState, IsPart, IsSamePart, end_of}
 use Rattle.worm_split.specs.PartTurns.{CreditComes, FlitComes, with_end}
 use Rattle.worm_split.proofs.PartFacts.{is_leaving, is_entering}
 use Rattle.worm_split.proofs.PartMoves.{credit_comes, flit_comes}
-use Rattle.worm_split.proofs.EndsKnown.{credit_popped, flit_popped, linked, back, beyond_in, entered_is, out_is}
-use Rattle.worm_split.proofs.EndsKnown.{into_is}
-use Rattle.worm_split.proofs.EndsKnown.{out_end_bound, into_end_bound, out_end, into_end}
+use Rattle.worm_split.proofs.EndsKnown.{HasLinks, credit_popped, flit_popped, linked, back, entered_is, out_is}
+use Rattle.worm_split.proofs.EndsKnown.{into_is, out_looked_up, into_looked_up}
 use Rattle.worm_split.proofs.EndsKnown.{out_credits, into_flits, out_from_beyond, into_from_beyond}
 
 -- another list of one link leaves the configuration
@@ -40,18 +37,20 @@ same_when_linked s new k l e = record {
 }
 
 -- A credit came off the line: what is asked of where it goes.
-pub record CreditInHand (p : PartState) (x o c : ℕ) (links : PortLinks) (new : End) : Type 0 where
+pub record CreditInHand (p : PartState) (x o c : ℕ) (links : PortLinks) (n : ℕ) (new : End) : Type 0 where
+  pub has : HasLinks p x o links
+  pub number : n ≡ links.out
   pub tx : TxView
   pub line : CreditRxView
   pub end_is : end_of p x o ≡ Leaving tx line
   pub new_is : new ≡ Leaving tx (record line { taken = line.taken ++ c ∷ [] })
   pub channel : c < sum p.net.channels
   pub elsewhere : owned p.net links.beyond ≡ false
-  pub beyond_in : links.beyond < node_count p.net.mesh
-  pub linked_back : IsSome (neighbour_of p.net.mesh links.beyond links.entered)
   pub none_waits : (network_of p.net).credit_list x o ≡ []
 
-pub record FlitInHand (p : PartState) (x o : ℕ) (f : Flit) (links : PortLinks) (new : End) : Type 0 where
+pub record FlitInHand (p : PartState) (x o : ℕ) (f : Flit) (links : PortLinks) (n : ℕ) (new : End) : Type 0 where
+  pub has : HasLinks p x o links
+  pub number : n ≡ links.into
   pub rx : RxView
   pub line : CreditTxView
   pub end_is : end_of p links.beyond (opposite_of o) ≡ Entering rx line
@@ -61,62 +60,63 @@ pub record FlitInHand (p : PartState) (x o : ℕ) (f : Flit) (links : PortLinks)
   pub channel : f.vc < sum p.net.channels
   pub goal : f.lane.dst < node_count p.net.mesh
   pub elsewhere : owned p.net links.beyond ≡ false
-  pub linked_back : IsSome (neighbour_of p.net.mesh links.beyond links.entered)
   pub none_waits : (network_of p.net).out links.beyond (opposite_of o) ≡ []
 
-module _ (p : PartState) (part : IsPart p) (framed : IsFramed p.net) (x o : ℕ) (links : PortLinks)
-    (at : ◌≡◌ {A = Option PortLinks} (Some links) (port_links p.net.mesh x o)) where
+module _ {p : PartState} {x o : ℕ} {links : PortLinks} (has : HasLinks p x o links) where
   pub linked_then : (shape p.opening).neighbour x o ≡ Some links.beyond
   unfolding net_shape
-  linked_then = rw (← part.config.mesh) (linked p part framed x o links at)
+  linked_then = rw (← has.part.config.mesh) (linked has)
 
   pub back_then : (shape p.opening).neighbour links.beyond (opposite_of o) ≡ Some x
   unfolding net_shape
-  back_then = rw (← part.config.mesh) (back p part framed x o links at)
+  back_then = rw (← has.part.config.mesh) (back has)
 
   pub back_is_some : IsSome (neighbour_of p.net.mesh links.beyond links.entered)
-  back_is_some = rw (entered_is p part framed x o links at, back p part framed x o links at) refl
+  back_is_some = rw (entered_is has, back has) refl
 
-  pub credit_in_hand : (c : ℕ) (end new : End) → end ≡ end_at p.ends links.out
+  -- the end is looked up by its number
+  pub credit_taken : {c n : ℕ} {new : End} (end : End) → n ≡ links.out → end ≡ get_or p.ends n end
       → (link_at p.net (link_into p.net links.beyond links.entered)).credits ≡ [] → CreditPopped end c new
-      → CreditInHand p x o c links new
-  credit_in_hand c end new end_now empty popped =
+      → CreditInHand p x o c links n new
+  credit_taken {c} {n} {new} end number looked empty popped =
       let by = credit_popped end new c popped in
-      let end_is : end_of p x o ≡ Leaving by.0 by.1 = sym (out_end p part framed x o links at) ∙ (sym end_now ∙ by.2) in
-      let is = is_leaving p part x o links.beyond by.0 by.1 linked_then end_is in
+      let end_is : end_of p x o ≡ Leaving by.0 by.1 = sym (out_looked_up has n end number looked) ∙ by.2 in
+      let is = is_leaving p has.part x o links.beyond by.0 by.1 linked_then end_is in
       let channels : by.1.link.channels ≡ sum p.net.channels =
       ap (λ (l : Rattle.worm_links.specs.declared.LinkCfg.LinkCfg). l.channels) is.line
-      ∙ (is.link.same_channels ∙ ap sum (sym part.config.channels)) in
+      ∙ (is.link.same_channels ∙ ap sum (sym has.part.config.channels)) in
       let channel : c < sum p.net.channels = subst (λ (n : ℕ). c < n) channels by.4 in
       let list : (link_at p.net links.out).credits ≡ [] =
-      ap (λ (k : ℕ). (link_at p.net k).credits) (sym (out_from_beyond p part framed x o links at)) ∙ empty in
+      ap (λ (k : ℕ). (link_at p.net k).credits) (sym (out_from_beyond has)) ∙ empty in
       record {
+        has = has;
+        number = number;
         tx = by.0;
         line = by.1;
         end_is = end_is;
         new_is = by.3;
         channel = channel;
         elsewhere = is.far_elsewhere;
-        beyond_in = beyond_in p part framed x o links at;
-        linked_back = back_is_some;
-        none_waits = out_credits p part framed x o links at ∙ list;
+        none_waits = out_credits has ∙ list;
       }
 
-  pub flit_in_hand : (f : Flit) (end new : End) → end ≡ end_at p.ends links.into
+  pub flit_off : {f : Flit} {n : ℕ} {new : End} (end : End) → n ≡ links.into → end ≡ get_or p.ends n end
       → (link_at p.net (link_out p.net links.beyond links.entered)).flits ≡ [] → FlitPopped end f new
-      → FlitInHand p x o f links new
-  flit_in_hand f end new end_now empty popped =
+      → FlitInHand p x o f links n new
+  flit_off {f} {n} {new} end number looked empty popped =
       let by = flit_popped end new f popped in
       let end_is : end_of p links.beyond (opposite_of o) ≡ Entering by.0 by.1 =
-      sym (into_end p part framed x o links at) ∙ (sym end_now ∙ by.2) in
-      let is = is_entering p part links.beyond (opposite_of o) x by.0 by.1 back_then end_is in
+      sym (into_looked_up has n end number looked) ∙ by.2 in
+      let is = is_entering p has.part links.beyond (opposite_of o) x by.0 by.1 back_then end_is in
       let channels : by.0.link.channels ≡ sum p.net.channels =
-      is.link.same_channels ∙ ap (λ (counts : List ℕ). sum counts) (sym part.config.channels) in
+      is.link.same_channels ∙ ap (λ (counts : List ℕ). sum counts) (sym has.part.config.channels) in
       let channel : f.vc < sum p.net.channels = subst (λ (n : ℕ). f.vc < n) channels by.5.channel in
-      let mesh : by.0.link.mesh ≡ p.net.mesh = is.link.same_mesh ∙ sym part.config.mesh in
+      let mesh : by.0.link.mesh ≡ p.net.mesh = is.link.same_mesh ∙ sym has.part.config.mesh in
       let list : (link_at p.net links.into).flits ≡ [] =
-      ap (λ (k : ℕ). (link_at p.net k).flits) (sym (into_from_beyond p part framed x o links at)) ∙ empty in
+      ap (λ (k : ℕ). (link_at p.net k).flits) (sym (into_from_beyond has)) ∙ empty in
       record {
+        has = has;
+        number = number;
         rx = by.0;
         line = by.1;
         end_is = end_is;
@@ -126,107 +126,88 @@ module _ (p : PartState) (part : IsPart p) (framed : IsFramed p.net) (x o : ℕ)
         channel = channel;
         goal = subst (λ (ks : List ℕ). f.lane.dst < node_count ks) mesh by.5.destination;
         elsewhere = is.near_elsewhere;
-        linked_back = back_is_some;
-        none_waits = into_flits p part framed x o links at ∙ list;
+        none_waits = into_flits has ∙ list;
       }
 
-  -- the same where the end is the one of this number of all
-  pub credit_taken : (c n : ℕ) (end new : End) → n ≡ links.out → end ≡ get_or p.ends n end
-      → (link_at p.net (link_into p.net links.beyond links.entered)).credits ≡ [] → CreditPopped end c new
-      → CreditInHand p x o c links new
-  credit_taken c n end new number now empty popped =
-      let few = out_end_bound p part framed x o links at in
-      let bound : n < length p.ends = omega (arith, few, number) in
-      credit_in_hand c end new (now ∙ get_or_default p.ends n end Inner bound
-      ∙ (λ t. end_at p.ends (number t))) empty popped
+-- it is put down, and the part stays a part
+pub credit_put : {p : PartState} {x o c : ℕ} {links : PortLinks} {n : ℕ} {new : End}
+    → (hand : CreditInHand p x o c links n new) (net : NetState) → ComesBack p.net links.beyond links.entered c net
+    → IsPart (record p { net = net; ends = slice_set p.ends n new })
+    × CreditComes x o p (record p { net = net; ends = slice_set p.ends n new })
+    × IsSamePart p (record p { net = net; ends = slice_set p.ends n new })
+credit_put {p} {x} {o} {c} {links} {n} {new} hand net comes =
+    let N = network_of p.net in
+    let y = links.beyond in
+    let q = opposite_of o in
+    let entered = entered_is hand.has in
+    let y_back : neighbour_of p.net.mesh y links.entered ≡ Some x = rw entered (back hand.has) in
+    let twice : opposite_of links.entered ≡ o =
+    ap opposite_of entered ∙ Rattle.worm_mesh.proofs.Neighbours.opposite_twice o in
+    let after_it : network_of net ≡ record N
+    { credit_list = Rattle.worm_theory.specs.Network.put2 N.credit_list x o (N.credit_list x o ++ c ∷ []) }
+    = comes.after_it x y_back ∙ ap (λ (k : ℕ).
+    record N {
+      credit_list = Rattle.worm_theory.specs.Network.put2 N.credit_list x k
+          (N.credit_list x k ++ c ∷ []);
+    }) twice in
+    let config = same_when_linked p.net net _ _ comes.exact in
+    let made = credit_comes p hand.has.part x o y (linked_then hand.has) net config hand.tx hand.line c hand.end_is
+    after_it in
+    let place : n ≡ links_before p.net.mesh x o = hand.number ∙ out_is hand.has in
+    let to : with_end p x o (Leaving hand.tx (record hand.line { taken = hand.line.taken ++ c ∷ [] })) net
+    ≡ record p { net = net; ends = slice_set p.ends n new }
+    = λ t. record p { net = net; ends = slice_set p.ends (sym place t) (sym hand.new_is t) } in
+    let exact_net : after_credit_back p.net y q c ≡ net =
+    sym (comes.exact ∙ ap (λ (k : ℕ). after_credit_back p.net y k c) entered) in (
+      subst IsPart to made,
+      record {
+        beyond = y;
+        tx = hand.tx;
+        back = hand.line;
+        credit = c;
+        linked = linked hand.has;
+        end = hand.end_is;
+        none_waits = hand.none_waits;
+        exact = sym (ap (λ (m : NetState). with_end p x o
+            (Leaving hand.tx (record hand.line { taken = hand.line.taken ++ c ∷ [] })) m) exact_net ∙ to);
+      },
+      record { config = config; opening = refl; lines = refl },
+    )
 
-  pub flit_off : (f : Flit) (n : ℕ) (end new : End) → n ≡ links.into → end ≡ get_or p.ends n end
-      → (link_at p.net (link_out p.net links.beyond links.entered)).flits ≡ [] → FlitPopped end f new
-      → FlitInHand p x o f links new
-  flit_off f n end new number now empty popped =
-      let few = into_end_bound p part framed x o links at in
-      let bound : n < length p.ends = omega (arith, few, number) in
-      flit_in_hand f end new (now ∙ get_or_default p.ends n end Inner bound
-      ∙ (λ t. end_at p.ends (number t))) empty popped
-
-  -- it is put down, and the part stays a part
-  pub credit_put : (c n : ℕ) (new : End) (net : NetState) → n ≡ links.out → CreditInHand p x o c links new
-      → ComesBack p.net links.beyond links.entered c net
-      → IsPart (record p { net = net; ends = slice_set p.ends n new })
-      × CreditComes x o p (record p { net = net; ends = slice_set p.ends n new })
-      × IsSamePart p (record p { net = net; ends = slice_set p.ends n new })
-  credit_put c n new net number hand comes =
-      let N = network_of p.net in
-      let y = links.beyond in
-      let q = opposite_of o in
-      let entered = entered_is p part framed x o links at in
-      let y_back : neighbour_of p.net.mesh y links.entered ≡ Some x = rw entered (back p part framed x o links at) in
-      let twice : opposite_of links.entered ≡ o =
-      ap opposite_of entered ∙ Rattle.worm_mesh.proofs.Neighbours.opposite_twice o in
-      let after_it : network_of net ≡ record N
-      { credit_list = Rattle.worm_theory.specs.Network.put2 N.credit_list x o (N.credit_list x o ++ c ∷ []) }
-      = comes.after_it x y_back ∙ ap (λ (k : ℕ).
-      record N {
-        credit_list = Rattle.worm_theory.specs.Network.put2 N.credit_list x k
-            (N.credit_list x k ++ c ∷ []);
-      }) twice in
-      let config = same_when_linked p.net net _ _ comes.exact in
-      let made = credit_comes p part x o y linked_then net config hand.tx hand.line c hand.end_is after_it in
-      let place : n ≡ links_before p.net.mesh x o = number ∙ out_is p part framed x o links at in
-      let to : with_end p x o (Leaving hand.tx (record hand.line { taken = hand.line.taken ++ c ∷ [] })) net
-      ≡ record p { net = net; ends = slice_set p.ends n new }
-      = λ t. record p { net = net; ends = slice_set p.ends (sym place t) (sym hand.new_is t) } in
-      let exact_net : after_credit_back p.net y q c ≡ net =
-      sym (comes.exact ∙ ap (λ (k : ℕ). after_credit_back p.net y k c) entered) in (
-        subst IsPart to made,
-        record {
-          beyond = y;
-          tx = hand.tx;
-          back = hand.line;
-          credit = c;
-          linked = linked p part framed x o links at;
-          end = hand.end_is;
-          none_waits = hand.none_waits;
-          exact = sym (ap (λ (m : NetState). with_end p x o
-              (Leaving hand.tx (record hand.line { taken = hand.line.taken ++ c ∷ [] })) m) exact_net ∙ to);
-        },
-        record { config = config; opening = refl; lines = refl },
-      )
-
-  pub flit_put : (f : Flit) (n : ℕ) (new : End) (net : NetState) → n ≡ links.into → FlitInHand p x o f links new
-      → Arrives p.net links.beyond links.entered f net
-      → IsPart (record p { net = net; ends = slice_set p.ends n new })
-      × FlitComes x o p (record p { net = net; ends = slice_set p.ends n new })
-      × IsSamePart p (record p { net = net; ends = slice_set p.ends n new })
-  flit_put f n new net number hand comes =
-      let N = network_of p.net in
-      let y = links.beyond in
-      let q = opposite_of o in
-      let entered = entered_is p part framed x o links at in
-      let after_it : network_of net ≡ record N
-      { out = Rattle.worm_theory.specs.Network.put2 N.out y q (N.out y q ++ f ∷ []) }
-      = comes.after_it ∙ ap (λ (k : ℕ). record N
-      { out = Rattle.worm_theory.specs.Network.put2 N.out y k (N.out y k ++ f ∷ []) }) entered in
-      let config = same_when_linked p.net net _ _ comes.exact in
-      let made = flit_comes p part y q x back_then net config hand.rx hand.line f hand.end_is hand.continues
-      hand.crossing after_it in
-      let place : n ≡ links_before p.net.mesh y q = number ∙ into_is p part framed x o links at in
-      let to : with_end p y q (Entering (record hand.rx { taken = hand.rx.taken ++ f ∷ [] }) hand.line) net
-      ≡ record p { net = net; ends = slice_set p.ends n new }
-      = λ t. record p { net = net; ends = slice_set p.ends (sym place t) (sym hand.new_is t) } in
-      let exact_net : after_arriving p.net y q f ≡ net =
-      sym (comes.exact ∙ ap (λ (k : ℕ). after_arriving p.net y k f) entered) in (
-        subst IsPart to made,
-        record {
-          beyond = y;
-          rx = hand.rx;
-          give = hand.line;
-          flit = f;
-          linked = linked p part framed x o links at;
-          end = hand.end_is;
-          none_waits = hand.none_waits;
-          exact = sym (ap (λ (m : NetState). with_end p y q
-              (Entering (record hand.rx { taken = hand.rx.taken ++ f ∷ [] }) hand.line) m) exact_net ∙ to);
-        },
-        record { config = config; opening = refl; lines = refl },
-      )
+pub flit_put : {p : PartState} {x o : ℕ} {f : Flit} {links : PortLinks} {n : ℕ} {new : End}
+    → (hand : FlitInHand p x o f links n new) (net : NetState) → Arrives p.net links.beyond links.entered f net
+    → IsPart (record p { net = net; ends = slice_set p.ends n new })
+    × FlitComes x o p (record p { net = net; ends = slice_set p.ends n new })
+    × IsSamePart p (record p { net = net; ends = slice_set p.ends n new })
+flit_put {p} {x} {o} {f} {links} {n} {new} hand net comes =
+    let N = network_of p.net in
+    let y = links.beyond in
+    let q = opposite_of o in
+    let entered = entered_is hand.has in
+    let after_it : network_of net ≡ record N
+    { out = Rattle.worm_theory.specs.Network.put2 N.out y q (N.out y q ++ f ∷ []) }
+    = comes.after_it ∙ ap (λ (k : ℕ). record N
+    { out = Rattle.worm_theory.specs.Network.put2 N.out y k (N.out y k ++ f ∷ []) }) entered in
+    let config = same_when_linked p.net net _ _ comes.exact in
+    let made = flit_comes p hand.has.part y q x (back_then hand.has) net config hand.rx hand.line f hand.end_is
+    hand.continues hand.crossing after_it in
+    let place : n ≡ links_before p.net.mesh y q = hand.number ∙ into_is hand.has in
+    let to : with_end p y q (Entering (record hand.rx { taken = hand.rx.taken ++ f ∷ [] }) hand.line) net
+    ≡ record p { net = net; ends = slice_set p.ends n new }
+    = λ t. record p { net = net; ends = slice_set p.ends (sym place t) (sym hand.new_is t) } in
+    let exact_net : after_arriving p.net y q f ≡ net =
+    sym (comes.exact ∙ ap (λ (k : ℕ). after_arriving p.net y k f) entered) in (
+      subst IsPart to made,
+      record {
+        beyond = y;
+        rx = hand.rx;
+        give = hand.line;
+        flit = f;
+        linked = linked hand.has;
+        end = hand.end_is;
+        none_waits = hand.none_waits;
+        exact = sym (ap (λ (m : NetState). with_end p y q
+            (Entering (record hand.rx { taken = hand.rx.taken ++ f ∷ [] }) hand.line) m) exact_net ∙ to);
+      },
+      record { config = config; opening = refl; lines = refl },
+    )

@@ -1,7 +1,7 @@
 -- One worker more is dealt its part.
-use Rattle.std.proofs.Common.{◌≡◌, ℕ, ◌+◌, ◌-◌, ◌*◌, ◌<◌, ◌≤◌, true, List, [], ◌∷◌, ◌++◌, length}
+use Rattle.std.proofs.Common.{◌≡◌, ℕ, ◌+◌, ◌-◌, ◌*◌, ◌<◌, ◌≤◌, List, [], ◌∷◌, ◌++◌, length}
 use Rattle.std.proofs.Common.{length-append, sum, Ok, Err, refl, arith, sym, ap, subst, ◌∙◌}
-use Rattle.std.specs.Prelude.{All, OnErr, Result, is_ok, slice_index_or}
+use Rattle.std.specs.Prelude.{All, OnErr, Result, Vec, if◌then◌else◌, is_ok, slice_index_or, vec_capacity, vec_len}
 use Rattle.std.proofs.lemmas.List.{get_or-replicate, get_or_append_left, get_or_at}
 use Rattle.std.proofs.Math.ListN.{length-replicate}
 use Rattle.worm_mesh.specs.Links.{link_count}
@@ -11,6 +11,7 @@ use Rattle.worm_region.proofs.NewNet.{fresh_is}
 use Rattle.worm_region.specs.State.{NetState, IsNet, IsNodeOf}
 use Rattle.worm_region.specs.Workable.{IsWorkable}
 use Rattle.worm_region.specs.declared.node.Node.{Node}
+use Rattle.worm_region.specs.declared.own.Own.{Own}
 use Rattle.worm_split.specs.declared.ends.End.{End}
 use Rattle.worm_split.specs.declared.ends.End.TheVariants.{Inner}
 use Rattle.worm_split.specs.declared.ends.Line.{Line}
@@ -47,25 +48,49 @@ all_last {A} P xs ys x is all =
     )
 
 -- the last of the workers has the last seat
-pub one_left : (O : NetState) (W w : ℕ) (lines : List Line) (kept : Apart) (seats rest : List Seat)
-    (parts : List PartState) (room : ℕ) (seat : Seat) → DealSoFar O W lines w kept seats parts room →
-    seats ≡ rest ++ seat ∷ [] → W - 1 ≤ w → DealSoFar O W lines (W - 1) kept seats parts room
-one_left O W w lines kept seats rest parts room seat so_far popped past =
+pub one_left : {O : NetState} {W w : ℕ} {lines : List Line} {kept : Apart} {seats : List Seat}
+    {parts : List PartState} {room : ℕ} (rest : List Seat) (seat : Seat)
+    → DealSoFar O W lines w kept seats parts room → seats ≡ rest ++ seat ∷ [] → W - 1 ≤ w
+    → DealSoFar O W lines (W - 1) kept seats parts room
+one_left {O} {W} {w} {lines} {kept} {seats} {parts} {room} rest seat so_far popped past =
     let long = ap (λ (l : List Seat). length l) popped ∙ length-append rest (seat ∷ []) in
     let count = so_far.count in
     let at : w ≡ W - 1 = omega arith in
     subst (λ (n : ℕ). DealSoFar O W lines n kept seats parts room) at so_far
 
--- a list with room takes one more
-pub is_taken : {T E : Type 0} (r : Result T E) (capacity len : ℕ) → OnErr r (capacity ≤ len) → len < capacity
-    → is_ok r ≡ true
-is_taken {T} {E} (Ok a) capacity len full room = refl
-is_taken {T} {E} (Err e) capacity len full room = absurd (let over : capacity ≤ len = full in omega arith)
+-- a worker's part once its seat's lists are exchanged
+abbrev pub dealt_state : Seat → Own → List Node → List LinkView → List End → PartState
+dealt_state seat own nodes links ends =
+    record (seat_state seat own) { net = with_lists (seat_state seat own).net nodes links; ends = ends }
 
-module _ (O : NetState) (net : IsNet O) (W w : ℕ) (below : w < W) (lines : List Line) (kept new : Apart)
-    (seats rest : List Seat) (parts : List PartState) (room : ℕ) (so_far : DealSoFar O W lines w kept seats parts room)
-    (seat : Seat) (popped : seats ≡ rest ++ seat ∷ []) (new_nodes : List Node) (new_links : List LinkView)
-    (new_ends : List End) (did : IsExchanged (record { worker = w; workers = W }) kept new seat.nodes.items new_nodes
+-- What is dealt to a worker: its part works, and with it on the list one worker more has its own.
+pub record Deals (O : NetState) (W w : ℕ) (lines : List Line) (new : Apart) (rest : List Seat)
+    (parts : List PartState) (room : ℕ) (part : PartState) : Type 0 where
+  pub works : IsWorkable part.net
+  pub is_part : IsPart part
+  pub kept : HasConfigOf part.opening new.net
+  pub space : length parts < room
+  pub further : (more : List PartState) (new_room : ℕ) → more ≡ parts ++ part ∷ [] → room ≤ new_room
+      → DealSoFar O W lines (w + 1) new rest more new_room
+
+-- it is put on the list, which has room
+pub one_more : {O : NetState} {W w : ℕ} {lines : List Line} {kept : Apart} {rest : List Seat} {part : PartState}
+    {T E Z : Type 0} (old new : Vec PartState Z) → Deals O W w lines kept rest old.items (vec_capacity old) part
+    → (r : Result T E) (p : PartState) → p ≡ part
+    → new.items ≡ (if is_ok r then old.items ++ p ∷ [] else old.items) → OnErr r (vec_capacity old ≤ vec_len old)
+    → vec_capacity old ≤ vec_capacity new → DealSoFar O W lines (w + 1) kept rest new.items (vec_capacity new)
+one_more old new deals (Ok a) p same is full grown =
+    deals.further new.items (vec_capacity new) (is ∙ ap (λ (q : PartState). old.items ++ q ∷ []) same) grown
+one_more old new deals (Err e) p same is full grown =
+    let space = deals.space in
+    let over : vec_capacity old ≤ vec_len old = full in
+    absurd (omega (arith, old.ok.0))
+
+module _ {O : NetState} {W w : ℕ} {lines : List Line} {kept new : Apart} {seats : List Seat}
+    {parts : List PartState} {room : ℕ} {new_nodes : List Node} {new_links : List LinkView} {new_ends : List End}
+    (rest : List Seat) (seat : Seat) (net : IsNet O) (so_far : DealSoFar O W lines w kept seats parts room)
+    (below : w < W) (popped : seats ≡ rest ++ seat ∷ [])
+    (did : IsExchanged (record { worker = w; workers = W }) kept new seat.nodes.items new_nodes
     seat.links.items new_links seat.ends.items new_ends) where
   abbrev dealt : IsDealt O W lines w kept
   dealt = so_far.dealt
@@ -76,21 +101,15 @@ module _ (O : NetState) (net : IsNet O) (W w : ℕ) (below : w < W) (lines : Lis
   abbrev is : IsSeat O lines seat
   is = last.0
 
-  abbrev pub dealt_net : NetState
-  dealt_net = with_lists (seat_state seat (record { worker = w; workers = W })).net new_nodes new_links
+  abbrev part : PartState
+  part = dealt_state seat (record { worker = w; workers = W }) new_nodes new_links new_ends
+
+  abbrev dealt_net : NetState
+  dealt_net = part.net
 
   -- the worker's part, with the network that was split as its opening
   abbrev p0 : PartState
   p0 = record { net = dealt_net; ends = new_ends; opening = O; lines = lines }
-
-  -- and with what its seat knows of that
-  abbrev pub dealt_state : PartState
-  dealt_state = record {
-    net = dealt_net;
-    ends = new_ends;
-    opening = seat.opening.value;
-    lines = seat.lines.value.items;
-  }
 
   config : HasConfigOf O dealt_net
   config = record {
@@ -100,7 +119,7 @@ module _ (O : NetState) (net : IsNet O) (W w : ℕ) (below : w < W) (lines : Lis
     names = is.config.names;
   }
 
-  pub deal_on : IsDealt O W lines (w + 1) new
+  deal_on : IsDealt O W lines (w + 1) new
   deal_on = dealt_on O W w lines kept new dealt seat is new_nodes new_links new_ends did
 
   ways : AreWays O.mesh kept.ways
@@ -122,16 +141,10 @@ module _ (O : NetState) (net : IsNet O) (W w : ℕ) (below : w < W) (lines : Lis
     framed = framed_in O kept.net dealt_net new_nodes new_links dealt.config config did.framed;
   }
 
-  state_is : p0 ≡ dealt_state
+  state_is : p0 ≡ part
   state_is = λ t. record { net = dealt_net; ends = new_ends; opening = sym is.opening t; lines = sym is.made t }
 
-  pub deal_works : IsWorkable dealt_net
-  deal_works = first_works p0 net kept.ways ways dealt.made dealt_part
-
-  pub deal_is_part : IsPart dealt_state
-  deal_is_part = subst IsPart state_is (first_is_part p0 net kept.ways ways dealt.made dealt_part)
-
-  pub deal_first : IsFirstPart O W w lines dealt_state
+  deal_first : IsFirstPart O W w lines part
   deal_first = record {
     own = refl;
     opened = is.opening;
@@ -141,32 +154,44 @@ module _ (O : NetState) (net : IsNet O) (W w : ℕ) (below : w < W) (lines : Lis
     begins = first_begins p0 net kept.ways ways dealt.made dealt_part;
   }
 
-  pub deal_kept : HasConfigOf seat.opening.value new.net
-  deal_kept = subst (λ (s : NetState). HasConfigOf s new.net) (sym is.opening) deal_on.config
-
-  pub deal_further : (more : List PartState) (new_room : ℕ) → more ≡ parts ++ dealt_state ∷ [] → room ≤ new_room
+  deal_further : (more : List PartState) (new_room : ℕ) → more ≡ parts ++ part ∷ [] → room ≤ new_room
       → DealSoFar O W lines (w + 1) new rest more new_room
   deal_further more new_room pushed grown =
       let seat_long = ap (λ (l : List Seat). length l) popped ∙ length-append rest (seat ∷ []) in
       let count = so_far.count in
       let long = so_far.long in
-      let part_long = ap (λ (l : List PartState). length l) pushed ∙ length-append parts (dealt_state ∷ []) in
+      let part_long = ap (λ (l : List PartState). length l) pushed ∙ length-append parts (part ∷ []) in
       let enough = so_far.enough in
       record {
         dealt = deal_on;
         all = last.1;
         count = omega arith;
         long = omega arith;
-        each = each_push (λ (j : ℕ) (q : PartState). IsFirstPart O W j lines q) no_part parts more dealt_state w long
+        each = each_push (λ (j : ℕ) (q : PartState). IsFirstPart O W j lines q) no_part parts more part w long
             pushed so_far.each deal_first;
         enough = omega arith;
       }
 
+  pub deals : Deals O W w lines new rest parts room part
+  deals =
+      let long = so_far.long in
+      let enough = so_far.enough in
+      record {
+        works = first_works p0 net kept.ways ways dealt.made dealt_part;
+        is_part = subst IsPart state_is (first_is_part p0 net kept.ways ways dealt.made dealt_part);
+        kept = subst (λ (s : NetState). HasConfigOf s new.net) (sym is.opening) deal_on.config;
+        space = omega arith;
+        further = deal_further;
+      }
+
 -- a worker's lists fit the network that is taken apart
-pub seat_lists : (O : NetState) (lines : List Line) (kept : Apart) (seat : Seat) → IsNet O → HasConfigOf O kept.net
-    → IsSeat O lines seat
-    → ArePaired kept seat.nodes.items seat.links.items seat.ends.items
-seat_lists O lines kept seat net config is =
+pub seat_lists : {O : NetState} {W w : ℕ} {lines : List Line} {kept : Apart} {seats : List Seat}
+    {parts : List PartState} {room : ℕ} (rest : List Seat) (seat : Seat) → IsNet O
+    → DealSoFar O W lines w kept seats parts room
+    → seats ≡ rest ++ seat ∷ [] → ArePaired kept seat.nodes.items seat.links.items seat.ends.items
+seat_lists {O} {lines = lines} {kept = kept} {seats = seats} rest seat net so_far popped =
+    let config = so_far.dealt.config in
+    let is = (all_last (IsSeat O lines) rest seats seat popped so_far.all).0 in
     let room = sum O.channels * O.depth in
     let all = net.framed.all_nodes in
     let all_links = net.framed.all_links in
@@ -188,7 +213,11 @@ seat_lists O lines kept seat net config is =
           ∙ ap link_count (sym config.mesh);
     }
 
-pub all_dealt : (O : NetState) (W : ℕ) (lines : List Line) (kept : Apart) (seats : List Seat)
-    (parts : List PartState) (room : ℕ)
-    → DealSoFar O W lines W kept seats parts room → IsSplitOf O W parts
-all_dealt O W lines kept seats parts room so_far = record { lines = lines; count = so_far.long; each = so_far.each }
+pub all_dealt : {O : NetState} {W w : ℕ} {lines : List Line} {kept : Apart} {seats : List Seat}
+    {parts : List PartState} {room : ℕ}
+    → DealSoFar O W lines w kept seats parts room → w ≡ W → IsSplitOf O W parts
+all_dealt {lines = lines} so_far all = record {
+  lines = lines;
+  count = so_far.long ∙ all;
+  each = λ j below. so_far.each j (omega arith);
+}

@@ -1,5 +1,6 @@
 -- What a part knows where it asks for a flit or a credit, or sends one: the links of a port, and its ends of them.
-use Rattle.std.proofs.Common.{◌≡◌, ℕ, ◌<◌, [], ◌∷◌, ◌++◌, length, Option, Some, refl, arith, sym, ap, ◌∙◌}
+use Rattle.std.proofs.Common.{◌≡◌, ℕ, ◌<◌, [], ◌∷◌, ◌++◌, length, get_or, Option, Some, refl, arith, sym, ap, ◌∙◌}
+use Rattle.std.proofs.lemmas.List.{get_or_default}
 use Rattle.worm_flit.specs.declared.Flit.{Flit}
 use Rattle.worm_flit.specs.Stamps.{on_channel}
 use Rattle.worm_flit.specs.Worms.{Continues}
@@ -36,9 +37,13 @@ flit_popped Inner new f h = absurd h
 flit_popped (Leaving tx back) new f h = absurd h
 flit_popped (Entering rx give) new f h = (rx, give, refl, h.0, h.1, h.2)
 
--- The links of a port.
-module _ (p : PartState) (part : IsPart p) (framed : IsFramed p.net) (x o : ℕ) (links : PortLinks)
-    (at : ◌≡◌ {A = Option PortLinks} (Some links) (port_links p.net.mesh x o)) where
+-- A part and the links of one of its ports.
+pub record HasLinks (p : PartState) (x o : ℕ) (links : PortLinks) : Type 0 where
+  pub part : IsPart p
+  pub framed : IsFramed p.net
+  pub at : ◌≡◌ {A = Option PortLinks} (Some links) (port_links p.net.mesh x o)
+
+module _ {p : PartState} {x o : ℕ} {links : PortLinks} (has : HasLinks p x o links) where
   these : (neighbour_of p.net.mesh x o ≡ Some links.beyond)
       × (links ≡ record {
         beyond = links.beyond;
@@ -46,20 +51,20 @@ module _ (p : PartState) (part : IsPart p) (framed : IsFramed p.net) (x o : ℕ)
         out = links_before p.net.mesh x o;
         into = links_before p.net.mesh links.beyond (opposite_of o);
       })
-  these = parts p.net.mesh x o links at
+  these = parts p.net.mesh x o links has.at
 
   pub linked : neighbour_of p.net.mesh x o ≡ Some links.beyond
   linked = these.0
 
   pub back : neighbour_of p.net.mesh links.beyond (opposite_of o) ≡ Some x
   back =
-      let large = AreLarge-from_radices p.net.mesh framed.radices.radices in
+      let large = AreLarge-from_radices p.net.mesh has.framed.radices.radices in
       neighbour_of-some p.net.mesh links.beyond (opposite_of o) x large
       (Joins-back p.net.mesh x o links.beyond (Joins-from p.net.mesh x o links.beyond large linked))
 
   pub beyond_in : links.beyond < node_count p.net.mesh
   beyond_in = (Joins-from p.net.mesh x o links.beyond
-      (AreLarge-from_radices p.net.mesh framed.radices.radices) linked).to_node
+      (AreLarge-from_radices p.net.mesh has.framed.radices.radices) linked).to_node
 
   pub entered_is : links.entered ≡ opposite_of o
   entered_is = ap (λ (l : PortLinks). l.entered) these.1
@@ -71,30 +76,45 @@ module _ (p : PartState) (part : IsPart p) (framed : IsFramed p.net) (x o : ℕ)
   into_is = ap (λ (l : PortLinks). l.into) these.1
 
   within : (links.out < link_count p.net.mesh) × (links.into < link_count p.net.mesh)
-  within = ports_within p.net.mesh x o links framed.radices at
+  within = ports_within p.net.mesh x o links has.framed.radices has.at
 
-  pub out_end_bound : links.out < length p.ends
-  out_end_bound = let w = within in let all = part.all_ends in omega (arith, w.0)
+  pub out_end_bound : (n : ℕ) → n ≡ links.out → n < length p.ends
+  out_end_bound n number = let w = within in let all = has.part.all_ends in omega (arith, w.0)
 
-  pub into_end_bound : links.into < length p.ends
-  into_end_bound = let w = within in let all = part.all_ends in omega (arith, w.1)
+  pub into_end_bound : (n : ℕ) → n ≡ links.into → n < length p.ends
+  into_end_bound n number = let w = within in let all = has.part.all_ends in omega (arith, w.1)
 
   -- the ends of the links
   pub out_end : end_at p.ends links.out ≡ end_of p x o
-  out_end = let there = linked_there p part x o links.beyond linked in rw there (ap (λ (k : ℕ). end_at p.ends k) out_is)
+  out_end =
+      let there = linked_there p has.part x o links.beyond linked in
+      rw there (ap (λ (k : ℕ). end_at p.ends k) out_is)
 
   pub into_end : end_at p.ends links.into ≡ end_of p links.beyond (opposite_of o)
-  into_end = let there = linked_there p part links.beyond (opposite_of o) x back in
+  into_end = let there = linked_there p has.part links.beyond (opposite_of o) x back in
       rw there (ap (λ (k : ℕ). end_at p.ends k) into_is)
+
+  -- the end by number, as it is looked up
+  pub out_looked_up : (n : ℕ) (end : End) → n ≡ links.out → end ≡ get_or p.ends n end → end ≡ end_of p x o
+  out_looked_up n end number now =
+      now ∙ get_or_default p.ends n end Inner (out_end_bound n number) ∙ (λ t. end_at p.ends (number t))
+      ∙ out_end
+
+  pub into_looked_up : (n : ℕ) (end : End) → n ≡ links.into → end ≡ get_or p.ends n end
+      → end ≡ end_of p links.beyond (opposite_of o)
+  into_looked_up n end number now =
+      now ∙ get_or_default p.ends n end Inner (into_end_bound n number) ∙ (λ t. end_at p.ends (number t))
+      ∙ into_end
 
   -- their lists
   pub out_credits : (network_of p.net).credit_list x o ≡ (link_at p.net links.out).credits
-  out_credits = credits_there p.net x o framed (linked_there p part x o links.beyond linked)
+  out_credits = credits_there p.net x o has.framed (linked_there p has.part x o links.beyond linked)
       ∙ ap (λ (k : ℕ). (link_at p.net k).credits) (sym out_is)
 
   pub into_flits : (network_of p.net).out links.beyond (opposite_of o) ≡ (link_at p.net links.into).flits
-  into_flits = out_there p.net links.beyond (opposite_of o) framed
-      (linked_there p part links.beyond (opposite_of o) x back) ∙ ap (λ (k : ℕ). (link_at p.net k).flits) (sym into_is)
+  into_flits = out_there p.net links.beyond (opposite_of o) has.framed
+      (linked_there p has.part links.beyond (opposite_of o) x back)
+      ∙ ap (λ (k : ℕ). (link_at p.net k).flits) (sym into_is)
 
   -- the same links as the neighbour's port has them
   pub out_from_beyond : link_into p.net links.beyond links.entered ≡ links.out

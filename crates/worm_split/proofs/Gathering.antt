@@ -45,48 +45,38 @@ module _ (parts : List PartState) (are : AreParts parts) (n : ℕ) (there : n < 
   further_on : (x : ℕ) → n ≤ x % W → (x % W ≡ n → ⊥) → n + 1 ≤ x % W
   further_on x from apart = elim (cases_eq (x % W) n) [ inl e ↦ absurd (apart e) | inr other ↦ omega arith ]
 
+  -- what is the part's own, or was gathered before
+  from_owner : {A : Type 0} (f : PartState → A) (x : ℕ) (now before : A) → n ≤ x % W
+      → now ≡ cond (owned_by p.net.own x) (f p) before → (n + 1 ≤ x % W → before ≡ f (owner_of parts x))
+      → now ≡ f (owner_of parts x)
+  from_owner f x now before from is past = elim (cases_eq (x % W) n) [
+    | inl e ↦ let mine = owned_here x e in is ∙ (rw mine refl ∙ ap f (sym (owner_here x e)))
+    | inr apart ↦ let other = owned_not x apart in is ∙ (rw other refl ∙ past (further_on x from apart))
+  ]
+
   new_node : (x : ℕ) → n ≤ x % W → (d : Node) → slice_index_or new.net.nodes x d ≡ slice_index_or
       (owner_of parts x).net.nodes x d
   new_node x from d =
-      let now = (nodes_now p.net.own kept.net.nodes p.net.nodes new.net.nodes back.0 back.3.nodes x d).0 in
-      elim (cases_eq (x % W) n) [
-        | inl e ↦
-            let mine = owned_here x e in
-            now ∙ (rw mine refl ∙ ap (λ (q : PartState). slice_index_or q.net.nodes x d) (sym (owner_here x e)))
-        | inr apart ↦
-            let other = owned_not x apart in
-            now ∙ (rw other refl ∙ gathered.nodes x (further_on x from apart) d)
-      ]
+      from_owner (λ (q : PartState). slice_index_or q.net.nodes x d) x (slice_index_or new.net.nodes x d)
+      (slice_index_or kept.net.nodes x d) from
+      (nodes_now p.net.own kept.net.nodes p.net.nodes new.net.nodes back.0 back.3.nodes x d).0
+      (λ past. gathered.nodes x past d)
 
   new_flits : (k : ℕ) → let x = (way_at kept.ways k).to in n ≤ x % W
       → (link_in new.net.links k).flits ≡ (link_at (owner_of parts x).net k).flits
   new_flits k from =
-      let x = (way_at kept.ways k).to in
-      let now = (links_now p.net.own kept.ways kept.net.links p.net.links new.net.links back.1 back.3.links
-      k).flits in
-      elim (cases_eq (x % W) n) [
-        | inl e ↦
-            let mine = owned_here x e in
-            now ∙ (rw mine refl ∙ ap (λ (q : PartState). (link_at q.net k).flits) (sym (owner_here x e)))
-        | inr apart ↦
-            let other = owned_not x apart in
-            now ∙ (rw other refl ∙ gathered.flits k (further_on x from apart))
-      ]
+      from_owner (λ (q : PartState). (link_at q.net k).flits) (way_at kept.ways k).to (link_in new.net.links k).flits
+      (link_in kept.net.links k).flits from
+      (links_now p.net.own kept.ways kept.net.links p.net.links new.net.links back.1 back.3.links k).flits
+      (gathered.flits k)
 
   new_credits : (k : ℕ) → let y = (way_at kept.ways k).from in n ≤ y % W
       → (link_in new.net.links k).credits ≡ (link_at (owner_of parts y).net k).credits
   new_credits k from =
-      let y = (way_at kept.ways k).from in
-      let now = (links_now p.net.own kept.ways kept.net.links p.net.links new.net.links back.1 back.3.links
-      k).credits in
-      elim (cases_eq (y % W) n) [
-        | inl e ↦
-            let mine = owned_here y e in
-            now ∙ (rw mine refl ∙ ap (λ (q : PartState). (link_at q.net k).credits) (sym (owner_here y e)))
-        | inr apart ↦
-            let other = owned_not y apart in
-            now ∙ (rw other refl ∙ gathered.credits k (further_on y from apart))
-      ]
+      from_owner (λ (q : PartState). (link_at q.net k).credits) (way_at kept.ways k).from
+      (link_in new.net.links k).credits (link_in kept.net.links k).credits from
+      (links_now p.net.own kept.ways kept.net.links p.net.links new.net.links back.1 back.3.links k).credits
+      (gathered.credits k)
 
   new_out : (k : ℕ) → let way = way_at kept.ways k in IsBetween W kept.ways k → n ≤ way.from % W
       → (line_at new.lines k).out ≡ end_at (owner_of parts way.from).ends k

@@ -1,8 +1,8 @@
 -- What goes by a part's end: a flit over a link that leaves its nodes, a credit over one that enters them.
 use Rattle.std.proofs.Common.{◌≡◌, ℕ, ◌<◌, ◌≤◌, ◌==◌, ◌&&◌, ◌||◌, true, false, inl, inr, List, [], ◌∷◌, ◌++◌, length}
-use Rattle.std.proofs.Common.{sum, get_or, Option, Some, None, refl, arith, sym, ap, subst, ◌∙◌}
+use Rattle.std.proofs.Common.{sum, get_or, Option, Some, None, refl, sym, ap, subst, ◌∙◌}
 use Rattle.std.specs.Prelude.{slice_set, nat_lt}
-use Rattle.std.proofs.lemmas.List.{get_or_default, set-get_or}
+use Rattle.std.proofs.lemmas.List.{set-get_or}
 use Rattle.worm_flit.specs.declared.Flit.{Flit}
 use Rattle.worm_flit.specs.Stamps.{on_channel, with_channel}
 use Rattle.worm_flit.specs.Worms.{Continues}
@@ -18,10 +18,9 @@ use Rattle.worm_theory.specs.Shape.{Shape}
 use Rattle.worm_theory.specs.Steps.{IsLinked, Send, GiveCredit, IsThere, Enabled, FrontIs, after}
 use Rattle.worm_theory.proofs.Places.{bool_cases}
 use Rattle.worm_region.specs.Shape.{net_shape}
-use Rattle.worm_region.specs.State.{NetState, IsFramed, IsSameConfig, IsNetPlace, shape, network_of, router_at}
+use Rattle.worm_region.specs.State.{NetState, IsSameConfig, IsNetPlace, shape, network_of, router_at}
 use Rattle.worm_region.specs.State.{with_router}
 use Rattle.worm_region.specs.Edges.{LetsOut, LetsGive}
-use Rattle.worm_wires.specs.Wiring.{port_links}
 use Rattle.worm_region.specs.Workable.{owned, EndsElsewhere}
 use Rattle.worm_wires.specs.declared.wiring.PortLinks.{PortLinks}
 use Rattle.worm_region.proofs.PlacesThere.{net_place}
@@ -29,16 +28,16 @@ use Rattle.worm_region.proofs.AsListed.{buffer_there, record_there}
 use Rattle.worm_parts.specs.Openings.{past_of}
 use Rattle.worm_parts.proofs.Regions.{push_part}
 use Rattle.worm_split.specs.declared.ends.End.{End}
-use Rattle.worm_split.specs.declared.ends.End.TheVariants.{Inner, Leaving, Entering}
-use Rattle.worm_split.specs.Ends.{FlitPushed, CreditPushed, MayGo, MayGive, end_at, sent_on}
+use Rattle.worm_split.specs.declared.ends.End.TheVariants.{Leaving, Entering}
+use Rattle.worm_split.specs.Ends.{FlitPushed, CreditPushed, MayGo, MayGive, sent_on}
 use Rattle.worm_split.specs.PartState.{PartState, IsPart, IsSamePart, end_of, owns, part_network, taken_by, returned_to}
-use Rattle.worm_split.specs.PartTurns.{SendsAcross, GivesAcross, ComesBy, with_end}
+use Rattle.worm_split.specs.PartTurns.{SendsAcross, GivesAcross, ComesBy, LeavesBy, with_end}
 use Rattle.worm_split.proofs.Crossing.{leaves_cross}
 use Rattle.worm_split.proofs.EndFacts.{IsLeavingEnd, IsEnteringEnd}
 use Rattle.worm_split.proofs.PartFacts.{mesh_of_part, part_shape, is_leaving, is_entering}
 use Rattle.worm_split.proofs.PartMoves.{flit_goes, credit_goes}
 use Rattle.worm_split.proofs.ComesByEnd.{linked_then, back_then}
-use Rattle.worm_split.proofs.EndsKnown.{linked, out_is, into_is, out_end_bound, into_end_bound, out_end, into_end}
+use Rattle.worm_split.proofs.EndsKnown.{HasLinks, linked, out_is, into_is, out_looked_up, into_looked_up}
 
 -- A flit that is ready: the front of a channel that is active.
 pub record IsReadyAt (s : NetState) (x p v o : ℕ) (flit : Flit) : Type 0 where
@@ -109,232 +108,241 @@ same_when_routed s new x r e = record {
   own = ap (λ (n : NetState). n.own) e;
 }
 
-module _ (p : PartState) (part : IsPart p) (framed : IsFramed p.net) (x o : ℕ) (links : PortLinks)
-    (at : ◌≡◌ {A = Option PortLinks} (Some links) (port_links p.net.mesh x o)) where
-  -- the end by number, as it is looked up
-  pub out_looked_up : (n : ℕ) (end : End) → n ≡ links.out → end ≡ get_or p.ends n end → end ≡ end_of p x o
-  out_looked_up n end number now =
-      let few = out_end_bound p part framed x o links at in
-      let bound : n < length p.ends = omega (arith, few, number) in
-      now ∙ get_or_default p.ends n end Inner bound ∙ (λ t. end_at p.ends (number t))
-      ∙ out_end p part framed x o links at
+-- A ready flit of a part, the link by which it leaves to another worker's node, and the end of that, looked up.
+pub record IsGoing (p : PartState) (x z v o : ℕ) (flit : Flit) (links : PortLinks) (n : ℕ) (end : End) : Type 0 where
+  pub has : HasLinks p x o links
+  pub leaves : LeavesBy p x o
+  pub there : IsThere (shape p.net) (Send x z v)
+  pub ready : leaving (router_at p.net x) z v ≡ Some (o, flit)
+  pub number : n ≡ links.out
+  pub looked : end ≡ get_or p.ends n end
 
-  pub into_looked_up : (n : ℕ) (end : End) → n ≡ links.into → end ≡ get_or p.ends n end
-      → end ≡ end_of p links.beyond (opposite_of o)
-  into_looked_up n end number now =
-      let few = into_end_bound p part framed x o links at in
-      let bound : n < length p.ends = omega (arith, few, number) in
-      now ∙ get_or_default p.ends n end Inner bound ∙ (λ t. end_at p.ends (number t))
-      ∙ into_end p part framed x o links at
+module _ {p : PartState} {x z v o : ℕ} {flit : Flit} {links : PortLinks} {n : ℕ} {end : End}
+    (going : IsGoing p x z v o flit links n end) where
+  abbrev tx : TxView
+  tx = going.leaves.0
 
-  -- A flit over a link that leaves
-  module _ (tx : TxView) (back : CreditRxView) (end_is : end_of p x o ≡ Leaving tx back) where
-    leaving_facts : IsLeavingEnd p.opening.mesh p.opening.channels x o
-        (past_of (shape p.opening) (network_of p.opening) x o links.beyond) (owns p x) (owns p links.beyond) tx back
-    leaving_facts = is_leaving p part x o links.beyond tx back (linked_then p part framed x o links at) end_is
+  abbrev back : CreditRxView
+  back = going.leaves.1
 
-    pub ends_elsewhere : EndsElsewhere (shape p.net) (owned p.net) x o
-    unfolding net_shape
-    ends_elsewhere =
-        subst (λ (end : Option ℕ). IsLinked end (λ y. owned p.net y ≡ false)) (sym (linked p part framed x o links at))
-        leaving_facts.far_elsewhere
+  abbrev end_is : end_of p x o ≡ Leaving tx back
+  end_is = going.leaves.2
 
-    module _ (z v : ℕ) (flit : Flit) (there : IsThere (shape p.net) (Send x z v))
-        (ready : leaving (router_at p.net x) z v ≡ Some (o, flit)) where
-      place : IsNetPlace p.net x z v
-      place = net_place p.net x z v framed there.0 there.1 there.2
+  now : end ≡ end_of p x o
+  now = out_looked_up going.has n end going.number going.looked
 
-      is_ready : IsReadyAt p.net x z v o flit
-      is_ready = ready_at p.net x z v o flit place ready
+  leaving_facts : IsLeavingEnd p.opening.mesh p.opening.channels x o
+      (past_of (shape p.opening) (network_of p.opening) x o links.beyond) (owns p x) (owns p links.beyond) tx back
+  leaving_facts = is_leaving p going.has.part x o links.beyond tx back (linked_then going.has) end_is
 
-      there_then : IsThere (shape p.opening) (Send x z v)
-      there_then = subst (λ (s : Shape). IsThere s (Send x z v)) (part_shape p part) there
-
-      pub may_go : (end : End) → end ≡ end_of p x o → MayGo end flit
-      may_go end now =
-          let r = is_ready in
-          let s = shape p.opening in
-          let seen = part_network p in
-          let front : FrontIs (seen.buffer x z v) (λ f. f ≡ r.front) =
-          subst (λ (fs : List Flit). FrontIs fs (λ f. f ≡ r.front)) (sym r.buffer) refl in
-          let pushed = push_part s (mesh_of_part p part) (network_of p.opening) (owns p) seen (taken_by p)
-          (returned_to p) part.holds x z v o r.channel links.beyond r.front
-          leaving_facts.near_own leaving_facts.far_elsewhere
-          (linked_then p part framed x o links at) there_then.1 r.active front in
-          let sent : seen.out x o ≡ tx.sent = ap (λ (e : End). sent_on e ((network_of p.net).out x o)) end_is in
-          let continues : Continues (on_channel flit.vc (tx.past ++ tx.sent)) flit
-          = subst (λ (f : Flit). Continues (on_channel f.vc (tx.past ++ tx.sent)) f) (sym r.goes_as)
-          (subst (λ (fs : List Flit). Continues (on_channel r.channel fs) (with_channel r.front r.channel))
-          (λ t. sym leaving_facts.past_is t ++ sent t) pushed.0) in
-          let linked_open : neighbour_of p.opening.mesh x o ≡ Some links.beyond =
-          rw (← part.config.mesh) (linked p part framed x o links at) in
-          let crossing : MayCross tx.link flit
-          = subst (λ (f : Flit). MayCross tx.link f) (sym r.goes_as)
-          (leaves_cross p.opening x o tx.link
-          (with_channel r.front r.channel) part.opened.framed leaving_facts.link links.beyond linked_open
-          pushed.1) in
-          subst (λ (e : End). MayGo e flit) (sym (now ∙ end_is)) (continues, crossing)
-
-      -- it landed
-      pub went : (n : ℕ) (end new : End) (net : NetState) → n ≡ links.out → end ≡ end_of p x o
-          → FlitPushed end flit true new → LetsOut p.net x z v net
-          → IsPart (record p { net = net; ends = slice_set p.ends n new })
-          × SendsAcross x z v p (record p { net = net; ends = slice_set p.ends n new })
-          × IsSamePart p (record p { net = net; ends = slice_set p.ends n new })
-      went n end new net number now pushed lets =
-          let r = is_ready in
-          let s = shape p.opening in
-          let N = network_of p.net in
-          let new_is : new ≡ Leaving (record tx { sent = tx.sent ++ flit ∷ [] }) back =
-          landed end new flit tx back (now ∙ end_is) pushed in
-          let config = same_when_routed p.net net x _ lets.exact in
-          let enabled = subst (λ (q : Shape). Enabled q N (Send x z v)) (part_shape p part) lets.enabled in
-          let after_it : network_of net ≡ record (after s N (Send x z v)) { out = N.out }
-          = lets.after_it ∙ ap (λ (q : Shape). record (after q N (Send x z v)) { out = N.out }) (part_shape p part) in
-          let made = flit_goes p part x o links.beyond
-          (linked_then p part framed x o links at) net config z v r.channel r.front r.rest tx back end_is there_then
-          enabled r.active r.buffer after_it in
-          let number_is : n ≡ links_before p.net.mesh x o = number ∙ out_is p part framed x o links at in
-          let as_flit : Leaving (record tx { sent = tx.sent ++ with_channel r.front r.channel ∷ [] }) back ≡ new
-          = ap (λ (f : Flit). Leaving (record tx { sent = tx.sent ++ f ∷ [] }) back) (sym r.goes_as) ∙ sym new_is in
-          let to : with_end p x o (Leaving (record tx { sent = tx.sent ++ with_channel r.front r.channel ∷ [] }) back)
-          net ≡ record p { net = net; ends = slice_set p.ends n new }
-          = λ t. record p { net = net; ends = slice_set p.ends (sym number_is t) (as_flit t) } in
-          let exact : record p { net = net; ends = slice_set p.ends n new }
-          ≡ with_end p x o (Leaving (record tx { sent = tx.sent ++ flit ∷ [] }) back)
-          (with_router p.net x (after_send (router_at p.net x) z v))
-          = λ t. record p { net = lets.exact t; ends = slice_set p.ends (number_is t) (new_is t) } in (
-            subst IsPart to made,
-            record { out = o; flit = flit; tx = tx; back = back; ready = ready; end = end_is; answer = inl exact },
-            record { config = config; opening = refl; lines = refl },
-          )
-
-      -- it came back
-      pub stayed : (n : ℕ) (end new : End) → n ≡ links.out → end ≡ get_or p.ends n end → FlitPushed end flit false new
-          → (record p { ends = slice_set p.ends n new } ≡ p)
-          × SendsAcross x z v p (record p { ends = slice_set p.ends n new })
-      stayed n end new number looked pushed =
-          let now = out_looked_up n end number looked in
-          let came = came_back end new flit tx back (now ∙ end_is) pushed in
-          let same_end : new ≡ get_or p.ends n end = came.0 ∙ sym (now ∙ end_is) ∙ looked in
-          let same : record p { ends = slice_set p.ends n new } ≡ p =
-          ap (λ (e : End). record p { ends = slice_set p.ends n e }) same_end
-          ∙ ap (λ (es : List End). record p { ends = es }) (set-get_or p.ends n end) in (
-            same,
-            record {
-              out = o;
-              flit = flit;
-              tx = tx;
-              back = back;
-              ready = ready;
-              end = end_is;
-              answer = inr (same, came.1);
-            },
-          )
-
-  -- the end of the link into the port, which comes from elsewhere
-  pub entering_by : ComesBy p x o → (rx : RxView) × (give : CreditTxView)
-      × (end_of p links.beyond (opposite_of o) ≡ Entering rx give)
-  entering_by comes =
-      let one : ◌≡◌ {A = Option ℕ} (Some links.beyond) (Some comes.0) =
-      sym (linked p part framed x o links at) ∙ comes.1 in
-      let same : links.beyond ≡ comes.0 = cc in
-      (comes.2.0, comes.2.1, ap (λ (y : ℕ). end_of p y (opposite_of o)) same ∙ comes.2.2)
-
-  -- a channel of the port is there to give a credit
-  pub giving_there : (v : ℕ) → x < node_count p.net.mesh → v < sum p.net.channels
-      → IsThere (shape p.net) (GiveCredit x o v)
+  pub ends_elsewhere : EndsElsewhere (shape p.net) (owned p.net) x o
   unfolding net_shape
-  giving_there v node channel = (node, rw (linked p part framed x o links at) refl, channel)
+  ends_elsewhere =
+      subst (λ (end : Option ℕ). IsLinked end (λ y. owned p.net y ≡ false)) (sym (linked going.has))
+      leaving_facts.far_elsewhere
 
-  -- A credit over a link that enters
-  module _ (rx : RxView) (give : CreditTxView) (end_is : end_of p links.beyond (opposite_of o) ≡ Entering rx give) where
-    entering_facts : IsEnteringEnd p.opening.mesh p.opening.channels links.beyond (opposite_of o)
-        (past_of (shape p.opening) (network_of p.opening) links.beyond (opposite_of o) x) (owns p links.beyond)
-        (owns p x) rx give
-    entering_facts = is_entering p part links.beyond (opposite_of o) x rx give
-        (back_then p part framed x o links at) end_is
+  is_ready : IsReadyAt p.net x z v o flit
+  is_ready = ready_at p.net x z v o flit
+      (net_place p.net x z v going.has.framed going.there.0 going.there.1 going.there.2) going.ready
 
-    pub owner_elsewhere : EndsElsewhere (shape p.net) (owned p.net) x o
-    unfolding net_shape
-    owner_elsewhere =
-        subst (λ (end : Option ℕ). IsLinked end (λ y. owned p.net y ≡ false)) (sym (linked p part framed x o links at))
-        entering_facts.near_elsewhere
+  there_then : IsThere (shape p.opening) (Send x z v)
+  there_then = subst (λ (s : Shape). IsThere s (Send x z v)) (part_shape p going.has.part) going.there
 
-    pub may_give : (v : ℕ) (end : End) → v < sum p.net.channels → end ≡ end_of p links.beyond (opposite_of o)
-        → MayGive end v
-    may_give v end channel now =
-        let line = entering_facts.line in
-        let channels : give.link.channels ≡ sum p.net.channels =
-        ap (λ (l : LinkCfg). l.channels) line
-        ∙ (entering_facts.link.same_channels
-        ∙ ap (λ (counts : List ℕ). sum counts) (sym part.config.channels)) in
-        subst (λ (e : End). MayGive e v) (sym (now ∙ end_is)) (subst (λ (n : ℕ). v < n) (sym channels) channel)
+  pub may_go : MayGo end flit
+  may_go =
+      let r = is_ready in
+      let s = shape p.opening in
+      let seen = part_network p in
+      let front : FrontIs (seen.buffer x z v) (λ f. f ≡ r.front) =
+      subst (λ (fs : List Flit). FrontIs fs (λ f. f ≡ r.front)) (sym r.buffer) refl in
+      let pushed = push_part s (mesh_of_part p going.has.part) (network_of p.opening) (owns p) seen (taken_by p)
+      (returned_to p) going.has.part.holds x z v o r.channel links.beyond r.front
+      leaving_facts.near_own leaving_facts.far_elsewhere
+      (linked_then going.has) there_then.1 r.active front in
+      let sent : seen.out x o ≡ tx.sent = ap (λ (e : End). sent_on e ((network_of p.net).out x o)) end_is in
+      let continues : Continues (on_channel flit.vc (tx.past ++ tx.sent)) flit
+      = subst (λ (f : Flit). Continues (on_channel f.vc (tx.past ++ tx.sent)) f) (sym r.goes_as)
+      (subst (λ (fs : List Flit). Continues (on_channel r.channel fs) (with_channel r.front r.channel))
+      (λ t. sym leaving_facts.past_is t ++ sent t) pushed.0) in
+      let linked_open : neighbour_of p.opening.mesh x o ≡ Some links.beyond =
+      rw (← going.has.part.config.mesh) (linked going.has) in
+      let crossing : MayCross tx.link flit
+      = subst (λ (f : Flit). MayCross tx.link f) (sym r.goes_as)
+      (leaves_cross p.opening x o tx.link
+      (with_channel r.front r.channel) going.has.part.opened.framed leaving_facts.link links.beyond linked_open
+      pushed.1) in
+      subst (λ (e : End). MayGo e flit) (sym (now ∙ end_is)) (continues, crossing)
 
-    -- it was given
-    pub gave_it : (v n : ℕ) (end new : End) (net : NetState) → IsThere (shape p.net) (GiveCredit x o v) → n ≡ links.into
-        → end ≡ end_of p links.beyond (opposite_of o) → CreditPushed end v true new → LetsGive p.net x o v net
-        → IsPart (record p { net = net; ends = slice_set p.ends n new })
-        × GivesAcross x o v p (record p { net = net; ends = slice_set p.ends n new })
-        × IsSamePart p (record p { net = net; ends = slice_set p.ends n new })
-    unfolding net_shape
-    gave_it v n end new net there number now pushed lets =
-        let s = shape p.opening in
-        let N = network_of p.net in
-        let y = links.beyond in
-        let q = opposite_of o in
-        let new_is : new ≡ Entering rx (record give { sent = give.sent ++ v ∷ [] }) =
-        given end new v rx give (now ∙ end_is) pushed in
-        let config = same_when_routed p.net net x _ lets.exact in
-        let there_then : IsThere s (GiveCredit x o v) =
-        subst (λ (k : Shape). IsThere k (GiveCredit x o v)) (part_shape p part) there in
-        let enabled = subst (λ (k : Shape). Enabled k N (GiveCredit x o v)) (part_shape p part) lets.enabled in
-        let after_it : network_of net ≡ record (after s N (GiveCredit x o v)) { credit_list = N.credit_list }
-        = lets.after_it ∙ ap (λ (k : Shape). record (after k N (GiveCredit x o v)) { credit_list = N.credit_list })
-        (part_shape p part) in
-        let made = credit_goes p part y q x (back_then p part framed x o links at) net config o v rx give end_is
-        (linked_then p part framed x o links at) refl there_then enabled after_it in
-        let number_is : n ≡ links_before p.net.mesh y q = number ∙ into_is p part framed x o links at in
-        let to : with_end p y q (Entering rx (record give { sent = give.sent ++ v ∷ [] })) net ≡ record p {
-          net = net;
-          ends = slice_set p.ends n new;
-        }
-        = λ t. record p { net = net; ends = slice_set p.ends (sym number_is t) (sym new_is t) } in
-        let exact : record p { net = net; ends = slice_set p.ends n new }
-        ≡ with_end p y q (Entering rx (record give { sent = give.sent ++ v ∷ [] }))
-        (with_router p.net x (after_gave (router_at p.net x) o v))
-        = λ t. record p { net = lets.exact t; ends = slice_set p.ends (number_is t) (new_is t) } in (
-          subst IsPart to made,
-          record {
-            beyond = y;
-            rx = rx;
-            give = give;
-            linked = linked p part framed x o links at;
-            end = end_is;
-            answer = inl exact;
-          },
-          record { config = config; opening = refl; lines = refl },
-        )
+  -- it landed
+  pub went : (new : End) (net : NetState) → FlitPushed end flit true new → LetsOut p.net x z v net
+      → IsPart (record p { net = net; ends = slice_set p.ends n new })
+      × SendsAcross x z v p (record p { net = net; ends = slice_set p.ends n new })
+      × IsSamePart p (record p { net = net; ends = slice_set p.ends n new })
+  went new net pushed lets =
+      let r = is_ready in
+      let s = shape p.opening in
+      let N = network_of p.net in
+      let new_is : new ≡ Leaving (record tx { sent = tx.sent ++ flit ∷ [] }) back =
+      landed end new flit tx back (now ∙ end_is) pushed in
+      let config = same_when_routed p.net net x _ lets.exact in
+      let enabled = subst (λ (q : Shape). Enabled q N (Send x z v)) (part_shape p going.has.part) lets.enabled in
+      let after_it : network_of net ≡ record (after s N (Send x z v)) { out = N.out }
+      = lets.after_it ∙ ap (λ (q : Shape). record (after q N (Send x z v)) { out = N.out })
+      (part_shape p going.has.part) in
+      let made = flit_goes p going.has.part x o links.beyond
+      (linked_then going.has) net config z v r.channel r.front r.rest tx back end_is there_then
+      enabled r.active r.buffer after_it in
+      let number_is : n ≡ links_before p.net.mesh x o = going.number ∙ out_is going.has in
+      let as_flit : Leaving (record tx { sent = tx.sent ++ with_channel r.front r.channel ∷ [] }) back ≡ new
+      = ap (λ (f : Flit). Leaving (record tx { sent = tx.sent ++ f ∷ [] }) back) (sym r.goes_as) ∙ sym new_is in
+      let to : with_end p x o (Leaving (record tx { sent = tx.sent ++ with_channel r.front r.channel ∷ [] }) back)
+      net ≡ record p { net = net; ends = slice_set p.ends n new }
+      = λ t. record p { net = net; ends = slice_set p.ends (sym number_is t) (as_flit t) } in
+      let exact : record p { net = net; ends = slice_set p.ends n new }
+      ≡ with_end p x o (Leaving (record tx { sent = tx.sent ++ flit ∷ [] }) back)
+      (with_router p.net x (after_send (router_at p.net x) z v))
+      = λ t. record p { net = lets.exact t; ends = slice_set p.ends (number_is t) (new_is t) } in (
+        subst IsPart to made,
+        record { out = o; flit = flit; tx = tx; back = back; ready = going.ready; end = end_is; answer = inl exact },
+        record { config = config; opening = refl; lines = refl },
+      )
 
-    -- it came back
-    pub owes_still : (v n : ℕ) (end new : End) → n ≡ links.into → end ≡ get_or p.ends n end
-        → CreditPushed end v false new
-        → (record p { ends = slice_set p.ends n new } ≡ p)
-        × GivesAcross x o v p (record p { ends = slice_set p.ends n new })
-    owes_still v n end new number looked pushed =
-        let now = into_looked_up n end number looked in
-        let came = not_given end new v rx give (now ∙ end_is) pushed in
-        let same_end : new ≡ get_or p.ends n end = came.0 ∙ sym (now ∙ end_is) ∙ looked in
-        let same : record p { ends = slice_set p.ends n new } ≡ p =
-        ap (λ (e : End). record p { ends = slice_set p.ends n e }) same_end
-        ∙ ap (λ (es : List End). record p { ends = es }) (set-get_or p.ends n end) in (
-          same,
-          record {
-            beyond = links.beyond;
-            rx = rx;
-            give = give;
-            linked = linked p part framed x o links at;
-            end = end_is;
-            answer = inr (same, came.1);
-          },
-        )
+  -- it came back
+  pub stayed : (new : End) → FlitPushed end flit false new → (record p { ends = slice_set p.ends n new } ≡ p)
+      × SendsAcross x z v p (record p { ends = slice_set p.ends n new })
+  stayed new pushed =
+      let came = came_back end new flit tx back (now ∙ end_is) pushed in
+      let same_end : new ≡ get_or p.ends n end = came.0 ∙ sym (now ∙ end_is) ∙ going.looked in
+      let same : record p { ends = slice_set p.ends n new } ≡ p =
+      ap (λ (e : End). record p { ends = slice_set p.ends n e }) same_end
+      ∙ ap (λ (es : List End). record p { ends = es }) (set-get_or p.ends n end) in (
+        same,
+        record {
+          out = o;
+          flit = flit;
+          tx = tx;
+          back = back;
+          ready = going.ready;
+          end = end_is;
+          answer = inr (same, came.1);
+        },
+      )
+
+-- A credit that a part may give over the link into a port from another worker's node, and the end of that, looked up.
+pub record IsGiving (p : PartState) (x o v : ℕ) (links : PortLinks) (n : ℕ) (end : End) : Type 0 where
+  pub has : HasLinks p x o links
+  pub comes : ComesBy p x o
+  pub node : x < node_count p.net.mesh
+  pub channel : v < sum p.net.channels
+  pub number : n ≡ links.into
+  pub looked : end ≡ get_or p.ends n end
+
+module _ {p : PartState} {x o v : ℕ} {links : PortLinks} {n : ℕ} {end : End}
+    (giving : IsGiving p x o v links n end) where
+  abbrev rx : RxView
+  rx = giving.comes.2.0
+
+  abbrev give : CreditTxView
+  give = giving.comes.2.1
+
+  entering_is : end_of p links.beyond (opposite_of o) ≡ Entering rx give
+  entering_is =
+      let one : ◌≡◌ {A = Option ℕ} (Some links.beyond) (Some giving.comes.0) =
+      sym (linked giving.has) ∙ giving.comes.1 in
+      let same : links.beyond ≡ giving.comes.0 = cc in
+      ap (λ (y : ℕ). end_of p y (opposite_of o)) same ∙ giving.comes.2.2
+
+  entering_now : end ≡ end_of p links.beyond (opposite_of o)
+  entering_now = into_looked_up giving.has n end giving.number giving.looked
+
+  entering_facts : IsEnteringEnd p.opening.mesh p.opening.channels links.beyond (opposite_of o)
+      (past_of (shape p.opening) (network_of p.opening) links.beyond (opposite_of o) x) (owns p links.beyond)
+      (owns p x) rx give
+  entering_facts =
+      is_entering p giving.has.part links.beyond (opposite_of o) x rx give (back_then giving.has) entering_is
+
+  -- the channel of the port is there to give a credit
+  pub giving_there : IsThere (shape p.net) (GiveCredit x o v)
+  unfolding net_shape
+  giving_there = (giving.node, rw (linked giving.has) refl, giving.channel)
+
+  pub owner_elsewhere : EndsElsewhere (shape p.net) (owned p.net) x o
+  unfolding net_shape
+  owner_elsewhere =
+      subst (λ (end : Option ℕ). IsLinked end (λ y. owned p.net y ≡ false)) (sym (linked giving.has))
+      entering_facts.near_elsewhere
+
+  pub may_give : MayGive end v
+  may_give =
+      let line = entering_facts.line in
+      let channels : give.link.channels ≡ sum p.net.channels =
+      ap (λ (l : LinkCfg). l.channels) line
+      ∙ (entering_facts.link.same_channels
+      ∙ ap (λ (counts : List ℕ). sum counts) (sym giving.has.part.config.channels)) in
+      subst (λ (e : End). MayGive e v) (sym (entering_now ∙ entering_is))
+      (subst (λ (n : ℕ). v < n) (sym channels) giving.channel)
+
+  -- it was given
+  pub gave_it : (new : End) (net : NetState) → CreditPushed end v true new → LetsGive p.net x o v net
+      → IsPart (record p { net = net; ends = slice_set p.ends n new })
+      × GivesAcross x o v p (record p { net = net; ends = slice_set p.ends n new })
+      × IsSamePart p (record p { net = net; ends = slice_set p.ends n new })
+  unfolding net_shape
+  gave_it new net pushed lets =
+      let s = shape p.opening in
+      let N = network_of p.net in
+      let y = links.beyond in
+      let q = opposite_of o in
+      let new_is : new ≡ Entering rx (record give { sent = give.sent ++ v ∷ [] }) =
+      given end new v rx give (entering_now ∙ entering_is) pushed in
+      let config = same_when_routed p.net net x _ lets.exact in
+      let there_then : IsThere s (GiveCredit x o v) =
+      subst (λ (k : Shape). IsThere k (GiveCredit x o v)) (part_shape p giving.has.part) giving_there in
+      let enabled = subst (λ (k : Shape). Enabled k N (GiveCredit x o v)) (part_shape p giving.has.part) lets.enabled in
+      let after_it : network_of net ≡ record (after s N (GiveCredit x o v)) { credit_list = N.credit_list }
+      = lets.after_it ∙ ap (λ (k : Shape). record (after k N (GiveCredit x o v)) { credit_list = N.credit_list })
+      (part_shape p giving.has.part) in
+      let made = credit_goes p giving.has.part y q x (back_then giving.has) net config o v rx give entering_is
+      (linked_then giving.has) refl there_then enabled after_it in
+      let number_is : n ≡ links_before p.net.mesh y q = giving.number ∙ into_is giving.has in
+      let to : with_end p y q (Entering rx (record give { sent = give.sent ++ v ∷ [] })) net ≡ record p {
+        net = net;
+        ends = slice_set p.ends n new;
+      }
+      = λ t. record p { net = net; ends = slice_set p.ends (sym number_is t) (sym new_is t) } in
+      let exact : record p { net = net; ends = slice_set p.ends n new }
+      ≡ with_end p y q (Entering rx (record give { sent = give.sent ++ v ∷ [] }))
+      (with_router p.net x (after_gave (router_at p.net x) o v))
+      = λ t. record p { net = lets.exact t; ends = slice_set p.ends (number_is t) (new_is t) } in (
+        subst IsPart to made,
+        record {
+          beyond = y;
+          rx = rx;
+          give = give;
+          linked = linked giving.has;
+          end = entering_is;
+          answer = inl exact;
+        },
+        record { config = config; opening = refl; lines = refl },
+      )
+
+  -- it came back
+  pub owes_still : (new : End) → CreditPushed end v false new
+      → (record p { ends = slice_set p.ends n new } ≡ p)
+      × GivesAcross x o v p (record p { ends = slice_set p.ends n new })
+  owes_still new pushed =
+      let came = not_given end new v rx give (entering_now ∙ entering_is) pushed in
+      let same_end : new ≡ get_or p.ends n end = came.0 ∙ sym (entering_now ∙ entering_is) ∙ giving.looked in
+      let same : record p { ends = slice_set p.ends n new } ≡ p =
+      ap (λ (e : End). record p { ends = slice_set p.ends n e }) same_end
+      ∙ ap (λ (es : List End). record p { ends = es }) (set-get_or p.ends n end) in (
+        same,
+        record {
+          beyond = links.beyond;
+          rx = rx;
+          give = give;
+          linked = linked giving.has;
+          end = entering_is;
+          answer = inr (same, came.1);
+        },
+      )

@@ -1,34 +1,27 @@
 use Rattle.std.proofs.Common.{map, refl}
 use Rattle.worm_theory.specs.Steps.{TakeCredit}
 use Rattle.worm_region.specs.Turns.{mesh_ports}
-use Rattle.worm_region.proofs.EachCovered.{covered_all, covered_more, covered_start, credits, first_linked, linked_less}
+use Rattle.worm_region.proofs.EachCovered.{covered_all, covered_start, credits, first_linked, ports_more}
 use Rattle.worm_region.proofs.region.Region.take_credits.Goals as goal
 
 pub loop-port-init : goal.loop-port-init
 loop-port-init c =
-    let set = c.credits_in-left in (
-      covered_start (credits c.args.node) c.args.self.now set.result set.ensures.sound set.ensures.ports,
-      set.ensures.linked,
-    )
+    let set = c.credits_in-left in
+    record {
+      covered = covered_start (credits c.args.node) c.args.self.now set.result set.ensures.sound set.ensures.ports;
+      linked = set.ensures.linked;
+    }
 
 pub loop-port-preserved : goal.loop-port-preserved
 loop-port-preserved c =
-    let inv = c.loop-port.invariant in
     let one = c.take_credit_at.ensures in
-    let x = c.args.node in (
-      covered_more (credits x) c.args.self.now c.requires c.loop-port.self c.loop-port.left c.take_credit_at.new.self
-          c.pop_first.new.self c.in-Some.port inv.0 c.in-Some.ensures one.taken one.others one.sound,
-      linked_less c.args.self.now x c.loop-port.left c.pop_first.new.self c.in-Some.port c.in-Some.ensures inv.1,
-    )
+    ports_more c.requires c.loop-port.invariant c.in-Some.ensures one.taken one.others one.sound
 
 pub take_credit_at-requires : goal.take_credit_at-requires
-take_credit_at-requires c =
-    let inv = c.loop-port.invariant in
-    first_linked c.args.self.now c.loop-port.self c.args.node c.loop-port.left c.pop_first.new.self c.in-Some.port
-    inv.0.done.does.reaches.config c.in-Some.ensures inv.1
+take_credit_at-requires c = first_linked c.loop-port.invariant c.in-Some.ensures
 
 pub returns : goal.returns
 returns c =
     let x = c.args.node in
     covered_all (credits x) c.args.self.now c.requires c.loop-port.self c.loop-port.left
-    (λ s. map (TakeCredit x) (mesh_ports s)) c.loop-port.invariant.0 c.in_default.ensures.0 refl
+    (λ s. map (TakeCredit x) (mesh_ports s)) c.loop-port.invariant.covered c.in_default.ensures.0 refl

@@ -8,11 +8,10 @@ use Rattle.worm_region.proofs.OwesToLinks.{owes_there}
 use Rattle.worm_split.specs.Ends.{enters_by}
 use Rattle.worm_split.specs.PartState.{PartState, part_state}
 use Rattle.worm_split.specs.PartTurns.{ComesBy}
-use Rattle.worm_split.proofs.GoesByEnd.{into_looked_up}
-use Rattle.worm_split.proofs.EndsKnown.{into_end_bound, linked}
+use Rattle.worm_split.proofs.EndsKnown.{HasLinks, into_looked_up, into_end_bound, linked}
 use Rattle.worm_split.proofs.Staying.{comes_means}
 use Rattle.worm_split.proofs.part.Part.give.Goals as goal
-use Rattle.worm_split.proofs.part.Part.give.Goals.{After-is_entering}
+use Rattle.worm_split.proofs.part.Part.give.Goals.{After-is_entering, After-links_beyond-links}
 use Rattle.worm_split.proofs.part.Part.give.Given as given
 
 pub links_beyond-links-requires : goal.links_beyond-links-requires
@@ -23,12 +22,18 @@ links_beyond-links-requires g c =
     (sym c.self.view_is) c.requires.owed in
     (owes_there c.self.inside.region c.args.node c.args.port c.args.vc c.recall.ensures.framed channel owed).1
 
+-- the link into the port
+entering : (g : given.Over) (c : After-links_beyond-links g)
+    → let i = c.self.inside in
+    HasLinks (part_state i.region i.ends.items i.opening.value i.lines.value.items) c.args.node c.args.port
+    c.links_beyond-links.result
+entering g c =
+    record { part = c.self.invariant.0; framed = c.recall.ensures.framed; at = c.links_beyond-links.ensures }
+
 pub index-requires : goal.index-requires
 index-requires g c =
-    let i = c.self.inside in
-    let few = into_end_bound (part_state i.region i.ends.items i.opening.value i.lines.value.items) c.self.invariant.0
-    c.recall.ensures.framed c.args.node c.args.port c.links_beyond-links.result c.links_beyond-links.ensures in
-    omega (arith, few, c.from.ensures)
+    let has = entering g (goal.at.index-requires g c).After-links_beyond-links in
+    omega (arith, into_end_bound has c.from.result c.from.ensures)
 
 -- what the end says of where the link comes from
 told : (g : given.Over) (c : goal.After-is_entering g)
@@ -37,13 +42,11 @@ told g c =
     let i = c.self.inside in
     let p : PartState = part_state i.region i.ends.items i.opening.value i.lines.value.items in
     let links = c.links_beyond-links.result in
-    let at = c.links_beyond-links.ensures in
-    let framed = c.recall.ensures.framed in
-    let looked = into_looked_up p c.self.invariant.0 framed c.args.node c.args.port links at c.from.result
-    c.index.result.now c.from.ensures c.index.ensures in
-    rw (← c.self.view_is) (comes_means p c.args.node c.args.port links.beyond c.is_entering.result
-    (linked p c.self.invariant.0 framed c.args.node c.args.port links at)
-    (c.is_entering.ensures ∙ ap enters_by looked))
+    let has : HasLinks p c.args.node c.args.port links =
+    record { part = c.self.invariant.0; framed = c.recall.ensures.framed; at = c.links_beyond-links.ensures } in
+    rw (← c.self.view_is) (comes_means p c.args.node c.args.port links.beyond c.is_entering.result (linked has)
+    (c.is_entering.ensures
+    ∙ ap enters_by (into_looked_up has c.from.result c.index.result.now c.from.ensures c.index.ensures)))
 
 stays : (g : given.Over) (c : goal.After-is_entering g) → c.is_entering.result ≡ false
     → ComesBy c.args.self.now c.args.node c.args.port → ⊥
