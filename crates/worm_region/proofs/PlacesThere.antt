@@ -1,5 +1,6 @@
 -- A port or a place of the theory is one of the network's routers, and a channel with a flit is a place of the theory.
-use Rattle.std.proofs.Common.{◌≡◌, ℕ, ◌*◌, ◌<◌, ◌≤◌, true, inl, inr, [], ◌∷◌, length, nat_lt, refl, subst, ◌∙◌, arith}
+use Rattle.std.proofs.Common.{◌≡◌, ℕ, ◌*◌, ◌<◌, ◌≤◌, true, inl, inr, [], ◌∷◌, length, nat_lt, refl}
+use Rattle.std.proofs.Common.{subst, sym, ◌∙◌, arith}
 use Rattle.std.specs.Prelude.{All, IsSome, List, Option, Some, None}
 use Rattle.std.proofs.lemmas.List.Elements.{All-head}
 use Rattle.worm_flit.specs.declared.Flit.{Flit}
@@ -46,6 +47,13 @@ net_place s x p v framed x_in port v_in =
       node_in = there;
       place = record { port_in = rw node.same_mesh port_in; channel_in = rw node.same_channels v_in };
     }
+
+-- the same of the lists that a region has, where whoever has it sees the place
+pub place_inside : (s seen : NetState) (x p v : ℕ) → s ≡ seen → IsFramed s → IsThere (shape seen) (Send x p v)
+    → IsNetPlace s x p v
+place_inside s seen x p v same framed there_seen =
+    let there = subst (λ (t : NetState). IsThere (shape t) (Send x p v)) (sym same) there_seen in
+    net_place s x p v framed there.0 there.1 there.2
 
 -- a channel with a flit is there
 pub flit_there : (s : NetState) (x p v : ℕ) (f : Flit) (rest : List Flit) → IsWorkable s → x < node_count s.mesh

@@ -317,7 +317,10 @@ impl Region {
             (λ out. EndsWithin (shape self.old) (owned self.old) node out.0) }
         ensures { Replies self.old (Event.Send node port vc) result self.new }
     {
-        self.fabric.send(node, port, vc)
+        if !self.fabric.node(node).router.may_send(port, vc) {
+            return Ok(Moved::Idle);
+        }
+        self.send_next(node, port, vc)
     }
 
     /// The same of a channel that may send, as one that was granted the switch. No two hold one output channel, so what

@@ -7,7 +7,7 @@ use Rattle.worm_region.specs.Replies.{Replies}
 use Rattle.worm_region.specs.Answers.{moved_of}
 use Rattle.worm_region.specs.Workable.{IsWorkable}
 use Rattle.worm_region.proofs.NodeWritten.{with_router_same}
-use Rattle.worm_region.proofs.PlacesThere.{net_place}
+use Rattle.worm_region.proofs.PlacesThere.{place_inside}
 use Rattle.worm_region.proofs.RouteAgrees.{route_answers}
 use Rattle.worm_region.proofs.ReachedBySteps.{replies_from, still_workable}
 use Rattle.worm_region.proofs.region.Region.route_there.Goals as goal
@@ -21,8 +21,7 @@ there c =
 
 place : (c : After-self) → IsNetPlace c.self.inside.fabric c.args.node c.args.port c.args.vc
 place c =
-    let at = there c in
-    net_place c.self.inside.fabric c.args.node c.args.port c.args.vc c.self.invariant.framed at.0 at.1 at.2
+    place_inside _ c.args.self.now c.args.node c.args.port c.args.vc c.self.view_is c.self.invariant.framed c.requires
 
 pub router_mut-requires : goal.router_mut-requires
 router_mut-requires c = (place (goal.at.router_mut-requires c).After-self).node_in
