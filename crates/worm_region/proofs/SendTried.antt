@@ -12,7 +12,7 @@ use Rattle.worm_region.specs.declared.step.Moved.{Moved}
 use Rattle.worm_region.specs.declared.step.Moved.TheVariants.{Idle}
 use Rattle.worm_region.specs.declared.fault.StepFault.{StepFault}
 use Rattle.worm_region.proofs.PlacesThere.{net_place}
-use Rattle.worm_region.proofs.ReachedBySteps.{replies_from, still_workable}
+use Rattle.worm_region.proofs.ReachedBySteps.{answered_inside}
 use Rattle.worm_region.proofs.SendAgrees.{SendsWithin, send_answers, send_leads}
 
 -- of the lists that a region has, for those that its caller sees
@@ -38,8 +38,7 @@ is_tried s seen x p v same net there_seen within_seen =
       way = send_leads s x p v net within there;
       sink = node.sink_node;
       answers = λ answer new sends.
-          let made = send_answers s x p v net within there answer new sends in
-          (still_workable s new (Send x p v) answer made, replies_from s seen new (Send x p v) answer same made.1);
+          answered_inside s seen new (Send x p v) answer same (send_answers s x p v net within there answer new sends);
     }
 
 -- and none is sent where none may leave

@@ -150,10 +150,10 @@ impl Fabric {
         }
     }
 
-    /// Lets the flit of a channel that may send out, into the sink or onto the link of its port (Dally and Towles,
-    /// chapter 13). `NoMemory` where the sink cannot take it; idle where one for the terminal is not at home. The router
-    /// tells the terminal port, by which it tells what a flit costs, so that the compiler knows that one for a link
-    /// costs a credit.
+    /// Lets out the flit of a channel that may send, into the sink or onto the link of its port (Dally and Towles,
+    /// chapter 13). `NoMemory` where the sink cannot take it; idle where one for the terminal is not at home. The
+    /// router tells the terminal port, by which it tells what a flit costs, so that the compiler knows that one for a
+    /// link costs a credit.
     #[inline(always)]
     pub(crate) fn send_next(&mut self, node: u8, port: u8, vc: u8) -> Result<Moved, StepFault>
         requires place { IsNetPlace self.old node port vc }

@@ -9,7 +9,7 @@ use Rattle.worm_region.specs.Workable.{IsWorkable}
 use Rattle.worm_region.proofs.NodeWritten.{with_router_same}
 use Rattle.worm_region.proofs.PlacesThere.{place_inside}
 use Rattle.worm_region.proofs.RouteAgrees.{route_answers}
-use Rattle.worm_region.proofs.ReachedBySteps.{replies_from, still_workable}
+use Rattle.worm_region.proofs.ReachedBySteps.{answered_inside}
 use Rattle.worm_region.proofs.region.Region.route_there.Goals as goal
 use Rattle.worm_region.proofs.region.Region.route_there.Goals.{After-route, After-self}
 
@@ -35,11 +35,10 @@ with_router_if : (s : NetState) (x : ℕ) (q r : RouterState) (done : Bool) → 
 with_router_if s x q r true there is = ap (λ (p : RouterState). with_router s x p) is
 with_router_if s x q r false there is = ap (λ (p : RouterState). with_router s x p) is ∙ with_router_same s x there
 
--- the region's lists after it, and what its answer means
+-- what it leaves, and what its answer means
 routed : (c : After-route) →
-    let s = c.self.inside.fabric in
-    let new = with_router s c.args.node c.route.new.self in
-    IsWorkable new × Replies s (Route c.args.node c.args.port c.args.vc) (Ok (moved_of c.route.result)) new
+    let new = with_router c.self.inside.fabric c.args.node c.route.new.self in
+    IsWorkable new × Replies c.args.self.now (Route c.args.node c.args.port c.args.vc) (Ok (moved_of c.route.result)) new
 routed c =
     let s = c.self.inside.fabric in
     let x = c.args.node in
@@ -47,17 +46,15 @@ routed c =
     let at = (goal.at.After-route c).After-self in
     let enabled = c.route.ensures.enabled
     ∙ ap (λ (r : RouterState). can_route r c.args.port c.args.vc) c.router_mut.ensures.value in
-    let a = route_answers s x c.args.port c.args.vc c.self.invariant (there at) c.route.result enabled in
     let after = with_router_if s x c.route.new.self _ c.route.result (place at).node_in
     (subst (λ (r : RouterState). c.route.new.self ≡ (if c.route.result then after_route r c.args.port c.args.vc else r))
     c.router_mut.ensures.value c.route.ensures.after) in
-    subst (λ (t : NetState). IsWorkable t × Replies s step (Ok (moved_of c.route.result)) t) (sym after)
-    (still_workable s _ step (Ok (moved_of c.route.result)) a, a.1)
+    subst (λ (t : NetState). IsWorkable t × Replies c.args.self.now step (Ok (moved_of c.route.result)) t) (sym after)
+    (answered_inside s c.args.self.now _ step (Ok (moved_of c.route.result)) c.self.view_is
+    (route_answers s x c.args.port c.args.vc c.self.invariant (there at) c.route.result enabled))
 
 pub invariant_of-self : goal.invariant_of-self
 invariant_of-self c = (routed (goal.at.invariant_of-self c).After-route).0
 
 pub returns : goal.returns
-returns c =
-    replies_from _ _ _ (Route c.args.node c.args.port c.args.vc) (Ok (moved_of c.route.result)) c.self.view_is
-    (routed (goal.at.returns c).After-route).1
+returns c = (routed (goal.at.returns c).After-route).1
