@@ -38,6 +38,11 @@ pub line_back : (s : NetState) (l : LinksView) (x p : ℕ) → l ≡ links_of s 
     → IsSome (neighbour_of l.mesh x p)
 line_back s l x p is linked = subst (λ (l : LinksView). IsSome (neighbour_of l.mesh x p)) (sym is) linked
 
+-- of the lists that a region has, where whoever has it sees that the port has a link
+pub port_inside : {s seen : NetState} (x p : ℕ) → s ≡ seen → IsSome (neighbour_of seen.mesh x p)
+    → IsSome (neighbour_of s.mesh x p)
+port_inside x p same linked = subst (λ (s : NetState). IsSome (neighbour_of s.mesh x p)) (sym same) linked
+
 -- The links of a port, as they were looked up in what is on the links of a network.
 module _ {s old : NetState} {l : LinksView} {T : Type 0} {missing : Bool} (x p : ℕ)
     (found : Option T) (same : s ≡ old) (is : l ≡ links_of s) (there : IsSome found ↔ IsSome (neighbour_of l.mesh x p))
@@ -50,7 +55,6 @@ module _ {s old : NetState} {l : LinksView} {T : Type 0} {missing : Bool} (x p :
   -- and where they are missing it has none
   pub port_bare : missing ≡ true → IsSome (neighbour_of old.mesh x p) → ⊥
   port_bare none linked =
-      let is_there = there.1 (line_back s l x p is
-      (subst (λ (s : NetState). IsSome (neighbour_of s.mesh x p)) (sym same) linked)) in
+      let is_there = there.1 (line_back s l x p is (port_inside x p same linked)) in
       let not_there = asked ∙ ap not none in
       cc

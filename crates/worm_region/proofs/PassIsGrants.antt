@@ -6,7 +6,7 @@ use Rattle.std.specs.Prelude.{All, Result, fold, IsSome, is_none, option_map}
 use Rattle.std.specs.List.{range_with_len}
 use Rattle.std.proofs.lemmas.List.{set-set}
 use Rattle.std.proofs.Math.ListN.{length-set}
-use Rattle.std.proofs.lemmas.List.Elements.{All-head, All-nil}
+use Rattle.std.proofs.lemmas.List.Elements.{All-nil}
 use Rattle.std.proofs.lemmas.Bool.{and_parts}
 use Rattle.worm_flit.specs.declared.Flit.{Flit}
 use Rattle.worm_flit.specs.Channels.{owns}
@@ -30,7 +30,7 @@ use Rattle.worm_region.specs.Shape.{net_shape}
 use Rattle.worm_region.specs.declared.node.Node.{Node}
 use Rattle.worm_region.specs.State.{NetState, IsNetPlace, IsSameConfig, shape, network_of, node_at, router_at}
 use Rattle.worm_region.specs.State.{with_node, with_router, input_of, output_of, link_of}
-use Rattle.worm_region.specs.Workable.{IsWorkable, owned, IsKept, Works}
+use Rattle.worm_region.specs.Workable.{IsWorkable, owned, Works}
 use Rattle.worm_region.specs.Answers.{moved_of}
 use Rattle.worm_region.specs.Moves.{IsReady, chosen_router}
 use Rattle.worm_region.specs.Replies.{Replies}
@@ -39,7 +39,7 @@ use Rattle.worm_region.specs.declared.step.Moved.{Moved}
 use Rattle.worm_region.specs.declared.fault.StepFault.{StepFault}
 use Rattle.worm_region.proofs.NodeWritten.{node_at-put, node_kept}
 use Rattle.worm_region.proofs.FrameKept.{node_framed}
-use Rattle.worm_region.proofs.AsListed.{buffer_there}
+use Rattle.worm_region.proofs.PlacesThere.{flit_there}
 use Rattle.worm_region.proofs.GrantAgrees.{grant_answers}
 use Rattle.worm_region.proofs.NodeWritten.{with_router_same}
 use Rattle.worm_region.proofs.StaysAtNode.{none_at, joined_at, answered_at}
@@ -149,28 +149,18 @@ granted_there s x p v k o net x_in place (Waiting q) (f ∷ rest) b e =
     (and_parts (is_none (output_at (router_at s x) q k).holder)
     (owns (router_at s x).channels f.lane.class k) test).1 in
     let within = (owned_by (router_at s x).channels f.lane.class k owned).0 in
-    let all =
-    subst (λ (fs : List Flit). All (IsKept (shape s) x p) fs) (buffer_there s x p v place ∙
-    b) (net.works.buffered x p v) in
-    let port = (All-head (IsKept (shape s) x p) f rest all).port in
-    (x_in, port, rw (← node.same_channels) place.place.channel_in, rw (← node.same_channels) within)
+    let there = flit_there s x p v f rest net x_in place b in
+    (there.0, there.1, there.2, rw (← node.same_channels) within)
 
 -- what is ready to leave is there
 leaving_there : (s : NetState) (x p v : ℕ) → IsWorkable s → x < node_count s.mesh → IsNetPlace s x p v →
     (st : InRecord) (fs : List Flit)
     → (input_at (router_at s x) p v).buffer ≡ fs →
     IsSome (leaving_by (router_at s x) p (input_at (router_at s x) p v) st fs) → IsThere (shape s) (Send x p v)
-unfolding net_shape
 leaving_there s x p v net x_in place Idle fs b ready = absurd (cc)
 leaving_there s x p v net x_in place (Waiting o) fs b ready = absurd (cc)
 leaving_there s x p v net x_in place (Active o c) [] b ready = absurd (cc)
-leaving_there s x p v net x_in place (Active o c) (f ∷ rest) b ready =
-    let node = net.framed.each_node x place.node_in in
-    let all =
-    subst (λ (fs : List Flit). All (IsKept (shape s) x p) fs) (buffer_there s x p v place ∙
-    b) (net.works.buffered x p v) in
-    let port = (All-head (IsKept (shape s) x p) f rest all).port in
-    (x_in, port, rw (← node.same_channels) place.place.channel_in)
+leaving_there s x p v net x_in place (Active o c) (f ∷ rest) b ready = flit_there s x p v f rest net x_in place b
 
 pub ready_there : (s : NetState) (x p v : ℕ) → IsWorkable s → x < node_count s.mesh → IsReady (router_at s x) p v →
     IsThere (shape s) (Send x p v)

@@ -75,6 +75,12 @@ still_workable s new step answer made =
     let same = (by_answer s new step answer made.1).config.own in
     subst (λ (own : Own). IsWorkableBy (owned_by own) new) (sym same) made.0
 
+-- both of these
+pub answered_inside : (inside seen new : NetState) (step : Step) (answer : Result Moved StepFault) → inside ≡ seen
+    → IsWorkableBy (owned inside) new × Replies inside step answer new → IsWorkable new × Replies seen step answer new
+answered_inside inside seen new step answer same made =
+    (still_workable inside new step answer made, replies_from inside seen new step answer same made.1)
+
 -- who owned all nodes owns them all
 pub whole_after : (old new : NetState) → IsSameConfig old new → old.own ≡ sole → new.own ≡ sole
 whole_after old new config whole = config.own ∙ whole

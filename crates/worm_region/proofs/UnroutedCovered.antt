@@ -11,17 +11,18 @@ use Rattle.worm_mesh.specs.Address.{node_count}
 use Rattle.worm_records.specs.declared.InRecord.TheVariants.{Waiting}
 use Rattle.worm_router.specs.Router.{ChannelState, input_at, in_state, is_idle, opens_front, front_port}
 use Rattle.worm_router.specs.Router.{width, can_route}
-use Rattle.worm_theory.specs.Steps.{Route}
+use Rattle.worm_theory.specs.Steps.{IsThere, Route}
 use Rattle.worm_region.specs.Shape.{net_shape}
-use Rattle.worm_region.specs.State.{NetState, router_at}
+use Rattle.worm_region.specs.State.{NetState, router_at, shape}
 use Rattle.worm_region.specs.Workable.{IsWorkable}
 use Rattle.worm_region.specs.Replies.{Attempts, Replies}
 use Rattle.worm_region.specs.Moves.{AreUnrouted, RoutesTheSame}
 use Rattle.worm_region.specs.Turns.{Each, Does, Reaches, all_channels, all_ports, RoutesChannelsBy}
-use Rattle.worm_region.specs.Turns.{RoutesPortBy}
+use Rattle.worm_region.specs.Turns.{AreThere, RoutesPortBy}
 use Rattle.worm_region.specs.declared.step.Moved.{Moved}
 use Rattle.worm_region.specs.declared.fault.StepFault.{StepFault}
 use Rattle.worm_region.proofs.LowestGiven.{input_elsewhere, router_size}
+use Rattle.worm_region.proofs.PassIsGrants.{there_still}
 use Rattle.worm_region.proofs.PlacesThere.{net_place}
 use Rattle.worm_region.proofs.Passages.{does_for, does_nothing, does_ranged, does_still, loop_more}
 use Rattle.worm_region.proofs.ReachedBySteps.{by_made, joined, reached}
@@ -58,11 +59,11 @@ pub record Passed (x : ℕ) (a b : NetState) (n : ℕ) : Type 0 where
   pub reaches : Reaches a b
   pub to : (p v : ℕ) → 8 * p + v ≡ n → v < 8 → Routed x a b p (sum a.channels - (sum a.channels - v))
 
--- a place of which the set has no channel has none to route, and a channel of the set is one of the port
+-- a place of which the set has no channel has none to route, and a channel of the set is there
 pub record RoutesAt (set : ℕ) (s : NetState) (x n : ℕ) : Type 0 where
   pub rest : (p v : ℕ) → 8 * p + v ≡ n → v < sum s.channels → has set p v ≡ false
       → can_route (router_at s x) p v ≡ false
-  pub channels : (p v : ℕ) → 8 * p + v ≡ n → v < 8 → has set p v ≡ true → v < sum s.channels
+  pub there : (p v : ℕ) → 8 * p + v ≡ n → v < 8 → has set p v ≡ true → IsThere (shape s) (Route x p v)
 
 abbrev pub place_count : NetState → ℕ
 place_count s = 8 * (2 * length s.mesh + 1)
@@ -70,6 +71,13 @@ place_count s = 8 * (2 * length s.mesh + 1)
 -- how far the channels have come
 abbrev pub Covered : ℕ → NetState → NetState → ℕ → Type 0
 Covered x a b set = Walked (Passed x a b) (RoutesAt set b x) (IsChannelOut set) (place_count a)
+
+-- the first channel that is left is there
+pub first_there : {x : ℕ} {a b : NetState} {set new q v : ℕ} → Covered x a b set → IsFirst set new q v
+    → IsThere (shape b) (Route x q v)
+first_there {q = q} {v = v} covered first =
+    let place = walked_place covered (channel_taken first).was_in in
+    (covered.rest (8 * q + v) place.0 place.1).there q v refl first.channel_in first.was_in
 
 module _ (x : ℕ) (a : NetState) where
   -- a channel more, or none where the port has no such
@@ -123,8 +131,8 @@ module _ (x : ℕ) (a : NetState) where
       channel_done b c p v (passed.to p v at (omega arith)) (step p v at) (stays p v at (omega arith))
 
   pub routed_start : (set : ℕ) → x < node_count a.mesh → IsWorkable a → AreUnrouted (router_at a x) set
-      → Covered x a a set
-  routed_start set there sound unrouted =
+      → AreThere a x set → Covered x a a set
+  routed_start set there sound unrouted all_there =
       let size = router_size a x sound there in
       let few = sound.framed.radices.few_dims in
       let total = sound.framed.classes.total in
@@ -143,8 +151,7 @@ module _ (x : ℕ) (a : NetState) where
       (λ n n_in. record {
         rest = λ p v is v_in none. unrouted.rest (p, v) (omega arith, omega arith)
             (omega (arith, size.0), omega (arith, size.1)) none;
-        channels = λ p v is v_few some.
-            let place = unrouted.places (p, v) (omega arith, v_few) some in omega (arith, size.1, place.1);
+        there = λ p v is v_few some. all_there p v (omega arith) v_few some;
       })
 
   module _ (x_in : x < node_count a.mesh) (b : NetState) (set : ℕ) where
@@ -171,6 +178,7 @@ module _ (x : ℕ) (a : NetState) where
         → Does (Attempts (Route x q v)) b None c
         → ((p u : ℕ) → (p ≡ q → u ≡ v → ⊥) → u < width (router_at c x) → RoutesTheSame b c x p u) → IsWorkable c
         → Covered x a c new
+    unfolding net_shape
     routed_more c new q v covered first does others sound =
         let config = does.reaches.config in
         let before = covered.done.reaches.config in
@@ -184,8 +192,7 @@ module _ (x : ℕ) (a : NetState) where
         let taken = channel_taken first in
         let place = walked_place covered taken.was_in in
         let v_few = first.channel_in in
-        let v_in : v < sum b.channels =
-        (covered.rest (8 * q + v) place.0 place.1).channels q v refl first.channel_in first.was_in in
+        let v_in : v < sum b.channels = (first_there covered first).2 in
         walked_more stays (8 * q + v) covered taken
         (λ passed. record {
           sound = sound;
@@ -204,10 +211,9 @@ module _ (x : ℕ) (a : NetState) where
               (others p u away (omega arith)).routes
               ∙ at.rest p u is (omega arith)
               (sym (first.taken.elsewhere p u (omega arith) (omega arith) away) ∙ none);
-          channels = λ p u is u_few some.
+          there = λ p u is u_few some.
               let kept = first.taken.elsewhere p u (omega arith) u_few (λ e f. omega arith) in
-              let was = at.channels p u is u_few (sym kept ∙ some) in
-              omega arith;
+              there_still b c x p u config (at.there p u is u_few (sym kept ∙ some));
         })
 
     pub routed_all : Covered x a b set → set ≡ 0 → Does (RoutesChannelsBy Attempts x) a None b

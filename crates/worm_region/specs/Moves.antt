@@ -9,6 +9,7 @@ use Rattle.worm_mesh.specs.Links.{links_before}
 use Rattle.worm_router.specs.Router.{RouterState, IsPlace, terminal, width, input_at, output_at, leaving, after_accept}
 use Rattle.worm_router.specs.Router.{after_route, after_grant, after_send, after_gave, after_credit, can_route}
 use Rattle.worm_router.specs.Allocation.{after_choose}
+use Rattle.worm_router.specs.Busy.{is_occupied}
 use Rattle.worm_swalloc.specs.declared.grant.SwGrant.{SwGrant}
 use Rattle.worm_vcalloc.specs.ChannelSet.{has}
 use Rattle.worm_term.specs.Sink.{after_take as after_sink}
@@ -41,6 +42,10 @@ abbrev pub AreUnrouted : RouterState → ℕ → Type 0
 AreUnrouted r set =
     Covers (λ (c : ℕ × ℕ). (c.0 < 7) × (c.1 < 8)) (λ c. (c.0 ≤ terminal r) × (c.1 < width r))
     (λ c. can_route r c.0 c.1 ≡ false) (λ c. has set c.0 c.1)
+
+-- a set of channels, each of which has a flit
+abbrev pub HaveFlits : RouterState → ℕ → Type 0
+HaveFlits r set = (p v : ℕ) → p < 7 → v < 8 → has set p v ≡ true → is_occupied (input_at r p v) ≡ true
 
 -- a flit may leave this channel now
 pub record IsReady (r : RouterState) (p v : ℕ) : Type 0 where

@@ -128,7 +128,7 @@ SendsBy T grants x old fault new = Each T (flat_map (granted_send grants x) (all
 abbrev pub AreGrants : ℕ → Type 0
 AreGrants set = (grants : List (Option SwGrant)) × AreGranted grants set
 
--- each channel of the set is there for the node to send from
+-- each channel of the set is there for the node, to be routed or to send from
 abbrev pub AreThere : NetState → ℕ → ℕ → Type 0
 AreThere s x set = (p v : ℕ) → p < 7 → v < 8 → has set p v ≡ true → IsThere (shape s) (Send x p v)
 

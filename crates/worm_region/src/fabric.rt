@@ -150,24 +150,10 @@ impl Fabric {
         }
     }
 
-    /// Lets the ready flit out, into the sink or onto the link of its port (Dally and Towles, chapter 13). `NoMemory`
-    /// where the sink cannot take it; idle where none is ready, or where one for the terminal is not at home.
-    #[inline(always)]
-    pub(crate) fn send(&mut self, node: u8, port: u8, vc: u8) -> Result<Moved, StepFault>
-        requires place { IsNetPlace self.old node port vc }
-        requires terminal { terminal (router_at self.old node) ≡ 2 * length self.old.mesh }
-        requires way { LeavesByLink self.old node (leaving (router_at self.old node) port vc) }
-        requires sink { (sink_at self.old node).node ≡ node }
-        ensures { Sends self.old node port vc (leaving (router_at self.old node) port vc) result self.new }
-    {
-        if !self.node(node).router.may_send(port, vc) {
-            return Ok(Moved::Idle);
-        }
-        self.send_next(node, port, vc)
-    }
-
-    /// The same of a channel that may send. Its router tells the terminal port, by which it tells what a flit costs, so
-    /// that the compiler knows that one for a link costs a credit.
+    /// Lets out the flit of a channel that may send, into the sink or onto the link of its port (Dally and Towles,
+    /// chapter 13). `NoMemory` where the sink cannot take it; idle where one for the terminal is not at home. The
+    /// router tells the terminal port, by which it tells what a flit costs, so that the compiler knows that one for a
+    /// link costs a credit.
     #[inline(always)]
     pub(crate) fn send_next(&mut self, node: u8, port: u8, vc: u8) -> Result<Moved, StepFault>
         requires place { IsNetPlace self.old node port vc }

@@ -2,7 +2,7 @@ ghost use Rattle.std.specs.Prelude.{true, false, ◌≡◌, ◌<◌, Some, None}
 ghost use Rattle.std.specs.Prelude.{if◌then◌else◌};
 ghost use Rattle.worm_router.specs.Router.{IsPlace, terminal, leaving};
 ghost use Rattle.worm_term.specs.Source.{classes, front_of};
-ghost use Rattle.worm_region.specs.Moves.{AreUnrouted, FrontFits, can_enter, fed_node, delivered_node};
+ghost use Rattle.worm_region.specs.Moves.{AreUnrouted, FrontFits, HaveFlits, can_enter, delivered_node, fed_node};
 
 use worm_flit::Flit;
 use worm_router::Router;
@@ -71,7 +71,8 @@ impl Node {
 
     /// The channels with a flit that lack a route; no other has anything to route.
     pub(crate) fn unrouted(&self) -> ChannelSet
-        ensures { AreUnrouted self.now.router result }
+        ensures routes { AreUnrouted self.now.router result }
+        ensures flits { HaveFlits self.now.router result }
     {
         let router = &self.router;
         router

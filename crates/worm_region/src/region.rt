@@ -168,6 +168,7 @@ impl Region {
     pub(crate) fn unrouted(&self, node: u8) -> ChannelSet
         requires { node < node_count self.now.mesh }
         ensures routes { AreUnrouted (router_at self.now node) result }
+        ensures there { AreThere self.now node result }
         ensures sound { IsWorkable self.now }
     {
         self.fabric.node(node).unrouted()
@@ -272,13 +273,21 @@ impl Region {
         self.fabric.nodes.feed(node, class, terminal)
     }
 
-    pub(crate) fn route(&mut self, node: u8, port: u8, vc: u8) -> Result<Moved, StepFault>
+    fn route(&mut self, node: u8, port: u8, vc: u8) -> Result<Moved, StepFault>
         ensures { Replies self.old (Event.Route node port vc) result self.new }
     {
         if !self.fabric.has_place(node, port, vc) {
             return Err(StepFault::NoSuchPlace);
         }
-        Ok(moved(self.fabric.router_mut(node).route(port, vc)))
+        Ok(moved(self.route_there(node, port, vc)))
+    }
+
+    /// The same where the place is there.
+    pub(crate) fn route_there(&mut self, node: u8, port: u8, vc: u8) -> bool
+        requires { IsThere (shape self.old) (Event.Route node port vc) }
+        ensures { Replies self.old (Event.Route node port vc) (Ok (moved_of result)) self.new }
+    {
+        self.fabric.router_mut(node).route(port, vc)
     }
 
     fn grant(&mut self, node: u8, port: u8, vc: u8, out_vc: u8) -> Result<Moved, StepFault>
@@ -308,7 +317,10 @@ impl Region {
             (λ out. EndsWithin (shape self.old) (owned self.old) node out.0) }
         ensures { Replies self.old (Event.Send node port vc) result self.new }
     {
-        self.fabric.send(node, port, vc)
+        if !self.fabric.node(node).router.may_send(port, vc) {
+            return Ok(Moved::Idle);
+        }
+        self.send_next(node, port, vc)
     }
 
     /// The same of a channel that may send, as one that was granted the switch. No two hold one output channel, so what

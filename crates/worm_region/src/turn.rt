@@ -12,8 +12,8 @@ ghost use Rattle.worm_script.specs.declared.script.Entry.{Entry};
 ghost use Rattle.worm_router.specs.Router.{input_at, width};
 ghost use Rattle.worm_swalloc.specs.SwAlloc.{AreGranted};
 ghost use Rattle.worm_swalloc.specs.declared.grant.SwGrant.{SwGrant};
-ghost use Rattle.worm_region.specs.State.{router_at};
-ghost use Rattle.worm_theory.specs.Steps.{Feed, Route, Take, TakeCredit};
+ghost use Rattle.worm_region.specs.State.{router_at, shape};
+ghost use Rattle.worm_theory.specs.Steps.{Feed, IsThere, Route, Take, TakeCredit};
 ghost use Rattle.worm_region.specs.Moves.{NoCredit, NoFeed, NoFlit, OwesTheSame, RoutesTheSame};
 ghost use Rattle.worm_region.specs.Turns.{Does, ForEach, ReachesAt, all_nodes, ask, fault_of, lowest_owed};
 ghost use Rattle.worm_region.specs.Turns.{AsksSourceBy, ComesInBy, FeedsClassesBy, GivesCreditBy, GivesCreditsBy};
@@ -157,13 +157,14 @@ impl Region {
 
     /// Routes a channel, which changes what no other has to route.
     fn route_channel(&mut self, node: u8, port: u8, vc: u8)
+        requires { IsThere (shape self.old) (Route node port vc) }
         ensures routed { Does (Attempts (Route node port vc)) self.old None self.new }
         ensures others { (p v : ℕ) → ((p ≡ port) → (v ≡ vc) → ⊥) → v < width (router_at self.new node) →
             RoutesTheSame self.old self.new node p v }
         ensures sound { IsWorkable self.new }
     {
         self.recall();
-        let _moved = self.route(node, port, vc);
+        let _moved = self.route_there(node, port, vc);
         self.recall();
     }
 

@@ -1,12 +1,11 @@
 use Rattle.std.proofs.Common.{◌≡◌, ◌∙◌, Some, ap, subst, sym}
 use Rattle.worm_router.specs.Router.{RouterState, after_send, leaving}
-use Rattle.worm_theory.specs.Steps.{Send, IsThere}
 use Rattle.worm_region.specs.Edges.{LetsOut}
 use Rattle.worm_region.specs.State.{IsNetPlace, NetState, router_at, shape, with_router}
 use Rattle.worm_region.specs.Workable.{IsWorkable, owned}
 use Rattle.worm_region.proofs.OwnEdges.{all_elsewhere}
 use Rattle.worm_region.proofs.EdgeMoves.{left_by}
-use Rattle.worm_region.proofs.PlacesThere.{net_place}
+use Rattle.worm_region.proofs.PlacesThere.{place_inside}
 use Rattle.worm_region.proofs.region.Region.let_out.Goals as goal
 use Rattle.worm_region.proofs.region.Region.let_out.Goals.{After-let_out, After-self}
 
@@ -28,9 +27,8 @@ left c =
 
 place : (c : goal.After-self) → IsNetPlace c.self.inside.fabric c.args.node c.args.port c.args.vc
 place c =
-    let there : IsThere (shape c.self.inside.fabric) (Send c.args.node c.args.port c.args.vc) =
-    rw c.self.view_is c.requires.there in
-    net_place c.self.inside.fabric c.args.node c.args.port c.args.vc c.self.invariant.framed there.0 there.1 there.2
+    place_inside _ c.args.self.now c.args.node c.args.port c.args.vc c.self.view_is c.self.invariant.framed
+    c.requires.there
 
 pub router_mut-requires : goal.router_mut-requires
 router_mut-requires c = (place (goal.at.router_mut-requires c).After-self).node_in

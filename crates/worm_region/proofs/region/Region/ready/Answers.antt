@@ -1,18 +1,14 @@
 use Rattle.std.proofs.Common.{◌∙◌, ap, subst, sym}
 use Rattle.worm_router.specs.Router.{IsPlace, leaving}
-use Rattle.worm_theory.specs.Steps.{Send, IsThere}
-use Rattle.worm_region.specs.State.{IsNetPlace, NetState, router_at, shape}
+use Rattle.worm_region.specs.State.{IsNetPlace, NetState, router_at}
 use Rattle.worm_region.specs.declared.node.Node.{Node}
-use Rattle.worm_region.proofs.PlacesThere.{net_place}
+use Rattle.worm_region.proofs.PlacesThere.{place_inside}
 use Rattle.worm_region.proofs.region.Region.ready.Goals as goal
 use Rattle.worm_region.proofs.region.Region.ready.Goals.{After-self}
 
 place : (c : goal.After-self) → IsNetPlace c.self.inside.fabric c.args.node c.args.port c.args.vc
 place c =
-    let there =
-    subst (λ (s : NetState). IsThere (shape s) (Send c.args.node c.args.port c.args.vc))
-    (sym c.self.view_is) c.requires in
-    net_place c.self.inside.fabric c.args.node c.args.port c.args.vc c.self.invariant.framed there.0 there.1 there.2
+    place_inside _ c.args.self.now c.args.node c.args.port c.args.vc c.self.view_is c.self.invariant.framed c.requires
 
 pub node-requires : goal.node-requires
 node-requires c = (place (goal.at.node-requires c).After-self).node_in

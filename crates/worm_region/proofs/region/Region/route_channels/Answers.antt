@@ -1,10 +1,14 @@
-use Rattle.worm_region.proofs.UnroutedCovered.{routed_all, routed_more, routed_start}
+use Rattle.worm_region.proofs.UnroutedCovered.{first_there, routed_all, routed_more, routed_start}
 use Rattle.worm_region.proofs.region.Region.route_channels.Goals as goal
 
 pub loop-port-init : goal.loop-port-init
 loop-port-init c =
     let set = c.unrouted-unrouted in
     routed_start c.args.node c.args.self.now set.result c.requires set.ensures.sound set.ensures.routes
+    set.ensures.there
+
+pub route_channel-requires : goal.route_channel-requires
+route_channel-requires c = first_there c.loop-port.invariant c.in-Some.ensures
 
 pub loop-port-preserved : goal.loop-port-preserved
 loop-port-preserved c =
