@@ -1,5 +1,5 @@
 -- What is there for a flit that may leave.
-use Rattle.std.proofs.Common.{ap, sym, ◌∙◌, slice_get, ◌+◌, ℕ, ◌≤◌, ◌<◌, ◌≡◌, ◌==◌, ◌&&◌, ◌||◌, nat_lt, List}
+use Rattle.std.proofs.Common.{ap, sym, ◌∙◌, slice_get, ℕ, ◌≤◌, ◌<◌, ◌≡◌, ◌==◌, ◌&&◌, ◌||◌, nat_lt, List}
 use Rattle.std.proofs.Common.{[], ◌∷◌, length, All, Bool, true, false, Some, None, arith, refl, subst, if◌then◌else◌}
 use Rattle.std.proofs.lemmas.Bool.Decides.{nat_tests}
 use Rattle.std.proofs.lemmas.List.Elements.{All-get_or}
@@ -90,12 +90,6 @@ leaving_is r port vc out out_vc c front credit owe is active first a b =
           ∙ ap (λ k. if k && (port == terminal r || nat_lt c.owed r.depth) then Some (out, with_channel front out_vc)
           else None) (sym a)
           ∙ ap (λ k. if credit && k then Some (out, with_channel front out_vc) else None) (sym b)
-
-pub not_both : {X : Type 0} (a b : Bool) (x : X) → (a && b) ≡ false → (if a && b then Some x else None) ≡ None
-not_both a b x e = ap (λ k. if k then Some x else None) e
-
-pub owes_more : (owed more : ℕ) → (nat_lt 0 (owed + more) || nat_lt 0 owed) ≡ nat_lt 0 (owed + more)
-owes_more owed more = grind (arith, nat_tests)
 
 -- a channel whose front may leave has a flit
 leaves_some : (r : RouterState) (port : ℕ) (c : ChannelState) (s : InRecord) (fs : List Flit) (d : ℕ × Flit)

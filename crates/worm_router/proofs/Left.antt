@@ -16,7 +16,7 @@ use Rattle.worm_router.specs.Busy.{IsKept, HasFront, IsFiled, is_occupied, is_wa
 use Rattle.worm_router.proofs.Kept.{both_set_sound, left_by, left_sound, full_after, no_credit}
 use Rattle.worm_router.proofs.Places.{IsInput, IsOutput, input_of, output_of}
 use Rattle.worm_router.proofs.Filed.{busy_filed}
-use Rattle.worm_router.proofs.Leaving.{may_leave, leaves_by_state, leaves_occupied, owes_more}
+use Rattle.worm_router.proofs.Leaving.{may_leave, leaves_by_state, leaves_occupied}
 use Rattle.worm_router.proofs.Demanded.{requests_kept, free_left, asks_nothing, waits_not_after}
 use Rattle.worm_router.proofs.Holders.{holders_left}
 use Rattle.worm_router.proofs.HeldOuts.{outs_left}

@@ -1,7 +1,7 @@
 -- The channels that may send, as a router works them out from what it keeps, are those that its records say.
 use Rattle.std.proofs.Common.{◌≡◌, ℕ, ◌&&◌, ◌||◌, ◌==◌, Bool, true, false, not, nat_le, nat_lt}
-use Rattle.std.proofs.Common.{if◌then◌else◌, List, [], ◌∷◌, length, slice_get, Option, None, Some, is_some, refl}
-use Rattle.std.proofs.Common.{arith, ap, sym, ◌∙◌, subst}
+use Rattle.std.proofs.Common.{if◌then◌else◌, List, [], ◌∷◌, length, slice_get, Option, None, Some, is_some, IsSome}
+use Rattle.std.proofs.Common.{arith, refl, ap, sym, ◌∙◌, subst}
 use Rattle.std.specs.Option.{option_map}
 use Rattle.std.proofs.lemmas.Bool.Decides.{nat_tests}
 use Rattle.worm_flit.specs.declared.Flit.{Flit}
@@ -67,10 +67,9 @@ some_mapped : (o : Option (ℕ × Flit)) → is_some (option_map (λ leave. leav
 some_mapped None = refl
 some_mapped (Some d) = refl
 
-some_if : {X : Type 0} (b : Bool) (x : X) → is_some (if b then Some x else None) ≡ true
-    → (if b then Some x else None) ≡ Some x
-some_if true x e = refl
-some_if false x e = absurd (cc)
+some_if : {X : Type 0} (b : Bool) (x : X) → IsSome (if b then Some x else None) → (if b then Some x else None) ≡ Some x
+some_if true x some = refl
+some_if false x some = absurd (cc)
 
 -- a channel that may send could send, to the output port that it holds
 out_told : (s : InRecord) (some way : Bool)
@@ -179,13 +178,13 @@ kept_leaves r s sets asked masks routes ready port vc same kept are place =
     (subst (λ (q : RouterState). IsPlace q port vc) (sym same) place)
     ∙ ap (λ (q : RouterState). is_some (leaving q port vc)) same
 
--- a channel of the set leaves by the output channel that it holds
+-- a channel that may send leaves by the output channel that it holds
 pub leaves_by_hold : (r : RouterState) (port vc out out_vc : ℕ) (c : ChannelState) (front : Flit)
-    → true ≡ is_some (leaving r port vc)
+    → IsSome (leaving r port vc)
     → c ≡ input_at r port vc → c.state ≡ Active out out_vc → slice_get c.buffer 0 ≡ Some front
     → leaving r port vc ≡ Some (out, with_channel front out_vc)
 leaves_by_hold r port vc out out_vc c front some is active first =
-    leaves ∙ some_if _ (out, with_channel front out_vc) (ap is_some (sym leaves) ∙ sym some) where
+    leaves ∙ some_if _ (out, with_channel front out_vc) (subst IsSome leaves some) where
       leaves : leaving r port vc ≡ (if (out == terminal r || nat_lt 0 (output_at r out out_vc).credits) &&
           (port == terminal r || nat_lt c.owed r.depth) then Some (out, with_channel front out_vc) else None)
       leaves = leaving_is r port vc out out_vc c front _ _ is active first refl refl

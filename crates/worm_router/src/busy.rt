@@ -65,12 +65,13 @@ impl BusyChannels {
     }
 
     /// Files a channel that has let a flit out, so that it had one and might owe more: whether it has one more, whether
-    /// it owes a credit, and whether that is `all` that it may owe.
-    pub fn file_left(&mut self, port: u8, vc: u8, channel: &InputChannel, all: bool)
+    /// it owes a credit, as one that did before or that owes `one_more`, and whether that is `all` that it may owe.
+    pub fn file_left(&mut self, port: u8, vc: u8, channel: &InputChannel, one_more: bool, all: bool)
         requires port { port < 7 }
         requires vc { vc < 8 }
         requires had { has self.old.occupied port vc ≡ true }
         requires might { has self.old.owes_all port vc ≡ false }
+        requires more { (has self.old.owing port vc || one_more) ≡ owes channel.now }
         ensures occupied { IsFiled self.old.occupied self.new.occupied port vc (is_occupied channel.now) }
         ensures owing { IsFiled self.old.owing self.new.owing port vc (owes channel.now) }
         ensures owes_all { IsFiled self.old.owes_all self.new.owes_all port vc all }
@@ -81,7 +82,8 @@ impl BusyChannels {
         } }
     {
         self.occupied.remove_if(port, vc, !channel.is_occupied());
-        self.owing.put(port, vc, channel.owed() > 0);
+        // Who owed before owes still, so this needs no look at the count.
+        self.owing.insert_if(port, vc, one_more);
         self.owes_all.insert_if(port, vc, all);
     }
 

@@ -132,7 +132,7 @@ impl Router {
     }
 
     /// The terminal port.
-    fn terminal(&self) -> u8
+    pub fn terminal(&self) -> u8
         ensures value { result ≡ terminal self.now }
         ensures bound { result ≤ 6 }
     {
@@ -355,6 +355,35 @@ impl Router {
         }
     }
 
+    /// Whether the channel may send now: it has a flit and holds an output channel that has a credit for it, and it may
+    /// owe one more.
+    pub fn may_send(&self, port: u8, vc: u8) -> bool
+        requires { IsPlace self.now port vc }
+        ensures { result ≡ is_some (leaving self.now port vc) }
+    {
+        self.busy.ready().contains(port, vc)
+    }
+
+    /// The output port and the flit of a channel that may send, as it would leave: on the channel that it was granted.
+    /// Whoever was granted the switch may send, and is not asked again.
+    #[inline(always)]
+    pub fn next_out(&self, port: u8, vc: u8) -> (u8, Flit)
+        requires place { IsPlace self.now port vc }
+        requires ready { IsSome (leaving self.now port vc) }
+        ensures leaves { Some result ≡ leaving self.now port vc }
+        ensures room { MayLeave self.now port vc result }
+    {
+        let channel = &self.inputs[self.line(port, vc)];
+        let InRecord::Active { out, out_vc } = channel.state() else {
+            unreachable!()
+        };
+        let Some(mut flit) = channel.flit_at(0) else {
+            unreachable!()
+        };
+        flit.vc = out_vc;
+        (out, flit)
+    }
+
     /// The output port and the flit that may leave now, as it would leave: on the channel that it was granted, where
     /// there is a credit for it, and room for one more owed.
     pub fn ready(&self, port: u8, vc: u8) -> Option<(u8, Flit)>
@@ -362,16 +391,10 @@ impl Router {
         ensures leaves { result ≡ leaving self.now port vc }
         ensures room { IfSome result (MayLeave self.now port vc) }
     {
-        if !self.busy.ready().contains(port, vc) {
+        if !self.may_send(port, vc) {
             return None;
         }
-        let channel = &self.inputs[self.line(port, vc)];
-        let InRecord::Active { out, out_vc } = channel.state() else {
-            return None;
-        };
-        let mut flit = channel.flit_at(0)?;
-        flit.vc = out_vc;
-        Some((out, flit))
+        Some(self.next_out(port, vc))
     }
 
     /// The flit that `ready` names has left. A credit is spent for it and one is owed; a closing flit frees both
@@ -381,9 +404,8 @@ impl Router {
         requires ready { IsSome (leaving self.old port vc) }
         ensures { self.new ≡ after_send self.old port vc }
     {
-        if let Some((out, flit)) = self.ready(port, vc) {
-            self.let_out(port, vc, out, flit);
-        }
+        let (out, flit) = self.next_out(port, vc);
+        self.let_out(port, vc, out, flit);
     }
 
     /// The same for a caller that holds what `ready` answered: the flit has left by the output port `out`.
@@ -403,7 +425,8 @@ impl Router {
         // `spend_credit` behind a test whether one is spent takes 0.7 percent more instructions over a whole run.
         output.credits -= spent;
         let owes_all = channel.owed() + more_owed > self.depth;
-        self.busy.file_left(port, vc, channel, owes_all);
+        self.busy
+            .file_left(port, vc, channel, more_owed > 0, owes_all);
         if is_closing(flit.kind) {
             channel.close();
             output.release();
