@@ -22,6 +22,7 @@ pub mod FeedAgrees
 pub mod SentToLink
 pub mod SentToSink
 pub mod SendAgrees
+pub mod SendTried
 pub mod OwnEdges
 pub mod EdgeMoves
 pub mod EmptyLinks
@@ -41,3 +42,4 @@ pub mod ClassesCovered
 pub mod CountsUnderWay
 pub mod StaysAtNode
 pub mod PassIsGrants
+pub mod OthersReady

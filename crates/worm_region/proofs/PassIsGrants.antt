@@ -45,25 +45,26 @@ use Rattle.worm_region.proofs.NodeWritten.{with_router_same}
 use Rattle.worm_region.proofs.StaysAtNode.{none_at, joined_at, answered_at}
 use Rattle.worm_term.specs.Source.{queue_at}
 
+-- a node that is written is read back
+pub node_written : (s : NetState) (x : ℕ) (n : Node) → x < length s.nodes → node_at (with_node s x n) x ≡ n
+node_written s x n there =
+    let itself : (x == x) ≡ true = grind arith in
+    rw (node_at-put s x n x there, itself) refl
+
+pub router_written : (s : NetState) (x : ℕ) (r : RouterState) → x < length s.nodes → router_at (with_router s x r) x ≡ r
+router_written s x r there =
+    ap (λ (m : Node). m.router) (node_written s x (record (node_at s x) { router = r }) there)
+
 -- a router written over a router
 with_router_twice : (s : NetState) (x : ℕ) (r q : RouterState) → x < length s.nodes →
     with_router (with_router s x r) x q ≡ with_router s x q
 with_router_twice s x r q there =
     let n : Node = record (node_at s x) { router = r } in
-    let itself : (x == x) ≡ true = grind arith in
-    let at : node_at (with_node s x n) x ≡ n = rw (node_at-put s x n x there, itself) refl in
     let same : with_router (with_router s x r) x q ≡
     with_node (with_node s x n) x (record (node_at s x) { router = q }) =
-    ap (λ (m : Node). with_node (with_node s x n) x (record m { router = q })) at in
+    ap (λ (m : Node). with_node (with_node s x n) x (record m { router = q })) (node_written s x n there) in
     same ∙ ap (λ (nodes : List Node). record s { nodes = nodes })
     (set-set s.nodes x n (record (node_at s x) { router = q }))
-
-router_written : (s : NetState) (x : ℕ) (r : RouterState) → x < length s.nodes → router_at (with_router s x r) x ≡ r
-router_written s x r there =
-    let n : Node = record (node_at s x) { router = r } in
-    let itself : (x == x) ≡ true = grind arith in
-    let at : node_at (with_node s x n) x ≡ n = rw (node_at-put s x n x there, itself) refl in
-    ap (λ (m : Node). m.router) at
 
 -- the arbiters alone
 
@@ -348,3 +349,15 @@ pub chosen_in : (s : NetState) (x : ℕ) → IsWorkable s → x < node_count s.m
     IsWorkable (with_router s x (chosen_router (router_at s x))) ×
     ReachesAt x s (with_router s x (chosen_router (router_at s x)))
 chosen_in s x net there = let all = net.framed.all_nodes in chosen s x net (omega arith)
+
+-- what was ready before the pass of the switch allocator is so after it
+pub ready_chosen : (s : NetState) (x p v : ℕ) → IsWorkable s → x < node_count s.mesh → IsReady (router_at s x) p v →
+    IsReady (router_at (with_router s x (chosen_router (router_at s x))) x) p v
+unfolding chosen_router
+ready_chosen s x p v net x_in ready =
+    let all = net.framed.all_nodes in
+    subst (λ (r : RouterState). IsReady r p v)
+    (sym (router_written s x (chosen_router (router_at s x)) (omega arith))) record {
+      place = record { port_in = ready.place.port_in; channel_in = ready.place.channel_in };
+      leaves = ready.leaves;
+    }

@@ -14,7 +14,7 @@ use Rattle.worm_swalloc.specs.declared.grant.SwGrant.{SwGrant}
 use Rattle.worm_theory.specs.Steps.{Step, Offer, CloseLane, Feed, Route, Grant, Send, Take, GiveCredit, TakeCredit}
 use Rattle.worm_theory.specs.Steps.{IsThere, StepsLead}
 use Rattle.worm_region.specs.State.{NetState, IsSameConfig, shape, network_of, router_at, with_router}
-use Rattle.worm_region.specs.Moves.{chosen_router}
+use Rattle.worm_region.specs.Moves.{IsReady, chosen_router}
 use Rattle.worm_region.specs.Answers.{Answers}
 use Rattle.worm_script.specs.Script.{due, begun_at}
 use Rattle.worm_region.specs.Totals.{injected_total, delivered_total}
@@ -131,6 +131,10 @@ AreGrants set = (grants : List (Option SwGrant)) × AreGranted grants set
 -- each channel of the set is there for the node to send from
 abbrev pub AreThere : NetState → ℕ → ℕ → Type 0
 AreThere s x set = (p v : ℕ) → p < 7 → v < 8 → has set p v ≡ true → IsThere (shape s) (Send x p v)
+
+-- a flit may leave each of them now
+abbrev pub MayAllSend : NetState → ℕ → ℕ → Type 0
+MayAllSend s x set = (p v : ℕ) → p < 7 → v < 8 → has set p v ≡ true → IsReady (router_at s x) p v
 
 -- one pass of the switch allocator, and then the Sends that it granted
 abbrev pub SendsGrantedBy : (Step → Passage) → ℕ → Passage

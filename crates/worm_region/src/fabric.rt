@@ -155,15 +155,31 @@ impl Fabric {
     #[inline(always)]
     pub(crate) fn send(&mut self, node: u8, port: u8, vc: u8) -> Result<Moved, StepFault>
         requires place { IsNetPlace self.old node port vc }
+        requires terminal { terminal (router_at self.old node) ≡ 2 * length self.old.mesh }
         requires way { LeavesByLink self.old node (leaving (router_at self.old node) port vc) }
         requires sink { (sink_at self.old node).node ≡ node }
         ensures { Sends self.old node port vc (leaving (router_at self.old node) port vc) result self.new }
     {
-        let terminal = self.terminal();
-        let router = self.nodes.router_mut(node);
-        let Some((out, flit)) = router.ready(port, vc) else {
+        if !self.node(node).router.may_send(port, vc) {
             return Ok(Moved::Idle);
-        };
+        }
+        self.send_next(node, port, vc)
+    }
+
+    /// The same of a channel that may send. Its router tells the terminal port, by which it tells what a flit costs, so
+    /// that the compiler knows that one for a link costs a credit.
+    #[inline(always)]
+    pub(crate) fn send_next(&mut self, node: u8, port: u8, vc: u8) -> Result<Moved, StepFault>
+        requires place { IsNetPlace self.old node port vc }
+        requires terminal { terminal (router_at self.old node) ≡ 2 * length self.old.mesh }
+        requires ready { IsSome (leaving (router_at self.old node) port vc) }
+        requires way { LeavesByLink self.old node (leaving (router_at self.old node) port vc) }
+        requires sink { (sink_at self.old node).node ≡ node }
+        ensures { Sends self.old node port vc (leaving (router_at self.old node) port vc) result self.new }
+    {
+        let router = self.nodes.router_mut(node);
+        let terminal = router.terminal();
+        let (out, flit) = router.next_out(port, vc);
         if out == terminal {
             if !self.is_home(node, port, vc) {
                 return Ok(Moved::Idle);

@@ -12,13 +12,13 @@ ghost use Rattle.worm_region.specs.State.{IsNet, shape, router_at, texts_of, wit
 ghost use Rattle.worm_region.specs.Owned.{sole};
 ghost use Rattle.worm_wires.specs.Wiring.{port_links};
 ghost use Rattle.worm_region.specs.Workable.{EndsWithin, IsWorkable, owned};
-ghost use Rattle.worm_region.specs.Turns.{AreThere, Chooses, ComesInBy, ReachesAt, NodePassesBy};
+ghost use Rattle.worm_region.specs.Turns.{AreThere, Chooses, ComesInBy, MayAllSend, NodePassesBy, ReachesAt};
 ghost use Rattle.worm_mesh.specs.Address.{node_count, neighbour_of};
 ghost use Rattle.worm_router.specs.Router.{input_at, leaving};
 ghost use Rattle.worm_router.specs.Busy.{IsSetOf, owes};
 ghost use Rattle.worm_router.specs.Rest.{IsAtRest};
 ghost use Rattle.worm_router.specs.Allocation.{after_allocate};
-ghost use Rattle.worm_region.specs.Moves.{AreLinked, AreUnrouted, CoversNumbers, NoCredit, NoFeed, NoFlit};
+ghost use Rattle.worm_region.specs.Moves.{AreLinked, AreUnrouted, CoversNumbers, IsReady, NoCredit, NoFeed, NoFlit};
 
 mod edges;
 mod parts;
@@ -158,6 +158,7 @@ impl Region {
         requires { node < node_count self.old.mesh }
         ensures chooses { Chooses node result self.old self.new }
         ensures there { AreThere self.new node result }
+        ensures ready { MayAllSend self.new node result }
         ensures reaches { ReachesAt node self.old self.new }
     {
         self.fabric.router_mut(node).choose().granted()
@@ -308,6 +309,21 @@ impl Region {
         ensures { Replies self.old (Event.Send node port vc) result self.new }
     {
         self.fabric.send(node, port, vc)
+    }
+
+    /// The same of a channel that may send, as one that was granted the switch. No two hold one output channel, so what
+    /// may leave any other channel of the node may leave it still.
+    #[inline(always)]
+    pub(crate) fn send_next(&mut self, node: u8, port: u8, vc: u8) -> Result<Moved, StepFault>
+        requires there { IsThere (shape self.old) (Event.Send node port vc) }
+        requires ready { IsSome (leaving (router_at self.old node) port vc) }
+        requires within { IfSome (leaving (router_at self.old node) port vc)
+            (λ out. EndsWithin (shape self.old) (owned self.old) node out.0) }
+        ensures sent { Replies self.old (Event.Send node port vc) result self.new }
+        ensures others { (p v : ℕ) → (p ≡ port → v ≡ vc → ⊥) → IsReady (router_at self.old node) p v →
+            IsReady (router_at self.new node) p v }
+    {
+        self.fabric.send_next(node, port, vc)
     }
 
     pub(crate) fn take_flit(&mut self, node: u8, port: u8) -> Result<Moved, StepFault>

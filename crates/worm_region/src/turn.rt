@@ -18,7 +18,7 @@ ghost use Rattle.worm_region.specs.Moves.{NoCredit, NoFeed, NoFlit, OwesTheSame,
 ghost use Rattle.worm_region.specs.Turns.{Does, ForEach, ReachesAt, all_nodes, ask, fault_of, lowest_owed};
 ghost use Rattle.worm_region.specs.Turns.{AsksSourceBy, ComesInBy, FeedsClassesBy, GivesCreditBy, GivesCreditsBy};
 ghost use Rattle.worm_region.specs.Turns.{NodePassesBy, NodeTurnBy, RoutesChannelsBy, SendsBy, TakesCreditsBy};
-ghost use Rattle.worm_region.specs.Turns.{TakesFlitsBy, AreGrants, AreThere};
+ghost use Rattle.worm_region.specs.Turns.{TakesFlitsBy, AreGrants, AreThere, MayAllSend};
 ghost use Rattle.worm_region.specs.Prepared.{Prepares};
 
 use crate::region::Region;
@@ -182,6 +182,7 @@ impl Region {
     fn send_granted(&mut self, node: u8, granted: ChannelSet) -> Result<(), StepFault>
         requires granted { AreGrants granted }
         requires there { AreThere self.old node granted }
+        requires ready { MayAllSend self.old node granted }
         requires whole { self.old.own ≡ sole }
         ensures { (grants : List (Option SwGrant)) → AreGranted grants granted →
             Does (SendsBy Attempts grants node) self.old (result_err result) self.new }
@@ -189,7 +190,7 @@ impl Region {
         self.recall();
         let mut left = granted;
         while let Some((port, vc)) = left.pop_first() {
-            tried(self.send_there(node, port, vc))?;
+            tried(self.send_next(node, port, vc))?;
         }
         Ok(())
     }
@@ -241,6 +242,7 @@ impl Region {
         requires { node < node_count self.old.mesh }
         ensures prepares { Prepares node result self.old self.new }
         ensures there { AreThere self.new node result }
+        ensures ready { MayAllSend self.new node result }
         ensures at_node { ReachesAt node self.old self.new }
     {
         // What holds of each region is told of those between, too, for whoever keeps more of them than this.

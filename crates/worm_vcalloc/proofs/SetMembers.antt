@@ -250,6 +250,17 @@ pub first_taken : (bits : ℕ) → 0 < bits → bits < 2 ^ 56
     → IsFirst bits (bit_and bits (bits - 1)) (trailing_zeros w64 bits / 8) (trailing_zeros w64 bits % 8)
 first_taken bits some fits = rw (lowest_cleared w64 bits some (omega arith)) (first_cleared bits some fits)
 
+-- what is in the set still was in it before
+pub was_in : (old new port channel p c : ℕ) → IsPut old new port channel false → p < 7 → c < 8
+    → has new p c ≡ true → has old p c ≡ true
+was_in old new port channel p c put lp lc still = elim (cases_eq p port) [
+  | inl same ↦ elim (cases_eq c channel) [
+    | inl same' ↦ absurd (true≢false (sym still ∙ ap (λ k. has new k c) same ∙ ap (has new port) same' ∙ put.here))
+    | inr other ↦ sym (put.elsewhere p c lp lc (λ _ e. other e)) ∙ still
+  ]
+  | inr other ↦ sym (put.elsewhere p c lp lc (λ e _. other e)) ∙ still
+]
+
 -- ---- the first port
 
 -- all channels of one port

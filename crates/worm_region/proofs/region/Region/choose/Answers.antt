@@ -1,14 +1,14 @@
-use Rattle.std.proofs.Common.{ℕ, ◌≡◌, ◌<◌, List, None, Option, ap, slice_index_or, subst, ◌∙◌}
+use Rattle.std.proofs.Common.{true, ℕ, ◌≡◌, ◌<◌, List, None, Option, ap, slice_index_or, subst, ◌∙◌}
 use Rattle.worm_mesh.specs.Address.{node_count}
 use Rattle.worm_router.specs.Allocation.{switch_grants}
 use Rattle.worm_router.specs.Router.{RouterState}
 use Rattle.worm_swalloc.specs.declared.grant.SwGrant.{SwGrant}
+use Rattle.worm_vcalloc.specs.ChannelSet.{has}
 use Rattle.worm_swalloc.specs.SwAlloc.{AreGranted}
-use Rattle.worm_theory.specs.Steps.{IsThere, Send}
-use Rattle.worm_region.specs.Moves.{AreReady, chosen_router}
-use Rattle.worm_region.specs.State.{NetState, router_at, shape, with_router}
+use Rattle.worm_region.specs.Moves.{AreReady, IsReady, chosen_router}
+use Rattle.worm_region.specs.State.{NetState, router_at, with_router}
 use Rattle.worm_region.specs.Turns.{Chooses, ReachesAt}
-use Rattle.worm_region.proofs.PassIsGrants.{chosen_in, named_ready, ready_there, there_still}
+use Rattle.worm_region.proofs.PassIsGrants.{chosen_in, named_ready, ready_chosen, ready_there, there_still}
 use Rattle.worm_region.proofs.GrantedSent.{granted_one}
 use Rattle.worm_region.proofs.region.Region.choose.Goals as goal
 
@@ -51,14 +51,24 @@ returns-clause-chooses c =
     (with_router c.self.inside.fabric c.args.node c.choose.new.self)) c.self.view_is
     (granted c, ap (λ (r : RouterState). with_router c.self.inside.fabric c.args.node r) (chosen c))
 
+-- a channel of the set is ready, as it was before the pass
+ready_at : (c : goal.After-granted) (p v : ℕ) → p < 7 → v < 8 → has c.granted.result p v ≡ true
+    → IsReady (router_at c.self.inside.fabric c.args.node) p v
+ready_at c p v p_in v_in is =
+    let grants = switch_grants (router_at c.self.inside.fabric c.args.node) in
+    let grant = granted_one grants c.granted.result p v (granted c) p_in v_in is in
+    subst (IsReady (router_at c.self.inside.fabric c.args.node) p) grant.2 ((ready c).each p grant.0 grant.1)
+
 pub returns-clause-there : goal.returns-clause-there
 returns-clause-there c = λ p v p_in v_in is.
     let s = c.self.inside.fabric in
     let x = c.args.node in
     let here : x < node_count s.mesh = rw (c.self.view_is) c.requires in
-    let grant = granted_one (switch_grants (router_at s x)) c.granted.result p v (granted c) p_in v_in is in
-    let at = ready_there s x p grant.0.vc c.self.invariant here ((ready c).each p grant.0 grant.1) in
     let new = with_router s x c.choose.new.self in
     let chosen : ReachesAt x s new = rw (chosen c) (chosen_in s x c.self.invariant here).1 in
-    there_still s new x p v chosen.config
-    (subst (λ (vc : ℕ). IsThere (shape s) (Send x p vc)) grant.2 at)
+    there_still s new x p v chosen.config (ready_there s x p v c.self.invariant here (ready_at c p v p_in v_in is))
+
+pub returns-clause-ready : goal.returns-clause-ready
+returns-clause-ready c = λ p v p_in v_in is.
+    rw (chosen c) (ready_chosen c.self.inside.fabric c.args.node p v c.self.invariant
+    (rw (c.self.view_is) c.requires) (ready_at c p v p_in v_in is))
