@@ -3,11 +3,10 @@ use Rattle.std.proofs.Common.{◌≡◌, ℕ, ◌+◌, ◌<◌, ◌≤◌, ◌&&
 use Rattle.std.proofs.Common.{List, [], slice_index_or, refl, arith, ap, sym, ◌∙◌, subst}
 use Rattle.std.proofs.lemmas.Bool.{cases_eq, cases_lt}
 use Rattle.std.proofs.lemmas.List.{get_or_past}
-use Rattle.worm_vcalloc.specs.Table.{cell, with_cell, IsTable}
+use Rattle.worm_vcalloc.specs.Table.{cell, with_cell, IsTable, table}
 use Rattle.worm_vcalloc.proofs.TableCells.{cell-with_cell_same, cell-with_cell_other, IsTable-with_cell}
+use Rattle.worm_vcalloc.proofs.TableRows.{same_tables, cell-table, IsTable-table}
 use Rattle.worm_router.specs.Router.{RouterState, IsPlace, terminal, width}
-use Rattle.worm_swalloc.specs.Table.{table}
-use Rattle.worm_swalloc.proofs.TableRows.{same_tables, cell-table, IsTable-table}
 use Rattle.worm_router.specs.Tables.{PutsRows}
 use Rattle.worm_router.specs.Allocation.{within}
 
