@@ -128,7 +128,14 @@ set_fresh test t w depth count inputs none all counted = record {
 
 pub fresh_busy : (t w depth count : ℕ) (inputs : List ChannelState) (sets : BusyChannels) → t ≤ 6 → w ≤ 8
     → inputs ≡ replicate count (fresh_channel depth) → count ≡ (t + 1) * w
-    → sets ≡ record { outs = replicate 7 (replicate 8 None); no_credit = 0; owes_all = 0; occupied = 0; owing = 0 }
+    → sets ≡ record {
+      outs = replicate 7 (replicate 8 None);
+      no_credit = 0;
+      owes_all = 0;
+      occupied = 0;
+      owing = 0;
+      full = 0;
+    }
     → AreBusy t w depth inputs sets
 fresh_busy t w depth count inputs sets few_ports few_channels all counted none = rw none record {
   few_ports = few_ports;

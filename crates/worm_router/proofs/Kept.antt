@@ -12,7 +12,7 @@ use Rattle.std.proofs.lemmas.List.Elements.{All-set, All-get_or}
 use Rattle.worm_flit.specs.declared.Flit.{Flit}
 use Rattle.worm_mesh.specs.Address.{node_count}
 use Rattle.worm_records.specs.declared.InRecord.{InRecord}
-use Rattle.worm_records.specs.declared.InRecord.TheVariants.{Idle, Waiting}
+use Rattle.worm_records.specs.declared.InRecord.TheVariants.{Idle}
 use Rattle.worm_records.specs.declared.OutRecord.{OutRecord}
 use Rattle.worm_router.specs.Router.{HasLists, IsChannel, ChannelState, StateFits, RouterState, terminal, width}
 use Rattle.worm_router.specs.Router.{credit_of, free_output, fresh_channel, line, input_at, in_state}
@@ -139,10 +139,10 @@ put_sound mesh channels depth had now f true sound bound put =
 put_sound mesh channels depth had now f false sound bound put =
     subst (IsChannel mesh channels depth) (sym put.after) sound
 
-pub waiting_sound : (mesh channels : List ℕ) (depth : ℕ) (had now : ChannelState) (out : ℕ)
-    → IsChannel mesh channels depth had → out ≤ 2 * length mesh
-    → now ≡ in_state had (Waiting out) → IsChannel mesh channels depth now
-waiting_sound mesh channels depth had now out sound within is = subst (IsChannel mesh channels depth) (sym is) record {
+pub state_sound : (mesh channels : List ℕ) (depth : ℕ) (had now : ChannelState) (s : InRecord)
+    → IsChannel mesh channels depth had → StateFits (2 * length mesh) (sum channels) s
+    → now ≡ in_state had s → IsChannel mesh channels depth now
+state_sound mesh channels depth had now s sound within is = subst (IsChannel mesh channels depth) (sym is) record {
   same_depth = sound.same_depth;
   fits = sound.fits;
   bound_for_nodes = sound.bound_for_nodes;

@@ -23,6 +23,7 @@ use Rattle.worm_router.proofs.HeldOuts.{outs_left}
 use Rattle.worm_router.proofs.Those.{unfiled}
 use Rattle.worm_router.proofs.LackCredit.{lack_left, leaves_with_credit}
 use Rattle.worm_router.proofs.OweAll.{owe_left, leaves_owing_less}
+use Rattle.worm_router.proofs.FullBuffers.{full_left}
 
 -- a flit that may leave, for so many credits spent and owed: its input channel and the output channel that this holds,
 -- as they were read
@@ -40,14 +41,14 @@ pub record IsLeaving (r : RouterState) (sets : BusyChannels) (port vc i out out_
   pub enough : spent ≤ had_out.credits
   pub may_owe : had.owed + more ≤ r.depth
 
-pub leaving_of : (r s : RouterState) (sets : BusyChannels) (asked : DemandView) (masks routes : List ℕ)
+pub leaving_of : (r s : RouterState) (sets : BusyChannels) (asked : DemandView) (masks owners routes : List ℕ)
     (port vc i out o : ℕ) (f : Flit) (had : ChannelState) (had_out : OutRecord) (spent more : ℕ)
-    → r ≡ s → IsKept r sets asked masks routes → IsPlace s port vc → leaving s port vc ≡ Some (out, f)
+    → r ≡ s → IsKept r sets asked masks owners routes → IsPlace s port vc → leaving s port vc ≡ Some (out, f)
     → i ≡ line s port vc → i < length s.inputs → had ≡ get_or r.inputs i had
     → o ≡ line s out f.vc → o < length s.outputs → had_out ≡ get_or r.outputs o had_out
     → spent ≡ credit_of s out → more ≡ credit_of s port
     → IsLeaving r sets port vc i out f.vc o had had_out spent more
-leaving_of r s sets asked masks routes port vc i out o f had had_out spent more same kept place leaves at within read
+leaving_of r s sets asked masks owners routes port vc i out o f had had_out spent more same kept place leaves at within read
     at_out within_out read_out spends owes_more =
     let may : leaving r port vc ≡ Some (out, f) = ap (λ (q : RouterState). leaving q port vc) same ∙ leaves in
     let input = input_of r s port vc i had same place at within read in
@@ -86,7 +87,9 @@ pub record IsOut (depth : ℕ) (sets mid : BusyChannels) (port vc : ℕ) (had go
   pub occupied : IsFiled sets.occupied mid.occupied port vc (is_occupied gone)
   pub owing : IsFiled sets.owing mid.owing port vc (owes gone)
   pub owes_all : IsFiled sets.owes_all mid.owes_all port vc (nat_lt depth (gone.owed + more))
-  pub others : mid ≡ record sets { occupied = mid.occupied; owing = mid.owing; owes_all = mid.owes_all }
+  pub full : IsFiled sets.full mid.full port vc false
+  pub others : mid
+      ≡ record sets { occupied = mid.occupied; owing = mid.owing; owes_all = mid.owes_all; full = mid.full }
 
 -- what is written in all: where that `closed` the packet both channels are free
 record HasLeft (r : RouterState) (sets new : BusyChannels) (asked now_asked : DemandView)
@@ -98,14 +101,15 @@ record HasLeft (r : RouterState) (sets new : BusyChannels) (asked now_asked : De
   occupied : IsFiled sets.occupied new.occupied port vc (is_occupied now)
   owing : IsFiled sets.owing new.owing port vc (owes now)
   owes_all : IsFiled sets.owes_all new.owes_all port vc (nat_lt r.depth (now.owed + more))
+  full : IsFiled sets.full new.full port vc false
   outs : new.outs ≡ (if closed then with_cell sets.outs port vc None else sets.outs)
   no_credit : IsFiled sets.no_credit new.no_credit port vc (not closed && nat_lt u.credits spent)
   requests : now_asked.requests ≡ asked.requests
   free : now_asked.free ≡ (if closed then with_cell asked.free out out_vc true else asked.free)
 
-module _ (r : RouterState) (sets new : BusyChannels) (asked now_asked : DemandView) (masks routes : List ℕ)
+module _ (r : RouterState) (sets new : BusyChannels) (asked now_asked : DemandView) (masks owners routes : List ℕ)
     (port vc i out out_vc o : ℕ) (had now : ChannelState) (had_out u : OutRecord) (f : Flit) (spent more : ℕ)
-    (closed : Bool) (kept : IsKept r sets asked masks routes)
+    (closed : Bool) (kept : IsKept r sets asked masks owners routes)
     (leaving : IsLeaving r sets port vc i out out_vc o had had_out spent more)
     (left : HasLeft r sets new asked now_asked port vc out out_vc had now had_out u f spent more closed) where
   state_now : now.state ≡ (if closed then Idle else had.state)
@@ -144,7 +148,7 @@ module _ (r : RouterState) (sets new : BusyChannels) (asked now_asked : DemandVi
       omega (arith, left.credits, had_full, none)
 
   left_kept : IsKept (record r { inputs = slice_set r.inputs i now; outputs = slice_set r.outputs o u })
-      new now_asked masks routes
+      new now_asked masks owners routes
   left_kept = record {
     router = record {
       lists = both_set_sound r.mesh r.node r.channels r.depth r.inputs r.outputs i o now u kept.router.lists sound_now
@@ -179,13 +183,16 @@ module _ (r : RouterState) (sets new : BusyChannels) (asked now_asked : DemandVi
     owes_all = owe_left r port vc i had now leaving.input kept.busy.few_ports kept.busy.few_channels
         (slice_set r.outputs o u) sets.owes_all new.owes_all more sound_now.owed_fits leaving.owes_more left.owes_all
         kept.owes_all;
+    full = full_left r port vc i had now leaving.input (slice_set r.outputs o u) sets.full new.full kept.classes.are
+        left.full kept.full;
     classes = kept.classes;
+    owned_by = kept.owned_by;
     destinations = kept.destinations;
   }
 
-module _ (r : RouterState) (sets mid : BusyChannels) (asked : DemandView) (masks routes : List ℕ)
+module _ (r : RouterState) (sets mid : BusyChannels) (asked : DemandView) (masks owners routes : List ℕ)
     (port vc i out out_vc o : ℕ) (had gone : ChannelState) (had_out : OutRecord) (f : Flit) (spent more : ℕ)
-    (kept : IsKept r sets asked masks routes) (leaving : IsLeaving r sets port vc i out out_vc o had had_out spent more)
+    (kept : IsKept r sets asked masks owners routes) (leaving : IsLeaving r sets port vc i out out_vc o had had_out spent more)
     (is_out : IsOut r.depth sets mid port vc had gone f more) where
   -- it closed its packet: both channels are free
   pub closed_kept : (now : ChannelState) (u : OutRecord) (outs : List (List (Option ℕ))) (now_asked : DemandView)
@@ -193,9 +200,9 @@ module _ (r : RouterState) (sets mid : BusyChannels) (asked : DemandView) (masks
       → outs ≡ with_cell mid.outs port vc None
       → now_asked ≡ record asked { free = with_cell asked.free out out_vc true }
       → IsKept (record r { inputs = slice_set r.inputs i now; outputs = slice_set r.outputs o u })
-      (record mid { outs = outs }) now_asked masks routes
+      (record mid { outs = outs }) now_asked masks owners routes
   closed_kept now u outs now_asked now_is u_is outs_are asks =
-      left_kept r sets (record mid { outs = outs }) asked now_asked masks routes port vc i out out_vc o had now had_out
+      left_kept r sets (record mid { outs = outs }) asked now_asked masks owners routes port vc i out out_vc o had now had_out
       u f spent more true kept leaving (record {
         now_is = now_is ∙ ap (λ (c : ChannelState). in_state c Idle) is_out.gone_is;
         credits = ap (λ (w : OutRecord). w.credits) u_is;
@@ -205,6 +212,7 @@ module _ (r : RouterState) (sets mid : BusyChannels) (asked : DemandView) (masks
         owing = subst (λ (c : ChannelState). IsFiled sets.owing mid.owing port vc (owes c)) (sym now_is) is_out.owing;
         owes_all = subst (λ (c : ChannelState). IsFiled sets.owes_all mid.owes_all port vc
             (nat_lt r.depth (c.owed + more))) (sym now_is) is_out.owes_all;
+        full = is_out.full;
         outs = outs_are ∙ ap (λ (b : BusyChannels). with_cell b.outs port vc None) is_out.others;
         no_credit = subst (λ (b : BusyChannels). IsFiled sets.no_credit b.no_credit port vc false) (sym is_out.others)
             (unfiled sets.no_credit port vc false leaving.has_credit);
@@ -218,9 +226,9 @@ module _ (r : RouterState) (sets mid : BusyChannels) (asked : DemandView) (masks
       → IsKept (record r {
         inputs = slice_set r.inputs i gone;
         outputs = slice_set r.outputs o (record had_out { credits = had_out.credits - spent });
-      }) (record mid { no_credit = no_credit }) asked masks routes
+      }) (record mid { no_credit = no_credit }) asked masks owners routes
   followed_kept no_credit filed =
-      left_kept r sets (record mid { no_credit = no_credit }) asked asked masks routes port vc i out out_vc o had gone
+      left_kept r sets (record mid { no_credit = no_credit }) asked asked masks owners routes port vc i out out_vc o had gone
       had_out (record had_out { credits = had_out.credits - spent }) f spent more false kept leaving (record {
         now_is = is_out.gone_is;
         credits = refl;
@@ -228,6 +236,7 @@ module _ (r : RouterState) (sets mid : BusyChannels) (asked : DemandView) (masks
         occupied = is_out.occupied;
         owing = is_out.owing;
         owes_all = is_out.owes_all;
+        full = is_out.full;
         outs = ap (λ (b : BusyChannels). b.outs) is_out.others;
         no_credit = subst (λ b. IsFiled sets.no_credit no_credit port vc (b || nat_lt (had_out.credits - spent) spent))
             leaving.has_credit

@@ -4,7 +4,7 @@ use Rattle.std.proofs.Common.{◌∷◌, take, sum, slice_index, arith}
 use Rattle.std.proofs.lemmas.List.Sums.{sum_by-cons}
 use Rattle.worm_flit.specs.Channels.{first_channel}
 
-class_ends : (counts : List ℕ) (class : ℕ) → first_channel counts class + slice_index counts class ≤ sum counts
+pub class_ends : (counts : List ℕ) (class : ℕ) → first_channel counts class + slice_index counts class ≤ sum counts
 class_ends [] zero = omega arith
 class_ends [] (suc class) = omega arith
 class_ends (n ∷ ns) zero = let whole : sum (n ∷ ns) ≡ n + sum ns = sum_by-cons (λ (x : ℕ). x) n ns in omega arith

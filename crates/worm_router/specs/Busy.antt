@@ -1,8 +1,8 @@
 -- Which input channels have something to do: the sets that a router keeps beside its lists, so that a turn skips all
 -- others.
 use Rattle.std.specs.Prelude.{ℕ, ◌+◌, ◌*◌, ◌<◌, ◌≤◌, ◌≡◌, ◌==◌, ◌&&◌, ◌||◌, nat_lt, Bool, true, false, List, length}
-use Rattle.std.specs.Prelude.{slice_index, slice_index_or, All, Option, Some, None, is_some, not}
-use Rattle.worm_flit.specs.Channels.{class_bits}
+use Rattle.std.specs.Prelude.{sum, slice_index, slice_index_or, All, Option, Some, None, is_some, not}
+use Rattle.worm_flit.specs.Channels.{AreChannels, class_bits, first_channel, owner_of}
 use Rattle.worm_mesh.specs.Address.{node_count}
 use Rattle.worm_route.specs.Route.{port_of}
 use Rattle.worm_records.specs.declared.InRecord.{InRecord}
@@ -107,6 +107,21 @@ LackCredit r set = AreThose (λ p c. lacks_credit r c.state) r set
 abbrev pub OweAll : RouterState → ℕ → Type 0
 OweAll r set = AreThose (λ p c. owes_all r p c.owed) r set
 
+-- the injection buffer of a class is full: its flits are fed on its first channel
+pub record IsFull (r : RouterState) (class : ℕ) : Type 0 where
+  pub class_in : class < length r.channels
+  pub no_room : length (input_at r (terminal r) (first_channel r.channels class)).buffer ≡ r.depth
+
+-- on this channel of the terminal port a class is fed whose injection buffer is full
+pub record IsFullAt (r : RouterState) (port vc class : ℕ) : Type 0 where
+  pub terminal_port : port ≡ terminal r
+  pub first : vc ≡ first_channel r.channels class
+  pub full : IsFull r class
+
+-- a set has no other channels than such
+abbrev pub AreFull : RouterState → ℕ → Type 0
+AreFull r set = (p v : ℕ) → p < 7 → v < 8 → has set p v ≡ true → (class : ℕ) × IsFullAt r p v class
+
 -- the output port whose channel an input channel holds
 abbrev pub port_held : InRecord → Option ℕ
 port_held Idle = None
@@ -119,9 +134,14 @@ held_outs r = table (within r None (λ p v. port_held (input_at r p v).state))
 
 -- the channels of each class, as a bit for each
 pub record AreMasks (channels masks : List ℕ) : Type 0 where
-  pub few : length channels ≤ 4
+  pub are : AreChannels channels
   pub four : length masks ≡ 4
   pub each : (class : ℕ) → class < 4 → slice_index masks class ≡ class_bits channels class
+
+-- the class of each channel
+pub record AreOwners (channels owners : List ℕ) : Type 0 where
+  pub eight : length owners ≡ 8
+  pub each : (channel : ℕ) → channel < sum channels → slice_index owners channel ≡ owner_of channels channel
 
 -- the output port of the route from a node to each node of the mesh
 pub record AreRoutes (mesh : List ℕ) (node : ℕ) (routes : List ℕ) : Type 0 where
@@ -138,8 +158,9 @@ pub record HasArbiters (s : SwAllocState) : Type 0 where
 abbrev pub HasFront : ChannelState → Type 0
 HasFront c = is_waiting c ≡ true → is_occupied c ≡ true
 
--- what a router keeps: what contracts see, and the sets, the requests, the masks of classes and the routes beside it
-pub record IsKept (r : RouterState) (sets : BusyChannels) (asked : DemandView) (masks routes : List ℕ) : Type 0 where
+-- what a router keeps: what contracts see, and the sets, the requests, the masks of classes, the classes of channels
+-- and the routes beside it
+pub record IsKept (r : RouterState) (sets : BusyChannels) (asked : DemandView) (masks owners routes : List ℕ) : Type 0 where
   pub router : IsRouter r
   pub arbiters : HasArbiters r.switch_alloc
   pub busy : AreBusy (terminal r) (width r) r.depth r.inputs sets
@@ -149,5 +170,7 @@ pub record IsKept (r : RouterState) (sets : BusyChannels) (asked : DemandView) (
   pub outs : sets.outs ≡ held_outs r
   pub no_credit : LackCredit r sets.no_credit
   pub owes_all : OweAll r sets.owes_all
+  pub full : AreFull r sets.full
   pub classes : AreMasks r.channels masks
+  pub owned_by : AreOwners r.channels owners
   pub destinations : AreRoutes r.mesh r.node routes

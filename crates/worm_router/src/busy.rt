@@ -19,6 +19,9 @@ pub struct BusyChannels {
     pub occupied: ChannelSet,
     /// Those that owe a credit.
     pub owing: ChannelSet,
+    /// Those of the terminal port on which a class is fed and whose buffer is known to be full, so that its flits are
+    /// not tried.
+    pub full: ChannelSet,
 }
 
 impl BusyChannels {
@@ -30,6 +33,7 @@ impl BusyChannels {
           owes_all = 0;
           occupied = 0;
           owing = 0;
+          full = 0;
         } }
     {
         BusyChannels {
@@ -38,6 +42,7 @@ impl BusyChannels {
             owes_all: ChannelSet::new(),
             occupied: ChannelSet::new(),
             owing: ChannelSet::new(),
+            full: ChannelSet::new(),
         }
     }
 
@@ -65,7 +70,8 @@ impl BusyChannels {
     }
 
     /// Files a channel that has let a flit out, so that it had one and might owe more: whether it has one more, whether
-    /// it owes a credit, as one that did before or that owes `one_more`, and whether that is `all` that it may owe.
+    /// it owes a credit, as one that did before or that owes `one_more`, and whether that is `all` that it may owe. Its
+    /// buffer has room.
     pub fn file_left(&mut self, port: u8, vc: u8, channel: &InputChannel, one_more: bool, all: bool)
         requires port { port < 7 }
         requires vc { vc < 8 }
@@ -75,16 +81,20 @@ impl BusyChannels {
         ensures occupied { IsFiled self.old.occupied self.new.occupied port vc (is_occupied channel.now) }
         ensures owing { IsFiled self.old.owing self.new.owing port vc (owes channel.now) }
         ensures owes_all { IsFiled self.old.owes_all self.new.owes_all port vc all }
+        ensures full { IsFiled self.old.full self.new.full port vc false }
         ensures others { self.new ≡ record self.old {
           occupied = self.new.occupied;
           owing = self.new.owing;
           owes_all = self.new.owes_all;
+          full = self.new.full;
         } }
     {
         self.occupied.remove_if(port, vc, !channel.is_occupied());
         // Who owed before owes still, so this needs no look at the count.
         self.owing.insert_if(port, vc, one_more);
         self.owes_all.insert_if(port, vc, all);
+        // At each port, since a test whether it is the terminal one costs more than a write.
+        self.full.put(port, vc, false);
     }
 
     /// Files a channel whose credit, one that it owed, has gone out: it may owe one more.

@@ -1,8 +1,9 @@
 //! What a fresh router is made of: its lists, and what is worked out of the mesh and the classes once.
 
 ghost use Rattle.std.specs.Prelude.{◌≡◌, ◌≤◌, ◌<◌, length, IfOk, replicate};
+ghost use Rattle.worm_flit.specs.Channels.{AreChannels};
 ghost use Rattle.worm_mesh.specs.Address.{node_count};
-ghost use Rattle.worm_router.specs.Busy.{AreMasks, AreRoutes};
+ghost use Rattle.worm_router.specs.Busy.{AreMasks, AreOwners, AreRoutes};
 ghost use Rattle.worm_router.specs.Router.{fresh_channel, free_output};
 
 use crate::channel::InputChannel;
@@ -60,7 +61,7 @@ pub(super) fn make_routes(alloc: Global, mesh: &Mesh, node: u8) -> Result<Vec<u8
 
 /// The channels of each class, as a bit for each. A class that is not there has none.
 pub(super) fn class_masks(classes: &ClassChannels) -> [u8; 4]
-    requires { length classes.now ≤ 4 }
+    requires { AreChannels classes.now }
     ensures { AreMasks classes.now result }
 {
     let mut masks = [0u8; 4];
@@ -68,4 +69,15 @@ pub(super) fn class_masks(classes: &ClassChannels) -> [u8; 4]
         masks[usize::from(class)] = classes.mask(class);
     }
     masks
+}
+
+/// The class of each channel.
+pub(super) fn channel_owners(classes: &ClassChannels) -> [u8; 8]
+    ensures { AreOwners classes.now result }
+{
+    let mut owners = [0u8; 8];
+    for channel in 0..classes.total() {
+        owners[usize::from(channel)] = classes.owner(channel);
+    }
+    owners
 }

@@ -1,9 +1,10 @@
-use Rattle.std.proofs.Common.{◌≡◌, List, Option, ℕ, ap, subst, ◌∙◌, sym, arith}
+use Rattle.std.proofs.Common.{◌≡◌, List, Option, ℕ, ap, subst, ◌∙◌, refl, sym, arith}
 use Rattle.std.proofs.lemmas.Grind.{common_steps}
 use Rattle.worm_swalloc.specs.SwAlloc.{SwAllocState, IsSwitchMatching, sw_grants, sw_after}
 use Rattle.worm_router.specs.Router.{RouterState, router_state}
 use Rattle.worm_router.specs.Allocation.{ready_outs, switch_grants, after_choose}
 use Rattle.worm_router.specs.Busy.{HasArbiters}
+use Rattle.worm_router.proofs.FullBuffers.{full_as}
 use Rattle.worm_router.proofs.NothingReady.{arbiters_stay}
 use Rattle.worm_router.proofs.ReadyOuts.{first_of, ready_table}
 use Rattle.worm_router.proofs.router.Router.choose.Goals as goal
@@ -36,7 +37,9 @@ invariant_of-self c = record {
   outs = c.self.invariant.outs;
   no_credit = record { each = c.self.invariant.no_credit.each };
   owes_all = record { each = c.self.invariant.owes_all.each };
+  full = full_as _ _ _ _ _ _ refl c.self.invariant.full;
   classes = c.self.invariant.classes;
+  owned_by = c.self.invariant.owned_by;
   destinations = c.self.invariant.destinations;
 }
 
@@ -44,7 +47,7 @@ invariant_of-self c = record {
 told : (c : goal.After-grant) → c.new-ready.result ≡ ready_outs (here c)
 told c =
     c.new-ready.ensures
-    ∙ ready_table (here c) _ _ _ _ c.ready-among.result c.self.invariant c.ready-among.ensures
+    ∙ ready_table (here c) _ _ _ _ _ c.ready-among.result c.self.invariant c.ready-among.ensures
 
 pub returns-clause-grants : goal.returns-clause-grants
 returns-clause-grants c =

@@ -10,6 +10,7 @@ use Rattle.worm_router.proofs.Holders.{holders_out}
 use Rattle.worm_vcalloc.specs.ChannelSet.{has}
 use Rattle.worm_router.proofs.LackCredit.{lack_credited, holder_fits}
 use Rattle.worm_router.proofs.Demanded.{free_kept}
+use Rattle.worm_router.proofs.FullBuffers.{full_as}
 use Rattle.worm_router.proofs.router.Router.credit.Goals as goal
 
 pub invariant_of-self : goal.invariant_of-self
@@ -48,6 +49,7 @@ invariant_of-self c =
       holders = holders_out _ _ _ _ _ _ output
           (ap (λ (u : OutRecord). u.holder) c.add_credit.ensures) c.self.invariant.holders;
       classes = c.self.invariant.classes;
+      owned_by = c.self.invariant.owned_by;
       destinations = c.self.invariant.destinations;
       outs = ap (λ (b : BusyChannels). b.outs) c.file_credit.ensures.others ∙ c.self.invariant.outs;
       no_credit = lack_credited _ _ _ _ _ _ output (ap (λ (u : OutRecord). u.credits) c.add_credit.ensures)
@@ -58,6 +60,7 @@ invariant_of-self c =
         each = λ p v p_in v_in. ap (λ (b : BusyChannels). has b.owes_all p v) c.file_credit.ensures.others
             ∙ c.self.invariant.owes_all.each p v p_in v_in;
       };
+      full = full_as _ _ _ _ _ _ (ap (λ (b : BusyChannels). b.full) c.file_credit.ensures.others) c.self.invariant.full;
     }
 
 pub file_credit-requires : goal.file_credit-requires

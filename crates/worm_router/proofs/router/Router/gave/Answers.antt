@@ -1,4 +1,4 @@
-use Rattle.std.proofs.Common.{◌<◌, subst, arith, sym, ap, ◌∙◌, inl, inr}
+use Rattle.std.proofs.Common.{◌<◌, length, subst, arith, sym, ap, ◌∙◌, inl, inr}
 use Rattle.worm_router.specs.Router.{ChannelState}
 use Rattle.std.proofs.lemmas.List.Elements.{All-set, All-get_or}
 use Rattle.worm_router.specs.Allocation.{asking}
@@ -12,6 +12,7 @@ use Rattle.worm_router.proofs.Holders.{holders_in}
 use Rattle.worm_router.proofs.HeldOuts.{outs_kept}
 use Rattle.worm_router.proofs.LackCredit.{lack_stay}
 use Rattle.worm_router.proofs.OweAll.{owe_given}
+use Rattle.worm_router.proofs.FullBuffers.{full_stay}
 use Rattle.worm_router.proofs.router.Router.gave.Goals as goal
 
 pub invariant_of-self : goal.invariant_of-self
@@ -50,6 +51,7 @@ invariant_of-self c =
           (λ o k holds. sym (ap (λ (x : ChannelState). x.state) c.give.ensures) ∙ holds)
           (λ o k holds. ap (λ (x : ChannelState). x.state) c.give.ensures ∙ holds) c.self.invariant.holders;
       classes = c.self.invariant.classes;
+      owned_by = c.self.invariant.owned_by;
       destinations = c.self.invariant.destinations;
       outs = ap (λ (b : BusyChannels). b.outs) c.file_given.ensures.others
           ∙ outs_kept _ _ _ _ _ _ input _ (ap (λ (x : ChannelState). port_held x.state) c.give.ensures)
@@ -60,4 +62,6 @@ invariant_of-self c =
       owes_all = owe_given _ _ _ _ _ _ input c.self.invariant.busy.few_ports c.self.invariant.busy.few_channels _ _ _
           (ap (λ (x : ChannelState). x.owed) c.give.ensures) (omega (arith, owed_some)) had.owed_fits
           c.file_given.ensures.owes_all c.self.invariant.owes_all;
+      full = full_stay _ _ _ _ _ _ input _ _ _ (ap (λ (b : BusyChannels). b.full) c.file_given.ensures.others)
+          (λ full. ap (λ (x : ChannelState). length x.buffer) c.give.ensures ∙ full) c.self.invariant.full;
     }

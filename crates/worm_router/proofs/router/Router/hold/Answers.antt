@@ -1,21 +1,22 @@
 use Rattle.std.proofs.lemmas.List.Elements.{All-set}
 use Rattle.std.proofs.Common.{◌<◌, ◌*◌, ◌∙◌, ◌≡◌, is_none, true, false, sum, length, arith}
-use Rattle.std.proofs.Common.{ap, sym, inr, refl}
+use Rattle.std.proofs.Common.{ap, sym, inr, length-set, refl}
 use Rattle.std.proofs.lemmas.Grind.{common_steps, elements}
 use Rattle.worm_records.specs.declared.InRecord.TheVariants.{Active, Waiting}
 use Rattle.worm_records.specs.declared.OutRecord.{OutRecord}
-use Rattle.worm_router.specs.Router.{RouterState, ChannelState, credit_of, free_output, in_state}
+use Rattle.worm_router.specs.Router.{RouterState, ChannelState, IsChannel, credit_of, free_output, in_state}
 use Rattle.worm_router.specs.Allocation.{asking}
 use Rattle.worm_router.specs.Demand.{DemandView}
 use Rattle.worm_router.specs.Busy.{HasFront, port_held, is_occupied, is_waiting, owes}
 use Rattle.worm_router.proofs.Places.{input_of, output_of, output_read}
-use Rattle.worm_router.proofs.Kept.{full_after, full_before, input_read}
+use Rattle.worm_router.proofs.Kept.{full_after, full_before, input_read, read_sound, state_sound}
 use Rattle.worm_router.proofs.Filed.{busy_filed, filed}
 use Rattle.worm_router.proofs.Holders.{holders_held}
 use Rattle.worm_router.proofs.Demanded.{requests_put, free_put}
 use Rattle.worm_router.proofs.HeldOuts.{outs_put}
 use Rattle.worm_router.proofs.LackCredit.{lack_held}
 use Rattle.worm_router.proofs.OweAll.{owe_stay}
+use Rattle.worm_router.proofs.FullBuffers.{full_stay}
 use Rattle.worm_router.proofs.router.Router.hold.Goals as goal
 
 pub invariant_of-self : goal.invariant_of-self
@@ -31,6 +32,8 @@ invariant_of-self c =
     c.self.view_is c.index_mut-output.ensures.value c.line-o.ensures.value c.line-o.ensures.in_outputs in
     let here = input_read _ c.args.self.now c.args.port c.args.vc c.line-i.result c.index_mut-channel.result.now
     c.self.view_is c.index_mut-channel.ensures.value c.line-i.ensures.value c.line-i.ensures.in_inputs in
+    let had = read_sound _ _ _ _ _ c.index_mut-channel.result.now c.index_mut-channel.ensures.value input.within
+    c.self.invariant.router.lists.inputs_sound in
     let waits : c.index_mut-channel.result.now.state ≡ Waiting c.args.out =
     ap (λ (x : ChannelState). x.state) here ∙ c.requires.waits in
     let active : c.activate.new.self ≡ in_state c.index_mut-channel.result.now (Active c.args.out c.args.out_vc) =
@@ -40,9 +43,12 @@ invariant_of-self c =
         lists = record {
           node_in = c.self.invariant.router.lists.node_in;
           depth_in = c.self.invariant.router.lists.depth_in;
-          all_inputs = grind (arith, common_steps);
-          all_outputs = grind (arith, common_steps);
-          inputs_sound = grind (arith, elements);
+          all_inputs = rw length-set c.self.invariant.router.lists.all_inputs;
+          all_outputs = rw length-set c.self.invariant.router.lists.all_outputs;
+          inputs_sound = All-set (IsChannel c.self.inside.mesh c.self.inside.classes c.self.inside.depth)
+              c.self.inside.inputs.items c.line-i.result c.activate.new.self
+              (state_sound _ _ _ _ _ (Active c.args.out c.args.out_vc) had
+              (output.place.port_in, output.place.channel_in) active) c.self.invariant.router.lists.inputs_sound;
           credits_fit = grind (arith, elements);
           terminal_full = full_after c.self.inside.outputs.items (2 * length c.self.inside.mesh)
               (sum c.self.inside.classes) c.self.inside.depth c.line-o.result c.grant.new.self
@@ -74,6 +80,7 @@ invariant_of-self c =
           (ap (λ (v : OutRecord). v.holder) read ∙ c.requires.free)
           (ap (λ (v : OutRecord). v.holder) c.grant.ensures) c.self.invariant.holders;
       classes = c.self.invariant.classes;
+      owned_by = c.self.invariant.owned_by;
       destinations = c.self.invariant.destinations;
       outs = outs_put _ _ _ _ _ _ input _ _ _ c.self.invariant.busy.few_ports c.self.invariant.busy.few_channels
           c.set.ensures (ap (λ (x : ChannelState). port_held x.state) active) c.self.invariant.outs;
@@ -85,6 +92,8 @@ invariant_of-self c =
           c.self.invariant.holders c.self.invariant.no_credit;
       owes_all = owe_stay _ _ _ _ _ _ input c.self.invariant.busy.few_ports c.self.invariant.busy.few_channels _ _ _
           refl (ap (λ (x : ChannelState). x.owed) active) c.self.invariant.owes_all;
+      full = full_stay _ _ _ _ _ _ input _ _ _ refl
+          (λ full. ap (λ (x : ChannelState). length x.buffer) active ∙ full) c.self.invariant.full;
     }
 
 pub activate-requires : goal.activate-requires

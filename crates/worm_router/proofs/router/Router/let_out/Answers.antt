@@ -19,7 +19,7 @@ leaves : (c : After-index_mut-output)
     c.credit_of-more_owed.result
 leaves c =
     leaving_of (was c) c.args.self.now c.self.inside.busy c.self.inside.demand c.self.inside.masks
-    c.self.inside.routes.items c.args.port c.args.vc c.line-i.result c.args.out c.line-o.result c.args.flit
+    c.self.inside.owners c.self.inside.routes.items c.args.port c.args.vc c.line-i.result c.args.out c.line-o.result c.args.flit
     c.index_mut-channel.result.now c.index_mut-output.result.now c.credit_of-spent.result
     c.credit_of-more_owed.result c.self.view_is c.self.invariant c.requires.place c.requires.ready
     c.line-i.ensures.value c.line-i.ensures.in_inputs c.index_mut-channel.ensures.value
@@ -52,19 +52,20 @@ out c = record {
   owing = c.file_left.ensures.owing;
   owes_all = subst (λ n. IsFiled c.self.inside.busy.owes_all c.file_left.new.self.owes_all c.args.port c.args.vc
       (nat_lt c.self.inside.depth (n + c.credit_of-more_owed.result))) c.owed.ensures c.file_left.ensures.owes_all;
+  full = c.file_left.ensures.full;
   others = c.file_left.ensures.others;
 }
 
 pub invariant_of-self : goal.invariant_of-self
 invariant_of-self c =
     let at = (goal.at.invariant_of-self c).After-file_left in
-    closed_kept _ _ _ _ _ _ _ _ _ _ _ _ _ _ _ _ _ _ c.self.invariant
+    closed_kept _ _ _ _ _ _ _ _ _ _ _ _ _ _ _ _ _ _ _ c.self.invariant
     (leaves (goal.at.invariant_of-self c).After-index_mut-output) (out at) _ _ _ _ c.close.ensures
     c.release.ensures c.set.ensures c.release-then-is_closing.ensures
 
 pub invariant_of-self-else-is_closing : goal.invariant_of-self-else-is_closing
 invariant_of-self-else-is_closing c =
     let at = (goal.at.invariant_of-self-else-is_closing c).After-file_left in
-    followed_kept _ _ _ _ _ _ _ _ _ _ _ _ _ _ _ _ _ _ c.self.invariant
+    followed_kept _ _ _ _ _ _ _ _ _ _ _ _ _ _ _ _ _ _ _ c.self.invariant
     (leaves (goal.at.invariant_of-self-else-is_closing c).After-index_mut-output) (out at) _
     (filed _ _ _ _ _ c.insert_if.ensures)

@@ -6,14 +6,15 @@ use Rattle.worm_router.specs.Demand.{DemandView}
 use Rattle.worm_router.specs.Busy.{HasFront, is_occupied, owes, port_held}
 use Rattle.worm_router.specs.Router.{ChannelState, RouterState}
 use Rattle.worm_router.proofs.Places.{input_of}
-use Rattle.worm_router.proofs.Kept.{input_set_sound, read_sound, waiting_sound}
+use Rattle.worm_router.proofs.Kept.{input_set_sound, read_sound, state_sound}
 use Rattle.worm_router.proofs.Filed.{busy_filed}
-use Rattle.worm_records.specs.declared.InRecord.TheVariants.{Idle}
+use Rattle.worm_records.specs.declared.InRecord.TheVariants.{Idle, Waiting}
 use Rattle.worm_router.proofs.Holders.{holders_in}
 use Rattle.worm_router.proofs.Demanded.{requests_put, asks_by_front, front_there}
 use Rattle.worm_router.proofs.HeldOuts.{outs_kept}
 use Rattle.worm_router.proofs.LackCredit.{lack_waiting}
 use Rattle.worm_router.proofs.OweAll.{owe_stay}
+use Rattle.worm_router.proofs.FullBuffers.{full_stay}
 use Rattle.worm_router.proofs.router.Router.route.Goals as goal
 use Rattle.worm_router.proofs.router.Router.route.Goals.{in-Idle, in_default}
 
@@ -52,7 +53,7 @@ invariant_of-self c =
     record {
       router = record {
         lists = input_set_sound _ _ _ _ _ _ _ _ c.self.invariant.router.lists
-            (waiting_sound _ _ _ _ _ c.port_to-out.result had
+            (state_sound _ _ _ _ _ (Waiting c.port_to-out.result) had
             (subst (λ (r : RouterState). c.port_to-out.result ≤ 2 * length r.mesh) (sym c.self.view_is)
             c.port_to-out.ensures.bound) c.route_to.ensures);
         allocators = c.self.invariant.router.allocators;
@@ -75,6 +76,7 @@ invariant_of-self c =
           (λ o k holds. let unlike = sym (ap (λ (x : ChannelState). x.state) c.route_to.ensures) ∙ holds in
           absurd (cc)) (λ o k holds. let unlike = sym was_idle ∙ holds in absurd (cc)) c.self.invariant.holders;
       classes = c.self.invariant.classes;
+      owned_by = c.self.invariant.owned_by;
       destinations = c.self.invariant.destinations;
       outs = outs_kept _ _ _ _ _ _ input _ (ap (λ (x : ChannelState). port_held x.state) c.route_to.ensures
           ∙ sym (ap port_held was_idle)) c.self.invariant.outs;
@@ -82,4 +84,6 @@ invariant_of-self c =
           refl _ was_idle (ap (λ (x : ChannelState). x.state) c.route_to.ensures) c.self.invariant.no_credit;
       owes_all = owe_stay _ _ _ _ _ _ input c.self.invariant.busy.few_ports c.self.invariant.busy.few_channels _ _ _
           refl (ap (λ (x : ChannelState). x.owed) c.route_to.ensures) c.self.invariant.owes_all;
+      full = full_stay _ _ _ _ _ _ input _ _ _ refl
+          (λ full. ap (λ (x : ChannelState). length x.buffer) c.route_to.ensures ∙ full) c.self.invariant.full;
     }
