@@ -1,9 +1,9 @@
 -- Which injection buffers are known to be full, and what a write of one input channel leaves of that.
 use Rattle.std.proofs.Common.{◌≡◌, ℕ, ◌+◌, ◌<◌, ◌≤◌, ◌&&◌, Bool, true, false, nat_le, nat_lt, List, length}
-use Rattle.std.proofs.Common.{slice_set, slice_index, inl, inr, arith, ap, sym, subst, ◌∙◌}
+use Rattle.std.proofs.Common.{slice_set, slice_index, inl, inr, arith, ap, refl, sym, subst, ◌∙◌, ◌==◌, if◌then◌else◌}
 use Rattle.std.specs.Prelude.{slice_index_or}
 use Rattle.std.proofs.lemmas.Grind.{get_or-set_at}
-use Rattle.std.proofs.lemmas.Bool.{cases_eq}
+use Rattle.std.proofs.lemmas.Bool.{cases_eq, eq-eqb}
 use Rattle.std.proofs.lemmas.Bool.Decides.{nat_tests}
 use Rattle.std.proofs.lemmas.List.{get_or-set_other}
 use Rattle.std.proofs.lemmas.List.Elements.{All-get_or}
@@ -11,14 +11,13 @@ use Rattle.std.proofs.lemmas.Nat.{same_from_place}
 use Rattle.worm_flit.specs.declared.Flit.{Flit}
 use Rattle.worm_flit.specs.Channels.{AreChannels, first_channel, owner_of}
 use Rattle.worm_flit.specs.SmallSet.{IsPut, has as has_small}
+use Rattle.worm_flit.proofs.SmallSets.{has_none}
 use Rattle.worm_flit.proofs.Owners.{owner-from_owns}
 use Rattle.worm_records.specs.declared.OutRecord.{OutRecord}
 use Rattle.worm_swalloc.specs.SwAlloc.{SwAllocState}
-use Rattle.worm_vcalloc.specs.ChannelSet.{has}
 use Rattle.worm_vcalloc.specs.VcAlloc.{VcAllocState}
-use Rattle.worm_vcalloc.proofs.SetMembers.{has-zero}
-use Rattle.worm_router.specs.Router.{RouterState, ChannelState, terminal, width, line, fresh_channel}
-use Rattle.worm_router.specs.Busy.{AreFull, AreOwners, IsFiled, IsFull, IsFullAt}
+use Rattle.worm_router.specs.Router.{RouterState, ChannelState, credit_of, terminal, width, line, fresh_channel}
+use Rattle.worm_router.specs.Busy.{AreFull, IsFull, IsWithout}
 use Rattle.worm_router.proofs.Accepted.{IsPut as IsTaken}
 use Rattle.worm_router.proofs.Masks.{class_ends}
 use Rattle.worm_router.proofs.Places.{IsInput}
@@ -45,129 +44,72 @@ first_within r class are class_in =
 
 -- none is in the empty set
 pub none_full : (r : RouterState) → AreFull r 0
-none_full r p v p_in v_in there = let no : true ≡ false = sym there ∙ has-zero p v in absurd (cc)
-
--- what is in a set that one channel was taken out of was in it before, and is another
-still_in : (old new port vc p v : ℕ) → IsFiled old new port vc false → p < 7 → v < 8 → has new p v ≡ true
-    → (has old p v ≡ true) × ((p ≡ port) → (v ≡ vc) → ⊥)
-still_in old new port vc p v filed p_in v_in there =
-    let away : (p ≡ port) → (v ≡ vc) → ⊥ = λ a b.
-    let no : true ≡ false = sym there ∙ ap (λ k. has new k v) a ∙ ap (λ k. has new port k) b ∙ filed.here in
-    absurd (cc) in
-    (sym (filed.elsewhere p v p_in v_in away) ∙ there, away)
-
-pub less_full : (r : RouterState) (old new port vc : ℕ) → IsFiled old new port vc false → AreFull r old → AreFull r new
-less_full r old new port vc filed those p v p_in v_in there =
-    those p v p_in v_in (still_in old new port vc p v filed p_in v_in there).0
-
--- the class that is kept of a channel in the set has a full injection buffer
-pub owner_full : (r : RouterState) (owners : List ℕ) (port vc class : ℕ) → AreChannels r.channels
-    → AreOwners r.channels owners → IsFullAt r port vc class → IsFull r (slice_index owners vc)
-owner_full r owners port vc class are owned full =
-    let within : vc < width r =
-    subst (λ k. k < width r) (sym full.first) (first_within r class are full.full.class_in) in
-    let owner : slice_index owners vc ≡ class =
-    owned.each vc within ∙ ap (owner_of r.channels) full.first ∙ first_owner r.channels class are full.full.class_in in
-    subst (IsFull r) (sym owner) full.full
-
--- and so has each class that is taken out of a set, where all that were taken out before have
-pub one_left_out : (r : RouterState) (classes old new class : ℕ) → IsPut old new class false → IsFull r class
-    → ((k : ℕ) → k < 8 → has_small classes k ≡ true → has_small old k ≡ false → IsFull r k)
-    → (k : ℕ) → k < 8 → has_small classes k ≡ true → has_small new k ≡ false → IsFull r k
-one_left_out r classes old new class put full gone k k_in there off = elim (cases_eq k class) [
-  | inl same ↦ subst (IsFull r) (sym same) full
-  | inr other ↦ gone k k_in there (sym (put.elsewhere k k_in other) ∙ off)
-]
-
-pub still_among : (classes old new class : ℕ) → IsPut old new class false
-    → ((k : ℕ) → k < 8 → has_small old k ≡ true → has_small classes k ≡ true)
-    → (k : ℕ) → k < 8 → has_small new k ≡ true → has_small classes k ≡ true
-still_among classes old new class put among k k_in there = elim (cases_eq k class) [
-  | inl same ↦ let no : true ≡ false = sym there ∙ ap (has_small new) same ∙ put.here in absurd (cc)
-  | inr other ↦ among k k_in (sym (put.elsewhere k k_in other) ∙ there)
-]
+none_full r class class_in there = let no : true ≡ false = sym there ∙ has_none 0 class refl in absurd (cc)
 
 -- one more is in it
-pub more_full : (r s : RouterState) (old new port vc : ℕ) → r ≡ s → port ≡ terminal s
-    → (class : ℕ) × IsFullAt s (terminal s) vc class → IsFiled old new port vc true → AreFull r old → AreFull r new
-more_full r s old new port vc same at full filed those p v p_in v_in there = elim (cases_eq p port) [
-  | inl a ↦ elim (cases_eq v vc) [
-    | inl b ↦ (
-      full.0,
-      subst (λ (q : RouterState). IsFullAt q p v full.0) (sym same)
-          (subst (λ k. IsFullAt s k v full.0) (sym (a ∙ at)) (subst (λ k. IsFullAt s (terminal s) k full.0) (sym b) full.1)),
-    )
-    | inr other ↦ those p v p_in v_in (sym (filed.elsewhere p v p_in v_in (λ _ b. other b)) ∙ there)
-  ]
-  | inr other ↦ those p v p_in v_in (sym (filed.elsewhere p v p_in v_in (λ a _. other a)) ∙ there)
+pub more_full : (r : RouterState) (old new class : ℕ) → IsFull r class → IsPut old new class true → AreFull r old
+    → AreFull r new
+more_full r old new class full put those k k_in there = elim (cases_eq k class) [
+  | inl same ↦ subst (IsFull r) (sym same) full
+  | inr other ↦ those k k_in (sym (put.elsewhere k k_in other) ∙ there)
 ]
 
 -- the same buffers, in a router of which something else has changed
 pub full_as : (r : RouterState) (outputs : List OutRecord) (a : VcAllocState) (s : SwAllocState) (old new : ℕ)
     → new ≡ old → AreFull r old
     → AreFull (record r { outputs = outputs; channel_alloc = a; switch_alloc = s }) new
-full_as r outputs a s old new same those p v p_in v_in there =
-    let was = those p v p_in v_in (ap (λ k. has k p v) (sym same) ∙ there) in (
-      was.0,
-      record {
-        terminal_port = was.1.terminal_port;
-        first = was.1.first;
-        full = record { class_in = was.1.full.class_in; no_room = was.1.full.no_room };
-      },
-    )
+full_as r outputs a s old new same those k k_in there =
+    let was = those k k_in (ap (λ set. has_small set k) (sym same) ∙ there) in
+    record { class_in = was.class_in; no_room = was.no_room }
 
 -- one input channel is written
 module _ (r : RouterState) (port vc i : ℕ) (had now : ChannelState) (input : IsInput r port vc i had)
     (outputs : List OutRecord) (old new : ℕ) where
-  -- where that is a full one in the set it is full as before
-  full_written : ((p v : ℕ) → p < 7 → v < 8 → has new p v ≡ true → has old p v ≡ true)
-      → ((p v class : ℕ) → p < 7 → v < 8 → has new p v ≡ true → IsFullAt r p v class → line r p v ≡ i
+  -- where a class is in the set whose flits are fed there, that is as full as before
+  full_written : ((k : ℕ) → k < 8 → has_small new k ≡ true → has_small old k ≡ true)
+      → ((k : ℕ) → has_small new k ≡ true → IsFull r k → line r (terminal r) (first_channel r.channels k) ≡ i
       → length had.buffer ≡ r.depth → length now.buffer ≡ r.depth)
       → AreFull r old → AreFull (record r { inputs = slice_set r.inputs i now; outputs = outputs }) new
-  full_written within stays those p v p_in v_in there =
-      let was = those p v p_in v_in (within p v p_in v_in there) in
-      let at = line r (terminal r) (first_channel r.channels was.0) in
-      let here : line r p v ≡ at =
-      ap (λ k. line r k v) was.1.terminal_port ∙ ap (λ k. line r (terminal r) k) was.1.first in (
-        was.0,
-        record {
-          terminal_port = was.1.terminal_port;
-          first = was.1.first;
-          full = record {
-            class_in = was.1.full.class_in;
-            no_room = elim (cases_eq at i) [
-              | inl same ↦
-                  let before : length had.buffer ≡ r.depth =
-                  ap (λ (c : ChannelState). length c.buffer) (input.was
-                  ∙ ap (λ k. slice_index_or r.inputs k (fresh_channel r.depth)) (sym same)) ∙ was.1.full.no_room in
-                  ap (λ (c : ChannelState). length c.buffer)
-                  (get_or-set_at r.inputs i at now (fresh_channel r.depth) same input.within)
-                  ∙ stays p v was.0 p_in v_in there was.1 (here ∙ same) before
-              | inr other ↦
-                  ap (λ (c : ChannelState). length c.buffer)
-                  (get_or-set_other r.inputs i at now (fresh_channel r.depth) other) ∙ was.1.full.no_room
-            ];
-          };
-        },
-      )
+  full_written within stays those k k_in there =
+      let was = those k k_in (within k k_in there) in
+      let at = line r (terminal r) (first_channel r.channels k) in
+      record {
+        class_in = was.class_in;
+        no_room = elim (cases_eq at i) [
+          | inl same ↦
+              let before : length had.buffer ≡ r.depth =
+              ap (λ (c : ChannelState). length c.buffer) (input.was
+              ∙ ap (λ k. slice_index_or r.inputs k (fresh_channel r.depth)) (sym same)) ∙ was.no_room in
+              ap (λ (c : ChannelState). length c.buffer)
+              (get_or-set_at r.inputs i at now (fresh_channel r.depth) same input.within)
+              ∙ stays k there was same before
+          | inr other ↦
+              ap (λ (c : ChannelState). length c.buffer)
+              (get_or-set_other r.inputs i at now (fresh_channel r.depth) other) ∙ was.no_room
+        ];
+      }
 
   -- a full buffer is as full as before
   pub full_stay : new ≡ old → (length had.buffer ≡ r.depth → length now.buffer ≡ r.depth) → AreFull r old
       → AreFull (record r { inputs = slice_set r.inputs i now; outputs = outputs }) new
   full_stay same stays those =
-      full_written (λ p v p_in v_in there. ap (λ k. has k p v) (sym same) ∙ there)
-      (λ p v class p_in v_in there known at. stays) those
+      full_written (λ k k_in there. ap (λ set. has_small set k) (sym same) ∙ there) (λ k there known at. stays) those
 
-  -- a flit has left it, and it is in the set no more
-  pub full_left : AreChannels r.channels → IsFiled old new port vc false → AreFull r old
+  -- a flit has left it: where that was fed, its class is in the set no more
+  pub full_left : (more : ℕ) → AreChannels r.channels → more ≡ credit_of r port
+      → IsWithout old new (owner_of r.channels vc) (more == 0) → AreFull r old
       → AreFull (record r { inputs = slice_set r.inputs i now; outputs = outputs }) new
-  full_left are filed those =
-      full_written (λ p v p_in v_in there. (still_in old new port vc p v filed p_in v_in there).0)
-      (λ p v class p_in v_in there known at.
-      let within : v < width r =
-      subst (λ k. k < width r) (sym known.first) (first_within r class are known.full.class_in) in
-      let place = same_from_place p v port vc (width r) within input.place.channel_in (at ∙ input.at) in
-      absurd ((still_in old new port vc p v filed p_in v_in there).1 place.0 place.1)) those
+  full_left more are costs without those =
+      full_written without.within
+      (λ k there known at.
+      let place = same_from_place (terminal r) (first_channel r.channels k) port vc (width r)
+      (first_within r k are known.class_in) input.place.channel_in (at ∙ input.at) in
+      let fed : (more == 0) ≡ true =
+      eq-eqb more 0 (costs ∙ ap (λ b. if b then 0 else 1) (eq-eqb port (terminal r) (sym place.0))) in
+      let owner : owner_of r.channels vc ≡ k =
+      ap (owner_of r.channels) (sym place.1) ∙ first_owner r.channels k are known.class_in in
+      let no : true ≡ false = sym there ∙ sym (ap (has_small new) owner) ∙ without.gone fed in
+      absurd (cc)) those
 
 -- no flit comes into a full buffer
 pub full_taken : (had now : ChannelState) (f : Flit) (came : Bool) (depth : ℕ) → IsTaken had now f came

@@ -1,9 +1,10 @@
 -- What a flit that left leaves of all that a router keeps.
 use Rattle.std.proofs.Common.{ℕ, ◌+◌, ◌-◌, ◌*◌, ◌≤◌, ◌<◌, ◌≡◌, ◌&&◌, ◌||◌, nat_lt, Bool, true, false, not}
 use Rattle.std.proofs.Common.{Option, None, Some, slice_set, slice_index_or, get_or, length, List, if◌then◌else◌}
-use Rattle.std.proofs.Common.{arith, inl, refl, ap, sym, subst, ◌∙◌}
+use Rattle.std.proofs.Common.{arith, inl, refl, ap, sym, subst, ◌∙◌, ◌==◌}
 use Rattle.std.proofs.lemmas.List.Elements.{All-set, All-get_or}
 use Rattle.worm_flit.specs.declared.Flit.{Flit}
+use Rattle.worm_flit.specs.Channels.{owner_of}
 use Rattle.worm_records.specs.declared.InRecord.TheVariants.{Idle, Active}
 use Rattle.worm_records.specs.declared.OutRecord.{OutRecord}
 use Rattle.worm_vcalloc.specs.ChannelSet.{has}
@@ -12,7 +13,7 @@ use Rattle.worm_router.specs.declared.busy.BusyChannels.{BusyChannels}
 use Rattle.worm_router.specs.Router.{RouterState, ChannelState, IsChannel, IsPlace, terminal, width, line, in_state}
 use Rattle.worm_router.specs.Router.{fresh_channel, free_output, input_at, output_at, leaving, credit_of}
 use Rattle.worm_router.specs.Demand.{DemandView}
-use Rattle.worm_router.specs.Busy.{IsKept, HasFront, IsFiled, is_occupied, is_waiting, owes, waits}
+use Rattle.worm_router.specs.Busy.{IsKept, IsWithout, HasFront, IsFiled, is_occupied, is_waiting, owes, waits}
 use Rattle.worm_router.proofs.Kept.{both_set_sound, left_by, left_sound, full_after, no_credit}
 use Rattle.worm_router.proofs.Places.{IsInput, IsOutput, input_of, output_of}
 use Rattle.worm_router.proofs.Filed.{busy_filed}
@@ -41,14 +42,14 @@ pub record IsLeaving (r : RouterState) (sets : BusyChannels) (port vc i out out_
   pub enough : spent ≤ had_out.credits
   pub may_owe : had.owed + more ≤ r.depth
 
-pub leaving_of : (r s : RouterState) (sets : BusyChannels) (asked : DemandView) (masks owners routes : List ℕ)
+pub leaving_of : (r s : RouterState) (sets : BusyChannels) (asked : DemandView) (masks routes : List ℕ)
     (port vc i out o : ℕ) (f : Flit) (had : ChannelState) (had_out : OutRecord) (spent more : ℕ)
-    → r ≡ s → IsKept r sets asked masks owners routes → IsPlace s port vc → leaving s port vc ≡ Some (out, f)
+    → r ≡ s → IsKept r sets asked masks routes → IsPlace s port vc → leaving s port vc ≡ Some (out, f)
     → i ≡ line s port vc → i < length s.inputs → had ≡ get_or r.inputs i had
     → o ≡ line s out f.vc → o < length s.outputs → had_out ≡ get_or r.outputs o had_out
     → spent ≡ credit_of s out → more ≡ credit_of s port
     → IsLeaving r sets port vc i out f.vc o had had_out spent more
-leaving_of r s sets asked masks owners routes port vc i out o f had had_out spent more same kept place leaves at within read
+leaving_of r s sets asked masks routes port vc i out o f had had_out spent more same kept place leaves at within read
     at_out within_out read_out spends owes_more =
     let may : leaving r port vc ≡ Some (out, f) = ap (λ (q : RouterState). leaving q port vc) same ∙ leaves in
     let input = input_of r s port vc i had same place at within read in
@@ -81,13 +82,13 @@ leaving_of r s sets asked masks owners routes port vc i out o f had had_out spen
     }
 
 -- its front is out, and filed so: all of it that is the same whether that closed the packet
-pub record IsOut (depth : ℕ) (sets mid : BusyChannels) (port vc : ℕ) (had gone : ChannelState) (f : Flit)
-    (more : ℕ) : Type 0 where
+pub record IsOut (depth : ℕ) (channels : List ℕ) (sets mid : BusyChannels) (port vc : ℕ) (had gone : ChannelState)
+    (f : Flit) (more : ℕ) : Type 0 where
   pub gone_is : gone ≡ left_by false had f more
   pub occupied : IsFiled sets.occupied mid.occupied port vc (is_occupied gone)
   pub owing : IsFiled sets.owing mid.owing port vc (owes gone)
   pub owes_all : IsFiled sets.owes_all mid.owes_all port vc (nat_lt depth (gone.owed + more))
-  pub full : IsFiled sets.full mid.full port vc false
+  pub full : IsWithout sets.full mid.full (owner_of channels vc) (more == 0)
   pub others : mid
       ≡ record sets { occupied = mid.occupied; owing = mid.owing; owes_all = mid.owes_all; full = mid.full }
 
@@ -101,15 +102,15 @@ record HasLeft (r : RouterState) (sets new : BusyChannels) (asked now_asked : De
   occupied : IsFiled sets.occupied new.occupied port vc (is_occupied now)
   owing : IsFiled sets.owing new.owing port vc (owes now)
   owes_all : IsFiled sets.owes_all new.owes_all port vc (nat_lt r.depth (now.owed + more))
-  full : IsFiled sets.full new.full port vc false
+  full : IsWithout sets.full new.full (owner_of r.channels vc) (more == 0)
   outs : new.outs ≡ (if closed then with_cell sets.outs port vc None else sets.outs)
   no_credit : IsFiled sets.no_credit new.no_credit port vc (not closed && nat_lt u.credits spent)
   requests : now_asked.requests ≡ asked.requests
   free : now_asked.free ≡ (if closed then with_cell asked.free out out_vc true else asked.free)
 
-module _ (r : RouterState) (sets new : BusyChannels) (asked now_asked : DemandView) (masks owners routes : List ℕ)
+module _ (r : RouterState) (sets new : BusyChannels) (asked now_asked : DemandView) (masks routes : List ℕ)
     (port vc i out out_vc o : ℕ) (had now : ChannelState) (had_out u : OutRecord) (f : Flit) (spent more : ℕ)
-    (closed : Bool) (kept : IsKept r sets asked masks owners routes)
+    (closed : Bool) (kept : IsKept r sets asked masks routes)
     (leaving : IsLeaving r sets port vc i out out_vc o had had_out spent more)
     (left : HasLeft r sets new asked now_asked port vc out out_vc had now had_out u f spent more closed) where
   state_now : now.state ≡ (if closed then Idle else had.state)
@@ -148,7 +149,7 @@ module _ (r : RouterState) (sets new : BusyChannels) (asked now_asked : DemandVi
       omega (arith, left.credits, had_full, none)
 
   left_kept : IsKept (record r { inputs = slice_set r.inputs i now; outputs = slice_set r.outputs o u })
-      new now_asked masks owners routes
+      new now_asked masks routes
   left_kept = record {
     router = record {
       lists = both_set_sound r.mesh r.node r.channels r.depth r.inputs r.outputs i o now u kept.router.lists sound_now
@@ -183,26 +184,25 @@ module _ (r : RouterState) (sets new : BusyChannels) (asked now_asked : DemandVi
     owes_all = owe_left r port vc i had now leaving.input kept.busy.few_ports kept.busy.few_channels
         (slice_set r.outputs o u) sets.owes_all new.owes_all more sound_now.owed_fits leaving.owes_more left.owes_all
         kept.owes_all;
-    full = full_left r port vc i had now leaving.input (slice_set r.outputs o u) sets.full new.full kept.classes.are
-        left.full kept.full;
+    full = full_left r port vc i had now leaving.input (slice_set r.outputs o u) sets.full new.full more kept.classes.are
+        leaving.owes_more left.full kept.full;
     classes = kept.classes;
-    owned_by = kept.owned_by;
     destinations = kept.destinations;
   }
 
-module _ (r : RouterState) (sets mid : BusyChannels) (asked : DemandView) (masks owners routes : List ℕ)
+module _ (r : RouterState) (sets mid : BusyChannels) (asked : DemandView) (masks routes : List ℕ)
     (port vc i out out_vc o : ℕ) (had gone : ChannelState) (had_out : OutRecord) (f : Flit) (spent more : ℕ)
-    (kept : IsKept r sets asked masks owners routes) (leaving : IsLeaving r sets port vc i out out_vc o had had_out spent more)
-    (is_out : IsOut r.depth sets mid port vc had gone f more) where
+    (kept : IsKept r sets asked masks routes) (leaving : IsLeaving r sets port vc i out out_vc o had had_out spent more)
+    (is_out : IsOut r.depth r.channels sets mid port vc had gone f more) where
   -- it closed its packet: both channels are free
   pub closed_kept : (now : ChannelState) (u : OutRecord) (outs : List (List (Option ℕ))) (now_asked : DemandView)
       → now ≡ in_state gone Idle → u ≡ record { holder = None; credits = had_out.credits - spent }
       → outs ≡ with_cell mid.outs port vc None
       → now_asked ≡ record asked { free = with_cell asked.free out out_vc true }
       → IsKept (record r { inputs = slice_set r.inputs i now; outputs = slice_set r.outputs o u })
-      (record mid { outs = outs }) now_asked masks owners routes
+      (record mid { outs = outs }) now_asked masks routes
   closed_kept now u outs now_asked now_is u_is outs_are asks =
-      left_kept r sets (record mid { outs = outs }) asked now_asked masks owners routes port vc i out out_vc o had now had_out
+      left_kept r sets (record mid { outs = outs }) asked now_asked masks routes port vc i out out_vc o had now had_out
       u f spent more true kept leaving (record {
         now_is = now_is ∙ ap (λ (c : ChannelState). in_state c Idle) is_out.gone_is;
         credits = ap (λ (w : OutRecord). w.credits) u_is;
@@ -226,9 +226,9 @@ module _ (r : RouterState) (sets mid : BusyChannels) (asked : DemandView) (masks
       → IsKept (record r {
         inputs = slice_set r.inputs i gone;
         outputs = slice_set r.outputs o (record had_out { credits = had_out.credits - spent });
-      }) (record mid { no_credit = no_credit }) asked masks owners routes
+      }) (record mid { no_credit = no_credit }) asked masks routes
   followed_kept no_credit filed =
-      left_kept r sets (record mid { no_credit = no_credit }) asked asked masks owners routes port vc i out out_vc o had gone
+      left_kept r sets (record mid { no_credit = no_credit }) asked asked masks routes port vc i out out_vc o had gone
       had_out (record had_out { credits = had_out.credits - spent }) f spent more false kept leaving (record {
         now_is = is_out.gone_is;
         credits = refl;

@@ -1,8 +1,9 @@
 -- Which input channels have something to do: the sets that a router keeps beside its lists, so that a turn skips all
 -- others.
 use Rattle.std.specs.Prelude.{ℕ, ◌+◌, ◌*◌, ◌<◌, ◌≤◌, ◌≡◌, ◌==◌, ◌&&◌, ◌||◌, nat_lt, Bool, true, false, List, length}
-use Rattle.std.specs.Prelude.{sum, slice_index, slice_index_or, All, Option, Some, None, is_some, not}
-use Rattle.worm_flit.specs.Channels.{AreChannels, class_bits, first_channel, owner_of}
+use Rattle.std.specs.Prelude.{slice_index, slice_index_or, All, Option, Some, None, is_some, not}
+use Rattle.worm_flit.specs.Channels.{AreChannels, class_bits, first_channel}
+use Rattle.worm_flit.specs.SmallSet.{has as has_small}
 use Rattle.worm_mesh.specs.Address.{node_count}
 use Rattle.worm_route.specs.Route.{port_of}
 use Rattle.worm_records.specs.declared.InRecord.{InRecord}
@@ -112,15 +113,14 @@ pub record IsFull (r : RouterState) (class : ℕ) : Type 0 where
   pub class_in : class < length r.channels
   pub no_room : length (input_at r (terminal r) (first_channel r.channels class)).buffer ≡ r.depth
 
--- on this channel of the terminal port a class is fed whose injection buffer is full
-pub record IsFullAt (r : RouterState) (port vc class : ℕ) : Type 0 where
-  pub terminal_port : port ≡ terminal r
-  pub first : vc ≡ first_channel r.channels class
-  pub full : IsFull r class
-
--- a set has no other channels than such
+-- a set has no classes but those whose injection buffer is full
 abbrev pub AreFull : RouterState → ℕ → Type 0
-AreFull r set = (p v : ℕ) → p < 7 → v < 8 → has set p v ≡ true → (class : ℕ) × IsFullAt r p v class
+AreFull r set = (class : ℕ) → class < 8 → has_small set class ≡ true → IsFull r class
+
+-- no class has come into a set, and this one is not in it, if it `goes`
+pub record IsWithout (old new class : ℕ) (goes : Bool) : Type 0 where
+  pub within : (k : ℕ) → k < 8 → has_small new k ≡ true → has_small old k ≡ true
+  pub gone : goes ≡ true → has_small new class ≡ false
 
 -- the output port whose channel an input channel holds
 abbrev pub port_held : InRecord → Option ℕ
@@ -138,11 +138,6 @@ pub record AreMasks (channels masks : List ℕ) : Type 0 where
   pub four : length masks ≡ 4
   pub each : (class : ℕ) → class < 4 → slice_index masks class ≡ class_bits channels class
 
--- the class of each channel
-pub record AreOwners (channels owners : List ℕ) : Type 0 where
-  pub eight : length owners ≡ 8
-  pub each : (channel : ℕ) → channel < sum channels → slice_index owners channel ≡ owner_of channels channel
-
 -- the output port of the route from a node to each node of the mesh
 pub record AreRoutes (mesh : List ℕ) (node : ℕ) (routes : List ℕ) : Type 0 where
   pub all : length routes ≡ node_count mesh
@@ -158,9 +153,8 @@ pub record HasArbiters (s : SwAllocState) : Type 0 where
 abbrev pub HasFront : ChannelState → Type 0
 HasFront c = is_waiting c ≡ true → is_occupied c ≡ true
 
--- what a router keeps: what contracts see, and the sets, the requests, the masks of classes, the classes of channels
--- and the routes beside it
-pub record IsKept (r : RouterState) (sets : BusyChannels) (asked : DemandView) (masks owners routes : List ℕ) : Type 0 where
+-- what a router keeps: what contracts see, and the sets, the requests, the masks of classes and the routes beside it
+pub record IsKept (r : RouterState) (sets : BusyChannels) (asked : DemandView) (masks routes : List ℕ) : Type 0 where
   pub router : IsRouter r
   pub arbiters : HasArbiters r.switch_alloc
   pub busy : AreBusy (terminal r) (width r) r.depth r.inputs sets
@@ -172,5 +166,4 @@ pub record IsKept (r : RouterState) (sets : BusyChannels) (asked : DemandView) (
   pub owes_all : OweAll r sets.owes_all
   pub full : AreFull r sets.full
   pub classes : AreMasks r.channels masks
-  pub owned_by : AreOwners r.channels owners
   pub destinations : AreRoutes r.mesh r.node routes

@@ -1,8 +1,10 @@
-ghost use Rattle.std.specs.Prelude.{◌≡◌, ◌<◌, ◌||◌, true, false, None, IfSome, MatchOption, replicate};
+ghost use Rattle.std.specs.Prelude.{◌≡◌, ◌<◌, ◌||◌, true, false, None, IfSome, MatchOption, replicate, sum};
 ghost use Rattle.worm_vcalloc.specs.ChannelSet.{has};
-ghost use Rattle.worm_router.specs.Busy.{AreReady, IsFiled, is_occupied, owes};
+ghost use Rattle.worm_flit.specs.Channels.{AreChannels, owner_of};
+ghost use Rattle.worm_router.specs.Busy.{AreReady, IsFiled, IsWithout, is_occupied, owes};
 
 use crate::channel::InputChannel;
+use worm_flit::{ClassChannels, SmallSet};
 use worm_swalloc::ReadyOuts;
 use worm_vcalloc::ChannelSet;
 
@@ -19,9 +21,8 @@ pub struct BusyChannels {
     pub occupied: ChannelSet,
     /// Those that owe a credit.
     pub owing: ChannelSet,
-    /// Those of the terminal port on which a class is fed and whose buffer is known to be full, so that its flits are
-    /// not tried.
-    pub full: ChannelSet,
+    /// The classes whose injection buffer is known to be full, so that a turn tries none of their flits.
+    pub full: SmallSet,
 }
 
 impl BusyChannels {
@@ -42,7 +43,7 @@ impl BusyChannels {
             owes_all: ChannelSet::new(),
             occupied: ChannelSet::new(),
             owing: ChannelSet::new(),
-            full: ChannelSet::new(),
+            full: SmallSet::new(),
         }
     }
 
@@ -70,8 +71,7 @@ impl BusyChannels {
     }
 
     /// Files a channel that has let a flit out, so that it had one and might owe more: whether it has one more, whether
-    /// it owes a credit, as one that did before or that owes `one_more`, and whether that is `all` that it may owe. Its
-    /// buffer has room.
+    /// it owes a credit, as one that did before or that owes `one_more`, and whether that is `all` that it may owe.
     pub fn file_left(&mut self, port: u8, vc: u8, channel: &InputChannel, one_more: bool, all: bool)
         requires port { port < 7 }
         requires vc { vc < 8 }
@@ -81,20 +81,29 @@ impl BusyChannels {
         ensures occupied { IsFiled self.old.occupied self.new.occupied port vc (is_occupied channel.now) }
         ensures owing { IsFiled self.old.owing self.new.owing port vc (owes channel.now) }
         ensures owes_all { IsFiled self.old.owes_all self.new.owes_all port vc all }
-        ensures full { IsFiled self.old.full self.new.full port vc false }
         ensures others { self.new ≡ record self.old {
           occupied = self.new.occupied;
           owing = self.new.owing;
           owes_all = self.new.owes_all;
-          full = self.new.full;
         } }
     {
         self.occupied.remove_if(port, vc, !channel.is_occupied());
         // Who owed before owes still, so this needs no look at the count.
         self.owing.insert_if(port, vc, one_more);
         self.owes_all.insert_if(port, vc, all);
-        // At each port, since a test whether it is the terminal one costs more than a write.
-        self.full.put(port, vc, false);
+    }
+
+    /// Files that a flit has left this channel, and its class an injection buffer with room, if it was `fed` there.
+    pub fn file_room(&mut self, classes: &ClassChannels, vc: u8, fed: bool)
+        requires classes { AreChannels classes.now }
+        requires channel { vc < sum classes.now }
+        ensures gone { IsWithout self.old.full self.new.full (owner_of classes.now vc) fed }
+        ensures others { self.new ≡ record self.old { full = self.new.full } }
+    {
+        // Mostly none is known to be full.
+        if fed && !self.full.is_empty() {
+            self.full.put(classes.owner(vc), false);
+        }
     }
 
     /// Files a channel whose credit, one that it owed, has gone out: it may owe one more.

@@ -20,7 +20,7 @@ use crate::busy::BusyChannels;
 use crate::channel::InputChannel;
 use crate::demand::Demand;
 use crate::fault::{RouterFault, TooMany};
-use crate::router::fresh::{channel_owners, class_masks, make_inputs, make_outputs, make_routes};
+use crate::router::fresh::{class_masks, make_inputs, make_outputs, make_routes};
 use std::alloc::Global;
 use std::marker::Model;
 use worm_flit::{ClassChannels, Flit, is_closing, is_opening};
@@ -50,8 +50,6 @@ pub struct Router {
     classes: ClassChannels,
     /// The channels of each class, as `ClassChannels::mask` tells them.
     masks: [u8; 4],
-    /// The class of each channel.
-    owners: [u8; 8],
     /// How many flits each buffer holds, 1 to 16.
     depth: u8,
     /// The output port of the route to each node.
@@ -80,7 +78,7 @@ impl Model for Router {
         r.switch_alloc };
 
     ghost invariant = { λ r. IsKept (router_state r.mesh r.node r.classes r.depth r.inputs.items r.outputs.items
-        r.channel_alloc r.switch_alloc) r.busy r.demand r.masks r.owners r.routes.items };
+        r.channel_alloc r.switch_alloc) r.busy r.demand r.masks r.routes.items };
 }
 
 impl Router {
@@ -100,7 +98,6 @@ impl Router {
     {
         let classes = ClassChannels::new(channels);
         let masks = class_masks(&classes);
-        let owners = channel_owners(&classes);
         let ports = 2 * mesh.dims() + 1;
         let total = classes.total();
         let count = usize::from(ports) * usize::from(total);
@@ -112,7 +109,6 @@ impl Router {
             node,
             classes,
             masks,
-            owners,
             depth,
             routes,
             inputs,
@@ -432,6 +428,7 @@ impl Router {
         let owes_all = channel.owed() + more_owed > self.depth;
         self.busy
             .file_left(port, vc, channel, more_owed > 0, owes_all);
+        self.busy.file_room(&self.classes, vc, more_owed == 0);
         if is_closing(flit.kind) {
             channel.close();
             output.release();

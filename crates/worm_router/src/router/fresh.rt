@@ -3,7 +3,7 @@
 ghost use Rattle.std.specs.Prelude.{◌≡◌, ◌≤◌, ◌<◌, length, IfOk, replicate};
 ghost use Rattle.worm_flit.specs.Channels.{AreChannels};
 ghost use Rattle.worm_mesh.specs.Address.{node_count};
-ghost use Rattle.worm_router.specs.Busy.{AreMasks, AreOwners, AreRoutes};
+ghost use Rattle.worm_router.specs.Busy.{AreMasks, AreRoutes};
 ghost use Rattle.worm_router.specs.Router.{fresh_channel, free_output};
 
 use crate::channel::InputChannel;
@@ -69,15 +69,4 @@ pub(super) fn class_masks(classes: &ClassChannels) -> [u8; 4]
         masks[usize::from(class)] = classes.mask(class);
     }
     masks
-}
-
-/// The class of each channel.
-pub(super) fn channel_owners(classes: &ClassChannels) -> [u8; 8]
-    ensures { AreOwners classes.now result }
-{
-    let mut owners = [0u8; 8];
-    for channel in 0..classes.total() {
-        owners[usize::from(channel)] = classes.owner(channel);
-    }
-    owners
 }

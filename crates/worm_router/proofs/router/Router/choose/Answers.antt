@@ -39,7 +39,6 @@ invariant_of-self c = record {
   owes_all = record { each = c.self.invariant.owes_all.each };
   full = full_as _ _ _ _ _ _ refl c.self.invariant.full;
   classes = c.self.invariant.classes;
-  owned_by = c.self.invariant.owned_by;
   destinations = c.self.invariant.destinations;
 }
 
@@ -47,7 +46,7 @@ invariant_of-self c = record {
 told : (c : goal.After-grant) → c.new-ready.result ≡ ready_outs (here c)
 told c =
     c.new-ready.ensures
-    ∙ ready_table (here c) _ _ _ _ _ c.ready-among.result c.self.invariant c.ready-among.ensures
+    ∙ ready_table (here c) _ _ _ _ c.ready-among.result c.self.invariant c.ready-among.ensures
 
 pub returns-clause-grants : goal.returns-clause-grants
 returns-clause-grants c =

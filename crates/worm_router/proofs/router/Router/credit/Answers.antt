@@ -49,7 +49,6 @@ invariant_of-self c =
       holders = holders_out _ _ _ _ _ _ output
           (ap (λ (u : OutRecord). u.holder) c.add_credit.ensures) c.self.invariant.holders;
       classes = c.self.invariant.classes;
-      owned_by = c.self.invariant.owned_by;
       destinations = c.self.invariant.destinations;
       outs = ap (λ (b : BusyChannels). b.outs) c.file_credit.ensures.others ∙ c.self.invariant.outs;
       no_credit = lack_credited _ _ _ _ _ _ output (ap (λ (u : OutRecord). u.credits) c.add_credit.ensures)

@@ -51,7 +51,6 @@ invariant_of-self c =
           (λ o k holds. sym (ap (λ (x : ChannelState). x.state) c.give.ensures) ∙ holds)
           (λ o k holds. ap (λ (x : ChannelState). x.state) c.give.ensures ∙ holds) c.self.invariant.holders;
       classes = c.self.invariant.classes;
-      owned_by = c.self.invariant.owned_by;
       destinations = c.self.invariant.destinations;
       outs = ap (λ (b : BusyChannels). b.outs) c.file_given.ensures.others
           ∙ outs_kept _ _ _ _ _ _ input _ (ap (λ (x : ChannelState). port_held x.state) c.give.ensures)

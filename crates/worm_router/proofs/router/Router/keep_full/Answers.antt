@@ -1,7 +1,14 @@
-use Rattle.std.proofs.Common.{refl}
-use Rattle.worm_router.proofs.Filed.{busy_as, filed}
+use Rattle.std.proofs.Common.{◌<◌, arith, refl, subst, sym}
+use Rattle.worm_router.specs.Router.{RouterState}
+use Rattle.worm_router.specs.Busy.{IsFull}
+use Rattle.worm_router.proofs.Filed.{busy_as}
 use Rattle.worm_router.proofs.FullBuffers.{more_full}
 use Rattle.worm_router.proofs.router.Router.keep_full.Goals as goal
+
+pub put-requires : goal.put-requires
+put-requires c =
+    let full = subst (λ (r : RouterState). IsFull r c.args.class) (sym c.self.view_is) c.requires in
+    omega (arith, full.class_in, c.self.invariant.classes.are.few)
 
 pub invariant_of-self : goal.invariant_of-self
 invariant_of-self c = record {
@@ -14,9 +21,8 @@ invariant_of-self c = record {
   outs = c.self.invariant.outs;
   no_credit = c.self.invariant.no_credit;
   owes_all = c.self.invariant.owes_all;
-  full = more_full _ c.args.self.now _ _ _ _ c.self.view_is c.terminal-terminal.ensures.value c.requires
-      (filed _ _ _ _ _ c.put.ensures) c.self.invariant.full;
+  full = more_full _ _ _ _ (subst (λ (r : RouterState). IsFull r c.args.class) (sym c.self.view_is) c.requires)
+      c.put.ensures c.self.invariant.full;
   classes = c.self.invariant.classes;
-  owned_by = c.self.invariant.owned_by;
   destinations = c.self.invariant.destinations;
 }

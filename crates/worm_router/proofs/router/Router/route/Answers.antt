@@ -76,7 +76,6 @@ invariant_of-self c =
           (λ o k holds. let unlike = sym (ap (λ (x : ChannelState). x.state) c.route_to.ensures) ∙ holds in
           absurd (cc)) (λ o k holds. let unlike = sym was_idle ∙ holds in absurd (cc)) c.self.invariant.holders;
       classes = c.self.invariant.classes;
-      owned_by = c.self.invariant.owned_by;
       destinations = c.self.invariant.destinations;
       outs = outs_kept _ _ _ _ _ _ input _ (ap (λ (x : ChannelState). port_held x.state) c.route_to.ensures
           ∙ sym (ap port_held was_idle)) c.self.invariant.outs;
