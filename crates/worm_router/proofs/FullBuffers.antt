@@ -119,10 +119,10 @@ full_as r outputs a s old new same those p v p_in v_in there =
 -- one input channel is written
 module _ (r : RouterState) (port vc i : ℕ) (had now : ChannelState) (input : IsInput r port vc i had)
     (outputs : List OutRecord) (old new : ℕ) where
-  -- where that is a full one in the set it is full as before
+  -- where that is a full one in the set it has no room as before
   full_written : ((p v : ℕ) → p < 7 → v < 8 → has new p v ≡ true → has old p v ≡ true)
       → ((p v class : ℕ) → p < 7 → v < 8 → has new p v ≡ true → IsFullAt r p v class → line r p v ≡ i
-      → length had.buffer ≡ r.depth → length now.buffer ≡ r.depth)
+      → r.depth ≤ length had.buffer → r.depth ≤ length now.buffer)
       → AreFull r old → AreFull (record r { inputs = slice_set r.inputs i now; outputs = outputs }) new
   full_written within stays those p v p_in v_in there =
       let was = those p v p_in v_in (within p v p_in v_in there) in
@@ -137,26 +137,31 @@ module _ (r : RouterState) (port vc i : ℕ) (had now : ChannelState) (input : I
             class_in = was.1.full.class_in;
             no_room = elim (cases_eq at i) [
               | inl same ↦
-                  let before : length had.buffer ≡ r.depth =
-                  ap (λ (c : ChannelState). length c.buffer) (input.was
-                  ∙ ap (λ k. slice_index_or r.inputs k (fresh_channel r.depth)) (sym same)) ∙ was.1.full.no_room in
-                  ap (λ (c : ChannelState). length c.buffer)
-                  (get_or-set_at r.inputs i at now (fresh_channel r.depth) same input.within)
-                  ∙ stays p v was.0 p_in v_in there was.1 (here ∙ same) before
+                  let read : slice_index_or r.inputs at (fresh_channel r.depth) ≡ had =
+                  ap (λ k. slice_index_or r.inputs k (fresh_channel r.depth)) same ∙ sym input.was in
+                  subst (λ (c : ChannelState). r.depth ≤ length c.buffer)
+                  (sym (get_or-set_at r.inputs i at now (fresh_channel r.depth) same input.within))
+                  (stays p v was.0 p_in v_in there was.1 (here ∙ same)
+                  (subst (λ (c : ChannelState). r.depth ≤ length c.buffer) read was.1.full.no_room))
               | inr other ↦
-                  ap (λ (c : ChannelState). length c.buffer)
-                  (get_or-set_other r.inputs i at now (fresh_channel r.depth) other) ∙ was.1.full.no_room
+                  subst (λ (c : ChannelState). r.depth ≤ length c.buffer)
+                  (sym (get_or-set_other r.inputs i at now (fresh_channel r.depth) other)) was.1.full.no_room
             ];
           };
         },
       )
 
-  -- a full buffer is as full as before
-  pub full_stay : new ≡ old → (length had.buffer ≡ r.depth → length now.buffer ≡ r.depth) → AreFull r old
+  -- one without room has none as before
+  pub full_stay : new ≡ old → (r.depth ≤ length had.buffer → r.depth ≤ length now.buffer) → AreFull r old
       → AreFull (record r { inputs = slice_set r.inputs i now; outputs = outputs }) new
   full_stay same stays those =
       full_written (λ p v p_in v_in there. ap (λ k. has k p v) (sym same) ∙ there)
       (λ p v class p_in v_in there known at. stays) those
+
+  -- it has the flits that it had
+  pub full_kept : new ≡ old → now.buffer ≡ had.buffer → AreFull r old
+      → AreFull (record r { inputs = slice_set r.inputs i now; outputs = outputs }) new
+  full_kept same flits = full_stay same (subst (λ (fs : List Flit). r.depth ≤ length fs) (sym flits))
 
   -- a flit has left it, and it is in the set no more
   pub full_left : AreChannels r.channels → IsFiled old new port vc false → AreFull r old
@@ -171,9 +176,10 @@ module _ (r : RouterState) (port vc i : ℕ) (had now : ChannelState) (input : I
 
 -- no flit comes into a full buffer
 pub full_taken : (had now : ChannelState) (f : Flit) (came : Bool) (depth : ℕ) → IsTaken had now f came
-    → had.depth ≡ depth → length had.buffer ≡ depth → length now.buffer ≡ depth
+    → had.depth ≡ depth → depth ≤ length had.buffer → depth ≤ length now.buffer
 full_taken had now f true depth taken same full =
     let room = taken.room in
     let free : length had.buffer < had.depth = grind (arith, nat_tests) in
     absurd (omega arith)
-full_taken had now f false depth taken same full = ap (λ (c : ChannelState). length c.buffer) taken.after ∙ full
+full_taken had now f false depth taken same full =
+    subst (λ (c : ChannelState). depth ≤ length c.buffer) (sym taken.after) full

@@ -2,7 +2,8 @@ use Rattle.std.proofs.Common.{◌+◌, nat_lt, ℕ, Option, ap, ◌∙◌, subst
 use Rattle.std.specs.Prelude.{is_some}
 use Rattle.worm_router.specs.Busy.{IsFiled}
 use Rattle.worm_router.proofs.Filed.{filed}
-use Rattle.worm_router.specs.Router.{RouterState, ChannelState, router_state}
+use Rattle.worm_router.specs.Router.{ChannelState, IsRouter, RouterState, router_state}
+use Rattle.worm_router.proofs.Leaving.{may_leave}
 use Rattle.worm_router.proofs.Left.{IsLeaving, IsOut, leaving_of, closed_kept, followed_kept}
 use Rattle.worm_router.proofs.router.Router.let_out.Goals.{After-index_mut-output, After-file_left}
 use Rattle.worm_router.proofs.router.Router.let_out.Goals as goal
@@ -25,6 +26,12 @@ leaves c =
     c.line-i.ensures.value c.line-i.ensures.in_inputs c.index_mut-channel.ensures.value
     c.line-o.ensures.value c.line-o.ensures.in_outputs c.index_mut-output.ensures.value c.credit_of-spent.ensures.value
     c.credit_of-more_owed.ensures.value
+
+pub line-o-requires : goal.line-o-requires
+line-o-requires c =
+    let there = may_leave c.args.self.now c.args.port c.args.vc (c.args.out, c.args.flit)
+    (subst IsRouter c.self.view_is c.self.invariant.router) c.requires.place c.requires.ready in
+    record { port_in = there.out_in; channel_in = there.channel_in }
 
 pub file_left-requires-clause-had : goal.file_left-requires-clause-had
 file_left-requires-clause-had c = (leaves (goal.at.file_left-requires-clause-had c).After-index_mut-output).has_flit
