@@ -65,10 +65,10 @@ full_as r outputs a s old new same those k k_in there =
 -- one input channel is written
 module _ (r : RouterState) (port vc i : ℕ) (had now : ChannelState) (input : IsInput r port vc i had)
     (outputs : List OutRecord) (old new : ℕ) where
-  -- where a class is in the set whose flits are fed there, that is as full as before
+  -- where a class is in the set whose flits are fed there, that has no room as before
   full_written : ((k : ℕ) → k < 8 → has_small new k ≡ true → has_small old k ≡ true)
       → ((k : ℕ) → has_small new k ≡ true → IsFull r k → line r (terminal r) (first_channel r.channels k) ≡ i
-      → length had.buffer ≡ r.depth → length now.buffer ≡ r.depth)
+      → r.depth ≤ length had.buffer → r.depth ≤ length now.buffer)
       → AreFull r old → AreFull (record r { inputs = slice_set r.inputs i now; outputs = outputs }) new
   full_written within stays those k k_in there =
       let was = those k k_in (within k k_in there) in
@@ -77,23 +77,27 @@ module _ (r : RouterState) (port vc i : ℕ) (had now : ChannelState) (input : I
         class_in = was.class_in;
         no_room = elim (cases_eq at i) [
           | inl same ↦
-              let before : length had.buffer ≡ r.depth =
-              ap (λ (c : ChannelState). length c.buffer) (input.was
-              ∙ ap (λ k. slice_index_or r.inputs k (fresh_channel r.depth)) (sym same)) ∙ was.no_room in
-              ap (λ (c : ChannelState). length c.buffer)
-              (get_or-set_at r.inputs i at now (fresh_channel r.depth) same input.within)
-              ∙ stays k there was same before
+              let read : slice_index_or r.inputs at (fresh_channel r.depth) ≡ had =
+              ap (λ j. slice_index_or r.inputs j (fresh_channel r.depth)) same ∙ sym input.was in
+              subst (λ (c : ChannelState). r.depth ≤ length c.buffer)
+              (sym (get_or-set_at r.inputs i at now (fresh_channel r.depth) same input.within))
+              (stays k there was same (subst (λ (c : ChannelState). r.depth ≤ length c.buffer) read was.no_room))
           | inr other ↦
-              ap (λ (c : ChannelState). length c.buffer)
-              (get_or-set_other r.inputs i at now (fresh_channel r.depth) other) ∙ was.no_room
+              subst (λ (c : ChannelState). r.depth ≤ length c.buffer)
+              (sym (get_or-set_other r.inputs i at now (fresh_channel r.depth) other)) was.no_room
         ];
       }
 
-  -- a full buffer is as full as before
-  pub full_stay : new ≡ old → (length had.buffer ≡ r.depth → length now.buffer ≡ r.depth) → AreFull r old
+  -- one without room has none as before
+  pub full_stay : new ≡ old → (r.depth ≤ length had.buffer → r.depth ≤ length now.buffer) → AreFull r old
       → AreFull (record r { inputs = slice_set r.inputs i now; outputs = outputs }) new
   full_stay same stays those =
       full_written (λ k k_in there. ap (λ set. has_small set k) (sym same) ∙ there) (λ k there known at. stays) those
+
+  -- it has the flits that it had
+  pub full_kept : new ≡ old → now.buffer ≡ had.buffer → AreFull r old
+      → AreFull (record r { inputs = slice_set r.inputs i now; outputs = outputs }) new
+  full_kept same flits = full_stay same (subst (λ (fs : List Flit). r.depth ≤ length fs) (sym flits))
 
   -- a flit has left it: where that was fed, its class is in the set no more
   pub full_left : (more : ℕ) → AreChannels r.channels → more ≡ credit_of r port
@@ -113,9 +117,10 @@ module _ (r : RouterState) (port vc i : ℕ) (had now : ChannelState) (input : I
 
 -- no flit comes into a full buffer
 pub full_taken : (had now : ChannelState) (f : Flit) (came : Bool) (depth : ℕ) → IsTaken had now f came
-    → had.depth ≡ depth → length had.buffer ≡ depth → length now.buffer ≡ depth
+    → had.depth ≡ depth → depth ≤ length had.buffer → depth ≤ length now.buffer
 full_taken had now f true depth taken same full =
     let room = taken.room in
     let free : length had.buffer < had.depth = grind (arith, nat_tests) in
     absurd (omega arith)
-full_taken had now f false depth taken same full = ap (λ (c : ChannelState). length c.buffer) taken.after ∙ full
+full_taken had now f false depth taken same full =
+    subst (λ (c : ChannelState). depth ≤ length c.buffer) (sym taken.after) full

@@ -111,7 +111,7 @@ OweAll r set = AreThose (λ p c. owes_all r p c.owed) r set
 -- the injection buffer of a class is full: its flits are fed on its first channel
 pub record IsFull (r : RouterState) (class : ℕ) : Type 0 where
   pub class_in : class < length r.channels
-  pub no_room : length (input_at r (terminal r) (first_channel r.channels class)).buffer ≡ r.depth
+  pub no_room : r.depth ≤ length (input_at r (terminal r) (first_channel r.channels class)).buffer
 
 -- a set has no classes but those whose injection buffer is full
 abbrev pub AreFull : RouterState → ℕ → Type 0

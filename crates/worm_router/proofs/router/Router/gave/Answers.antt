@@ -1,4 +1,4 @@
-use Rattle.std.proofs.Common.{◌<◌, length, subst, arith, sym, ap, ◌∙◌, inl, inr}
+use Rattle.std.proofs.Common.{◌<◌, subst, arith, sym, ap, ◌∙◌, inl, inr}
 use Rattle.worm_router.specs.Router.{ChannelState}
 use Rattle.std.proofs.lemmas.List.Elements.{All-set, All-get_or}
 use Rattle.worm_router.specs.Allocation.{asking}
@@ -12,7 +12,7 @@ use Rattle.worm_router.proofs.Holders.{holders_in}
 use Rattle.worm_router.proofs.HeldOuts.{outs_kept}
 use Rattle.worm_router.proofs.LackCredit.{lack_stay}
 use Rattle.worm_router.proofs.OweAll.{owe_given}
-use Rattle.worm_router.proofs.FullBuffers.{full_stay}
+use Rattle.worm_router.proofs.FullBuffers.{full_kept}
 use Rattle.worm_router.proofs.router.Router.gave.Goals as goal
 
 pub invariant_of-self : goal.invariant_of-self
@@ -61,6 +61,6 @@ invariant_of-self c =
       owes_all = owe_given _ _ _ _ _ _ input c.self.invariant.busy.few_ports c.self.invariant.busy.few_channels _ _ _
           (ap (λ (x : ChannelState). x.owed) c.give.ensures) (omega (arith, owed_some)) had.owed_fits
           c.file_given.ensures.owes_all c.self.invariant.owes_all;
-      full = full_stay _ _ _ _ _ _ input _ _ _ (ap (λ (b : BusyChannels). b.full) c.file_given.ensures.others)
-          (λ full. ap (λ (x : ChannelState). length x.buffer) c.give.ensures ∙ full) c.self.invariant.full;
+      full = full_kept _ _ _ _ _ _ input _ _ _ (ap (λ (b : BusyChannels). b.full) c.file_given.ensures.others)
+          (ap (λ (x : ChannelState). x.buffer) c.give.ensures) c.self.invariant.full;
     }

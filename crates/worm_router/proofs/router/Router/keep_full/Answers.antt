@@ -1,4 +1,4 @@
-use Rattle.std.proofs.Common.{◌<◌, arith, refl, subst, sym}
+use Rattle.std.proofs.Common.{arith, refl, subst, sym}
 use Rattle.worm_router.specs.Router.{RouterState}
 use Rattle.worm_router.specs.Busy.{IsFull}
 use Rattle.worm_router.proofs.Filed.{busy_as}
