@@ -1,27 +1,34 @@
 -- What a source has to feed, class by class.
-use Rattle.std.proofs.Common.{◌≡◌, ℕ, ◌<◌, ◌≤◌, false, inl, inr, length, List, None, Some, Option, refl}
-use Rattle.std.proofs.Common.{arith, ap, sym, ◌∙◌}
+use Rattle.std.proofs.Common.{◌≡◌, ℕ, ◌<◌, ◌≤◌, ◌∷◌, [], false, inl, inr, length, List, None, Some, Option, refl}
+use Rattle.std.proofs.Common.{arith, ap, get_or, length-append, nat_lt, set, subst, sym, true, Bool, ◌∙◌}
 use Rattle.std.specs.Prelude.{Result, is_some, option_map}
-use Rattle.std.proofs.lemmas.Bool.{cases_lt}
-use Rattle.std.proofs.lemmas.List.{get_or-set_other, get_or-set_same, get_or_past}
+use Rattle.std.proofs.lemmas.Bool.{cases_eq, cases_lt}
+use Rattle.std.proofs.lemmas.Bool.Decides.{nat_tests}
+use Rattle.std.proofs.lemmas.Grind.{get_or-set_at}
+use Rattle.std.proofs.lemmas.List.{get_or-set_other, get_or-set_same, get_or_past, set_past}
 use Rattle.worm_flit.specs.declared.Flit.{Flit}
 use Rattle.worm_flit.specs.Channels.{first_channel}
+use Rattle.worm_flit.specs.SmallSet.{has as has_small}
 use Rattle.worm_flit.specs.Stamps.{with_channel}
 use Rattle.worm_mesh.specs.Address.{node_count}
 use Rattle.worm_theory.specs.Steps.{Feed}
+use Rattle.worm_router.specs.Router.{ChannelState, RouterState, after_accept, fresh_channel, input_at, line, put_in}
 use Rattle.worm_router.specs.Router.{terminal}
+use Rattle.worm_router.specs.Busy.{IsFull}
 use Rattle.worm_term.specs.Queue.{QueueState, empty_queue, one_fed, waiting}
 use Rattle.worm_term.specs.Source.{AreUnfed, SourceState, after_fed, front_of, queue_at}
 use Rattle.worm_region.specs.Shape.{net_shape}
 use Rattle.worm_region.specs.State.{NetState, fresh_node, node_at, router_at, source_at, with_node}
-use Rattle.worm_region.specs.Moves.{CoversNumbers, NoFeed, can_enter, fed_node}
+use Rattle.worm_region.specs.Moves.{AreToFeed, CoversNumbers, NoFeed, can_enter, fed_node}
 use Rattle.worm_region.specs.Workable.{IsWorkable}
 use Rattle.worm_region.specs.Replies.{Replies}
+use Rattle.worm_region.specs.Resting.{nth_node}
 use Rattle.worm_region.specs.declared.node.Node.{Node}
 use Rattle.worm_region.specs.declared.step.Moved.{Moved}
 use Rattle.worm_region.specs.declared.fault.StepFault.{StepFault}
 use Rattle.worm_region.proofs.ReachedBySteps.{by_made}
 use Rattle.worm_region.proofs.EachCovered.{Kind}
+use Rattle.worm_region.proofs.FrameKept.{is_nth}
 use Rattle.worm_region.proofs.Resting.{feed_still}
 
 -- what is fed of one class is not of another, nor was it
@@ -31,16 +38,46 @@ other_front s q k away =
     ap (λ (a : QueueState). option_map (λ f. with_channel f (first_channel s.channels k)) (waiting a))
     (get_or-set_other s.queues q k (one_fed (queue_at s q)) empty_queue away)
 
+-- a flit that comes in leaves no more room than there was
+as_long : (xs : List ChannelState) (i j : ℕ) (v d : ChannelState)
+    → length (get_or xs i d).buffer ≤ length v.buffer
+    → length (get_or xs j d).buffer ≤ length (get_or (set xs i v) j d).buffer
+as_long xs i j v d longer = elim (cases_eq j i) [
+  | inl same ↦ elim (cases_lt i (length xs)) [
+    | inl there ↦
+        let here = get_or-set_at xs i j v d same there in
+        let was = ap (λ k. length (get_or xs k d).buffer) same in
+        let is = ap (λ (c : ChannelState). length c.buffer) here in
+        omega arith
+    | inr past ↦ let is = ap (λ (l : List ChannelState). length (get_or l j d).buffer) (set_past xs i v past) in
+        omega arith
+  ]
+  | inr other ↦ let is = ap (λ (c : ChannelState). length c.buffer) (get_or-set_other xs i j v d other) in omega arith
+]
+
+enters_not : (r : RouterState) (port p : ℕ) (f : Flit) (o : Option Flit) → can_enter r p o ≡ false
+    → can_enter (after_accept r port f) p o ≡ false
+enters_not r port p f None none = refl
+enters_not r port p f (Some g) none =
+    let c = input_at r port f.vc in
+    let more = length-append c.buffer (f ∷ []) in
+    let longer = as_long r.inputs (line r port f.vc) (line r p g.vc) (put_in c f) (fresh_channel r.depth) (omega arith) in
+    let past : r.depth ≤ length (input_at r p g.vc).buffer = grind (arith, nat_tests) in
+    let room : r.depth ≤ length (input_at (after_accept r port f) p g.vc).buffer = omega arith in
+    grind (arith, nat_tests)
+
 feed_kept : (s : NetState) (x q k : ℕ) (f : Option Flit) → x < length s.nodes → (k ≡ q → ⊥) → NoFeed s x k
     → NoFeed (with_node s x (fed_node (node_at s x) q f)) x k
 feed_kept s x q k None there away none =
-    ap (λ (n : Node). front_of n.source k)
+    ap (λ (n : Node). can_enter n.router (terminal n.router) (front_of n.source k))
     (get_or-set_same s.nodes x (fed_node (node_at s x) q None) (fresh_node s.mesh s.channels s.depth x) there)
     ∙ none
 feed_kept s x q k (Some f) there away none =
-    ap (λ (n : Node). front_of n.source k)
+    let r = router_at s x in
+    ap (λ (n : Node). can_enter n.router (terminal n.router) (front_of n.source k))
     (get_or-set_same s.nodes x (fed_node (node_at s x) q (Some f)) (fresh_node s.mesh s.channels s.depth x) there)
-    ∙ other_front (source_at s x) q k away ∙ none
+    ∙ ap (can_enter (after_accept r (terminal r) f) (terminal r)) (other_front (source_at s x) q k away)
+    ∙ enters_not r (terminal r) (terminal r) f (front_of (source_at s x) k) none
 
 pub feed_elsewhere : (a b : NetState) (x q : ℕ) (answer : Result Moved StepFault) → IsWorkable a
     → Replies a (Feed x q) answer b → (k : ℕ) → (k ≡ q → ⊥) → NoFeed a x k → NoFeed b x k
@@ -64,34 +101,79 @@ classes x = record {
   few = few_classes;
   step = Feed x;
   NoneAt = λ s. NoFeed s x;
-  still = λ s k net x_in k_in none. feed_still s x k net x_in k_in
-      (ap (λ (o : Option Flit). can_enter (router_at s x) (terminal (router_at s x)) o) none);
+  still = λ s k net x_in k_in none. feed_still s x k net x_in k_in none;
 }
 
--- the set that the source keeps
+-- the set of the classes that are tried
 
-none_of : (o : Option Flit) → is_some o ≡ false → o ≡ None
-none_of None none = refl
-none_of (Some f) none = absurd (cc)
+none_enters : (r : RouterState) (t : SourceState) (k : ℕ) → is_some (waiting (queue_at t k)) ≡ false
+    → can_enter r (terminal r) (front_of t k) ≡ false
+none_enters r t k none = by (waiting (queue_at t k)) none where
+  by : (o : Option Flit) → is_some o ≡ false
+      → can_enter r (terminal r) (option_map (λ f. with_channel f (first_channel t.channels k)) o) ≡ false
+  by None none = refl
+  by (Some f) none = absurd (cc)
+
+full_enters : (r : RouterState) (t : SourceState) (k : ℕ) → t.channels ≡ r.channels → IsFull r k
+    → can_enter r (terminal r) (front_of t k) ≡ false
+full_enters r t k same full = by (waiting (queue_at t k)) where
+  room : nat_lt (length (input_at r (terminal r) (first_channel t.channels k)).buffer) r.depth ≡ false
+  room =
+      let past : r.depth ≤ length (input_at r (terminal r) (first_channel t.channels k)).buffer =
+      subst (λ (counts : List ℕ). r.depth ≤ length (input_at r (terminal r) (first_channel counts k)).buffer) (sym same)
+      full.no_room in
+      grind (arith, nat_tests)
+
+  by : (o : Option Flit)
+      → can_enter r (terminal r) (option_map (λ f. with_channel f (first_channel t.channels k)) o) ≡ false
+  by None = refl
+  by (Some f) = room
+
+left_out : (n : Node) (unfed k : ℕ) → n.source.channels ≡ n.router.channels
+    → has_small unfed k ≡ is_some (waiting (queue_at n.source k)) → (b : Bool) → has_small unfed k ≡ b
+    → (has_small unfed k ≡ true → IsFull n.router k)
+    → can_enter n.router (terminal n.router) (front_of n.source k) ≡ false
+left_out n unfed k same is true there full = full_enters n.router n.source k same (full there)
+left_out n unfed k same is false there full = none_enters n.router n.source k (sym is ∙ there)
+
+pub to_feed : (n : Node) (unfed set : ℕ) → n.source.channels ≡ n.router.channels → AreUnfed n.source.queues unfed
+    → ((k : ℕ) → k < 8 → has_small set k ≡ true → has_small unfed k ≡ true)
+    → ((k : ℕ) → k < 8 → has_small unfed k ≡ true → has_small set k ≡ false → IsFull n.router k) → AreToFeed n set
+to_feed n unfed set same are within full = record {
+  some = λ k k_in there. sym (are k k_in) ∙ within k k_in there;
+  rest = λ k k_in off. left_out n unfed k same (are k k_in) (has_small unfed k) refl
+      (λ there. full k k_in there off);
+}
 
 pub unfed_cover : (s : NetState) (x set : ℕ) → IsWorkable s → x < node_count s.mesh
-    → AreUnfed (source_at s x).queues set → CoversNumbers (NoFeed s x) (length s.channels) set
-unfed_cover s x set net x_in unfed =
+    → AreToFeed (node_at s x) set → CoversNumbers (NoFeed s x) (length s.channels) set
+unfed_cover s x set net x_in feeds =
     let all = net.framed.all_nodes in
-    let few = net.framed.classes.few in
     let node = net.framed.each_node x (omega arith) in
     let source = source_at s x in
     let queues : length source.queues ≡ length s.channels =
     node.source_holds.all_queues ∙ ap (λ (counts : List ℕ). length counts) node.source_channels in
     record {
-      rest = λ k k_few k_in off.
-          ap (λ (o : Option Flit). option_map (λ f. with_channel f (first_channel source.channels k)) o)
-          (none_of (waiting (queue_at source k)) (sym (unfed k (omega arith)) ∙ off));
+      rest = λ k k_few k_in off. feeds.rest k k_few off;
       places = λ k k_few on. elim (cases_lt k (length s.channels)) [
         | inl below ↦ below
         | inr above ↦
             let past = get_or_past source.queues k empty_queue (omega arith) in
-            let one = sym (unfed k k_few) ∙ on in
+            let one = feeds.some k k_few on in
             absurd (let gone = sym (ap (λ (a : QueueState). is_some (waiting a)) past) ∙ one in cc)
       ];
     }
+
+-- a node's source and router have the same classes
+pub same_channels : (s : NetState) (x : ℕ) → IsWorkable s → x < node_count s.mesh
+    → (source_at s x).channels ≡ (router_at s x).channels
+same_channels s x net x_in =
+    let all = net.framed.all_nodes in
+    let node = net.framed.each_node x (omega arith) in
+    node.source_channels ∙ sym node.same_channels
+
+pub nth_channels : (s : NetState) (x : ℕ) → IsWorkable s → x < node_count s.mesh
+    → (nth_node s.nodes x).source.channels ≡ (nth_node s.nodes x).router.channels
+nth_channels s x net x_in =
+    subst (λ (n : Node). n.source.channels ≡ n.router.channels) (sym (is_nth s x net.framed x_in))
+    (same_channels s x net x_in)

@@ -13,7 +13,8 @@ use Rattle.worm_router.specs.Busy.{is_occupied}
 use Rattle.worm_swalloc.specs.declared.grant.SwGrant.{SwGrant}
 use Rattle.worm_vcalloc.specs.ChannelSet.{has}
 use Rattle.worm_term.specs.Sink.{after_take as after_sink}
-use Rattle.worm_term.specs.Source.{front_of, after_offer, after_close, after_fed}
+use Rattle.worm_term.specs.Queue.{waiting}
+use Rattle.worm_term.specs.Source.{front_of, after_offer, after_close, after_fed, queue_at}
 use Rattle.worm_theory.specs.Steps.{Step, Offer, CloseLane, Feed, Route, Grant, Send, Take, GiveCredit, TakeCredit}
 use Rattle.worm_wires.specs.Wiring.{into_from}
 use Rattle.worm_region.specs.State.{NetState, node_at, router_at, source_at, link_at, with_node, with_router}
@@ -159,9 +160,15 @@ NoCredit s x p = IsSome (neighbour_of s.mesh x p) → front_credit s x p ≡ Non
 abbrev pub NoFlit : NetState → ℕ → ℕ → Type 0
 NoFlit s x p = IsSome (neighbour_of s.mesh x p) → front_into s x p ≡ None
 
--- the source has no flit of the class that was not fed
+-- the source has no flit of the class for which the injection buffer has room
 abbrev pub NoFeed : NetState → ℕ → ℕ → Type 0
-NoFeed s x k = front_of (source_at s x) k ≡ None
+NoFeed s x k = can_enter (router_at s x) (terminal (router_at s x)) (front_of (source_at s x) k) ≡ false
+
+-- the node's source has a flit of each class of a set, and of no other one for which there is room
+pub record AreToFeed (n : Node) (set : ℕ) : Type 0 where
+  pub some : (k : ℕ) → k < 8 → has_small set k ≡ true → IsSome (waiting (queue_at n.source k))
+  pub rest : (k : ℕ) → k < 8 → has_small set k ≡ false →
+      can_enter n.router (terminal n.router) (front_of n.source k) ≡ false
 
 -- a set of mesh ports, by each of which the node has a neighbour
 abbrev pub AreLinked : NetState → ℕ → ℕ → Type 0

@@ -2,9 +2,10 @@ ghost use Rattle.std.specs.Prelude.{true, false, ◌≡◌, ◌<◌, Some, None}
 ghost use Rattle.std.specs.Prelude.{if◌then◌else◌};
 ghost use Rattle.worm_router.specs.Router.{IsPlace, terminal, leaving};
 ghost use Rattle.worm_term.specs.Source.{classes, front_of};
-ghost use Rattle.worm_region.specs.Moves.{AreUnrouted, FrontFits, HaveFlits, can_enter, delivered_node, fed_node};
+ghost use Rattle.worm_region.specs.Moves.{AreToFeed, AreUnrouted, FrontFits, HaveFlits, can_enter, delivered_node};
+ghost use Rattle.worm_region.specs.Moves.{fed_node};
 
-use worm_flit::Flit;
+use worm_flit::{Flit, SmallSet};
 use worm_router::Router;
 use worm_term::{Sink, Source};
 use worm_vcalloc::ChannelSet;
@@ -21,8 +22,10 @@ pub struct Node {
 }
 
 impl Node {
-    /// Moves the source's next flit of the class into the injection buffer, where there is one and that has room.
+    /// Moves the source's next flit of the class into the injection buffer, where there is one and that has room. Where
+    /// it has none the router keeps that.
     pub(crate) fn feed(&mut self, class: u8, port: u8) -> bool
+        requires same { self.old.source.channels ≡ self.old.router.channels }
         requires class { class < classes self.old.source }
         requires port { port ≡ terminal self.old.router }
         requires front { FrontFits self.old.router (terminal self.old.router) (front_of self.old.source class) }
@@ -31,7 +34,11 @@ impl Node {
         ensures after { self.new ≡ (if result then fed_node self.old class (front_of self.old.source class)
             else self.old) }
     {
-        if !self.can_feed(class, port) {
+        let Some(vc) = self.source.next_channel(class) else {
+            return false;
+        };
+        if !self.router.has_room(port, vc) {
+            self.router.keep_full(class);
             return false;
         }
         let Some(flit) = self.source.front(class) else {
@@ -53,6 +60,15 @@ impl Node {
             None => false,
             Some(vc) => self.router.has_room(port, vc),
         }
+    }
+
+    /// The classes of which the source has a flit that was not fed, but for those whose injection buffer is known to be
+    /// full.
+    pub(crate) fn unfed(&self) -> SmallSet
+        requires { self.now.source.channels ≡ self.now.router.channels }
+        ensures { AreToFeed self.now result }
+    {
+        self.router.unfilled(self.source.unfed())
     }
 
     /// Lets the flit that is ready at this place out into the sink, by the output port `out`, if the sink can take it.

@@ -170,6 +170,7 @@ impl Nodes {
     /// has room.
     pub fn feed(&mut self, node: u8, class: u8, port: u8) -> bool
         requires node { node < length self.old }
+        requires same { (nth_node self.old node).source.channels ≡ (nth_node self.old node).router.channels }
         requires class { class < classes (nth_node self.old node).source }
         requires port { port ≡ terminal (nth_node self.old node).router }
         requires front { FrontFits (nth_node self.old node).router (terminal (nth_node self.old node).router)

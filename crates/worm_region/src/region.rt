@@ -192,13 +192,14 @@ impl Region {
         self.fabric.wires().flits_in(node)
     }
 
-    /// The classes of which the node's source has a flit that was not fed.
+    /// The classes of which the node's source has a flit that was not fed, but for those whose injection buffer is known
+    /// to be full.
     pub(crate) fn unfed(&self, node: u8) -> SmallSet
         requires { node < node_count self.now.mesh }
         ensures classes { CoversNumbers (NoFeed self.now node) (length self.now.channels) result }
         ensures sound { IsWorkable self.now }
     {
-        self.fabric.node(node).source.unfed()
+        self.fabric.node(node).unfed()
     }
 
     /// The channels of the node that owe a credit.
