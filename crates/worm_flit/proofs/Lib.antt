@@ -3,5 +3,6 @@ pub mod Worming
 pub mod Owners
 pub mod Masks
 pub mod Packed
+pub mod BitTests
 pub mod LowestBit
 pub mod SmallSets

@@ -1,5 +1,5 @@
 -- A number and the one before it: their common bits are those of the first but its lowest.
-use Rattle.std.proofs.Common.{◌≡◌, ℕ, zero, suc, ◌-◌, ◌*◌, ◌/◌, ◌%◌, ◌^◌, ◌<◌, ◌≤◌, inl, inr}
+use Rattle.std.proofs.Common.{◌≡◌, ℕ, zero, suc, ◌-◌, ◌*◌, ◌/◌, ◌%◌, ◌^◌, ◌<◌, inl, inr}
 use Rattle.std.proofs.Common.{bit_and, min, sym, ap, ◌∙◌, arith}
 use mir.Val.{bits}
 use Rattle.std.specs.Int.{Width, bit_at, bit_not, trailing_zeros}

@@ -1,16 +1,14 @@
 -- Small sets: what a write of one number makes of them.
 use Rattle.std.proofs.Common.{◌≡◌, ℕ, ◌*◌, ◌%◌, ◌^◌, ◌<◌, ◌-◌, inl, inr, true, false, ◌==◌, bit_and}
-use Rattle.std.proofs.Common.{bit_or, ap, ◌∙◌, arith}
+use Rattle.std.proofs.Common.{bit_or, ap, ◌∙◌, arith, not, ◌&&◌}
 use Rattle.std.specs.Int.{bit_at, bit_not, trailing_zeros, w8}
-use Rattle.std.proofs.lemmas.Bool.{cases_eq, cases_lt, eq-eqb, eqb-true, ne_eqb}
+use Rattle.std.proofs.lemmas.Bool.{cases_eq, cases_lt, eq-eqb, eqb-true}
 use Rattle.std.proofs.lemmas.Nat.Bits.{bit_at_set_same, bit_at_set_other, bit_at_clear_same, bit_at_clear_other}
-use Rattle.std.proofs.lemmas.Nat.Bits.{bit_at_above, bit_at-trailing_zeros}
+use Rattle.std.proofs.lemmas.Nat.Bits.{bit_at_above, bit_at_and, bit_at_not, bit_at-lt, bit_at-trailing_zeros}
 use Rattle.std.proofs.lemmas.Nat.{and_le_l}
 use Rattle.worm_flit.specs.SmallSet.{has, IsFirst, IsPut}
+use Rattle.worm_flit.proofs.BitTests.{bit_unset, both_set, turned}
 use Rattle.worm_flit.proofs.LowestBit.{lowest_cleared}
-
-bit_unset : (n i : ℕ) → bit_at n i ≡ 0 → (bit_at n i == 1) ≡ false
-bit_unset n i e = ne_eqb (bit_at n i) 1 (λ one. absurd (omega arith))
 
 -- no number is in a set that is tested to be empty
 pub has_none : (set p : ℕ) → (set == 0) ≡ true → has set p ≡ false
@@ -68,3 +66,12 @@ first_cleared bits some fits = record {
 pub first_taken : (bits : ℕ) → 0 < bits → bits < 2 ^ 8
     → IsFirst bits (bit_and bits (bits - 1)) (trailing_zeros w8 bits)
 first_taken bits some fits = rw (lowest_cleared w8 bits some fits) (first_cleared bits some fits)
+
+-- two sets
+
+pub has_first_alone : (a b n : ℕ) → b < 2 ^ 8 → n < 8 → has (bit_and a (bit_not w8 b)) n ≡ (has a n && not (has b n))
+has_first_alone a b n fits within =
+    ap (λ x. x == 1) (bit_at_and a (bit_not w8 b) n)
+    ∙ both_set (bit_at a n) (bit_at (bit_not w8 b) n) (bit_at-lt a n) (bit_at-lt (bit_not w8 b) n)
+    ∙ ap (λ t. has a n && t) (ap (λ x. x == 1) (bit_at_not w8 b n fits within)
+    ∙ turned (bit_at b n) (bit_at-lt b n))

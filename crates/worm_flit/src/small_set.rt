@@ -1,6 +1,6 @@
 //! Sets of numbers below eight.
 
-ghost use Rattle.std.specs.Prelude.{ℕ, ◌≡◌, ◌==◌, ◌<◌, MatchOption, false, true};
+ghost use Rattle.std.specs.Prelude.{ℕ, ◌≡◌, ◌==◌, ◌<◌, ◌&&◌, MatchOption, false, not, true};
 ghost use Rattle.worm_flit.specs.SmallSet.{has, IsFirst, IsPut};
 
 use std::marker::Model;
@@ -89,6 +89,14 @@ impl SmallSet {
             self.insert(number);
         } else {
             self.remove(number);
+        }
+    }
+    /// The numbers that are in this set and not in the other.
+    pub fn difference(&self, other: &SmallSet) -> SmallSet
+        ensures { (n : ℕ) → n < 8 → has result n ≡ (has self.now n && not (has other.now n)) }
+    {
+        SmallSet {
+            bits: self.bits & !other.bits,
         }
     }
 }

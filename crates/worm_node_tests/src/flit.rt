@@ -197,6 +197,11 @@ fn small_numbers_go_in_and_out(rt: HostRuntime) {
     let changes = [(5, true), (0, true), (7, true), (5, false), (3, true)];
     put_all(&rt, &mut set, &changes);
     assert!(rt; set.contains(7) && !set.contains(5));
+    let mut other = SmallSet::new();
+    put_all(&rt, &mut other, &[(0, true), (1, true), (7, true)]);
+    let mut rest = set.difference(&other);
+    gives(&rt, &mut rest, Some(3));
+    gives(&rt, &mut rest, None);
     gives(&rt, &mut set, Some(0));
     gives(&rt, &mut set, Some(3));
     assert!(rt; !set.is_empty());

@@ -20,7 +20,7 @@ use Rattle.worm_vcalloc.specs.Table.{cell, with_cell}
 use Rattle.worm_vcalloc.specs.VcAlloc.{VcAllocState, vc_pass}
 use Rattle.worm_vcalloc.proofs.SetMembers.{has-empty}
 use Rattle.worm_vcalloc.proofs.TableCells.{cell-replicate, IsTable-replicate}
-use Rattle.worm_swalloc.proofs.TableRows.{same_tables, IsTable-table}
+use Rattle.worm_vcalloc.proofs.TableRows.{same_tables, IsTable-table}
 use Rattle.worm_router.specs.Router.{RouterState, ChannelState, IsPlace, terminal, width, line, fresh_channel}
 use Rattle.worm_router.specs.Router.{free_output, input_at}
 use Rattle.worm_router.specs.Busy.{HasFront, IsSetOf, waits, is_occupied, is_waiting}

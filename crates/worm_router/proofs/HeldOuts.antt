@@ -11,7 +11,7 @@ use Rattle.worm_records.specs.declared.InRecord.TheVariants.{Idle, Waiting, Acti
 use Rattle.worm_vcalloc.specs.ChannelSet.{has}
 use Rattle.worm_vcalloc.specs.Table.{cell, with_cell}
 use Rattle.worm_vcalloc.proofs.TableCells.{cell-replicate, IsTable-replicate}
-use Rattle.worm_swalloc.proofs.TableRows.{same_tables, IsTable-table}
+use Rattle.worm_vcalloc.proofs.TableRows.{same_tables, IsTable-table}
 use Rattle.worm_router.specs.Router.{RouterState, ChannelState, IsPlace, terminal, width, line, fresh_channel, input_at}
 use Rattle.worm_router.specs.Allocation.{within}
 use Rattle.worm_router.specs.Busy.{IsSetOf, held_outs, holds, is_active, port_held}

@@ -12,7 +12,7 @@ use Rattle.worm_swalloc.specs.declared.grant.SwGrant.{SwGrant}
 use Rattle.worm_swalloc.specs.Front.{with_front}
 use Rattle.worm_swalloc.specs.SwAlloc.{SwAllocState, named, all_named, named_channel, request_of}
 use Rattle.worm_swalloc.specs.SwAlloc.{is_for, granted, if_chosen, sw_grants, sw_after, input_after, output_after}
-use Rattle.worm_swalloc.proofs.TableRows.{same_tables, IsTable-table}
+use Rattle.worm_vcalloc.proofs.TableRows.{same_tables, IsTable-table}
 use Rattle.worm_swalloc.proofs.FrontGiven.{with_front_kept, length-with_front}
 use Rattle.worm_router.specs.Router.{RouterState}
 use Rattle.worm_router.specs.Allocation.{within, ready_at, ready_outs, switch_grants, after_choose}

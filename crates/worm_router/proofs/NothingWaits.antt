@@ -5,11 +5,11 @@ use Rattle.std.specs.List.{range_with_len}
 use Rattle.std.proofs.lemmas.Bool.{cases_Bool}
 use Rattle.worm_vcalloc.specs.declared.request.VcRequest.{VcRequest}
 use Rattle.worm_vcalloc.specs.VcRequest.{may_use}
-use Rattle.worm_vcalloc.specs.Arbiter.{ArbiterState, no_arbiter, winner, asked_in_order, after_pick}
-use Rattle.worm_vcalloc.specs.Table.{cell, with_cell}
-use Rattle.worm_vcalloc.specs.VcAlloc.{VcPass, IsChannelMatching, is_requester, offered, vc_step, port_pass, vc_pass}
-use Rattle.worm_vcalloc.specs.VcAlloc.{with_grant}
-use Rattle.worm_vcalloc.proofs.TableCells.{with_cell_same, cell-replicate}
+use Rattle.worm_vcalloc.specs.Arbiter.{ArbiterState, no_arbiter, winner, asked_in_order}
+use Rattle.worm_vcalloc.specs.Table.{cell}
+use Rattle.worm_vcalloc.specs.VcAlloc.{VcPass, IsChannelMatching, offered, vc_step, port_pass, vc_pass}
+use Rattle.worm_vcalloc.proofs.PassAgrees.{offered_in_vain}
+use Rattle.worm_vcalloc.proofs.TableCells.{cell-replicate}
 use Rattle.worm_router.specs.Router.{RouterState, terminal, width}
 use Rattle.worm_router.specs.Allocation.{requests, free_channels, channel_pass, written, with_port_grants, with_grants}
 use Rattle.worm_router.specs.Allocation.{after_allocate}
@@ -28,35 +28,12 @@ pub no_winner : (a : ArbiterState) (asks : ℕ → Bool) → ((n : ℕ) → asks
 unfolding winner
 no_winner a asks none = find_none asks (asked_in_order a) none
 
-pub offered_to_none : (waiting : List (List (Option VcRequest))) (pass : VcPass) (out channel : ℕ)
+offered_to_none : (waiting : List (List (Option VcRequest))) (pass : VcPass) (out channel : ℕ)
     → ((p v : ℕ) → may_use (cell waiting p v None) out channel ≡ false) → offered waiting pass out channel ≡ pass
-unfolding offered
 offered_to_none waiting pass out channel none =
-    let a : ArbiterState = cell pass.alloc.arbiters out channel no_arbiter in
-    let asks : ℕ → Bool = λ line. is_requester waiting pass.grants out channel (line / pass.alloc.channels)
-    (line % pass.alloc.channels) in
-    let nobody : winner a asks ≡ None =
-    no_winner a asks (λ line.
+    offered_in_vain waiting pass out channel (no_winner (cell pass.alloc.arbiters out channel no_arbiter) _ (λ line.
     ap (λ (b : Bool). b && is_none (cell pass.grants (line / pass.alloc.channels) (line % pass.alloc.channels) None))
-    (none (line / pass.alloc.channels) (line % pass.alloc.channels))) in
-    ap
-    (λ line. record {
-      alloc = record {
-        ports = pass.alloc.ports;
-        channels = pass.alloc.channels;
-        arbiters = with_cell pass.alloc.arbiters out channel (after_pick a line);
-      };
-      grants = with_grant pass.alloc.channels pass.grants channel line;
-    })
-    nobody
-    ∙ ap (λ arbiters. record {
-      alloc = record {
-        ports = pass.alloc.ports;
-        channels = pass.alloc.channels;
-        arbiters = arbiters;
-      };
-      grants = pass.grants;
-    }) (with_cell_same pass.alloc.arbiters out channel no_arbiter)
+    (none (line / pass.alloc.channels) (line % pass.alloc.channels))))
 
 step_same : (waiting : List (List (Option VcRequest))) (free : List (List Bool)) → GrantsNothing waiting free
     → (pass : VcPass) (out channel : ℕ) → vc_step waiting free out pass channel ≡ pass

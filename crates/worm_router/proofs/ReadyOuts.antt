@@ -9,11 +9,10 @@ use Rattle.worm_flit.specs.Stamps.{with_channel}
 use Rattle.worm_records.specs.declared.InRecord.{InRecord}
 use Rattle.worm_records.specs.declared.InRecord.TheVariants.{Idle, Waiting, Active}
 use Rattle.worm_vcalloc.specs.ChannelSet.{has}
-use Rattle.worm_vcalloc.specs.Table.{cell}
+use Rattle.worm_vcalloc.specs.Table.{cell, table}
 use Rattle.worm_vcalloc.proofs.PassAgrees.{none_where_not_some}
 use Rattle.worm_vcalloc.proofs.SetMembers.{has-empty}
-use Rattle.worm_swalloc.specs.Table.{table}
-use Rattle.worm_swalloc.proofs.TableRows.{same_tables, cell-table, IsTable-table}
+use Rattle.worm_vcalloc.proofs.TableRows.{same_tables, cell-table, IsTable-table}
 use Rattle.worm_router.specs.Router.{RouterState, ChannelState, IsPlace, terminal, width, input_at, output_at}
 use Rattle.worm_router.specs.Router.{leaving, leaving_by}
 use Rattle.worm_router.specs.Allocation.{within, ready_at, ready_outs}

@@ -1,13 +1,11 @@
 -- Tables filled cell by cell and row by row are the table of what they were filled with.
 use Rattle.std.proofs.Common.{◌≡◌, ℕ, ◌+◌, ◌<◌, ◌≤◌, ◌&&◌, Bool, true, false, nat_le, nat_lt, if◌then◌else◌, inl, inr}
 use Rattle.std.proofs.Common.{List, [], slice_index_or, refl, arith, ap, sym, ◌∙◌, subst}
-use Rattle.std.proofs.lemmas.Bool.{cases_eq, cases_lt}
+use Rattle.std.proofs.lemmas.Bool.{cases_lt}
 use Rattle.std.proofs.lemmas.List.{get_or_past}
-use Rattle.worm_vcalloc.specs.Table.{cell, with_cell, IsTable}
-use Rattle.worm_vcalloc.proofs.TableCells.{cell-with_cell_same, cell-with_cell_other, IsTable-with_cell}
+use Rattle.worm_vcalloc.specs.Table.{cell, with_cell, table}
+use Rattle.worm_vcalloc.proofs.TableRows.{same_tables, cell-table, IsTable-table, table-with_cell}
 use Rattle.worm_router.specs.Router.{RouterState, IsPlace, terminal, width}
-use Rattle.worm_swalloc.specs.Table.{table}
-use Rattle.worm_swalloc.proofs.TableRows.{same_tables, cell-table, IsTable-table}
 use Rattle.worm_router.specs.Tables.{PutsRows}
 use Rattle.worm_router.specs.Allocation.{within}
 
@@ -82,31 +80,12 @@ pub table_put : {X : Type 0} (r : RouterState) (d : X) (f g : ℕ → ℕ → X)
     → g port vc ≡ x
     → ((p v : ℕ) → IsPlace r p v → ((p ≡ port) → (v ≡ vc) → ⊥) → g p v ≡ f p v)
     → new ≡ table (within r d g)
-table_put {X = X} r d f g port vc x t new few_ports few_channels place is put here elsewhere =
-    same_tables d new (table (within r d g)) (subst IsTable (sym put) (IsTable-with_cell t port vc x shape))
-    (IsTable-table (within r d g)) (λ p v p_in v_in. elim (cases_eq p port) [
-      | inl a ↦ elim (cases_eq v vc) [
-        | inl b ↦ ap (λ k. cell new k v d) a ∙ ap (λ k. cell new port k d) b ∙ at
-            ∙ sym (ap (λ k. cell (table (within r d g)) port k d) b)
-            ∙ sym (ap (λ k. cell (table (within r d g)) k v d) a)
-        | inr ne ↦ other p v p_in v_in (λ a b. ne b)
-      ]
-      | inr ne ↦ other p v p_in v_in (λ a b. ne a)
-    ]) where
-      shape : IsTable t
-      shape = subst IsTable (sym is) (IsTable-table (within r d f))
-
-      at : cell new port vc d ≡ cell (table (within r d g)) port vc d
-      at = let port_in = place.port_in in
-          let vc_in = place.channel_in in
-          ap (λ (s : List (List X)). cell s port vc d) put
-          ∙ cell-with_cell_same t port vc x d shape (omega arith) (omega arith)
-          ∙ sym here ∙ sym (cell_is r d g port vc few_ports few_channels place)
-
-      other : (p v : ℕ) → p < 7 → v < 8 → ((p ≡ port) → (v ≡ vc) → ⊥)
-          → cell new p v d ≡ cell (table (within r d g)) p v d
-      other p v p_in v_in ne =
-          ap (λ (s : List (List X)). cell s p v d) put ∙ cell-with_cell_other t port vc p v x d ne
-          ∙ ap (λ (s : List (List X)). cell s p v d) is ∙ cell-table (within r d f) p v d p_in v_in
-          ∙ sym (within_as r d f g p v (λ there. elsewhere p v there ne))
-          ∙ sym (cell-table (within r d g) p v d p_in v_in)
+table_put r d f g port vc x t new few_ports few_channels place is put here elsewhere =
+    let port_in = place.port_in in
+    let vc_in = place.channel_in in
+    let p_in : port < 7 = omega arith in
+    let v_in : vc < 8 = omega arith in
+    put ∙ ap (λ s. with_cell s port vc x) is
+    ∙ sym (table-with_cell (within r d f) (within r d g) port vc x d p_in v_in
+    (sym (cell-table (within r d g) port vc d p_in v_in) ∙ cell_is r d g port vc few_ports few_channels place ∙ here)
+    (λ p v _ _ apart. within_as r d f g p v (λ there. elsewhere p v there apart)))

@@ -9,11 +9,10 @@ use Rattle.worm_flit.specs.Channels.{class_bits}
 use Rattle.worm_records.specs.declared.InRecord.{InRecord}
 use Rattle.worm_records.specs.declared.InRecord.TheVariants.{Idle, Waiting, Active}
 use Rattle.worm_vcalloc.specs.declared.request.VcRequest.{VcRequest}
-use Rattle.worm_vcalloc.specs.Table.{cell}
+use Rattle.worm_vcalloc.specs.Table.{cell, table}
 use Rattle.worm_vcalloc.specs.VcAlloc.{VcPass, vc_pass}
 use Rattle.worm_swalloc.specs.declared.grant.SwGrant.{SwGrant}
 use Rattle.worm_swalloc.specs.SwAlloc.{sw_grants, sw_after}
-use Rattle.worm_swalloc.specs.Table.{table}
 use Rattle.worm_router.specs.Router.{RouterState, IsPlace, terminal, width, input_at, output_at, after_grant}
 use Rattle.worm_router.specs.Router.{in_state, leaving}
 

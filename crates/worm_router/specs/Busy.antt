@@ -8,9 +8,8 @@ use Rattle.worm_route.specs.Route.{port_of}
 use Rattle.worm_records.specs.declared.InRecord.{InRecord}
 use Rattle.worm_records.specs.declared.InRecord.TheVariants.{Idle, Waiting, Active}
 use Rattle.worm_vcalloc.specs.ChannelSet.{has}
-use Rattle.worm_vcalloc.specs.Table.{cell}
+use Rattle.worm_vcalloc.specs.Table.{cell, table}
 use Rattle.worm_swalloc.specs.SwAlloc.{SwAllocState}
-use Rattle.worm_swalloc.specs.Table.{table}
 use Rattle.worm_router.specs.Allocation.{within}
 use Rattle.worm_router.specs.Demand.{DemandView, IsDemandOf}
 use Rattle.worm_router.specs.declared.busy.BusyChannels.{BusyChannels}

@@ -3,10 +3,9 @@ use Rattle.std.proofs.Common.{◌≡◌, ℕ, ◌<◌, if◌then◌else◌, Bool
 use Rattle.std.proofs.Common.{ap, ◌∙◌, sym, refl}
 use Rattle.std.proofs.lemmas.Bool.{true≢false}
 use Rattle.worm_vcalloc.specs.ChannelSet.{has}
-use Rattle.worm_vcalloc.specs.Table.{cell}
+use Rattle.worm_vcalloc.specs.Table.{cell, table}
 use Rattle.worm_swalloc.specs.Ready.{HaveOuts, ready_at}
-use Rattle.worm_swalloc.specs.Table.{table}
-use Rattle.worm_swalloc.proofs.TableRows.{cell-table}
+use Rattle.worm_vcalloc.proofs.TableRows.{cell-table}
 
 -- the channels of the set are those that have a cell
 pub keys_are : (outs : List (List (Option ℕ))) (among p v : ℕ) → HaveOuts outs among → p < 7 → v < 8

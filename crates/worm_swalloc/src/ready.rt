@@ -1,8 +1,7 @@
-ghost use Rattle.std.specs.Prelude.{◌≡◌, ℕ, ◌<◌, None, is_some, true};
+ghost use Rattle.std.specs.Prelude.{◌≡◌, ℕ, ◌<◌, Some, None, is_some, true};
 ghost use Rattle.worm_vcalloc.specs.ChannelSet.{has};
-ghost use Rattle.worm_vcalloc.specs.Table.{cell};
+ghost use Rattle.worm_vcalloc.specs.Table.{cell, table};
 ghost use Rattle.worm_swalloc.specs.Ready.{HaveOuts, ready_at};
-ghost use Rattle.worm_swalloc.specs.Table.{table};
 
 use crate::grant::ReadyOuts;
 use std::marker::Model;
@@ -21,7 +20,7 @@ pub struct Ready<'a> {
 impl<'a> Model for Ready<'a> {
     ghost use Rattle.std.specs.Prelude.{ℕ, List, Option};
     ghost use Rattle.worm_swalloc.specs.Ready.{HaveOuts, ready_at};
-    ghost use Rattle.worm_swalloc.specs.Table.{table};
+    ghost use Rattle.worm_vcalloc.specs.Table.{table};
 
     ghost Value = { List (List (Option ℕ)) };
 
@@ -47,13 +46,13 @@ impl<'a> Ready<'a> {
     }
 
     /// The output port of a channel that may send.
-    pub fn get(&self, port: u8, channel: u8) -> Option<u8>
+    pub fn out(&self, port: u8, channel: u8) -> u8
         requires port { port < 7 }
         requires channel { channel < 8 }
         requires within { is_some (cell self.now port channel None) ≡ true }
-        ensures { result ≡ cell self.now port channel None }
+        ensures { Some result ≡ cell self.now port channel None }
     {
         let outs = self.outs;
-        outs.get(port, channel)
+        outs.number(port, channel)
     }
 }

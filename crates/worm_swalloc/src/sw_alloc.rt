@@ -137,7 +137,8 @@ impl SwAlloc {
     {
         let lines = ready_lines(ready, port, self.channels);
         let vc = self.inputs[port as usize].peek(lines)?;
-        ready.get(port, vc).map(|out| SwGrant { vc, out })
+        let out = ready.out(port, vc);
+        Some(SwGrant { vc, out })
     }
 
     /// The second half of a pass: the arbiter of each output port that is asked for chooses among the input ports that

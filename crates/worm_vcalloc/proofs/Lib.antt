@@ -2,7 +2,8 @@ pub mod Winner
 pub mod LineByLine
 pub mod SetMembers
 pub mod TableCells
-pub mod PlacesPassing
+pub mod TableRows
+pub mod KeyedTables
 pub mod RequestsFiled
 pub mod PassAgrees
 pub mod ArbitersStay

@@ -130,36 +130,18 @@ port_passed waiting free first start here there out r is same_ports same_channel
 
 -- ---- where nobody asks
 
--- an output channel that nobody asks for is offered to nobody
-offered_unasked : (waiting : List (List (Option VcRequest))) (pass : VcPass) (out channel : ℕ)
-    → IsVcAlloc pass.alloc.ports pass.alloc.channels pass.alloc.arbiters
-    → out < pass.alloc.ports → channel < pass.alloc.channels
-    → ((p v : ℕ) → p < 7 → v < 8 → is_for (cell waiting p v None) out ≡ false)
-    → offered waiting pass out channel ≡ pass
+-- an output channel that nobody wins is offered in vain
+pub offered_in_vain : (waiting : List (List (Option VcRequest))) (pass : VcPass) (out channel : ℕ)
+    → vc_winner waiting pass out channel ≡ None → offered waiting pass out channel ≡ pass
 unfolding offered
-offered_unasked waiting pass out channel r lo lc none =
-    let few = r.few_ports in
-    let few' = r.few_channels in
-    let a : ArbiterState = cell pass.alloc.arbiters out channel no_arbiter in
-    let asks : ℕ → Bool = λ line. is_requester waiting pass.grants out channel (line / pass.alloc.channels)
-    (line % pass.alloc.channels) in
-    let wide : a.width ≡ pass.alloc.ports * pass.alloc.channels = r.width out channel (omega arith) (omega arith) in
-    let low : a.pointer < pass.alloc.ports * pass.alloc.channels = r.pointer out channel (omega arith) (omega arith) in
-    let nobody : winner a asks ≡ None =
-    winner_none a asks (omega arith)
-    (λ line l.
-    let place = line_port pass.alloc.ports pass.alloc.channels line r.some_channel (omega arith) in
-    ap
-    (λ b. (b && allows (cell waiting (line / pass.alloc.channels) (line % pass.alloc.channels) None) channel) && is_none
-    (cell pass.grants (line / pass.alloc.channels) (line % pass.alloc.channels) None))
-    (none (line / pass.alloc.channels) (line % pass.alloc.channels) (omega (arith, place.0))
-    (omega (arith, place.1)))) in
+offered_in_vain waiting pass out channel nobody =
     ap
     (λ line. record {
       alloc = record {
         ports = pass.alloc.ports;
         channels = pass.alloc.channels;
-        arbiters = with_cell pass.alloc.arbiters out channel (after_pick a line);
+        arbiters = with_cell pass.alloc.arbiters out channel
+            (after_pick (cell pass.alloc.arbiters out channel no_arbiter) line);
       };
       grants = with_grant pass.alloc.channels pass.grants channel line;
     })
@@ -172,6 +154,28 @@ offered_unasked waiting pass out channel r lo lc none =
       };
       grants = pass.grants;
     }) (with_cell_same pass.alloc.arbiters out channel no_arbiter)
+
+-- one that nobody asks for
+offered_unasked : (waiting : List (List (Option VcRequest))) (pass : VcPass) (out channel : ℕ)
+    → IsVcAlloc pass.alloc.ports pass.alloc.channels pass.alloc.arbiters
+    → out < pass.alloc.ports → channel < pass.alloc.channels
+    → ((p v : ℕ) → p < 7 → v < 8 → is_for (cell waiting p v None) out ≡ false)
+    → offered waiting pass out channel ≡ pass
+offered_unasked waiting pass out channel r lo lc none =
+    let few = r.few_ports in
+    let few' = r.few_channels in
+    let a : ArbiterState = cell pass.alloc.arbiters out channel no_arbiter in
+    let wide : a.width ≡ pass.alloc.ports * pass.alloc.channels = r.width out channel (omega arith) (omega arith) in
+    let low : a.pointer < pass.alloc.ports * pass.alloc.channels = r.pointer out channel (omega arith) (omega arith) in
+    offered_in_vain waiting pass out channel
+    (winner_none a _ (omega arith)
+    (λ line l.
+    let place = line_port pass.alloc.ports pass.alloc.channels line r.some_channel (omega arith) in
+    ap
+    (λ b. (b && allows (cell waiting (line / pass.alloc.channels) (line % pass.alloc.channels) None) channel) && is_none
+    (cell pass.grants (line / pass.alloc.channels) (line % pass.alloc.channels) None))
+    (none (line / pass.alloc.channels) (line % pass.alloc.channels) (omega (arith, place.0))
+    (omega (arith, place.1)))))
 
 -- an output port that nobody asks for is passed over
 pub port_pass_unasked : (waiting : List (List (Option VcRequest))) (free : List (List Bool)) (pass : VcPass) (out : ℕ)

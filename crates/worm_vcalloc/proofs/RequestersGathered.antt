@@ -3,7 +3,7 @@ use Rattle.std.proofs.Common.{◌≡◌, ℕ, ◌+◌, ◌*◌, ◌/◌, ◌%◌
 use Rattle.std.proofs.Common.{Option, Some, None, is_some, is_none, refl, sym, ap, ◌∙◌, arith, inl, inr, pow_pos}
 use Rattle.std.proofs.Common.{mul_comm, ◌==◌}
 use Rattle.std.specs.Int.{bit_at, w64}
-use Rattle.std.proofs.lemmas.Bool.{cases_eq, cases_Bool, eq-eqb, true≢false}
+use Rattle.std.proofs.lemmas.Bool.{cases_eq, cases_Bool, and_parts, eq-eqb, true≢false}
 use Rattle.std.proofs.lemmas.Nat.{one_shl, or_lt, pow_below, div-mul-add, mod-mul-add}
 use Rattle.std.proofs.lemmas.Nat.Bits.{bit_at-zero, bit_at_set_same, bit_at_set_other}
 use Rattle.worm_vcalloc.specs.declared.request.VcRequest.{VcRequest}
@@ -13,7 +13,8 @@ use Rattle.worm_vcalloc.specs.Table.{cell}
 use Rattle.worm_vcalloc.specs.VcAlloc.{is_requester}
 use Rattle.worm_vcalloc.specs.VcRequest.{is_for, allows}
 use Rattle.worm_vcalloc.proofs.LineByLine.{line_port, line_within, line_fits}
-use Rattle.worm_vcalloc.proofs.SetMembers.{has-zero}
+use Rattle.worm_vcalloc.proofs.RequestsFiled.{for_some}
+use Rattle.worm_vcalloc.proofs.SetMembers.{has-zero, was_in}
 
 -- whether an input channel waits for an output port and has no grant yet
 abbrev pub is_open : List (List (Option VcRequest)) → List (List (Option ℕ)) → ℕ → ℕ → ℕ → Bool
@@ -87,14 +88,16 @@ left_open : (waiting : List (List (Option VcRequest))) (grants : List (List (Opt
     → AreGathered waiting grants out channel ports channels left lines → IsFirst left left' port vc
     → (p v : ℕ) → p < 7 → v < 8 → has left' p v ≡ true → is_open waiting grants out p v ≡ true
 left_open waiting grants out channel ports channels left left' lines port vc b f p v lp lv e =
-    elim (cases_eq p port) [
-      | inl same ↦ elim (cases_eq v vc) [
-        | inl same' ↦ absurd (true≢false (sym e ∙ ap (λ k. has left' k v) same ∙ ap (has left' port) same'
-            ∙ f.taken.here))
-        | inr other ↦ b.open_left p v lp lv (sym (f.taken.elsewhere p v lp lv (λ _ e. other e)) ∙ e)
-      ]
-      | inr other ↦ b.open_left p v lp lv (sym (f.taken.elsewhere p v lp lv (λ e _. other e)) ∙ e)
-    ]
+    b.open_left p v lp lv (was_in left left' port vc p v f.taken lp lv e)
+
+-- its first channel waits
+pub first_waits : (waiting : List (List (Option VcRequest))) (grants : List (List (Option ℕ)))
+    (out channel ports channels left left' lines port vc : ℕ)
+    → AreGathered waiting grants out channel ports channels left lines → IsFirst left left' port vc
+    → is_some (cell waiting port vc None) ≡ true
+first_waits waiting grants out channel ports channels left left' lines port vc b f =
+    for_some (cell waiting port vc None) out
+    (and_parts _ _ (b.open_left port vc f.port_in f.channel_in f.was_in)).0
 
 -- an input channel that requests adds its line
 pub gather_more : (waiting : List (List (Option VcRequest))) (grants : List (List (Option ℕ)))

@@ -6,12 +6,13 @@ use Rattle.std.proofs.lemmas.Bool.{cases_eq, eqb-true, eq-eqb, ne_eqb, true≢fa
 use Rattle.std.proofs.Math.Bool.{and-true, and-false}
 use Rattle.std.proofs.lemmas.List.{get_or-replicate, get_or_default}
 use Rattle.worm_flit.specs.SmallSet as small
+use Rattle.worm_vcalloc.specs.declared.asked.Asked.{Asked}
 use Rattle.worm_vcalloc.specs.declared.request.VcRequest.{VcRequest}
 use Rattle.worm_vcalloc.specs.Asked.{IsFiled}
 use Rattle.worm_vcalloc.specs.ChannelSet.{has, IsFirst, IsPut}
 use Rattle.worm_vcalloc.specs.Table.{cell}
 use Rattle.worm_vcalloc.specs.VcRequest.{is_for}
-use Rattle.worm_vcalloc.proofs.SetMembers.{has-zero}
+use Rattle.worm_vcalloc.proofs.SetMembers.{has-zero, was_in}
 
 -- all requests are filed but those of the input channels in a set
 pub record AreFiledBut (requests : List (List (Option VcRequest))) (left : ℕ) (by_port : List ℕ)
@@ -20,27 +21,30 @@ pub record AreFiledBut (requests : List (List (Option VcRequest))) (left : ℕ) 
       → has (slice_index_or by_port out 0) p v ≡ (is_for (cell requests p v None) out && not (has left p v))
   pub asked : (out p v : ℕ) → out < 7 → p < 7 → v < 8 → is_for (cell requests p v None) out ≡ true
       → has left p v ≡ false → small.has ports out ≡ true
+  pub waits : (p v : ℕ) → p < 7 → v < 8 → has left p v ≡ true → is_some (cell requests p v None) ≡ true
 
 -- a request that is missing is for no port
 for_none : (o : Option VcRequest) (out : ℕ) → false ≡ (is_for o out && not (is_some o))
 for_none None out = refl
 for_none (Some r) out = sym (and-false (r.out == out))
 
-for_some : (o : Option VcRequest) (out : ℕ) → is_for o out ≡ true → is_some o ≡ true
+pub for_some : (o : Option VcRequest) (out : ℕ) → is_for o out ≡ true → is_some o ≡ true
 for_some None out e = absurd (cc)
 for_some (Some r) out e = refl
 
 -- none is filed at first
-pub filed_start : (requests : List (List (Option VcRequest))) (waiting set ports : ℕ) → set ≡ 0
+pub filed_start : (requests : List (List (Option VcRequest))) (waiting : ℕ) (by_port : List ℕ) (ports : ℕ)
+    → by_port ≡ replicate 7 0
     → ((p v : ℕ) → p < 7 → v < 8 → has waiting p v ≡ is_some (cell requests p v None))
-    → AreFiledBut requests waiting (replicate 7 set) ports
-filed_start requests waiting set ports e waits = record {
+    → AreFiledBut requests waiting by_port ports
+filed_start requests waiting by_port ports e waits = record {
   each = λ out p v lo lp lv.
-      ap (λ s. has s p v) (get_or-replicate 7 out set 0 lo ∙ e) ∙ has-zero p v
+      ap (λ s. has s p v) (ap (λ s. slice_index_or s out 0) e ∙ get_or-replicate 7 out 0 0 lo) ∙ has-zero p v
       ∙ for_none (cell requests p v None) out
       ∙ ap (λ b. is_for (cell requests p v None) out && not b) (sym (waits p v lp lv));
   asked = λ out p v lo lp lv asks off.
       absurd (true≢false (sym (for_some (cell requests p v None) out asks) ∙ sym (waits p v lp lv) ∙ off));
+  waits = λ p v lp lv e. sym (waits p v lp lv) ∙ e;
 }
 
 -- one input channel is filed, and no other file changes
@@ -81,6 +85,7 @@ filed_more requests left left' port vc by_port by_port' ports ports' b f one = r
     | inr other ↦ one.more out lo (b.asked out p v lo lp lv asks
         (sym (f.taken.elsewhere p v lp lv (λ e _. other e)) ∙ off))
   ];
+  waits = λ p v lp lv e. b.waits p v lp lv (was_in left left' port vc p v f.taken lp lv e);
 } where
   apart : (out p v : ℕ) → out < 7 → p < 7 → v < 8 → ((p ≡ port) → (v ≡ vc) → ⊥)
       → has (slice_index_or by_port' out 0) p v ≡ (is_for (cell requests p v None) out && not (has left' p v))
@@ -150,9 +155,9 @@ filed_nowhere requests left left' port vc by_port ports b f none =
     })
 
 -- all are filed
-pub filed_all : (requests : List (List (Option VcRequest))) (left : ℕ) (by_port : List ℕ) (ports : ℕ)
-    → AreFiledBut requests left by_port ports → left ≡ 0 → IsFiled requests by_port ports
-filed_all requests left by_port ports b e = record {
+pub filed_all : (requests : List (List (Option VcRequest))) (left : ℕ) (files : Asked)
+    → AreFiledBut requests left files.by_port files.ports → left ≡ 0 → IsFiled requests files
+filed_all requests left files b e = record {
   each = λ out p v lo lp lv.
       b.each out p v lo lp lv ∙ ap (λ t. is_for (cell requests p v None) out && not t) (none p v)
       ∙ and-true (is_for (cell requests p v None) out);

@@ -4,7 +4,7 @@ use Rattle.std.proofs.Common.{◌||◌, bit_and, bit_or, min, max, sym, ap, ◌�
 use Rattle.std.specs.Int.{bit_at, bit_not, trailing_zeros, w64}
 use Rattle.std.specs.Int.Bits.{or_zero_r}
 use mir.Val.{bool_byte}
-use Rattle.std.proofs.lemmas.Bool.{cases_eq, cases_lt, eq-eqb, eqb-true, ne_eqb, and_from, and_right}
+use Rattle.std.proofs.lemmas.Bool.{cases_eq, cases_lt, eq-eqb, eqb-true, ne_eqb, and_right}
 use Rattle.std.proofs.lemmas.Bool.{true≢false}
 use Rattle.std.proofs.lemmas.Nat.{one_shl, or_lt, and_le_l, and_mask, shr-shr, pow_below}
 use Rattle.std.proofs.lemmas.Nat.Bits.{bit_at_and, bit_at_or, bit_at_not, bit_at_ones, bit_at-lt, bit_at_set_same}
@@ -13,28 +13,11 @@ use Rattle.std.proofs.lemmas.Nat.Bits.{bit_at-trailing_zeros}
 use Rattle.std.proofs.Math.Pow.{pow_mono, shl_lt}
 use Rattle.worm_vcalloc.specs.Arbiter.{line_requests}
 use Rattle.worm_vcalloc.specs.ChannelSet.{has, IsPut, IsFirst, IsFirstPort, IsLowest}
+use Rattle.worm_flit.proofs.BitTests.{bit_set, bit_unset, both_set, turned}
 use Rattle.worm_flit.proofs.LowestBit.{lowest_cleared}
 use Rattle.worm_vcalloc.proofs.LineByLine.{shifted_low, shifted_high}
 
 -- ---- tests of bits
-
--- a bit that is set passes
-bit_set : (n i : ℕ) → bit_at n i ≡ 1 → (bit_at n i == 1) ≡ true
-bit_set n i e = eq-eqb (bit_at n i) 1 e
-
--- a bit that is not set does not pass
-bit_unset : (n i : ℕ) → bit_at n i ≡ 0 → (bit_at n i == 1) ≡ false
-bit_unset n i e = ne_eqb (bit_at n i) 1 (λ one. absurd (omega arith))
-
--- the lower of two bits is set where both are
-both_set : (x y : ℕ) → x < 2 → y < 2 → (min x y == 1) ≡ ((x == 1) && (y == 1))
-both_set x y lx ly = elim (cases_eq x 1) [
-  | inl ex ↦ elim (cases_eq y 1) [
-    | inl ey ↦ eq-eqb (min x y) 1 (omega arith) ∙ sym (and_from (x == 1) (y == 1) (eq-eqb x 1 ex) (eq-eqb y 1 ey))
-    | inr ny ↦ ne_eqb (min x y) 1 (λ e. ny (omega arith)) ∙ sym (and_right (x == 1) (y == 1) (ne_eqb y 1 ny))
-  ]
-  | inr nx ↦ ne_eqb (min x y) 1 (λ e. nx (omega arith)) ∙ sym (ap (λ t. t && (y == 1)) (ne_eqb x 1 nx))
-]
 
 -- the higher of two bits is set where one is
 either_set : (x y : ℕ) → x < 2 → y < 2 → (max x y == 1) ≡ ((x == 1) || (y == 1))
@@ -46,13 +29,6 @@ either_set x y lx ly = elim (cases_eq x 1) [
 and_true : (b : Bool) → (b && true) ≡ b
 and_true true = refl
 and_true false = refl
-
--- a bit turned round is set where it was not
-turned : (y : ℕ) → y < 2 → ((1 - y) == 1) ≡ not (y == 1)
-turned y ly = elim (cases_eq y 1) [
-  | inl e ↦ ne_eqb (1 - y) 1 (λ one. absurd (omega arith)) ∙ ap not (sym (eq-eqb y 1 e))
-  | inr ne ↦ eq-eqb (1 - y) 1 (omega arith) ∙ ap not (sym (ne_eqb y 1 ne))
-]
 
 -- ---- one channel
 
@@ -249,6 +225,17 @@ first_cleared bits some fits = record {
 pub first_taken : (bits : ℕ) → 0 < bits → bits < 2 ^ 56
     → IsFirst bits (bit_and bits (bits - 1)) (trailing_zeros w64 bits / 8) (trailing_zeros w64 bits % 8)
 first_taken bits some fits = rw (lowest_cleared w64 bits some (omega arith)) (first_cleared bits some fits)
+
+-- what is in the set still was in it before
+pub was_in : (old new port channel p c : ℕ) → IsPut old new port channel false → p < 7 → c < 8
+    → has new p c ≡ true → has old p c ≡ true
+was_in old new port channel p c put lp lc still = elim (cases_eq p port) [
+  | inl same ↦ elim (cases_eq c channel) [
+    | inl same' ↦ absurd (true≢false (sym still ∙ ap (λ k. has new k c) same ∙ ap (has new port) same' ∙ put.here))
+    | inr other ↦ sym (put.elsewhere p c lp lc (λ _ e. other e)) ∙ still
+  ]
+  | inr other ↦ sym (put.elsewhere p c lp lc (λ e _. other e)) ∙ still
+]
 
 -- ---- the first port
 

@@ -1,7 +1,6 @@
 pub mod Arbiter
 pub mod ChannelSet
 pub mod Table
-pub mod Places
 pub mod VcRequest
 pub mod Asked
 pub mod VcAlloc

@@ -3,6 +3,10 @@ use Rattle.std.specs.Prelude.{ℕ, ◌==◌, ◌&&◌, Bool, false, Option, Some
 use Rattle.std.specs.Int.{bit_at}
 use Rattle.worm_vcalloc.specs.declared.request.VcRequest.{VcRequest}
 
+-- a request for nothing, which stands in the row of a channel that has never waited
+abbrev pub blank : VcRequest
+blank = record { out = 0; allowed = 0 }
+
 -- whether it is a channel of this output port
 abbrev pub is_for : Option VcRequest → ℕ → Bool
 is_for None out = false

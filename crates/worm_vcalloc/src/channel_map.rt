@@ -1,45 +1,34 @@
-ghost use Rattle.std.specs.Prelude.{◌≡◌, ℕ, ◌<◌, None, is_some, replicate};
+ghost use Rattle.std.specs.Prelude.{◌≡◌, ℕ, ◌<◌, Some, None, is_some, replicate, true};
 ghost use Rattle.worm_vcalloc.specs.ChannelSet.{has};
 ghost use Rattle.worm_vcalloc.specs.Table.{cell, with_cell};
 
 use crate::channel_set::ChannelSet;
 use std::marker::Model;
 
-/// Numbers for some channels of a router, by port and channel, and the set of those channels.
+/// Numbers for some channels of a router, by port and channel.
+///
+/// The set says which channels have one, and the rows are plain numbers: what a row holds at any other channel is left
+/// over, and nobody reads it. So a channel loses its number by one bit.
 ///
 /// ```text
 /// let mut left = map.keys();
-/// while let Some((port, channel)) = left.pop_first() { .. map.get(port, channel) .. }
+/// while let Some((port, channel)) = left.pop_first() { .. map.number(port, channel) .. }
 /// ```
-#[derive(Clone, Copy)]
+#[derive(Drop)]
 pub struct ChannelMap {
-    /// The numbers themselves.
-    numbers: Numbers,
+    /// The numbers, by port and channel.
+    numbers: [[u8; 8]; 7],
     /// The channels that have one.
     keys: ChannelSet,
 }
 
-/// The table of a map.
-#[derive(Clone, Copy)]
-struct Numbers {
-    /// By port and channel.
-    rows: [[Option<u8>; 8]; 7],
-}
-
 impl Model for ChannelMap {
-    ghost use Rattle.std.specs.Prelude.{ℕ, List, Option, is_some};
-    ghost use Rattle.std.proofs.Common.{sym};
-    ghost use Rattle.worm_vcalloc.specs.Places.{places, IsKeyed};
+    ghost use Rattle.std.specs.Prelude.{ℕ, List, Option};
+    ghost use Rattle.worm_vcalloc.specs.Table.{keyed};
 
     ghost Value = { List (List (Option ℕ)) };
 
-    ghost view = { λ m. m.numbers.rows };
-
-    ghost invariant = { λ m. IsKeyed m.numbers.rows m.keys };
-
-    ghost inverse = { λ v. record { numbers = record { rows = v }; keys = places is_some v } };
-
-    ghost inverse_ok = { λ m h i. record { numbers = m.numbers; keys = sym h.all i } };
+    ghost view = { λ m. keyed 0 m.keys m.numbers };
 }
 
 impl ChannelMap {
@@ -48,9 +37,7 @@ impl ChannelMap {
         ensures { result ≡ replicate 7 (replicate 8 None) }
     {
         ChannelMap {
-            numbers: Numbers {
-                rows: [[None; 8]; 7],
-            },
+            numbers: [[0; 8]; 7],
             keys: ChannelSet::new(),
         }
     }
@@ -61,7 +48,21 @@ impl ChannelMap {
         requires channel { channel < 8 }
         ensures { result ≡ cell self.now port channel None }
     {
-        self.numbers.rows[port as usize][channel as usize]
+        if self.keys.contains(port, channel) {
+            Some(self.number(port, channel))
+        } else {
+            None
+        }
+    }
+
+    /// The number of a channel that has one.
+    pub fn number(&self, port: u8, channel: u8) -> u8
+        requires port { port < 7 }
+        requires channel { channel < 8 }
+        requires within { is_some (cell self.now port channel None) ≡ true }
+        ensures { Some result ≡ cell self.now port channel None }
+    {
+        self.numbers[port as usize][channel as usize]
     }
 
     /// The channels that have a number.
@@ -78,7 +79,9 @@ impl ChannelMap {
         ensures { self.new ≡ with_cell self.old port channel number }
     {
         self.keys.put(port, channel, number.is_some());
-        let row = &mut self.numbers.rows[port as usize];
-        row[channel as usize] = number;
+        if let Some(number) = number {
+            let row = &mut self.numbers[port as usize];
+            row[channel as usize] = number;
+        }
     }
 }

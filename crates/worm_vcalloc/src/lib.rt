@@ -6,9 +6,9 @@
 //! arbiter picks.
 //!
 //! The definition of a pass looks at every input channel for every output channel; the code does not.
-//! [`VcRequests`] keeps beside the table of requests who waits, a [`ChannelSet`] of one word. A pass files those
-//! by the output port that they ask for, goes to these ports alone, and offers a channel only to those that ask
-//! for its port. A [`ChannelMap`] likewise knows its keys without a scan.
+//! [`VcRequests`] are plain rows beside a [`ChannelSet`] of one word, which says who waits. A pass files those by
+//! the output port that they ask for, goes to these ports alone, and offers a channel only to those that ask for
+//! its port. A [`ChannelMap`] likewise knows its keys without a scan.
 //!
 //! No allocator here is fair over several turns or finds a largest matching, and none claims it: what is
 //! promised is the exact pass, and that its grants are a matching.

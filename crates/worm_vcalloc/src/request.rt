@@ -1,4 +1,4 @@
-ghost use Rattle.std.specs.Prelude.{◌≡◌, ℕ, ◌<◌, Some, None, is_some, replicate};
+ghost use Rattle.std.specs.Prelude.{◌≡◌, ℕ, ◌<◌, Some, None, is_some, replicate, true};
 ghost use Rattle.worm_vcalloc.specs.ChannelSet.{has};
 ghost use Rattle.worm_vcalloc.specs.Table.{cell, with_cell};
 
@@ -14,14 +14,16 @@ pub struct VcRequest {
     pub allowed: u8,
 }
 
-/// What the input channels wait for, by port and channel. Beside the table of the requests it
-/// keeps the set of those that wait, so that an allocator looks at no others.
+/// What the input channels wait for, by port and channel.
+///
+/// The set says which wait, so that an allocator looks at no others, and the rows are plain requests: what a row holds
+/// at any other channel is left over, and nobody reads it.
 ///
 /// ```text
 /// let mut waiting = VcRequests::new();
 /// waiting.add(0, 1, VcRequest { out: 2, allowed: 0b11 });
 /// ```
-#[derive(Clone, Copy)]
+#[derive(Drop)]
 pub struct VcRequests {
     /// The input channels that wait.
     waiting: ChannelSet,
@@ -29,29 +31,25 @@ pub struct VcRequests {
     table: RequestTable,
 }
 
-/// The table of the requests.
-#[derive(Clone, Copy)]
+/// The rows of the requests. They have a struct of their own since a struct that is seen as a value cannot yet be made
+/// with an array of arrays of structs.
+#[derive(Drop)]
 struct RequestTable {
     /// By input port and channel.
-    rows: [[Option<VcRequest>; 8]; 7],
+    rows: [[VcRequest; 8]; 7],
 }
 
 impl Model for VcRequests {
-    ghost use Rattle.std.specs.Prelude.{List, Option, is_some};
+    ghost use Rattle.std.specs.Prelude.{List, Option};
     ghost use Rattle.worm_vcalloc.specs.declared.request.VcRequest.{VcRequest};
+    ghost use Rattle.worm_vcalloc.specs.Table.{keyed, IsTable};
+    ghost use Rattle.worm_vcalloc.specs.VcRequest.{blank};
 
     ghost Value = { List (List (Option VcRequest)) };
 
-    ghost use Rattle.std.proofs.Common.{sym};
-    ghost use Rattle.worm_vcalloc.specs.Places.{places, IsKeyed};
+    ghost view = { λ r. keyed blank r.waiting r.table.rows };
 
-    ghost view = { λ r. r.table.rows };
-
-    ghost invariant = { λ r. IsKeyed r.table.rows r.waiting };
-
-    ghost inverse = { λ v. record { table = record { rows = v }; waiting = places is_some v } };
-
-    ghost inverse_ok = { λ r h i. record { table = r.table; waiting = sym h.all i } };
+    ghost invariant = { λ r. IsTable r.table.rows };
 }
 
 impl VcRequests {
@@ -62,10 +60,10 @@ impl VcRequests {
         ensures { result ≡ replicate 7 (replicate 8 None) }
     {
         VcRequests {
-            table: RequestTable {
-                rows: [[None; 8]; 7],
-            },
             waiting: ChannelSet::new(),
+            table: RequestTable {
+                rows: [[VcRequest { out: 0, allowed: 0 }; 8]; 7],
+            },
         }
     }
 
@@ -74,6 +72,20 @@ impl VcRequests {
         requires port { port < 7 }
         requires vc { vc < 8 }
         ensures { result ≡ cell self.now port vc None }
+    {
+        if self.waiting.contains(port, vc) {
+            Some(self.request(port, vc))
+        } else {
+            None
+        }
+    }
+
+    /// What an input channel that waits is waiting for.
+    pub(crate) fn request(&self, port: u8, vc: u8) -> VcRequest
+        requires port { port < 7 }
+        requires vc { vc < 8 }
+        requires waits { is_some (cell self.now port vc None) ≡ true }
+        ensures { Some result ≡ cell self.now port vc None }
     {
         self.table.rows[port as usize][vc as usize]
     }
@@ -87,7 +99,7 @@ impl VcRequests {
     {
         self.waiting.put(port, vc, true);
         let row = &mut self.table.rows[port as usize];
-        row[vc as usize] = Some(request);
+        row[vc as usize] = request;
     }
 
     /// The input channel waits no more.
@@ -97,8 +109,6 @@ impl VcRequests {
         ensures { self.new ≡ with_cell self.old port vc None }
     {
         self.waiting.put(port, vc, false);
-        let row = &mut self.table.rows[port as usize];
-        row[vc as usize] = None;
     }
 
     /// The input channels that wait.
@@ -113,11 +123,9 @@ impl VcRequests {
         requires port { port < 7 }
         requires vc { vc < 8 }
         requires channel { channel < 8 }
+        requires waits { is_some (cell self.now port vc None) ≡ true }
         ensures { result ≡ allows (cell self.now port vc None) channel }
     {
-        match self.get(port, vc) {
-            Some(request) => request.allowed >> channel & 1 == 1,
-            None => false,
-        }
+        self.request(port, vc).allowed >> channel & 1 == 1
     }
 }

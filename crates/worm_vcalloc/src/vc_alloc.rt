@@ -1,6 +1,7 @@
 ghost use Rattle.std.specs.Prelude.{◌≡◌, ℕ, ◌+◌, ◌*◌, ◌^◌, ◌<◌, ◌≤◌, ◌/◌, ◌%◌, None, Bool, List, Option};
 ghost use Rattle.std.specs.Prelude.{replicate};
 ghost use Rattle.worm_vcalloc.specs.Arbiter.{line_requests};
+ghost use Rattle.worm_vcalloc.specs.Asked.{IsFiled};
 ghost use Rattle.worm_vcalloc.specs.VcAlloc.{VcAllocState, IsVcAlloc, IsChannelMatching};
 ghost use Rattle.worm_vcalloc.specs.VcAlloc.{is_requester, offered, port_pass, vc_pass};
 ghost use Rattle.worm_vcalloc.specs.declared.request.VcRequest.{VcRequest};
@@ -109,11 +110,12 @@ impl VcAlloc {
     {
         let ports = self.ports;
         let mut grants = VcGrants::new();
-        let asked = Asked::of(waiting);
+        let mut asked = Asked::new();
+        asked.file(waiting);
         let mut left = asked.ports();
         while let Some(out) = left.pop_first() {
             if out < ports {
-                self.grant_port(out, &asked, free, &mut grants);
+                self.grant_port(out, waiting, &asked, free, &mut grants);
             }
         }
         grants
@@ -123,11 +125,13 @@ impl VcAlloc {
     fn grant_port(
         &mut self,
         out: u8,
-        waiting: &Asked<'_>,
+        waiting: &VcRequests,
+        asked: &Asked,
         free: &FreeChannels,
         grants: &mut VcGrants,
     )
-        requires { out < self.old.ports }
+        requires out { out < self.old.ports }
+        requires filed { IsFiled waiting.now asked.now }
         ensures pass { record {
           alloc = self.new;
           grants = grants.new;
@@ -139,15 +143,23 @@ impl VcAlloc {
         let channels = self.channels;
         for channel in 0..channels {
             if free[out as usize][channel as usize] {
-                self.offer(out, channel, waiting, grants);
+                self.offer(out, channel, waiting, asked, grants);
             }
         }
     }
 
     /// Offers one free output channel to its requesters.
-    fn offer(&mut self, out: u8, channel: u8, waiting: &Asked<'_>, grants: &mut VcGrants)
+    fn offer(
+        &mut self,
+        out: u8,
+        channel: u8,
+        waiting: &VcRequests,
+        asked: &Asked,
+        grants: &mut VcGrants,
+    )
         requires out { out < self.old.ports }
         requires channel { channel < self.old.channels }
+        requires filed { IsFiled waiting.now asked.now }
         ensures pass { record {
           alloc = self.new;
           grants = grants.new;
@@ -156,7 +168,7 @@ impl VcAlloc {
         ensures ports { self.new.ports ≡ self.old.ports }
         ensures channels { self.new.channels ≡ self.old.channels }
     {
-        let asking = self.requests_for(out, channel, waiting, grants);
+        let asking = self.requests_for(out, channel, waiting, asked, grants);
         if let Some(line) = self.arbiters[out as usize][channel as usize].pick(asking.lines) {
             let (port, vc) = asking.place_of(line, self.channels);
             grants.set(port, vc, Some(channel));
@@ -168,11 +180,13 @@ impl VcAlloc {
         &self,
         out: u8,
         channel: u8,
-        waiting: &Asked<'_>,
+        waiting: &VcRequests,
+        asked: &Asked,
         grants: &VcGrants,
     ) -> Requesters
         requires out { out < self.now.ports }
         requires channel { channel < self.now.channels }
+        requires filed { IsFiled waiting.now asked.now }
         ensures few { result.lines < 2 ^ (self.now.ports * self.now.channels) }
         ensures lines { (line : ℕ) → line < self.now.ports * self.now.channels
             → line_requests result.lines line
@@ -183,7 +197,7 @@ impl VcAlloc {
         let (ports, channels) = (self.ports, self.channels);
         let mut lines = 0;
         let mut last = (0, 0);
-        let mut left = waiting.asking_port(out).difference(&grants.keys());
+        let mut left = asked.asking_port(out).difference(&grants.keys());
         while let Some((port, vc)) = left.pop_first() {
             if port < ports && vc < channels && waiting.takes(port, vc, channel) {
                 lines |= 1 << (port * channels + vc);

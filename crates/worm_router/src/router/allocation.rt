@@ -44,10 +44,9 @@ impl Router {
         let mut left = grants.keys();
         // A pass grants what is asked for and free, and nothing twice, so a grant is written without a test of that.
         while let Some((port, vc)) = left.pop_first() {
-            if let Some(out_vc) = grants.get(port, vc) {
-                if let InRecord::Waiting { out } = self.in_record(port, vc) {
-                    self.hold(port, vc, out, out_vc);
-                }
+            let out_vc = grants.number(port, vc);
+            if let InRecord::Waiting { out } = self.in_record(port, vc) {
+                self.hold(port, vc, out, out_vc);
             }
         }
         // Whoever asks for a channel that was free was granted one, or another was granted that channel.

@@ -2,7 +2,7 @@ use Rattle.std.proofs.Common.{refl, sym, subst, ◌∙◌}
 use Rattle.worm_router.specs.Router.{RouterState}
 use Rattle.worm_router.specs.Allocation.{IsSameSize, AreHeld, LeavesRest}
 use Rattle.worm_router.proofs.NothingWaits.{nothing_granted, nothing_matched}
-use Rattle.worm_router.proofs.GrantsWritten.{writing_begins}
+use Rattle.worm_router.proofs.GrantsWritten.{writing_begins, has_grant}
 use Rattle.worm_router.proofs.Grantable.{grantable}
 use Rattle.worm_router.proofs.GrantsHeld.{IsPassed, passed_by, next_place, next_held, next_waits, next_written}
 use Rattle.worm_router.proofs.NothingLeft.{nothing_left}
@@ -27,6 +27,9 @@ in_record-requires c =
     c.grant-grants.ensures.matching in
     next_place _ c.grant-grants.new.self _ given _ _ _ _ _ c.loop-port.invariant c.in-Some.ensures
 
+pub number-out_vc-requires-clause-within : goal.number-out_vc-requires-clause-within
+number-out_vc-requires-clause-within c = has_grant _ _ _ _ c.loop-port.invariant _ _ _ c.in-Some.ensures
+
 pub hold-requires-clause-place : goal.hold-requires-clause-place
 hold-requires-clause-place c =
     let given = grantable _ _ _ _ _ _ _ _ c.self.invariant c.requests.ensures c.free.ensures
@@ -38,28 +41,28 @@ hold-requires-clause-out_place c =
     let given = grantable _ _ _ _ _ _ _ _ c.self.invariant c.requests.ensures c.free.ensures
     c.grant-grants.ensures.matching in
     (next_held _ c.grant-grants.new.self _ given _ _ _ _ _ c.loop-port.invariant c.in-Some.ensures _ _
-    (sym c.get.ensures ∙ c.in-Some-get.is) (sym c.in_record.ensures ∙ c.in-Waiting.is)).out_place
+    (sym c.number-out_vc.ensures) (sym c.in_record.ensures ∙ c.in-Waiting.is)).out_place
 
 pub hold-requires-clause-free : goal.hold-requires-clause-free
 hold-requires-clause-free c =
     let given = grantable _ _ _ _ _ _ _ _ c.self.invariant c.requests.ensures c.free.ensures
     c.grant-grants.ensures.matching in
     (next_held _ c.grant-grants.new.self _ given _ _ _ _ _ c.loop-port.invariant c.in-Some.ensures _ _
-    (sym c.get.ensures ∙ c.in-Some-get.is) (sym c.in_record.ensures ∙ c.in-Waiting.is)).free
+    (sym c.number-out_vc.ensures) (sym c.in_record.ensures ∙ c.in-Waiting.is)).free
 
 pub loop-port-preserved-in-Waiting : goal.loop-port-preserved-in-Waiting
 loop-port-preserved-in-Waiting c =
     let given = grantable _ _ _ _ _ _ _ _ c.self.invariant c.requests.ensures c.free.ensures
     c.grant-grants.ensures.matching in
     next_written _ c.grant-grants.new.self _ given _ _ _ _ _ c.loop-port.invariant c.in-Some.ensures _ _
-    (sym c.get.ensures ∙ c.in-Some-get.is) (sym c.in_record.ensures ∙ c.in-Waiting.is) _ c.hold.ensures
+    (sym c.number-out_vc.ensures) (sym c.in_record.ensures ∙ c.in-Waiting.is) _ c.hold.ensures
 
-pub loop-port-preserved-in_default-in_record : goal.loop-port-preserved-in_default-in_record
-loop-port-preserved-in_default-in_record c =
+pub loop-port-preserved : goal.loop-port-preserved
+loop-port-preserved c =
     let given = grantable _ _ _ _ _ _ _ _ c.self.invariant c.requests.ensures c.free.ensures
     c.grant-grants.ensures.matching in
     let waits = next_waits _ c.grant-grants.new.self _ given _ _ _ _ _ c.loop-port.invariant c.in-Some.ensures _
-    (sym c.get.ensures ∙ c.in-Some-get.is) in
+    (sym c.number-out_vc.ensures) in
     absurd (c.in_default-in_record.not-Waiting waits.0 (c.in_record.ensures ∙ waits.1))
 
 pub set_grants_nothing-requires : goal.set_grants_nothing-requires

@@ -1,4 +1,5 @@
-use Rattle.std.proofs.Common.{◌≡◌, ◌<◌, ◌∙◌, arith, ap, Some, None, slice_index_or, rules, []}
+use Rattle.std.proofs.Common.{◌<◌, ◌∙◌, arith, ap, Some, None, slice_index_or, []}
+use Rattle.std.specs.Option.{option_map}
 use Rattle.worm_swalloc.specs.SwAlloc.{SwAllocState, request_of}
 use Rattle.worm_swalloc.proofs.SwitchPass.{named_is}
 use Rattle.worm_swalloc.proofs.sw_alloc.SwAlloc.request.Goals as goal
@@ -28,9 +29,8 @@ returns c =
     } in
     let port_in : c.args.port < c.self.inside.ports = rw (← c.self.view_is) at c.requires in
     let few = c.self.invariant.few_ports in
-    let made : c.map.result ≡ request_of (slice_index_or c.args.ready.now c.args.port []) (Some c.in_ok-vc.vc) =
-    search rules in
     rw (← c.self.view_is)
-    (made ∙ ap (request_of (slice_index_or c.args.ready.now c.args.port []))
+    (ap (option_map (λ out. record { vc = c.in_ok-vc.vc; out = out })) c.out-out.ensures
+    ∙ ap (request_of (slice_index_or c.args.ready.now c.args.port []))
     (named_is s c.args.ready.now c.args.port c.ready_lines-lines.result c.index-self-port.result (Some c.in_ok-vc.vc)
     c.self.invariant port_in (omega arith) c.ready_lines-lines.ensures.lines c.in_ok-vc.ensures.winner))

@@ -1,5 +1,6 @@
-use Rattle.worm_vcalloc.proofs.PlacesPassing.{keyed_none}
+use Rattle.std.proofs.Common.{replicate}
+use Rattle.worm_vcalloc.proofs.KeyedTables.{keyed_none}
 use Rattle.worm_vcalloc.proofs.channel_map.ChannelMap.new.Goals as goal
 
-pub invariant_of-result : goal.invariant_of-result
-invariant_of-result c = keyed_none c.new.result c.new.ensures
+pub returns : goal.returns
+returns c = keyed_none 0 c.new.result (replicate 7 (replicate 8 0)) c.new.ensures

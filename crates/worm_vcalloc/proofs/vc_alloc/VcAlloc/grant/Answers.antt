@@ -1,6 +1,6 @@
-use Rattle.std.proofs.Common.{◌≡◌, ◌∙◌, ap}
+use Rattle.std.proofs.Common.{◌∙◌, ap}
 use Rattle.worm_vcalloc.specs.Asked.{HasAsked}
-use Rattle.worm_vcalloc.specs.VcAlloc.{VcAllocState, VcPass, port_pass, vc_pass}
+use Rattle.worm_vcalloc.specs.VcAlloc.{VcAllocState, VcPass, vc_pass}
 use Rattle.worm_vcalloc.proofs.AskedPassed.{passed_start, passed_more, passed_all}
 use Rattle.worm_vcalloc.proofs.PassMatches.{matching_of}
 use Rattle.worm_vcalloc.proofs.vc_alloc.VcAlloc.grant.Goals as goal
@@ -8,7 +8,7 @@ use Rattle.worm_vcalloc.proofs.vc_alloc.VcAlloc.grant.Goals as goal
 pub loop-out-init : goal.loop-out-init
 loop-out-init c =
     let start : VcPass = record { alloc = c.args.self.now; grants = c.new-grants.result } in
-    let asked : HasAsked c.args.waiting.now c.ports-left.result = rw (← c.of-asked.ensures) c.ports-left.ensures in
+    let asked : HasAsked c.args.waiting.now c.ports-left.result = rw c.ports-left.ensures c.file.ensures.asked in
     passed_start c.args.waiting.now c.args.free.now start c.ports-left.result (rw (← c.self.view_is) c.self.invariant)
     asked
 
@@ -17,10 +17,8 @@ loop-out-preserved-then-out-ports c =
     let start : VcPass = record { alloc = c.args.self.now; grants = c.new-grants.result } in
     let here : VcPass = record { alloc = c.loop-out.self; grants = c.loop-out.grants } in
     let there : VcPass = record { alloc = c.grant_port.new.self; grants = c.grant_port.new.grants } in
-    let pass : there ≡ port_pass c.args.waiting.now c.args.free.now here c.in-Some.out =
-    rw (← c.of-asked.ensures) c.grant_port.ensures.pass in
     passed_more c.args.waiting.now c.args.free.now start here there c.loop-out.left c.pop_first.new.self c.in-Some.out
-    c.loop-out.invariant c.in-Some.ensures (rw (← c.self.view_is) c.if-out-ports.true) pass
+    c.loop-out.invariant c.in-Some.ensures (rw (← c.self.view_is) c.if-out-ports.true) c.grant_port.ensures.pass
     c.grant_port.ensures.ports c.grant_port.ensures.channels
 
 pub returns-clause-pass : goal.returns-clause-pass

@@ -1,7 +1,8 @@
-use Rattle.std.proofs.Common.{◌≡◌, ◌<◌, false, None, refl, sym, ◌∙◌, arith}
+use Rattle.std.proofs.Common.{ℕ, ◌≡◌, ◌<◌, false, None, refl, sym, ap, ◌∙◌, arith}
+use Rattle.worm_vcalloc.specs.ChannelSet.{has}
 use Rattle.worm_vcalloc.specs.Table.{cell}
-use Rattle.worm_vcalloc.specs.VcRequest.{allows}
-use Rattle.worm_vcalloc.proofs.RequestersGathered.{gather_start, gather_more, gather_other, gather_all}
+use Rattle.worm_vcalloc.specs.VcRequest.{allows, is_for}
+use Rattle.worm_vcalloc.proofs.RequestersGathered.{gather_start, gather_more, gather_other, gather_all, first_waits}
 use Rattle.worm_vcalloc.proofs.vc_alloc.VcAlloc.requests_for.Goals as goal
 use Rattle.worm_vcalloc.proofs.vc_alloc.VcAlloc.requests_for.Goals.{
   else-port-ports-via-then-port-ports+then-vc-channels+else-takes,
@@ -13,12 +14,23 @@ use Rattle.worm_vcalloc.proofs.vc_alloc.VcAlloc.requests_for.Goals.{else-port-po
 
 pub loop-port-init : goal.loop-port-init
 loop-port-init c =
+    let few = c.self.invariant.few_ports in
+    let out_in : c.args.out < c.self.inside.ports = rw (← c.self.view_is) at c.requires.out in
+    let asking : (p v : ℕ) → p < 7 → v < 8 → has c.asking_port.result p v
+    ≡ is_for (cell c.args.waiting.now p v None) c.args.out =
+    λ p v lp lv. ap (λ s. has s p v) c.asking_port.ensures ∙ c.requires.filed.each c.args.out p v (omega arith) lp lv in
     let none_yet =
     gather_start c.args.waiting.now c.args.grants.now c.args.out c.args.channel c.self.inside.ports
     c.self.inside.channels c.asking_port.result c.keys.result c.difference-left.result
-    c.self.invariant.few_ports c.self.invariant.few_channels c.asking_port.ensures c.keys.ensures
+    c.self.invariant.few_ports c.self.invariant.few_channels asking c.keys.ensures
     c.difference-left.ensures in
     (none_yet, c.self.invariant.some_port, c.self.invariant.some_channel)
+
+pub takes-requires-clause-waits : goal.takes-requires-clause-waits
+takes-requires-clause-waits c =
+    first_waits c.args.waiting.now c.args.grants.now c.args.out c.args.channel c.self.inside.ports
+    c.self.inside.channels c.loop-port.left c.pop_first.new.self c.loop-port.lines c.in-Some.port c.in-Some.vc
+    c.loop-port.invariant.0 c.in-Some.ensures
 
 pub loop-port-preserved-then-takes : goal.loop-port-preserved-then-takes
 loop-port-preserved-then-takes c =
