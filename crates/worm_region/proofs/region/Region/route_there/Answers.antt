@@ -38,7 +38,8 @@ with_router_if s x q r false there is = ap (λ (p : RouterState). with_router s 
 -- what it leaves, and what its answer means
 routed : (c : After-route) →
     let new = with_router c.self.inside.fabric c.args.node c.route.new.self in
-    IsWorkable new × Replies c.args.self.now (Route c.args.node c.args.port c.args.vc) (Ok (moved_of c.route.result)) new
+    IsWorkable new
+    × Replies c.args.self.now (Route c.args.node c.args.port c.args.vc) (Ok (moved_of c.route.result)) new
 routed c =
     let s = c.self.inside.fabric in
     let x = c.args.node in

@@ -20,9 +20,10 @@ take_credit-requires-clause-front c =
     (port_inside c.args.node c.args.port c.self.view_is c.requires)
 
 -- what it leaves, and what its answer means
-took : (c : After-take_credit)
-    → IsWorkable c.take_credit.new.self
-    × Replies c.args.self.now (TakeCredit c.args.node c.args.port) (Ok (moved_of c.take_credit.result)) c.take_credit.new.self
+took : (c : After-take_credit) →
+    let new = c.take_credit.new.self in
+    IsWorkable new
+    × Replies c.args.self.now (TakeCredit c.args.node c.args.port) (Ok (moved_of c.take_credit.result)) new
 took c =
     answered_inside _ _ _ (TakeCredit c.args.node c.args.port) (Ok (moved_of c.take_credit.result)) c.self.view_is
     (get_answers c.self.inside.fabric c.args.node c.args.port c.self.invariant

@@ -20,9 +20,10 @@ take_flit-requires-clause-front c =
     (port_inside c.args.node c.args.port c.self.view_is c.requires)
 
 -- what it leaves, and what its answer means
-took : (c : After-take_flit)
-    → IsWorkable c.take_flit.new.self
-    × Replies c.args.self.now (Take c.args.node c.args.port) (Ok (moved_of c.take_flit.result)) c.take_flit.new.self
+took : (c : After-take_flit) →
+    let new = c.take_flit.new.self in
+    IsWorkable new
+    × Replies c.args.self.now (Take c.args.node c.args.port) (Ok (moved_of c.take_flit.result)) new
 took c =
     answered_inside _ _ _ (Take c.args.node c.args.port) (Ok (moved_of c.take_flit.result)) c.self.view_is
     (take_answers c.self.inside.fabric c.args.node c.args.port c.self.invariant
