@@ -61,7 +61,8 @@ enters_not r port p f None none = refl
 enters_not r port p f (Some g) none =
     let c = input_at r port f.vc in
     let more = length-append c.buffer (f ∷ []) in
-    let longer = as_long r.inputs (line r port f.vc) (line r p g.vc) (put_in c f) (fresh_channel r.depth) (omega arith) in
+    let longer = as_long r.inputs (line r port f.vc) (line r p g.vc) (put_in c f) (fresh_channel r.depth)
+    (omega arith) in
     let past : r.depth ≤ length (input_at r p g.vc).buffer = grind (arith, nat_tests) in
     let room : r.depth ≤ length (input_at (after_accept r port f) p g.vc).buffer = omega arith in
     grind (arith, nat_tests)

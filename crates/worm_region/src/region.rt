@@ -192,8 +192,8 @@ impl Region {
         self.fabric.wires().flits_in(node)
     }
 
-    /// The classes of which the node's source has a flit that was not fed, but for those whose injection buffer is known
-    /// to be full.
+    /// The classes of which the node's source has a flit that was not fed, but for those whose injection buffer is
+    /// known to be full.
     pub(crate) fn unfed(&self, node: u8) -> SmallSet
         requires { node < node_count self.now.mesh }
         ensures classes { CoversNumbers (NoFeed self.now node) (length self.now.channels) result }

@@ -184,8 +184,8 @@ module _ (r : RouterState) (sets new : BusyChannels) (asked now_asked : DemandVi
     owes_all = owe_left r port vc i had now leaving.input kept.busy.few_ports kept.busy.few_channels
         (slice_set r.outputs o u) sets.owes_all new.owes_all more sound_now.owed_fits leaving.owes_more left.owes_all
         kept.owes_all;
-    full = full_left r port vc i had now leaving.input (slice_set r.outputs o u) sets.full new.full more kept.classes.are
-        leaving.owes_more left.full kept.full;
+    full = full_left r port vc i had now leaving.input (slice_set r.outputs o u) sets.full new.full more
+        kept.classes.are leaving.owes_more left.full kept.full;
     classes = kept.classes;
     destinations = kept.destinations;
   }

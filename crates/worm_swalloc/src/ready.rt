@@ -46,7 +46,7 @@ impl<'a> Ready<'a> {
     }
 
     /// The output port of a channel that may send.
-    pub fn out(&self, port: u8, channel: u8) -> u8
+    pub fn out_port(&self, port: u8, channel: u8) -> u8
         requires port { port < 7 }
         requires channel { channel < 8 }
         requires within { is_some (cell self.now port channel None) ≡ true }

@@ -137,7 +137,7 @@ impl SwAlloc {
     {
         let lines = ready_lines(ready, port, self.channels);
         let vc = self.inputs[port as usize].peek(lines)?;
-        let out = ready.out(port, vc);
+        let out = ready.out_port(port, vc);
         Some(SwGrant { vc, out })
     }
 

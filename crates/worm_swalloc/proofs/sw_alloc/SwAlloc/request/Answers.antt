@@ -30,7 +30,7 @@ returns c =
     let port_in : c.args.port < c.self.inside.ports = rw (← c.self.view_is) at c.requires in
     let few = c.self.invariant.few_ports in
     rw (← c.self.view_is)
-    (ap (option_map (λ out. record { vc = c.in_ok-vc.vc; out = out })) c.out-out.ensures
+    (ap (option_map (λ out. record { vc = c.in_ok-vc.vc; out = out })) c.out_port-out.ensures
     ∙ ap (request_of (slice_index_or c.args.ready.now c.args.port []))
     (named_is s c.args.ready.now c.args.port c.ready_lines-lines.result c.index-self-port.result (Some c.in_ok-vc.vc)
     c.self.invariant port_in (omega arith) c.ready_lines-lines.ensures.lines c.in_ok-vc.ensures.winner))

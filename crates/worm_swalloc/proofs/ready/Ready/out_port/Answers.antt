@@ -1,6 +1,6 @@
 use Rattle.std.proofs.Common.{is_some, ap, ◌∙◌}
 use Rattle.worm_swalloc.proofs.ReadyCells.{cell_is_out}
-use Rattle.worm_swalloc.proofs.ready.Ready.out.Goals as goal
+use Rattle.worm_swalloc.proofs.ready.Ready.out_port.Goals as goal
 
 pub number-requires-clause-within : goal.number-requires-clause-within
 number-requires-clause-within c =
