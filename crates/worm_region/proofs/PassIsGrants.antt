@@ -2,7 +2,7 @@
 use Rattle.std.proofs.Common.{◌≡◌, ℕ, zero, suc, ◌+◌, ◌*◌, ◌<◌, ◌≤◌, ◌==◌, cond, Bool, true, false, ◌&&◌}
 use Rattle.std.proofs.Common.{if◌then◌else◌, List, [], ◌∷◌, length, sum, drop, Ok, Option, Some, None, is_some, refl}
 use Rattle.std.proofs.Common.{arith, ap, sym, subst, ◌∙◌}
-use Rattle.std.specs.Prelude.{All, Result, fold, IsSome, is_none, option_map}
+use Rattle.std.specs.Prelude.{Result, fold, IsSome, is_none, option_map}
 use Rattle.std.specs.List.{range_with_len}
 use Rattle.std.proofs.lemmas.List.{set-set}
 use Rattle.std.proofs.Math.ListN.{length-set}
