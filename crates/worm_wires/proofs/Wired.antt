@@ -8,7 +8,7 @@ use Rattle.worm_mesh.specs.Links.{IsLink, degree_of, links_before, link_count}
 use Rattle.worm_mesh.proofs.Digits.{AreLarge-from_radices}
 use Rattle.worm_mesh.proofs.Neighbours.{Joins-from, Joins-back, neighbour_of-some, neighbour_of-none, no_port}
 use Rattle.worm_mesh.proofs.Numbers.{below_count, degree_of-le, sum_below-le}
-use Rattle.worm_wires.specs.Wiring.{AreLinksOf, AreNumbers, in_link, into_from, kept_number, no_links, out_link}
+use Rattle.worm_wires.specs.Wiring.{AreLinksOf, AreWired, in_link, into_from, kept_number, no_links, out_link}
 use Rattle.worm_wires.specs.Wiring.{port_links}
 use Rattle.worm_wires.specs.declared.wiring.NodeLinks.{NodeLinks}
 use Rattle.worm_wires.specs.declared.wiring.PortLinks.{PortLinks}
@@ -28,25 +28,6 @@ out_by mesh x p radices (Some y) (Some k) e has = ap (λ (i : ℕ). Some i) has.
 pub out_numbered : (mesh : List ℕ) (x p : ℕ) → AreRadices mesh → (r : Option ℕ)
     → SomeIff r (IsLink mesh x p) (links_before mesh x p) → r ≡ out_link mesh x p
 out_numbered mesh x p radices r has = out_by mesh x p radices (neighbour_of mesh x p) r refl has
-
--- of a port with a neighbour it is the link's
-there_kept : (mesh : List ℕ) (x p y : ℕ) → neighbour_of mesh x p ≡ Some y
-    → kept_number (out_link mesh x p) ≡ links_before mesh x p
-there_kept mesh x p y e = ap (λ (n : Option ℕ). kept_number (option_map (λ z. links_before mesh x p) n)) e
-
-into_kept : (mesh : List ℕ) (x p y : ℕ) → neighbour_of mesh x p ≡ Some y
-    → kept_number (in_link mesh x p) ≡ links_before mesh y (opposite_of p)
-into_kept mesh x p y e =
-    ap (λ (n : Option ℕ). kept_number (option_map (λ z. links_before mesh z (opposite_of p)) n)) e
-
--- the number of the link into a port is that of the one out of the port that it comes from
-pub into_numbered : (mesh : List ℕ) (x p y : ℕ) → AreRadices mesh → neighbour_of mesh x p ≡ Some y
-    → kept_number (out_link mesh y (opposite_of p)) ≡ kept_number (in_link mesh x p)
-into_numbered mesh x p y radices e =
-    let large = AreLarge-from_radices mesh radices.radices in
-    let back = neighbour_of-some mesh y (opposite_of p) x large
-    (Joins-back mesh x p y (Joins-from mesh x p y large e)) in
-    there_kept mesh y (opposite_of p) x back ∙ sym (into_kept mesh x p y e)
 
 -- past the mesh ports there is none
 pub out_none : (mesh : List ℕ) (x p : ℕ) → 2 * length mesh ≤ p → out_link mesh x p ≡ None
@@ -72,15 +53,19 @@ wired_more mesh nodes i v there here before =
     rw get_or-set_other (before x below)) (rw get_or-set_same here)
 
 -- what is kept, at a place that is named by other numbers
-pub number_kept : (link : List ℕ → ℕ → ℕ → Option ℕ) (row : NodeLinks → List ℕ) (mesh now : List ℕ)
-    (nodes : List NodeLinks) (x p i q : ℕ)
-    → ((y : ℕ) → y < 256 → AreNumbers (link mesh y) (row (get_or nodes y no_links))) → mesh ≡ now
-    → x < 256 → p < 6 → i ≡ x → q ≡ p → get_or (row (get_or nodes i no_links)) q 0 ≡ kept_number (link now x p)
-number_kept link row mesh now nodes x p i q wired same x_in p_in at_x at_p =
-    (λ t. get_or (row (get_or nodes (at_x t) no_links)) (at_p t) 0)
-    ∙ (wired x x_in p p_in ∙ ap (λ (m : List ℕ). kept_number (link m x p)) same)
+pub number_kept : (mesh now : List ℕ) (nodes : List NodeLinks) (x p i q : ℕ) → AreWired mesh nodes → mesh ≡ now
+    → x < 256 → p < 6 → i ≡ x → q ≡ p
+    → get_or (get_or nodes i no_links).outs q 0 ≡ kept_number (out_link now x p)
+number_kept mesh now nodes x p i q wired same x_in p_in at_x at_p =
+    (λ t. get_or (get_or nodes (at_x t) no_links).outs (at_p t) 0)
+    ∙ (wired x x_in p p_in ∙ ap (λ (m : List ℕ). kept_number (out_link m x p)) same)
 
--- of a port without a neighbour it is none's
+-- of a port with a neighbour it is the link's
+there_kept : (mesh : List ℕ) (x p y : ℕ) → neighbour_of mesh x p ≡ Some y
+    → kept_number (out_link mesh x p) ≡ links_before mesh x p
+there_kept mesh x p y e = ap (λ (n : Option ℕ). kept_number (option_map (λ z. links_before mesh x p) n)) e
+
+-- of one without a neighbour it is none's
 few_links : (mesh : List ℕ) → AreRadices mesh → link_count mesh ≤ 1536
 few_links mesh radices =
     let each : (x : ℕ) → degree_of mesh x ≤ 6 = λ x. omega (arith, degree_of-le mesh x, radices.few_dims) in
@@ -99,13 +84,16 @@ pub none_kept : (mesh : List ℕ) (x p : ℕ) → AreRadices mesh → kept_numbe
 none_kept mesh x p radices kept = none_by mesh x p radices (neighbour_of mesh x p) refl kept
 
 -- the links of a port put together of their parts
-pub joined : (mesh : List ℕ) (x p y k j : ℕ) → Some y ≡ neighbour_of mesh x p
-    → k ≡ kept_number (out_link mesh x p) → j ≡ kept_number (in_link mesh x p)
+pub joined : (mesh : List ℕ) (x p y k j : ℕ) → AreRadices mesh → Some y ≡ neighbour_of mesh x p
+    → k ≡ kept_number (out_link mesh x p) → j ≡ kept_number (out_link mesh y (opposite_of p))
     → ◌≡◌ {A = Option PortLinks} (Some (record { beyond = y; entered = opposite_of p; out = k; into = j }))
     (port_links mesh x p)
-joined mesh x p y k j e out into =
+joined mesh x p y k j radices e out into =
+    let large = AreLarge-from_radices mesh radices.radices in
+    let back = neighbour_of-some mesh y (opposite_of p) x large
+    (Joins-back mesh x p y (Joins-from mesh x p y large (sym e))) in
     let one : k ≡ links_before mesh x p = out ∙ there_kept mesh x p y (sym e) in
-    let two : j ≡ links_before mesh y (opposite_of p) = into ∙ into_kept mesh x p y (sym e) in
+    let two : j ≡ links_before mesh y (opposite_of p) = into ∙ there_kept mesh y (opposite_of p) x back in
     rw (← e) (cc)
 
 pub no_links_there : (mesh : List ℕ) (x p : ℕ) → neighbour_of mesh x p ≡ None → port_links mesh x p ≡ None

@@ -33,17 +33,12 @@ abbrev pub kept_number : Option ℕ → ℕ
 kept_number None = 65535
 kept_number (Some k) = k
 
--- a row has what is kept of the link of each mesh port
-abbrev pub AreNumbers : (ℕ → Option ℕ) → List ℕ → Type 0
-AreNumbers link numbers = (p : ℕ) → p < 6 → slice_index_or numbers p 0 ≡ kept_number (link p)
-
--- what is kept of a node: the numbers of the links out of it and of those into it
-pub record AreLinksOf (mesh : List ℕ) (x : ℕ) (links : NodeLinks) : Type 0 where
-  pub outs : AreNumbers (out_link mesh x) links.outs
-  pub ins : AreNumbers (in_link mesh x) links.ins
+-- what is kept of a node
+abbrev pub AreLinksOf : List ℕ → ℕ → NodeLinks → Type 0
+AreLinksOf mesh x links = (p : ℕ) → p < 6 → slice_index_or links.outs p 0 ≡ kept_number (out_link mesh x p)
 
 abbrev pub no_links : NodeLinks
-no_links = record { outs = []; ins = [] }
+no_links = record { outs = [] }
 
 -- the links of each number, a node's or not
 abbrev pub AreWired : List ℕ → List NodeLinks → Type 0

@@ -3,8 +3,8 @@
 ghost use Rattle.std.specs.Prelude.{◌≡◌, ◌<◌, ◌≤◌, ◌*◌, ℕ, IfSome, IsSome, Some, length};
 ghost use Rattle.worm_mesh.specs.Address.{AreRadices, neighbour_of, node_count, stride_of};
 ghost use Rattle.worm_mesh.specs.Links.{link_count, links_before};
-ghost use Rattle.worm_wires.specs.Wiring.{AreLinksOf, AreNumbers, AreSteps, in_link, into_from, kept_number};
-ghost use Rattle.worm_wires.specs.Wiring.{out_link, port_links};
+ghost use Rattle.worm_wires.specs.Wiring.{AreLinksOf, AreSteps, in_link, into_from, kept_number, out_link};
+ghost use Rattle.worm_wires.specs.Wiring.{port_links};
 
 use std::marker::Model;
 use worm_mesh::Mesh;
@@ -25,18 +25,14 @@ pub struct PortLinks {
 /// What is kept of a port without a neighbour: no link has this number, since there are at most 1,536.
 const NO_LINK: u16 = 65_535;
 
-/// The numbers of a node's links by mesh port, `NO_LINK` where there is no neighbour.
+/// The numbers of the links out of a node by mesh port, `NO_LINK` where there is no neighbour.
 #[derive(Clone, Copy)]
 pub struct NodeLinks {
-    /// Of the link out of each port.
+    /// By port.
     pub outs: [u16; 6],
-    /// Of the link into each port. They stand in the tables of the neighbours, too, but each flit that is taken needs
-    /// one.
-    pub ins: [u16; 6],
 }
 
-/// A mesh and the links of each of its nodes. It has room for 256 nodes whatever the mesh, 6 kilobytes that are copied
-/// where a network or a part is moved by value: not in a turn.
+/// A mesh and the links of each of its nodes. It is small, since networks and parts are moved about by value.
 #[derive(Drop)]
 pub struct Wiring {
     /// The mesh.
@@ -74,49 +70,16 @@ fn number_out(mesh: &Mesh, node: u8, port: u8) -> u16
     }
 }
 
-/// The number that is kept of the link into this port.
-fn number_into(mesh: &Mesh, node: u8, port: u8) -> u16
-    requires { AreRadices mesh.now }
-    ensures { result ≡ kept_number (in_link mesh.now node port) }
-{
-    match mesh.neighbour(node, port) {
-        Some(beyond) => number_out(mesh, beyond, mesh.opposite(port)),
-        None => NO_LINK,
-    }
-}
-
-/// The numbers of the links out of a node, by port.
-fn numbers_out(mesh: &Mesh, node: u8) -> [u16; 6]
-    requires { AreRadices mesh.now }
-    ensures { AreNumbers (out_link mesh.now node) result }
-{
-    let mut numbers = [NO_LINK; 6];
-    for port in 0..6u8 {
-        numbers[usize::from(port)] = number_out(mesh, node, port);
-    }
-    numbers
-}
-
-/// The numbers of the links into a node, by port.
-fn numbers_into(mesh: &Mesh, node: u8) -> [u16; 6]
-    requires { AreRadices mesh.now }
-    ensures { AreNumbers (in_link mesh.now node) result }
-{
-    let mut numbers = [NO_LINK; 6];
-    for port in 0..6u8 {
-        numbers[usize::from(port)] = number_into(mesh, node, port);
-    }
-    numbers
-}
-
 /// The links of a node; none of a node that is not there.
 fn links_of(mesh: &Mesh, node: u8) -> NodeLinks
     requires { AreRadices mesh.now }
     ensures { AreLinksOf mesh.now node result }
 {
-    let outs = numbers_out(mesh, node);
-    let ins = numbers_into(mesh, node);
-    NodeLinks { outs, ins }
+    let mut outs = [NO_LINK; 6];
+    for port in 0..6u8 {
+        outs[usize::from(port)] = number_out(mesh, node, port);
+    }
+    NodeLinks { outs }
 }
 
 /// What one step in this dimension adds to a node's number: the number of the node one step from node 0.
@@ -151,10 +114,7 @@ impl Wiring {
         requires { AreRadices mesh }
         ensures { result ≡ mesh }
     {
-        let mut nodes = [NodeLinks {
-            outs: [NO_LINK; 6],
-            ins: [NO_LINK; 6],
-        }; 256];
+        let mut nodes = [NodeLinks { outs: [NO_LINK; 6] }; 256];
         for node in 0..256u16 {
             nodes[usize::from(node)] = links_of(&mesh, node as u8);
         }
@@ -194,7 +154,7 @@ impl Wiring {
     }
 
     /// The number that is kept of the link out of this port.
-    fn kept_out(&self, node: u8, port: u8) -> u16
+    fn kept(&self, node: u8, port: u8) -> u16
         requires { port < 6 }
         ensures value { result ≡ kept_number (out_link self.now node port) }
         ensures mesh { AreRadices self.now }
@@ -202,14 +162,6 @@ impl Wiring {
         // For the proof: a mesh has radices within their limits.
         let _nodes = self.mesh.nodes();
         self.nodes[usize::from(node)].outs[usize::from(port)]
-    }
-
-    /// The number that is kept of the link into this port.
-    fn kept_into(&self, node: u8, port: u8) -> u16
-        requires { port < 6 }
-        ensures { result ≡ kept_number (in_link self.now node port) }
-    {
-        self.nodes[usize::from(node)].ins[usize::from(port)]
     }
 
     /// The node beyond a port that has a neighbour.
@@ -228,9 +180,11 @@ impl Wiring {
         requires out { out ≡ kept_number (out_link self.now node port) }
         ensures { Some result ≡ port_links self.now node port }
     {
+        // For the proof: a mesh has radices within their limits.
+        let _nodes = self.mesh.nodes();
         let beyond = self.beyond(node, port);
         let entered = self.mesh.opposite(port);
-        let into = self.kept_into(node, port);
+        let into = self.kept(beyond, entered);
         PortLinks {
             beyond,
             entered,
@@ -256,7 +210,7 @@ impl Wiring {
         if port >= 6 {
             return None;
         }
-        let out = self.kept_out(node, port);
+        let out = self.kept(node, port);
         if out == NO_LINK {
             return None;
         }
@@ -279,7 +233,7 @@ impl Wiring {
     {
         // For the proof: a mesh has radices within their limits.
         let _nodes = self.mesh.nodes();
-        let out = self.kept_out(node, port);
+        let out = self.kept(node, port);
         self.links_by(node, port, out)
     }
 

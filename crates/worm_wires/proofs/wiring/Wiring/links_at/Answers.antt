@@ -7,7 +7,7 @@ pub returns-then-out-clause-value : goal.returns-then-out-clause-value
 returns-then-out-clause-value c =
     let radices = subst AreRadices c.self.view_is c.nodes-nodes.ensures.mesh in
     sym (no_links_there c.args.self.now c.args.node c.args.port
-    (none_kept c.args.self.now c.args.node c.args.port radices (sym c.kept_out-out.ensures.value ∙ c.if-out.true)))
+    (none_kept c.args.self.now c.args.node c.args.port radices (sym c.kept-out.ensures.value ∙ c.if-out.true)))
 
 pub returns-clause-bound : goal.returns-clause-bound
 returns-clause-bound c =
