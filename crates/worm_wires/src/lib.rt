@@ -8,11 +8,13 @@
 //! Nothing is said of routers or of threads: the queues between two threads are in `worm_links`.
 #![tactic(auto)]
 
+mod inbox;
 mod line;
 mod link;
 mod links;
 mod wiring;
 
+pub use inbox::Inboxes;
 pub use link::LinkState;
 pub use links::Links;
 pub use wiring::{PortLinks, Wiring};

@@ -2,13 +2,14 @@
 //! past all others.
 
 ghost use Rattle.std.specs.Prelude.{◌≡◌, ◌<◌, ◌↔◌, ◌++◌, ◌∷◌, [], ℕ, IsSome, IsTrue};
-ghost use Rattle.std.specs.Prelude.{Option, Some, true, drop, length};
+ghost use Rattle.std.specs.Prelude.{Option, Some, true, drop, is_some, length, option_copied, slice_get};
 ghost use Rattle.worm_mesh.specs.Address.{AreRadices, neighbour_of};
 ghost use Rattle.worm_mesh.specs.Links.{link_count};
 ghost use Rattle.worm_wires.specs.Arrivals.{AreArrivals, AreFronts, LinksView, credits_of, credits_to, flits_of};
 ghost use Rattle.worm_wires.specs.Arrivals.{flits_to, has_front, number_into, number_out, state_at, with_state};
 ghost use Rattle.worm_wires.specs.Wiring.{port_links};
 
+use crate::inbox::Inboxes;
 use crate::LinkState;
 use crate::wiring::{PortLinks, Wiring};
 use std::marker::Model;
@@ -33,6 +34,8 @@ pub struct Links {
     states: Vec<LinkState>,
     /// What comes in, by node number.
     arrivals: [Arrivals; 256],
+    /// Memory for inboxes.
+    inboxes: Inboxes,
 }
 
 impl Model for Links {
@@ -87,8 +90,8 @@ fn arrivals_of(wiring: &Wiring, states: &[LinkState], node: u8) -> Arrivals
 }
 
 impl Links {
-    /// The links of the mesh, in these states by number.
-    pub fn new(mesh: Mesh, states: Vec<LinkState>) -> Links
+    /// The links of the mesh, in these states by number, with inboxes in this memory.
+    pub fn new(mesh: Mesh, states: Vec<LinkState>, inboxes: Inboxes) -> Links
         requires mesh { AreRadices mesh }
         requires states { length states.items ≡ link_count mesh }
         ensures { result ≡ record { mesh = mesh; states = states.items } }
@@ -105,6 +108,7 @@ impl Links {
             wiring,
             states,
             arrivals,
+            inboxes,
         }
     }
 
@@ -116,26 +120,76 @@ impl Links {
         &self.wiring
     }
 
-    /// The links by number.
-    pub fn into_states(self) -> Vec<LinkState>
-        ensures { result.items ≡ self.states }
+    /// The links by number, and the memory of the inboxes.
+    pub fn into_states(self) -> (Vec<LinkState>, Inboxes)
+        ensures { result.0.items ≡ self.states }
     {
         let Links {
             wiring: _,
             states,
             arrivals: _,
+            inboxes,
         } = self;
-        states
+        (states, inboxes)
     }
 
-    /// The link of this number.
-    pub fn link(&self, number: u16) -> &LinkState
-        requires { number < link_count self.now.mesh }
-        ensures { result.now ≡ state_at self.now number }
+    /// The flit that comes in next by this port of the node, if there is one: where it lies, since what takes it asks
+    /// first whether there is room for it.
+    pub fn front_in(&self, node: u8, port: u8) -> Option<&Flit>
+        requires { IsSome (neighbour_of self.now.mesh node port) }
+        ensures value { option_copied result
+            ≡ slice_get (state_at self.now (number_into self.now node port)).flits 0 }
+        ensures variant { is_some result
+            ≡ is_some (slice_get (state_at self.now (number_into self.now node port)).flits 0) }
     {
-        // For the proof: the list has a state for each link.
-        let _arrivals = &self.arrivals;
-        &self.states[usize::from(number)]
+        let links = self.wiring.links_beyond(node, port);
+        self.states[usize::from(links.into)].front()
+    }
+
+    /// The channel of the credit that comes back next over the link out of this port, if there is one.
+    pub fn front_credit(&self, node: u8, port: u8) -> Option<u8>
+        requires { IsSome (neighbour_of self.now.mesh node port) }
+        ensures { result ≡ slice_get (state_at self.now (number_out self.now node port)).credits 0 }
+    {
+        let links = self.wiring.links_beyond(node, port);
+        self.states[usize::from(links.out)].front_credit()
+    }
+
+    /// Whether a flit is on the link out of this port.
+    pub fn has_flits(&self, node: u8, port: u8) -> bool
+        requires { IsSome (neighbour_of self.now.mesh node port) }
+        ensures { result ≡ has_front (state_at self.now (number_out self.now node port)).flits }
+    {
+        let links = self.wiring.links_beyond(node, port);
+        self.states[usize::from(links.out)].front().is_some()
+    }
+
+    /// Whether a credit is on its way back over the link into this port.
+    pub fn has_credits(&self, node: u8, port: u8) -> bool
+        requires { IsSome (neighbour_of self.now.mesh node port) }
+        ensures { result ≡ has_front (state_at self.now (number_into self.now node port)).credits }
+    {
+        let links = self.wiring.links_beyond(node, port);
+        self.states[usize::from(links.into)].front_credit().is_some()
+    }
+
+    /// How many flits are on the link out of this port.
+    pub fn count(&self, node: u8, port: u8) -> usize
+        requires { IsSome (neighbour_of self.now.mesh node port) }
+        ensures { result ≡ length (state_at self.now (number_out self.now node port)).flits }
+    {
+        let links = self.wiring.links_beyond(node, port);
+        self.states[usize::from(links.out)].count()
+    }
+
+    /// The flit at place `i` of the link out of this port, counted from the front.
+    pub fn flit(&self, node: u8, port: u8, i: usize) -> Flit
+        requires linked { IsSome (neighbour_of self.now.mesh node port) }
+        requires place { i < length (state_at self.now (number_out self.now node port)).flits }
+        ensures { slice_get (state_at self.now (number_out self.now node port)).flits i ≡ Some result }
+    {
+        let links = self.wiring.links_beyond(node, port);
+        self.states[usize::from(links.out)].flit(i)
     }
 
     /// Whether nothing comes in at the node.
