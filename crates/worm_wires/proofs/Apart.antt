@@ -13,7 +13,7 @@ pub number_cases : (k c : ℕ) → (((k == c) ≡ true) × (k ≡ c)) ⊎ (((k =
 number_cases k c = grind arith
 
 -- what leads there leads back
-back_of : (mesh : List ℕ) (x p y : ℕ) → AreRadices mesh → neighbour_of mesh x p ≡ Some y
+pub back_of : (mesh : List ℕ) (x p y : ℕ) → AreRadices mesh → neighbour_of mesh x p ≡ Some y
     → neighbour_of mesh y (opposite_of p) ≡ Some x
 back_of mesh x p y radices e =
     let large = AreLarge-from_radices mesh radices.radices in

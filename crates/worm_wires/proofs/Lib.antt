@@ -3,3 +3,8 @@ pub mod ArrivalsKept
 pub mod StepsAdd
 pub mod ArrivalsFound
 pub mod Apart
+pub mod ByNumber
+pub mod Ways
+pub mod Seen
+pub mod ListsWritten
+pub mod FlitsWritten

@@ -1,7 +1,10 @@
 //! The inboxes of the nodes: at each mesh port the flit that comes in next, and the credit that comes back next.
 
-ghost use Rattle.std.specs.Prelude.{◌≡◌};
+ghost use Rattle.std.specs.Prelude.{◌≡◌, ◌<◌, is_some, slice_get, true};
+ghost use Rattle.worm_flit.specs.SmallSet.{has};
+ghost use Rattle.worm_wires.specs.Inbox.{AreCreditsFiled, AreFlitsFiled, IsWay, whole};
 
+use crate::LinkState;
 use std::alloc::{AllocError, Global};
 use std::marker::Model;
 use worm_flit::{Flit, Kind, Lane, SmallSet};
@@ -53,6 +56,69 @@ impl Inbox {
             flit: [NO_FLIT; 6],
             credit: [0; 6],
         }
+    }
+
+    /// Files which flit comes in next by the port, if one does, and whether the link has a list of them.
+    #[inline(always)]
+    pub(crate) fn file_flits(&mut self, port: u8, more: bool, front: Option<Flit>)
+        requires { port < 6 }
+        ensures { AreFlitsFiled self.old self.new port (is_some front) more front }
+    {
+        self.flits.put(port, front.is_some());
+        self.more_flits.put(port, more);
+        if let Some(flit) = front {
+            self.flit[usize::from(port)] = flit;
+        }
+    }
+
+    /// Files of which channel the credit is that comes back next by the port, if one does, and whether the link has a
+    /// list of them.
+    #[inline(always)]
+    pub(crate) fn file_credits(&mut self, port: u8, more: bool, front: Option<u8>)
+        requires { port < 6 }
+        ensures { AreCreditsFiled self.old self.new port (is_some front) more front }
+    {
+        self.credits.put(port, front.is_some());
+        self.more_credits.put(port, more);
+        if let Some(vc) = front {
+            self.credit[usize::from(port)] = vc;
+        }
+    }
+
+    /// Moves the flit that comes in by the port into the list of its link, where it is in the inbox alone.
+    pub(crate) fn spill_flits(&mut self, port: u8, link: &mut LinkState)
+        requires port { port < 6 }
+        requires here { has self.old.flits port ≡ true }
+        requires way { IsWay (has self.old.flits port) (has self.old.more_flits port) (slice_get self.old.flit port)
+            link.old.flits link.old.room }
+        ensures link { link.new ≡ record link.old {
+          flits = whole true (slice_get self.old.flit port) link.old.flits;
+        } }
+        ensures inbox { AreFlitsFiled self.old self.new port true true (slice_get self.old.flit port) }
+    {
+        if self.more_flits.contains(port) {
+            return;
+        }
+        link.push(self.flit[usize::from(port)]);
+        self.more_flits.put(port, true);
+    }
+
+    /// The same of a credit that comes back by the port.
+    pub(crate) fn spill_credits(&mut self, port: u8, link: &mut LinkState)
+        requires port { port < 6 }
+        requires here { has self.old.credits port ≡ true }
+        requires way { IsWay (has self.old.credits port) (has self.old.more_credits port)
+            (slice_get self.old.credit port) link.old.credits link.old.room }
+        ensures link { link.new ≡ record link.old {
+          credits = whole true (slice_get self.old.credit port) link.old.credits;
+        } }
+        ensures inbox { AreCreditsFiled self.old self.new port true true (slice_get self.old.credit port) }
+    {
+        if self.more_credits.contains(port) {
+            return;
+        }
+        link.push_credit(self.credit[usize::from(port)]);
+        self.more_credits.put(port, true);
     }
 }
 

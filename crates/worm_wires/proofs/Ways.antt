@@ -1,0 +1,66 @@
+-- What is on one way of a link, by an inbox's port and the list behind it.
+use Rattle.std.proofs.Common.{◌≡◌, ℕ, ◌<◌, Bool, true, false, cond, List, [], ◌∷◌, ◌++◌, length, Option, Some, None, refl, subst}
+use Rattle.std.proofs.Common.{arith, ap, sym, ◌∙◌, drop}
+use Rattle.std.specs.Prelude.{slice_get, IsSome, option_to_list, is_some}
+use Rattle.worm_wires.specs.Arrivals.{has_front}
+use Rattle.worm_wires.specs.Inbox.{IsWay, whole}
+
+no_front : {A : Type 0} (xs : List A) → has_front xs ≡ false → xs ≡ []
+no_front [] none = refl
+no_front (x ∷ xs) none = absurd (cc)
+
+-- of one whose link has no list, the list is empty
+pub not_listed : {A : Type 0} (here more : Bool) (front : Option A) (list : List A) (room : ℕ)
+    → IsWay here more front list room → more ≡ false → list ≡ []
+not_listed here more front list room way none = no_front list (sym way.listed ∙ none)
+
+-- of one whose link has a list, that is all of it
+pub all_listed : {A : Type 0} (here more : Bool) (front : Option A) (list : List A) (room : ℕ)
+    → IsWay here more front list room → more ≡ true → whole here front list ≡ list
+all_listed here more front [] room way some = absurd (cc)
+all_listed here more front (x ∷ xs) room way some = refl
+
+-- one comes in where the inbox says so
+pub comes_by : {A : Type 0} (here more : Bool) (front : Option A) (list : List A) (room : ℕ)
+    → IsWay here more front list room → has_front (whole here front list) ≡ here
+comes_by true more None [] room way = let alone = (way.alone refl refl).1 in absurd (cc)
+comes_by true more (Some x) [] room way = refl
+comes_by false more front [] room way = refl
+comes_by here more front (x ∷ xs) room way = sym (way.first refl).0
+
+-- and the first is the inbox's
+pub first_by : {A : Type 0} (here more : Bool) (front : Option A) (list : List A) (room : ℕ)
+    → IsWay here more front list room → here ≡ true → slice_get (whole here front list) 0 ≡ front
+first_by true more None [] room way some = refl
+first_by true more (Some x) [] room way some = refl
+first_by false more front [] room way some = absurd (cc)
+first_by here more front (x ∷ xs) room way some = sym (way.first refl).1
+
+pub none_by : {A : Type 0} (here more : Bool) (front : Option A) (list : List A) (room : ℕ)
+    → IsWay here more front list room → here ≡ false → slice_get (whole here front list) 0 ≡ None
+none_by true more front list room way none = absurd (cc)
+none_by false more front [] room way none = refl
+none_by false more front (x ∷ xs) room way none = let some = (way.first refl).0 in absurd (cc)
+
+-- where there is no link, none comes in
+pub unlinked : {A : Type 0} (here more : Bool) (front : Option A) → IsWay here more front [] 0
+    → whole here front [] ≡ []
+unlinked true more front way = absurd (omega (arith, (way.alone refl refl).0))
+unlinked false more front way = refl
+
+-- what is in the inbox alone finds room in the list
+pub has_room : {A : Type 0} (here more : Bool) (front : Option A) (list : List A) (room : ℕ)
+    → IsWay here more front list room → here ≡ true → more ≡ false → length list < room
+has_room here more front list room way some none =
+    let empty = not_listed here more front list room way none in rw empty (way.alone empty some).0
+
+-- the same of what is the same
+pub way_same : {A : Type 0} (here here_now more more_now : Bool) (front front_now : Option A) (list now : List A)
+    (room room_now : ℕ) → IsWay here more front list room → here_now ≡ here → more_now ≡ more → front_now ≡ front
+    → now ≡ list → room_now ≡ room → IsWay here_now more_now front_now now room_now
+way_same here here_now more more_now front front_now list now room room_now way comes listed first all fits =
+    subst (λ (b : Bool). IsWay b more_now front_now now room_now) (sym comes)
+    (subst (λ (b : Bool). IsWay here b front_now now room_now) (sym listed)
+    (subst (λ (f : Option _). IsWay here more f now room_now) (sym first)
+    (subst (λ (l : List _). IsWay here more front l room_now) (sym all)
+    (subst (λ (r : ℕ). IsWay here more front list r) (sym fits) way))))
