@@ -8,3 +8,4 @@ pub mod Ways
 pub mod Seen
 pub mod ListsWritten
 pub mod FlitsWritten
+pub mod CreditsWritten
