@@ -9,10 +9,9 @@ use Rattle.worm_mesh.specs.Links.{links_before}
 use Rattle.worm_wires.specs.Links.{LinkView, blank_link}
 use Rattle.worm_wires.specs.Wiring.{into_from}
 use Rattle.worm_flit.specs.SmallSet.{has}
-use Rattle.worm_wires.specs.Arrivals.{LinksView, AreAllArrivals, AreArrivals, AreFronts, credits_of, credits_to}
-use Rattle.worm_wires.specs.Arrivals.{flits_of, flits_to, has_front, no_arrivals, number_into, number_out, on_link}
+use Rattle.worm_wires.specs.Arrivals.{LinksView, AreFronts, credits_of, credits_to}
+use Rattle.worm_wires.specs.Arrivals.{flits_of, flits_to, has_front, number_into, number_out, on_link}
 use Rattle.worm_wires.specs.Arrivals.{state_at}
-use Rattle.worm_wires.specs.declared.links.Arrivals.{Arrivals}
 use Rattle.worm_flit.proofs.SmallSets.{has_none}
 use Rattle.worm_wires.proofs.Wired.{in_none, out_none}
 
@@ -117,14 +116,6 @@ flits_past l x p above = ap (λ (n : Option ℕ). flits_of l.states n) (in_none 
 
 pub credits_past : (l : LinksView) (x o : ℕ) → 2 * length l.mesh ≤ o → credits_to l x o ≡ []
 credits_past l x o above = ap (λ (n : Option ℕ). credits_of l.states n) (out_none l.mesh x o above)
-
--- what is kept of a node, as a call reads it
-pub entry_at : (l : LinksView) (kept : List Arrivals) (x i : ℕ) (d : Arrivals) → AreAllArrivals l kept
-    → length kept ≡ 256 → x < 256 → i ≡ x → AreArrivals l x (get_or kept i d)
-entry_at l kept x i d are all x_in at_i =
-    let entry : get_or kept i d ≡ get_or kept x no_arrivals =
-    get_or_default kept i d no_arrivals (omega arith) ∙ ap (λ (v : ℕ). get_or kept v no_arrivals) at_i in
-    rw entry (are x x_in)
 
 pub true_of : (b : Bool) → IsTrue b → b ≡ true
 true_of true h = refl

@@ -1,14 +1,13 @@
 -- The mesh ports of a node at which something comes in: a flit from the link into the port, or a credit from the link
 -- out of it (Dally and Towles, chapter 13).
 use Rattle.std.specs.Prelude.{ℕ, ◌≡◌, ◌<◌, Bool, List, [], slice_get, slice_index_or, slice_set, Option, None, Some}
-use Rattle.std.specs.Prelude.{is_some, length}
+use Rattle.std.specs.Prelude.{is_some}
 use Rattle.worm_flit.specs.declared.Flit.{Flit}
 use Rattle.worm_mesh.specs.Address.{AreRadices, neighbour_of}
 use Rattle.worm_mesh.specs.Links.{link_count, links_before}
 use Rattle.worm_wires.specs.Links.{LinkView, blank_link}
 use Rattle.worm_wires.specs.Wiring.{in_link, into_from, out_link}
 use Rattle.worm_flit.specs.SmallSet.{has}
-use Rattle.worm_wires.specs.declared.links.Arrivals.{Arrivals}
 
 -- a mesh, and what is on each of its links
 pub record LinksView : Type 0 where
@@ -53,22 +52,3 @@ has_front xs = is_some (slice_get xs 0)
 -- a set has the ports whose list is not empty, and no others
 abbrev pub AreFronts : {A : Type 0} → (ℕ → List A) → ℕ → Type 0
 AreFronts list_to set = (p : ℕ) → p < 8 → has set p ≡ has_front (list_to p)
-
--- what is kept of a node: the ports by which something comes in
-pub record AreArrivals (l : LinksView) (x : ℕ) (kept : Arrivals) : Type 0 where
-  pub flits : AreFronts (flits_to l x) kept.flits
-  pub credits : AreFronts (credits_to l x) kept.credits
-
-abbrev pub no_arrivals : Arrivals
-no_arrivals = record { flits = 0; credits = 0 }
-
--- what is kept of each node, and of each number that is none's
-abbrev pub AreAllArrivals : LinksView → List Arrivals → Type 0
-AreAllArrivals l kept = (x : ℕ) → x < 256 → AreArrivals l x (slice_index_or kept x no_arrivals)
-
--- what holds of links: the mesh has radices within their limits, each of its links is in the list, and what comes in
--- is kept
-pub record AreKept (l : LinksView) (kept : List Arrivals) : Type 0 where
-  pub radices : AreRadices l.mesh
-  pub all : length l.states ≡ link_count l.mesh
-  pub known : AreAllArrivals l kept

@@ -49,11 +49,6 @@ pub record AreCreditsFiled (old new : Inbox) (p : ℕ) (here more : Bool) (front
   pub more_flits : new.more_flits ≡ old.more_flits
   pub flit : new.flit ≡ old.flit
 
--- each list has all that comes in by its port
-pub record IsSpilled (inbox : Inbox) : Type 0 where
-  pub flits : (p : ℕ) → p < 8 → has inbox.flits p ≡ has inbox.more_flits p
-  pub credits : (o : ℕ) → o < 8 → has inbox.credits o ≡ has inbox.more_credits o
-
 -- the inbox of a node
 pub record IsInbox (mesh : List ℕ) (links : List LinkView) (x : ℕ) (inbox : Inbox) : Type 0 where
   pub flits : (p : ℕ) → p < 8 → IsWay (has inbox.flits p) (has inbox.more_flits p) (slice_get inbox.flit p)
@@ -112,3 +107,33 @@ by_number mesh f = of_nodes mesh f (node_count mesh)
 -- what is on each link, by number
 abbrev pub links_by : List ℕ → List LinkView → List Inbox → List LinkView
 links_by mesh links inboxes = by_number mesh (link_by mesh links inboxes)
+
+-- the lists of the first ports have all that comes in by them
+pub record IsSpilled (inbox : Inbox) (ports : ℕ) : Type 0 where
+  pub flits : (p : ℕ) → p < ports → has inbox.flits p ≡ has inbox.more_flits p
+  pub credits : (o : ℕ) → o < ports → has inbox.credits o ≡ has inbox.more_credits o
+
+-- what a port's inbox has of flits is in the list of its link now; of other ports nothing has changed
+pub record AreFlitsSpilled (old new : List Inbox) (x p : ℕ) : Type 0 where
+  pub here : has (inbox_at new x).flits p ≡ has (inbox_at new x).more_flits p
+  pub comes : (q : ℕ) → q < 8 → (q ≡ p → ⊥) → has (inbox_at new x).flits q ≡ has (inbox_at old x).flits q
+  pub listed : (q : ℕ) → q < 8 → (q ≡ p → ⊥) → has (inbox_at new x).more_flits q ≡ has (inbox_at old x).more_flits q
+  pub credits : (inbox_at new x).credits ≡ (inbox_at old x).credits
+  pub more_credits : (inbox_at new x).more_credits ≡ (inbox_at old x).more_credits
+  pub others : (y : ℕ) → (y ≡ x → ⊥) → inbox_at new y ≡ inbox_at old y
+
+-- and so of credits
+pub record AreCreditsSpilled (old new : List Inbox) (x o : ℕ) : Type 0 where
+  pub here : has (inbox_at new x).credits o ≡ has (inbox_at new x).more_credits o
+  pub comes : (q : ℕ) → q < 8 → (q ≡ o → ⊥) → has (inbox_at new x).credits q ≡ has (inbox_at old x).credits q
+  pub listed : (q : ℕ) → q < 8 → (q ≡ o → ⊥)
+      → has (inbox_at new x).more_credits q ≡ has (inbox_at old x).more_credits q
+  pub flits : (inbox_at new x).flits ≡ (inbox_at old x).flits
+  pub more_flits : (inbox_at new x).more_flits ≡ (inbox_at old x).more_flits
+  pub others : (y : ℕ) → (y ≡ x → ⊥) → inbox_at new y ≡ inbox_at old y
+
+-- the links are seen as they were
+pub record AreSeenAlike (mesh : List ℕ) (links : List LinkView) (inboxes : List Inbox) (links_now : List LinkView)
+    (inboxes_now : List Inbox) : Type 0 where
+  pub sound : AreInboxes mesh links_now inboxes_now
+  pub same : links_by mesh links_now inboxes_now ≡ links_by mesh links inboxes

@@ -1,92 +1,132 @@
-//! The links of a mesh with what is on them, and by node the ports at which something comes in, so that a turn goes
-//! past all others.
+//! The links of a mesh with what is on them. What comes in next at a node stands in its inbox, so that a turn looks at
+//! one place, and goes past all other ports.
 
 ghost use Rattle.std.specs.Prelude.{◌≡◌, ◌<◌, ◌↔◌, ◌++◌, ◌∷◌, [], ℕ, IsSome, IsTrue};
 ghost use Rattle.std.specs.Prelude.{Option, Some, true, drop, is_some, length, option_copied, slice_get};
 ghost use Rattle.worm_mesh.specs.Address.{AreRadices, neighbour_of};
 ghost use Rattle.worm_mesh.specs.Links.{link_count};
-ghost use Rattle.worm_wires.specs.Arrivals.{AreArrivals, AreFronts, LinksView, credits_of, credits_to, flits_of};
+ghost use Rattle.worm_wires.specs.Arrivals.{AreFronts, LinksView, credits_of, credits_to, flits_of};
 ghost use Rattle.worm_wires.specs.Arrivals.{flits_to, has_front, number_into, number_out, state_at, with_state};
+ghost use Rattle.worm_wires.specs.Inbox.{AreCreditsSpilled, AreFlitsSpilled, AreInboxes, AreSeenAlike, IsInbox};
+ghost use Rattle.worm_wires.specs.Inbox.{IsSpilled, inbox_at};
 ghost use Rattle.worm_wires.specs.Wiring.{port_links};
 
-use crate::inbox::Inboxes;
+use crate::inbox::{Inbox, Inboxes};
 use crate::LinkState;
 use crate::wiring::{PortLinks, Wiring};
 use std::marker::Model;
 use worm_flit::{Flit, SmallSet};
 use worm_mesh::Mesh;
 
-/// The mesh ports of a node at which something comes in.
-#[derive(Clone, Copy)]
-pub struct Arrivals {
-    /// Where the link into the port has a flit.
-    pub flits: SmallSet,
-    /// Where the link out of the port has a credit on its way back.
-    pub credits: SmallSet,
-}
-
-/// A mesh, and its links by number with what is on them.
+/// A mesh, and its links by number with what is on them. What comes in next stands in the inbox of the node that takes
+/// it; a link on which more than one flit is has them all in a list, and so it is with credits.
 #[derive(Drop)]
 pub struct Links {
     /// The mesh, with the numbers of each node's links.
     wiring: Wiring,
-    /// The links by number.
-    states: Vec<LinkState>,
-    /// What comes in, by node number.
-    arrivals: [Arrivals; 256],
-    /// Memory for inboxes.
-    inboxes: Inboxes,
+    /// The lists, by link number.
+    lists: Vec<LinkState>,
+    /// The inboxes, by node number.
+    inboxes: Vec<Inbox>,
 }
 
 impl Model for Links {
-    ghost use Rattle.worm_wires.specs.Arrivals.{LinksView, AreKept};
+    ghost use Rattle.worm_wires.specs.Arrivals.{LinksView};
+    ghost use Rattle.worm_wires.specs.Inbox.{AreInboxes, links_by};
 
     ghost Value = { LinksView };
 
-    ghost view = { λ l. record { mesh = l.wiring; states = l.states.items } };
+    ghost view = { λ l. record { mesh = l.wiring; states = links_by l.wiring l.lists.items l.inboxes.items } };
 
-    ghost invariant = { λ l. AreKept (record { mesh = l.wiring; states = l.states.items }) l.arrivals };
+    ghost invariant = { λ l. AreInboxes l.wiring l.lists.items l.inboxes.items };
 }
 
-/// Whether the link of this number, if it is there, has a flit.
-fn has_flits(states: &[LinkState], number: Option<u16>) -> bool
-    ensures { result ≡ has_front (flits_of states.now number) }
+/// The first flit of the link of this number, if it is there and has one.
+fn front_flit(lists: &[LinkState], number: Option<u16>) -> Option<Flit>
+    ensures { result ≡ slice_get (flits_of lists.now number) 0 }
 {
-    let Some(number) = number else {
-        return false;
-    };
-    match states.get(usize::from(number)) {
-        None => false,
-        Some(link) => link.front().is_some(),
-    }
+    lists.get(usize::from(number?))?.front().copied()
 }
 
-/// Whether the link of this number, if it is there, has a credit.
-fn has_credits(states: &[LinkState], number: Option<u16>) -> bool
-    ensures { result ≡ has_front (credits_of states.now number) }
+/// The channel of the first credit of the link of this number, if it is there and has one.
+fn front_credit(lists: &[LinkState], number: Option<u16>) -> Option<u8>
+    ensures { result ≡ slice_get (credits_of lists.now number) 0 }
 {
-    let Some(number) = number else {
-        return false;
-    };
-    match states.get(usize::from(number)) {
-        None => false,
-        Some(link) => link.front_credit().is_some(),
-    }
+    lists.get(usize::from(number?))?.front_credit()
 }
 
-/// What comes in at a node.
-fn arrivals_of(wiring: &Wiring, states: &[LinkState], node: u8) -> Arrivals
-    ensures { AreArrivals (record { mesh = wiring.now; states = states.now }) node result }
+/// The inbox of a node, where each list has all that is on its link.
+fn inbox_of(wiring: &Wiring, lists: &[LinkState], node: u8) -> Inbox
+    ensures { IsInbox wiring.now lists.now node result }
 {
     // For the proof: a mesh has at most three dimensions.
     let _terminal = wiring.terminal();
-    let mut flits = SmallSet::new();
-    let mut credits = SmallSet::new();
+    let mut inbox = Inbox::new();
     for port in 0..6u8 {
-        flits.put(port, has_flits(states, wiring.link_into(node, port)));
-        credits.put(port, has_credits(states, wiring.link_out(node, port)));
+        let flit = front_flit(lists, wiring.link_into(node, port));
+        inbox.file_flits(port, flit.is_some(), flit);
+        let credit = front_credit(lists, wiring.link_out(node, port));
+        inbox.file_credits(port, credit.is_some(), credit);
     }
-    Arrivals { flits, credits }
+    inbox
+}
+
+/// Moves a flit that is in the node's inbox alone into the list of the link into the port.
+fn spill_flits(
+    wiring: &Wiring,
+    lists: &mut Vec<LinkState>,
+    inboxes: &mut Vec<Inbox>,
+    node: u8,
+    port: u8,
+)
+    requires port { port < 6 }
+    requires inboxes { AreInboxes wiring.now lists.old.items inboxes.old.items }
+    ensures kept { AreSeenAlike wiring.now lists.old.items inboxes.old.items lists.new.items inboxes.new.items }
+    ensures spilled { AreFlitsSpilled inboxes.old.items inboxes.new.items node port }
+{
+    let here = &mut inboxes[usize::from(node)];
+    if here.flits.contains(port) {
+        let links = wiring.links_beyond(node, port);
+        here.spill_flits(port, &mut lists[usize::from(links.into)]);
+    }
+}
+
+/// The same of a credit and the list of the link out of the port.
+fn spill_credits(
+    wiring: &Wiring,
+    lists: &mut Vec<LinkState>,
+    inboxes: &mut Vec<Inbox>,
+    node: u8,
+    port: u8,
+)
+    requires port { port < 6 }
+    requires inboxes { AreInboxes wiring.now lists.old.items inboxes.old.items }
+    ensures kept { AreSeenAlike wiring.now lists.old.items inboxes.old.items lists.new.items inboxes.new.items }
+    ensures spilled { AreCreditsSpilled inboxes.old.items inboxes.new.items node port }
+{
+    let here = &mut inboxes[usize::from(node)];
+    if here.credits.contains(port) {
+        let links = wiring.links_beyond(node, port);
+        here.spill_credits(port, &mut lists[usize::from(links.out)]);
+    }
+}
+
+/// Moves all that is in the node's inbox alone into the lists of its links.
+fn spill_node(
+    wiring: &Wiring,
+    lists: &mut Vec<LinkState>,
+    inboxes: &mut Vec<Inbox>,
+    node: u8,
+)
+    requires { AreInboxes wiring.now lists.old.items inboxes.old.items }
+    ensures kept { AreSeenAlike wiring.now lists.old.items inboxes.old.items lists.new.items inboxes.new.items }
+    ensures spilled { IsSpilled (inbox_at inboxes.new.items node) 6 }
+    ensures others { (y : ℕ) → (y ≡ node → ⊥) → inbox_at inboxes.new.items y ≡ inbox_at inboxes.old.items y }
+{
+    for port in 0..6u8 {
+        spill_flits(wiring, lists, inboxes, node, port);
+        spill_credits(wiring, lists, inboxes, node, port);
+    }
 }
 
 impl Links {
@@ -97,17 +137,13 @@ impl Links {
         ensures { result ≡ record { mesh = mesh; states = states.items } }
     {
         let wiring = Wiring::new(mesh);
-        let mut arrivals = [Arrivals {
-            flits: SmallSet::new(),
-            credits: SmallSet::new(),
-        }; 256];
+        let Inboxes { list: mut inboxes } = inboxes;
         for node in 0..256u16 {
-            arrivals[usize::from(node)] = arrivals_of(&wiring, states.as_slice(), node as u8);
+            inboxes[usize::from(node)] = inbox_of(&wiring, states.as_slice(), node as u8);
         }
         Links {
             wiring,
-            states,
-            arrivals,
+            lists: states,
             inboxes,
         }
     }
@@ -125,71 +161,14 @@ impl Links {
         ensures { result.0.items ≡ self.states }
     {
         let Links {
-            wiring: _,
-            states,
-            arrivals: _,
-            inboxes,
+            wiring,
+            mut lists,
+            mut inboxes,
         } = self;
-        (states, inboxes)
-    }
-
-    /// The flit that comes in next by this port of the node, if there is one: where it lies, since what takes it asks
-    /// first whether there is room for it.
-    pub fn front_in(&self, node: u8, port: u8) -> Option<&Flit>
-        requires { IsSome (neighbour_of self.now.mesh node port) }
-        ensures value { option_copied result
-            ≡ slice_get (state_at self.now (number_into self.now node port)).flits 0 }
-        ensures variant { is_some result
-            ≡ is_some (slice_get (state_at self.now (number_into self.now node port)).flits 0) }
-    {
-        let links = self.wiring.links_beyond(node, port);
-        self.states[usize::from(links.into)].front()
-    }
-
-    /// The channel of the credit that comes back next over the link out of this port, if there is one.
-    pub fn front_credit(&self, node: u8, port: u8) -> Option<u8>
-        requires { IsSome (neighbour_of self.now.mesh node port) }
-        ensures { result ≡ slice_get (state_at self.now (number_out self.now node port)).credits 0 }
-    {
-        let links = self.wiring.links_beyond(node, port);
-        self.states[usize::from(links.out)].front_credit()
-    }
-
-    /// Whether a flit is on the link out of this port.
-    pub fn has_flits(&self, node: u8, port: u8) -> bool
-        requires { IsSome (neighbour_of self.now.mesh node port) }
-        ensures { result ≡ has_front (state_at self.now (number_out self.now node port)).flits }
-    {
-        let links = self.wiring.links_beyond(node, port);
-        self.states[usize::from(links.out)].front().is_some()
-    }
-
-    /// Whether a credit is on its way back over the link into this port.
-    pub fn has_credits(&self, node: u8, port: u8) -> bool
-        requires { IsSome (neighbour_of self.now.mesh node port) }
-        ensures { result ≡ has_front (state_at self.now (number_into self.now node port)).credits }
-    {
-        let links = self.wiring.links_beyond(node, port);
-        self.states[usize::from(links.into)].front_credit().is_some()
-    }
-
-    /// How many flits are on the link out of this port.
-    pub fn count(&self, node: u8, port: u8) -> usize
-        requires { IsSome (neighbour_of self.now.mesh node port) }
-        ensures { result ≡ length (state_at self.now (number_out self.now node port)).flits }
-    {
-        let links = self.wiring.links_beyond(node, port);
-        self.states[usize::from(links.out)].count()
-    }
-
-    /// The flit at place `i` of the link out of this port, counted from the front.
-    pub fn flit(&self, node: u8, port: u8, i: usize) -> Flit
-        requires linked { IsSome (neighbour_of self.now.mesh node port) }
-        requires place { i < length (state_at self.now (number_out self.now node port)).flits }
-        ensures { slice_get (state_at self.now (number_out self.now node port)).flits i ≡ Some result }
-    {
-        let links = self.wiring.links_beyond(node, port);
-        self.states[usize::from(links.out)].flit(i)
+        for node in 0..256u16 {
+            spill_node(&wiring, &mut lists, &mut inboxes, node as u8);
+        }
+        (lists, Inboxes { list: inboxes })
     }
 
     /// Whether nothing comes in at the node.
@@ -201,7 +180,7 @@ impl Links {
     {
         // For the proof: a mesh has at most three dimensions.
         let _terminal = self.wiring.terminal();
-        let here = &self.arrivals[usize::from(node)];
+        let here = &self.inboxes[usize::from(node)];
         here.flits.is_empty() && here.credits.is_empty()
     }
 
@@ -209,14 +188,87 @@ impl Links {
     pub fn flits_in(&self, node: u8) -> SmallSet
         ensures { AreFronts (flits_to self.now node) result }
     {
-        self.arrivals[usize::from(node)].flits
+        self.inboxes[usize::from(node)].flits
     }
 
     /// The mesh ports of the node by which a credit comes back.
     pub fn credits_in(&self, node: u8) -> SmallSet
         ensures { AreFronts (credits_to self.now node) result }
     {
-        self.arrivals[usize::from(node)].credits
+        self.inboxes[usize::from(node)].credits
+    }
+
+    /// The flit that comes in next by this port of the node, if there is one: where it lies, since what takes it asks
+    /// first whether there is room for it.
+    pub fn front_in(&self, node: u8, port: u8) -> Option<&Flit>
+        requires { IsSome (neighbour_of self.now.mesh node port) }
+        ensures value { option_copied result
+            ≡ slice_get (state_at self.now (number_into self.now node port)).flits 0 }
+        ensures variant { is_some result
+            ≡ is_some (slice_get (state_at self.now (number_into self.now node port)).flits 0) }
+    {
+        let here = &self.inboxes[usize::from(node)];
+        if !here.flits.contains(port) {
+            return None;
+        }
+        Some(&here.flit[usize::from(port)])
+    }
+
+    /// The channel of the credit that comes back next over the link out of this port, if there is one.
+    pub fn front_credit(&self, node: u8, port: u8) -> Option<u8>
+        requires { IsSome (neighbour_of self.now.mesh node port) }
+        ensures { result ≡ slice_get (state_at self.now (number_out self.now node port)).credits 0 }
+    {
+        let here = &self.inboxes[usize::from(node)];
+        if !here.credits.contains(port) {
+            return None;
+        }
+        Some(here.credit[usize::from(port)])
+    }
+
+    /// Whether a flit is on the link out of this port.
+    pub fn has_flits(&self, node: u8, port: u8) -> bool
+        requires { IsSome (neighbour_of self.now.mesh node port) }
+        ensures { result ≡ has_front (state_at self.now (number_out self.now node port)).flits }
+    {
+        let links = self.wiring.links_beyond(node, port);
+        self.inboxes[usize::from(links.beyond)].flits.contains(links.entered)
+    }
+
+    /// Whether a credit is on its way back over the link into this port.
+    pub fn has_credits(&self, node: u8, port: u8) -> bool
+        requires { IsSome (neighbour_of self.now.mesh node port) }
+        ensures { result ≡ has_front (state_at self.now (number_into self.now node port)).credits }
+    {
+        let links = self.wiring.links_beyond(node, port);
+        self.inboxes[usize::from(links.beyond)].credits.contains(links.entered)
+    }
+
+    /// How many flits are on the link out of this port.
+    pub fn count(&self, node: u8, port: u8) -> usize
+        requires { IsSome (neighbour_of self.now.mesh node port) }
+        ensures { result ≡ length (state_at self.now (number_out self.now node port)).flits }
+    {
+        let links = self.wiring.links_beyond(node, port);
+        let there = &self.inboxes[usize::from(links.beyond)];
+        if there.more_flits.contains(links.entered) {
+            return self.lists[usize::from(links.out)].count();
+        }
+        usize::from(there.flits.contains(links.entered))
+    }
+
+    /// The flit at place `i` of the link out of this port, counted from the front.
+    pub fn flit(&self, node: u8, port: u8, i: usize) -> Flit
+        requires linked { IsSome (neighbour_of self.now.mesh node port) }
+        requires place { i < length (state_at self.now (number_out self.now node port)).flits }
+        ensures { slice_get (state_at self.now (number_out self.now node port)).flits i ≡ Some result }
+    {
+        let links = self.wiring.links_beyond(node, port);
+        let there = &self.inboxes[usize::from(links.beyond)];
+        if there.more_flits.contains(links.entered) {
+            return self.lists[usize::from(links.out)].flit(i);
+        }
+        there.flit[usize::from(links.entered)]
     }
 
     /// The links of this port, if the node has a neighbour there.
@@ -250,11 +302,15 @@ impl Links {
             (record (state_at self.old (number_into self.old node port))
             { flits = drop 1 (state_at self.old (number_into self.old node port)).flits }) }
     {
-        let link = &mut self.states[usize::from(links.into)];
-        link.pop();
-        let has_more = link.front().is_some();
-        let here = &mut self.arrivals[usize::from(node)];
-        here.flits.put(port, has_more);
+        let here = &mut self.inboxes[usize::from(node)];
+        if !here.more_flits.contains(port) {
+            here.file_flits(port, false, None);
+            return;
+        }
+        let list = &mut self.lists[usize::from(links.into)];
+        list.pop();
+        let front = list.front().copied();
+        here.file_flits(port, front.is_some(), front);
     }
 
     /// Puts the flit at the end of the link out of this port.
@@ -267,10 +323,14 @@ impl Links {
             { flits = (state_at self.old (number_out self.old node port)).flits ++ flit ∷ [] }) }
     {
         let links = self.wiring.links_beyond(node, port);
-        let link = &mut self.states[usize::from(links.out)];
-        link.push(flit);
-        let there = &mut self.arrivals[usize::from(links.beyond)];
-        there.flits.put(links.entered, true);
+        let there = &mut self.inboxes[usize::from(links.beyond)];
+        if !there.flits.contains(links.entered) {
+            there.file_flits(links.entered, false, Some(flit));
+            return;
+        }
+        let list = &mut self.lists[usize::from(links.out)];
+        there.spill_flits(links.entered, list);
+        list.push(flit);
     }
 
     /// Drops the front credit of the link out of this port, whose links are these.
@@ -280,11 +340,15 @@ impl Links {
             (record (state_at self.old (number_out self.old node port))
             { credits = drop 1 (state_at self.old (number_out self.old node port)).credits }) }
     {
-        let link = &mut self.states[usize::from(links.out)];
-        link.pop_credit();
-        let has_more = link.front_credit().is_some();
-        let here = &mut self.arrivals[usize::from(node)];
-        here.credits.put(port, has_more);
+        let here = &mut self.inboxes[usize::from(node)];
+        if !here.more_credits.contains(port) {
+            here.file_credits(port, false, None);
+            return;
+        }
+        let list = &mut self.lists[usize::from(links.out)];
+        list.pop_credit();
+        let front = list.front_credit();
+        here.file_credits(port, front.is_some(), front);
     }
 
     /// Puts a credit of the channel at the end of the credits of the link into this port, whose links are these.
@@ -296,9 +360,13 @@ impl Links {
             (record (state_at self.old (number_into self.old node port))
             { credits = (state_at self.old (number_into self.old node port)).credits ++ vc ∷ [] }) }
     {
-        let link = &mut self.states[usize::from(links.into)];
-        link.push_credit(vc);
-        let there = &mut self.arrivals[usize::from(links.beyond)];
-        there.credits.put(links.entered, true);
+        let there = &mut self.inboxes[usize::from(links.beyond)];
+        if !there.credits.contains(links.entered) {
+            there.file_credits(links.entered, false, Some(vc));
+            return;
+        }
+        let list = &mut self.lists[usize::from(links.into)];
+        there.spill_credits(links.entered, list);
+        list.push_credit(vc);
     }
 }
