@@ -8,3 +8,6 @@ pub mod Seen
 pub mod ListsWritten
 pub mod FlitsWritten
 pub mod CreditsWritten
+pub mod PortsWithin
+pub mod Called
+pub mod FlitsCalled

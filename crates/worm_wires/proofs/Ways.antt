@@ -64,3 +64,54 @@ way_same here here_now more more_now front front_now list now room room_now way 
     (subst (λ (f : Option _). IsWay here more f now room_now) (sym first)
     (subst (λ (l : List _). IsWay here more front l room_now) (sym all)
     (subst (λ (r : ℕ). IsWay here more front list r) (sym fits) way))))
+
+-- a port by which none comes in
+pub way_none : {A : Type 0} (front : Option A) (list : List A) (room : ℕ) → list ≡ []
+    → IsWay false false front list room
+way_none front list room none = record {
+  listed = rw none refl;
+  first = λ some. let no = sym (ap has_front none) ∙ some in absurd (cc);
+  alone = λ empty some. absurd (cc);
+}
+
+-- one whose list has all
+pub way_front : {A : Type 0} (here more : Bool) (front : Option A) (list : List A) (room : ℕ) → here ≡ has_front list
+    → more ≡ has_front list → (here ≡ true → front ≡ slice_get list 0) → IsWay here more front list room
+way_front here more front list room comes listed first = record {
+  listed = listed;
+  first = λ some. (comes ∙ some, first (comes ∙ some));
+  alone = λ empty some. let no = sym some ∙ comes ∙ ap has_front empty in absurd (cc);
+}
+
+pub whole_front : {A : Type 0} (here : Bool) (front : Option A) (list : List A) → here ≡ has_front list
+    → whole here front list ≡ list
+whole_front true front [] comes = absurd (cc)
+whole_front false front [] comes = refl
+whole_front here front (x ∷ xs) comes = refl
+
+-- what is in the inbox alone is dropped
+pub alone_dropped : {A : Type 0} (here : Bool) (front now : Option A) (list : List A) → list ≡ []
+    → whole false now list ≡ drop 1 (whole here front list)
+alone_dropped true None now [] empty = refl
+alone_dropped true (Some x) now [] empty = refl
+alone_dropped false front now [] empty = refl
+alone_dropped here front now (x ∷ xs) empty = absurd (cc)
+
+-- one more behind all that the list has
+pub way_more : {A : Type 0} (front : Option A) (list : List A) (more : A) (room : ℕ) → has_front list ≡ true
+    → front ≡ slice_get list 0 → IsWay true true front (list ++ more ∷ []) room
+way_more front [] more room some first = absurd (cc)
+way_more front (x ∷ xs) more room some first = record {
+  listed = refl;
+  first = λ some. (refl, first);
+  alone = λ empty some. absurd (cc);
+}
+
+-- one alone
+pub way_alone : {A : Type 0} (front : Option A) (list : List A) (x : A) (room : ℕ) → list ≡ [] → 0 < room
+    → front ≡ Some x → IsWay true false front list room
+way_alone front list x room empty fits is = record {
+  listed = rw empty refl;
+  first = λ some. let no = sym (ap has_front empty) ∙ some in absurd (cc);
+  alone = λ none some. (fits, rw is refl);
+}
