@@ -81,11 +81,12 @@ pub record AreNumbers (mesh : List ℕ) (now : LinksView) (x p : ℕ) (links : P
   pub back_out : links.into ≡ links_before mesh links.beyond links.entered
   pub back_into : links.out ≡ links_before mesh x (opposite_of links.entered)
 
-pub numbers_of : (mesh : List ℕ) (states : List LinkView) (now : LinksView) (x p : ℕ) (links : PortLinks)
+pub numbers_by : (mesh : List ℕ) (states : List LinkView) (now : LinksView) (x p : ℕ) (links : PortLinks)
     → AreRadices mesh → record { mesh = mesh; states = states } ≡ now
-    → ◌≡◌ {A = Option PortLinks} (Some links) (port_links now.mesh x p) → AreNumbers mesh now x p links
-numbers_of mesh states now x p links radices same linked =
-    let these = parts mesh x p links (linked_now mesh states now x p links same linked) in
+    → ◌≡◌ {A = Option PortLinks} (Some links) (port_links mesh x p) → AreNumbers mesh now x p links
+numbers_by mesh states now x p links radices same linked =
+    let these = parts mesh x p links linked in
+    let numbers = numbers_there mesh x p links linked in
     let entered : links.entered ≡ opposite_of p = ap (λ (l : PortLinks). l.entered) these.1 in
     let out : links.out ≡ links_before mesh x p = ap (λ (l : PortLinks). l.out) these.1 in
     let into : links.into ≡ links_before mesh links.beyond (opposite_of p) = ap (λ (l : PortLinks). l.into) these.1 in
@@ -94,8 +95,8 @@ numbers_of mesh states now x p links radices same linked =
       entered = entered;
       out = out;
       into = into;
-      out_now = sym (numbers_there now.mesh x p links linked).0;
-      into_now = sym (numbers_there now.mesh x p links linked).1;
+      out_now = ap (λ (l : LinksView). number_out l x p) (sym same) ∙ sym numbers.0;
+      into_now = ap (λ (l : LinksView). number_into l x p) (sym same) ∙ sym numbers.1;
       back =
           ap (λ (q : ℕ). neighbour_of mesh links.beyond q) entered
           ∙ back_of mesh x p links.beyond radices these.0;
@@ -103,3 +104,9 @@ numbers_of mesh states now x p links radices same linked =
       back_into =
           out ∙ ap (λ (q : ℕ). links_before mesh x q) (sym (ap opposite_of entered ∙ opposite_twice p));
     }
+
+pub numbers_of : (mesh : List ℕ) (states : List LinkView) (now : LinksView) (x p : ℕ) (links : PortLinks)
+    → AreRadices mesh → record { mesh = mesh; states = states } ≡ now
+    → ◌≡◌ {A = Option PortLinks} (Some links) (port_links now.mesh x p) → AreNumbers mesh now x p links
+numbers_of mesh states now x p links radices same linked =
+    numbers_by mesh states now x p links radices same (linked_now mesh states now x p links same linked)

@@ -7,15 +7,16 @@ use Rattle.worm_flit.specs.declared.Flit.{Flit}
 use Rattle.worm_flit.specs.SmallSet.{has}
 use Rattle.worm_mesh.specs.Address.{opposite_of}
 use Rattle.worm_mesh.specs.Links.{links_before}
-use Rattle.worm_wires.specs.Arrivals.{LinksView, flits_of, state_at, with_state}
+use Rattle.worm_wires.specs.Arrivals.{LinksView, flits_of, has_front, state_at, with_state}
 use Rattle.worm_wires.specs.Inbox.{AreFlitsFiled, AreInboxes, IsWay, inbox_at, links_by, room_of, whole}
 use Rattle.worm_wires.specs.Links.{LinkView, blank_link}
 use Rattle.worm_wires.specs.Wiring.{in_link}
 use Rattle.worm_wires.specs.declared.inbox.Inbox.{Inbox}
+use Rattle.worm_wires.proofs.Apart.{back_of}
 use Rattle.worm_wires.proofs.Called.{IsCall, inbox_is, into_there, list_is, port_in}
 use Rattle.worm_wires.proofs.FlitsWritten.{flits_kept, flits_written}
-use Rattle.worm_wires.proofs.Seen.{flits_at}
-use Rattle.worm_wires.proofs.Ways.{all_listed, not_listed}
+use Rattle.worm_wires.proofs.Seen.{flits_at, room_at}
+use Rattle.worm_wires.proofs.Ways.{all_listed, comes_by, first_by, not_listed}
 
 module _ {mesh : List ℕ} {lists : List LinkView} {inboxes : List Inbox} {now : LinksView} {x p y i : ℕ} {read : Inbox}
     (call : IsCall mesh lists inboxes now x p y i read) {k : ℕ} (number : k ≡ links_before mesh y (opposite_of p)) where
@@ -46,6 +47,43 @@ module _ {mesh : List ℕ} {lists : List LinkView} {inboxes : List Inbox} {now :
   flits_are n is =
       (λ t. (state_at (sym call.seen t) ((is ∙ number) t)).flits) ∙ flits_at mesh lists inboxes call.sound.radices x p y call.linked
       ∙ (λ t. whole (has (inbox_is call t).flits p) (slice_get (inbox_is call t).flit p) (flits_of lists (by t)))
+
+  pub room_is : (n : ℕ) → n ≡ k → (state_at now n).room ≡ (get_or lists k blank_link).room
+  room_is n is =
+      (λ t. (state_at (sym call.seen t) ((is ∙ number) t)).room)
+      ∙ room_at mesh lists inboxes call.sound.radices y (opposite_of p) x
+      (back_of mesh x p y call.sound.radices call.linked)
+      ∙ ap (λ (j : ℕ). (get_or lists j blank_link).room) (sym number)
+
+  -- by the list as it is read
+  pub way_read : (j : ℕ) (list : LinkView) → j ≡ k → list ≡ get_or lists j list
+      → IsWay (has read.flits p) (has read.more_flits p) (slice_get read.flit p) list.flits list.room
+  way_read j list same reads =
+      subst (λ (l : LinkView). IsWay (has read.flits p) (has read.more_flits p) (slice_get read.flit p) l.flits l.room)
+      (sym (list_is call list (into_there call k number) same reads)) way
+
+  -- where one comes in, what is seen is a list with a front, and has room where the link has
+  pub flits_read : (n j : ℕ) (list : LinkView) → n ≡ k → j ≡ k → list ≡ get_or lists j list → has read.flits p ≡ true
+      → (state_at now n).flits ≡ whole true (slice_get read.flit p) list.flits
+  flits_read n j list is same reads some =
+      flits_are n is
+      ∙ (λ t. whole (some t) (slice_get read.flit p)
+      (sym (list_is call list (into_there call k number) same reads) t).flits)
+
+  pub first_read : (j : ℕ) (list : LinkView) → j ≡ k → list ≡ get_or lists j list → has read.flits p ≡ true
+      → (has_front (whole true (slice_get read.flit p) list.flits) ≡ true)
+      × (slice_get (whole true (slice_get read.flit p) list.flits) 0 ≡ slice_get read.flit p)
+  first_read j list same reads some =
+      let here = subst (λ (b : Bool). IsWay b (has read.more_flits p) (slice_get read.flit p) list.flits list.room) some
+      (way_read j list same reads) in (
+        comes_by true (has read.more_flits p) (slice_get read.flit p) list.flits list.room here,
+        first_by true (has read.more_flits p) (slice_get read.flit p) list.flits list.room here refl,
+      )
+
+  pub room_read : (n j : ℕ) (list : LinkView) → n ≡ k → j ≡ k → list ≡ get_or lists j list
+      → (state_at now n).room ≡ list.room
+  room_read n j list is same reads =
+      room_is n is ∙ ap (λ (l : LinkView). l.room) (sym (list_is call list (into_there call k number) same reads))
 
   pub flits_listed : (n : ℕ) → n ≡ k → has read.more_flits p ≡ true
       → (state_at now n).flits ≡ (get_or lists k blank_link).flits

@@ -11,3 +11,4 @@ pub mod CreditsWritten
 pub mod PortsWithin
 pub mod Called
 pub mod FlitsCalled
+pub mod CreditsCalled

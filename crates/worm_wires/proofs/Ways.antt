@@ -115,3 +115,21 @@ way_alone front list x room empty fits is = record {
   first = λ some. let no = sym (ap has_front empty) ∙ some in absurd (cc);
   alone = λ none some. (fits, rw is refl);
 }
+
+-- a port by which none comes in has nothing in its list either
+pub not_here : {A : Type 0} (here more : Bool) (front : Option A) (list : List A) (room : ℕ)
+    → IsWay here more front list room → here ≡ false → list ≡ []
+not_here here more front [] room way none = refl
+not_here here more front (x ∷ xs) room way none = let some = (way.first refl).0 in absurd (cc)
+
+-- one that comes alone
+pub one_pushed : {A : Type 0} (here : Bool) (front now : Option A) (list : List A) (x : A) → list ≡ [] → here ≡ false
+    → now ≡ Some x → whole true now list ≡ whole here front list ++ x ∷ []
+one_pushed true front now list x empty none is = absurd (cc)
+one_pushed false front now [] x empty none is = rw is refl
+one_pushed false front now (y ∷ ys) x empty none is = absurd (cc)
+
+-- and one that comes behind others
+pub one_behind : {A : Type 0} (now : Option A) (list : List A) (x : A) → whole true now (list ++ x ∷ []) ≡ list ++ x ∷ []
+one_behind now [] x = refl
+one_behind now (y ∷ ys) x = refl
