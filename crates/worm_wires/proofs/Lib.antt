@@ -8,3 +8,4 @@ pub mod Seen
 pub mod ListsWritten
 pub mod FlitsWritten
 pub mod CreditsWritten
+pub mod InboxFilled
