@@ -1,12 +1,14 @@
 -- An inbox that is filled from the lists of a node's links, port by port.
 use Rattle.std.proofs.Common.{◌≡◌, ◌≢◌, ℕ, ◌+◌, ◌<◌, ◌≤◌, Bool, true, false, inl, inr, List, [], ◌∷◌, Option}
-use Rattle.std.proofs.Common.{refl, arith, ap, sym, subst, ◌∙◌}
+use Rattle.std.proofs.Common.{refl, arith, ap, sym, subst, ◌∙◌, length, set, below_more, get_or-set_other, get_or-set_same}
 use Rattle.std.specs.Prelude.{slice_get, is_some}
 use Rattle.std.proofs.lemmas.Bool.{cases_lt}
 use Rattle.worm_flit.specs.SmallSet.{has}
 use Rattle.worm_flit.proofs.SmallSets.{has_none}
 use Rattle.worm_wires.specs.Arrivals.{has_front}
-use Rattle.worm_wires.specs.Inbox.{IsFiled, IsWay, whole}
+use Rattle.worm_wires.specs.Inbox.{IsFiled, IsInbox, IsSpilled, IsWay, inbox_at}
+use Rattle.worm_wires.specs.Links.{LinkView}
+use Rattle.worm_wires.specs.declared.inbox.Inbox.{Inbox}
 use Rattle.worm_wires.proofs.Apart.{number_cases}
 
 -- of one port, where the list has all that comes in
@@ -102,3 +104,12 @@ filled_same here here_now more more_now fronts fronts_now list port comes listed
     subst (λ (b : ℕ). IsFilled b more_now fronts_now list port) (sym comes)
     (subst (λ (b : ℕ). IsFilled here b fronts_now list port) (sym listed)
     (subst (λ (f : List _). IsFilled here more f list port) (sym first) filled))
+
+-- one node more whose inbox is filled
+pub nodes_more : (mesh : List ℕ) (links : List LinkView) (inboxes : List Inbox) (i : ℕ) (box : Inbox)
+    → i < length inboxes → IsInbox mesh links i box × IsSpilled box 8
+    → ((x : ℕ) → x < i → IsInbox mesh links x (inbox_at inboxes x) × IsSpilled (inbox_at inboxes x) 8) → (x : ℕ)
+    → x < i + 1 → IsInbox mesh links x (inbox_at (set inboxes i box) x) × IsSpilled (inbox_at (set inboxes i box) x) 8
+nodes_more mesh links inboxes i box there here before =
+    below_more _ _ (λ x below. let away : x ≢ i = omega arith in
+    rw get_or-set_other (before x below)) (rw get_or-set_same here)

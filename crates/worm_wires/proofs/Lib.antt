@@ -9,3 +9,6 @@ pub mod ListsWritten
 pub mod FlitsWritten
 pub mod CreditsWritten
 pub mod InboxFilled
+pub mod AllSpilled
+pub mod Spilled
+pub mod SpillCalls
