@@ -1,10 +1,10 @@
 -- Inboxes whose lists have all that comes in: what is seen of each link is what its list has.
-use Rattle.std.proofs.Common.{◌≡◌, ℕ, ◌*◌, ◌<◌, Bool, true, false, inl, inr, List, [], ◌∷◌, length, get_or, Option}
+use Rattle.std.proofs.Common.{◌≡◌, ℕ, ◌<◌, Bool, true, false, inl, inr, List, [], ◌∷◌, get_or, Option}
 use Rattle.std.proofs.Common.{Some, None, refl, arith, ap, sym, ◌∙◌}
 use Rattle.std.specs.Prelude.{slice_get, option_map}
 use Rattle.std.proofs.lemmas.Bool.{cases_lt}
 use Rattle.worm_flit.specs.SmallSet.{has}
-use Rattle.worm_mesh.specs.Address.{AreRadices, has_neighbour, neighbour_of, node_count, opposite_of}
+use Rattle.worm_mesh.specs.Address.{AreRadices, has_neighbour, opposite_of}
 use Rattle.worm_mesh.specs.Links.{links_before}
 use Rattle.worm_mesh.proofs.Digits.{AreLarge-from_radices}
 use Rattle.worm_mesh.proofs.Neighbours.{Joins-from}
@@ -26,13 +26,7 @@ whole_spilled true more front [] room way e = let none = way.listed in absurd (c
 whole_spilled false more front [] room way e = refl
 whole_spilled here more front (x ∷ xs) room way e = refl
 
--- a port by which nothing comes in
-pub none_spilled : {A : Type 0} (here more : Bool) (front : Option A) (list : List A) (room : ℕ)
-    → IsWay here more front list room → here ≡ false → here ≡ more
-none_spilled here more front [] room way none = none ∙ sym way.listed
-none_spilled here more front (x ∷ xs) room way none = let some = (way.first refl).0 in absurd (cc)
-
--- and one that has no link
+-- a port that has no link
 unlinked_spilled : {A : Type 0} (list : LinkView → List A) (links : List LinkView) (here more : Bool)
     (front : Option A) (n : Option ℕ) → n ≡ None → IsWay here more front (on_link list links n) (room_of links n)
     → here ≡ more

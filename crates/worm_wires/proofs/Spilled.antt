@@ -2,9 +2,9 @@
 use Rattle.std.proofs.Common.{◌≡◌, ◌≢◌, ℕ, ◌+◌, ◌<◌, Bool, true, inl, inr, List, [], ◌∷◌, length, get_or, set, Option}
 use Rattle.std.proofs.Common.{Some, None, refl, arith, ap, sym, subst, ◌∙◌}
 use Rattle.std.specs.Prelude.{slice_get, option_map, IsSome}
-use Rattle.std.proofs.lemmas.List.{get_or-set_other, get_or-set_same, get_or_default, set-get_or}
+use Rattle.std.proofs.lemmas.List.{get_or-set_other, get_or-set_same, set-get_or}
 use Rattle.worm_flit.specs.SmallSet.{has}
-use Rattle.worm_wires.specs.Arrivals.{credits_of, flits_of, has_front, on_link}
+use Rattle.worm_wires.specs.Arrivals.{credits_of, flits_of, on_link}
 use Rattle.worm_wires.specs.Inbox.{AreCreditsFiled, AreCreditsSpilled, AreFlitsFiled, AreFlitsSpilled, AreInboxes}
 use Rattle.worm_wires.specs.Inbox.{AreSeenAlike, IsSpilled, IsWay, inbox_at, links_by, no_inbox, room_of, whole}
 use Rattle.worm_wires.specs.Links.{LinkView, blank_link}

@@ -1,5 +1,4 @@
-use Rattle.std.proofs.Common.{◌≡◌, ◌<◌, ◌∙◌, ℕ, true, arith, length, sym}
-use Rattle.worm_flit.specs.SmallSet.{has}
+use Rattle.std.proofs.Common.{◌∙◌, arith, sym}
 use Rattle.worm_wires.proofs.SpillCalls.{credits_box, credits_linked, credits_spill, credits_way}
 use Rattle.worm_wires.proofs.links.spill_credits.Goals as goal
 

@@ -1,5 +1,4 @@
-use Rattle.std.proofs.Common.{◌≡◌, ◌<◌, ◌∙◌, ℕ, true, arith, length, sym}
-use Rattle.worm_flit.specs.SmallSet.{has}
+use Rattle.std.proofs.Common.{◌∙◌, arith, sym}
 use Rattle.worm_wires.proofs.SpillCalls.{flits_box, flits_linked, flits_spill, flits_way}
 use Rattle.worm_wires.proofs.links.spill_flits.Goals as goal
 

@@ -1,4 +1,4 @@
-use Rattle.std.proofs.Common.{◌≡◌, ◌≤◌, ◌∙◌, ℕ, arith, refl, subst}
+use Rattle.std.proofs.Common.{◌≡◌, ◌∙◌, ℕ, arith, refl, subst}
 use Rattle.worm_wires.specs.Inbox.{IsSpilled, inbox_at}
 use Rattle.worm_wires.proofs.Spilled.{port_spilled}
 use Rattle.worm_wires.proofs.links.spill_node.Goals as goal

@@ -1,4 +1,4 @@
-use Rattle.std.proofs.Common.{◌≡◌, ◌<◌, ◌∙◌, ℕ, ap, arith, refl, sym}
+use Rattle.std.proofs.Common.{◌∙◌, ap, arith, refl, sym}
 use Rattle.worm_wires.specs.Arrivals.{LinksView}
 use Rattle.worm_wires.proofs.AllSpilled.{links_spilled, spilled_past}
 use Rattle.worm_wires.proofs.Spilled.{node_spilled}

@@ -1,4 +1,4 @@
-use Rattle.std.proofs.Common.{◌≡◌, arith, length, length-set, subst, List}
+use Rattle.std.proofs.Common.{arith, length-set, subst, List}
 use Rattle.worm_wires.specs.Links.{LinkView}
 use Rattle.worm_wires.specs.Inbox.{AreInboxes, IsInbox}
 use Rattle.worm_wires.proofs.AllSpilled.{links_spilled}
