@@ -1,6 +1,7 @@
 -- An inbox that is filled from the lists of a node's links, port by port.
 use Rattle.std.proofs.Common.{◌≡◌, ◌≢◌, ℕ, ◌+◌, ◌<◌, ◌≤◌, Bool, true, false, inl, inr, List, [], ◌∷◌, Option}
-use Rattle.std.proofs.Common.{refl, arith, ap, sym, subst, ◌∙◌, length, set, below_more, get_or-set_other, get_or-set_same}
+use Rattle.std.proofs.Common.{refl, arith, ap, sym, subst, ◌∙◌, length, set, below_more, get_or-set_other}
+use Rattle.std.proofs.Common.{get_or-set_same}
 use Rattle.std.specs.Prelude.{slice_get, is_some}
 use Rattle.std.proofs.lemmas.Bool.{cases_lt}
 use Rattle.worm_flit.specs.SmallSet.{has}
