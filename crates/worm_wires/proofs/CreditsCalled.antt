@@ -5,15 +5,15 @@ use Rattle.std.specs.Prelude.{option_map, slice_get}
 use Rattle.std.proofs.lemmas.List.{get_or_default, set-get_or}
 use Rattle.worm_flit.specs.SmallSet.{has}
 use Rattle.worm_mesh.specs.Links.{links_before}
-use Rattle.worm_wires.specs.Arrivals.{LinksView, credits_of, state_at, with_state}
+use Rattle.worm_wires.specs.Arrivals.{LinksView, credits_of, has_front, state_at, with_state}
 use Rattle.worm_wires.specs.Inbox.{AreCreditsFiled, AreInboxes, IsWay, inbox_at, links_by, room_of, whole}
 use Rattle.worm_wires.specs.Links.{LinkView, blank_link}
 use Rattle.worm_wires.specs.Wiring.{out_link}
 use Rattle.worm_wires.specs.declared.inbox.Inbox.{Inbox}
 use Rattle.worm_wires.proofs.Called.{IsCall, inbox_is, out_there, list_is, port_in}
 use Rattle.worm_wires.proofs.CreditsWritten.{credits_kept, credits_written}
-use Rattle.worm_wires.proofs.Seen.{credits_at}
-use Rattle.worm_wires.proofs.Ways.{all_listed, not_listed}
+use Rattle.worm_wires.proofs.Seen.{credits_at, room_at}
+use Rattle.worm_wires.proofs.Ways.{all_listed, comes_by, first_by, not_listed}
 
 module _ {mesh : List ℕ} {lists : List LinkView} {inboxes : List Inbox} {now : LinksView} {x p y i : ℕ} {read : Inbox}
     (call : IsCall mesh lists inboxes now x p y i read) {k : ℕ} (number : k ≡ links_before mesh x p) where
@@ -44,6 +44,42 @@ module _ {mesh : List ℕ} {lists : List LinkView} {inboxes : List Inbox} {now :
   credits_are n is =
       (λ t. (state_at (sym call.seen t) ((is ∙ number) t)).credits) ∙ credits_at mesh lists inboxes call.sound.radices x p y call.linked
       ∙ (λ t. whole (has (inbox_is call t).credits p) (slice_get (inbox_is call t).credit p) (credits_of lists (by t)))
+
+  pub room_is : (n : ℕ) → n ≡ k → (state_at now n).room ≡ (get_or lists k blank_link).room
+  room_is n is =
+      (λ t. (state_at (sym call.seen t) ((is ∙ number) t)).room)
+      ∙ room_at mesh lists inboxes call.sound.radices x p y call.linked
+      ∙ ap (λ (j : ℕ). (get_or lists j blank_link).room) (sym number)
+
+  -- by the list as it is read
+  pub way_read : (j : ℕ) (list : LinkView) → j ≡ k → list ≡ get_or lists j list
+      → IsWay (has read.credits p) (has read.more_credits p) (slice_get read.credit p) list.credits list.room
+  way_read j list same reads =
+      subst (λ (l : LinkView). IsWay (has read.credits p) (has read.more_credits p) (slice_get read.credit p) l.credits l.room)
+      (sym (list_is call list (out_there call k number) same reads)) way
+
+  -- where one comes in, what is seen is a list with a front, and has room where the link has
+  pub credits_read : (n j : ℕ) (list : LinkView) → n ≡ k → j ≡ k → list ≡ get_or lists j list → has read.credits p ≡ true
+      → (state_at now n).credits ≡ whole true (slice_get read.credit p) list.credits
+  credits_read n j list is same reads some =
+      credits_are n is
+      ∙ (λ t. whole (some t) (slice_get read.credit p)
+      (sym (list_is call list (out_there call k number) same reads) t).credits)
+
+  pub first_read : (j : ℕ) (list : LinkView) → j ≡ k → list ≡ get_or lists j list → has read.credits p ≡ true
+      → (has_front (whole true (slice_get read.credit p) list.credits) ≡ true)
+      × (slice_get (whole true (slice_get read.credit p) list.credits) 0 ≡ slice_get read.credit p)
+  first_read j list same reads some =
+      let here = subst (λ (b : Bool). IsWay b (has read.more_credits p) (slice_get read.credit p) list.credits list.room) some
+      (way_read j list same reads) in (
+        comes_by true (has read.more_credits p) (slice_get read.credit p) list.credits list.room here,
+        first_by true (has read.more_credits p) (slice_get read.credit p) list.credits list.room here refl,
+      )
+
+  pub room_read : (n j : ℕ) (list : LinkView) → n ≡ k → j ≡ k → list ≡ get_or lists j list
+      → (state_at now n).room ≡ list.room
+  room_read n j list is same reads =
+      room_is n is ∙ ap (λ (l : LinkView). l.room) (sym (list_is call list (out_there call k number) same reads))
 
   pub credits_listed : (n : ℕ) → n ≡ k → has read.more_credits p ≡ true
       → (state_at now n).credits ≡ (get_or lists k blank_link).credits

@@ -8,7 +8,10 @@ pub mod Seen
 pub mod ListsWritten
 pub mod FlitsWritten
 pub mod CreditsWritten
-pub mod PortsWithin
 pub mod Called
 pub mod FlitsCalled
 pub mod CreditsCalled
+pub mod InboxFilled
+pub mod AllSpilled
+pub mod Spilled
+pub mod SpillCalls

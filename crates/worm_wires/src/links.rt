@@ -57,7 +57,8 @@ fn front_credit(lists: &[LinkState], number: Option<u16>) -> Option<u8>
 
 /// The inbox of a node, where each list has all that is on its link.
 fn inbox_of(wiring: &Wiring, lists: &[LinkState], node: u8) -> Inbox
-    ensures { IsInbox wiring.now lists.now node result }
+    ensures inbox { IsInbox wiring.now lists.now node result }
+    ensures spilled { IsSpilled result 8 }
 {
     // For the proof: a mesh has at most three dimensions.
     let _terminal = wiring.terminal();

@@ -1,0 +1,12 @@
+use Rattle.worm_wires.specs.Arrivals.{credits_of, flits_of}
+use Rattle.worm_wires.specs.Wiring.{in_link, out_link}
+use Rattle.worm_wires.proofs.InboxFilled.{IsFilled}
+use Rattle.worm_wires.proofs.links.inbox_of.Given as goal
+
+abbrev pub invariant-loop-port : goal.invariant-loop-port
+invariant-loop-port l = record {
+  flits : IsFilled l.inbox.flits l.inbox.more_flits l.inbox.flit
+      (λ p. flits_of l.lists (in_link l.wiring l.node p)) l.port;
+  credits : IsFilled l.inbox.credits l.inbox.more_credits l.inbox.credit
+      (λ o. credits_of l.lists (out_link l.wiring l.node o)) l.port;
+}
