@@ -1,5 +1,6 @@
 -- A node's inbox, as a call reads it at a port that has a neighbour.
-use Rattle.std.proofs.Common.{◌≡◌, ℕ, ◌<◌, List, length, get_or, Option, Some, refl, arith, ap, sym, subst, ◌∙◌}
+use Rattle.std.proofs.Common.{◌≡◌, ℕ, ◌<◌, List, length, get_or, Option, Some, None, refl, arith, ap, sym, subst, ◌∙◌}
+use Rattle.std.specs.Prelude.{IsSome}
 use Rattle.std.proofs.lemmas.List.{get_or_default}
 use Rattle.worm_mesh.specs.Address.{AreRadices, neighbour_of, opposite_of}
 use Rattle.worm_mesh.specs.Links.{link_count, links_before}
@@ -9,7 +10,7 @@ use Rattle.worm_mesh.proofs.Numbers.{below_count}
 use Rattle.worm_wires.specs.Arrivals.{LinksView, number_into, number_out}
 use Rattle.worm_wires.specs.Inbox.{AreInboxes, inbox_at, links_by, no_inbox}
 use Rattle.worm_wires.specs.Links.{LinkView, blank_link}
-use Rattle.worm_wires.specs.Wiring.{port_links}
+use Rattle.worm_wires.specs.Wiring.{into_from, port_links}
 use Rattle.worm_wires.specs.declared.inbox.Inbox.{Inbox}
 use Rattle.worm_wires.specs.declared.wiring.PortLinks.{PortLinks}
 use Rattle.worm_wires.proofs.Apart.{back_of}
@@ -110,3 +111,30 @@ pub numbers_of : (mesh : List ℕ) (states : List LinkView) (now : LinksView) (x
     → ◌≡◌ {A = Option PortLinks} (Some links) (port_links now.mesh x p) → AreNumbers mesh now x p links
 numbers_of mesh states now x p links radices same linked =
     numbers_by mesh states now x p links radices same (linked_now mesh states now x p links same linked)
+
+-- a port that has a neighbour, and the numbers of its links
+
+pub record IsLinked (mesh : List ℕ) (now : LinksView) (x p y : ℕ) : Type 0 where
+  pub linked : neighbour_of mesh x p ≡ Some y
+  pub into : number_into now x p ≡ links_before mesh y (opposite_of p)
+  pub out : number_out now x p ≡ links_before mesh x p
+
+linked_by : (mesh : List ℕ) (states : List LinkView) (now : LinksView) (x p : ℕ)
+    → record { mesh = mesh; states = states } ≡ now → (n : Option ℕ) → neighbour_of mesh x p ≡ n → IsSome n
+    → (y : ℕ) × IsLinked mesh now x p y
+linked_by mesh states now x p same None e some = absurd (cc)
+linked_by mesh states now x p same (Some y) e some = (
+  y,
+  record {
+    linked = e;
+    into = ap (λ (l : LinksView). number_into l x p) (sym same) ∙ ap (λ (n : Option ℕ). into_from mesh p n) e;
+    out = ap (λ (l : LinksView). number_out l x p) (sym same);
+  },
+)
+
+pub linked_of : (mesh : List ℕ) (states : List LinkView) (now : LinksView) (x p : ℕ)
+    → record { mesh = mesh; states = states } ≡ now → IsSome (neighbour_of now.mesh x p)
+    → (y : ℕ) × IsLinked mesh now x p y
+linked_of mesh states now x p same some =
+    linked_by mesh states now x p same (neighbour_of mesh x p) refl
+    (subst (λ (l : LinksView). IsSome (neighbour_of l.mesh x p)) (sym same) some)

@@ -1,5 +1,5 @@
 -- What is on one way of a link, by an inbox's port and the list behind it.
-use Rattle.std.proofs.Common.{◌≡◌, ℕ, ◌<◌, Bool, true, false, cond, List, [], ◌∷◌, ◌++◌, length, Option, Some, None, refl, subst}
+use Rattle.std.proofs.Common.{◌≡◌, ℕ, ◌<◌, Bool, true, false, cond, List, [], ◌∷◌, ◌++◌, length, Option, Some, None, refl, subst, zero, suc, get_or}
 use Rattle.std.proofs.Common.{arith, ap, sym, ◌∙◌, drop}
 use Rattle.std.specs.Prelude.{slice_get, IsSome, option_to_list, is_some}
 use Rattle.worm_wires.specs.Arrivals.{has_front}
@@ -133,3 +133,26 @@ one_pushed false front now (y ∷ ys) x empty none is = absurd (cc)
 pub one_behind : {A : Type 0} (now : Option A) (list : List A) (x : A) → whole true now (list ++ x ∷ []) ≡ list ++ x ∷ []
 one_behind now [] x = refl
 one_behind now (y ∷ ys) x = refl
+
+-- where one comes in, the inbox has it
+pub front_some : {A : Type 0} (here more : Bool) (front : Option A) (list : List A) (room : ℕ)
+    → IsWay here more front list room → here ≡ true → IsSome front
+front_some here more front [] room way some = (way.alone refl some).1
+front_some here more front (x ∷ xs) room way some = rw (way.first refl).1 refl
+
+got_at : {A : Type 0} (xs : List A) (p : ℕ) (d : A) → IsSome (slice_get xs p) → slice_get xs p ≡ Some (get_or xs p d)
+got_at [] p d some = absurd (cc)
+got_at (x ∷ xs) zero d some = refl
+got_at (x ∷ xs) (suc p) d some = got_at xs p d some
+
+pub got : {A : Type 0} (xs : List A) (p i : ℕ) (d : A) → i ≡ p → IsSome (slice_get xs p)
+    → slice_get xs p ≡ Some (get_or xs i d)
+got xs p i d at some = got_at xs p d some ∙ (λ t. Some (get_or xs (sym at t) d))
+
+-- how many come in where the link has no list
+pub count_alone : {A : Type 0} (here more : Bool) (front : Option A) (list : List A) (room : ℕ)
+    → IsWay here more front list room → more ≡ false → length (whole here front list) ≡ cond here 1 0
+count_alone here more front (x ∷ xs) room way none = absurd (cc)
+count_alone true more None [] room way none = let alone = (way.alone refl refl).1 in absurd (cc)
+count_alone true more (Some x) [] room way none = refl
+count_alone false more front [] room way none = refl

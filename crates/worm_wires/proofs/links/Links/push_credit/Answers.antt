@@ -4,7 +4,7 @@ use Rattle.std.specs.Prelude.{slice_get}
 use Rattle.worm_flit.specs.SmallSet.{has}
 use Rattle.worm_wires.specs.Inbox.{IsWay, whole}
 use Rattle.worm_wires.specs.Links.{LinkView, blank_link}
-use Rattle.worm_wires.proofs.Called.{AreNumbers, IsCall, numbers_of}
+use Rattle.worm_wires.proofs.Called.{AreNumbers, IsCall, numbers_of, out_there}
 use Rattle.worm_wires.proofs.CreditsCalled.{both_seen, both_sound, first_read, credits_are, credits_read, inbox_seen, inbox_sound}
 use Rattle.worm_wires.proofs.CreditsCalled.{room_is, room_read, way, way_read}
 use Rattle.worm_wires.proofs.Ways.{comes_by, first_by, not_here, one_behind, one_pushed, way_alone, way_more}
@@ -68,6 +68,12 @@ returns-then-not-contains c =
     ∙ ap (λ (fs : List ℕ). fs ++ c.args.vc ∷ []) (sym (credits_are (call before) number _ (numbers before).into_now)))
 
 -- others are there
+
+pub index_mut-list-requires : goal.index_mut-list-requires
+index_mut-list-requires c =
+    let before = (goal.at.index_mut-list-requires c).After-contains in
+    let there = out_there (call before) c.from-2.result (c.from-2.ensures ∙ (numbers before).back_out) in
+    search (rules, there)
 
 pub spill_credits-requires-clause-way : goal.spill_credits-requires-clause-way
 spill_credits-requires-clause-way c =
