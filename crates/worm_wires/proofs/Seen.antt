@@ -1,5 +1,6 @@
 -- What is seen of each link, by the inboxes and the lists behind it.
-use Rattle.std.proofs.Common.{◌≡◌, ℕ, ◌*◌, ◌<◌, List, [], length, get_or, Option, Some, None, refl, arith, ap, sym, ◌∙◌, true, Bool}
+use Rattle.std.proofs.Common.{◌≡◌, ℕ, ◌*◌, ◌<◌, List, [], length, get_or, Option, Some, None, refl, arith, ap, sym, subst, ◌∙◌, true, Bool}
+use Rattle.std.proofs.lemmas.List.{get_or_default}
 use Rattle.std.specs.Prelude.{option_map, slice_get, IsSome}
 use Rattle.worm_flit.specs.declared.Flit.{Flit}
 use Rattle.worm_flit.specs.SmallSet.{has}
@@ -7,9 +8,9 @@ use Rattle.worm_mesh.specs.Address.{AreRadices, Joins, has_neighbour, neighbour_
 use Rattle.worm_mesh.specs.Links.{links_before}
 use Rattle.worm_mesh.proofs.Digits.{AreLarge-from_radices}
 use Rattle.worm_mesh.proofs.Neighbours.{Joins-from, has_neighbour-from_Joins, opposite_twice}
-use Rattle.worm_wires.specs.Arrivals.{AreFronts, credits_of, credits_to, flits_of, flits_to, has_front, on_link}
+use Rattle.worm_wires.specs.Arrivals.{AreFronts, LinksView, credits_of, credits_to, flits_of, flits_to, has_front, on_link}
 use Rattle.worm_wires.specs.Inbox.{AreInboxes, by_number, credits_come, flits_beyond, flits_come, inbox_at, link_by}
-use Rattle.worm_wires.specs.Inbox.{IsWay, links_by, room_of, whole}
+use Rattle.worm_wires.specs.Inbox.{IsWay, links_by, no_inbox, room_of, whole}
 use Rattle.worm_wires.specs.Links.{LinkView, blank_link}
 use Rattle.worm_wires.specs.Wiring.{in_link, out_link}
 use Rattle.worm_wires.specs.declared.inbox.Inbox.{Inbox}
@@ -118,3 +119,24 @@ module _ (mesh : List ℕ) (links : List LinkView) (inboxes : List Inbox) (are :
       ∙ comes_by (has (inbox_at inboxes x).credits o) (has (inbox_at inboxes x).more_credits o)
       (slice_get (inbox_at inboxes x).credit o) (credits_of links (out_link mesh x o))
       (room_of links (out_link mesh x o)) ((are.known x x_in).credits o o_in))
+
+-- as a call reads them: by the links that it is given, and an inbox that is read at some place
+module _ (mesh : List ℕ) (links : List LinkView) (inboxes : List Inbox) (are : AreInboxes mesh links inboxes)
+    (now : LinksView) (same : record { mesh = mesh; states = links_by mesh links inboxes } ≡ now) (x i : ℕ)
+    (x_in : x < 256) (at : i ≡ x) (read : Inbox) (reads : read ≡ get_or inboxes i read) where
+  read_is : inbox_at inboxes x ≡ read
+  read_is =
+      sym (reads ∙ get_or_default inboxes i read no_inbox (omega (arith, are.nodes, at, x_in))
+      ∙ ap (λ (v : ℕ). inbox_at inboxes v) at)
+
+  pub flits_read : AreFronts (flits_to now x) read.flits
+  flits_read =
+      subst (λ (l : LinksView). AreFronts (flits_to l x) read.flits) same
+      (subst (λ (b : Inbox). AreFronts (flits_to (record { mesh = mesh; states = links_by mesh links inboxes }) x) b.flits)
+      read_is (flits_set mesh links inboxes are x x_in))
+
+  pub credits_read : AreFronts (credits_to now x) read.credits
+  credits_read =
+      subst (λ (l : LinksView). AreFronts (credits_to l x) read.credits) same
+      (subst (λ (b : Inbox). AreFronts (credits_to (record { mesh = mesh; states = links_by mesh links inboxes }) x)
+      b.credits) read_is (credits_set mesh links inboxes are x x_in))

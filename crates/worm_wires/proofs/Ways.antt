@@ -156,3 +156,14 @@ count_alone here more front (x ∷ xs) room way none = absurd (cc)
 count_alone true more None [] room way none = let alone = (way.alone refl refl).1 in absurd (cc)
 count_alone true more (Some x) [] room way none = refl
 count_alone false more front [] room way none = refl
+
+-- and the one at a place
+pub alone_at : {A : Type 0} (here more : Bool) (front : Option A) (list : List A) (room : ℕ)
+    → IsWay here more front list room → more ≡ false → (i : ℕ) → i < length (whole here front list) → (xs : List A)
+    (p j : ℕ) (d : A) → j ≡ p → front ≡ slice_get xs p → slice_get (whole here front list) i ≡ Some (get_or xs j d)
+alone_at here more front (x ∷ xs) room way none i below row p j d at is = absurd (cc)
+alone_at false more front [] room way none i below row p j d at is = absurd (omega arith)
+alone_at true more None [] room way none i below row p j d at is =
+    let alone = (way.alone refl refl).1 in absurd (cc)
+alone_at true more (Some x) [] room way none (suc i) below row p j d at is = absurd (omega arith)
+alone_at true more (Some x) [] room way none zero below row p j d at is = is ∙ got row p j d at (rw (← is) refl)
