@@ -1,5 +1,4 @@
 pub mod Links
-pub mod Line
 pub mod Wiring
 pub mod Arrivals
 pub mod Inbox

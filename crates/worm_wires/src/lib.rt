@@ -9,7 +9,6 @@
 #![tactic(auto)]
 
 mod inbox;
-mod line;
 mod link;
 mod links;
 mod wiring;

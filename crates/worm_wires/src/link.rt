@@ -4,8 +4,8 @@ ghost use Rattle.worm_wires.specs.Links.{empty_link};
 ghost use Rattle.std.specs.Prelude.{◌≡◌, [], ◌∷◌, ◌++◌, ◌<◌, ◌≤◌, length, drop, min, slice_get, Some, IfOk};
 ghost use Rattle.std.specs.Prelude.{is_some, option_copied};
 
-use crate::line::Line;
 use std::alloc::{AllocError, Global};
+use std::collections::VecDeque;
 use std::marker::Model;
 use std::mem::swap;
 use worm_flit::Flit;
@@ -21,22 +21,23 @@ use worm_flit::Flit;
 #[derive(Drop)]
 pub struct LinkState {
     /// The flits, in the order in which they were sent, on whatever channels.
-    flits: Line<Flit>,
+    flits: VecDeque<Flit>,
     /// The channels whose credits are on their way back.
-    credits: Line<u8>,
+    credits: VecDeque<u8>,
     /// How many of each fit without growing; in a network at least the number of channels times the depth.
     room: u16,
 }
 
 impl Model for LinkState {
-    ghost use Rattle.std.specs.Prelude.{◌≤◌, ◌*◌};
+    ghost use Rattle.std.specs.Prelude.{◌≤◌};
+    ghost use Rattle.std.specs.VecDeque.{deque_capacity};
     ghost use Rattle.worm_wires.specs.Links.{LinkView};
 
     ghost Value = { LinkView };
 
     ghost view = { λ l. record { flits = l.flits.items; credits = l.credits.items; room = l.room } };
 
-    ghost invariant = { λ l. (l.room ≤ l.flits.room) × (l.room ≤ l.credits.room) };
+    ghost invariant = { λ l. (l.room ≤ deque_capacity l.flits) × (l.room ≤ deque_capacity l.credits) };
 }
 
 /// Makes both the smaller of the two.
@@ -54,8 +55,8 @@ impl LinkState {
     pub fn new(alloc: Global, room: u16) -> Result<LinkState, AllocError>
         ensures { IfOk result (λ l. l ≡ empty_link room) }
     {
-        let flits = Line::with_room(alloc, usize::from(room))?;
-        let credits = Line::with_room(alloc, usize::from(room))?;
+        let flits = VecDeque::from_vec(Vec::with_capacity(alloc, usize::from(room))?);
+        let credits = VecDeque::from_vec(Vec::with_capacity(alloc, usize::from(room))?);
         Ok(LinkState {
             flits,
             credits,
@@ -82,7 +83,7 @@ impl LinkState {
     pub fn count(&self) -> usize
         ensures { result ≡ length self.now.flits }
     {
-        self.flits.count()
+        self.flits.len()
     }
 
     /// The flit at place `i`, counted from the front.
@@ -90,14 +91,14 @@ impl LinkState {
         requires { i < length self.now.flits }
         ensures { slice_get self.now.flits i ≡ Some result }
     {
-        self.flits.item(i)
+        self.flits[i]
     }
 
     /// Drops the front flit, if there is one.
     pub fn pop(&mut self)
         ensures { self.new ≡ record self.old { flits = drop 1 self.old.flits } }
     {
-        self.flits.pop();
+        let _dropped = self.flits.pop_front();
     }
 
     /// Puts the flit at the end.
@@ -105,7 +106,7 @@ impl LinkState {
         requires { length self.old.flits < self.old.room }
         ensures { self.new ≡ record self.old { flits = self.old.flits ++ flit ∷ [] } }
     {
-        self.flits.push(flit);
+        self.flits.push_back_reserved(flit);
     }
 
     /// The channel of the front credit, if there is one.
@@ -119,14 +120,14 @@ impl LinkState {
     pub fn credit_count(&self) -> usize
         ensures { result ≡ length self.now.credits }
     {
-        self.credits.count()
+        self.credits.len()
     }
 
     /// Drops the front credit, if there is one.
     pub fn pop_credit(&mut self)
         ensures { self.new ≡ record self.old { credits = drop 1 self.old.credits } }
     {
-        self.credits.pop();
+        let _dropped = self.credits.pop_front();
     }
 
     /// Puts a credit of the channel at the end.
@@ -134,7 +135,7 @@ impl LinkState {
         requires { length self.old.credits < self.old.room }
         ensures { self.new ≡ record self.old { credits = self.old.credits ++ vc ∷ [] } }
     {
-        self.credits.push(vc);
+        self.credits.push_back_reserved(vc);
     }
 
     /// Exchanges the flits on the two links, and neither keeps more room than both had.
