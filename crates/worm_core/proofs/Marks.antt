@@ -16,7 +16,8 @@ use Rattle.worm_router.specs.Router.{ChannelState, terminal, width, input_at, fr
 use Rattle.worm_term.specs.Source.{classes, queue_at}
 use Rattle.worm_theory.proofs.Places.{bool_cases}
 use Rattle.worm_region.specs.Moves.{link_out}
-use Rattle.worm_region.specs.State.{NetState, IsFramed, router_at, node_at, queue_of, link_at, link_of, input_of, fresh_node}
+use Rattle.worm_region.specs.State.{NetState, IsFramed, router_at, node_at, queue_of, link_at, link_of, input_of}
+use Rattle.worm_region.specs.State.{fresh_node}
 use Rattle.worm_core.specs.LaneView.{channels_of, at_place, held_at, buffer_held, link_held}
 use Rattle.worm_region.specs.declared.node.Node.{Node}
 use Rattle.worm_core.specs.declared.view.Place.{Place}
