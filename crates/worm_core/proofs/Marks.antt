@@ -1,7 +1,7 @@
 -- Marks of lanes are never lost; and of a lane without a mark no marked list has a flit.
 use Rattle.std.proofs.Common.{ℕ, zero, suc, ◌≡◌, ◌+◌, ◌*◌, ◌<◌, ◌≤◌, ◌^◌, Bool, true, false, ◌==◌, ◌⊎◌, inl, inr, List}
 use Rattle.std.proofs.Common.{[], ◌∷◌, length, take, drop, sum, set, get_or, Some, arith, refl, ap, sym, subst, ◌∙◌}
-use Rattle.std.specs.Prelude.{slice_get}
+use Rattle.std.specs.Prelude.{slice_get, IsSome, Option}
 use Rattle.std.proofs.Math.Nat.{mul-le-mul_left, mul-le-mul_right}
 use Rattle.std.proofs.lemmas.List.{get_or_past}
 use Rattle.std.proofs.lemmas.List.Elements.{All-filter, All-head, All-tail, All-append}
@@ -9,21 +9,21 @@ use Rattle.worm_flit.specs.declared.Lane.{Lane}
 use Rattle.worm_flit.specs.declared.Flit.{Flit}
 use Rattle.worm_flit.specs.Stamps.{is_of_lane, of_lane, on_channel}
 use Rattle.worm_mesh.specs.Address.{node_count, has_neighbour}
-use Rattle.worm_mesh.specs.Links.{links_before, link_count}
 use Rattle.worm_mesh.proofs.Digits.{AreLarge-from_radices}
-use Rattle.worm_mesh.proofs.Neighbours.{IsLink-from_test}
-use Rattle.worm_mesh.proofs.Numbers.{below_count}
+use Rattle.worm_mesh.proofs.Neighbours.{IsLink-from_test, neighbour_of-some}
 use Rattle.worm_route.specs.Places.{Place as Spot, Source as AtSource, Buffer as AtBuffer, Link as AtLink, places_of}
 use Rattle.worm_router.specs.Router.{ChannelState, terminal, width, input_at, fresh_channel}
 use Rattle.worm_term.specs.Source.{classes, queue_at}
 use Rattle.worm_theory.proofs.Places.{bool_cases}
-use Rattle.worm_region.specs.State.{NetState, IsFramed, router_at, node_at, queue_of, link_of, input_of, fresh_node}
+use Rattle.worm_region.specs.Moves.{link_out}
+use Rattle.worm_region.specs.State.{NetState, IsFramed, router_at, node_at, queue_of, link_at, link_of, input_of}
+use Rattle.worm_region.specs.State.{fresh_node}
 use Rattle.worm_core.specs.LaneView.{channels_of, at_place, held_at, buffer_held, link_held}
 use Rattle.worm_region.specs.declared.node.Node.{Node}
 use Rattle.worm_core.specs.declared.view.Place.{Place}
 use Rattle.worm_core.specs.declared.view.Place.TheVariants.{Source, Buffer, Link}
 use Rattle.worm_core.specs.LaneSet.{LaneMarks, lane_line, is_marked, with_mark, AllMarked, KeepsMarks, IsComplete}
-use Rattle.worm_core.specs.LaneSet.{NodesMarked, LinksMarked}
+use Rattle.worm_core.specs.LaneSet.{IsMarkedOut, LinksMarked, NodesMarked}
 use Rattle.worm_region.proofs.NodeWritten.{below_cases}
 use Rattle.worm_region.proofs.NewNet.{input_fresh}
 use Rattle.worm_core.proofs.ViewLists.{take_more, none_each}
@@ -120,6 +120,9 @@ none_of_lane set lane (f ∷ fs) free all =
           (All-tail (λ (g : Flit). is_marked set g.lane ≡ true) f fs all))
     ]
 
+is_there : {o : Option ℕ} {y : ℕ} → o ≡ Some y → IsSome o
+is_there e = rw e refl
+
 none_marked : (set : LaneMarks) → AllMarked set []
 none_marked set k d there = absurd (omega arith)
 
@@ -141,7 +144,7 @@ past_all s framed x p v inside past =
     omega arith
 
 module _ (s : NetState) (framed : IsFramed s) (set : LaneMarks) (nodes : NodesMarked s set (node_count s.mesh))
-    (links : LinksMarked s set (link_count s.mesh)) where
+    (links : LinksMarked s set (node_count s.mesh)) where
   buffer_marked : (x p v : ℕ) → AllMarked set (input_of (router_at s x) p v).buffer
   buffer_marked x p v = elim (below_cases x (length s.nodes)) [
     | inl inside ↦
@@ -174,8 +177,9 @@ module _ (s : NetState) (framed : IsFramed s) (set : LaneMarks) (nodes : NodesMa
   link_marked x o = elim (bool_cases (has_neighbour s.mesh x o)) [
     | inl has ↦
         let large = AreLarge-from_radices s.mesh framed.radices.radices in
-        let within = below_count s.mesh large x o (IsLink-from_test s.mesh x o large has) in
-        rw has (links.links (links_before s.mesh x o) within)
+        let link = IsLink-from_test s.mesh x o large has in
+        let linked = is_there (neighbour_of-some s.mesh x o link.0 large link.1) in
+        rw has (links.links x o link.1.from_node link.1.mesh_port linked)
     | inr none ↦ rw none (none_marked set)
   ]
 
@@ -250,3 +254,17 @@ node_marked s framed x x_in old mid new node is before first then sources buffer
             subst (λ (z : ℕ). AllMarked new (input_at (router_at s z) p v).buffer) same here
       ];
     }
+
+-- and the links out of it
+pub links_more : (s : NetState) (old new : LaneMarks) (x : ℕ) → KeepsMarks old new → LinksMarked s old x
+    → ((o : ℕ) → o < 2 * length s.mesh → IsMarkedOut s new x o) → LinksMarked s new (x + 1)
+links_more s old new x keeps before here = record {
+  links = λ y o y_in o_in linked. elim (below_cases y x) [
+    | inl less ↦ still_marked old new (link_at s (link_out s y o)).flits keeps
+        (before.links y o less.1 o_in linked)
+    | inr at ↦
+        let low = at.1 in
+        let same : x ≡ y = omega arith in
+        subst (λ (z : ℕ). IsMarkedOut s new z o) same (here o o_in) linked
+  ];
+}

@@ -1,10 +1,11 @@
 -- Which lanes may have something under way: a mark for each lane of a network.
 use Rattle.std.specs.Prelude.{ℕ, ◌+◌, ◌*◌, ◌<◌, ◌≤◌, ◌≡◌, Bool, true, false, List, [], drop, length, sum}
-use Rattle.std.specs.Prelude.{slice_index_or, slice_set, All}
+use Rattle.std.specs.Prelude.{slice_index_or, slice_set, All, IsSome}
 use Rattle.worm_flit.specs.declared.Lane.{Lane}
 use Rattle.worm_flit.specs.declared.Flit.{Flit}
-use Rattle.worm_mesh.specs.Address.{node_count}
+use Rattle.worm_mesh.specs.Address.{neighbour_of, node_count}
 use Rattle.worm_router.specs.Router.{input_at}
+use Rattle.worm_region.specs.Moves.{link_out}
 use Rattle.worm_region.specs.State.{NetState, router_at, queue_of, link_at}
 use Rattle.worm_core.specs.LaneView.{underway_view}
 
@@ -45,6 +46,10 @@ pub record NodesMarked (s : NetState) (set : LaneMarks) (n : ℕ) : Type 0 where
   pub buffers : (x p v : ℕ) → x < n → p ≤ 2 * length s.mesh → v < sum s.channels
       → AllMarked set (input_at (router_at s x) p v).buffer
 
--- those of what the first n links hold
+-- those of what the link out of this port holds, if there is one
+abbrev pub IsMarkedOut : NetState → LaneMarks → ℕ → ℕ → Type 0
+IsMarkedOut s set x o = IsSome (neighbour_of s.mesh x o) → AllMarked set (link_at s (link_out s x o)).flits
+
+-- those of what the links out of the first n nodes hold
 pub record LinksMarked (s : NetState) (set : LaneMarks) (n : ℕ) : Type 0 where
-  pub links : (k : ℕ) → k < n → AllMarked set (link_at s k).flits
+  pub links : (x o : ℕ) → x < n → o < 2 * length s.mesh → IsMarkedOut s set x o

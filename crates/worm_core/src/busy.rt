@@ -1,16 +1,16 @@
 //! Which lanes may have something under way, found in one pass over all places that hold flits: so a report asks for
 //! the views of these lanes alone, and not of all that the network has.
 
-ghost use Rattle.std.specs.Prelude.{ℕ, true, false, ◌≡◌, ◌*◌, ◌<◌, ◌≤◌, IfOk, drop, replicate};
-ghost use Rattle.worm_mesh.specs.Address.{node_count};
-ghost use Rattle.worm_mesh.specs.Links.{link_count};
+ghost use Rattle.std.specs.Prelude.{ℕ, true, false, ◌≡◌, ◌*◌, ◌<◌, ◌≤◌, IfOk, IsSome, drop, length, replicate};
+ghost use Rattle.worm_mesh.specs.Address.{neighbour_of, node_count};
 ghost use Rattle.worm_router.specs.Router.{IsPlace, input_at, terminal, width};
 ghost use Rattle.worm_term.specs.Source.{classes, queue_at};
-ghost use Rattle.worm_core.specs.LaneSet.{AllMarked, IsComplete, KeepsMarks, LinksMarked, NodesMarked, is_marked};
-ghost use Rattle.worm_core.specs.LaneSet.{lane_line, with_mark};
-ghost use Rattle.worm_region.specs.State.{IsFramed};
+ghost use Rattle.worm_core.specs.LaneSet.{AllMarked, IsComplete, IsMarkedOut, KeepsMarks, LinksMarked, NodesMarked};
+ghost use Rattle.worm_core.specs.LaneSet.{is_marked, lane_line, with_mark};
+ghost use Rattle.worm_region.specs.Moves.{link_out};
+ghost use Rattle.worm_region.specs.State.{IsFramed, link_at};
 
-use crate::{LinkState, Net, NoMemory};
+use crate::{Net, NoMemory};
 use std::alloc::{AllocError, Global};
 use std::marker::Model;
 use worm_flit::{Flit, Lane};
@@ -154,13 +154,34 @@ impl LaneSet {
         }
     }
 
-    /// Puts in the lanes of what is on the link.
-    fn mark_link(&mut self, link: &LinkState)
+    /// Puts in the lanes of what is on the link out of the node by this port.
+    fn mark_link(&mut self, fabric: &Fabric, node: u8, port: u8)
+        requires { IsSome (neighbour_of fabric.now.mesh node port) }
         ensures kept { KeepsMarks self.old self.new }
-        ensures marked { AllMarked self.new link.now.flits }
+        ensures marked { AllMarked self.new (link_at fabric.now (link_out fabric.now node port)).flits }
     {
-        for i in 0..link.count() {
-            self.mark(link.flit(i).lane);
+        for i in 0..fabric.flit_count(node, port) {
+            self.mark(fabric.flit(node, port, i).lane);
+        }
+    }
+
+    /// The same, if there is a link.
+    fn mark_port_out(&mut self, fabric: &Fabric, node: u8, port: u8)
+        ensures kept { KeepsMarks self.old self.new }
+        ensures marked { IsMarkedOut fabric.now self.new node port }
+    {
+        if fabric.has_link(node, port) {
+            self.mark_link(fabric, node, port);
+        }
+    }
+
+    /// Puts in the lanes of what is on all links out of the node.
+    fn mark_out(&mut self, fabric: &Fabric, node: u8)
+        ensures kept { KeepsMarks self.old self.new }
+        ensures marked { (o : ℕ) → o < 2 * length fabric.now.mesh → IsMarkedOut fabric.now self.new node o }
+    {
+        for port in 0..fabric.terminal() {
+            self.mark_port_out(fabric, node, port);
         }
     }
 }
@@ -180,12 +201,11 @@ fn mark_nodes(fabric: &Fabric, set: &mut LaneSet)
 
 /// Puts in the lanes of what all links hold.
 fn mark_links(fabric: &Fabric, set: &mut LaneSet)
-    requires { IsFramed fabric.now }
     ensures kept { KeepsMarks set.old set.new }
-    ensures marked { LinksMarked fabric.now set.new (link_count fabric.now.mesh) }
+    ensures marked { LinksMarked fabric.now set.new (node_count fabric.now.mesh) }
 {
-    for number in 0..fabric.links() {
-        set.mark_link(fabric.link(number));
+    for node in 0..fabric.nodes() {
+        set.mark_out(fabric, node as u8);
     }
 }
 

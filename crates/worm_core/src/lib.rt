@@ -22,6 +22,6 @@ pub use one_thread::turns_are_determined;
 pub use totals::Totals;
 pub use view::{Held, LaneView, Place};
 pub use worm_region::{
-    Act, Config, Due, Entry, LinkState, Moved, Name, NetFault, NetParts, NoMemory, Node,
+    Act, Config, Due, Entry, Inboxes, LinkState, Moved, Name, NetFault, NetParts, NoMemory, Node,
     OfferFault, Own, PortLinks, Region, Script, ScriptFault, Step, StepFault, fresh_nodes, tried,
 };

@@ -1,16 +1,18 @@
 //! What is read of a lane: which flits of it are under way, and where. A route is walked from the source to the sink by
 //! a recursion that adds the nearer places first.
 
-ghost use Rattle.std.specs.Prelude.{true, ◌≡◌, ◌*◌, ◌<◌, ◌≤◌, [], ◌∷◌, ◌++◌, OnOk, IfOk, length, flat_map, drop};
+ghost use Rattle.std.specs.Prelude.{true, ◌≡◌, ◌*◌, ◌<◌, ◌≤◌, [], ◌∷◌, ◌++◌, OnOk, IfOk, IsSome, length, flat_map};
+ghost use Rattle.std.specs.Prelude.{drop};
 ghost use Rattle.worm_flit.specs.Stamps.{is_of_lane, of_lane, on_channel};
-ghost use Rattle.worm_mesh.specs.Address.{node_count, has_neighbour};
+ghost use Rattle.worm_mesh.specs.Address.{node_count, has_neighbour, neighbour_of};
 ghost use Rattle.worm_router.specs.Router.{IsPlace, input_at};
 ghost use Rattle.worm_term.specs.Source.{classes, queue_at};
-ghost use Rattle.worm_region.specs.State.{IsFramed};
+ghost use Rattle.worm_region.specs.Moves.{link_out};
+ghost use Rattle.worm_region.specs.State.{IsFramed, link_at};
 ghost use Rattle.worm_core.specs.LaneView.{IsLaneCut, ArePacketsCut, at_place, buffer_held, link_held, channels_of};
 ghost use Rattle.worm_core.specs.LaneView.{places_past, held_at, delivered_view, underway_view};
 
-use crate::{LinkState, Net, NoMemory};
+use crate::{Net, NoMemory};
 use std::alloc::{AllocError, Global};
 use worm_flit::{Flit, Lane};
 use worm_region::Fabric;
@@ -100,18 +102,19 @@ fn put_channel(
 
 /// Adds what a channel of the link out of the node's port holds of the lane.
 fn put_line(
+    fabric: &Fabric,
     held: &mut Vec<Held>,
     lane: Lane,
-    link: &LinkState,
     node: u8,
     port: u8,
     vc: u8,
 ) -> Result<(), AllocError>
-    ensures { OnOk result (held.new.items ≡ held.old.items
-        ++ at_place (Place.Link node port vc) (of_lane lane (on_channel vc link.now.flits))) }
+    requires { IsSome (neighbour_of fabric.now.mesh node port) }
+    ensures { OnOk result (held.new.items ≡ held.old.items ++ at_place (Place.Link node port vc)
+        (of_lane lane (on_channel vc (link_at fabric.now (link_out fabric.now node port)).flits))) }
 {
-    for i in 0..link.count() {
-        let flit = link.flit(i);
+    for i in 0..fabric.flit_count(node, port) {
+        let flit = fabric.flit(node, port, i);
         if flit.vc == vc {
             put(held, lane, flit, Place::Link { node, port, vc })?;
         }
@@ -156,10 +159,9 @@ fn put_lines(
     ensures { OnOk result (held.new.items ≡ held.old.items
         ++ flat_map (link_held fabric.now lane node port) (channels_of fabric.now.channels lane.class)) }
 {
-    let link = fabric.link_from(node, port);
     let channels = fabric.channels_of(lane.class);
     for vc in channels.start..channels.end {
-        put_line(held, lane, link, node, port, vc)?;
+        put_line(fabric, held, lane, node, port, vc)?;
     }
     Ok(())
 }

@@ -156,7 +156,7 @@ impl<R: Abort + AllocGlobal + Copy> Ground<R> {
     /// There are so many nodes and links.
     fn has_size(&self, nodes: u16, links: u16) {
         are_equal(&self.rt, self.region.nodes(), nodes);
-        are_equal(&self.rt, self.region.fabric().links(), links);
+        are_equal(&self.rt, self.region.mesh().links(), links);
     }
 
     /// The lists have so many nodes, this terminal port, and so many channels of a port.
@@ -176,6 +176,13 @@ impl<R: Abort + AllocGlobal + Copy> Ground<R> {
             Some(link) => Some((link.out_port, link.to, link.in_port)),
             None => None,
         }
+    }
+
+    /// Whether links leave the node by its first two ports.
+    fn has_links(&self, node: u8, first: bool, second: bool) {
+        let fabric = self.region.fabric();
+        are_equal(&self.rt, fabric.has_link(node, 0), first);
+        are_equal(&self.rt, fabric.has_link(node, 1), second);
     }
 
     /// This is the way on from the node to the other; none at its end.
@@ -220,6 +227,7 @@ impl<R: Abort + AllocGlobal + Copy> Ground<R> {
 fn where_a_route_goes_on(rt: HostRuntime) {
     let ground = Ground::new(rt, &[3, 2], 2, &[1, 3]);
     ground.has_lists(6, 4, 4);
+    ground.has_links(0, false, true);
     ground.goes_on(0, 5, Some((1, 1, 0)));
     ground.goes_on(2, 5, Some((3, 5, 2)));
     ground.goes_on(5, 5, None);

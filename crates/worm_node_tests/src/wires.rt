@@ -6,7 +6,7 @@ use crate::cases::{mesh_of, single};
 use std::alloc::Global;
 use std::process::Abort;
 use worm_flit::{Flit, SmallSet};
-use worm_wires::{LinkState, Links, Wiring};
+use worm_wires::{Inboxes, LinkState, Links, Wiring};
 
 /// The wiring of the mesh with these radices.
 fn wiring_of(rt: &impl Abort, radices: &[u8]) -> Wiring {
@@ -112,7 +112,8 @@ impl<R: Abort + AllocGlobal + Copy> Pair<R> {
         let states = Vec::from_array(alloc, [there, back]).expect(&rt, "memory");
         let mesh = mesh_of(&rt, &[2]);
         assert!(rt; states.len() == usize::from(mesh.links()));
-        let links = Links::new(mesh, states);
+        let inboxes = Inboxes::new(alloc).expect(&rt, "memory");
+        let links = Links::new(mesh, states, inboxes);
         Pair { rt, links }
     }
 
@@ -139,12 +140,48 @@ impl<R: Abort + AllocGlobal + Copy> Pair<R> {
         assert_eq!(self.rt; links.into, into);
     }
 
-    /// The flit goes onto the link out of the port.
-    fn send(&mut self, node: u8, port: u8, flit: Flit) {
+    /// The flit that comes in next by the port has this word; none where none comes in.
+    fn comes_next(&self, node: u8, port: u8, word: Option<u32>) {
         assert!(self.rt; self.links.links_at(node, port).is_some());
-        let link = self.links.link(self.links.links_beyond(node, port).out);
-        assert!(self.rt; link.count() < usize::from(link.room()));
-        self.links.push(node, port, flit);
+        let flit = self.links.front_in(node, port).copied();
+        assert_eq!(self.rt; flit, word.map(|word| single(0, word)), "at {node}");
+    }
+
+    /// The credit that comes back next by the port is of this channel; none where none comes back.
+    fn comes_back(&self, node: u8, port: u8, vc: Option<u8>) {
+        assert!(self.rt; self.links.links_at(node, port).is_some());
+        assert_eq!(self.rt; self.links.front_credit(node, port), vc, "at {node}");
+    }
+
+    /// Whether there are flits on the link out of the port, and credits on the link into it.
+    fn is_used(&self, node: u8, port: u8, flits: bool, credits: bool) {
+        assert!(self.rt; self.links.links_at(node, port).is_some());
+        assert_eq!(self.rt; self.links.has_flits(node, port), flits, "out of {node}");
+        assert_eq!(self.rt; self.links.has_credits(node, port), credits, "into {node}");
+    }
+
+    /// On the link out of the port are so many flits, the last of this word.
+    fn ends_with(&self, node: u8, port: u8, count: usize, word: u32) {
+        assert!(self.rt; self.links.links_at(node, port).is_some());
+        assert_eq!(self.rt; self.links.count(node, port), count);
+        assert!(self.rt; 0 < self.links.count(node, port));
+        let last = self.links.count(node, port) - 1;
+        assert_eq!(self.rt; self.links.flit(node, port, last), single(0, word));
+    }
+
+    /// The flit goes onto the link out of the port. The links are taken apart for it and made again, since only a link
+    /// by itself tells its room.
+    fn send(self, node: u8, port: u8, flit: Flit) -> Pair<R> {
+        let Pair { rt, links } = self;
+        assert!(rt; links.links_at(node, port).is_some());
+        let number = usize::from(links.links_beyond(node, port).out);
+        let mesh = *links.wiring().mesh();
+        let (states, inboxes) = links.into_states();
+        assert!(rt; states.len() == usize::from(mesh.links()));
+        assert!(rt; states[number].count() < usize::from(states[number].room()));
+        let mut links = Links::new(mesh, states, inboxes);
+        links.push(node, port, flit);
+        Pair { rt, links }
     }
 
     /// The front flit of the link into the port is dropped; the link has this number.
@@ -158,7 +195,8 @@ impl<R: Abort + AllocGlobal + Copy> Pair<R> {
     /// There are so many links.
     fn has_links(self, count: usize) {
         let Pair { rt, links } = self;
-        assert_eq!(rt; links.into_states().len(), count);
+        let (states, _inboxes) = links.into_states();
+        assert_eq!(rt; states.len(), count);
     }
 }
 
@@ -183,10 +221,22 @@ fn a_link_with_a_flit_is_seen(rt: HostRuntime) {
     pair.brings_flit(1, None);
 }
 
+/// Link 1 again, the one out of node 1 by port 0 and into node 0 by port 1.
+#[test]
+fn what_is_on_a_link_is_read_at_its_ends(rt: HostRuntime) {
+    let pair = Pair::new(rt, &[5, 6], &[2, 0]);
+    pair.comes_next(0, 1, Some(5));
+    pair.comes_next(1, 0, None);
+    pair.comes_back(1, 0, Some(2));
+    pair.comes_back(0, 1, None);
+    pair.is_used(1, 0, true, false);
+    pair.is_used(0, 1, false, true);
+    pair.ends_with(1, 0, 2, 6);
+}
+
 #[test]
 fn what_goes_onto_a_link_comes_in_once(rt: HostRuntime) {
-    let mut pair = Pair::new(rt, &[], &[]);
-    pair.send(0, 1, single(0, 5));
+    let mut pair = Pair::new(rt, &[], &[]).send(0, 1, single(0, 5));
     pair.brings_flit(1, Some(0));
     pair.brings_nothing(1, false);
     pair.take(1, 0, 0);

@@ -32,7 +32,7 @@ use worm_flit::{ClassChannels, Flit};
 use worm_mesh::Mesh;
 use worm_router::Router;
 use worm_term::Source;
-use worm_wires::{Links, PortLinks};
+use worm_wires::{Inboxes, Links, PortLinks};
 
 /// The nodes by number and the links by number, whatever they hold (Dally and Towles, chapters 5, 13 and 16).
 #[derive(Drop)]
@@ -78,9 +78,10 @@ impl Fabric {
         let nodes = make_nodes(alloc, &mesh, channels, depth)?;
         let room = u16::from(classes.total()) * u16::from(depth);
         let links = make_links(alloc, mesh.links(), room)?;
+        let inboxes = Inboxes::new(alloc)?;
         let nodes = Nodes::new(nodes);
         Ok(Fabric {
-            links: Links::new(mesh, links),
+            links: Links::new(mesh, links, inboxes),
             classes,
             depth,
             names,
@@ -103,7 +104,7 @@ impl Fabric {
             (vc < sum self.now.channels)) }
     {
         self.has_node(node)
-            && (port == self.terminal() || self.links.wiring().link_out(node, port).is_some())
+            && (port == self.terminal() || self.has_link(node, port))
             && vc < self.classes.total()
     }
 
@@ -125,9 +126,7 @@ impl Fabric {
         ensures after { self.new ≡ (if result then after_take self.old node port (link_into self.old node port)
             (front_into self.old node port) else self.old) }
     {
-        // For the proof: a mesh has radices within their limits.
-        let _wiring = self.links.wiring();
-        let Some(flit) = self.links.link(links.into).front() else {
+        let Some(flit) = self.links.front_in(node, port) else {
             return false;
         };
         // It is copied once, from the link into the buffer.
@@ -214,9 +213,7 @@ impl Fabric {
         ensures after { self.new ≡ (if result then after_getting self.old node port
             (front_credit self.old node port) else self.old) }
     {
-        // For the proof: a mesh has radices within their limits.
-        let _wiring = self.links.wiring();
-        let Some(vc) = self.links.link(links.out).front_credit() else {
+        let Some(vc) = self.links.front_credit(node, port) else {
             return false;
         };
         if self.router_mut(node).credit(port, vc).is_err() {

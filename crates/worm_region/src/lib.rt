@@ -33,4 +33,4 @@ pub use step::{Moved, Step};
 pub use turn::tried;
 pub use worm_script::{Act, Due, Entry, Script, ScriptFault};
 pub use worm_term::{NoMemory, OfferFault};
-pub use worm_wires::{LinkState, PortLinks};
+pub use worm_wires::{Inboxes, LinkState, PortLinks};

@@ -9,7 +9,7 @@ ghost use Rattle.worm_split.specs.Exchange.{EndsSwapped, LinksSwapped, NodesSwap
 use crate::ends::{End, Line};
 use std::marker::Model;
 use std::mem::swap;
-use worm_core::{Config, LinkState, Node, Own};
+use worm_core::{Config, Inboxes, LinkState, Node, Own};
 use worm_mesh::LinkEnds;
 
 /// A network taken apart, as the last worker keeps it till its parts are joined. What stands in the place of a node
@@ -24,6 +24,8 @@ pub struct Kept {
     pub(crate) nodes: Vec<Node>,
     /// The links by number.
     pub(crate) links: Vec<LinkState>,
+    /// Memory for the inboxes of its nodes.
+    pub(crate) inboxes: Inboxes,
     /// Both ends of each link between two workers, by the link's number.
     pub(crate) lines: Vec<Line>,
 }

@@ -115,6 +115,7 @@ impl Kept {
             config: _,
             mut nodes,
             mut links,
+            inboxes: _,
         } = region.into_parts();
         self.exchange(&mut nodes, &mut links, &mut ends, own);
     }
@@ -191,12 +192,14 @@ pub fn join<R: Wait>(rt: &R, parts: Vec<Part>) -> Net
         ways: _,
         nodes,
         links,
+        inboxes,
         lines: _,
     } = whole;
     let lists = NetParts {
         config,
         nodes,
         links,
+        inboxes,
     };
     Net::from_parts(lists)
 }

@@ -18,7 +18,7 @@ use crate::part::Part;
 use std::alloc::{AllocError, Global};
 use std::marker::Brand;
 use std::snapshot::Snapshot;
-use worm_core::{Config, LinkState, Net, Node, fresh_nodes};
+use worm_core::{Config, Inboxes, LinkState, Net, Node, fresh_nodes};
 use worm_flit::ClassChannels;
 use worm_links::{LinkCfg, Opening, credit_line, link_after};
 use worm_mesh::{LinkEnds, Mesh};
@@ -32,6 +32,8 @@ pub struct Seat {
     pub(crate) nodes: Vec<Node>,
     /// An empty link for each.
     pub(crate) links: Vec<LinkState>,
+    /// Memory for the inboxes of its nodes.
+    pub(crate) inboxes: Inboxes,
     /// No end of any.
     pub(crate) ends: Vec<End>,
     /// The network that is split.
@@ -200,11 +202,13 @@ fn make_seat(
     let config = net.config();
     let nodes = fresh_nodes(alloc, &config)?;
     let links = make_links(alloc, count, room)?;
+    let inboxes = Inboxes::new(alloc)?;
     let ends = make_ends(alloc, count)?;
     Ok(Seat {
         config,
         nodes,
         links,
+        inboxes,
         ends,
         opening: Snapshot::of(net),
         lines: Snapshot::of(lines),

@@ -26,6 +26,7 @@ fn part_of(seat: Seat, own: Own, kept: Option<Kept>) -> Part
         config,
         nodes,
         links,
+        inboxes,
         ends,
         opening,
         lines,
@@ -34,6 +35,7 @@ fn part_of(seat: Seat, own: Own, kept: Option<Kept>) -> Part
         config,
         nodes,
         links,
+        inboxes,
     };
     Part {
         region: Region::from_parts(parts, own),
@@ -109,12 +111,14 @@ pub fn split(alloc: Global, net: Net, workers: usize) -> Result<Vec<Part>, (Net,
         config,
         nodes,
         links,
+        inboxes,
     } = net.into_parts();
     let whole = Kept {
         config,
         ways,
         nodes,
         links,
+        inboxes,
         lines,
     };
     Ok(deal(whole, seats, parts, workers as u16, &opening, &made))

@@ -1,17 +1,16 @@
 //! What is read of a fabric along a route: its next link, the channels of a class, and what a link holds.
 
-ghost use Rattle.std.specs.Prelude.{◌≡◌, ◌+◌, ◌<◌, IsSome, MatchOption, length};
-ghost use Rattle.std.specs.Prelude.{slice_index};
+ghost use Rattle.std.specs.Prelude.{◌≡◌, ◌+◌, ◌<◌, ◌↔◌, IsSome, IsTrue, MatchOption, Some, length};
+ghost use Rattle.std.specs.Prelude.{slice_get, slice_index};
 ghost use Rattle.worm_flit.specs.Channels.{first_channel};
 ghost use Rattle.worm_mesh.specs.Address.{node_count, neighbour_of};
-ghost use Rattle.worm_mesh.specs.Links.{link_count};
 ghost use Rattle.worm_region.specs.NextLink.{IsNextLink};
 ghost use Rattle.worm_region.specs.State.{link_at};
 ghost use Rattle.worm_region.specs.Moves.{link_out};
 
 use super::Fabric;
-use crate::LinkState;
 use std::ops::Range;
+use worm_flit::Flit;
 use worm_mesh::LinkEnds;
 use worm_route::next_port;
 
@@ -45,26 +44,27 @@ impl Fabric {
         first..first + self.classes.count(class)
     }
 
-    /// The link out of the node by this port.
-    pub fn link_from(&self, node: u8, port: u8) -> &LinkState
+    /// Whether a link leaves the node by this port.
+    pub fn has_link(&self, node: u8, port: u8) -> bool
+        ensures { IsTrue result ↔ IsSome (neighbour_of self.now.mesh node port) }
+    {
+        self.links.wiring().link_out(node, port).is_some()
+    }
+
+    /// How many flits are on the link out of the node by this port.
+    pub fn flit_count(&self, node: u8, port: u8) -> usize
         requires { IsSome (neighbour_of self.now.mesh node port) }
-        ensures { result.now ≡ link_at self.now (link_out self.now node port) }
+        ensures { result ≡ length (link_at self.now (link_out self.now node port)).flits }
     {
-        self.links.link(self.links.links_beyond(node, port).out)
+        self.links.count(node, port)
     }
 
-    /// The number of links.
-    pub fn links(&self) -> u16
-        ensures { result ≡ link_count self.now.mesh }
+    /// The flit at place `i` of the link out of the node by this port, counted from the front.
+    pub fn flit(&self, node: u8, port: u8, i: usize) -> Flit
+        requires linked { IsSome (neighbour_of self.now.mesh node port) }
+        requires place { i < length (link_at self.now (link_out self.now node port)).flits }
+        ensures { slice_get (link_at self.now (link_out self.now node port)).flits i ≡ Some result }
     {
-        self.links.wiring().mesh().links()
-    }
-
-    /// The link of this number.
-    pub fn link(&self, number: u16) -> &LinkState
-        requires { number < link_count self.now.mesh }
-        ensures { result.now ≡ link_at self.now number }
-    {
-        self.links.link(number)
+        self.links.flit(node, port, i)
     }
 }

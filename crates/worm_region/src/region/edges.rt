@@ -50,7 +50,7 @@ impl Region {
         requires { IsSome (neighbour_of self.now.mesh node port) }
         ensures { (result ≡ false) ↔ ((link_at self.now (link_out self.now node port)).flits ≡ []) }
     {
-        self.fabric.link_from(node, port).front().is_some()
+        self.fabric.wires().has_flits(node, port)
     }
 
     /// Whether a credit is on its way back over the link into this port.
@@ -59,8 +59,7 @@ impl Region {
         requires linked { IsSome (neighbour_of self.now.mesh node port) }
         ensures { (result ≡ false) ↔ ((link_at self.now (link_into self.now node port)).credits ≡ []) }
     {
-        let links = self.fabric.wires().links_beyond(node, port);
-        self.fabric.link(links.into).front_credit().is_some()
+        self.fabric.wires().has_credits(node, port)
     }
 
     /// The flit comes onto the link out of this port of another worker's node, on which there is none.

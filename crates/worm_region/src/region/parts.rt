@@ -24,6 +24,7 @@ impl Region {
             config,
             nodes,
             links,
+            inboxes,
         } = parts;
         let Config {
             radices,
@@ -38,7 +39,7 @@ impl Region {
         let nodes = Nodes::new(nodes);
         Region {
             fabric: Fabric {
-                links: Links::new(mesh, links),
+                links: Links::new(mesh, links, inboxes),
                 classes,
                 depth,
                 names,
@@ -68,10 +69,12 @@ impl Region {
             classes: names,
             channels: counts_of(&classes),
         };
+        let (links, inboxes) = links.into_states();
         NetParts {
             config,
             nodes: nodes.into_list(),
-            links: links.into_states(),
+            links,
+            inboxes,
         }
     }
 

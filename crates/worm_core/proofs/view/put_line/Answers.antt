@@ -1,5 +1,7 @@
 use Rattle.std.proofs.Common.{sym, ap, ◌∙◌, ◌++◌, ◌∷◌, [], take}
 use Rattle.worm_flit.specs.Stamps.{of_lane, on_channel}
+use Rattle.worm_region.specs.Moves.{link_out}
+use Rattle.worm_region.specs.State.{link_at}
 use Rattle.worm_core.specs.LaneView.{at_place}
 use Rattle.worm_core.specs.declared.view.Place.TheVariants.{Link}
 use Rattle.worm_core.proofs.ViewLists.{added, line-more, line-same}
@@ -9,7 +11,7 @@ use Rattle.worm_core.proofs.view.put_line.Goals.{then-flit-vc+in_ok-put, else-fl
 pub loop-i-preserved : goal.loop-i-preserved
 loop-i-preserved c =
     let place = Link c.args.node c.args.port c.args.vc in
-    let flits = c.args.link.now.flits in
+    let flits = (link_at c.args.fabric.now (link_out c.args.fabric.now c.args.node c.args.port)).flits in
     let lane = c.args.lane in
     let flit = c.flit-flit.result in
     elim c.if-flit-vc.branch [

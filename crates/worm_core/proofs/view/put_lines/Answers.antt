@@ -1,6 +1,8 @@
-use Rattle.std.proofs.Common.{◌-◌, ◌++◌, ap, ◌∙◌}
+use Rattle.std.proofs.Common.{◌-◌, ◌++◌, ap, refl, ◌∙◌}
 use Rattle.std.specs.Prelude.{flat_map}
 use Rattle.std.specs.List.{range_with_len}
+use Rattle.worm_region.specs.Moves.{link_out}
+use Rattle.worm_region.specs.State.{link_at}
 use Rattle.worm_core.specs.LaneView.{link_held}
 use Rattle.worm_core.proofs.ReadPlaces.{link_read}
 use Rattle.worm_core.proofs.ViewLists.{added, channel-more}
@@ -12,8 +14,8 @@ loop-vc-preserved c =
     let held = link_held s c.args.lane c.args.node c.args.port in
     let start = c.channels_of-channels.result.start in
     let vc = c.loop-vc.vc in
-    let read = link_read s c.args.lane c.args.node c.args.port vc c.link_from-link.result.now c.requires.linked
-    c.link_from-link.ensures in
+    let read = link_read s c.args.lane c.args.node c.args.port vc
+    (link_at s (link_out s c.args.node c.args.port)) c.requires.linked refl in
     added c.args.held.now.items c.loop-vc.held.items (held vc) (flat_map held (range_with_len start (vc - start))) _ _
     (c.in_ok-put_line.ensures ∙ ap (λ hs. c.loop-vc.held.items ++ hs) read) c.loop-vc.invariant
     (channel-more held start vc c.loop-vc.auto.vc)
