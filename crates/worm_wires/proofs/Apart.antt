@@ -26,12 +26,6 @@ into_beyond mesh x o y radices e =
     ap (option_map (λ z. links_before mesh z (opposite_of (opposite_of o)))) (back_of mesh x o y radices e)
     ∙ ap (λ q. Some (links_before mesh x q)) (opposite_twice o)
 
--- and the link into a port is the one out of the port that it comes from
-pub out_beyond : (mesh : List ℕ) (x p y : ℕ) → AreRadices mesh → neighbour_of mesh x p ≡ Some y
-    → out_link mesh y (opposite_of p) ≡ Some (links_before mesh y (opposite_of p))
-out_beyond mesh x p y radices e =
-    ap (option_map (λ z. links_before mesh y (opposite_of p))) (back_of mesh x p y radices e)
-
 -- the number of the link into a port that has a neighbour
 pub into_is : (mesh : List ℕ) (p : ℕ) (n : Option ℕ) → IsSome n
     → option_map (λ y. links_before mesh y (opposite_of p)) n ≡ Some (into_from mesh p n)

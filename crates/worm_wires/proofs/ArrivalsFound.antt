@@ -3,24 +3,16 @@ use Rattle.std.proofs.Common.{◌≡◌, ◌==◌, ℕ, ◌*◌, ◌<◌, ◌≤
 use Rattle.std.proofs.Common.{Option, Some, None, refl, arith, ap, sym, ◌∙◌}
 use Rattle.std.specs.Prelude.{IsTrue, option_map, IsSome, slice_get}
 use Rattle.std.proofs.lemmas.Bool.{cases_lt}
-use Rattle.std.proofs.lemmas.List.{get_or_default}
 use Rattle.worm_mesh.specs.Address.{neighbour_of, opposite_of}
 use Rattle.worm_mesh.specs.Links.{links_before}
 use Rattle.worm_wires.specs.Links.{LinkView, blank_link}
 use Rattle.worm_wires.specs.Wiring.{into_from}
 use Rattle.worm_flit.specs.SmallSet.{has}
 use Rattle.worm_wires.specs.Arrivals.{LinksView, AreFronts, credits_of, credits_to}
-use Rattle.worm_wires.specs.Arrivals.{flits_of, flits_to, has_front, number_into, number_out, on_link}
+use Rattle.worm_wires.specs.Arrivals.{flits_of, flits_to, has_front, number_into, number_out}
 use Rattle.worm_wires.specs.Arrivals.{state_at}
 use Rattle.worm_flit.proofs.SmallSets.{has_none}
 use Rattle.worm_wires.proofs.Wired.{in_none, out_none}
-
--- what a look at a link finds at the front of a list of it
-pub found_front : {A : Type 0} (list : LinkView → List A) (states : List LinkView) (k i : ℕ) (read : LinkView) → i ≡ k
-    → i < length states → read ≡ get_or states i read → list read ≡ on_link list states (Some k)
-found_front list states k i read at_i there reads =
-    ap list (reads ∙ (get_or_default states i read blank_link there
-    ∙ ap (λ (v : ℕ). get_or states v blank_link) at_i))
 
 -- nothing at the front of a list that brings nothing
 
@@ -51,15 +43,6 @@ no_front (x ∷ xs) none = absurd (cc)
 some_front : {A : Type 0} (xs : List A) → has_front xs ≡ true → xs ≡ [] → ⊥
 some_front [] some none = cc
 some_front (x ∷ xs) some none = cc
-
--- all ports of a set, from those up to one and those past it
-pub fronts_of : {A : Type 0} (list_to : ℕ → List A) (bits last : ℕ)
-    → ((p : ℕ) → p < last → has bits p ≡ has_front (list_to p)) → ((p : ℕ) → last ≤ p → p < 8 → has bits p ≡ false)
-    → ((p : ℕ) → last ≤ p → list_to p ≡ []) → AreFronts list_to bits
-fronts_of list_to bits last before after none = λ p p_in. elim (cases_lt p last) [
-  | inl below ↦ before p below
-  | inr above ↦ after p above p_in ∙ ap has_front (sym (none p above))
-]
 
 -- where nothing comes in by any port a look finds that
 pub come_by : {A : Type 0} (list_to : ℕ → List A) (bits : ℕ) (empty : Bool) → AreFronts list_to bits

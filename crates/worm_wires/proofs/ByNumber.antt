@@ -1,5 +1,5 @@
 -- A list by link number, and what it has for each node and port.
-use Rattle.std.proofs.Common.{◌≡◌, ◌≢◌, ℕ, zero, suc, ◌+◌, ◌*◌, ◌<◌, ◌≤◌, Bool, true, false, cond, inl, inr, List, []}
+use Rattle.std.proofs.Common.{◌≡◌, ℕ, zero, suc, ◌+◌, ◌*◌, ◌<◌, ◌≤◌, Bool, true, false, cond, inl, inr, List, []}
 use Rattle.std.proofs.Common.{◌∷◌, ◌++◌, length, get_or, take, refl, arith, ap, sym, ◌∙◌, append-nil}
 use Rattle.std.proofs.Math.Seq.{take-suc, take-length}
 use Rattle.std.proofs.lemmas.Bool.{cases_lt}
@@ -43,8 +43,8 @@ port_at linked f d o (suc n) below there = elim (cases_lt o n) [
   | inr ge ↦
       let same : o ≡ n = omega arith in
       rw (← same, there, ← ports_count linked f o)
-          (ap (λ (i : ℕ). get_or (of_ports linked f o ++ f o ∷ []) i d) (omega arith)
-          ∙ get_or-append-add (of_ports linked f o) (f o ∷ []) 0 d)
+      (ap (λ (i : ℕ). get_or (of_ports linked f o ++ f o ∷ []) i d) (omega arith)
+      ∙ get_or-append-add (of_ports linked f o) (f o ∷ []) 0 d)
 ]
 
 node_at : {A : Type 0} (mesh : List ℕ) (f : ℕ → ℕ → A) (d : A) (x o n : ℕ) → x < n → o < 2 * length mesh
@@ -69,7 +69,8 @@ node_at mesh f d x o (suc n) below port there = elim (cases_lt x n) [
       ∙ ap (λ (i : ℕ). get_or (of_nodes mesh f (suc n)) (i + count_below (has_neighbour mesh n) o) d) (sym start)
       ∙ get_or-append-add (of_nodes mesh f n) (of_ports (has_neighbour mesh n) (f n) (2 * length mesh))
       (count_below (has_neighbour mesh n) o) d
-      ∙ port_at (has_neighbour mesh n) (f n) d o (2 * length mesh) port (ap (λ (v : ℕ). has_neighbour mesh v o) (sym same) ∙ there)
+      ∙ port_at (has_neighbour mesh n) (f n) d o (2 * length mesh) port
+      (ap (λ (v : ℕ). has_neighbour mesh v o) (sym same) ∙ there)
       ∙ ap (λ (v : ℕ). f v o) (sym same)
 ]
 
@@ -102,7 +103,8 @@ module _ {A : Type 0} (mesh : List ℕ) (f : ℕ → ℕ → A) (d : A) (list : 
           → take (links_before mesh x (suc o)) list
           ≡ of_nodes mesh f x ++ of_ports (has_neighbour mesh x) (f x) (suc o)
       by_test true e rest =
-          let more : count_below (has_neighbour mesh x) (suc o) ≡ count_below (has_neighbour mesh x) o + 1 = rw e refl in
+          let more : count_below (has_neighbour mesh x) (suc o) ≡ count_below
+          (has_neighbour mesh x) o + 1 = rw e refl in
           let next : links_before mesh x (suc o) ≡ suc (links_before mesh x o) = omega (arith, more) in
           ap (λ (i : ℕ). take i list) next
           ∙ take-suc list (links_before mesh x o) d (omega (arith, long, more))

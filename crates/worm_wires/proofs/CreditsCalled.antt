@@ -1,6 +1,7 @@
 -- A port's credits, as a call reads and writes them: the node's inbox is read at one place and written there again, and
 -- the list behind it likewise.
-use Rattle.std.proofs.Common.{◌≡◌, ℕ, ◌<◌, Bool, true, false, List, [], length, get_or, set, Option, Some, refl, arith, ap, sym, subst, ◌∙◌}
+use Rattle.std.proofs.Common.{◌≡◌, ℕ, Bool, true, false, List, [], get_or, set, Option, Some, refl, arith, ap, sym}
+use Rattle.std.proofs.Common.{subst, ◌∙◌}
 use Rattle.std.specs.Prelude.{option_map, slice_get}
 use Rattle.std.proofs.lemmas.List.{get_or_default, set-get_or}
 use Rattle.worm_flit.specs.SmallSet.{has}
@@ -35,14 +36,16 @@ module _ {mesh : List ℕ} {lists : List LinkView} {inboxes : List Inbox} {now :
   -- where the link has no list of them, that is empty
   pub none_listed : has read.more_credits p ≡ false → (get_or lists k blank_link).credits ≡ []
   none_listed none =
-      not_listed (has read.credits p) (has read.more_credits p) (slice_get read.credit p) _ (get_or lists k blank_link).room way
+      not_listed (has read.credits p) (has read.more_credits p) (slice_get read.credit p) _
+      (get_or lists k blank_link).room way
       none
 
   -- and what is seen on the link
   pub credits_are : (n : ℕ) → n ≡ k → (state_at now n).credits
       ≡ whole (has read.credits p) (slice_get read.credit p) (get_or lists k blank_link).credits
   credits_are n is =
-      (λ t. (state_at (sym call.seen t) ((is ∙ number) t)).credits) ∙ credits_at mesh lists inboxes call.sound.radices x p y call.linked
+      (λ t. (state_at (sym call.seen t) ((is ∙ number) t)).credits)
+      ∙ credits_at mesh lists inboxes call.sound.radices x p y call.linked
       ∙ (λ t. whole (has (inbox_is call t).credits p) (slice_get (inbox_is call t).credit p) (credits_of lists (by t)))
 
   pub room_is : (n : ℕ) → n ≡ k → (state_at now n).room ≡ (get_or lists k blank_link).room
@@ -55,11 +58,13 @@ module _ {mesh : List ℕ} {lists : List LinkView} {inboxes : List Inbox} {now :
   pub way_read : (j : ℕ) (list : LinkView) → j ≡ k → list ≡ get_or lists j list
       → IsWay (has read.credits p) (has read.more_credits p) (slice_get read.credit p) list.credits list.room
   way_read j list same reads =
-      subst (λ (l : LinkView). IsWay (has read.credits p) (has read.more_credits p) (slice_get read.credit p) l.credits l.room)
+      subst (λ (l : LinkView). IsWay (has read.credits p) (has read.more_credits p)
+      (slice_get read.credit p) l.credits l.room)
       (sym (list_is call list (out_there call k number) same reads)) way
 
   -- where one comes in, what is seen is a list with a front, and has room where the link has
-  pub credits_read : (n j : ℕ) (list : LinkView) → n ≡ k → j ≡ k → list ≡ get_or lists j list → has read.credits p ≡ true
+  pub credits_read : (n j : ℕ) (list : LinkView) → n ≡ k → j ≡ k → list ≡ get_or lists j list → has read.credits p
+      ≡ true
       → (state_at now n).credits ≡ whole true (slice_get read.credit p) list.credits
   credits_read n j list is same reads some =
       credits_are n is
@@ -70,7 +75,8 @@ module _ {mesh : List ℕ} {lists : List LinkView} {inboxes : List Inbox} {now :
       → (has_front (whole true (slice_get read.credit p) list.credits) ≡ true)
       × (slice_get (whole true (slice_get read.credit p) list.credits) 0 ≡ slice_get read.credit p)
   first_read j list same reads some =
-      let here = subst (λ (b : Bool). IsWay b (has read.more_credits p) (slice_get read.credit p) list.credits list.room) some
+      let here = subst (λ (b : Bool). IsWay b (has read.more_credits p)
+      (slice_get read.credit p) list.credits list.room) some
       (way_read j list same reads) in (
         comes_by true (has read.more_credits p) (slice_get read.credit p) list.credits list.room here,
         first_by true (has read.more_credits p) (slice_get read.credit p) list.credits list.room here refl,
@@ -85,7 +91,8 @@ module _ {mesh : List ℕ} {lists : List LinkView} {inboxes : List Inbox} {now :
       → (state_at now n).credits ≡ (get_or lists k blank_link).credits
   credits_listed n is some =
       credits_are n is
-      ∙ all_listed (has read.credits p) (has read.more_credits p) (slice_get read.credit p) _ (get_or lists k blank_link).room
+      ∙ all_listed (has read.credits p) (has read.more_credits p) (slice_get read.credit p) _
+      (get_or lists k blank_link).room
       way some
 
   -- both are written
@@ -109,7 +116,8 @@ module _ {mesh : List ℕ} {lists : List LinkView} {inboxes : List Inbox} {now :
     both_sound =
         subst (λ (v : ℕ). AreInboxes mesh (set lists v link) (set inboxes i box)) (sym j_is)
         (subst (λ (v : ℕ). AreInboxes mesh (set lists k link) (set inboxes v box)) (sym call.at)
-        (credits_kept mesh lists inboxes call.sound x p k call.node (omega (arith, port_in call)) by (out_there call k number) box link here more front
+        (credits_kept mesh lists inboxes call.sound x p k call.node (omega (arith, port_in call)) by
+        (out_there call k number) box link here more front
         filed_at same_flits same_room way_now))
 
     pub both_seen : (n : ℕ) (fs : List ℕ) → n ≡ k → whole here (slice_get box.credit p) link.credits ≡ fs
@@ -119,7 +127,8 @@ module _ {mesh : List ℕ} {lists : List LinkView} {inboxes : List Inbox} {now :
         (λ t. record { mesh = mesh; states = links_by mesh (set lists (j_is t) link) (set inboxes (call.at t) box) })
         ∙ (λ t. record {
           mesh = mesh;
-          states = credits_written mesh lists inboxes call.sound x p k call.node (omega (arith, port_in call)) by (out_there call k number) box link here more
+          states = credits_written mesh lists inboxes call.sound x p k call.node (omega (arith, port_in call)) by
+              (out_there call k number) box link here more
               front filed_at same_flits same_room way_now t;
         })
         ∙ (λ t. with_state (call.seen t) (sym is t) (record (state_at (call.seen t) (sym is t)) { credits = all t }))
@@ -132,13 +141,19 @@ module _ {mesh : List ℕ} {lists : List LinkView} {inboxes : List Inbox} {now :
     inbox_sound =
         subst (λ (l : List LinkView). AreInboxes mesh l (set inboxes i box)) (set-get_or lists k blank_link)
         (both_sound box here more front filed k (get_or lists k blank_link) (get_or lists k blank_link) refl
-        (sym (get_or_default lists k (get_or lists k blank_link) blank_link (out_there call k number))) refl refl way_now)
+        (sym (get_or_default lists k (get_or lists k blank_link) blank_link (out_there call k number))) refl refl
+        way_now)
 
     pub inbox_seen : (n : ℕ) (fs : List ℕ) → n ≡ k
         → whole here (slice_get box.credit p) (get_or lists k blank_link).credits ≡ fs
         → record { mesh = mesh; states = links_by mesh lists (set inboxes i box) }
         ≡ with_state now n (record (state_at now n) { credits = fs })
     inbox_seen n fs is all =
-        (λ t. record { mesh = mesh; states = links_by mesh (sym (set-get_or lists k blank_link) t) (set inboxes i box) })
+        (λ t. record {
+          mesh = mesh;
+          states = links_by mesh (sym (set-get_or lists k blank_link) t)
+              (set inboxes i box);
+        })
         ∙ both_seen box here more front filed k (get_or lists k blank_link) (get_or lists k blank_link) refl
-        (sym (get_or_default lists k (get_or lists k blank_link) blank_link (out_there call k number))) refl refl way_now n fs is all
+        (sym (get_or_default lists k (get_or lists k blank_link) blank_link (out_there call k number))) refl refl
+        way_now n fs is all

@@ -1,11 +1,12 @@
 -- What is seen of each link, after a write of one port's credits: in the inbox, and in the list behind it.
-use Rattle.std.proofs.Common.{◌≡◌, ◌≢◌, ℕ, ◌*◌, ◌<◌, Bool, true, inl, inr, List, length, length-set, get_or, set, Option, Some}
+use Rattle.std.proofs.Common.{◌≡◌, ℕ, ◌*◌, ◌<◌, Bool, true, inl, inr, List, length, length-set, get_or, set, Option}
+use Rattle.std.proofs.Common.{Some}
 use Rattle.std.proofs.Common.{refl, arith, ap, sym, subst, ◌∙◌}
 use Rattle.std.specs.Prelude.{slice_get, option_map}
 use Rattle.std.proofs.lemmas.List.{get_or-set_other, get_or-set_same}
 use Rattle.worm_flit.specs.declared.Flit.{Flit}
 use Rattle.worm_flit.specs.SmallSet.{has}
-use Rattle.worm_mesh.specs.Address.{AreRadices, has_neighbour, neighbour_of, node_count, opposite_of}
+use Rattle.worm_mesh.specs.Address.{has_neighbour, opposite_of}
 use Rattle.worm_mesh.specs.Links.{links_before}
 use Rattle.worm_wires.specs.Arrivals.{credits_of, flits_of, on_link}
 use Rattle.worm_wires.specs.Inbox.{AreCreditsFiled, AreInboxes, IsInbox, IsWay, credits_come, flits_beyond, flits_come}
@@ -35,7 +36,8 @@ module _ (mesh : List ℕ) (links : List LinkView) (inboxes : List Inbox) (are :
       ∙ ap (λ (l : LinkView). l.credits) (get_or-set_same links k link blank_link there)
 
   -- the port itself
-  back_here : credits_come mesh (set links k link) (set inboxes x box) x p ≡ whole here (slice_get box.credit p) link.credits
+  back_here : credits_come mesh (set links k link) (set inboxes x box) x p ≡ whole here
+      (slice_get box.credit p) link.credits
   back_here =
       (λ t. whole (has (this t).credits p) (slice_get (this t).credit p) (credits_there t))
       ∙ ap (λ (b : Bool). whole b (slice_get box.credit p) link.credits) filed.filed.comes.here
@@ -48,8 +50,10 @@ module _ (mesh : List ℕ) (links : List LinkView) (inboxes : List Inbox) (are :
         let apart : q ≡ p → ⊥ = λ e. away (ap (λ (v : ℕ). out_link mesh v q) at.1 ∙ ap (out_link mesh x) e ∙ by) in
         let inbox : inbox_at (set inboxes x box) y ≡ box = ap (λ (v : ℕ). inbox_at (set inboxes x box) v) at.1 ∙ this in
         let old : inbox_at inboxes x ≡ inbox_at inboxes y = ap (λ (v : ℕ). inbox_at inboxes v) (sym at.1) in
-        (λ t. whole (has (inbox t).credits q) (slice_get (inbox t).credit q) (on_other (λ l. l.credits) links k link (out_link mesh y q) away t))
-        ∙ (λ t. whole (filed.filed.comes.elsewhere q q_in apart t) (filed.filed.others q apart t) (credits_of links (out_link mesh y q)))
+        (λ t. whole (has (inbox t).credits q) (slice_get (inbox t).credit q)
+        (on_other (λ l. l.credits) links k link (out_link mesh y q) away t))
+        ∙ (λ t. whole (filed.filed.comes.elsewhere q q_in apart t) (filed.filed.others q apart t)
+        (credits_of links (out_link mesh y q)))
         ∙ ap (λ (b : Inbox). whole (has b.credits q) (slice_get b.credit q) (credits_of links (out_link mesh y q))) old
     | inr apart ↦
         (λ t. whole (has (get_or-set_other inboxes x y box no_inbox apart.1 t).credits q)
@@ -81,8 +85,10 @@ module _ (mesh : List ℕ) (links : List LinkView) (inboxes : List Inbox) (are :
     credits = λ q q_in. elim (number_cases q p) [
       | inl at ↦
           subst (λ (v : ℕ). IsWay (has box.credits v) (has box.more_credits v) (slice_get box.credit v)
-          (credits_of (set links k link) (out_link mesh x v)) (room_of (set links k link) (out_link mesh x v))) (sym at.1)
-          (way_same here (has box.credits p) more (has box.more_credits p) (slice_get box.credit p) (slice_get box.credit p)
+          (credits_of (set links k link) (out_link mesh x v)) (room_of (set links k link) (out_link mesh x v)))
+          (sym at.1)
+          (way_same here (has box.credits p) more (has box.more_credits p) (slice_get box.credit p)
+          (slice_get box.credit p)
           link.credits (credits_of (set links k link) (out_link mesh x p)) link.room
           (room_of (set links k link) (out_link mesh x p)) way filed.filed.comes.here filed.filed.listed.here refl
           credits_there

@@ -1,6 +1,7 @@
 -- A port's flits, as a call reads and writes them: the node's inbox is read at one place and written there again, and
 -- the list behind it likewise.
-use Rattle.std.proofs.Common.{◌≡◌, ℕ, ◌<◌, Bool, true, false, List, [], length, get_or, set, Option, Some, refl, arith, ap, sym, subst, ◌∙◌}
+use Rattle.std.proofs.Common.{◌≡◌, ℕ, Bool, true, false, List, [], get_or, set, Option, Some, refl, arith, ap, sym}
+use Rattle.std.proofs.Common.{subst, ◌∙◌}
 use Rattle.std.specs.Prelude.{option_map, slice_get}
 use Rattle.std.proofs.lemmas.List.{get_or_default, set-get_or}
 use Rattle.worm_flit.specs.declared.Flit.{Flit}
@@ -38,14 +39,16 @@ module _ {mesh : List ℕ} {lists : List LinkView} {inboxes : List Inbox} {now :
   -- where the link has no list of them, that is empty
   pub none_listed : has read.more_flits p ≡ false → (get_or lists k blank_link).flits ≡ []
   none_listed none =
-      not_listed (has read.flits p) (has read.more_flits p) (slice_get read.flit p) _ (get_or lists k blank_link).room way
+      not_listed (has read.flits p) (has read.more_flits p) (slice_get read.flit p) _
+      (get_or lists k blank_link).room way
       none
 
   -- and what is seen on the link
   pub flits_are : (n : ℕ) → n ≡ k → (state_at now n).flits
       ≡ whole (has read.flits p) (slice_get read.flit p) (get_or lists k blank_link).flits
   flits_are n is =
-      (λ t. (state_at (sym call.seen t) ((is ∙ number) t)).flits) ∙ flits_at mesh lists inboxes call.sound.radices x p y call.linked
+      (λ t. (state_at (sym call.seen t) ((is ∙ number) t)).flits)
+      ∙ flits_at mesh lists inboxes call.sound.radices x p y call.linked
       ∙ (λ t. whole (has (inbox_is call t).flits p) (slice_get (inbox_is call t).flit p) (flits_of lists (by t)))
 
   pub room_is : (n : ℕ) → n ≡ k → (state_at now n).room ≡ (get_or lists k blank_link).room
@@ -113,7 +116,8 @@ module _ {mesh : List ℕ} {lists : List LinkView} {inboxes : List Inbox} {now :
     both_sound =
         subst (λ (v : ℕ). AreInboxes mesh (set lists v link) (set inboxes i box)) (sym j_is)
         (subst (λ (v : ℕ). AreInboxes mesh (set lists k link) (set inboxes v box)) (sym call.at)
-        (flits_kept mesh lists inboxes call.sound x p k call.node (omega (arith, port_in call)) by (into_there call k number) box link here more front
+        (flits_kept mesh lists inboxes call.sound x p k call.node (omega (arith, port_in call)) by
+        (into_there call k number) box link here more front
         filed_at same_credits same_room way_now))
 
     pub both_seen : (n : ℕ) (fs : List Flit) → n ≡ k → whole here (slice_get box.flit p) link.flits ≡ fs
@@ -123,7 +127,8 @@ module _ {mesh : List ℕ} {lists : List LinkView} {inboxes : List Inbox} {now :
         (λ t. record { mesh = mesh; states = links_by mesh (set lists (j_is t) link) (set inboxes (call.at t) box) })
         ∙ (λ t. record {
           mesh = mesh;
-          states = flits_written mesh lists inboxes call.sound x p k call.node (omega (arith, port_in call)) by (into_there call k number) box link here more
+          states = flits_written mesh lists inboxes call.sound x p k call.node (omega (arith, port_in call)) by
+              (into_there call k number) box link here more
               front filed_at same_credits same_room way_now t;
         })
         ∙ (λ t. with_state (call.seen t) (sym is t) (record (state_at (call.seen t) (sym is t)) { flits = all t }))
@@ -136,13 +141,19 @@ module _ {mesh : List ℕ} {lists : List LinkView} {inboxes : List Inbox} {now :
     inbox_sound =
         subst (λ (l : List LinkView). AreInboxes mesh l (set inboxes i box)) (set-get_or lists k blank_link)
         (both_sound box here more front filed k (get_or lists k blank_link) (get_or lists k blank_link) refl
-        (sym (get_or_default lists k (get_or lists k blank_link) blank_link (into_there call k number))) refl refl way_now)
+        (sym (get_or_default lists k (get_or lists k blank_link) blank_link (into_there call k number))) refl refl
+        way_now)
 
     pub inbox_seen : (n : ℕ) (fs : List Flit) → n ≡ k
         → whole here (slice_get box.flit p) (get_or lists k blank_link).flits ≡ fs
         → record { mesh = mesh; states = links_by mesh lists (set inboxes i box) }
         ≡ with_state now n (record (state_at now n) { flits = fs })
     inbox_seen n fs is all =
-        (λ t. record { mesh = mesh; states = links_by mesh (sym (set-get_or lists k blank_link) t) (set inboxes i box) })
+        (λ t. record {
+          mesh = mesh;
+          states = links_by mesh (sym (set-get_or lists k blank_link) t)
+              (set inboxes i box);
+        })
         ∙ both_seen box here more front filed k (get_or lists k blank_link) (get_or lists k blank_link) refl
-        (sym (get_or_default lists k (get_or lists k blank_link) blank_link (into_there call k number))) refl refl way_now n fs is all
+        (sym (get_or_default lists k (get_or lists k blank_link) blank_link (into_there call k number))) refl refl
+        way_now n fs is all

@@ -1,11 +1,11 @@
 -- What is seen of each link, after a write of one port's flits: in the inbox, and in the list behind it.
-use Rattle.std.proofs.Common.{◌≡◌, ◌≢◌, ℕ, ◌*◌, ◌<◌, Bool, true, inl, inr, List, length, length-set, get_or, set, Option, Some}
+use Rattle.std.proofs.Common.{◌≡◌, ℕ, ◌<◌, Bool, true, inl, inr, List, length, length-set, get_or, set, Option, Some}
 use Rattle.std.proofs.Common.{refl, arith, ap, sym, subst, ◌∙◌}
 use Rattle.std.specs.Prelude.{slice_get}
 use Rattle.std.proofs.lemmas.List.{get_or-set_other, get_or-set_same}
 use Rattle.worm_flit.specs.declared.Flit.{Flit}
 use Rattle.worm_flit.specs.SmallSet.{has}
-use Rattle.worm_mesh.specs.Address.{AreRadices, has_neighbour, neighbour_of, node_count, opposite_of}
+use Rattle.worm_mesh.specs.Address.{has_neighbour, opposite_of}
 use Rattle.worm_mesh.specs.Links.{links_before}
 use Rattle.worm_wires.specs.Arrivals.{credits_of, flits_of, on_link}
 use Rattle.worm_wires.specs.Inbox.{AreFlitsFiled, AreInboxes, IsInbox, IsWay, credits_come, flits_beyond, flits_come}
@@ -48,8 +48,10 @@ module _ (mesh : List ℕ) (links : List LinkView) (inboxes : List Inbox) (are :
         let apart : q ≡ p → ⊥ = λ e. away (ap (λ (v : ℕ). in_link mesh v q) at.1 ∙ ap (in_link mesh x) e ∙ by) in
         let inbox : inbox_at (set inboxes x box) y ≡ box = ap (λ (v : ℕ). inbox_at (set inboxes x box) v) at.1 ∙ this in
         let old : inbox_at inboxes x ≡ inbox_at inboxes y = ap (λ (v : ℕ). inbox_at inboxes v) (sym at.1) in
-        (λ t. whole (has (inbox t).flits q) (slice_get (inbox t).flit q) (on_other (λ l. l.flits) links k link (in_link mesh y q) away t))
-        ∙ (λ t. whole (filed.filed.comes.elsewhere q q_in apart t) (filed.filed.others q apart t) (flits_of links (in_link mesh y q)))
+        (λ t. whole (has (inbox t).flits q) (slice_get (inbox t).flit q)
+        (on_other (λ l. l.flits) links k link (in_link mesh y q) away t))
+        ∙ (λ t. whole (filed.filed.comes.elsewhere q q_in apart t) (filed.filed.others q apart t)
+        (flits_of links (in_link mesh y q)))
         ∙ ap (λ (b : Inbox). whole (has b.flits q) (slice_get b.flit q) (flits_of links (in_link mesh y q))) old
     | inr apart ↦
         (λ t. whole (has (get_or-set_other inboxes x y box no_inbox apart.1 t).flits q)
@@ -151,7 +153,8 @@ module _ (mesh : List ℕ) (links : List LinkView) (inboxes : List Inbox) (are :
   -- and the link is seen as it is written, and all others as they were
 
   written_here : (z o : ℕ) → has_neighbour mesh z o ≡ true → links_before mesh z o ≡ k
-      → record (get_or (links_by mesh links inboxes) k blank_link) { flits = whole here (slice_get box.flit p) link.flits }
+      → record (get_or (links_by mesh links inboxes) k blank_link)
+      { flits = whole here (slice_get box.flit p) link.flits }
       ≡ link_by mesh (set links k link) (set inboxes x box) z o
   unfolding link_by
   written_here z o linked at =
@@ -185,7 +188,8 @@ module _ (mesh : List ℕ) (links : List LinkView) (inboxes : List Inbox) (are :
 
   pub flits_written : links_by mesh (set links k link) (set inboxes x box)
       ≡ set (links_by mesh links inboxes) k
-      (record (get_or (links_by mesh links inboxes) k blank_link) { flits = whole here (slice_get box.flit p) link.flits })
+      (record (get_or (links_by mesh links inboxes) k blank_link)
+      { flits = whole here (slice_get box.flit p) link.flits })
   flits_written =
       all_written mesh links (set links k link) inboxes (set inboxes x box) k _
       (λ z o z_in o_in linked at. written_here z o linked at)

@@ -1,13 +1,13 @@
 -- The lists behind the links, after a write of one.
-use Rattle.std.proofs.Common.{◌≡◌, ◌≢◌, ℕ, ◌*◌, ◌<◌, true, inl, inr, List, length, length-set, get_or, set, Option, Some}
-use Rattle.std.proofs.Common.{None, refl, arith, ap, sym, subst, ◌∙◌}
+use Rattle.std.proofs.Common.{◌≡◌, ℕ, ◌*◌, ◌<◌, true, inl, inr, List, length, length-set, get_or, set, Option, Some}
+use Rattle.std.proofs.Common.{None, refl, arith, ap, sym, ◌∙◌}
 use Rattle.std.proofs.lemmas.List.{get_or-set_other, get_or-set_same}
 use Rattle.worm_mesh.specs.Address.{AreRadices, has_neighbour, neighbour_of, node_count, opposite_of}
 use Rattle.worm_mesh.specs.Links.{link_count, links_before}
 use Rattle.worm_mesh.proofs.Digits.{AreLarge-from_radices}
 use Rattle.worm_mesh.proofs.Neighbours.{IsLink-from_test, Joins-back, Joins-from, neighbour_of-some}
 use Rattle.worm_wires.specs.Arrivals.{on_link}
-use Rattle.worm_wires.specs.Inbox.{by_number, link_by, links_by, room_of}
+use Rattle.worm_wires.specs.Inbox.{link_by, links_by, room_of}
 use Rattle.worm_wires.specs.Links.{LinkView, blank_link}
 use Rattle.worm_wires.specs.declared.inbox.Inbox.{Inbox}
 use Rattle.worm_wires.proofs.Apart.{number_cases}

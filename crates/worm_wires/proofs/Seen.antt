@@ -1,15 +1,15 @@
 -- What is seen of each link, by the inboxes and the lists behind it.
-use Rattle.std.proofs.Common.{◌≡◌, ℕ, ◌*◌, ◌<◌, List, [], length, get_or, Option, Some, None, refl, arith, ap, sym, subst, ◌∙◌, true, Bool}
+use Rattle.std.proofs.Common.{◌≡◌, ℕ, ◌<◌, List, [], get_or, Option, Some, None, refl, arith, ap, sym, subst, ◌∙◌, Bool}
 use Rattle.std.proofs.lemmas.List.{get_or_default}
-use Rattle.std.specs.Prelude.{option_map, slice_get, IsSome}
-use Rattle.worm_flit.specs.declared.Flit.{Flit}
+use Rattle.std.specs.Prelude.{option_map, slice_get}
 use Rattle.worm_flit.specs.SmallSet.{has}
-use Rattle.worm_mesh.specs.Address.{AreRadices, Joins, has_neighbour, neighbour_of, node_count, opposite_of}
+use Rattle.worm_mesh.specs.Address.{AreRadices, neighbour_of, opposite_of}
 use Rattle.worm_mesh.specs.Links.{links_before}
 use Rattle.worm_mesh.proofs.Digits.{AreLarge-from_radices}
 use Rattle.worm_mesh.proofs.Neighbours.{Joins-from, has_neighbour-from_Joins, opposite_twice}
-use Rattle.worm_wires.specs.Arrivals.{AreFronts, LinksView, credits_of, credits_to, flits_of, flits_to, has_front, on_link}
-use Rattle.worm_wires.specs.Inbox.{AreInboxes, by_number, credits_come, flits_beyond, flits_come, inbox_at, link_by}
+use Rattle.worm_wires.specs.Arrivals.{AreFronts, LinksView, credits_of, credits_to, flits_of, flits_to, has_front}
+use Rattle.worm_wires.specs.Arrivals.{on_link}
+use Rattle.worm_wires.specs.Inbox.{AreInboxes, credits_come, flits_beyond, flits_come, inbox_at, link_by}
 use Rattle.worm_wires.specs.Inbox.{IsWay, links_by, no_inbox, room_of, whole}
 use Rattle.worm_wires.specs.Links.{LinkView, blank_link}
 use Rattle.worm_wires.specs.Wiring.{in_link, out_link}
@@ -132,7 +132,8 @@ module _ (mesh : List ℕ) (links : List LinkView) (inboxes : List Inbox) (are :
   pub flits_read : AreFronts (flits_to now x) read.flits
   flits_read =
       subst (λ (l : LinksView). AreFronts (flits_to l x) read.flits) same
-      (subst (λ (b : Inbox). AreFronts (flits_to (record { mesh = mesh; states = links_by mesh links inboxes }) x) b.flits)
+      (subst (λ (b : Inbox). AreFronts (flits_to (record { mesh = mesh; states = links_by mesh links inboxes }) x)
+      b.flits)
       read_is (flits_set mesh links inboxes are x x_in))
 
   pub credits_read : AreFronts (credits_to now x) read.credits

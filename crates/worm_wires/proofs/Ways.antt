@@ -1,7 +1,8 @@
 -- What is on one way of a link, by an inbox's port and the list behind it.
-use Rattle.std.proofs.Common.{◌≡◌, ℕ, ◌<◌, Bool, true, false, cond, List, [], ◌∷◌, ◌++◌, length, Option, Some, None, refl, subst, zero, suc, get_or}
+use Rattle.std.proofs.Common.{◌≡◌, ℕ, ◌<◌, Bool, true, false, cond, List, [], ◌∷◌, ◌++◌, length, Option, Some, None}
+use Rattle.std.proofs.Common.{refl, subst, zero, suc, get_or}
 use Rattle.std.proofs.Common.{arith, ap, sym, ◌∙◌, drop}
-use Rattle.std.specs.Prelude.{slice_get, IsSome, option_to_list, is_some}
+use Rattle.std.specs.Prelude.{slice_get, IsSome}
 use Rattle.worm_wires.specs.Arrivals.{has_front}
 use Rattle.worm_wires.specs.Inbox.{IsWay, whole}
 
@@ -130,7 +131,8 @@ one_pushed false front now [] x empty none is = rw is refl
 one_pushed false front now (y ∷ ys) x empty none is = absurd (cc)
 
 -- and one that comes behind others
-pub one_behind : {A : Type 0} (now : Option A) (list : List A) (x : A) → whole true now (list ++ x ∷ []) ≡ list ++ x ∷ []
+pub one_behind : {A : Type 0} (now : Option A) (list : List A) (x : A) → whole true now (list ++ x ∷ [])
+    ≡ list ++ x ∷ []
 one_behind now [] x = refl
 one_behind now (y ∷ ys) x = refl
 

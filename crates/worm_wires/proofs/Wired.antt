@@ -219,22 +219,6 @@ numbers_there mesh x p links e =
       ap (λ (l : PortLinks). l.into) these.1 ∙ sym (ap (λ (n : Option ℕ). into_from mesh p n) these.0),
     )
 
--- and their ports
-pub port_within : (mesh : List ℕ) (x p : ℕ) (links : PortLinks) → AreRadices mesh
-    → ◌≡◌ {A = Option PortLinks} (Some links) (port_links mesh x p) → p < 6
-port_within mesh x p links radices e =
-    let joins = Joins-from mesh x p links.beyond (AreLarge-from_radices mesh radices.radices)
-    (parts mesh x p links e).0 in
-    omega (arith, joins.mesh_port, radices.few_dims)
-
-pub entered_within : (mesh : List ℕ) (x p : ℕ) (links : PortLinks) → AreRadices mesh
-    → ◌≡◌ {A = Option PortLinks} (Some links) (port_links mesh x p) → links.entered < 6
-entered_within mesh x p links radices e =
-    let these = parts mesh x p links e in
-    let joins = Joins-from mesh x p links.beyond (AreLarge-from_radices mesh radices.radices) these.0 in
-    let entered : links.entered ≡ opposite_of p = ap (λ (l : PortLinks). l.entered) these.1 in
-    omega (arith, joins.mesh_port, radices.few_dims)
-
 -- a port with a neighbour is a mesh port
 there_by : (mesh : List ℕ) (x p : ℕ) → AreRadices mesh → (n : Option ℕ) → neighbour_of mesh x p ≡ n → IsSome n → p < 6
 there_by mesh x p radices None e some = absurd (cc)

@@ -3,8 +3,8 @@
 use Rattle.std.specs.Prelude.{ℕ, ◌≡◌, ◌<◌, Bool, List, [], slice_get, slice_index_or, slice_set, Option, None, Some}
 use Rattle.std.specs.Prelude.{is_some}
 use Rattle.worm_flit.specs.declared.Flit.{Flit}
-use Rattle.worm_mesh.specs.Address.{AreRadices, neighbour_of}
-use Rattle.worm_mesh.specs.Links.{link_count, links_before}
+use Rattle.worm_mesh.specs.Address.{neighbour_of}
+use Rattle.worm_mesh.specs.Links.{links_before}
 use Rattle.worm_wires.specs.Links.{LinkView, blank_link}
 use Rattle.worm_wires.specs.Wiring.{in_link, into_from, out_link}
 use Rattle.worm_flit.specs.SmallSet.{has}

@@ -11,8 +11,8 @@ ghost use Rattle.worm_wires.specs.Inbox.{AreCreditsSpilled, AreFlitsSpilled, Are
 ghost use Rattle.worm_wires.specs.Inbox.{IsSpilled, inbox_at};
 ghost use Rattle.worm_wires.specs.Wiring.{port_links};
 
-use crate::inbox::{Inbox, Inboxes};
 use crate::LinkState;
+use crate::inbox::{Inbox, Inboxes};
 use crate::wiring::{PortLinks, Wiring};
 use std::marker::Model;
 use worm_flit::{Flit, SmallSet};
@@ -113,12 +113,7 @@ fn spill_credits(
 }
 
 /// Moves all that is in the node's inbox alone into the lists of its links.
-fn spill_node(
-    wiring: &Wiring,
-    lists: &mut Vec<LinkState>,
-    inboxes: &mut Vec<Inbox>,
-    node: u8,
-)
+fn spill_node(wiring: &Wiring, lists: &mut Vec<LinkState>, inboxes: &mut Vec<Inbox>, node: u8)
     requires { AreInboxes wiring.now lists.old.items inboxes.old.items }
     ensures kept { AreSeenAlike wiring.now lists.old.items inboxes.old.items lists.new.items inboxes.new.items }
     ensures spilled { IsSpilled (inbox_at inboxes.new.items node) 6 }
@@ -233,7 +228,8 @@ impl Links {
         ensures { result ≡ has_front (state_at self.now (number_out self.now node port)).flits }
     {
         let links = self.wiring.links_beyond(node, port);
-        self.inboxes[usize::from(links.beyond)].flits.contains(links.entered)
+        let beyond = &self.inboxes[usize::from(links.beyond)];
+        beyond.flits.contains(links.entered)
     }
 
     /// Whether a credit is on its way back over the link into this port.
@@ -242,7 +238,8 @@ impl Links {
         ensures { result ≡ has_front (state_at self.now (number_into self.now node port)).credits }
     {
         let links = self.wiring.links_beyond(node, port);
-        self.inboxes[usize::from(links.beyond)].credits.contains(links.entered)
+        let beyond = &self.inboxes[usize::from(links.beyond)];
+        beyond.credits.contains(links.entered)
     }
 
     /// How many flits are on the link out of this port.

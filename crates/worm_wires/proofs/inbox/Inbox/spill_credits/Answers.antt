@@ -1,4 +1,4 @@
-use Rattle.std.proofs.Common.{◌≡◌, ◌<◌, ◌∙◌, sym, slice_get}
+use Rattle.std.proofs.Common.{◌∙◌, sym, slice_get}
 use Rattle.worm_flit.specs.SmallSet.{has}
 use Rattle.worm_wires.proofs.Ways.{has_room}
 use Rattle.worm_wires.proofs.inbox.Inbox.spill_credits.Goals as goal

@@ -1,4 +1,4 @@
-use Rattle.std.proofs.Common.{◌≡◌, ◌<◌, ℕ, ◌*◌, ◌≤◌, [], length, arith, rules, subst, sym, ◌∙◌}
+use Rattle.std.proofs.Common.{◌*◌, ◌≤◌, length, arith, subst, sym, ◌∙◌}
 use Rattle.worm_wires.specs.Arrivals.{AreFronts, LinksView, credits_to, flits_to}
 use Rattle.worm_wires.proofs.ArrivalsFound.{come_by, credits_past, flits_past, none_come, true_of}
 use Rattle.worm_wires.proofs.Seen.{credits_read, flits_read}

@@ -1,4 +1,4 @@
-use Rattle.std.proofs.Common.{◌≡◌, ◌<◌, ℕ, List, false, true, length, get_or, ap, subst, ◌∙◌, arith, rules, sym, refl}
+use Rattle.std.proofs.Common.{◌≡◌, List, false, true, length, ap, ◌∙◌, arith, sym, refl}
 use Rattle.std.proofs.Common.{Bool, cond}
 use Rattle.std.specs.Prelude.{slice_get}
 use mir.Val.{bool_byte}
@@ -33,7 +33,8 @@ pub returns-then-contains : goal.returns-then-contains
 returns-then-contains c =
     let before = (goal.at.returns-then-contains c).After-contains in
     let number = (numbers before).back_into in
-    let list = list_is (call before) c.index.result.now (into_there (call before) c.links_beyond-links.result.out number)
+    let list = list_is (call before) c.index.result.now (into_there
+    (call before) c.links_beyond-links.result.out number)
     c.from-then-contains.ensures c.index.ensures in
     c.count.ensures ∙ ap (λ (l : LinkView). length l.flits) list
     ∙ sym (ap (λ (fs : List Flit). length fs) (flits_listed (call before) number _ (numbers before).out_now

@@ -1,4 +1,4 @@
-use Rattle.std.proofs.Common.{arith, ◌<◌}
+use Rattle.std.proofs.Common.{arith}
 use Rattle.worm_wires.proofs.Seen.{credits_read}
 use Rattle.worm_wires.proofs.links.Links.credits_in.Goals as goal
 

@@ -1,5 +1,4 @@
-use Rattle.std.proofs.Common.{◌≡◌, ◌<◌, ℕ, zero, suc, List, false, true, length, get_or, ap, subst, ◌∙◌, arith, rules, sym, refl}
-use Rattle.std.proofs.Common.{Bool, cond, Some, Option}
+use Rattle.std.proofs.Common.{List, length, ap, ◌∙◌, arith, sym, refl}
 use Rattle.std.specs.Prelude.{slice_get}
 use Rattle.worm_flit.specs.declared.Flit.{Flit}
 use Rattle.worm_flit.specs.SmallSet.{has}
@@ -32,7 +31,8 @@ pub flit-requires : goal.flit-requires
 flit-requires c =
     let before = (goal.at.flit-requires c).After-contains in
     let number = (numbers before).back_into in
-    let list = list_is (call before) c.index.result.now (into_there (call before) c.links_beyond-links.result.out number)
+    let list = list_is (call before) c.index.result.now (into_there
+    (call before) c.links_beyond-links.result.out number)
     c.from-then-contains.ensures c.index.ensures in
     let same = ap (λ (l : LinkView). length l.flits) list in
     let seen = ap (λ (fs : List Flit). length fs) (flits_listed (call before) number _ (numbers before).out_now
@@ -43,7 +43,8 @@ pub returns-then-contains : goal.returns-then-contains
 returns-then-contains c =
     let before = (goal.at.returns-then-contains c).After-contains in
     let number = (numbers before).back_into in
-    let list = list_is (call before) c.index.result.now (into_there (call before) c.links_beyond-links.result.out number)
+    let list = list_is (call before) c.index.result.now (into_there
+    (call before) c.links_beyond-links.result.out number)
     c.from-then-contains.ensures c.index.ensures in
     ap (λ (fs : List Flit). slice_get fs c.args.i) (flits_listed (call before) number _ (numbers before).out_now
     (sym c.contains.ensures ∙ c.if-contains.true) ∙ ap (λ (l : LinkView). l.flits) (sym list))
@@ -58,5 +59,7 @@ returns c =
     let seen = flits_are (call before) number _ (numbers before).out_now in
     let long = ap (λ (fs : List Flit). length fs) seen in
     ap (λ (fs : List Flit). slice_get fs c.args.i) seen
-    ∙ alone_at (has read.flits port) (has read.more_flits port) (slice_get read.flit port) _ _ (way (call before) number)
-    (sym c.contains.ensures ∙ c.if-contains.false) c.args.i (omega (arith, c.requires.place, long)) read.flit port c.from-2.result _ c.from-2.ensures refl
+    ∙ alone_at (has read.flits port) (has read.more_flits port) (slice_get read.flit port) _ _
+    (way (call before) number)
+    (sym c.contains.ensures ∙ c.if-contains.false) c.args.i (omega (arith, c.requires.place, long)) read.flit port
+    c.from-2.result _ c.from-2.ensures refl

@@ -1,4 +1,4 @@
-use Rattle.std.proofs.Common.{arith, ◌<◌}
+use Rattle.std.proofs.Common.{arith}
 use Rattle.worm_wires.proofs.Seen.{flits_read}
 use Rattle.worm_wires.proofs.links.Links.flits_in.Goals as goal
 

@@ -1,11 +1,11 @@
-use Rattle.std.proofs.Common.{◌≡◌, ◌<◌, ℕ, List, [], false, true, length, get_or, ap, subst, ◌∙◌, arith, rules, sym, refl}
-use Rattle.std.proofs.Common.{Option, Some, None, Bool}
-use Rattle.std.specs.Prelude.{slice_get, is_some, IsSome}
+use Rattle.std.proofs.Common.{◌≡◌, ℕ, List, false, true, ap, ◌∙◌, arith, sym, refl}
+use Rattle.std.proofs.Common.{None}
+use Rattle.std.specs.Prelude.{slice_get, IsSome}
 use Rattle.worm_flit.specs.SmallSet.{has}
 use Rattle.worm_wires.specs.Arrivals.{number_out, state_at}
 use Rattle.worm_wires.proofs.Called.{IsCall, IsLinked, linked_of}
 use Rattle.worm_wires.proofs.CreditsCalled.{credits_are, way}
-use Rattle.worm_wires.proofs.Ways.{comes_by, first_by, front_some, got, none_by}
+use Rattle.worm_wires.proofs.Ways.{first_by, front_some, got, none_by}
 use Rattle.worm_wires.proofs.links.Links.front_credit.Goals as goal
 use Rattle.worm_wires.proofs.links.Links.front_credit.Goals.{After-contains}
 
@@ -31,7 +31,8 @@ none c missing =
     let read = c.index-here.result.now in
     let port = c.args.port in
     sym (ap (λ (fs : List ℕ). slice_get fs 0) (credits_are (call c) refl _ (linked c).1.out)
-    ∙ none_by (has read.credits port) (has read.more_credits port) (slice_get read.credit port) _ _ (way (call c) refl) missing)
+    ∙ none_by (has read.credits port) (has read.more_credits port) (slice_get read.credit port) _ _
+    (way (call c) refl) missing)
 
 pub returns-then-not-contains : goal.returns-then-not-contains
 returns-then-not-contains c =
@@ -46,14 +47,16 @@ front c some =
     let read = c.index-here.result.now in
     let port = c.args.port in
     ap (λ (fs : List ℕ). slice_get fs 0) (credits_are (call c) refl _ (linked c).1.out)
-    ∙ first_by (has read.credits port) (has read.more_credits port) (slice_get read.credit port) _ _ (way (call c) refl) some
+    ∙ first_by (has read.credits port) (has read.more_credits port) (slice_get read.credit port) _ _
+    (way (call c) refl) some
 
 there : (c : After-contains) → has c.index-here.result.now.credits c.args.port ≡ true
     → IsSome (slice_get c.index-here.result.now.credit c.args.port)
 there c some =
     let read = c.index-here.result.now in
     let port = c.args.port in
-    front_some (has read.credits port) (has read.more_credits port) (slice_get read.credit port) _ _ (way (call c) refl) some
+    front_some (has read.credits port) (has read.more_credits port) (slice_get read.credit port) _ _
+    (way (call c) refl) some
 
 pub returns : goal.returns
 returns c =

@@ -1,12 +1,12 @@
-use Rattle.std.proofs.Common.{◌≡◌, ◌<◌, ℕ, List, [], false, true, length, get_or, ap, subst, ◌∙◌, arith, rules, sym, refl}
-use Rattle.std.proofs.Common.{Option, Some, None, Bool}
+use Rattle.std.proofs.Common.{◌≡◌, ℕ, List, false, true, ap, ◌∙◌, arith, sym, refl}
+use Rattle.std.proofs.Common.{Option, None}
 use Rattle.std.specs.Prelude.{slice_get, is_some, IsSome}
 use Rattle.worm_flit.specs.declared.Flit.{Flit}
 use Rattle.worm_flit.specs.SmallSet.{has}
 use Rattle.worm_wires.specs.Arrivals.{number_into, state_at}
 use Rattle.worm_wires.proofs.Called.{IsCall, IsLinked, linked_of}
 use Rattle.worm_wires.proofs.FlitsCalled.{flits_are, way}
-use Rattle.worm_wires.proofs.Ways.{comes_by, first_by, front_some, got, none_by}
+use Rattle.worm_wires.proofs.Ways.{first_by, front_some, got, none_by}
 use Rattle.worm_wires.proofs.links.Links.front_in.Goals as goal
 use Rattle.worm_wires.proofs.links.Links.front_in.Goals.{After-contains}
 
@@ -32,7 +32,8 @@ none c missing =
     let read = c.index-here.result.now in
     let port = c.args.port in
     sym (ap (λ (fs : List Flit). slice_get fs 0) (flits_are (call c) refl _ (linked c).1.into)
-    ∙ none_by (has read.flits port) (has read.more_flits port) (slice_get read.flit port) _ _ (way (call c) refl) missing)
+    ∙ none_by (has read.flits port) (has read.more_flits port) (slice_get read.flit port) _ _
+    (way (call c) refl) missing)
 
 pub returns-then-not-contains-clause-value : goal.returns-then-not-contains-clause-value
 returns-then-not-contains-clause-value c =

@@ -1,15 +1,15 @@
-use Rattle.std.proofs.Common.{◌≡◌, ◌<◌, List, [], false, true, drop, length, get_or, ap, subst, ◌∙◌, arith, rules, sym}
-use Rattle.std.proofs.Common.{refl, Option, Some, None, Bool}
+use Rattle.std.proofs.Common.{◌≡◌, List, false, drop, ap, ◌∙◌, arith, rules, sym}
+use Rattle.std.proofs.Common.{Option, None}
 use Rattle.std.specs.Prelude.{slice_get, is_some}
 use Rattle.worm_flit.specs.declared.Flit.{Flit}
 use Rattle.worm_flit.specs.SmallSet.{has}
 use Rattle.worm_wires.specs.Arrivals.{has_front}
 use Rattle.worm_wires.specs.Inbox.{IsWay}
-use Rattle.worm_wires.specs.Links.{LinkView, blank_link}
-use Rattle.worm_wires.proofs.Called.{AreNumbers, IsCall, into_there, list_is, numbers_of, port_in}
-use Rattle.worm_wires.proofs.FlitsCalled.{both_seen, both_sound, flits_are, flits_listed, inbox_seen, inbox_sound, none_listed}
+use Rattle.worm_wires.specs.Links.{LinkView}
+use Rattle.worm_wires.proofs.Called.{AreNumbers, IsCall, into_there, list_is, numbers_of}
+use Rattle.worm_wires.proofs.FlitsCalled.{both_seen, both_sound, flits_are, flits_listed, inbox_seen, inbox_sound}
+use Rattle.worm_wires.proofs.FlitsCalled.{none_listed}
 use Rattle.worm_wires.proofs.Ways.{alone_dropped, way_front, way_none, whole_front}
-use Rattle.worm_wires.proofs.Wired.{numbers_there}
 use Rattle.worm_wires.proofs.links.Links.pop.Goals as goal
 use Rattle.worm_wires.proofs.links.Links.pop.Goals.{After-contains, After-self-1, After-self-3-1}
 
@@ -86,7 +86,8 @@ returns c =
     let list = list_is (call before) c.index_mut-list.result.now
     (into_there (call before) c.args.links.into (numbers before).into) c.from-2.ensures
     c.index_mut-list.ensures.value in
-    let all = flits_listed (call before) (numbers before).into _ now (sym c.contains.ensures ∙ c.if-not-contains.false) in
+    let all = flits_listed (call before) (numbers before).into _ now
+    (sym c.contains.ensures ∙ c.if-not-contains.false) in
     both_seen (call before) (numbers before).into c.file_flits-2.new.self (is_some c.copied-front.result)
     c.is_some.result c.copied-front.result c.file_flits-2.ensures c.from-2.result c.index_mut-list.result.now
     c.pop.new.self c.from-2.ensures c.index_mut-list.ensures.value (ap (λ (l : LinkView). l.credits) c.pop.ensures)

@@ -1,14 +1,14 @@
-use Rattle.std.proofs.Common.{◌≡◌, ◌<◌, List, [], false, true, drop, length, ℕ, get_or, ap, subst, ◌∙◌, arith, rules, sym}
-use Rattle.std.proofs.Common.{refl, Option, Some, None, Bool}
+use Rattle.std.proofs.Common.{◌≡◌, List, false, drop, ℕ, ap, ◌∙◌, arith, rules, sym}
+use Rattle.std.proofs.Common.{Option, None}
 use Rattle.std.specs.Prelude.{slice_get, is_some}
 use Rattle.worm_flit.specs.SmallSet.{has}
 use Rattle.worm_wires.specs.Arrivals.{has_front}
 use Rattle.worm_wires.specs.Inbox.{IsWay}
-use Rattle.worm_wires.specs.Links.{LinkView, blank_link}
-use Rattle.worm_wires.proofs.Called.{AreNumbers, IsCall, out_there, list_is, numbers_of, port_in}
-use Rattle.worm_wires.proofs.CreditsCalled.{both_seen, both_sound, credits_are, credits_listed, inbox_seen, inbox_sound, none_listed}
+use Rattle.worm_wires.specs.Links.{LinkView}
+use Rattle.worm_wires.proofs.Called.{AreNumbers, IsCall, out_there, list_is, numbers_of}
+use Rattle.worm_wires.proofs.CreditsCalled.{both_seen, both_sound, credits_are, credits_listed, inbox_seen}
+use Rattle.worm_wires.proofs.CreditsCalled.{inbox_sound, none_listed}
 use Rattle.worm_wires.proofs.Ways.{alone_dropped, way_front, way_none, whole_front}
-use Rattle.worm_wires.proofs.Wired.{numbers_there}
 use Rattle.worm_wires.proofs.links.Links.pop_credit.Goals as goal
 use Rattle.worm_wires.proofs.links.Links.pop_credit.Goals.{After-contains, After-self-1, After-self-3-1}
 
@@ -66,7 +66,8 @@ comes c = ap (λ (f : Option ℕ). is_some f) (front_is c)
 left : (c : After-self-3-1) → IsWay (is_some c.front_credit-front.result) c.is_some.result
     (slice_get c.file_credits-2.new.self.credit c.args.port) c.pop_credit.new.self.credits c.pop_credit.new.self.room
 left c =
-    way_front (is_some c.front_credit-front.result) c.is_some.result (slice_get c.file_credits-2.new.self.credit c.args.port)
+    way_front (is_some c.front_credit-front.result) c.is_some.result
+    (slice_get c.file_credits-2.new.self.credit c.args.port)
     c.pop_credit.new.self.credits c.pop_credit.new.self.room (comes c) (c.is_some.ensures ∙ comes c)
     (λ some. c.file_credits-2.ensures.filed.first some ∙ front_is c)
 
@@ -75,7 +76,8 @@ invariant_of-self-2 c =
     let before = (goal.at.invariant_of-self-2 c).After-contains in
     both_sound (call before) (numbers before).out c.file_credits-2.new.self (is_some c.front_credit-front.result)
     c.is_some.result c.front_credit-front.result c.file_credits-2.ensures c.from-2.result c.index_mut-list.result.now
-    c.pop_credit.new.self c.from-2.ensures c.index_mut-list.ensures.value (ap (λ (l : LinkView). l.flits) c.pop_credit.ensures)
+    c.pop_credit.new.self c.from-2.ensures c.index_mut-list.ensures.value
+    (ap (λ (l : LinkView). l.flits) c.pop_credit.ensures)
     (ap (λ (l : LinkView). l.room) c.pop_credit.ensures) (left c)
 
 pub returns : goal.returns
@@ -85,11 +87,14 @@ returns c =
     let list = list_is (call before) c.index_mut-list.result.now
     (out_there (call before) c.args.links.out (numbers before).out) c.from-2.ensures
     c.index_mut-list.ensures.value in
-    let all = credits_listed (call before) (numbers before).out _ now (sym c.contains.ensures ∙ c.if-not-contains.false) in
+    let all = credits_listed (call before) (numbers before).out _ now
+    (sym c.contains.ensures ∙ c.if-not-contains.false) in
     both_seen (call before) (numbers before).out c.file_credits-2.new.self (is_some c.front_credit-front.result)
     c.is_some.result c.front_credit-front.result c.file_credits-2.ensures c.from-2.result c.index_mut-list.result.now
-    c.pop_credit.new.self c.from-2.ensures c.index_mut-list.ensures.value (ap (λ (l : LinkView). l.flits) c.pop_credit.ensures)
+    c.pop_credit.new.self c.from-2.ensures c.index_mut-list.ensures.value
+    (ap (λ (l : LinkView). l.flits) c.pop_credit.ensures)
     (ap (λ (l : LinkView). l.room) c.pop_credit.ensures) (left c) _ _ now
-    (whole_front (is_some c.front_credit-front.result) (slice_get c.file_credits-2.new.self.credit c.args.port) _ (comes c)
+    (whole_front (is_some c.front_credit-front.result) (slice_get c.file_credits-2.new.self.credit c.args.port) _
+    (comes c)
     ∙ ap (λ (l : LinkView). l.credits) c.pop_credit.ensures
     ∙ ap (λ (fs : List ℕ). drop 1 fs) (ap (λ (l : LinkView). l.credits) list ∙ sym all))

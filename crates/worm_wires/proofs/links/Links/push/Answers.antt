@@ -1,14 +1,15 @@
-use Rattle.std.proofs.Common.{◌≡◌, ◌<◌, List, [], ◌∷◌, ◌++◌, false, true, length, get_or, ap, subst, ◌∙◌, arith, rules}
-use Rattle.std.proofs.Common.{sym, refl, Option, Some, Bool}
+use Rattle.std.proofs.Common.{◌≡◌, List, [], ◌∷◌, ◌++◌, false, true, length, get_or, ap, subst, ◌∙◌, arith}
+use Rattle.std.proofs.Common.{sym, refl, Option, Some}
 use Rattle.std.specs.Prelude.{slice_get}
 use Rattle.worm_flit.specs.declared.Flit.{Flit}
 use Rattle.worm_flit.specs.SmallSet.{has}
 use Rattle.worm_wires.specs.Inbox.{IsWay, whole}
 use Rattle.worm_wires.specs.Links.{LinkView, blank_link}
 use Rattle.worm_wires.proofs.Called.{AreNumbers, IsCall, numbers_by}
-use Rattle.worm_wires.proofs.FlitsCalled.{both_seen, both_sound, first_read, flits_are, flits_read, inbox_seen, inbox_sound}
+use Rattle.worm_wires.proofs.FlitsCalled.{both_seen, both_sound, first_read, flits_are, flits_read, inbox_seen}
+use Rattle.worm_wires.proofs.FlitsCalled.{inbox_sound}
 use Rattle.worm_wires.proofs.FlitsCalled.{room_is, room_read, way, way_read}
-use Rattle.worm_wires.proofs.Ways.{comes_by, first_by, not_here, one_behind, one_pushed, way_alone, way_more}
+use Rattle.worm_wires.proofs.Ways.{not_here, one_behind, one_pushed, way_alone, way_more}
 use Rattle.worm_wires.proofs.links.Links.push.Goals as goal
 use Rattle.worm_wires.proofs.links.Links.push.Goals.{After-contains, After-self-3-1}
 
@@ -85,7 +86,8 @@ push-requires c =
     c.index_mut-list.ensures.value (sym c.contains.ensures ∙ c.if-not-contains.false) in
     let room = room_read (call before) number _ c.from-2.result c.index_mut-list.result.now out c.from-2.ensures
     c.index_mut-list.ensures.value in
-    let length_is = ap (λ (fs : List Flit). length fs) (seen ∙ ap (λ (l : LinkView). l.flits) (sym c.spill_flits.ensures.link)) in
+    let length_is = ap (λ (fs : List Flit). length fs) (seen ∙ ap (λ (l : LinkView). l.flits)
+    (sym c.spill_flits.ensures.link)) in
     let room_is = room ∙ ap (λ (l : LinkView). l.room) (sym c.spill_flits.ensures.link) in
     omega (arith, c.requires.room, length_is, room_is)
 

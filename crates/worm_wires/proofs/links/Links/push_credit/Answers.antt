@@ -1,13 +1,14 @@
-use Rattle.std.proofs.Common.{◌≡◌, ◌<◌, List, [], ◌∷◌, ◌++◌, false, true, length, ℕ, get_or, ap, subst, ◌∙◌, arith, rules}
-use Rattle.std.proofs.Common.{sym, refl, Option, Some, Bool}
+use Rattle.std.proofs.Common.{◌≡◌, List, [], ◌∷◌, ◌++◌, false, true, length, ℕ, get_or, ap, subst, ◌∙◌, arith, rules}
+use Rattle.std.proofs.Common.{sym, refl, Option, Some}
 use Rattle.std.specs.Prelude.{slice_get}
 use Rattle.worm_flit.specs.SmallSet.{has}
 use Rattle.worm_wires.specs.Inbox.{IsWay, whole}
 use Rattle.worm_wires.specs.Links.{LinkView, blank_link}
 use Rattle.worm_wires.proofs.Called.{AreNumbers, IsCall, numbers_of, out_there}
-use Rattle.worm_wires.proofs.CreditsCalled.{both_seen, both_sound, first_read, credits_are, credits_read, inbox_seen, inbox_sound}
+use Rattle.worm_wires.proofs.CreditsCalled.{both_seen, both_sound, first_read, credits_are, credits_read, inbox_seen}
+use Rattle.worm_wires.proofs.CreditsCalled.{inbox_sound}
 use Rattle.worm_wires.proofs.CreditsCalled.{room_is, room_read, way, way_read}
-use Rattle.worm_wires.proofs.Ways.{comes_by, first_by, not_here, one_behind, one_pushed, way_alone, way_more}
+use Rattle.worm_wires.proofs.Ways.{not_here, one_behind, one_pushed, way_alone, way_more}
 use Rattle.worm_wires.proofs.links.Links.push_credit.Goals as goal
 use Rattle.worm_wires.proofs.links.Links.push_credit.Goals.{After-contains, After-self-3-1}
 
@@ -90,7 +91,8 @@ push_credit-requires c =
     c.index_mut-list.ensures.value (sym c.contains.ensures ∙ c.if-not-contains.false) in
     let room = room_read (call before) number _ c.from-2.result c.index_mut-list.result.now out c.from-2.ensures
     c.index_mut-list.ensures.value in
-    let length_is = ap (λ (fs : List ℕ). length fs) (seen ∙ ap (λ (l : LinkView). l.credits) (sym c.spill_credits.ensures.link)) in
+    let length_is = ap (λ (fs : List ℕ). length fs) (seen ∙ ap (λ (l : LinkView). l.credits)
+    (sym c.spill_credits.ensures.link)) in
     let room_is = room ∙ ap (λ (l : LinkView). l.room) (sym c.spill_credits.ensures.link) in
     omega (arith, c.requires.room, length_is, room_is)
 
@@ -120,7 +122,8 @@ invariant_of-self-2 c =
     (slice_get read.credit c.args.links.entered) c.spill_credits.ensures.inbox c.from-2.result
     c.index_mut-list.result.now c.push_credit.new.self c.from-2.ensures c.index_mut-list.ensures.value
     (ap (λ (l : LinkView). l.flits) c.push_credit.ensures ∙ ap (λ (l : LinkView). l.flits) c.spill_credits.ensures.link)
-    (ap (λ (l : LinkView). l.room) c.push_credit.ensures ∙ ap (λ (l : LinkView). l.room) c.spill_credits.ensures.link) (behind c)
+    (ap (λ (l : LinkView). l.room) c.push_credit.ensures ∙ ap (λ (l : LinkView). l.room) c.spill_credits.ensures.link)
+    (behind c)
 
 pub returns : goal.returns
 returns c =
@@ -133,7 +136,8 @@ returns c =
     (slice_get read.credit c.args.links.entered) c.spill_credits.ensures.inbox c.from-2.result
     c.index_mut-list.result.now c.push_credit.new.self c.from-2.ensures c.index_mut-list.ensures.value
     (ap (λ (l : LinkView). l.flits) c.push_credit.ensures ∙ ap (λ (l : LinkView). l.flits) c.spill_credits.ensures.link)
-    (ap (λ (l : LinkView). l.room) c.push_credit.ensures ∙ ap (λ (l : LinkView). l.room) c.spill_credits.ensures.link) (behind c)
+    (ap (λ (l : LinkView). l.room) c.push_credit.ensures ∙ ap (λ (l : LinkView). l.room) c.spill_credits.ensures.link)
+    (behind c)
     _ _ out
     (ap (λ (fs : List ℕ). whole true (slice_get c.spill_credits.new.self.credit c.args.links.entered) fs)
     (pushed c)
