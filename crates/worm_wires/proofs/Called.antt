@@ -1,63 +1,55 @@
--- A node's inbox, as a call reads it at a port that has a neighbour.
+-- A node's inbox, as a call reads it, and the links of a port that has a neighbour.
 use Rattle.std.proofs.Common.{◌≡◌, ℕ, ◌<◌, List, length, get_or, Option, Some, None, refl, arith, ap, sym, subst, ◌∙◌}
-use Rattle.std.specs.Prelude.{IsSome}
+use Rattle.std.specs.Prelude.{IsSome, option_map}
 use Rattle.std.proofs.lemmas.List.{get_or_default}
 use Rattle.worm_mesh.specs.Address.{AreRadices, neighbour_of, opposite_of}
 use Rattle.worm_mesh.specs.Links.{links_before}
-use Rattle.worm_mesh.proofs.Digits.{AreLarge-from_radices}
-use Rattle.worm_mesh.proofs.Neighbours.{Joins-back, Joins-from, opposite_twice}
-use Rattle.worm_mesh.proofs.Numbers.{below_count}
-use Rattle.worm_wires.specs.Arrivals.{LinksView, number_into, number_out}
+use Rattle.worm_wires.specs.Arrivals.{AreFronts, LinksView, credits_to, flits_to, number_into, number_out}
 use Rattle.worm_wires.specs.Inbox.{AreInboxes, inbox_at, links_by, no_inbox}
 use Rattle.worm_wires.specs.Links.{LinkView, blank_link}
-use Rattle.worm_wires.specs.Wiring.{into_from, port_links}
+use Rattle.worm_wires.specs.Wiring.{in_link, into_from, out_link, port_links}
 use Rattle.worm_wires.specs.declared.inbox.Inbox.{Inbox}
 use Rattle.worm_wires.specs.declared.wiring.PortLinks.{PortLinks}
-use Rattle.worm_wires.proofs.Apart.{back_of}
-use Rattle.worm_wires.proofs.Wired.{numbers_there, parts, port_there}
+use Rattle.worm_wires.proofs.Apart.{back_of, into_beyond}
+use Rattle.worm_wires.proofs.EachKind.{credits_kind, flits_kind}
+use Rattle.worm_wires.proofs.TraysSeen.{set_seen}
+use Rattle.worm_wires.proofs.Wired.{numbers_there, parts}
 
--- the links as a call has them, a port of a node with its neighbour, and the node's inbox, which is read at some place
-pub record IsCall (mesh : List ℕ) (lists : List LinkView) (inboxes : List Inbox) (now : LinksView) (x p y i : ℕ)
+-- the links as a call has them, and a node's inbox, which is read at some place
+pub record IsCall (mesh : List ℕ) (lists : List LinkView) (inboxes : List Inbox) (now : LinksView) (x i : ℕ)
     (read : Inbox) : Type 0 where
   pub sound : AreInboxes mesh lists inboxes
   pub seen : record { mesh = mesh; states = links_by mesh lists inboxes } ≡ now
-  pub linked : neighbour_of mesh x p ≡ Some y
   pub node : x < 256
   pub at : i ≡ x
   pub reads : read ≡ get_or inboxes i read
 
-module _ {mesh : List ℕ} {lists : List LinkView} {inboxes : List Inbox} {now : LinksView} {x p y i : ℕ} {read : Inbox}
-    (call : IsCall mesh lists inboxes now x p y i read) where
-  pub port_in : p < 6
-  port_in = port_there mesh x p call.sound.radices (rw call.linked refl)
-
-  pub entered_in : opposite_of p < 6
-  entered_in =
-      port_there mesh y (opposite_of p) call.sound.radices (rw (back_of mesh x p y call.sound.radices call.linked) refl)
-
+module _ {mesh : List ℕ} {lists : List LinkView} {inboxes : List Inbox} {now : LinksView} {x i : ℕ} {read : Inbox}
+    (call : IsCall mesh lists inboxes now x i read) where
   pub inbox_is : inbox_at inboxes x ≡ read
   inbox_is =
       sym (call.reads ∙ get_or_default inboxes i read no_inbox (omega (arith, call.sound.nodes, call.at, call.node))
       ∙ ap (λ (v : ℕ). inbox_at inboxes v) call.at)
 
-  -- a list, as it is read
-  pub list_is : {k j : ℕ} (list : LinkView) → k < length lists → j ≡ k → list ≡ get_or lists j list
-      → list ≡ get_or lists k blank_link
-  list_is list there same reads =
-      reads ∙ (λ t. get_or lists (same t) list) ∙ get_or_default lists _ list blank_link there
+  -- the sets of an inbox are those of the ports by which something comes in
 
-  -- the lists of the two links between
+  pub flits_read : AreFronts (flits_to now x) read.flits.here
+  flits_read =
+      subst (λ (l : LinksView). AreFronts (flits_to l x) read.flits.here) call.seen
+      (subst (λ (b : Inbox). AreFronts (flits_to (record { mesh = mesh; states = links_by mesh lists inboxes }) x)
+      b.flits.here) inbox_is (set_seen flits_kind mesh lists inboxes call.sound x call.node))
 
-  pub into_there : (k : ℕ) → k ≡ links_before mesh y (opposite_of p) → k < length lists
-  into_there k number =
-      let large = AreLarge-from_radices mesh call.sound.radices.radices in
-      let back = Joins-back mesh x p y (Joins-from mesh x p y large call.linked) in
-      omega (arith, number, call.sound.all, below_count mesh large y (opposite_of p) (x, back))
+  pub credits_read : AreFronts (credits_to now x) read.credits.here
+  credits_read =
+      subst (λ (l : LinksView). AreFronts (credits_to l x) read.credits.here) call.seen
+      (subst (λ (b : Inbox). AreFronts (credits_to (record { mesh = mesh; states = links_by mesh lists inboxes }) x)
+      b.credits.here) inbox_is (set_seen credits_kind mesh lists inboxes call.sound x call.node))
 
-  pub out_there : (k : ℕ) → k ≡ links_before mesh x p → k < length lists
-  out_there k number =
-      let large = AreLarge-from_radices mesh call.sound.radices.radices in
-      omega (arith, number, call.sound.all, below_count mesh large x p (y, Joins-from mesh x p y large call.linked))
+-- a list, as it is read
+pub list_is : (lists : List LinkView) (k j : ℕ) (list : LinkView) → k < length lists → j ≡ k → list ≡ get_or lists j list
+    → list ≡ get_or lists k blank_link
+list_is lists k j list there same reads =
+    reads ∙ (λ t. get_or lists (same t) list) ∙ get_or_default lists k list blank_link there
 
 -- The call's port, by its links
 
@@ -77,10 +69,11 @@ pub record AreNumbers (mesh : List ℕ) (now : LinksView) (x p : ℕ) (links : P
   -- by what is seen
   pub out_now : number_out now x p ≡ links.out
   pub into_now : number_into now x p ≡ links.into
-  -- the same of the port beyond
-  pub back : neighbour_of mesh links.beyond links.entered ≡ Some x
-  pub back_out : links.into ≡ links_before mesh links.beyond links.entered
-  pub back_into : links.out ≡ links_before mesh x (opposite_of links.entered)
+  -- of the port, and of the port beyond
+  pub in_here : in_link mesh x p ≡ Some links.into
+  pub out_here : out_link mesh x p ≡ Some links.out
+  pub in_beyond : in_link mesh links.beyond links.entered ≡ Some links.out
+  pub out_beyond : out_link mesh links.beyond links.entered ≡ Some links.into
 
 pub numbers_by : (mesh : List ℕ) (states : List LinkView) (now : LinksView) (x p : ℕ) (links : PortLinks)
     → AreRadices mesh → record { mesh = mesh; states = states } ≡ now
@@ -98,12 +91,19 @@ numbers_by mesh states now x p links radices same linked =
       into = into;
       out_now = ap (λ (l : LinksView). number_out l x p) (sym same) ∙ sym numbers.0;
       into_now = ap (λ (l : LinksView). number_into l x p) (sym same) ∙ sym numbers.1;
-      back =
-          ap (λ (q : ℕ). neighbour_of mesh links.beyond q) entered
-          ∙ back_of mesh x p links.beyond radices these.0;
-      back_out = into ∙ ap (λ (q : ℕ). links_before mesh links.beyond q) (sym entered);
-      back_into =
-          out ∙ ap (λ (q : ℕ). links_before mesh x q) (sym (ap opposite_of entered ∙ opposite_twice p));
+      in_here =
+          ap (λ (n : Option ℕ). option_map (λ y. links_before mesh y (opposite_of p)) n) these.0
+          ∙ ap (λ (k : ℕ). Some k) (sym into);
+      out_here =
+          ap (λ (n : Option ℕ). option_map (λ y. links_before mesh x p) n) these.0 ∙ ap (λ (k : ℕ). Some k) (sym out);
+      in_beyond =
+          ap (λ (q : ℕ). in_link mesh links.beyond q) entered ∙ into_beyond mesh x p links.beyond radices these.0
+          ∙ ap (λ (k : ℕ). Some k) (sym out);
+      out_beyond =
+          ap (λ (q : ℕ). out_link mesh links.beyond q) entered
+          ∙ ap (λ (n : Option ℕ). option_map (λ y. links_before mesh links.beyond (opposite_of p)) n)
+          (back_of mesh x p links.beyond radices these.0)
+          ∙ ap (λ (k : ℕ). Some k) (sym into);
     }
 
 pub numbers_of : (mesh : List ℕ) (states : List LinkView) (now : LinksView) (x p : ℕ) (links : PortLinks)
@@ -114,27 +114,24 @@ numbers_of mesh states now x p links radices same linked =
 
 -- a port that has a neighbour, and the numbers of its links
 
-pub record IsLinked (mesh : List ℕ) (now : LinksView) (x p y : ℕ) : Type 0 where
-  pub linked : neighbour_of mesh x p ≡ Some y
-  pub into : number_into now x p ≡ links_before mesh y (opposite_of p)
-  pub out : number_out now x p ≡ links_before mesh x p
+pub record IsLinked (mesh : List ℕ) (now : LinksView) (x p : ℕ) : Type 0 where
+  pub into : in_link mesh x p ≡ Some (number_into now x p)
+  pub out : out_link mesh x p ≡ Some (number_out now x p)
 
 linked_by : (mesh : List ℕ) (states : List LinkView) (now : LinksView) (x p : ℕ)
     → record { mesh = mesh; states = states } ≡ now → (n : Option ℕ) → neighbour_of mesh x p ≡ n → IsSome n
-    → (y : ℕ) × IsLinked mesh now x p y
+    → IsLinked mesh now x p
 linked_by mesh states now x p same None e some = absurd (cc)
-linked_by mesh states now x p same (Some y) e some = (
-  y,
-  record {
-    linked = e;
-    into = ap (λ (l : LinksView). number_into l x p) (sym same) ∙ ap (λ (n : Option ℕ). into_from mesh p n) e;
-    out = ap (λ (l : LinksView). number_out l x p) (sym same);
-  },
-)
+linked_by mesh states now x p same (Some y) e some = record {
+  into = ap (λ (n : Option ℕ). option_map (λ y. links_before mesh y (opposite_of p)) n) e
+      ∙ ap (λ (k : ℕ). Some k)
+      (sym (ap (λ (l : LinksView). number_into l x p) (sym same) ∙ ap (λ (n : Option ℕ). into_from mesh p n) e));
+  out = ap (λ (n : Option ℕ). option_map (λ y. links_before mesh x p) n) e
+      ∙ ap (λ (k : ℕ). Some k) (ap (λ (l : LinksView). number_out l x p) same);
+}
 
 pub linked_of : (mesh : List ℕ) (states : List LinkView) (now : LinksView) (x p : ℕ)
-    → record { mesh = mesh; states = states } ≡ now → IsSome (neighbour_of now.mesh x p)
-    → (y : ℕ) × IsLinked mesh now x p y
+    → record { mesh = mesh; states = states } ≡ now → IsSome (neighbour_of now.mesh x p) → IsLinked mesh now x p
 linked_of mesh states now x p same some =
     linked_by mesh states now x p same (neighbour_of mesh x p) refl
     (subst (λ (l : LinksView). IsSome (neighbour_of l.mesh x p)) (sym same) some)

@@ -6,12 +6,11 @@ pub mod ByNumber
 pub mod Ways
 pub mod Seen
 pub mod ListsWritten
-pub mod FlitsWritten
-pub mod CreditsWritten
+pub mod TraysWritten
+pub mod EachKind
+pub mod TraysSeen
 pub mod Called
-pub mod FlitsCalled
-pub mod CreditsCalled
+pub mod TrayCalled
 pub mod InboxFilled
 pub mod AllSpilled
 pub mod Spilled
-pub mod SpillCalls

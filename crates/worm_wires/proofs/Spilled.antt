@@ -1,209 +1,92 @@
--- What is in an inbox alone goes into the list of its link: the links are seen as they were.
-use Rattle.std.proofs.Common.{◌≡◌, ◌≢◌, ℕ, ◌+◌, ◌<◌, Bool, true, inl, inr, List, [], ◌∷◌, length, get_or, set, Option}
-use Rattle.std.proofs.Common.{Some, None, refl, arith, ap, sym, subst, ◌∙◌}
-use Rattle.std.specs.Prelude.{slice_get, option_map, IsSome}
+-- Ports and nodes whose lists have all that comes in.
+use Rattle.std.proofs.Common.{◌≡◌, ◌≢◌, ℕ, ◌+◌, ◌<◌, true, false, refl, inl, inr, List, length, set, Option, arith, ap, sym, subst}
+use Rattle.std.proofs.Common.{◌∙◌}
+use Rattle.std.specs.Prelude.{slice_get}
 use Rattle.std.proofs.lemmas.List.{get_or-set_other, get_or-set_same, set-get_or}
 use Rattle.worm_flit.specs.SmallSet.{has}
-use Rattle.worm_wires.specs.Arrivals.{credits_of, flits_of, on_link}
-use Rattle.worm_wires.specs.Inbox.{AreCreditsFiled, AreCreditsSpilled, AreFlitsFiled, AreFlitsSpilled, AreInboxes}
-use Rattle.worm_wires.specs.Inbox.{AreSeenAlike, IsSpilled, IsWay, inbox_at, links_by, no_inbox, room_of, whole}
-use Rattle.worm_wires.specs.Links.{LinkView, blank_link}
-use Rattle.worm_wires.specs.Wiring.{in_link, out_link}
+use Rattle.worm_wires.specs.Arrivals.{LinksView, has_front}
+use Rattle.worm_wires.specs.Links.{LinkView}
+use Rattle.worm_wires.specs.Inbox.{AreSpilled, IsFiled, IsPortSpilled, IsSpilled, Kind, inbox_at, no_inbox, of_credits}
+use Rattle.worm_wires.specs.Inbox.{of_flits}
 use Rattle.worm_wires.specs.declared.inbox.Inbox.{Inbox}
+use Rattle.worm_wires.specs.declared.inbox.Tray.{Tray}
 use Rattle.worm_wires.proofs.Apart.{number_cases}
-use Rattle.worm_wires.proofs.CreditsWritten.{credits_kept, credits_written}
-use Rattle.worm_wires.proofs.FlitsWritten.{flits_kept, flits_written}
-use Rattle.worm_wires.proofs.ListsWritten.{same_link}
-use Rattle.worm_wires.proofs.Seen.{credits_seen, flits_seen}
-use Rattle.worm_wires.proofs.Ways.{way_same}
+use Rattle.worm_wires.proofs.Called.{IsCall, inbox_is}
+use Rattle.worm_wires.proofs.EachKind.{IsKind}
+use Rattle.worm_wires.proofs.Ways.{not_here}
 
--- One way of a link
-
--- where something comes in there is a link
-pub linked_way : {A : Type 0} (list : LinkView → List A) (links : List LinkView) (here more : Bool) (front : Option A)
-    (f : ℕ → ℕ) (n : Option ℕ)
-    → IsWay here more front (on_link list links (option_map f n)) (room_of links (option_map f n)) → here ≡ true
-    → IsSome n
-linked_way list links here more front f None way some = absurd (omega (arith, (way.alone refl some).0))
-linked_way list links here more front f (Some y) way some = refl
-
--- with all that comes in put into its list
-spilled_way : {A : Type 0} (more : Bool) (front : Option A) (list : List A) (room : ℕ) → IsWay true more front list room
-    → IsWay true true front (whole true front list) room
-spilled_way more None [] room way = let some = (way.alone refl refl).1 in absurd (cc)
-spilled_way more (Some x) [] room way = record {
-  listed = refl;
-  first = λ some. (refl, refl);
-  alone = λ empty some. absurd (cc);
-}
-spilled_way more front (x ∷ xs) room way = record {
-  listed = refl;
-  first = λ some. way.first refl;
-  alone = λ empty some. absurd (cc);
-}
-
-whole_twice : {A : Type 0} (front : Option A) (list : List A)
-    → whole true front (whole true front list) ≡ whole true front list
-whole_twice None [] = refl
-whole_twice (Some x) [] = refl
-whole_twice front (x ∷ xs) = refl
-
-module _ (mesh : List ℕ) (links : List LinkView) (inboxes : List Inbox) (are : AreInboxes mesh links inboxes)
-    (x p k : ℕ) (x_in : x < 256) (p_in : p < 8) (there : k < length links) (box : Inbox) (link : LinkView) where
-  flits_here : in_link mesh x p ≡ Some k → has (inbox_at inboxes x).flits p ≡ true
-      → IsWay true (has (inbox_at inboxes x).more_flits p) (slice_get (inbox_at inboxes x).flit p)
-      (get_or links k blank_link).flits (get_or links k blank_link).room
-  flits_here by here =
-      way_same (has (inbox_at inboxes x).flits p) true (has (inbox_at inboxes x).more_flits p)
-      (has (inbox_at inboxes x).more_flits p) (slice_get (inbox_at inboxes x).flit p)
-      (slice_get (inbox_at inboxes x).flit p) (flits_of links (in_link mesh x p)) (get_or links k blank_link).flits
-      (room_of links (in_link mesh x p)) (get_or links k blank_link).room ((are.known x x_in).flits p p_in) (sym here)
-      refl refl (sym (ap (λ (n : Option ℕ). flits_of links n) by)) (sym (ap (λ (n : Option ℕ). room_of links n) by))
-
-  pub flits_alike : in_link mesh x p ≡ Some k → has (inbox_at inboxes x).flits p ≡ true
-      → link ≡ record (get_or links k blank_link) {
-        flits = whole true (slice_get (inbox_at inboxes x).flit p) (get_or links k blank_link).flits;
-      }
-      → AreFlitsFiled (inbox_at inboxes x) box p true true (slice_get (inbox_at inboxes x).flit p)
-      → AreSeenAlike mesh links inboxes (set links k link) (set inboxes x box)
-  flits_alike by here is filed =
-      let front = slice_get (inbox_at inboxes x).flit p in
-      let list = (get_or links k blank_link).flits in
-      let room = (get_or links k blank_link).room in
-      let flits : link.flits ≡ whole true front list = ap (λ (l : LinkView). l.flits) is in
-      let credits : link.credits ≡ (get_or links k blank_link).credits = ap (λ (l : LinkView). l.credits) is in
-      let fits : link.room ≡ room = ap (λ (l : LinkView). l.room) is in
-      let first : slice_get box.flit p ≡ front = filed.filed.first refl in
-      let way : IsWay true true (slice_get box.flit p) link.flits link.room =
-      way_same true true true true front (slice_get box.flit p) (whole true front list) link.flits room link.room
-      (spilled_way (has (inbox_at inboxes x).more_flits p) front list room (flits_here by here)) refl refl first flits
-      fits in
-      let seen : (get_or (links_by mesh links inboxes) k blank_link).flits ≡ whole true front list =
-      sym (ap (λ (n : Option ℕ). flits_of (links_by mesh links inboxes) n) by)
-      ∙ flits_seen mesh links inboxes are x x_in p p_in ∙ (λ t. whole (here t) front (flits_of links (by t))) in
-      let now : whole true (slice_get box.flit p) link.flits ≡ whole true front list =
-      (λ t. whole true (first t) (flits t)) ∙ whole_twice front list in
-      record {
-        sound = flits_kept mesh links inboxes are x p k x_in p_in by there box link true true front filed credits fits
-            way;
-        same = flits_written mesh links inboxes are x p k x_in p_in by there box link true true front filed credits
-            fits way
-            ∙ ap (λ (l : LinkView). set (links_by mesh links inboxes) k l)
-            (same_link _ (get_or (links_by mesh links inboxes) k blank_link) (now ∙ sym seen) refl refl)
-            ∙ set-get_or (links_by mesh links inboxes) k blank_link;
-      }
-
-  credits_here : out_link mesh x p ≡ Some k → has (inbox_at inboxes x).credits p ≡ true
-      → IsWay true (has (inbox_at inboxes x).more_credits p) (slice_get (inbox_at inboxes x).credit p)
-      (get_or links k blank_link).credits (get_or links k blank_link).room
-  credits_here by here =
-      way_same (has (inbox_at inboxes x).credits p) true (has (inbox_at inboxes x).more_credits p)
-      (has (inbox_at inboxes x).more_credits p) (slice_get (inbox_at inboxes x).credit p)
-      (slice_get (inbox_at inboxes x).credit p) (credits_of links (out_link mesh x p))
-      (get_or links k blank_link).credits (room_of links (out_link mesh x p)) (get_or links k blank_link).room
-      ((are.known x x_in).credits p p_in) (sym here) refl refl
-      (sym (ap (λ (n : Option ℕ). credits_of links n) by)) (sym (ap (λ (n : Option ℕ). room_of links n) by))
-
-  pub credits_alike : out_link mesh x p ≡ Some k → has (inbox_at inboxes x).credits p ≡ true
-      → link ≡ record (get_or links k blank_link) {
-        credits = whole true (slice_get (inbox_at inboxes x).credit p) (get_or links k blank_link).credits;
-      }
-      → AreCreditsFiled (inbox_at inboxes x) box p true true (slice_get (inbox_at inboxes x).credit p)
-      → AreSeenAlike mesh links inboxes (set links k link) (set inboxes x box)
-  credits_alike by here is filed =
-      let front = slice_get (inbox_at inboxes x).credit p in
-      let list = (get_or links k blank_link).credits in
-      let room = (get_or links k blank_link).room in
-      let credits : link.credits ≡ whole true front list = ap (λ (l : LinkView). l.credits) is in
-      let flits : link.flits ≡ (get_or links k blank_link).flits = ap (λ (l : LinkView). l.flits) is in
-      let fits : link.room ≡ room = ap (λ (l : LinkView). l.room) is in
-      let first : slice_get box.credit p ≡ front = filed.filed.first refl in
-      let way : IsWay true true (slice_get box.credit p) link.credits link.room =
-      way_same true true true true front (slice_get box.credit p) (whole true front list) link.credits room link.room
-      (spilled_way (has (inbox_at inboxes x).more_credits p) front list room (credits_here by here)) refl refl first
-      credits fits in
-      let seen : (get_or (links_by mesh links inboxes) k blank_link).credits ≡ whole true front list =
-      sym (ap (λ (n : Option ℕ). credits_of (links_by mesh links inboxes) n) by)
-      ∙ credits_seen mesh links inboxes are x x_in p p_in ∙ (λ t. whole (here t) front (credits_of links (by t))) in
-      let now : whole true (slice_get box.credit p) link.credits ≡ whole true front list =
-      (λ t. whole true (first t) (credits t)) ∙ whole_twice front list in
-      record {
-        sound = credits_kept mesh links inboxes are x p k x_in p_in by there box link true true front filed flits fits
-            way;
-        same = credits_written mesh links inboxes are x p k x_in p_in by there box link true true front filed flits
-            fits way
-            ∙ ap (λ (l : LinkView). set (links_by mesh links inboxes) k l)
-            (same_link _ (get_or (links_by mesh links inboxes) k blank_link) refl (now ∙ sym seen) refl)
-            ∙ set-get_or (links_by mesh links inboxes) k blank_link;
-      }
-
--- and the sets of the inboxes
-
-pub flits_put : (inboxes : List Inbox) (x p : ℕ) (box : Inbox) → x < length inboxes
-    → AreFlitsFiled (inbox_at inboxes x) box p true true (slice_get (inbox_at inboxes x).flit p)
-    → AreFlitsSpilled inboxes (set inboxes x box) x p
-flits_put inboxes x p box there filed =
-    let this : inbox_at (set inboxes x box) x ≡ box = get_or-set_same inboxes x box no_inbox there in
+-- a port, after a write of its inbox
+pub port_put : {A B : Type 0} (kind : Kind A) (other : Kind B) {mesh : List ℕ} {lists : List LinkView}
+    {inboxes : List Inbox} {now : LinksView} {x i : ℕ} {read : Inbox} → IsCall mesh lists inboxes now x i read
+    → (p : ℕ) (box : Inbox) (front : Option A) → IsFiled (kind.tray read) (kind.tray box) p true true front
+    → other.tray box ≡ other.tray read → IsPortSpilled kind other inboxes (set inboxes i box) x p
+port_put kind other {mesh} {lists} {inboxes} {now} {x} {i} {read} call p box front filed kept =
+    let this : inbox_at (set inboxes x box) x ≡ box =
+    get_or-set_same inboxes x box no_inbox (omega (arith, call.sound.nodes, call.node)) in
+    subst (λ (v : ℕ). IsPortSpilled kind other inboxes (set inboxes v box) x p) (sym call.at)
     record {
-      here = ap (λ (b : Inbox). has b.flits p) this ∙ filed.filed.comes.here ∙ sym filed.filed.listed.here
-          ∙ sym (ap (λ (b : Inbox). has b.more_flits p) this);
-      comes = λ q q_in away. ap (λ (b : Inbox). has b.flits q) this ∙ filed.filed.comes.elsewhere q q_in away;
-      listed = λ q q_in away. ap (λ (b : Inbox). has b.more_flits q) this ∙ filed.filed.listed.elsewhere q q_in away;
-      credits = ap (λ (b : Inbox). b.credits) this ∙ filed.credits;
-      more_credits = ap (λ (b : Inbox). b.more_credits) this ∙ filed.more_credits;
+      here = ap (λ (b : Inbox). has (kind.tray b).here p) this ∙ filed.comes.here ∙ sym filed.listed.here
+          ∙ sym (ap (λ (b : Inbox). has (kind.tray b).more p) this);
+      comes = λ q q_in away. ap (λ (b : Inbox). has (kind.tray b).here q) this ∙ filed.comes.elsewhere q q_in away
+          ∙ ap (λ (b : Inbox). has (kind.tray b).here q) (sym (inbox_is call));
+      listed = λ q q_in away. ap (λ (b : Inbox). has (kind.tray b).more q) this ∙ filed.listed.elsewhere q q_in away
+          ∙ ap (λ (b : Inbox). has (kind.tray b).more q) (sym (inbox_is call));
+      kept = ap (λ (b : Inbox). other.tray b) this ∙ kept ∙ ap (λ (b : Inbox). other.tray b) (sym (inbox_is call));
       others = λ y away. get_or-set_other inboxes x y box no_inbox away;
     }
 
-pub credits_put : (inboxes : List Inbox) (x p : ℕ) (box : Inbox) → x < length inboxes
-    → AreCreditsFiled (inbox_at inboxes x) box p true true (slice_get (inbox_at inboxes x).credit p)
-    → AreCreditsSpilled inboxes (set inboxes x box) x p
-credits_put inboxes x p box there filed =
-    let this : inbox_at (set inboxes x box) x ≡ box = get_or-set_same inboxes x box no_inbox there in
+-- a port by which none comes in
+pub port_stays : {A B : Type 0} {kind : Kind A} {other : Kind B} {put : LinkView → List A → LinkView}
+    → IsKind kind other put → {mesh : List ℕ} {lists : List LinkView} {inboxes : List Inbox} {now : LinksView}
+    {x i : ℕ} {read : Inbox} → IsCall mesh lists inboxes now x i read → (p : ℕ) → p < 8
+    → has (kind.tray read).here p ≡ false → IsPortSpilled kind other inboxes (set inboxes i read) x p
+port_stays {kind = kind} {other = other} is {mesh} {lists} {inboxes} {now} {x} {i} {read} call p p_in none =
+    let tray = kind.tray (inbox_at inboxes x) in
+    let way = is.known mesh lists x (inbox_at inboxes x) (call.sound.known x call.node) p p_in in
+    let no_here : has tray.here p ≡ false = ap (λ (b : Inbox). has (kind.tray b).here p) (inbox_is call) ∙ none in
+    let empty = not_here (has tray.here p) (has tray.more p) (slice_get tray.front p) _ _ way no_here in
+    subst (λ (boxes : List Inbox). IsPortSpilled kind other inboxes boxes x p)
+    (sym ((λ t. set inboxes i (call.reads t)) ∙ set-get_or inboxes i read))
     record {
-      here = ap (λ (b : Inbox). has b.credits p) this ∙ filed.filed.comes.here ∙ sym filed.filed.listed.here
-          ∙ sym (ap (λ (b : Inbox). has b.more_credits p) this);
-      comes = λ q q_in away. ap (λ (b : Inbox). has b.credits q) this ∙ filed.filed.comes.elsewhere q q_in away;
-      listed = λ q q_in away. ap (λ (b : Inbox). has b.more_credits q) this ∙ filed.filed.listed.elsewhere q q_in away;
-      flits = ap (λ (b : Inbox). b.flits) this ∙ filed.flits;
-      more_flits = ap (λ (b : Inbox). b.more_flits) this ∙ filed.more_flits;
-      others = λ y away. get_or-set_other inboxes x y box no_inbox away;
+      here = no_here ∙ sym (way.listed ∙ ap (λ (l : List _). has_front l) empty);
+      comes = λ q q_in away. refl;
+      listed = λ q q_in away. refl;
+      kept = refl;
+      others = λ y away. refl;
     }
 
--- one port more of a node
-pub port_spilled : (old mid new : List Inbox) (x p : ℕ) → p < 6 → AreFlitsSpilled old mid x p
-    → AreCreditsSpilled mid new x p → IsSpilled (inbox_at old x) p → IsSpilled (inbox_at new x) (p + 1)
+-- one port more of a node, of one kind
+port_more : {A B : Type 0} (kind : Kind A) (other : Kind B) (old new : List Inbox) (x p : ℕ) → p < 6
+    → IsPortSpilled kind other old new x p → IsSpilled (kind.tray (inbox_at old x)) p
+    → IsSpilled (kind.tray (inbox_at new x)) (p + 1)
+port_more kind other old new x p p_in done before = λ q below. elim (number_cases q p) [
+  | inl at ↦
+      subst (λ (v : ℕ). has (kind.tray (inbox_at new x)).here v ≡ has (kind.tray (inbox_at new x)).more v) (sym at.1)
+      done.here
+  | inr away ↦
+      let other_port : q ≢ p = away.1 in
+      let lower : q < p = grind arith in
+      let q_in : q < 8 = omega (arith, lower, p_in) in
+      done.comes q q_in other_port ∙ before q lower ∙ sym (done.listed q q_in other_port)
+]
+
+-- and of both
+pub port_spilled : (old mid new : List Inbox) (x p : ℕ) → p < 6 → IsPortSpilled of_flits of_credits old mid x p
+    → IsPortSpilled of_credits of_flits mid new x p → AreSpilled (inbox_at old x) p → AreSpilled (inbox_at new x) (p + 1)
 port_spilled old mid new x p p_in flits credits before = record {
-  flits = λ q below.
-      ap (λ (s : ℕ). has s q) credits.flits
-      ∙ elim (number_cases q p) [
-        | inl at ↦
-            subst (λ (v : ℕ). has (inbox_at mid x).flits v ≡ has (inbox_at mid x).more_flits v) (sym at.1) flits.here
-        | inr away ↦
-            let other : q ≢ p = away.1 in
-            let lower : q < p = grind arith in
-            let q_in : q < 8 = omega (arith, lower, p_in) in
-            flits.comes q q_in other ∙ before.flits q lower ∙ sym (flits.listed q q_in other)
-      ]
-      ∙ sym (ap (λ (s : ℕ). has s q) credits.more_flits);
-  credits = λ q below. elim (number_cases q p) [
-    | inl at ↦
-        subst (λ (v : ℕ). has (inbox_at new x).credits v ≡ has (inbox_at new x).more_credits v) (sym at.1) credits.here
-    | inr away ↦
-        let other : q ≢ p = away.1 in
-        let lower : q < p = grind arith in
-        let q_in : q < 8 = omega (arith, lower, p_in) in
-        credits.comes q q_in other ∙ ap (λ (s : ℕ). has s q) flits.credits ∙ before.credits q lower
-        ∙ sym (ap (λ (s : ℕ). has s q) flits.more_credits) ∙ sym (credits.listed q q_in other)
-  ];
+  flits = subst (λ (t : Tray _). IsSpilled t (p + 1)) (sym credits.kept)
+      (port_more of_flits of_credits old mid x p p_in flits before.flits);
+  credits = port_more of_credits of_flits mid new x p p_in credits
+      (subst (λ (t : Tray ℕ). IsSpilled t p) (sym flits.kept) before.credits);
 }
 
 -- and one node more
-pub node_spilled : (old new : List Inbox) (i : ℕ) → IsSpilled (inbox_at new i) 6
+pub node_spilled : (old new : List Inbox) (i : ℕ) → AreSpilled (inbox_at new i) 6
     → ((y : ℕ) → (y ≡ i → ⊥) → inbox_at new y ≡ inbox_at old y)
-    → ((x : ℕ) → x < i → IsSpilled (inbox_at old x) 6) → (x : ℕ) → x < i + 1 → IsSpilled (inbox_at new x) 6
+    → ((x : ℕ) → x < i → AreSpilled (inbox_at old x) 6) → (x : ℕ) → x < i + 1 → AreSpilled (inbox_at new x) 6
 node_spilled old new i here others before x below = elim (number_cases x i) [
-  | inl at ↦ subst (λ (v : ℕ). IsSpilled (inbox_at new v) 6) (sym at.1) here
+  | inl at ↦ subst (λ (v : ℕ). AreSpilled (inbox_at new v) 6) (sym at.1) here
   | inr away ↦
       let other : x ≢ i = away.1 in
-      subst (λ (b : Inbox). IsSpilled b 6) (sym (others x other)) (before x (grind arith))
+      subst (λ (b : Inbox). AreSpilled b 6) (sym (others x other)) (before x (grind arith))
 ]

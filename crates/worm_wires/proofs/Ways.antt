@@ -169,3 +169,24 @@ alone_at true more None [] room way none i below row p j d at is =
     let alone = (way.alone refl refl).1 in absurd (cc)
 alone_at true more (Some x) [] room way none (suc i) below row p j d at is = absurd (omega arith)
 alone_at true more (Some x) [] room way none zero below row p j d at is = is ∙ got row p j d at (rw (← is) refl)
+
+-- with all that comes in put into its list
+pub spilled_way : {A : Type 0} (more : Bool) (front : Option A) (list : List A) (room : ℕ) → IsWay true more front list room
+    → IsWay true true front (whole true front list) room
+spilled_way more None [] room way = let some = (way.alone refl refl).1 in absurd (cc)
+spilled_way more (Some x) [] room way = record {
+  listed = refl;
+  first = λ some. (refl, refl);
+  alone = λ empty some. absurd (cc);
+}
+spilled_way more front (x ∷ xs) room way = record {
+  listed = refl;
+  first = λ some. way.first refl;
+  alone = λ empty some. absurd (cc);
+}
+
+pub whole_twice : {A : Type 0} (front : Option A) (list : List A)
+    → whole true front (whole true front list) ≡ whole true front list
+whole_twice None [] = refl
+whole_twice (Some x) [] = refl
+whole_twice front (x ∷ xs) = refl

@@ -6,10 +6,11 @@ use Rattle.worm_flit.specs.declared.Flit.{Flit}
 use Rattle.worm_flit.specs.SmallSet.{has, IsPut}
 use Rattle.worm_mesh.specs.Address.{AreRadices, has_neighbour, neighbour_of, node_count, opposite_of}
 use Rattle.worm_mesh.specs.Links.{link_count, links_before}
-use Rattle.worm_wires.specs.Arrivals.{credits_of, flits_of, has_front}
+use Rattle.worm_wires.specs.Arrivals.{has_front, on_link}
 use Rattle.worm_wires.specs.Links.{LinkView, blank_link}
 use Rattle.worm_wires.specs.Wiring.{in_link, out_link}
 use Rattle.worm_wires.specs.declared.inbox.Inbox.{Inbox}
+use Rattle.worm_wires.specs.declared.inbox.Tray.{Tray}
 
 -- what is on one way of a link: what stands in its list, or what is in the inbox alone
 abbrev pub whole : {A : Type 0} → Bool → Option A → List A → List A
@@ -28,36 +29,46 @@ pub record IsWay {A : Type 0} (here more : Bool) (front : Option A) (list : List
   pub first : has_front list ≡ true → (here ≡ true) × (front ≡ slice_get list 0)
   pub alone : list ≡ [] → here ≡ true → (0 < room) × IsSome front
 
--- What has changed of a kind of an inbox's, flits or credits: at one port whether one comes in, whether the link has a
--- list of them, and which is the first.
-pub record IsFiled {A : Type 0} (old_here new_here old_more new_more : ℕ) (old_fronts new_fronts : List A) (p : ℕ)
-    (here more : Bool) (front : Option A) : Type 0 where
-  pub comes : IsPut old_here new_here p here
-  pub listed : IsPut old_more new_more p more
-  pub first : here ≡ true → slice_get new_fronts p ≡ front
-  pub others : (q : ℕ) → (q ≡ p → ⊥) → slice_get new_fronts q ≡ slice_get old_fronts q
+-- the same of a port of a tray
+abbrev pub IsWayOf : {A : Type 0} → Tray A → ℕ → List A → ℕ → Type 0
+IsWayOf tray p list room = IsWay (has tray.here p) (has tray.more p) (slice_get tray.front p) list room
 
-pub record AreFlitsFiled (old new : Inbox) (p : ℕ) (here more : Bool) (front : Option Flit) : Type 0 where
-  pub filed : IsFiled old.flits new.flits old.more_flits new.more_flits old.flit new.flit p here more front
-  pub credits : new.credits ≡ old.credits
-  pub more_credits : new.more_credits ≡ old.more_credits
-  pub credit : new.credit ≡ old.credit
+-- What has changed of a tray: at one port whether one comes in, whether the link has a list of them, and which is the
+-- first.
+pub record IsFiled {A : Type 0} (old new : Tray A) (p : ℕ) (here more : Bool) (front : Option A) : Type 0 where
+  pub comes : IsPut old.here new.here p here
+  pub listed : IsPut old.more new.more p more
+  pub first : here ≡ true → slice_get new.front p ≡ front
+  pub others : (q : ℕ) → (q ≡ p → ⊥) → slice_get new.front q ≡ slice_get old.front q
 
-pub record AreCreditsFiled (old new : Inbox) (p : ℕ) (here more : Bool) (front : Option ℕ) : Type 0 where
-  pub filed : IsFiled old.credits new.credits old.more_credits new.more_credits old.credit new.credit p here more front
-  pub flits : new.flits ≡ old.flits
-  pub more_flits : new.more_flits ≡ old.more_flits
-  pub flit : new.flit ≡ old.flit
+-- what comes in: flits, each over the link into a port, or credits, each over the link out of it
+pub record Kind (A : Type 0) : Type 0 where
+  pub list : LinkView → List A
+  pub link : List ℕ → ℕ → ℕ → Option ℕ
+  pub tray : Inbox → Tray A
+
+abbrev pub of_flits : Kind Flit
+of_flits = record { list = λ l. l.flits; link = in_link; tray = λ b. b.flits }
+
+abbrev pub of_credits : Kind ℕ
+of_credits = record { list = λ l. l.credits; link = out_link; tray = λ b. b.credits }
+
+-- a node's tray of a kind
+abbrev pub IsTray : {A : Type 0} → Kind A → List ℕ → List LinkView → ℕ → Tray A → Type 0
+IsTray kind mesh links x tray =
+    (p : ℕ) → p < 8
+    → IsWayOf tray p (on_link kind.list links (kind.link mesh x p)) (room_of links (kind.link mesh x p))
 
 -- the inbox of a node
 pub record IsInbox (mesh : List ℕ) (links : List LinkView) (x : ℕ) (inbox : Inbox) : Type 0 where
-  pub flits : (p : ℕ) → p < 8 → IsWay (has inbox.flits p) (has inbox.more_flits p) (slice_get inbox.flit p)
-      (flits_of links (in_link mesh x p)) (room_of links (in_link mesh x p))
-  pub credits : (o : ℕ) → o < 8 → IsWay (has inbox.credits o) (has inbox.more_credits o) (slice_get inbox.credit o)
-      (credits_of links (out_link mesh x o)) (room_of links (out_link mesh x o))
+  pub flits : IsTray of_flits mesh links x inbox.flits
+  pub credits : IsTray of_credits mesh links x inbox.credits
+
+abbrev pub no_tray : {A : Type 0} → Tray A
+no_tray = record { here = 0; more = 0; front = [] }
 
 abbrev pub no_inbox : Inbox
-no_inbox = record { flits = 0; credits = 0; more_flits = 0; more_credits = 0; flit = []; credit = [] }
+no_inbox = record { flits = no_tray; credits = no_tray }
 
 abbrev pub inbox_at : List Inbox → ℕ → Inbox
 inbox_at inboxes x = slice_index_or inboxes x no_inbox
@@ -69,26 +80,22 @@ pub record AreInboxes (mesh : List ℕ) (links : List LinkView) (inboxes : List 
   pub nodes : length inboxes ≡ 256
   pub known : (x : ℕ) → x < 256 → IsInbox mesh links x (inbox_at inboxes x)
 
--- what comes in by a port, flits and credits
-abbrev pub flits_come : List ℕ → List LinkView → List Inbox → ℕ → ℕ → List Flit
-flits_come mesh links inboxes x p =
-    whole (has (inbox_at inboxes x).flits p) (slice_get (inbox_at inboxes x).flit p) (flits_of links (in_link mesh x p))
-
-abbrev pub credits_come : List ℕ → List LinkView → List Inbox → ℕ → ℕ → List ℕ
-credits_come mesh links inboxes x o =
-    whole (has (inbox_at inboxes x).credits o) (slice_get (inbox_at inboxes x).credit o)
-    (credits_of links (out_link mesh x o))
+-- what comes in by a port
+abbrev pub come : {A : Type 0} → Kind A → List ℕ → List LinkView → List Inbox → ℕ → ℕ → List A
+come kind mesh links inboxes x p =
+    whole (has (kind.tray (inbox_at inboxes x)).here p) (slice_get (kind.tray (inbox_at inboxes x)).front p)
+    (on_link kind.list links (kind.link mesh x p))
 
 -- the flits that enter the node beyond a port
 abbrev pub flits_beyond : List ℕ → List LinkView → List Inbox → ℕ → Option ℕ → List Flit
 flits_beyond mesh links inboxes o None = []
-flits_beyond mesh links inboxes o (Some y) = flits_come mesh links inboxes y (opposite_of o)
+flits_beyond mesh links inboxes o (Some y) = come of_flits mesh links inboxes y (opposite_of o)
 
 -- what is on the link out of a port
 unfoldable pub link_by : List ℕ → List LinkView → List Inbox → ℕ → ℕ → LinkView
 link_by mesh links inboxes x o = record {
   flits = flits_beyond mesh links inboxes o (neighbour_of mesh x o);
-  credits = credits_come mesh links inboxes x o;
+  credits = come of_credits mesh links inboxes x o;
   room = (slice_index_or links (links_before mesh x o) blank_link).room;
 }
 
@@ -109,27 +116,22 @@ abbrev pub links_by : List ℕ → List LinkView → List Inbox → List LinkVie
 links_by mesh links inboxes = by_number mesh (link_by mesh links inboxes)
 
 -- the lists of the first ports have all that comes in by them
-pub record IsSpilled (inbox : Inbox) (ports : ℕ) : Type 0 where
-  pub flits : (p : ℕ) → p < ports → has inbox.flits p ≡ has inbox.more_flits p
-  pub credits : (o : ℕ) → o < ports → has inbox.credits o ≡ has inbox.more_credits o
+abbrev pub IsSpilled : {A : Type 0} → Tray A → ℕ → Type 0
+IsSpilled tray ports = (p : ℕ) → p < ports → has tray.here p ≡ has tray.more p
 
--- what a port's inbox has of flits is in the list of its link now; of other ports nothing has changed
-pub record AreFlitsSpilled (old new : List Inbox) (x p : ℕ) : Type 0 where
-  pub here : has (inbox_at new x).flits p ≡ has (inbox_at new x).more_flits p
-  pub comes : (q : ℕ) → q < 8 → (q ≡ p → ⊥) → has (inbox_at new x).flits q ≡ has (inbox_at old x).flits q
-  pub listed : (q : ℕ) → q < 8 → (q ≡ p → ⊥) → has (inbox_at new x).more_flits q ≡ has (inbox_at old x).more_flits q
-  pub credits : (inbox_at new x).credits ≡ (inbox_at old x).credits
-  pub more_credits : (inbox_at new x).more_credits ≡ (inbox_at old x).more_credits
-  pub others : (y : ℕ) → (y ≡ x → ⊥) → inbox_at new y ≡ inbox_at old y
+pub record AreSpilled (inbox : Inbox) (ports : ℕ) : Type 0 where
+  pub flits : IsSpilled inbox.flits ports
+  pub credits : IsSpilled inbox.credits ports
 
--- and so of credits
-pub record AreCreditsSpilled (old new : List Inbox) (x o : ℕ) : Type 0 where
-  pub here : has (inbox_at new x).credits o ≡ has (inbox_at new x).more_credits o
-  pub comes : (q : ℕ) → q < 8 → (q ≡ o → ⊥) → has (inbox_at new x).credits q ≡ has (inbox_at old x).credits q
-  pub listed : (q : ℕ) → q < 8 → (q ≡ o → ⊥)
-      → has (inbox_at new x).more_credits q ≡ has (inbox_at old x).more_credits q
-  pub flits : (inbox_at new x).flits ≡ (inbox_at old x).flits
-  pub more_flits : (inbox_at new x).more_flits ≡ (inbox_at old x).more_flits
+-- what a port's tray has of one kind is in the list of its link now; else nothing has changed
+pub record IsPortSpilled {A B : Type 0} (kind : Kind A) (other : Kind B) (old new : List Inbox) (x p : ℕ)
+    : Type 0 where
+  pub here : has (kind.tray (inbox_at new x)).here p ≡ has (kind.tray (inbox_at new x)).more p
+  pub comes : (q : ℕ) → q < 8 → (q ≡ p → ⊥)
+      → has (kind.tray (inbox_at new x)).here q ≡ has (kind.tray (inbox_at old x)).here q
+  pub listed : (q : ℕ) → q < 8 → (q ≡ p → ⊥)
+      → has (kind.tray (inbox_at new x)).more q ≡ has (kind.tray (inbox_at old x)).more q
+  pub kept : other.tray (inbox_at new x) ≡ other.tray (inbox_at old x)
   pub others : (y : ℕ) → (y ≡ x → ⊥) → inbox_at new y ≡ inbox_at old y
 
 -- the links are seen as they were

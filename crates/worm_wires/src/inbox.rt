@@ -2,7 +2,7 @@
 
 ghost use Rattle.std.specs.Prelude.{◌≡◌, ◌<◌, is_some, slice_get, true};
 ghost use Rattle.worm_flit.specs.SmallSet.{has};
-ghost use Rattle.worm_wires.specs.Inbox.{AreCreditsFiled, AreFlitsFiled, IsWay, whole};
+ghost use Rattle.worm_wires.specs.Inbox.{IsFiled, IsWayOf, whole};
 
 use crate::LinkState;
 use std::alloc::{AllocError, Global};
@@ -23,102 +23,102 @@ const NO_FLIT: Flit = Flit {
     word: 0,
 };
 
-/// What comes in next at the mesh ports of a node (Dally and Towles, chapter 13).
+/// What comes in of one kind, flits or credits, at the mesh ports of a node (Dally and Towles, chapter 13).
+#[derive(Clone, Copy)]
+pub struct Tray<T> {
+    /// The ports at which one comes in.
+    pub here: SmallSet,
+    /// Those of them whose link has a list of them, since it has or had several.
+    pub more: SmallSet,
+    /// The one that comes in next, by port.
+    pub front: [T; 6],
+}
+
+impl<T: Copy> Tray<T> {
+    /// One in which nothing is.
+    pub(crate) fn new(blank: T) -> Tray<T>
+        ensures here { result.here ≡ 0 }
+        ensures more { result.more ≡ 0 }
+    {
+        Tray {
+            here: SmallSet::new(),
+            more: SmallSet::new(),
+            front: [blank; 6],
+        }
+    }
+
+    /// Files which one comes in next by the port, if one does, and whether the link has a list of them.
+    #[inline(always)]
+    pub(crate) fn file(&mut self, port: u8, more: bool, front: Option<T>)
+        requires { port < 6 }
+        ensures { IsFiled self.old self.new port (is_some front) more front }
+    {
+        self.here.put(port, front.is_some());
+        self.more.put(port, more);
+        if let Some(first) = front {
+            self.front[usize::from(port)] = first;
+        }
+    }
+}
+
+/// What comes in next at the mesh ports of a node.
 #[derive(Clone, Copy)]
 pub struct Inbox {
-    /// The ports at which a flit comes in.
-    pub flits: SmallSet,
-    /// The ports at which a credit comes back.
-    pub credits: SmallSet,
-    /// Those of the first whose link has its flits in a list, since it has or had several.
-    pub more_flits: SmallSet,
-    /// Those of the second whose link has its credits in a list.
-    pub more_credits: SmallSet,
-    /// The flit that comes in next, by port.
-    pub flit: [Flit; 6],
-    /// The channel of the credit that comes back next, by port.
-    pub credit: [u8; 6],
+    /// The flits, each over the link into the port.
+    pub flits: Tray<Flit>,
+    /// The channels whose credits come back, each over the link out of the port.
+    pub credits: Tray<u8>,
 }
 
 impl Inbox {
     /// One in which nothing is.
     pub(crate) fn new() -> Inbox
-        ensures flits { result.flits ≡ 0 }
-        ensures credits { result.credits ≡ 0 }
-        ensures more_flits { result.more_flits ≡ 0 }
-        ensures more_credits { result.more_credits ≡ 0 }
+        ensures flits { result.flits.here ≡ 0 }
+        ensures credits { result.credits.here ≡ 0 }
+        ensures more_flits { result.flits.more ≡ 0 }
+        ensures more_credits { result.credits.more ≡ 0 }
     {
         Inbox {
-            flits: SmallSet::new(),
-            credits: SmallSet::new(),
-            more_flits: SmallSet::new(),
-            more_credits: SmallSet::new(),
-            flit: [NO_FLIT; 6],
-            credit: [0; 6],
-        }
-    }
-
-    /// Files which flit comes in next by the port, if one does, and whether the link has a list of them.
-    #[inline(always)]
-    pub(crate) fn file_flits(&mut self, port: u8, more: bool, front: Option<Flit>)
-        requires { port < 6 }
-        ensures { AreFlitsFiled self.old self.new port (is_some front) more front }
-    {
-        self.flits.put(port, front.is_some());
-        self.more_flits.put(port, more);
-        if let Some(flit) = front {
-            self.flit[usize::from(port)] = flit;
-        }
-    }
-
-    /// Files of which channel the credit is that comes back next by the port, if one does, and whether the link has a
-    /// list of them.
-    #[inline(always)]
-    pub(crate) fn file_credits(&mut self, port: u8, more: bool, front: Option<u8>)
-        requires { port < 6 }
-        ensures { AreCreditsFiled self.old self.new port (is_some front) more front }
-    {
-        self.credits.put(port, front.is_some());
-        self.more_credits.put(port, more);
-        if let Some(vc) = front {
-            self.credit[usize::from(port)] = vc;
+            flits: Tray::new(NO_FLIT),
+            credits: Tray::new(0),
         }
     }
 
     /// Moves the flit that comes in by the port into the list of its link, where it is in the inbox alone.
     pub(crate) fn spill_flits(&mut self, port: u8, link: &mut LinkState)
         requires port { port < 6 }
-        requires here { has self.old.flits port ≡ true }
-        requires way { IsWay (has self.old.flits port) (has self.old.more_flits port) (slice_get self.old.flit port)
-            link.old.flits link.old.room }
+        requires here { has self.old.flits.here port ≡ true }
+        requires way { IsWayOf self.old.flits port link.old.flits link.old.room }
         ensures link { link.new ≡ record link.old {
-          flits = whole true (slice_get self.old.flit port) link.old.flits;
+          flits = whole true (slice_get self.old.flits.front port) link.old.flits;
         } }
-        ensures inbox { AreFlitsFiled self.old self.new port true true (slice_get self.old.flit port) }
+        ensures filed { IsFiled self.old.flits self.new.flits port true true (slice_get self.old.flits.front port) }
+        ensures kept { self.new.credits ≡ self.old.credits }
     {
-        if self.more_flits.contains(port) {
+        if self.flits.more.contains(port) {
             return;
         }
-        link.push(self.flit[usize::from(port)]);
-        self.more_flits.put(port, true);
+        link.push(self.flits.front[usize::from(port)]);
+        self.flits.more.put(port, true);
     }
 
     /// The same of a credit that comes back by the port.
     pub(crate) fn spill_credits(&mut self, port: u8, link: &mut LinkState)
         requires port { port < 6 }
-        requires here { has self.old.credits port ≡ true }
-        requires way { IsWay (has self.old.credits port) (has self.old.more_credits port)
-            (slice_get self.old.credit port) link.old.credits link.old.room }
+        requires here { has self.old.credits.here port ≡ true }
+        requires way { IsWayOf self.old.credits port link.old.credits link.old.room }
         ensures link { link.new ≡ record link.old {
-          credits = whole true (slice_get self.old.credit port) link.old.credits;
+          credits = whole true (slice_get self.old.credits.front port) link.old.credits;
         } }
-        ensures inbox { AreCreditsFiled self.old self.new port true true (slice_get self.old.credit port) }
+        ensures filed { IsFiled self.old.credits self.new.credits port true true
+            (slice_get self.old.credits.front port) }
+        ensures kept { self.new.flits ≡ self.old.flits }
     {
-        if self.more_credits.contains(port) {
+        if self.credits.more.contains(port) {
             return;
         }
-        link.push_credit(self.credit[usize::from(port)]);
-        self.more_credits.put(port, true);
+        link.push_credit(self.credits.front[usize::from(port)]);
+        self.credits.more.put(port, true);
     }
 }
 

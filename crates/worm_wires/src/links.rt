@@ -7,8 +7,8 @@ ghost use Rattle.worm_mesh.specs.Address.{AreRadices, neighbour_of};
 ghost use Rattle.worm_mesh.specs.Links.{link_count};
 ghost use Rattle.worm_wires.specs.Arrivals.{AreFronts, LinksView, credits_of, credits_to, flits_of};
 ghost use Rattle.worm_wires.specs.Arrivals.{flits_to, has_front, number_into, number_out, state_at, with_state};
-ghost use Rattle.worm_wires.specs.Inbox.{AreCreditsSpilled, AreFlitsSpilled, AreInboxes, AreSeenAlike, IsInbox};
-ghost use Rattle.worm_wires.specs.Inbox.{IsSpilled, inbox_at};
+ghost use Rattle.worm_wires.specs.Inbox.{AreInboxes, AreSeenAlike, AreSpilled, IsInbox, IsPortSpilled, inbox_at};
+ghost use Rattle.worm_wires.specs.Inbox.{of_credits, of_flits};
 ghost use Rattle.worm_wires.specs.Wiring.{port_links};
 
 use crate::LinkState;
@@ -58,16 +58,16 @@ fn front_credit(lists: &[LinkState], number: Option<u16>) -> Option<u8>
 /// The inbox of a node, where each list has all that is on its link.
 fn inbox_of(wiring: &Wiring, lists: &[LinkState], node: u8) -> Inbox
     ensures inbox { IsInbox wiring.now lists.now node result }
-    ensures spilled { IsSpilled result 8 }
+    ensures spilled { AreSpilled result 8 }
 {
     // For the proof: a mesh has at most three dimensions.
     let _terminal = wiring.terminal();
     let mut inbox = Inbox::new();
     for port in 0..6u8 {
         let flit = front_flit(lists, wiring.link_into(node, port));
-        inbox.file_flits(port, flit.is_some(), flit);
+        inbox.flits.file(port, flit.is_some(), flit);
         let credit = front_credit(lists, wiring.link_out(node, port));
-        inbox.file_credits(port, credit.is_some(), credit);
+        inbox.credits.file(port, credit.is_some(), credit);
     }
     inbox
 }
@@ -83,10 +83,10 @@ fn spill_flits(
     requires port { port < 6 }
     requires inboxes { AreInboxes wiring.now lists.old.items inboxes.old.items }
     ensures kept { AreSeenAlike wiring.now lists.old.items inboxes.old.items lists.new.items inboxes.new.items }
-    ensures spilled { AreFlitsSpilled inboxes.old.items inboxes.new.items node port }
+    ensures spilled { IsPortSpilled of_flits of_credits inboxes.old.items inboxes.new.items node port }
 {
     let here = &mut inboxes[usize::from(node)];
-    if here.flits.contains(port) {
+    if here.flits.here.contains(port) {
         let links = wiring.links_beyond(node, port);
         here.spill_flits(port, &mut lists[usize::from(links.into)]);
     }
@@ -103,10 +103,10 @@ fn spill_credits(
     requires port { port < 6 }
     requires inboxes { AreInboxes wiring.now lists.old.items inboxes.old.items }
     ensures kept { AreSeenAlike wiring.now lists.old.items inboxes.old.items lists.new.items inboxes.new.items }
-    ensures spilled { AreCreditsSpilled inboxes.old.items inboxes.new.items node port }
+    ensures spilled { IsPortSpilled of_credits of_flits inboxes.old.items inboxes.new.items node port }
 {
     let here = &mut inboxes[usize::from(node)];
-    if here.credits.contains(port) {
+    if here.credits.here.contains(port) {
         let links = wiring.links_beyond(node, port);
         here.spill_credits(port, &mut lists[usize::from(links.out)]);
     }
@@ -116,7 +116,7 @@ fn spill_credits(
 fn spill_node(wiring: &Wiring, lists: &mut Vec<LinkState>, inboxes: &mut Vec<Inbox>, node: u8)
     requires { AreInboxes wiring.now lists.old.items inboxes.old.items }
     ensures kept { AreSeenAlike wiring.now lists.old.items inboxes.old.items lists.new.items inboxes.new.items }
-    ensures spilled { IsSpilled (inbox_at inboxes.new.items node) 6 }
+    ensures spilled { AreSpilled (inbox_at inboxes.new.items node) 6 }
     ensures others { (y : ℕ) → (y ≡ node → ⊥) → inbox_at inboxes.new.items y ≡ inbox_at inboxes.old.items y }
 {
     for port in 0..6u8 {
@@ -177,21 +177,21 @@ impl Links {
         // For the proof: a mesh has at most three dimensions.
         let _terminal = self.wiring.terminal();
         let here = &self.inboxes[usize::from(node)];
-        here.flits.is_empty() && here.credits.is_empty()
+        here.flits.here.is_empty() && here.credits.here.is_empty()
     }
 
     /// The mesh ports of the node by which a flit comes in.
     pub fn flits_in(&self, node: u8) -> SmallSet
         ensures { AreFronts (flits_to self.now node) result }
     {
-        self.inboxes[usize::from(node)].flits
+        self.inboxes[usize::from(node)].flits.here
     }
 
     /// The mesh ports of the node by which a credit comes back.
     pub fn credits_in(&self, node: u8) -> SmallSet
         ensures { AreFronts (credits_to self.now node) result }
     {
-        self.inboxes[usize::from(node)].credits
+        self.inboxes[usize::from(node)].credits.here
     }
 
     /// The flit that comes in next by this port of the node, if there is one: where it lies, since what takes it asks
@@ -204,10 +204,10 @@ impl Links {
             ≡ is_some (slice_get (state_at self.now (number_into self.now node port)).flits 0) }
     {
         let here = &self.inboxes[usize::from(node)];
-        if !here.flits.contains(port) {
+        if !here.flits.here.contains(port) {
             return None;
         }
-        Some(&here.flit[usize::from(port)])
+        Some(&here.flits.front[usize::from(port)])
     }
 
     /// The channel of the credit that comes back next over the link out of this port, if there is one.
@@ -216,10 +216,10 @@ impl Links {
         ensures { result ≡ slice_get (state_at self.now (number_out self.now node port)).credits 0 }
     {
         let here = &self.inboxes[usize::from(node)];
-        if !here.credits.contains(port) {
+        if !here.credits.here.contains(port) {
             return None;
         }
-        Some(here.credit[usize::from(port)])
+        Some(here.credits.front[usize::from(port)])
     }
 
     /// Whether a flit is on the link out of this port.
@@ -229,7 +229,7 @@ impl Links {
     {
         let links = self.wiring.links_beyond(node, port);
         let beyond = &self.inboxes[usize::from(links.beyond)];
-        beyond.flits.contains(links.entered)
+        beyond.flits.here.contains(links.entered)
     }
 
     /// Whether a credit is on its way back over the link into this port.
@@ -239,7 +239,7 @@ impl Links {
     {
         let links = self.wiring.links_beyond(node, port);
         let beyond = &self.inboxes[usize::from(links.beyond)];
-        beyond.credits.contains(links.entered)
+        beyond.credits.here.contains(links.entered)
     }
 
     /// How many flits are on the link out of this port.
@@ -249,10 +249,10 @@ impl Links {
     {
         let links = self.wiring.links_beyond(node, port);
         let there = &self.inboxes[usize::from(links.beyond)];
-        if there.more_flits.contains(links.entered) {
+        if there.flits.more.contains(links.entered) {
             return self.lists[usize::from(links.out)].count();
         }
-        usize::from(there.flits.contains(links.entered))
+        usize::from(there.flits.here.contains(links.entered))
     }
 
     /// The flit at place `i` of the link out of this port, counted from the front.
@@ -263,10 +263,10 @@ impl Links {
     {
         let links = self.wiring.links_beyond(node, port);
         let there = &self.inboxes[usize::from(links.beyond)];
-        if there.more_flits.contains(links.entered) {
+        if there.flits.more.contains(links.entered) {
             return self.lists[usize::from(links.out)].flit(i);
         }
-        there.flit[usize::from(links.entered)]
+        there.flits.front[usize::from(links.entered)]
     }
 
     /// The links of this port, if the node has a neighbour there.
@@ -301,14 +301,14 @@ impl Links {
             { flits = drop 1 (state_at self.old (number_into self.old node port)).flits }) }
     {
         let here = &mut self.inboxes[usize::from(node)];
-        if !here.more_flits.contains(port) {
-            here.file_flits(port, false, None);
+        if !here.flits.more.contains(port) {
+            here.flits.file(port, false, None);
             return;
         }
         let list = &mut self.lists[usize::from(links.into)];
         list.pop();
         let front = list.front().copied();
-        here.file_flits(port, front.is_some(), front);
+        here.flits.file(port, front.is_some(), front);
     }
 
     /// Puts the flit at the end of the link out of this port.
@@ -322,8 +322,8 @@ impl Links {
     {
         let links = self.wiring.links_beyond(node, port);
         let there = &mut self.inboxes[usize::from(links.beyond)];
-        if !there.flits.contains(links.entered) {
-            there.file_flits(links.entered, false, Some(flit));
+        if !there.flits.here.contains(links.entered) {
+            there.flits.file(links.entered, false, Some(flit));
             return;
         }
         let list = &mut self.lists[usize::from(links.out)];
@@ -339,14 +339,14 @@ impl Links {
             { credits = drop 1 (state_at self.old (number_out self.old node port)).credits }) }
     {
         let here = &mut self.inboxes[usize::from(node)];
-        if !here.more_credits.contains(port) {
-            here.file_credits(port, false, None);
+        if !here.credits.more.contains(port) {
+            here.credits.file(port, false, None);
             return;
         }
         let list = &mut self.lists[usize::from(links.out)];
         list.pop_credit();
         let front = list.front_credit();
-        here.file_credits(port, front.is_some(), front);
+        here.credits.file(port, front.is_some(), front);
     }
 
     /// Puts a credit of the channel at the end of the credits of the link into this port, whose links are these.
@@ -359,8 +359,8 @@ impl Links {
             { credits = (state_at self.old (number_into self.old node port)).credits ++ vc ∷ [] }) }
     {
         let there = &mut self.inboxes[usize::from(links.beyond)];
-        if !there.credits.contains(links.entered) {
-            there.file_credits(links.entered, false, Some(vc));
+        if !there.credits.here.contains(links.entered) {
+            there.credits.file(links.entered, false, Some(vc));
             return;
         }
         let list = &mut self.lists[usize::from(links.into)];

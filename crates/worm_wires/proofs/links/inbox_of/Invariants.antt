@@ -5,8 +5,6 @@ use Rattle.worm_wires.proofs.links.inbox_of.Given as goal
 
 abbrev pub invariant-loop-port : goal.invariant-loop-port
 invariant-loop-port l = record {
-  flits : IsFilled l.inbox.flits l.inbox.more_flits l.inbox.flit
-      (λ p. flits_of l.lists (in_link l.wiring l.node p)) l.port;
-  credits : IsFilled l.inbox.credits l.inbox.more_credits l.inbox.credit
-      (λ o. credits_of l.lists (out_link l.wiring l.node o)) l.port;
+  flits : IsFilled l.inbox.flits (λ p. flits_of l.lists (in_link l.wiring l.node p)) l.port;
+  credits : IsFilled l.inbox.credits (λ o. credits_of l.lists (out_link l.wiring l.node o)) l.port;
 }

@@ -1,36 +1,83 @@
-use Rattle.std.proofs.Common.{◌∙◌, arith, sym}
-use Rattle.worm_wires.proofs.SpillCalls.{flits_box, flits_linked, flits_spill, flits_way}
+use Rattle.std.proofs.Common.{◌≡◌, ◌∙◌, ℕ, Option, Some, true, ap, arith, refl, sym}
+use Rattle.std.specs.Prelude.{IsSome, slice_get}
+use Rattle.worm_flit.specs.SmallSet.{has}
+use Rattle.worm_mesh.specs.Address.{neighbour_of, opposite_of}
+use Rattle.worm_mesh.specs.Links.{links_before}
+use Rattle.worm_wires.specs.Arrivals.{LinksView}
+use Rattle.worm_wires.specs.Inbox.{links_by, of_credits, of_flits}
+use Rattle.worm_wires.specs.Links.{LinkView}
+use Rattle.worm_wires.specs.Wiring.{in_link}
+use Rattle.worm_wires.proofs.Apart.{into_is}
+use Rattle.worm_wires.proofs.Called.{IsCall}
+use Rattle.worm_wires.proofs.EachKind.{flits_kind}
+use Rattle.worm_wires.proofs.Spilled.{port_put, port_stays}
+use Rattle.worm_wires.proofs.TrayCalled.{link_read, linked_some, spilled_seen, spilled_sound, way_read}
 use Rattle.worm_wires.proofs.links.spill_flits.Goals as goal
+use Rattle.worm_wires.proofs.links.spill_flits.Goals.{After-contains, After-from-then-contains}
+
+call : (c : After-contains) → IsCall c.args.wiring.now c.args.lists.now.items c.args.inboxes.now.items
+    (record {
+      mesh = c.args.wiring.now;
+      states = links_by c.args.wiring.now c.args.lists.now.items c.args.inboxes.now.items;
+    }) c.args.node c.from.result c.index_mut-here.result.now
+call c = record {
+  sound = c.requires.inboxes;
+  seen = refl;
+  node = omega (arith, c.ranges.node.fits);
+  at = c.from.ensures;
+  reads = c.index_mut-here.ensures.value;
+}
+
+linked : (c : After-contains) → has c.index_mut-here.result.now.flits.here c.args.port ≡ true
+    → IsSome (neighbour_of c.args.wiring.now c.args.node c.args.port)
+linked c here =
+    linked_some (λ y. links_before c.args.wiring.now y (opposite_of c.args.port)) _
+    (link_read flits_kind (call c) c.args.port (omega (arith, c.requires.port)) here)
 
 pub links_beyond-links-requires : goal.links_beyond-links-requires
 links_beyond-links-requires c =
-    flits_linked c.args.wiring.now c.args.lists.now.items c.args.inboxes.now.items c.requires.inboxes c.args.node
-    c.args.port c.from.result (omega (arith, c.ranges.node.fits)) (omega (arith, c.requires.port)) c.from.ensures
-    c.index_mut-here.result.now c.index_mut-here.ensures.value (sym c.contains.ensures ∙ c.if-contains.true)
+    linked (goal.at.links_beyond-links-requires c).After-contains (sym c.contains.ensures ∙ c.if-contains.true)
+
+by : (c : After-from-then-contains) → IsSome (neighbour_of c.args.wiring.now c.args.node c.args.port)
+    → in_link c.args.wiring.now c.args.node c.args.port ≡ Some c.from-then-contains.result
+by c some =
+    into_is c.args.wiring.now c.args.port (neighbour_of c.args.wiring.now c.args.node c.args.port) some
+    ∙ ap (λ (k : ℕ). Some k) (sym (c.from-then-contains.ensures ∙ c.links_beyond-links.ensures.into))
 
 pub spill_flits-requires-clause-way : goal.spill_flits-requires-clause-way
 spill_flits-requires-clause-way c =
-    let links = c.links_beyond-links.ensures in
-    flits_way c.args.wiring.now c.args.lists.now.items c.args.inboxes.now.items c.requires.inboxes c.args.node
-    c.args.port c.from.result (omega (arith, c.ranges.node.fits)) (omega (arith, c.requires.port)) c.from.ensures
-    c.index_mut-here.result.now c.index_mut-here.ensures.value (sym c.contains.ensures ∙ c.if-contains.true)
-    c.from-then-contains.result
-    (omega (arith, c.from-then-contains.ensures, links.back, c.requires.inboxes.all))
-    (c.from-then-contains.ensures ∙ links.into) c.index_mut.result.now c.index_mut.ensures.value
+    let before = (goal.at.spill_flits-requires-clause-way c).After-contains in
+    way_read flits_kind (call before) (by (goal.at.spill_flits-requires-clause-way c).After-from-then-contains
+    (linked before (sym c.contains.ensures ∙ c.if-contains.true)))
+    c.from-then-contains.result c.index_mut.result.now refl c.index_mut.ensures.value
 
 pub returns-then-contains-clause-kept : goal.returns-then-contains-clause-kept
 returns-then-contains-clause-kept c =
-    let links = c.links_beyond-links.ensures in
-    flits_spill c.args.wiring.now c.args.lists.now.items c.args.inboxes.now.items c.requires.inboxes c.args.node
-    c.args.port c.from.result (omega (arith, c.ranges.node.fits)) (omega (arith, c.requires.port)) c.from.ensures
-    c.index_mut-here.result.now c.index_mut-here.ensures.value (sym c.contains.ensures ∙ c.if-contains.true)
-    c.from-then-contains.result
-    (omega (arith, c.from-then-contains.ensures, links.back, c.requires.inboxes.all))
-    (c.from-then-contains.ensures ∙ links.into) c.index_mut.result.now c.spill_flits.new.link
-    c.index_mut.ensures.value c.spill_flits.ensures.link c.spill_flits.new.self c.spill_flits.ensures.inbox
+    let before = (goal.at.returns-then-contains-clause-kept c).After-contains in
+    let link = by (goal.at.returns-then-contains-clause-kept c).After-from-then-contains
+    (linked before (sym c.contains.ensures ∙ c.if-contains.true)) in
+    let done = c.spill_flits.ensures in
+    record {
+      sound = spilled_sound flits_kind (call before) link c.from-then-contains.result c.index_mut.result.now refl
+          c.index_mut.ensures.value c.spill_flits.new.self done.filed done.kept
+          (sym c.contains.ensures ∙ c.if-contains.true) c.spill_flits.new.link
+          (ap (λ (l : LinkView). l.credits) done.link) (ap (λ (l : LinkView). l.room) done.link)
+          (ap (λ (l : LinkView). l.flits) done.link);
+      same = ap (λ (l : LinksView). l.states)
+          (spilled_seen flits_kind (call before) link c.from-then-contains.result c.index_mut.result.now refl
+          c.index_mut.ensures.value c.spill_flits.new.self done.filed done.kept
+          (sym c.contains.ensures ∙ c.if-contains.true) c.spill_flits.new.link
+          (ap (λ (l : LinkView). l.credits) done.link) (ap (λ (l : LinkView). l.room) done.link)
+          (ap (λ (l : LinkView). l.flits) done.link));
+    }
 
 pub returns-then-contains-clause-spilled : goal.returns-then-contains-clause-spilled
 returns-then-contains-clause-spilled c =
-    flits_box c.args.wiring.now c.args.lists.now.items c.args.inboxes.now.items c.requires.inboxes c.args.node
-    c.args.port c.from.result (omega (arith, c.ranges.node.fits)) (omega (arith, c.requires.port)) c.from.ensures
-    c.index_mut-here.result.now c.index_mut-here.ensures.value c.spill_flits.new.self c.spill_flits.ensures.inbox
+    port_put of_flits of_credits (call (goal.at.returns-then-contains-clause-spilled c).After-contains) c.args.port
+    c.spill_flits.new.self (slice_get c.index_mut-here.result.now.flits.front c.args.port) c.spill_flits.ensures.filed
+    c.spill_flits.ensures.kept
+
+pub returns-else-contains-clause-spilled : goal.returns-else-contains-clause-spilled
+returns-else-contains-clause-spilled c =
+    port_stays flits_kind (call (goal.at.returns-else-contains-clause-spilled c).After-contains) c.args.port
+    (omega (arith, c.requires.port)) (sym c.contains.ensures ∙ c.if-contains.false)

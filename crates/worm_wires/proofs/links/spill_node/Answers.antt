@@ -1,5 +1,5 @@
 use Rattle.std.proofs.Common.{◌≡◌, ◌∙◌, ℕ, arith, refl, subst}
-use Rattle.worm_wires.specs.Inbox.{IsSpilled, inbox_at}
+use Rattle.worm_wires.specs.Inbox.{AreSpilled, inbox_at}
 use Rattle.worm_wires.proofs.Spilled.{port_spilled}
 use Rattle.worm_wires.proofs.links.spill_node.Goals as goal
 
@@ -39,7 +39,7 @@ returns-clause-kept c = c.loop-port.invariant.kept
 pub returns-clause-spilled : goal.returns-clause-spilled
 returns-clause-spilled c =
     let six : c.loop-port.port ≡ 6 = omega (arith, c.loop-port-test.false, c.loop-port.auto.port-end) in
-    subst (λ (n : ℕ). IsSpilled (inbox_at c.loop-port.inboxes.items c.args.node) n) six
+    subst (λ (n : ℕ). AreSpilled (inbox_at c.loop-port.inboxes.items c.args.node) n) six
     c.loop-port.invariant.spilled
 
 pub returns-clause-others : goal.returns-clause-others

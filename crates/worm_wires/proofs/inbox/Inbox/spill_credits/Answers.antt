@@ -5,6 +5,6 @@ use Rattle.worm_wires.proofs.inbox.Inbox.spill_credits.Goals as goal
 
 pub push_credit-requires : goal.push_credit-requires
 push_credit-requires c =
-    has_room (has c.args.self.now.credits c.args.port) (has c.args.self.now.more_credits c.args.port)
-    (slice_get c.args.self.now.credit c.args.port) c.args.link.now.credits c.args.link.now.room c.requires.way
+    has_room (has c.args.self.now.credits.here c.args.port) (has c.args.self.now.credits.more c.args.port)
+    (slice_get c.args.self.now.credits.front c.args.port) c.args.link.now.credits c.args.link.now.room c.requires.way
     c.requires.here (sym c.contains.ensures ∙ c.if-contains.false)

@@ -5,8 +5,9 @@ use mir.Val.{bool_byte}
 use Rattle.worm_flit.specs.declared.Flit.{Flit}
 use Rattle.worm_flit.specs.SmallSet.{has}
 use Rattle.worm_wires.specs.Links.{LinkView}
-use Rattle.worm_wires.proofs.Called.{AreNumbers, IsCall, into_there, list_is, numbers_by}
-use Rattle.worm_wires.proofs.FlitsCalled.{flits_are, flits_listed, way}
+use Rattle.worm_wires.proofs.Called.{AreNumbers, IsCall, numbers_by}
+use Rattle.worm_wires.proofs.EachKind.{flits_kind}
+use Rattle.worm_wires.proofs.TrayCalled.{seen_is, seen_listed, the_list, way}
 use Rattle.worm_wires.proofs.Ways.{count_alone}
 use Rattle.worm_wires.proofs.links.Links.count.Goals as goal
 use Rattle.worm_wires.proofs.links.Links.count.Goals.{After-contains}
@@ -18,12 +19,10 @@ numbers c =
     c.self.invariant.radices c.self.view_is c.links_beyond-links.ensures.value
 
 call : (c : After-contains) → IsCall c.self.inside.wiring c.self.inside.lists.items c.self.inside.inboxes.items
-    c.args.self.now c.links_beyond-links.result.beyond c.links_beyond-links.result.entered c.args.node c.from.result
-    c.index-there.result.now
+    c.args.self.now c.links_beyond-links.result.beyond c.from.result c.index-there.result.now
 call c = record {
   sound = c.self.invariant;
   seen = c.self.view_is;
-  linked = (numbers c).back;
   node = omega arith;
   at = c.from.ensures;
   reads = c.index-there.ensures;
@@ -32,12 +31,11 @@ call c = record {
 pub returns-then-contains : goal.returns-then-contains
 returns-then-contains c =
     let before = (goal.at.returns-then-contains c).After-contains in
-    let number = (numbers before).back_into in
-    let list = list_is (call before) c.index.result.now (into_there
-    (call before) c.links_beyond-links.result.out number)
+    let link = (numbers before).in_beyond in
+    let list = the_list flits_kind (call before) link c.from-then-contains.result c.index.result.now
     c.from-then-contains.ensures c.index.ensures in
     c.count.ensures ∙ ap (λ (l : LinkView). length l.flits) list
-    ∙ sym (ap (λ (fs : List Flit). length fs) (flits_listed (call before) number _ (numbers before).out_now
+    ∙ sym (ap (λ (fs : List Flit). length fs) (seen_listed flits_kind (call before) link _ (numbers before).out_now
     (sym c.contains.ensures ∙ c.if-contains.true)))
 
 byte_is : (b : Bool) → bool_byte b ≡ cond b 1 0
@@ -47,11 +45,11 @@ byte_is false = refl
 pub returns : goal.returns
 returns c =
     let before = (goal.at.returns c).After-contains in
-    let number = (numbers before).back_into in
+    let link = (numbers before).in_beyond in
     let read = c.index-there.result.now in
     let port = c.links_beyond-links.result.entered in
-    let alone = count_alone (has read.flits port) (has read.more_flits port) (slice_get read.flit port) _ _
-    (way (call before) number) (sym c.contains.ensures ∙ c.if-contains.false) in
-    let seen = ap (λ (fs : List Flit). length fs) (flits_are (call before) number _ (numbers before).out_now) in
+    let alone = count_alone (has read.flits.here port) (has read.flits.more port) (slice_get read.flits.front port) _ _
+    (way flits_kind (call before) link) (sym c.contains.ensures ∙ c.if-contains.false) in
+    let seen = ap (λ (fs : List Flit). length fs) (seen_is flits_kind (call before) link _ (numbers before).out_now) in
     c.from-2.ensures ∙ byte_is c.contains-2.result ∙ ap (λ (b : Bool). cond b 1 0) c.contains-2.ensures
     ∙ sym (seen ∙ alone)

@@ -3,8 +3,9 @@ use Rattle.std.specs.Prelude.{slice_get}
 use Rattle.worm_flit.specs.declared.Flit.{Flit}
 use Rattle.worm_flit.specs.SmallSet.{has}
 use Rattle.worm_wires.specs.Links.{LinkView}
-use Rattle.worm_wires.proofs.Called.{AreNumbers, IsCall, into_there, list_is, numbers_by}
-use Rattle.worm_wires.proofs.FlitsCalled.{flits_are, flits_listed, way}
+use Rattle.worm_wires.proofs.Called.{AreNumbers, IsCall, numbers_by}
+use Rattle.worm_wires.proofs.EachKind.{flits_kind}
+use Rattle.worm_wires.proofs.TrayCalled.{seen_is, seen_listed, the_list, way}
 use Rattle.worm_wires.proofs.Ways.{alone_at}
 use Rattle.worm_wires.proofs.links.Links.flit.Goals as goal
 use Rattle.worm_wires.proofs.links.Links.flit.Goals.{After-contains}
@@ -16,12 +17,10 @@ numbers c =
     c.self.invariant.radices c.self.view_is c.links_beyond-links.ensures.value
 
 call : (c : After-contains) → IsCall c.self.inside.wiring c.self.inside.lists.items c.self.inside.inboxes.items
-    c.args.self.now c.links_beyond-links.result.beyond c.links_beyond-links.result.entered c.args.node c.from.result
-    c.index-there.result.now
+    c.args.self.now c.links_beyond-links.result.beyond c.from.result c.index-there.result.now
 call c = record {
   sound = c.self.invariant;
   seen = c.self.view_is;
-  linked = (numbers c).back;
   node = omega arith;
   at = c.from.ensures;
   reads = c.index-there.ensures;
@@ -30,36 +29,34 @@ call c = record {
 pub flit-requires : goal.flit-requires
 flit-requires c =
     let before = (goal.at.flit-requires c).After-contains in
-    let number = (numbers before).back_into in
-    let list = list_is (call before) c.index.result.now (into_there
-    (call before) c.links_beyond-links.result.out number)
+    let link = (numbers before).in_beyond in
+    let list = the_list flits_kind (call before) link c.from-then-contains.result c.index.result.now
     c.from-then-contains.ensures c.index.ensures in
     let same = ap (λ (l : LinkView). length l.flits) list in
-    let seen = ap (λ (fs : List Flit). length fs) (flits_listed (call before) number _ (numbers before).out_now
+    let seen = ap (λ (fs : List Flit). length fs) (seen_listed flits_kind (call before) link _ (numbers before).out_now
     (sym c.contains.ensures ∙ c.if-contains.true)) in
     omega (arith, c.requires.place, same, seen)
 
 pub returns-then-contains : goal.returns-then-contains
 returns-then-contains c =
     let before = (goal.at.returns-then-contains c).After-contains in
-    let number = (numbers before).back_into in
-    let list = list_is (call before) c.index.result.now (into_there
-    (call before) c.links_beyond-links.result.out number)
+    let link = (numbers before).in_beyond in
+    let list = the_list flits_kind (call before) link c.from-then-contains.result c.index.result.now
     c.from-then-contains.ensures c.index.ensures in
-    ap (λ (fs : List Flit). slice_get fs c.args.i) (flits_listed (call before) number _ (numbers before).out_now
+    ap (λ (fs : List Flit). slice_get fs c.args.i) (seen_listed flits_kind (call before) link _ (numbers before).out_now
     (sym c.contains.ensures ∙ c.if-contains.true) ∙ ap (λ (l : LinkView). l.flits) (sym list))
     ∙ c.flit.ensures
 
 pub returns : goal.returns
 returns c =
     let before = (goal.at.returns c).After-contains in
-    let number = (numbers before).back_into in
+    let link = (numbers before).in_beyond in
     let read = c.index-there.result.now in
     let port = c.links_beyond-links.result.entered in
-    let seen = flits_are (call before) number _ (numbers before).out_now in
+    let seen = seen_is flits_kind (call before) link _ (numbers before).out_now in
     let long = ap (λ (fs : List Flit). length fs) seen in
     ap (λ (fs : List Flit). slice_get fs c.args.i) seen
-    ∙ alone_at (has read.flits port) (has read.more_flits port) (slice_get read.flit port) _ _
-    (way (call before) number)
-    (sym c.contains.ensures ∙ c.if-contains.false) c.args.i (omega (arith, c.requires.place, long)) read.flit port
+    ∙ alone_at (has read.flits.here port) (has read.flits.more port) (slice_get read.flits.front port) _ _
+    (way flits_kind (call before) link)
+    (sym c.contains.ensures ∙ c.if-contains.false) c.args.i (omega (arith, c.requires.place, long)) read.flits.front port
     c.from-2.result _ c.from-2.ensures refl

@@ -3,7 +3,8 @@ use Rattle.std.specs.Prelude.{slice_get}
 use Rattle.worm_flit.specs.SmallSet.{has}
 use Rattle.worm_wires.specs.Arrivals.{has_front}
 use Rattle.worm_wires.proofs.Called.{AreNumbers, IsCall, numbers_by}
-use Rattle.worm_wires.proofs.CreditsCalled.{credits_are, way}
+use Rattle.worm_wires.proofs.EachKind.{credits_kind}
+use Rattle.worm_wires.proofs.TrayCalled.{seen_is, way}
 use Rattle.worm_wires.proofs.Ways.{comes_by}
 use Rattle.worm_wires.proofs.links.Links.has_credits.Goals as goal
 use Rattle.worm_wires.proofs.links.Links.has_credits.Goals.{After-contains}
@@ -15,12 +16,10 @@ numbers c =
     c.self.invariant.radices c.self.view_is c.links_beyond-links.ensures.value
 
 call : (c : After-contains) → IsCall c.self.inside.wiring c.self.inside.lists.items c.self.inside.inboxes.items
-    c.args.self.now c.links_beyond-links.result.beyond c.links_beyond-links.result.entered c.args.node c.from.result
-    c.index-beyond.result.now
+    c.args.self.now c.links_beyond-links.result.beyond c.from.result c.index-beyond.result.now
 call c = record {
   sound = c.self.invariant;
   seen = c.self.view_is;
-  linked = (numbers c).back;
   node = omega arith;
   at = c.from.ensures;
   reads = c.index-beyond.ensures;
@@ -29,10 +28,10 @@ call c = record {
 pub returns : goal.returns
 returns c =
     let before = (goal.at.returns c).After-contains in
-    let number = (numbers before).back_out in
+    let link = (numbers before).out_beyond in
     let read = c.index-beyond.result.now in
     let port = c.links_beyond-links.result.entered in
     c.contains.ensures
-    ∙ sym (ap (λ (fs : List ℕ). has_front fs) (credits_are (call before) number _ (numbers before).into_now)
-    ∙ comes_by (has read.credits port) (has read.more_credits port) (slice_get read.credit port) _ _
-    (way (call before) number))
+    ∙ sym (ap (λ (fs : List ℕ). has_front fs) (seen_is credits_kind (call before) link _ (numbers before).into_now)
+    ∙ comes_by (has read.credits.here port) (has read.credits.more port) (slice_get read.credits.front port) _ _
+    (way credits_kind (call before) link))

@@ -1,0 +1,153 @@
+-- The trays of one kind, and the lists behind them, after a write of a node's inbox and of the list of a link.
+use Rattle.std.proofs.Common.{◌≡◌, ◌⊎◌, ℕ, ◌<◌, Bool, inl, inr, List, length, get_or, set, Option, Some, refl, arith, ap}
+use Rattle.std.proofs.Common.{sym, subst, ◌∙◌}
+use Rattle.std.specs.Prelude.{slice_get}
+use Rattle.std.proofs.lemmas.List.{get_or-set_other, get_or-set_same}
+use Rattle.worm_flit.specs.SmallSet.{has}
+use Rattle.worm_wires.specs.Arrivals.{on_link}
+use Rattle.worm_wires.specs.Inbox.{AreInboxes, IsFiled, IsTray, IsWay, IsWayOf, Kind, come, inbox_at, no_inbox, room_of}
+use Rattle.worm_wires.specs.Inbox.{whole}
+use Rattle.worm_wires.specs.Links.{LinkView, blank_link}
+use Rattle.worm_wires.specs.declared.inbox.Inbox.{Inbox}
+use Rattle.worm_wires.specs.declared.inbox.Tray.{Tray}
+use Rattle.worm_wires.proofs.Apart.{number_cases}
+use Rattle.worm_wires.proofs.ListsWritten.{on_other, on_same, room_kept}
+use Rattle.worm_wires.proofs.Ways.{way_same}
+
+-- two trays say the same of a port
+record AreAlike {A : Type 0} (old now : Tray A) (q : ℕ) : Type 0 where
+  pub comes : has now.here q ≡ has old.here q
+  pub listed : has now.more q ≡ has old.more q
+  pub first : slice_get now.front q ≡ slice_get old.front q
+
+way_alike : {A : Type 0} (old now : Tray A) (q : ℕ) (list list_now : List A) (room room_now : ℕ)
+    → IsWayOf old q list room → AreAlike old now q → list_now ≡ list → room_now ≡ room → IsWayOf now q list_now room_now
+way_alike old now q list list_now room room_now way alike lists rooms =
+    way_same (has old.here q) (has now.here q) (has old.more q) (has now.more q) (slice_get old.front q)
+    (slice_get now.front q) list list_now room room_now way alike.comes alike.listed alike.first lists rooms
+
+port_cases : (y x q p : ℕ) → ((y ≡ x) × (q ≡ p)) ⊎ ((y ≡ x) × (q ≡ p) → ⊥)
+port_cases y x q p = elim (number_cases y x) [
+  | inl at ↦ elim (number_cases q p) [
+    | inl also ↦ inl (at.1, also.1)
+    | inr away ↦ inr (λ both. away.1 both.1)
+  ]
+  | inr away ↦ inr (λ both. away.1 both.0)
+]
+
+module _ {A : Type 0} (kind : Kind A) (mesh : List ℕ) (links : List LinkView) (inboxes : List Inbox)
+    (are : AreInboxes mesh links inboxes)
+    (known : (y : ℕ) → y < 256 → IsTray kind mesh links y (kind.tray (inbox_at inboxes y))) (x k : ℕ)
+    (x_in : x < 256) (there : k < length links) (box : Inbox) (link : LinkView)
+    (room : link.room ≡ (get_or links k blank_link).room) where
+  this : inbox_at (set inboxes x box) x ≡ box
+  this = get_or-set_same inboxes x box no_inbox (omega (arith, are.nodes, x_in))
+
+  -- of a kind that is not written
+
+  module _ (same : kind.list link ≡ kind.list (get_or links k blank_link))
+      (kept : kind.tray box ≡ kind.tray (inbox_at inboxes x)) where
+    tray_same : (y : ℕ) → kind.tray (inbox_at (set inboxes x box) y) ≡ kind.tray (inbox_at inboxes y)
+    tray_same y = elim (number_cases y x) [
+      | inl at ↦
+          ap (λ (v : ℕ). kind.tray (inbox_at (set inboxes x box) v)) at.1 ∙ ap (λ (b : Inbox). kind.tray b) this ∙ kept
+          ∙ ap (λ (v : ℕ). kind.tray (inbox_at inboxes v)) (sym at.1)
+      | inr apart ↦ ap (λ (b : Inbox). kind.tray b) (get_or-set_other inboxes x y box no_inbox apart.1)
+    ]
+
+    pub come_same : (y q : ℕ)
+        → come kind mesh (set links k link) (set inboxes x box) y q ≡ come kind mesh links inboxes y q
+    come_same y q =
+        λ t. whole (has (tray_same y t).here q) (slice_get (tray_same y t).front q)
+        (on_same kind.list links k link there same (kind.link mesh y q) t)
+
+    pub tray_kept : (y : ℕ) → y < 256
+        → IsTray kind mesh (set links k link) y (kind.tray (inbox_at (set inboxes x box) y))
+    tray_kept y y_in = λ q q_in.
+        way_alike (kind.tray (inbox_at inboxes y)) (kind.tray (inbox_at (set inboxes x box) y)) q
+        (on_link kind.list links (kind.link mesh y q)) (on_link kind.list (set links k link) (kind.link mesh y q))
+        (room_of links (kind.link mesh y q)) (room_of (set links k link) (kind.link mesh y q)) (known y y_in q q_in)
+        record {
+          comes = ap (λ (b : Tray A). has b.here q) (tray_same y);
+          listed = ap (λ (b : Tray A). has b.more q) (tray_same y);
+          first = ap (λ (b : Tray A). slice_get b.front q) (tray_same y);
+        }
+        (on_same kind.list links k link there same (kind.link mesh y q))
+        (room_kept links k link there room (kind.link mesh y q))
+
+  -- of the kind that is written, at the port of the link
+
+  module _ (p : ℕ) (by : kind.link mesh x p ≡ Some k)
+      (once : (y q : ℕ) → kind.link mesh y q ≡ Some k → (y ≡ x) × (q ≡ p)) (here more : Bool) (front : Option A)
+      (filed : IsFiled (kind.tray (inbox_at inboxes x)) (kind.tray box) p here more front)
+      (way : IsWay here more (slice_get (kind.tray box).front p) (kind.list link) link.room) where
+    list_there : on_link kind.list (set links k link) (kind.link mesh x p) ≡ kind.list link
+    list_there =
+        ap (λ (n : Option ℕ). on_link kind.list (set links k link) n) by
+        ∙ ap kind.list (get_or-set_same links k link blank_link there)
+
+    room_there : room_of (set links k link) (kind.link mesh x p) ≡ link.room
+    room_there =
+        ap (λ (n : Option ℕ). room_of (set links k link) n) by
+        ∙ ap (λ (l : LinkView). l.room) (get_or-set_same links k link blank_link there)
+
+    pub come_here : come kind mesh (set links k link) (set inboxes x box) x p
+        ≡ whole here (slice_get (kind.tray box).front p) (kind.list link)
+    come_here =
+        (λ t. whole (has (kind.tray (this t)).here p) (slice_get (kind.tray (this t)).front p) (list_there t))
+        ∙ ap (λ (b : Bool). whole b (slice_get (kind.tray box).front p) (kind.list link)) filed.comes.here
+
+    alike : (y q : ℕ) → q < 8 → ((y ≡ x) × (q ≡ p) → ⊥)
+        → AreAlike (kind.tray (inbox_at inboxes y)) (kind.tray (inbox_at (set inboxes x box) y)) q
+    alike y q q_in away = elim (number_cases y x) [
+      | inl at ↦
+          let apart : q ≡ p → ⊥ = λ e. away (at.1, e) in
+          subst (λ (v : ℕ). AreAlike (kind.tray (inbox_at inboxes v)) (kind.tray (inbox_at (set inboxes x box) v)) q)
+          (sym at.1)
+          (subst (λ (b : Inbox). AreAlike (kind.tray (inbox_at inboxes x)) (kind.tray b) q) (sym this)
+          record {
+            comes = filed.comes.elsewhere q q_in apart;
+            listed = filed.listed.elsewhere q q_in apart;
+            first = filed.others q apart;
+          })
+      | inr apart ↦
+          subst (λ (b : Inbox). AreAlike (kind.tray (inbox_at inboxes y)) (kind.tray b) q)
+          (sym (get_or-set_other inboxes x y box no_inbox apart.1))
+          record { comes = refl; listed = refl; first = refl }
+    ]
+
+    other_link : (y q : ℕ) → ((y ≡ x) × (q ≡ p) → ⊥) → kind.link mesh y q ≡ Some k → ⊥
+    other_link y q away e = away (once y q e)
+
+    pub come_other : (y q : ℕ) → q < 8 → (kind.link mesh y q ≡ Some k → ⊥)
+        → come kind mesh (set links k link) (set inboxes x box) y q ≡ come kind mesh links inboxes y q
+    come_other y q q_in away =
+        let apart : (y ≡ x) × (q ≡ p) → ⊥ = λ both. away ((λ t. kind.link mesh (both.0 t) (both.1 t)) ∙ by) in
+        λ t. whole ((alike y q q_in apart).comes t) ((alike y q q_in apart).first t)
+        (on_other kind.list links k link (kind.link mesh y q) away t)
+
+    pub tray_written : (y : ℕ) → y < 256
+        → IsTray kind mesh (set links k link) y (kind.tray (inbox_at (set inboxes x box) y))
+    tray_written y y_in = λ q q_in. elim (port_cases y x q p) [
+      | inl at ↦
+          subst (λ (v : ℕ). IsWayOf (kind.tray (inbox_at (set inboxes x box) v)) q
+          (on_link kind.list (set links k link) (kind.link mesh v q)) (room_of (set links k link) (kind.link mesh v q)))
+          (sym at.0)
+          (subst (λ (v : ℕ). IsWayOf (kind.tray (inbox_at (set inboxes x box) x)) v
+          (on_link kind.list (set links k link) (kind.link mesh x v)) (room_of (set links k link) (kind.link mesh x v)))
+          (sym at.1)
+          (subst (λ (b : Inbox). IsWayOf (kind.tray b) p (on_link kind.list (set links k link) (kind.link mesh x p))
+          (room_of (set links k link) (kind.link mesh x p))) (sym this)
+          (way_same here (has (kind.tray box).here p) more (has (kind.tray box).more p)
+          (slice_get (kind.tray box).front p) (slice_get (kind.tray box).front p) (kind.list link)
+          (on_link kind.list (set links k link) (kind.link mesh x p)) link.room
+          (room_of (set links k link) (kind.link mesh x p)) way filed.comes.here filed.listed.here refl list_there
+          room_there)))
+      | inr away ↦
+          way_alike (kind.tray (inbox_at inboxes y)) (kind.tray (inbox_at (set inboxes x box) y)) q
+          (on_link kind.list links (kind.link mesh y q)) (on_link kind.list (set links k link) (kind.link mesh y q))
+          (room_of links (kind.link mesh y q)) (room_of (set links k link) (kind.link mesh y q))
+          (known y y_in q q_in) (alike y q q_in away)
+          (on_other kind.list links k link (kind.link mesh y q) (other_link y q away))
+          (room_kept links k link there room (kind.link mesh y q))
+    ]
