@@ -1,6 +1,6 @@
 -- What holds of flits and of credits alike: what is seen of a link, before and after a write of a node's inbox and of the
 -- list behind a link.
-use Rattle.std.proofs.Common.{◌≡◌, ℕ, ◌*◌, ◌<◌, ◌≤◌, Bool, true, List, length, length-set, get_or, set, Option, Some}
+use Rattle.std.proofs.Common.{◌≡◌, ℕ, ◌*◌, ◌<◌, Bool, true, List, length, length-set, get_or, set, Option, Some}
 use Rattle.std.proofs.Common.{None, refl, arith, ap, sym, ◌∙◌}
 use Rattle.std.specs.Prelude.{slice_get, option_map}
 use Rattle.worm_flit.specs.declared.Flit.{Flit}

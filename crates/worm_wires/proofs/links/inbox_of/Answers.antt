@@ -1,7 +1,7 @@
-use Rattle.std.proofs.Common.{◌*◌, ◌≡◌, ◌<◌, ◌≤◌, ◌∙◌, ℕ, List, Option, None, arith, ap, length}
+use Rattle.std.proofs.Common.{◌*◌, ◌≤◌, ◌∙◌, ℕ, Option, arith, ap, length}
 use Rattle.std.specs.Prelude.{slice_get}
 use Rattle.worm_wires.specs.Arrivals.{credits_of, flits_of}
-use Rattle.worm_wires.specs.Inbox.{IsInbox, AreSpilled, of_credits, of_flits}
+use Rattle.worm_wires.specs.Inbox.{of_credits, of_flits}
 use Rattle.worm_wires.specs.Wiring.{in_link, out_link}
 use Rattle.worm_wires.proofs.InboxFilled.{filled_more, filled_none, tray_filled}
 use Rattle.worm_wires.proofs.Wired.{in_none, out_none}

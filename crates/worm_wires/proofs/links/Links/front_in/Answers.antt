@@ -1,4 +1,4 @@
-use Rattle.std.proofs.Common.{◌≡◌, ℕ, List, false, true, ap, ◌∙◌, arith, sym, refl}
+use Rattle.std.proofs.Common.{◌≡◌, List, false, true, ap, ◌∙◌, arith, sym, refl}
 use Rattle.std.proofs.Common.{Option, None}
 use Rattle.std.specs.Prelude.{slice_get, is_some, IsSome}
 use Rattle.worm_flit.specs.declared.Flit.{Flit}

@@ -1,4 +1,4 @@
-use Rattle.std.proofs.Common.{◌≡◌, ◌<◌, List, [], ◌∷◌, ◌++◌, false, true, length, get_or, ap, subst, ◌∙◌, arith}
+use Rattle.std.proofs.Common.{◌≡◌, List, [], ◌∷◌, ◌++◌, false, true, length, get_or, ap, subst, ◌∙◌, arith}
 use Rattle.std.proofs.Common.{sym, refl, Option, Some}
 use Rattle.std.specs.Prelude.{slice_get}
 use Rattle.worm_flit.specs.declared.Flit.{Flit}
