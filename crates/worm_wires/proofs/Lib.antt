@@ -11,6 +11,7 @@ pub mod EachKind
 pub mod TraysSeen
 pub mod Called
 pub mod TrayCalled
+pub mod TrayMoved
 pub mod InboxFilled
 pub mod AllSpilled
 pub mod Spilled
