@@ -2,7 +2,7 @@
 -- list behind a link.
 use Rattle.std.proofs.Common.{◌≡◌, ℕ, ◌*◌, ◌<◌, Bool, true, List, length, length-set, get_or, set, Option, Some}
 use Rattle.std.proofs.Common.{None, refl, arith, ap, sym, ◌∙◌}
-use Rattle.std.specs.Prelude.{slice_get, option_map}
+use Rattle.std.specs.Prelude.{IsSome, slice_get, option_map}
 use Rattle.worm_flit.specs.declared.Flit.{Flit}
 use Rattle.worm_mesh.specs.Address.{AreRadices, has_neighbour, neighbour_of, opposite_of}
 use Rattle.worm_mesh.specs.Links.{links_before}
@@ -17,22 +17,10 @@ use Rattle.worm_wires.specs.declared.inbox.Inbox.{Inbox}
 use Rattle.worm_wires.proofs.Apart.{back_of, in_once, into_beyond, out_once}
 use Rattle.worm_wires.proofs.ListsWritten.{all_written, entered_in, is_seen, linked_at, rooms_same, same_link}
 use Rattle.worm_wires.proofs.Seen.{credits_at, flits_past, room_at}
-use Rattle.worm_wires.proofs.TraysWritten.{come_here, come_other, come_same, tray_kept, tray_written}
+use Rattle.worm_wires.proofs.TraysWritten.{IsLinks, IsWrite, there, come_here, come_other, come_same, tray_kept, tray_written}
 use Rattle.worm_wires.proofs.Wired.{port_there}
 
--- A write of a node's inbox at the port of a link, and of the list behind it, of one kind alone
-pub record IsWrite {A B : Type 0} (kind : Kind A) (other : Kind B) (mesh : List ℕ) (links : List LinkView)
-    (inboxes : List Inbox) (x p k : ℕ) (box : Inbox) (link : LinkView) (here more : Bool) (front : Option A)
-    : Type 0 where
-  pub node : x < 256
-  pub by : kind.link mesh x p ≡ Some k
-  pub filed : IsFiled (kind.tray (inbox_at inboxes x)) (kind.tray box) p here more front
-  pub kept : other.tray box ≡ other.tray (inbox_at inboxes x)
-  pub same : other.list link ≡ other.list (get_or links k blank_link)
-  pub room : link.room ≡ (get_or links k blank_link).room
-  pub way : IsWay here more (slice_get (kind.tray box).front p) (kind.list link) link.room
-
--- and what it leaves
+-- What a write leaves
 pub record IsWritten {A : Type 0} (kind : Kind A) (put : LinkView → List A → LinkView) (mesh : List ℕ)
     (links : List LinkView) (inboxes : List Inbox) (p k : ℕ) (boxes : List Inbox) (box : Inbox) (link : LinkView)
     (here : Bool) : Type 0 where
@@ -45,11 +33,7 @@ pub record IsWritten {A : Type 0} (kind : Kind A) (put : LinkView → List A →
 pub record IsKind {A B : Type 0} (kind : Kind A) (other : Kind B) (put : LinkView → List A → LinkView)
     : Type 0 where
   pub is_put : (link : LinkView) → put link (kind.list link) ≡ link
-  pub port : (mesh : List ℕ) (x p k : ℕ) → AreRadices mesh → kind.link mesh x p ≡ Some k → p < 6
-  pub there : (mesh : List ℕ) (links : List LinkView) (inboxes : List Inbox) → AreInboxes mesh links inboxes
-      → (x p k : ℕ) → kind.link mesh x p ≡ Some k → k < length links
-  pub known : (mesh : List ℕ) (links : List LinkView) (x : ℕ) (box : Inbox) → IsInbox mesh links x box
-      → IsTray kind mesh links x (kind.tray box)
+  pub links : IsLinks kind
   pub seen : (mesh : List ℕ) (links : List LinkView) (inboxes : List Inbox) → AreRadices mesh → (x p k : ℕ)
       → kind.link mesh x p ≡ Some k
       → kind.list (get_or (links_by mesh links inboxes) k blank_link) ≡ come kind mesh links inboxes x p
@@ -84,6 +68,11 @@ out_by mesh x o k (Some y) e by =
 pub out_parts : (mesh : List ℕ) (x o k : ℕ) → out_link mesh x o ≡ Some k
     → (y : ℕ) × (neighbour_of mesh x o ≡ Some y) × (links_before mesh x o ≡ k)
 out_parts mesh x o k by = out_by mesh x o k (neighbour_of mesh x o) refl by
+
+-- where a link is there, so is a neighbour
+linked_some : (f : ℕ → ℕ) (n : Option ℕ) → IsSome (option_map f n) → IsSome n
+linked_some f None some = absurd (cc)
+linked_some f (Some y) some = refl
 
 -- the inboxes are sound where the trays of each kind are
 inboxes_kept : (mesh : List ℕ) (links : List LinkView) (inboxes : List Inbox) (x k : ℕ) (box : Inbox)
@@ -126,17 +115,40 @@ in_there mesh links inboxes are x p k by =
     let back = Joins-back mesh x p to.0 (Joins-from mesh x p to.0 large to.1) in
     omega (arith, to.2, are.all, below_count mesh large to.0 (opposite_of p) (x, back))
 
+in_links : IsLinks of_flits
+in_links = record {
+  linked = λ mesh x p some. linked_some (λ y. links_before mesh y (opposite_of p)) (neighbour_of mesh x p) some;
+  port = λ mesh x p k radices by.
+      let to = in_parts mesh x p k by in port_there mesh x p radices (rw to.1 refl);
+  once = in_once;
+  there = in_there;
+  known = λ mesh links x box is. is.flits;
+}
+
+out_there : (mesh : List ℕ) (links : List LinkView) (inboxes : List Inbox) → AreInboxes mesh links inboxes
+    → (x p k : ℕ) → out_link mesh x p ≡ Some k → k < length links
+out_there mesh links inboxes are x p k by =
+    let to = out_parts mesh x p k by in
+    let large = AreLarge-from_radices mesh are.radices.radices in
+    omega (arith, to.2, are.all, below_count mesh large x p (to.0, Joins-from mesh x p to.0 large to.1))
+
+out_links : IsLinks of_credits
+out_links = record {
+  linked = λ mesh x p some. linked_some (λ y. links_before mesh x p) (neighbour_of mesh x p) some;
+  port = λ mesh x p k radices by.
+      let to = out_parts mesh x p k by in port_there mesh x p radices (rw to.1 refl);
+  once = out_once;
+  there = out_there;
+  known = λ mesh links x box is. is.credits;
+}
+
 module _ (mesh : List ℕ) (links : List LinkView) (inboxes : List Inbox) (are : AreInboxes mesh links inboxes)
     (x p k : ℕ) (box : Inbox) (link : LinkView) (here more : Bool) (front : Option Flit)
     (write : IsWrite of_flits of_credits mesh links inboxes x p k box link here more front) where
-  there_f : k < length links
-  there_f = in_there mesh links inboxes are x p k write.by
-
   back_same : (y o : ℕ) → come of_credits mesh (set links k link) (set inboxes x box) y o
       ≡ come of_credits mesh links inboxes y o
   back_same =
-      come_same of_credits mesh links inboxes are (λ y y_in. (are.known y y_in).credits) x k write.node there_f box link
-      write.room write.same write.kept
+      come_same in_links out_links are write
 
   flits_here : (z o : ℕ) → has_neighbour mesh z o ≡ true → links_before mesh z o ≡ k
       → record (get_or (links_by mesh links inboxes) k blank_link)
@@ -149,16 +161,14 @@ module _ (mesh : List ℕ) (links : List LinkView) (inboxes : List Inbox) (are :
       into_beyond mesh z o to.0 are.radices to.1 ∙ ap (λ (j : ℕ). Some j) at in
       let both = in_once mesh x p to.0 (opposite_of o) k are.radices write.by enters in
       same_link _ _
-      (sym (come_here of_flits mesh links inboxes are (λ y y_in. (are.known y y_in).flits) x k write.node there_f box
-      link write.room p write.by (λ y q e. in_once mesh x p y q k are.radices write.by e) here more front write.filed
-      write.way)
+      (sym (come_here in_links out_links are write)
       ∙ (λ t. come of_flits mesh (set links k link) (set inboxes x box) (sym both.0 t) (sym both.1 t))
       ∙ ap (λ (n : Option ℕ). flits_beyond mesh (set links k link) (set inboxes x box) o n) (sym to.1))
       (ap (λ (j : ℕ). (get_or (links_by mesh links inboxes) j blank_link).credits) (sym at)
       ∙ credits_at mesh links inboxes are.radices z o to.0 to.1 ∙ sym (back_same z o))
       (ap (λ (j : ℕ). (get_or (links_by mesh links inboxes) j blank_link).room) (sym at)
       ∙ room_at mesh links inboxes are.radices z o to.0 to.1
-      ∙ sym (rooms_same links k link there_f write.room (links_before mesh z o)))
+      ∙ sym (rooms_same links k link (there in_links out_links are write) write.room (links_before mesh z o)))
 
   flits_other : (z o : ℕ) → has_neighbour mesh z o ≡ true → (links_before mesh z o ≡ k → ⊥)
       → link_by mesh links inboxes z o ≡ link_by mesh (set links k link) (set inboxes x box) z o
@@ -170,33 +180,24 @@ module _ (mesh : List ℕ) (links : List LinkView) (inboxes : List Inbox) (are :
       sym (into_beyond mesh z o to.0 are.radices to.1) ∙ e in away (cc) in
       same_link _ _
       (ap (λ (n : Option ℕ). flits_beyond mesh links inboxes o n) to.1
-      ∙ sym (come_other of_flits mesh links inboxes are (λ y y_in. (are.known y y_in).flits) x k write.node there_f box
-      link write.room p write.by (λ y q e. in_once mesh x p y q k are.radices write.by e) here more front write.filed
-      write.way to.0 (opposite_of o) (entered_in mesh z o to.0 are.radices to.1) apart)
+      ∙ sym (come_other in_links out_links are write to.0 (opposite_of o) (entered_in mesh z o to.0 are.radices to.1) apart)
       ∙ ap (λ (n : Option ℕ). flits_beyond mesh (set links k link) (set inboxes x box) o n) (sym to.1))
-      (sym (back_same z o)) (sym (rooms_same links k link there_f write.room (links_before mesh z o)))
+      (sym (back_same z o)) (sym (rooms_same links k link (there in_links out_links are write) write.room (links_before mesh z o)))
 
   flits_written : IsWritten of_flits (λ l fs. record l { flits = fs }) mesh links inboxes p k (set inboxes x box) box
       link here
   flits_written = record {
     sound = inboxes_kept mesh links inboxes x k box link are
-        (tray_written of_flits mesh links inboxes are (λ y y_in. (are.known y y_in).flits) x k write.node there_f box
-        link write.room p write.by (λ y q e. in_once mesh x p y q k are.radices write.by e) here more front write.filed
-        write.way)
-        (tray_kept of_credits mesh links inboxes are (λ y y_in. (are.known y y_in).credits) x k write.node there_f box
-        link write.room write.same write.kept);
+        (tray_written in_links out_links are write) (tray_kept in_links out_links are write);
     seen = all_written mesh links (set links k link) inboxes (set inboxes x box) k _
         (λ z o z_in o_in linked at. flits_here z o linked at)
-        (λ z o z_in o_in linked away. flits_other z o linked away) (is_seen mesh links inboxes k are.all there_f);
+        (λ z o z_in o_in linked away. flits_other z o linked away) (is_seen mesh links inboxes k are.all (there in_links out_links are write));
   }
 
 pub flits_kind : IsKind of_flits of_credits (λ l fs. record l { flits = fs })
 flits_kind = record {
   is_put = λ link. refl;
-  port = λ mesh x p k radices by.
-      let to = in_parts mesh x p k by in port_there mesh x p radices (rw to.1 refl);
-  there = in_there;
-  known = λ mesh links x box is. is.flits;
+  links = in_links;
   seen = flits_seen;
   room_seen = in_room;
   written = flits_written;
@@ -221,24 +222,13 @@ out_room mesh links inboxes radices x p k by =
     ∙ room_at mesh links inboxes radices x p to.0 to.1
     ∙ ap (λ (j : ℕ). (get_or links j blank_link).room) to.2
 
-out_there : (mesh : List ℕ) (links : List LinkView) (inboxes : List Inbox) → AreInboxes mesh links inboxes
-    → (x p k : ℕ) → out_link mesh x p ≡ Some k → k < length links
-out_there mesh links inboxes are x p k by =
-    let to = out_parts mesh x p k by in
-    let large = AreLarge-from_radices mesh are.radices.radices in
-    omega (arith, to.2, are.all, below_count mesh large x p (to.0, Joins-from mesh x p to.0 large to.1))
-
 module _ (mesh : List ℕ) (links : List LinkView) (inboxes : List Inbox) (are : AreInboxes mesh links inboxes)
     (x p k : ℕ) (box : Inbox) (link : LinkView) (here more : Bool) (front : Option ℕ)
     (write : IsWrite of_credits of_flits mesh links inboxes x p k box link here more front) where
-  there_c : k < length links
-  there_c = out_there mesh links inboxes are x p k write.by
-
   flits_same : (y o : ℕ) → come of_flits mesh (set links k link) (set inboxes x box) y o
       ≡ come of_flits mesh links inboxes y o
   flits_same =
-      come_same of_flits mesh links inboxes are (λ y y_in. (are.known y y_in).flits) x k write.node there_c box link
-      write.room write.same write.kept
+      come_same out_links in_links are write
 
   credits_here : (z o : ℕ) → has_neighbour mesh z o ≡ true → links_before mesh z o ≡ k
       → record (get_or (links_by mesh links inboxes) k blank_link) {
@@ -255,13 +245,11 @@ module _ (mesh : List ℕ) (links : List LinkView) (inboxes : List Inbox) (are :
       (ap (λ (j : ℕ). (get_or (links_by mesh links inboxes) j blank_link).flits) (sym at)
       ∙ flits_past mesh links inboxes are.radices z o to.0 to.1 ∙ sym (flits_same to.0 (opposite_of o))
       ∙ ap (λ (n : Option ℕ). flits_beyond mesh (set links k link) (set inboxes x box) o n) (sym to.1))
-      (sym (come_here of_credits mesh links inboxes are (λ y y_in. (are.known y y_in).credits) x k write.node there_c
-      box link write.room p write.by (λ y q e. out_once mesh x p y q k are.radices write.by e) here more front
-      write.filed write.way)
+      (sym (come_here out_links in_links are write)
       ∙ (λ t. come of_credits mesh (set links k link) (set inboxes x box) (sym both.0 t) (sym both.1 t)))
       (ap (λ (j : ℕ). (get_or (links_by mesh links inboxes) j blank_link).room) (sym at)
       ∙ room_at mesh links inboxes are.radices z o to.0 to.1
-      ∙ sym (rooms_same links k link there_c write.room (links_before mesh z o)))
+      ∙ sym (rooms_same links k link (there out_links in_links are write) write.room (links_before mesh z o)))
 
   credits_other : (z o : ℕ) → o < 2 * length mesh → has_neighbour mesh z o ≡ true → (links_before mesh z o ≡ k → ⊥)
       → link_by mesh links inboxes z o ≡ link_by mesh (set links k link) (set inboxes x box) z o
@@ -274,33 +262,24 @@ module _ (mesh : List ℕ) (links : List LinkView) (inboxes : List Inbox) (are :
       same_link _ _
       (ap (λ (n : Option ℕ). flits_beyond mesh links inboxes o n) to.1 ∙ sym (flits_same to.0 (opposite_of o))
       ∙ ap (λ (n : Option ℕ). flits_beyond mesh (set links k link) (set inboxes x box) o n) (sym to.1))
-      (sym (come_other of_credits mesh links inboxes are (λ y y_in. (are.known y y_in).credits) x k write.node there_c
-      box link write.room p write.by (λ y q e. out_once mesh x p y q k are.radices write.by e) here more front
-      write.filed write.way z o (omega (arith, port, are.radices.few_dims)) apart))
-      (sym (rooms_same links k link there_c write.room (links_before mesh z o)))
+      (sym (come_other out_links in_links are write z o (omega (arith, port, are.radices.few_dims)) apart))
+      (sym (rooms_same links k link (there out_links in_links are write) write.room (links_before mesh z o)))
 
   credits_written : IsWritten of_credits (λ l cs. record l { credits = cs }) mesh links inboxes p k (set inboxes x box)
       box link here
   credits_written = record {
     sound = inboxes_kept mesh links inboxes x k box link are
-        (tray_kept of_flits mesh links inboxes are (λ y y_in. (are.known y y_in).flits) x k write.node there_c box
-        link write.room write.same write.kept)
-        (tray_written of_credits mesh links inboxes are (λ y y_in. (are.known y y_in).credits) x k write.node there_c
-        box link write.room p write.by (λ y q e. out_once mesh x p y q k are.radices write.by e) here more front
-        write.filed write.way);
+        (tray_kept out_links in_links are write) (tray_written out_links in_links are write);
     seen = all_written mesh links (set links k link) inboxes (set inboxes x box) k _
         (λ z o z_in o_in linked at. credits_here z o linked at)
         (λ z o z_in o_in linked away. credits_other z o o_in linked away)
-        (is_seen mesh links inboxes k are.all there_c);
+        (is_seen mesh links inboxes k are.all (there out_links in_links are write));
   }
 
 pub credits_kind : IsKind of_credits of_flits (λ l cs. record l { credits = cs })
 credits_kind = record {
   is_put = λ link. refl;
-  port = λ mesh x p k radices by.
-      let to = out_parts mesh x p k by in port_there mesh x p radices (rw to.1 refl);
-  there = out_there;
-  known = λ mesh links x box is. is.credits;
+  links = out_links;
   seen = credits_seen;
   room_seen = out_room;
   written = credits_written;

@@ -42,7 +42,7 @@ pub port_stays : {A B : Type 0} {kind : Kind A} {other : Kind B} {put : LinkView
     → has (kind.tray read).here p ≡ false → IsPortSpilled kind other inboxes (set inboxes i read) x p
 port_stays {kind = kind} {other = other} is {mesh} {lists} {inboxes} {now} {x} {i} {read} call p p_in none =
     let tray = kind.tray (inbox_at inboxes x) in
-    let way = is.known mesh lists x (inbox_at inboxes x) (call.sound.known x call.node) p p_in in
+    let way = is.links.known mesh lists x (inbox_at inboxes x) (call.sound.known x call.node) p p_in in
     let no_here : has tray.here p ≡ false = ap (λ (b : Inbox). has (kind.tray b).here p) (inbox_is call) ∙ none in
     let empty = not_here (has tray.here p) (has tray.more p) (slice_get tray.front p) _ _ way no_here in
     subst (λ (boxes : List Inbox). IsPortSpilled kind other inboxes boxes x p)

@@ -5,44 +5,41 @@ use Rattle.std.proofs.Common.{arith, ap, sym, subst, ◌∙◌}
 use Rattle.std.specs.Prelude.{IsSome, option_map, slice_get}
 use Rattle.std.proofs.lemmas.List.{get_or_default, set-get_or}
 use Rattle.worm_flit.specs.SmallSet.{has}
+use Rattle.worm_mesh.specs.Address.{neighbour_of}
 use Rattle.worm_wires.specs.Arrivals.{LinksView, has_front, on_link, state_at, with_state}
-use Rattle.worm_wires.specs.Inbox.{AreInboxes, IsFiled, IsWay, IsWayOf, Kind, inbox_at, links_by, room_of, whole}
+use Rattle.worm_wires.specs.Inbox.{AreInboxes, AreSeenAlike, IsFiled, IsWay, IsWayOf, Kind, inbox_at, links_by, room_of, whole}
 use Rattle.worm_wires.specs.Links.{LinkView, blank_link}
 use Rattle.worm_wires.specs.declared.inbox.Inbox.{Inbox}
 use Rattle.worm_wires.proofs.Called.{IsCall, inbox_is, list_is}
-use Rattle.worm_wires.proofs.EachKind.{IsKind, IsWrite}
-use Rattle.worm_wires.proofs.TraysSeen.{link_some}
+use Rattle.worm_wires.proofs.EachKind.{IsKind}
+use Rattle.worm_wires.proofs.TraysWritten.{IsWrite}
+use Rattle.worm_wires.proofs.TraysSeen.{neighbour_some}
 use Rattle.worm_wires.proofs.Ways.{all_listed, comes_by, first_by, not_listed, spilled_way, whole_twice}
 
--- a port by which one comes in has a link
-pub link_read : {A B : Type 0} {kind : Kind A} {other : Kind B} {put : LinkView → List A → LinkView}
+-- a port by which one comes in has a neighbour
+pub linked_read : {A B : Type 0} {kind : Kind A} {other : Kind B} {put : LinkView → List A → LinkView}
     → IsKind kind other put → {mesh : List ℕ} {lists : List LinkView} {inboxes : List Inbox} {now : LinksView}
     {x i : ℕ} {read : Inbox} → IsCall mesh lists inboxes now x i read → (p : ℕ) → p < 8
-    → has (kind.tray read).here p ≡ true → IsSome (kind.link mesh x p)
-link_read {kind = kind} is {mesh} {lists} {inboxes} {now} {x} call p p_in here =
-    link_some is mesh lists inboxes call.sound x call.node p p_in
+    → has (kind.tray read).here p ≡ true → IsSome (neighbour_of mesh x p)
+linked_read {kind = kind} is {mesh} {lists} {inboxes} {now} {x} call p p_in here =
+    neighbour_some is mesh lists inboxes call.sound x call.node p p_in
     (ap (λ (b : Inbox). has (kind.tray b).here p) (inbox_is call) ∙ here)
-
--- and so a neighbour
-pub linked_some : (f : ℕ → ℕ) (n : Option ℕ) → IsSome (option_map f n) → IsSome n
-linked_some f None some = absurd (cc)
-linked_some f (Some y) some = refl
 
 module _ {A B : Type 0} {kind : Kind A} {other : Kind B} {put : LinkView → List A → LinkView}
     (is : IsKind kind other put) {mesh : List ℕ} {lists : List LinkView} {inboxes : List Inbox} {now : LinksView}
     {x p i k : ℕ} {read : Inbox} (call : IsCall mesh lists inboxes now x i read) (by : kind.link mesh x p ≡ Some k)
   where
     pub there : k < length lists
-    there = is.there mesh lists inboxes call.sound x p k by
+    there = is.links.there mesh lists inboxes call.sound x p k by
 
     -- what holds of the port as it is read
     pub way : IsWayOf (kind.tray read) p (kind.list (get_or lists k blank_link)) (get_or lists k blank_link).room
     way =
-        let p_in : p < 6 = is.port mesh x p k call.sound.radices by in
+        let p_in : p < 6 = is.links.port mesh x p k call.sound.radices by in
         subst (λ (n : Option ℕ). IsWayOf (kind.tray read) p (on_link kind.list lists n) (room_of lists n)) by
         (subst (λ (b : Inbox). IsWayOf (kind.tray b) p (on_link kind.list lists (kind.link mesh x p))
         (room_of lists (kind.link mesh x p))) (inbox_is call)
-        (is.known mesh lists x (inbox_at inboxes x) (call.sound.known x call.node) p (omega (arith, p_in))))
+        (is.links.known mesh lists x (inbox_at inboxes x) (call.sound.known x call.node) p (omega (arith, p_in))))
 
     -- where the link has no list of them, that is empty
     pub none_listed : has (kind.tray read).more p ≡ false → kind.list (get_or lists k blank_link) ≡ []
@@ -161,18 +158,20 @@ module _ {A B : Type 0} {kind : Kind A} {other : Kind B} {put : LinkView → Lis
             (spilled_way (has (kind.tray read).more p) (slice_get (kind.tray read).front p) (kind.list list) list.room
             (here_read some))))
 
-        pub spilled_sound : AreInboxes mesh (set lists j link) (set inboxes i box)
-        spilled_sound =
-            both_sound box true true (slice_get (kind.tray read).front p) filed kept link same room way_spilled
+        same_now : whole true (slice_get (kind.tray box).front p) (kind.list link) ≡ kind.list (state_at now k)
+        same_now =
+            (λ t. whole true (first t) (spilled t)) ∙ whole_twice (slice_get (kind.tray read).front p) (kind.list list)
+            ∙ sym (seen_read k refl some)
 
-        pub spilled_seen : record { mesh = mesh; states = links_by mesh (set lists j link) (set inboxes i box) } ≡ now
-        spilled_seen =
-            both_seen box true true (slice_get (kind.tray read).front p) filed kept link same room way_spilled k
-            (kind.list (state_at now k)) refl
-            ((λ t. whole true (first t) (spilled t)) ∙ whole_twice (slice_get (kind.tray read).front p) (kind.list list)
-            ∙ sym (seen_read k refl some))
-            ∙ ap (λ (l : LinkView). with_state now k l) (is.is_put (state_at now k))
-            ∙ (λ t. record { mesh = now.mesh; states = set-get_or now.states k blank_link t })
+        pub spilled_alike : AreSeenAlike mesh lists inboxes (set lists j link) (set inboxes i box)
+        spilled_alike = record {
+          sound = both_sound box true true (slice_get (kind.tray read).front p) filed kept link same room way_spilled;
+          same = ap (λ (l : LinksView). l.states)
+              (both_seen box true true (slice_get (kind.tray read).front p) filed kept link same room way_spilled k
+              (kind.list (state_at now k)) refl same_now
+              ∙ ap (λ (l : LinkView). with_state now k l) (is.is_put (state_at now k))
+              ∙ (λ t. record { mesh = now.mesh; states = set-get_or now.states k blank_link t }) ∙ sym call.seen);
+        }
 
     -- the inbox alone is written
     module _ (box : Inbox) (here more : Bool) (front : Option A)

@@ -3,6 +3,7 @@ use Rattle.std.proofs.Common.{◌≡◌, ℕ, ◌<◌, Bool, true, List, [], Opt
 use Rattle.std.proofs.Common.{arith, ap, sym, ◌∙◌}
 use Rattle.std.specs.Prelude.{IsSome, slice_get}
 use Rattle.worm_flit.specs.SmallSet.{has}
+use Rattle.worm_mesh.specs.Address.{neighbour_of}
 use Rattle.worm_wires.specs.Arrivals.{AreFronts, has_front, on_link}
 use Rattle.worm_wires.specs.Inbox.{AreInboxes, IsTray, IsWay, Kind, come, inbox_at, links_by, room_of, whole}
 use Rattle.worm_wires.specs.Links.{LinkView}
@@ -17,7 +18,7 @@ none_come list links here more front None e way = unlinked here more front way
 none_come list links here more front (Some k) e way = absurd (cc)
 
 -- where something comes in there is a link
-pub some_link : {A : Type 0} (list : LinkView → List A) (links : List LinkView) (here more : Bool) (front : Option A)
+some_link : {A : Type 0} (list : LinkView → List A) (links : List LinkView) (here more : Bool) (front : Option A)
     (n : Option ℕ) → IsWay here more front (on_link list links n) (room_of links n) → here ≡ true → IsSome n
 some_link list links here more front None way some = absurd (omega (arith, (way.alone refl some).0))
 some_link list links here more front (Some k) way some = refl
@@ -26,7 +27,7 @@ module _ {A B : Type 0} {kind : Kind A} {other : Kind B} {put : LinkView → Lis
     (is : IsKind kind other put) (mesh : List ℕ) (links : List LinkView) (inboxes : List Inbox)
     (are : AreInboxes mesh links inboxes) (x : ℕ) (x_in : x < 256) where
   way_at : IsTray kind mesh links x (kind.tray (inbox_at inboxes x))
-  way_at = is.known mesh links x (inbox_at inboxes x) (are.known x x_in)
+  way_at = is.links.known mesh links x (inbox_at inboxes x) (are.known x x_in)
 
   seen_by : (p : ℕ) → p < 8 → (n : Option ℕ) → kind.link mesh x p ≡ n
       → on_link kind.list (links_by mesh links inboxes) n ≡ come kind mesh links inboxes x p
@@ -45,9 +46,11 @@ module _ {A B : Type 0} {kind : Kind A} {other : Kind B} {put : LinkView → Lis
       (slice_get (kind.tray (inbox_at inboxes x)).front p) (on_link kind.list links (kind.link mesh x p))
       (room_of links (kind.link mesh x p)) (way_at p p_in))
 
-  -- a port by which one comes in has a link
-  pub link_some : (p : ℕ) → p < 8 → has (kind.tray (inbox_at inboxes x)).here p ≡ true → IsSome (kind.link mesh x p)
-  link_some p p_in here =
-      some_link kind.list links (has (kind.tray (inbox_at inboxes x)).here p)
+  -- a port by which one comes in has a neighbour
+  pub neighbour_some : (p : ℕ) → p < 8 → has (kind.tray (inbox_at inboxes x)).here p ≡ true
+      → IsSome (neighbour_of mesh x p)
+  neighbour_some p p_in here =
+      is.links.linked mesh x p
+      (some_link kind.list links (has (kind.tray (inbox_at inboxes x)).here p)
       (has (kind.tray (inbox_at inboxes x)).more p) (slice_get (kind.tray (inbox_at inboxes x)).front p)
-      (kind.link mesh x p) (way_at p p_in) here
+      (kind.link mesh x p) (way_at p p_in) here)

@@ -3,7 +3,6 @@ use Rattle.std.specs.Prelude.{IsSome, slice_get}
 use Rattle.worm_flit.specs.SmallSet.{has}
 use Rattle.worm_mesh.specs.Address.{neighbour_of, opposite_of}
 use Rattle.worm_mesh.specs.Links.{links_before}
-use Rattle.worm_wires.specs.Arrivals.{LinksView}
 use Rattle.worm_wires.specs.Inbox.{links_by, of_credits, of_flits}
 use Rattle.worm_wires.specs.Links.{LinkView}
 use Rattle.worm_wires.specs.Wiring.{in_link}
@@ -11,7 +10,7 @@ use Rattle.worm_wires.proofs.Apart.{into_is}
 use Rattle.worm_wires.proofs.Called.{IsCall}
 use Rattle.worm_wires.proofs.EachKind.{flits_kind}
 use Rattle.worm_wires.proofs.Spilled.{port_put, port_stays}
-use Rattle.worm_wires.proofs.TrayCalled.{link_read, linked_some, spilled_seen, spilled_sound, way_read}
+use Rattle.worm_wires.proofs.TrayCalled.{linked_read, spilled_alike, way_read}
 use Rattle.worm_wires.proofs.links.spill_flits.Goals as goal
 use Rattle.worm_wires.proofs.links.spill_flits.Goals.{After-contains, After-from-then-contains}
 
@@ -30,9 +29,7 @@ call c = record {
 
 linked : (c : After-contains) → has c.index_mut-here.result.now.flits.here c.args.port ≡ true
     → IsSome (neighbour_of c.args.wiring.now c.args.node c.args.port)
-linked c here =
-    linked_some (λ y. links_before c.args.wiring.now y (opposite_of c.args.port)) _
-    (link_read flits_kind (call c) c.args.port (omega (arith, c.requires.port)) here)
+linked c here = linked_read flits_kind (call c) c.args.port (omega (arith, c.requires.port)) here
 
 pub links_beyond-links-requires : goal.links_beyond-links-requires
 links_beyond-links-requires c =
@@ -57,19 +54,10 @@ returns-then-contains-clause-kept c =
     let link = by (goal.at.returns-then-contains-clause-kept c).After-from-then-contains
     (linked before (sym c.contains.ensures ∙ c.if-contains.true)) in
     let done = c.spill_flits.ensures in
-    record {
-      sound = spilled_sound flits_kind (call before) link c.from-then-contains.result c.index_mut.result.now refl
-          c.index_mut.ensures.value c.spill_flits.new.self done.filed done.kept
-          (sym c.contains.ensures ∙ c.if-contains.true) c.spill_flits.new.link
-          (ap (λ (l : LinkView). l.credits) done.link) (ap (λ (l : LinkView). l.room) done.link)
-          (ap (λ (l : LinkView). l.flits) done.link);
-      same = ap (λ (l : LinksView). l.states)
-          (spilled_seen flits_kind (call before) link c.from-then-contains.result c.index_mut.result.now refl
-          c.index_mut.ensures.value c.spill_flits.new.self done.filed done.kept
-          (sym c.contains.ensures ∙ c.if-contains.true) c.spill_flits.new.link
-          (ap (λ (l : LinkView). l.credits) done.link) (ap (λ (l : LinkView). l.room) done.link)
-          (ap (λ (l : LinkView). l.flits) done.link));
-    }
+    spilled_alike flits_kind (call before) link c.from-then-contains.result c.index_mut.result.now refl
+    c.index_mut.ensures.value c.spill_flits.new.self done.filed done.kept (sym c.contains.ensures ∙ c.if-contains.true)
+    c.spill_flits.new.link (ap (λ (l : LinkView). l.credits) done.link) (ap (λ (l : LinkView). l.room) done.link)
+    (ap (λ (l : LinkView). l.flits) done.link)
 
 pub returns-then-contains-clause-spilled : goal.returns-then-contains-clause-spilled
 returns-then-contains-clause-spilled c =
