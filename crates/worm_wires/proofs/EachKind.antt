@@ -9,7 +9,7 @@ use Rattle.worm_mesh.specs.Links.{links_before}
 use Rattle.worm_mesh.proofs.Digits.{AreLarge-from_radices}
 use Rattle.worm_mesh.proofs.Neighbours.{Joins-back, Joins-from, opposite_twice}
 use Rattle.worm_mesh.proofs.Numbers.{below_count}
-use Rattle.worm_wires.specs.Inbox.{AreInboxes, IsFiled, IsInbox, IsTray, IsWay, Kind, come, flits_beyond, inbox_at}
+use Rattle.worm_wires.specs.Inbox.{AreInboxes, IsTray, Kind, come, flits_beyond, inbox_at}
 use Rattle.worm_wires.specs.Inbox.{link_by, links_by, of_credits, of_flits, whole}
 use Rattle.worm_wires.specs.Links.{LinkView, blank_link}
 use Rattle.worm_wires.specs.Wiring.{in_link, out_link}

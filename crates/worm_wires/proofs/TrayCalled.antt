@@ -1,8 +1,8 @@
 -- A port's tray, as a call reads and writes it: the node's inbox is read at one place and written there again, and the
 -- list behind it likewise.
-use Rattle.std.proofs.Common.{◌≡◌, ℕ, ◌<◌, Bool, true, false, List, [], length, get_or, set, Option, Some, None, refl}
+use Rattle.std.proofs.Common.{◌≡◌, ℕ, ◌<◌, Bool, true, false, List, [], length, get_or, set, Option, Some, refl}
 use Rattle.std.proofs.Common.{arith, ap, sym, subst, ◌∙◌}
-use Rattle.std.specs.Prelude.{IsSome, option_map, slice_get}
+use Rattle.std.specs.Prelude.{IsSome, slice_get}
 use Rattle.std.proofs.lemmas.List.{get_or_default, set-get_or}
 use Rattle.worm_flit.specs.SmallSet.{has}
 use Rattle.worm_mesh.specs.Address.{neighbour_of}

@@ -4,7 +4,7 @@ use Rattle.std.proofs.Common.{Some, None, refl, arith, ap, sym, subst, ◌∙◌
 use Rattle.std.specs.Prelude.{is_some, slice_get}
 use Rattle.worm_flit.specs.SmallSet.{has}
 use Rattle.worm_wires.specs.Arrivals.{LinksView, has_front, state_at, with_state}
-use Rattle.worm_wires.specs.Inbox.{AreInboxes, AreSeenAlike, IsFiled, IsWay, Kind, links_by, whole}
+use Rattle.worm_wires.specs.Inbox.{AreInboxes, IsFiled, IsWay, Kind, links_by, whole}
 use Rattle.worm_wires.specs.Links.{LinkView, blank_link}
 use Rattle.worm_wires.specs.declared.inbox.Inbox.{Inbox}
 use Rattle.worm_wires.proofs.Called.{IsCall}
@@ -109,23 +109,23 @@ module _ {A B : Type 0} {kind : Kind A} {other : Kind B} {put : LinkView → Lis
           (kept : other.tray box ≡ other.tray read) (link : LinkView) (same : other.list link ≡ other.list list)
           (room : link.room ≡ list.room)
           (pushed : kind.list link ≡ whole true (slice_get (kind.tray read).front p) (kind.list list) ++ item ∷ [])
-          where
-        behind : IsWay true true (slice_get (kind.tray box).front p) (kind.list link) link.room
-        behind =
-            let first = first_read is call by j list at reads some in
-            subst (λ (l : List A). IsWay true true (slice_get (kind.tray box).front p) l link.room) (sym pushed)
-            (way_more (slice_get (kind.tray box).front p) _ item _ first.0 (filed.first refl ∙ sym first.1))
+        where
+          behind : IsWay true true (slice_get (kind.tray box).front p) (kind.list link) link.room
+          behind =
+              let first = first_read is call by j list at reads some in
+              subst (λ (l : List A). IsWay true true (slice_get (kind.tray box).front p) l link.room) (sym pushed)
+              (way_more (slice_get (kind.tray box).front p) _ item _ first.0 (filed.first refl ∙ sym first.1))
 
-        pub behind_sound : AreInboxes mesh (set lists j link) (set inboxes i box)
-        behind_sound =
-            both_sound is call by j list at reads box true true (slice_get (kind.tray read).front p) filed kept link
-            same room behind
+          pub behind_sound : AreInboxes mesh (set lists j link) (set inboxes i box)
+          behind_sound =
+              both_sound is call by j list at reads box true true (slice_get (kind.tray read).front p) filed kept link
+              same room behind
 
-        pub behind_pushed : record { mesh = mesh; states = links_by mesh (set lists j link) (set inboxes i box) }
-            ≡ with_state now n (put (state_at now n) (kind.list (state_at now n) ++ item ∷ []))
-        behind_pushed =
-            both_seen is call by j list at reads box true true (slice_get (kind.tray read).front p) filed kept link
-            same room behind n _ number
-            (ap (λ (l : List A). whole true (slice_get (kind.tray box).front p) l) pushed
-            ∙ one_behind (slice_get (kind.tray box).front p) _ item
-            ∙ ap (λ (l : List A). l ++ item ∷ []) (sym (seen_read is call by j list at reads n number some)))
+          pub behind_pushed : record { mesh = mesh; states = links_by mesh (set lists j link) (set inboxes i box) }
+              ≡ with_state now n (put (state_at now n) (kind.list (state_at now n) ++ item ∷ []))
+          behind_pushed =
+              both_seen is call by j list at reads box true true (slice_get (kind.tray read).front p) filed kept link
+              same room behind n _ number
+              (ap (λ (l : List A). whole true (slice_get (kind.tray box).front p) l) pushed
+              ∙ one_behind (slice_get (kind.tray box).front p) _ item
+              ∙ ap (λ (l : List A). l ++ item ∷ []) (sym (seen_read is call by j list at reads n number some)))

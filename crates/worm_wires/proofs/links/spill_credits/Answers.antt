@@ -2,7 +2,6 @@ use Rattle.std.proofs.Common.{◌≡◌, ◌∙◌, ℕ, Some, true, ap, arith, 
 use Rattle.std.specs.Prelude.{IsSome, slice_get}
 use Rattle.worm_flit.specs.SmallSet.{has}
 use Rattle.worm_mesh.specs.Address.{neighbour_of}
-use Rattle.worm_mesh.specs.Links.{links_before}
 use Rattle.worm_wires.specs.Inbox.{links_by, of_credits, of_flits}
 use Rattle.worm_wires.specs.Links.{LinkView}
 use Rattle.worm_wires.specs.Wiring.{out_link}

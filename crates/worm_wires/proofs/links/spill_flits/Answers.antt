@@ -1,8 +1,7 @@
 use Rattle.std.proofs.Common.{◌≡◌, ◌∙◌, ℕ, Some, true, ap, arith, refl, sym}
 use Rattle.std.specs.Prelude.{IsSome, slice_get}
 use Rattle.worm_flit.specs.SmallSet.{has}
-use Rattle.worm_mesh.specs.Address.{neighbour_of, opposite_of}
-use Rattle.worm_mesh.specs.Links.{links_before}
+use Rattle.worm_mesh.specs.Address.{neighbour_of}
 use Rattle.worm_wires.specs.Inbox.{links_by, of_credits, of_flits}
 use Rattle.worm_wires.specs.Links.{LinkView}
 use Rattle.worm_wires.specs.Wiring.{in_link}

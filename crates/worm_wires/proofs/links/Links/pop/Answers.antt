@@ -1,4 +1,4 @@
-use Rattle.std.proofs.Common.{◌<◌, false, length, ap, ◌∙◌, arith, rules, sym, refl}
+use Rattle.std.proofs.Common.{◌<◌, length, ap, ◌∙◌, arith, rules, sym, refl}
 use Rattle.worm_wires.specs.Links.{LinkView}
 use Rattle.worm_wires.proofs.Called.{AreNumbers, IsCall, numbers_of}
 use Rattle.worm_wires.proofs.EachKind.{flits_kind}

@@ -1,4 +1,4 @@
-use Rattle.std.proofs.Common.{◌≡◌, List, [], ◌∷◌, ◌++◌, false, true, ap, ◌∙◌, arith, sym, refl}
+use Rattle.std.proofs.Common.{◌≡◌, [], ◌∷◌, ◌++◌, true, ap, ◌∙◌, arith, sym, refl}
 use Rattle.std.specs.Prelude.{slice_get}
 use Rattle.worm_wires.specs.Inbox.{whole}
 use Rattle.worm_wires.specs.Links.{LinkView}

@@ -1,4 +1,4 @@
-use Rattle.std.proofs.Common.{◌≡◌, ◌<◌, length, List, [], ◌∷◌, ◌++◌, false, true, ap, ◌∙◌, arith, rules, sym, refl}
+use Rattle.std.proofs.Common.{◌≡◌, ◌<◌, length, [], ◌∷◌, ◌++◌, true, ap, ◌∙◌, arith, rules, sym, refl}
 use Rattle.std.specs.Prelude.{slice_get}
 use Rattle.worm_wires.specs.Inbox.{whole}
 use Rattle.worm_wires.specs.Links.{LinkView}
