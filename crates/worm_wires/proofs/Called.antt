@@ -46,7 +46,8 @@ module _ {mesh : List ℕ} {lists : List LinkView} {inboxes : List Inbox} {now :
       b.credits.here) inbox_is (set_seen credits_kind mesh lists inboxes call.sound x call.node))
 
 -- a list, as it is read
-pub list_is : (lists : List LinkView) (k j : ℕ) (list : LinkView) → k < length lists → j ≡ k → list ≡ get_or lists j list
+pub list_is : (lists : List LinkView) (k j : ℕ) (list : LinkView) → k < length lists → j ≡ k → list
+    ≡ get_or lists j list
     → list ≡ get_or lists k blank_link
 list_is lists k j list there same reads =
     reads ∙ (λ t. get_or lists (same t) list) ∙ get_or_default lists k list blank_link there

@@ -1,5 +1,5 @@
--- What holds of flits and of credits alike: what is seen of a link, before and after a write of a node's inbox and of the
--- list behind a link.
+-- What holds of flits and of credits alike: what is seen of a link, before and after a write of a node's inbox and of
+-- the list behind a link.
 use Rattle.std.proofs.Common.{◌≡◌, ℕ, ◌*◌, ◌<◌, Bool, true, List, length, length-set, get_or, set, Option, Some}
 use Rattle.std.proofs.Common.{None, refl, arith, ap, sym, ◌∙◌}
 use Rattle.std.specs.Prelude.{IsSome, slice_get, option_map}
@@ -17,7 +17,8 @@ use Rattle.worm_wires.specs.declared.inbox.Inbox.{Inbox}
 use Rattle.worm_wires.proofs.Apart.{back_of, in_once, into_beyond, out_once}
 use Rattle.worm_wires.proofs.ListsWritten.{all_written, entered_in, is_seen, linked_at, rooms_same, same_link}
 use Rattle.worm_wires.proofs.Seen.{credits_at, flits_past, room_at}
-use Rattle.worm_wires.proofs.TraysWritten.{IsLinks, IsWrite, there, come_here, come_other, come_same, tray_kept, tray_written}
+use Rattle.worm_wires.proofs.TraysWritten.{IsLinks, IsWrite, there, come_here, come_other, come_same, tray_kept}
+use Rattle.worm_wires.proofs.TraysWritten.{tray_written}
 use Rattle.worm_wires.proofs.Wired.{port_there}
 
 -- What a write leaves
@@ -180,9 +181,11 @@ module _ (mesh : List ℕ) (links : List LinkView) (inboxes : List Inbox) (are :
       sym (into_beyond mesh z o to.0 are.radices to.1) ∙ e in away (cc) in
       same_link _ _
       (ap (λ (n : Option ℕ). flits_beyond mesh links inboxes o n) to.1
-      ∙ sym (come_other in_links out_links are write to.0 (opposite_of o) (entered_in mesh z o to.0 are.radices to.1) apart)
+      ∙ sym (come_other in_links out_links are write to.0 (opposite_of o)
+      (entered_in mesh z o to.0 are.radices to.1) apart)
       ∙ ap (λ (n : Option ℕ). flits_beyond mesh (set links k link) (set inboxes x box) o n) (sym to.1))
-      (sym (back_same z o)) (sym (rooms_same links k link (there in_links out_links are write) write.room (links_before mesh z o)))
+      (sym (back_same z o)) (sym (rooms_same links k link (there in_links out_links are write) write.room
+      (links_before mesh z o)))
 
   flits_written : IsWritten of_flits (λ l fs. record l { flits = fs }) mesh links inboxes p k (set inboxes x box) box
       link here
@@ -191,7 +194,8 @@ module _ (mesh : List ℕ) (links : List LinkView) (inboxes : List Inbox) (are :
         (tray_written in_links out_links are write) (tray_kept in_links out_links are write);
     seen = all_written mesh links (set links k link) inboxes (set inboxes x box) k _
         (λ z o z_in o_in linked at. flits_here z o linked at)
-        (λ z o z_in o_in linked away. flits_other z o linked away) (is_seen mesh links inboxes k are.all (there in_links out_links are write));
+        (λ z o z_in o_in linked away. flits_other z o linked away)
+        (is_seen mesh links inboxes k are.all (there in_links out_links are write));
   }
 
 pub flits_kind : IsKind of_flits of_credits (λ l fs. record l { flits = fs })

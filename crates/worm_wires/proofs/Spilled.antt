@@ -1,5 +1,6 @@
 -- Ports and nodes whose lists have all that comes in.
-use Rattle.std.proofs.Common.{◌≡◌, ◌≢◌, ℕ, ◌+◌, ◌<◌, true, false, refl, inl, inr, List, set, Option, arith, ap, sym, subst}
+use Rattle.std.proofs.Common.{◌≡◌, ◌≢◌, ℕ, ◌+◌, ◌<◌, true, false, refl, inl, inr, List, set, Option, arith, ap, sym}
+use Rattle.std.proofs.Common.{subst}
 use Rattle.std.proofs.Common.{◌∙◌}
 use Rattle.std.specs.Prelude.{slice_get}
 use Rattle.std.proofs.lemmas.List.{get_or-set_other, get_or-set_same, set-get_or}
@@ -72,7 +73,8 @@ port_more kind other old new x p p_in done before = λ q below. elim (number_cas
 
 -- and of both
 pub port_spilled : (old mid new : List Inbox) (x p : ℕ) → p < 6 → IsPortSpilled of_flits of_credits old mid x p
-    → IsPortSpilled of_credits of_flits mid new x p → AreSpilled (inbox_at old x) p → AreSpilled (inbox_at new x) (p + 1)
+    → IsPortSpilled of_credits of_flits mid new x p → AreSpilled (inbox_at old x) p → AreSpilled (inbox_at new x)
+    (p + 1)
 port_spilled old mid new x p p_in flits credits before = record {
   flits = subst (λ (t : Tray _). IsSpilled t (p + 1)) (sym credits.kept)
       (port_more of_flits of_credits old mid x p p_in flits before.flits);

@@ -7,14 +7,15 @@ use Rattle.std.proofs.lemmas.List.{get_or_default, set-get_or}
 use Rattle.worm_flit.specs.SmallSet.{has}
 use Rattle.worm_mesh.specs.Address.{neighbour_of}
 use Rattle.worm_wires.specs.Arrivals.{LinksView, has_front, on_link, state_at, with_state}
-use Rattle.worm_wires.specs.Inbox.{AreInboxes, AreSeenAlike, IsFiled, IsWay, IsWayOf, Kind, inbox_at, links_by, room_of, whole}
+use Rattle.worm_wires.specs.Inbox.{front_of, AreInboxes, AreSeenAlike, IsFiled, IsWay, IsWayOf, Kind, inbox_at}
+use Rattle.worm_wires.specs.Inbox.{links_by, room_of, whole}
 use Rattle.worm_wires.specs.Links.{LinkView, blank_link}
 use Rattle.worm_wires.specs.declared.inbox.Inbox.{Inbox}
 use Rattle.worm_wires.proofs.Called.{IsCall, inbox_is, list_is}
 use Rattle.worm_wires.proofs.EachKind.{IsKind}
 use Rattle.worm_wires.proofs.TraysWritten.{IsWrite}
 use Rattle.worm_wires.proofs.TraysSeen.{neighbour_some}
-use Rattle.worm_wires.proofs.Ways.{all_listed, comes_by, first_by, not_listed, spilled_way, whole_twice}
+use Rattle.worm_wires.proofs.Ways.{all_listed, comes_by, first_by, front_by, not_listed, spilled_way, whole_twice}
 
 -- a port by which one comes in has a neighbour
 pub linked_read : {A B : Type 0} {kind : Kind A} {other : Kind B} {put : LinkView → List A → LinkView}
@@ -49,12 +50,19 @@ module _ {A B : Type 0} {kind : Kind A} {other : Kind B} {put : LinkView → Lis
 
     -- and what is seen on the link
     pub seen_is : (n : ℕ) → n ≡ k → kind.list (state_at now n)
-        ≡ whole (has (kind.tray read).here p) (slice_get (kind.tray read).front p) (kind.list (get_or lists k blank_link))
+        ≡ whole (has (kind.tray read).here p) (slice_get (kind.tray read).front p)
+        (kind.list (get_or lists k blank_link))
     seen_is n same =
         (λ t. kind.list (state_at (sym call.seen t) (same t)))
         ∙ is.seen mesh lists inboxes call.sound.radices x p k by
         ∙ (λ t. whole (has (kind.tray (inbox_is call t)).here p) (slice_get (kind.tray (inbox_is call t)).front p)
         (on_link kind.list lists (by t)))
+
+    pub front_seen : (n : ℕ) → n ≡ k → slice_get (kind.list (state_at now n)) 0 ≡ front_of (kind.tray read) p
+    front_seen n same =
+        ap (λ (l : List A). slice_get l 0) (seen_is n same)
+        ∙ front_by (has (kind.tray read).here p) (has (kind.tray read).more p) (slice_get (kind.tray read).front p) _ _
+        way
 
     pub room_is : (n : ℕ) → n ≡ k → (state_at now n).room ≡ (get_or lists k blank_link).room
     room_is n same =
@@ -192,6 +200,10 @@ module _ {A B : Type 0} {kind : Kind A} {other : Kind B} {put : LinkView → Lis
           → record { mesh = mesh; states = links_by mesh lists (set inboxes i box) }
           ≡ with_state now n (put (state_at now n) fs)
       inbox_seen n fs same all =
-          (λ t. record { mesh = mesh; states = links_by mesh (sym (set-get_or lists k blank_link) t) (set inboxes i box) })
+          (λ t. record {
+            mesh = mesh;
+            states = links_by mesh (sym (set-get_or lists k blank_link) t)
+                (set inboxes i box);
+          })
           ∙ both_seen k (get_or lists k blank_link) refl stands box here more front filed kept
           (get_or lists k blank_link) refl refl way_now n fs same all

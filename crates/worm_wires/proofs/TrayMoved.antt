@@ -9,7 +9,8 @@ use Rattle.worm_wires.specs.Links.{LinkView, blank_link}
 use Rattle.worm_wires.specs.declared.inbox.Inbox.{Inbox}
 use Rattle.worm_wires.proofs.Called.{IsCall}
 use Rattle.worm_wires.proofs.EachKind.{IsKind}
-use Rattle.worm_wires.proofs.TrayCalled.{both_seen, both_sound, first_read, inbox_seen, inbox_sound, none_listed, room_is}
+use Rattle.worm_wires.proofs.TrayCalled.{both_seen, both_sound, first_read, inbox_seen, inbox_sound, none_listed}
+use Rattle.worm_wires.proofs.TrayCalled.{room_is}
 use Rattle.worm_wires.proofs.TrayCalled.{room_read, seen_is, seen_listed, seen_read, the_list, way}
 use Rattle.worm_wires.proofs.Ways.{alone_dropped, not_here, one_behind, one_pushed, way_alone, way_front, way_more}
 use Rattle.worm_wires.proofs.Ways.{way_none, whole_front}

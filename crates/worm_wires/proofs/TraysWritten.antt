@@ -1,12 +1,14 @@
 -- The trays of one kind, and the lists behind them, after a write of a node's inbox and of the list of a link.
-use Rattle.std.proofs.Common.{◌≡◌, ◌⊎◌, ℕ, ◌<◌, Bool, inl, inr, List, length, get_or, set, Option, Some, refl, arith, ap}
+use Rattle.std.proofs.Common.{◌≡◌, ◌⊎◌, ℕ, ◌<◌, Bool, inl, inr, List, length, get_or, set, Option, Some, refl, arith}
+use Rattle.std.proofs.Common.{ap}
 use Rattle.std.proofs.Common.{sym, subst, ◌∙◌}
 use Rattle.std.specs.Prelude.{IsSome, slice_get}
 use Rattle.worm_mesh.specs.Address.{AreRadices, neighbour_of}
 use Rattle.std.proofs.lemmas.List.{get_or-set_other, get_or-set_same}
 use Rattle.worm_flit.specs.SmallSet.{has}
 use Rattle.worm_wires.specs.Arrivals.{on_link}
-use Rattle.worm_wires.specs.Inbox.{AreInboxes, IsFiled, IsInbox, IsTray, IsWay, IsWayOf, Kind, come, inbox_at, no_inbox, room_of}
+use Rattle.worm_wires.specs.Inbox.{AreInboxes, IsFiled, IsInbox, IsTray, IsWay, IsWayOf, Kind, come, inbox_at}
+use Rattle.worm_wires.specs.Inbox.{no_inbox, room_of}
 use Rattle.worm_wires.specs.Inbox.{whole}
 use Rattle.worm_wires.specs.Links.{LinkView, blank_link}
 use Rattle.worm_wires.specs.declared.inbox.Inbox.{Inbox}
@@ -75,7 +77,8 @@ module _ {A B : Type 0} {kind : Kind A} {other : Kind B} (is : IsLinks kind) (al
   tray_same : (y : ℕ) → other.tray (inbox_at (set inboxes x box) y) ≡ other.tray (inbox_at inboxes y)
   tray_same y = elim (number_cases y x) [
     | inl at ↦
-        ap (λ (v : ℕ). other.tray (inbox_at (set inboxes x box) v)) at.1 ∙ ap (λ (b : Inbox). other.tray b) this ∙ write.kept
+        ap (λ (v : ℕ). other.tray (inbox_at (set inboxes x box) v)) at.1 ∙ ap (λ (b : Inbox). other.tray b) this
+        ∙ write.kept
         ∙ ap (λ (v : ℕ). other.tray (inbox_at inboxes v)) (sym at.1)
     | inr apart ↦ ap (λ (b : Inbox). other.tray b) (get_or-set_other inboxes x y box no_inbox apart.1)
   ]
@@ -91,7 +94,8 @@ module _ {A B : Type 0} {kind : Kind A} {other : Kind B} (is : IsLinks kind) (al
   tray_kept y y_in = λ q q_in.
       way_alike (other.tray (inbox_at inboxes y)) (other.tray (inbox_at (set inboxes x box) y)) q
       (on_link other.list links (other.link mesh y q)) (on_link other.list (set links k link) (other.link mesh y q))
-      (room_of links (other.link mesh y q)) (room_of (set links k link) (other.link mesh y q)) (also.known mesh links y (inbox_at inboxes y) (are.known y y_in) q q_in)
+      (room_of links (other.link mesh y q)) (room_of (set links k link) (other.link mesh y q))
+      (also.known mesh links y (inbox_at inboxes y) (are.known y y_in) q q_in)
       record {
         comes = ap (λ (b : Tray B). has b.here q) (tray_same y);
         listed = ap (λ (b : Tray B). has b.more q) (tray_same y);
@@ -162,7 +166,8 @@ module _ {A B : Type 0} {kind : Kind A} {other : Kind B} (is : IsLinks kind) (al
         (way_same here (has (kind.tray box).here p) more (has (kind.tray box).more p)
         (slice_get (kind.tray box).front p) (slice_get (kind.tray box).front p) (kind.list link)
         (on_link kind.list (set links k link) (kind.link mesh x p)) link.room
-        (room_of (set links k link) (kind.link mesh x p)) write.way write.filed.comes.here write.filed.listed.here refl list_there
+        (room_of (set links k link) (kind.link mesh x p)) write.way write.filed.comes.here write.filed.listed.here refl
+        list_there
         room_there)))
     | inr away ↦
         way_alike (kind.tray (inbox_at inboxes y)) (kind.tray (inbox_at (set inboxes x box) y)) q

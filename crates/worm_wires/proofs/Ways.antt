@@ -37,11 +37,16 @@ first_by true more (Some x) [] room way some = refl
 first_by false more front [] room way some = absurd (cc)
 first_by here more front (x ∷ xs) room way some = sym (way.first refl).1
 
-pub none_by : {A : Type 0} (here more : Bool) (front : Option A) (list : List A) (room : ℕ)
+none_by : {A : Type 0} (here more : Bool) (front : Option A) (list : List A) (room : ℕ)
     → IsWay here more front list room → here ≡ false → slice_get (whole here front list) 0 ≡ None
 none_by true more front list room way none = absurd (cc)
 none_by false more front [] room way none = refl
 none_by false more front (x ∷ xs) room way none = let some = (way.first refl).0 in absurd (cc)
+
+pub front_by : {A : Type 0} (here more : Bool) (front : Option A) (list : List A) (room : ℕ)
+    → IsWay here more front list room → slice_get (whole here front list) 0 ≡ cond here front None
+front_by true more front list room way = first_by true more front list room way refl
+front_by false more front list room way = none_by false more front list room way refl
 
 -- where there is no link, none comes in
 pub unlinked : {A : Type 0} (here more : Bool) (front : Option A) → IsWay here more front [] 0
@@ -136,12 +141,6 @@ pub one_behind : {A : Type 0} (now : Option A) (list : List A) (x : A) → whole
 one_behind now [] x = refl
 one_behind now (y ∷ ys) x = refl
 
--- where one comes in, the inbox has it
-pub front_some : {A : Type 0} (here more : Bool) (front : Option A) (list : List A) (room : ℕ)
-    → IsWay here more front list room → here ≡ true → IsSome front
-front_some here more front [] room way some = (way.alone refl some).1
-front_some here more front (x ∷ xs) room way some = rw (way.first refl).1 refl
-
 got_at : {A : Type 0} (xs : List A) (p : ℕ) (d : A) → IsSome (slice_get xs p) → slice_get xs p ≡ Some (get_or xs p d)
 got_at [] p d some = absurd (cc)
 got_at (x ∷ xs) zero d some = refl
@@ -171,7 +170,8 @@ alone_at true more (Some x) [] room way none (suc i) below row p j d at is = abs
 alone_at true more (Some x) [] room way none zero below row p j d at is = is ∙ got row p j d at (rw (← is) refl)
 
 -- with all that comes in put into its list
-pub spilled_way : {A : Type 0} (more : Bool) (front : Option A) (list : List A) (room : ℕ) → IsWay true more front list room
+pub spilled_way : {A : Type 0} (more : Bool) (front : Option A) (list : List A) (room : ℕ)
+    → IsWay true more front list room
     → IsWay true true front (whole true front list) room
 spilled_way more None [] room way = let some = (way.alone refl refl).1 in absurd (cc)
 spilled_way more (Some x) [] room way = record {

@@ -33,6 +33,10 @@ pub record IsWay {A : Type 0} (here more : Bool) (front : Option A) (list : List
 abbrev pub IsWayOf : {A : Type 0} → Tray A → ℕ → List A → ℕ → Type 0
 IsWayOf tray p list room = IsWay (has tray.here p) (has tray.more p) (slice_get tray.front p) list room
 
+-- the one that comes in next by a port, if one does
+abbrev pub front_of : {A : Type 0} → Tray A → ℕ → Option A
+front_of tray p = cond (has tray.here p) (slice_get tray.front p) None
+
 -- What has changed of a tray: at one port whether one comes in, whether the link has a list of them, and which is the
 -- first.
 pub record IsFiled {A : Type 0} (old new : Tray A) (p : ℕ) (here more : Bool) (front : Option A) : Type 0 where

@@ -1,8 +1,8 @@
 //! The inboxes of the nodes: at each mesh port the flit that comes in next, and the credit that comes back next.
 
-ghost use Rattle.std.specs.Prelude.{◌≡◌, ◌<◌, is_some, slice_get, true};
+ghost use Rattle.std.specs.Prelude.{◌≡◌, ◌<◌, is_some, option_copied, slice_get, true};
 ghost use Rattle.worm_flit.specs.SmallSet.{has};
-ghost use Rattle.worm_wires.specs.Inbox.{IsFiled, IsWayOf, whole};
+ghost use Rattle.worm_wires.specs.Inbox.{IsFiled, IsWayOf, front_of, whole};
 
 use crate::LinkState;
 use std::alloc::{AllocError, Global};
@@ -45,6 +45,20 @@ impl<T: Copy> Tray<T> {
             more: SmallSet::new(),
             front: [blank; 6],
         }
+    }
+
+    /// The one that comes in next by the port, if one does: where it lies, since what takes it asks first whether there
+    /// is room for it.
+    #[inline(always)]
+    pub(crate) fn front_at(&self, port: u8) -> Option<&T>
+        requires { port < 6 }
+        ensures value { option_copied result ≡ front_of self.now port }
+        ensures variant { is_some result ≡ is_some (front_of self.now port) }
+    {
+        if !self.here.contains(port) {
+            return None;
+        }
+        Some(&self.front[usize::from(port)])
     }
 
     /// Files which one comes in next by the port, if one does, and whether the link has a list of them.

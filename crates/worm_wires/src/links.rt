@@ -203,11 +203,7 @@ impl Links {
         ensures variant { is_some result
             ≡ is_some (slice_get (state_at self.now (number_into self.now node port)).flits 0) }
     {
-        let here = &self.inboxes[usize::from(node)];
-        if !here.flits.here.contains(port) {
-            return None;
-        }
-        Some(&here.flits.front[usize::from(port)])
+        self.inboxes[usize::from(node)].flits.front_at(port)
     }
 
     /// The channel of the credit that comes back next over the link out of this port, if there is one.
@@ -215,11 +211,10 @@ impl Links {
         requires { IsSome (neighbour_of self.now.mesh node port) }
         ensures { result ≡ slice_get (state_at self.now (number_out self.now node port)).credits 0 }
     {
-        let here = &self.inboxes[usize::from(node)];
-        if !here.credits.here.contains(port) {
-            return None;
-        }
-        Some(here.credits.front[usize::from(port)])
+        self.inboxes[usize::from(node)]
+            .credits
+            .front_at(port)
+            .copied()
     }
 
     /// Whether a flit is on the link out of this port.

@@ -9,7 +9,8 @@ use Rattle.worm_wires.proofs.links.inbox_of.Goals as goal
 
 pub loop-port-init : goal.loop-port-init
 loop-port-init c = record {
-  flits = filled_none c.new-inbox.result.flits (λ p. flits_of c.args.lists.now (in_link c.args.wiring.now c.args.node p))
+  flits = filled_none c.new-inbox.result.flits (λ p. flits_of c.args.lists.now
+      (in_link c.args.wiring.now c.args.node p))
       c.new-inbox.ensures.flits c.new-inbox.ensures.more_flits;
   credits = filled_none c.new-inbox.result.credits
       (λ o. credits_of c.args.lists.now (out_link c.args.wiring.now c.args.node o)) c.new-inbox.ensures.credits

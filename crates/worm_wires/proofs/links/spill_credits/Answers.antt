@@ -54,14 +54,16 @@ returns-then-contains-clause-kept c =
     (linked before (sym c.contains.ensures ∙ c.if-contains.true)) in
     let done = c.spill_credits.ensures in
     spilled_alike credits_kind (call before) link c.from-then-contains.result c.index_mut.result.now refl
-    c.index_mut.ensures.value c.spill_credits.new.self done.filed done.kept (sym c.contains.ensures ∙ c.if-contains.true)
+    c.index_mut.ensures.value c.spill_credits.new.self done.filed done.kept
+    (sym c.contains.ensures ∙ c.if-contains.true)
     c.spill_credits.new.link (ap (λ (l : LinkView). l.flits) done.link) (ap (λ (l : LinkView). l.room) done.link)
     (ap (λ (l : LinkView). l.credits) done.link)
 
 pub returns-then-contains-clause-spilled : goal.returns-then-contains-clause-spilled
 returns-then-contains-clause-spilled c =
     port_put of_credits of_flits (call (goal.at.returns-then-contains-clause-spilled c).After-contains) c.args.port
-    c.spill_credits.new.self (slice_get c.index_mut-here.result.now.credits.front c.args.port) c.spill_credits.ensures.filed
+    c.spill_credits.new.self (slice_get c.index_mut-here.result.now.credits.front c.args.port)
+    c.spill_credits.ensures.filed
     c.spill_credits.ensures.kept
 
 pub returns-else-contains-clause-spilled : goal.returns-else-contains-clause-spilled

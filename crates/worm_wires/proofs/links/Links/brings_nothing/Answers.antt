@@ -23,7 +23,8 @@ past_few c =
 pub returns-then-is_empty-clause-flits : goal.returns-then-is_empty-clause-flits
 returns-then-is_empty-clause-flits c = λ nothing.
     let before = (goal.at.returns-then-is_empty-clause-flits c).After-index-here in
-    none_come (flits_to c.args.self.now c.args.node) c.index-here.result.now.flits.here (2 * length c.args.self.now.mesh)
+    none_come (flits_to c.args.self.now c.args.node) c.index-here.result.now.flits.here
+    (2 * length c.args.self.now.mesh)
     (flits_read (call before)) (past_few before) (flits_past c.args.self.now c.args.node)
     (sym c.is_empty.ensures.value ∙ c.if-is_empty.true)
 
@@ -31,16 +32,20 @@ pub returns-then-is_empty-clause-credits : goal.returns-then-is_empty-clause-cre
 returns-then-is_empty-clause-credits c = λ nothing.
     let before = (goal.at.returns-then-is_empty-clause-credits c).After-index-here in
     none_come (credits_to c.args.self.now c.args.node) c.index-here.result.now.credits.here
-    (2 * length c.args.self.now.mesh) (credits_read (call before)) (past_few before) (credits_past c.args.self.now c.args.node)
+    (2 * length c.args.self.now.mesh) (credits_read (call before)) (past_few before)
+    (credits_past c.args.self.now c.args.node)
     (sym c.is_empty-then-is_empty.ensures.value ∙ true_of c.is_empty-then-is_empty.result nothing)
 
 pub returns-then-is_empty-clause-nothing : goal.returns-then-is_empty-clause-nothing
 returns-then-is_empty-clause-nothing c = λ no_flits no_credits.
-    come_by (credits_to c.args.self.now c.args.node) c.index-here.result.now.credits.here c.is_empty-then-is_empty.result
-    (credits_read (call (goal.at.returns-then-is_empty-clause-nothing c).After-index-here)) c.is_empty-then-is_empty.ensures.some
+    come_by (credits_to c.args.self.now c.args.node) c.index-here.result.now.credits.here
+    c.is_empty-then-is_empty.result
+    (credits_read (call (goal.at.returns-then-is_empty-clause-nothing c).After-index-here))
+    c.is_empty-then-is_empty.ensures.some
     no_credits
 
 pub returns-else-is_empty-clause-nothing : goal.returns-else-is_empty-clause-nothing
 returns-else-is_empty-clause-nothing c = λ no_flits no_credits.
     come_by (flits_to c.args.self.now c.args.node) c.index-here.result.now.flits.here c.is_empty.result
-    (flits_read (call (goal.at.returns-else-is_empty-clause-nothing c).After-index-here)) c.is_empty.ensures.some no_flits
+    (flits_read (call (goal.at.returns-else-is_empty-clause-nothing c).After-index-here)) c.is_empty.ensures.some
+    no_flits

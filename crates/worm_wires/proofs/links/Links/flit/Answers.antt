@@ -58,5 +58,6 @@ returns c =
     ap (λ (fs : List Flit). slice_get fs c.args.i) seen
     ∙ alone_at (has read.flits.here port) (has read.flits.more port) (slice_get read.flits.front port) _ _
     (way flits_kind (call before) link)
-    (sym c.contains.ensures ∙ c.if-contains.false) c.args.i (omega (arith, c.requires.place, long)) read.flits.front port
+    (sym c.contains.ensures ∙ c.if-contains.false) c.args.i (omega (arith, c.requires.place, long)) read.flits.front
+    port
     c.from-2.result _ c.from-2.ensures refl

@@ -52,7 +52,8 @@ invariant_of-self-2 c =
     let before = (goal.at.invariant_of-self-2 c).After-contains in
     left_sound credits_kind (call before) (numbers before).out_here _ (numbers before).out_now c.from-2.result
     c.index_mut-list.result.now c.from-2.ensures c.index_mut-list.ensures.value
-    (sym c.contains.ensures ∙ c.if-not-contains.false) c.pop_credit.new.self (ap (λ (l : LinkView). l.flits) c.pop_credit.ensures)
+    (sym c.contains.ensures ∙ c.if-not-contains.false) c.pop_credit.new.self
+    (ap (λ (l : LinkView). l.flits) c.pop_credit.ensures)
     (ap (λ (l : LinkView). l.room) c.pop_credit.ensures) (ap (λ (l : LinkView). l.credits) c.pop_credit.ensures)
     (record c.index_mut-here.result.now { credits = c.file-2.new.self }) c.is_some.result c.front_credit-front.result
     c.front_credit-front.ensures c.is_some.ensures c.file-2.ensures refl
@@ -62,7 +63,8 @@ returns c =
     let before = (goal.at.returns c).After-contains in
     left_popped credits_kind (call before) (numbers before).out_here _ (numbers before).out_now c.from-2.result
     c.index_mut-list.result.now c.from-2.ensures c.index_mut-list.ensures.value
-    (sym c.contains.ensures ∙ c.if-not-contains.false) c.pop_credit.new.self (ap (λ (l : LinkView). l.flits) c.pop_credit.ensures)
+    (sym c.contains.ensures ∙ c.if-not-contains.false) c.pop_credit.new.self
+    (ap (λ (l : LinkView). l.flits) c.pop_credit.ensures)
     (ap (λ (l : LinkView). l.room) c.pop_credit.ensures) (ap (λ (l : LinkView). l.credits) c.pop_credit.ensures)
     (record c.index_mut-here.result.now { credits = c.file-2.new.self }) c.is_some.result c.front_credit-front.result
     c.front_credit-front.ensures c.is_some.ensures c.file-2.ensures refl

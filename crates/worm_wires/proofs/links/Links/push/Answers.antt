@@ -9,7 +9,8 @@ use Rattle.worm_wires.proofs.TrayMoved.{alone_pushed, alone_sound, behind_pushed
 use Rattle.worm_wires.proofs.links.Links.push.Goals as goal
 use Rattle.worm_wires.proofs.links.Links.push.Goals.{After-contains, After-self-3-1}
 
-numbers : (c : After-contains) → AreNumbers c.self.inside.wiring c.args.self.now c.args.node c.args.port c.links_beyond-links.result
+numbers : (c : After-contains) → AreNumbers c.self.inside.wiring c.args.self.now c.args.node c.args.port
+    c.links_beyond-links.result
 numbers c =
     numbers_by c.self.inside.wiring _ c.args.self.now c.args.node c.args.port c.links_beyond-links.result
     c.self.invariant.radices c.self.view_is c.links_beyond-links.ensures.value
@@ -45,7 +46,8 @@ returns-then-not-contains c =
 pub spill_flits-requires-clause-way : goal.spill_flits-requires-clause-way
 spill_flits-requires-clause-way c =
     let before = (goal.at.spill_flits-requires-clause-way c).After-contains in
-    way_read flits_kind (call before) (numbers before).in_beyond c.from-2.result c.index_mut-list.result.now c.from-2.ensures
+    way_read flits_kind (call before) (numbers before).in_beyond c.from-2.result c.index_mut-list.result.now
+    c.from-2.ensures
     c.index_mut-list.ensures.value
 
 pub push-requires : goal.push-requires
@@ -54,10 +56,12 @@ push-requires c =
     fits_behind flits_kind (call before) (numbers before).in_beyond _ (numbers before).out_now c.from-2.result
     c.index_mut-list.result.now c.from-2.ensures c.index_mut-list.ensures.value
     (sym c.contains.ensures ∙ c.if-not-contains.false) c.requires.room c.spill_flits.new.link
-    (ap (λ (l : LinkView). l.flits) c.spill_flits.ensures.link) (ap (λ (l : LinkView). l.room) c.spill_flits.ensures.link)
+    (ap (λ (l : LinkView). l.flits) c.spill_flits.ensures.link)
+    (ap (λ (l : LinkView). l.room) c.spill_flits.ensures.link)
 
 pushed : (c : After-self-3-1) → c.push.new.self.flits
-    ≡ whole true (slice_get c.index_mut-there.result.now.flits.front c.links_beyond-links.result.entered) c.index_mut-list.result.now.flits
+    ≡ whole true (slice_get c.index_mut-there.result.now.flits.front c.links_beyond-links.result.entered)
+    c.index_mut-list.result.now.flits
     ++ c.args.flit ∷ []
 pushed c =
     ap (λ (l : LinkView). l.flits) c.push.ensures

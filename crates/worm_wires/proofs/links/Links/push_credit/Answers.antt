@@ -52,7 +52,8 @@ index_mut-list-requires c =
 pub spill_credits-requires-clause-way : goal.spill_credits-requires-clause-way
 spill_credits-requires-clause-way c =
     let before = (goal.at.spill_credits-requires-clause-way c).After-contains in
-    way_read credits_kind (call before) (numbers before).out_beyond c.from-2.result c.index_mut-list.result.now c.from-2.ensures
+    way_read credits_kind (call before) (numbers before).out_beyond c.from-2.result c.index_mut-list.result.now
+    c.from-2.ensures
     c.index_mut-list.ensures.value
 
 pub push_credit-requires : goal.push_credit-requires
@@ -61,10 +62,12 @@ push_credit-requires c =
     fits_behind credits_kind (call before) (numbers before).out_beyond _ (numbers before).into_now c.from-2.result
     c.index_mut-list.result.now c.from-2.ensures c.index_mut-list.ensures.value
     (sym c.contains.ensures ∙ c.if-not-contains.false) c.requires.room c.spill_credits.new.link
-    (ap (λ (l : LinkView). l.credits) c.spill_credits.ensures.link) (ap (λ (l : LinkView). l.room) c.spill_credits.ensures.link)
+    (ap (λ (l : LinkView). l.credits) c.spill_credits.ensures.link)
+    (ap (λ (l : LinkView). l.room) c.spill_credits.ensures.link)
 
 pushed : (c : After-self-3-1) → c.push_credit.new.self.credits
-    ≡ whole true (slice_get c.index_mut-there.result.now.credits.front c.args.links.entered) c.index_mut-list.result.now.credits
+    ≡ whole true (slice_get c.index_mut-there.result.now.credits.front c.args.links.entered)
+    c.index_mut-list.result.now.credits
     ++ c.args.vc ∷ []
 pushed c =
     ap (λ (l : LinkView). l.credits) c.push_credit.ensures
@@ -75,7 +78,8 @@ others c =
     ap (λ (l : LinkView). l.flits) c.push_credit.ensures ∙ ap (λ (l : LinkView). l.flits) c.spill_credits.ensures.link
 
 room : (c : After-self-3-1) → c.push_credit.new.self.room ≡ c.index_mut-list.result.now.room
-room c = ap (λ (l : LinkView). l.room) c.push_credit.ensures ∙ ap (λ (l : LinkView). l.room) c.spill_credits.ensures.link
+room c = ap (λ (l : LinkView). l.room) c.push_credit.ensures ∙ ap
+    (λ (l : LinkView). l.room) c.spill_credits.ensures.link
 
 pub invariant_of-self-2 : goal.invariant_of-self-2
 invariant_of-self-2 c =
