@@ -63,10 +63,6 @@ linked_now mesh states now x p links same linked =
 
 -- what a call is told of the links of a port
 pub record AreNumbers (mesh : List ℕ) (now : LinksView) (x p : ℕ) (links : PortLinks) : Type 0 where
-  pub linked : neighbour_of mesh x p ≡ Some links.beyond
-  pub entered : links.entered ≡ opposite_of p
-  pub out : links.out ≡ links_before mesh x p
-  pub into : links.into ≡ links_before mesh links.beyond (opposite_of p)
   -- by what is seen
   pub out_now : number_out now x p ≡ links.out
   pub into_now : number_into now x p ≡ links.into
@@ -86,10 +82,6 @@ numbers_by mesh states now x p links radices same linked =
     let out : links.out ≡ links_before mesh x p = ap (λ (l : PortLinks). l.out) these.1 in
     let into : links.into ≡ links_before mesh links.beyond (opposite_of p) = ap (λ (l : PortLinks). l.into) these.1 in
     record {
-      linked = these.0;
-      entered = entered;
-      out = out;
-      into = into;
       out_now = ap (λ (l : LinksView). number_out l x p) (sym same) ∙ sym numbers.0;
       into_now = ap (λ (l : LinksView). number_into l x p) (sym same) ∙ sym numbers.1;
       in_here =
