@@ -116,11 +116,11 @@ impl Fabric {
         self.links.wiring().terminal()
     }
 
-    /// Moves the front of the link into a port, whose links are these, to the buffer of its channel (Dally and Towles,
+    /// Moves the front of the link into a port to the buffer of its channel (Dally and Towles,
     /// chapter 13).
-    pub(crate) fn take_flit(&mut self, node: u8, port: u8, links: PortLinks) -> bool
+    pub(crate) fn take_flit(&mut self, node: u8, port: u8) -> bool
         requires node { node < length self.old.nodes }
-        requires ports { Some links ≡ port_links self.old.mesh node port }
+        requires linked { IsSome (neighbour_of self.old.mesh node port) }
         requires front { FrontFits (router_at self.old node) port (front_into self.old node port) }
         ensures enabled { result ≡ can_enter (router_at self.old node) port (front_into self.old node port) }
         ensures after { self.new ≡ (if result then after_take self.old node port (link_into self.old node port)
@@ -133,7 +133,7 @@ impl Fabric {
         if !self.nodes.router_mut(node).accept_copy(port, flit) {
             return false;
         }
-        self.links.pop(node, port, links);
+        self.links.pop(node, port);
         true
     }
 
@@ -178,7 +178,9 @@ impl Fabric {
             if !self.is_home(node, port, vc) {
                 return Ok(Moved::Idle);
             }
-            if !self.nodes.deliver(node, port, vc, out, flit) {
+            // It is read once more, so that the compiler keeps what goes over a link out of memory.
+            let (_, arrived) = self.node(node).router.next_out(port, vc);
+            if !self.nodes.deliver(node, port, vc, out, arrived) {
                 return Err(StepFault::NoMemory);
             }
             return Ok(Moved::Done);
@@ -188,26 +190,25 @@ impl Fabric {
         Ok(Moved::Done)
     }
 
-    /// Gives a credit that the input channel owes to the link into its port, whose links are these (Dally and Towles,
-    /// chapter 13).
+    /// Gives a credit that the input channel owes to the link into its port (Dally and Towles, chapter 13).
     #[inline(always)]
-    pub(crate) fn give_credit(&mut self, node: u8, port: u8, vc: u8, links: PortLinks)
+    pub(crate) fn give_credit(&mut self, node: u8, port: u8, vc: u8)
         requires place { IsNetPlace self.old node port vc }
-        requires ports { Some links ≡ port_links self.old.mesh node port }
+        requires linked { IsSome (neighbour_of self.old.mesh node port) }
         requires owed { 0 < (input_at (router_at self.old node) port vc).owed }
         requires room { length (link_at self.old (link_into self.old node port)).credits <
             (link_at self.old (link_into self.old node port)).room }
         ensures { self.new ≡ after_giving self.old node port vc (link_into self.old node port) }
     {
         self.router_mut(node).gave(port, vc);
-        self.links.push_credit(node, port, links, vc);
+        self.links.push_credit(node, port, vc);
     }
 
-    /// Takes the front credit of the link out of this port, whose links are these, into its channel's count (Dally and
+    /// Takes the front credit of the link out of this port into its channel's count (Dally and
     /// Towles, chapter 13).
-    pub(crate) fn take_credit(&mut self, node: u8, port: u8, links: PortLinks) -> bool
+    pub(crate) fn take_credit(&mut self, node: u8, port: u8) -> bool
         requires node { node < length self.old.nodes }
-        requires ports { Some links ≡ port_links self.old.mesh node port }
+        requires linked { IsSome (neighbour_of self.old.mesh node port) }
         requires front { CreditFits (router_at self.old node) port (front_credit self.old node port) }
         ensures enabled { result ≡ can_get (router_at self.old node) port (front_credit self.old node port) }
         ensures after { self.new ≡ (if result then after_getting self.old node port
@@ -219,7 +220,7 @@ impl Fabric {
         if self.router_mut(node).credit(port, vc).is_err() {
             return false;
         }
-        self.links.pop_credit(node, port, links);
+        self.links.pop_credit(node, port);
         true
     }
 

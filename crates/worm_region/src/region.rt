@@ -353,8 +353,7 @@ impl Region {
         requires { IsSome (neighbour_of self.old.mesh node port) }
         ensures { Replies self.old (Event.Take node port) (Ok (moved_of result)) self.new }
     {
-        let links = self.fabric.wires().links_beyond(node, port);
-        self.fabric.take_flit(node, port, links)
+        self.fabric.take_flit(node, port)
     }
 
     fn give_credit(&mut self, node: u8, port: u8, vc: u8) -> Result<Moved, StepFault>
@@ -379,8 +378,7 @@ impl Region {
         requires within { EndsWithin (shape self.old) (owned self.old) node port }
         ensures { Replies self.old (Event.GiveCredit node port vc) (Ok Done) self.new }
     {
-        let links = self.fabric.wires().links_beyond(node, port);
-        self.fabric.give_credit(node, port, vc, links);
+        self.fabric.give_credit(node, port, vc);
     }
 
     pub(crate) fn take_credit(&mut self, node: u8, port: u8) -> Result<Moved, StepFault>
@@ -397,8 +395,7 @@ impl Region {
         requires { IsSome (neighbour_of self.old.mesh node port) }
         ensures { Replies self.old (Event.TakeCredit node port) (Ok (moved_of result)) self.new }
     {
-        let links = self.fabric.wires().links_beyond(node, port);
-        self.fabric.take_credit(node, port, links)
+        self.fabric.take_credit(node, port)
     }
 
     /// One step, where all nodes are owned.

@@ -128,3 +128,20 @@ pub linked_of : (mesh : List ℕ) (states : List LinkView) (now : LinksView) (x 
 linked_of mesh states now x p same some =
     linked_by mesh states now x p same (neighbour_of mesh x p) refl
     (subst (λ (l : LinksView). IsSome (neighbour_of l.mesh x p)) (sym same) some)
+
+-- and the port that is entered beyond it
+pub record IsBeyond (mesh : List ℕ) (now : LinksView) (x p y q : ℕ) : Type 0 where
+  pub into : in_link mesh y q ≡ Some (number_out now x p)
+  pub out : out_link mesh y q ≡ Some (number_into now x p)
+
+pub beyond_of : (mesh : List ℕ) (states : List LinkView) (now : LinksView) (x p y q : ℕ) → AreRadices mesh
+    → record { mesh = mesh; states = states } ≡ now → Some y ≡ neighbour_of mesh x p → q ≡ opposite_of p
+    → IsBeyond mesh now x p y q
+beyond_of mesh states now x p y q radices same e entered = record {
+  into = ap (λ (o : ℕ). in_link mesh y o) entered ∙ into_beyond mesh x p y radices (sym e)
+      ∙ ap (λ (l : LinksView). Some (number_out l x p)) same;
+  out = ap (λ (o : ℕ). out_link mesh y o) entered
+      ∙ ap (λ (n : Option ℕ). option_map (λ z. links_before mesh y (opposite_of p)) n)
+      (back_of mesh x p y radices (sym e))
+      ∙ ap (λ (n : Option ℕ). Some (into_from mesh p n)) e ∙ ap (λ (l : LinksView). Some (number_into l x p)) same;
+}

@@ -15,7 +15,8 @@ use Rattle.worm_wires.proofs.Called.{IsCall, inbox_is, list_is}
 use Rattle.worm_wires.proofs.EachKind.{IsKind}
 use Rattle.worm_wires.proofs.TraysWritten.{IsWrite}
 use Rattle.worm_wires.proofs.TraysSeen.{neighbour_some}
-use Rattle.worm_wires.proofs.Ways.{all_listed, comes_by, first_by, front_by, not_listed, spilled_way, whole_twice}
+use Rattle.worm_wires.proofs.Ways.{not_here, all_listed, comes_by, first_by, front_by, not_listed, spilled_way}
+use Rattle.worm_wires.proofs.Ways.{whole_twice}
 
 -- a port by which one comes in has a neighbour
 pub linked_read : {A B : Type 0} {kind : Kind A} {other : Kind B} {put : LinkView → List A → LinkView}
@@ -47,6 +48,14 @@ module _ {A B : Type 0} {kind : Kind A} {other : Kind B} {put : LinkView → Lis
     none_listed none =
         not_listed (has (kind.tray read).here p) (has (kind.tray read).more p) (slice_get (kind.tray read).front p) _
         (get_or lists k blank_link).room way none
+
+    -- a port by which none comes in has no list
+    pub none_more : has (kind.tray read).here p ≡ false → has (kind.tray read).more p ≡ false
+    none_more none =
+        way.listed
+        ∙ ap (λ (l : List A). has_front l)
+        (not_here (has (kind.tray read).here p) (has (kind.tray read).more p) (slice_get (kind.tray read).front p) _
+        (get_or lists k blank_link).room way none)
 
     -- and what is seen on the link
     pub seen_is : (n : ℕ) → n ≡ k → kind.list (state_at now n)

@@ -1,6 +1,6 @@
 //! The inboxes of the nodes: at each mesh port the flit that comes in next, and the credit that comes back next.
 
-ghost use Rattle.std.specs.Prelude.{◌≡◌, ◌<◌, is_some, option_copied, slice_get, true};
+ghost use Rattle.std.specs.Prelude.{◌≡◌, ◌<◌, is_some, option_copied, slice_get, true, None, Some, false};
 ghost use Rattle.worm_flit.specs.SmallSet.{has};
 ghost use Rattle.worm_wires.specs.Inbox.{IsFiled, IsWayOf, front_of, whole};
 
@@ -59,6 +59,27 @@ impl<T: Copy> Tray<T> {
             return None;
         }
         Some(&self.front[usize::from(port)])
+    }
+
+    /// One comes in by the port, by which none did.
+    #[inline(always)]
+    pub(crate) fn put(&mut self, port: u8, item: T)
+        requires port { port < 6 }
+        requires alone { has self.old.more port ≡ false }
+        ensures { IsFiled self.old self.new port true false (Some item) }
+    {
+        self.here.put(port, true);
+        self.front[usize::from(port)] = item;
+    }
+
+    /// The one that came in by the port, alone, is taken.
+    #[inline(always)]
+    pub(crate) fn take(&mut self, port: u8)
+        requires port { port < 6 }
+        requires alone { has self.old.more port ≡ false }
+        ensures { IsFiled self.old self.new port false false None }
+    {
+        self.here.put(port, false);
     }
 
     /// Files which one comes in next by the port, if one does, and whether the link has a list of them.

@@ -288,19 +288,20 @@ impl Links {
         self.wiring.links_beyond(node, port)
     }
 
-    /// Drops the front flit of the link into this port, whose links are these.
-    pub fn pop(&mut self, node: u8, port: u8, links: PortLinks)
-        requires { Some links ≡ port_links self.old.mesh node port }
+    /// Drops the front flit of the link into this port.
+    pub fn pop(&mut self, node: u8, port: u8)
+        requires { IsSome (neighbour_of self.old.mesh node port) }
         ensures { self.new ≡ with_state self.old (number_into self.old node port)
             (record (state_at self.old (number_into self.old node port))
             { flits = drop 1 (state_at self.old (number_into self.old node port)).flits }) }
     {
         let here = &mut self.inboxes[usize::from(node)];
         if !here.flits.more.contains(port) {
-            here.flits.file(port, false, None);
+            here.flits.take(port);
             return;
         }
-        let list = &mut self.lists[usize::from(links.into)];
+        let number = self.wiring.links_beyond(node, port).into;
+        let list = &mut self.lists[usize::from(number)];
         list.pop();
         let front = list.front().copied();
         here.flits.file(port, front.is_some(), front);
@@ -315,51 +316,57 @@ impl Links {
             (record (state_at self.old (number_out self.old node port))
             { flits = (state_at self.old (number_out self.old node port)).flits ++ flit ∷ [] }) }
     {
-        let links = self.wiring.links_beyond(node, port);
-        let there = &mut self.inboxes[usize::from(links.beyond)];
-        if !there.flits.here.contains(links.entered) {
-            there.flits.file(links.entered, false, Some(flit));
+        let beyond = self.wiring.beyond(node, port);
+        let entered = self.wiring.entered(node, port);
+        let there = &mut self.inboxes[usize::from(beyond)];
+        if !there.flits.here.contains(entered) {
+            there.flits.put(entered, flit);
             return;
         }
-        let list = &mut self.lists[usize::from(links.out)];
-        there.spill_flits(links.entered, list);
+        let number = self.wiring.links_beyond(node, port).out;
+        let list = &mut self.lists[usize::from(number)];
+        there.spill_flits(entered, list);
         list.push(flit);
     }
 
-    /// Drops the front credit of the link out of this port, whose links are these.
-    pub fn pop_credit(&mut self, node: u8, port: u8, links: PortLinks)
-        requires { Some links ≡ port_links self.old.mesh node port }
+    /// Drops the front credit of the link out of this port.
+    pub fn pop_credit(&mut self, node: u8, port: u8)
+        requires { IsSome (neighbour_of self.old.mesh node port) }
         ensures { self.new ≡ with_state self.old (number_out self.old node port)
             (record (state_at self.old (number_out self.old node port))
             { credits = drop 1 (state_at self.old (number_out self.old node port)).credits }) }
     {
         let here = &mut self.inboxes[usize::from(node)];
         if !here.credits.more.contains(port) {
-            here.credits.file(port, false, None);
+            here.credits.take(port);
             return;
         }
-        let list = &mut self.lists[usize::from(links.out)];
+        let number = self.wiring.links_beyond(node, port).out;
+        let list = &mut self.lists[usize::from(number)];
         list.pop_credit();
         let front = list.front_credit();
         here.credits.file(port, front.is_some(), front);
     }
 
-    /// Puts a credit of the channel at the end of the credits of the link into this port, whose links are these.
-    pub fn push_credit(&mut self, node: u8, port: u8, links: PortLinks, vc: u8)
-        requires ports { Some links ≡ port_links self.old.mesh node port }
+    /// Puts a credit of the channel at the end of the credits of the link into this port.
+    pub fn push_credit(&mut self, node: u8, port: u8, vc: u8)
+        requires linked { IsSome (neighbour_of self.old.mesh node port) }
         requires room { length (state_at self.old (number_into self.old node port)).credits
             < (state_at self.old (number_into self.old node port)).room }
         ensures { self.new ≡ with_state self.old (number_into self.old node port)
             (record (state_at self.old (number_into self.old node port))
             { credits = (state_at self.old (number_into self.old node port)).credits ++ vc ∷ [] }) }
     {
-        let there = &mut self.inboxes[usize::from(links.beyond)];
-        if !there.credits.here.contains(links.entered) {
-            there.credits.file(links.entered, false, Some(vc));
+        let beyond = self.wiring.beyond(node, port);
+        let entered = self.wiring.entered(node, port);
+        let there = &mut self.inboxes[usize::from(beyond)];
+        if !there.credits.here.contains(entered) {
+            there.credits.put(entered, vc);
             return;
         }
-        let list = &mut self.lists[usize::from(links.into)];
-        there.spill_credits(links.entered, list);
+        let number = self.wiring.links_beyond(node, port).into;
+        let list = &mut self.lists[usize::from(number)];
+        there.spill_credits(entered, list);
         list.push_credit(vc);
     }
 }

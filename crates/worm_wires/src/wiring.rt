@@ -1,7 +1,7 @@
 //! A mesh with the numbers of its links kept by node and port, so that no step searches for a link.
 
 ghost use Rattle.std.specs.Prelude.{◌≡◌, ◌<◌, ◌≤◌, ◌*◌, ℕ, IfSome, IsSome, Some, length};
-ghost use Rattle.worm_mesh.specs.Address.{AreRadices, neighbour_of, node_count, stride_of};
+ghost use Rattle.worm_mesh.specs.Address.{AreRadices, neighbour_of, node_count, opposite_of, stride_of};
 ghost use Rattle.worm_mesh.specs.Links.{link_count, links_before};
 ghost use Rattle.worm_wires.specs.Wiring.{AreLinksOf, AreSteps, in_link, into_from, kept_number, out_link};
 ghost use Rattle.worm_wires.specs.Wiring.{port_links};
@@ -165,13 +165,25 @@ impl Wiring {
     }
 
     /// The node beyond a port that has a neighbour.
-    fn beyond(&self, node: u8, port: u8) -> u8
+    pub(crate) fn beyond(&self, node: u8, port: u8) -> u8
         requires { IsSome (neighbour_of self.now node port) }
         ensures { Some result ≡ neighbour_of self.now node port }
     {
         // For the proof: a mesh has radices within their limits.
         let _nodes = self.mesh.nodes();
         node.wrapping_add(self.steps[usize::from(port)])
+    }
+
+    /// The port by which the node beyond a port that has a neighbour is entered.
+    pub(crate) fn entered(&self, node: u8, port: u8) -> u8
+        requires { IsSome (neighbour_of self.now node port) }
+        ensures value { result ≡ opposite_of port }
+        ensures mesh_port { result < 6 }
+    {
+        // For the proof: a mesh has radices within their limits.
+        let _nodes = self.mesh.nodes();
+        let _there = self.beyond(node, port);
+        self.mesh.opposite(port)
     }
 
     /// The links of a port that has a neighbour, where this is the number of the one out of it.
@@ -183,7 +195,7 @@ impl Wiring {
         // For the proof: a mesh has radices within their limits.
         let _nodes = self.mesh.nodes();
         let beyond = self.beyond(node, port);
-        let entered = self.mesh.opposite(port);
+        let entered = self.entered(node, port);
         let into = self.kept(beyond, entered);
         PortLinks {
             beyond,

@@ -84,7 +84,6 @@ impl Region {
         requires channel { vc < sum self.old.channels }
         ensures { ComesBack self.old node port vc self.new }
     {
-        let links = self.fabric.wires().links_beyond(node, port);
-        self.fabric.links.push_credit(node, port, links, vc);
+        self.fabric.links.push_credit(node, port, vc);
     }
 }

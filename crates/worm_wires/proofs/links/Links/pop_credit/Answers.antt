@@ -1,16 +1,15 @@
-use Rattle.std.proofs.Common.{◌<◌, length, ap, ◌∙◌, arith, rules, sym, refl}
+use Rattle.std.proofs.Common.{◌≡◌, ◌<◌, length, ap, ◌∙◌, arith, rules, sym, refl}
+use Rattle.worm_wires.specs.Arrivals.{number_out}
 use Rattle.worm_wires.specs.Links.{LinkView}
-use Rattle.worm_wires.proofs.Called.{AreNumbers, IsCall, numbers_of}
+use Rattle.worm_wires.proofs.Called.{IsCall, IsLinked, linked_of, numbers_by}
 use Rattle.worm_wires.proofs.EachKind.{credits_kind}
 use Rattle.worm_wires.proofs.TrayCalled.{there}
 use Rattle.worm_wires.proofs.TrayMoved.{left_popped, left_sound, lone_popped, lone_sound}
 use Rattle.worm_wires.proofs.links.Links.pop_credit.Goals as goal
-use Rattle.worm_wires.proofs.links.Links.pop_credit.Goals.{After-contains}
+use Rattle.worm_wires.proofs.links.Links.pop_credit.Goals.{After-contains, After-from-2}
 
-numbers : (c : After-contains) → AreNumbers c.self.inside.wiring c.args.self.now c.args.node c.args.port c.args.links
-numbers c =
-    numbers_of c.self.inside.wiring _ c.args.self.now c.args.node c.args.port c.args.links c.self.invariant.radices
-    c.self.view_is c.requires
+linked : (c : After-contains) → IsLinked c.self.inside.wiring c.args.self.now c.args.node c.args.port
+linked c = linked_of c.self.inside.wiring _ c.args.self.now c.args.node c.args.port c.self.view_is c.requires
 
 call : (c : After-contains) → IsCall c.self.inside.wiring c.self.inside.lists.items c.self.inside.inboxes.items
     c.args.self.now c.args.node c.from.result c.index_mut-here.result.now
@@ -27,44 +26,51 @@ call c = record {
 pub invariant_of-self : goal.invariant_of-self
 invariant_of-self c =
     let before = (goal.at.invariant_of-self c).After-contains in
-    lone_sound credits_kind (call before) (numbers before).out_here _ (numbers before).out_now
+    lone_sound credits_kind (call before) (linked before).out _ refl
     (sym c.contains.ensures ∙ c.if-not-contains.true)
-    (record c.index_mut-here.result.now { credits = c.file.new.self }) c.file.ensures refl
+    (record c.index_mut-here.result.now { credits = c.take.new.self }) c.take.ensures refl
 
 pub returns-then-not-contains : goal.returns-then-not-contains
 returns-then-not-contains c =
     let before = (goal.at.returns-then-not-contains c).After-contains in
-    lone_popped credits_kind (call before) (numbers before).out_here _ (numbers before).out_now
+    lone_popped credits_kind (call before) (linked before).out _ refl
     (sym c.contains.ensures ∙ c.if-not-contains.true)
-    (record c.index_mut-here.result.now { credits = c.file.new.self }) c.file.ensures refl
+    (record c.index_mut-here.result.now { credits = c.take.new.self }) c.take.ensures refl
 
 -- it has one
+
+number : (c : After-from-2) → c.from-2.result ≡ number_out c.args.self.now c.args.node c.args.port
+number c =
+    c.from-2.ensures
+    ∙ sym (numbers_by c.self.inside.wiring _ c.args.self.now c.args.node c.args.port c.links_beyond-number.result
+    c.self.invariant.radices c.self.view_is c.links_beyond-number.ensures.value).out_now
 
 pub index_mut-list-requires : goal.index_mut-list-requires
 index_mut-list-requires c =
     let before = (goal.at.index_mut-list-requires c).After-contains in
-    let is = there credits_kind (call before) (numbers before).out_here in
-    let within : c.from-2.result < length c.self.inside.lists.items = omega (arith, c.from-2.ensures, is) in
+    let is = there credits_kind (call before) (linked before).out in
+    let within : c.from-2.result < length c.self.inside.lists.items = omega
+        (arith, (number (goal.at.index_mut-list-requires c).After-from-2), is) in
     search (rules, within)
 
 pub invariant_of-self-2 : goal.invariant_of-self-2
 invariant_of-self-2 c =
     let before = (goal.at.invariant_of-self-2 c).After-contains in
-    left_sound credits_kind (call before) (numbers before).out_here _ (numbers before).out_now c.from-2.result
-    c.index_mut-list.result.now c.from-2.ensures c.index_mut-list.ensures.value
+    left_sound credits_kind (call before) (linked before).out _ refl c.from-2.result
+    c.index_mut-list.result.now (number (goal.at.invariant_of-self-2 c).After-from-2) c.index_mut-list.ensures.value
     (sym c.contains.ensures ∙ c.if-not-contains.false) c.pop_credit.new.self
     (ap (λ (l : LinkView). l.flits) c.pop_credit.ensures)
     (ap (λ (l : LinkView). l.room) c.pop_credit.ensures) (ap (λ (l : LinkView). l.credits) c.pop_credit.ensures)
-    (record c.index_mut-here.result.now { credits = c.file-2.new.self }) c.is_some.result c.front_credit-front.result
-    c.front_credit-front.ensures c.is_some.ensures c.file-2.ensures refl
+    (record c.index_mut-here.result.now { credits = c.file.new.self }) c.is_some.result c.front_credit-front.result
+    c.front_credit-front.ensures c.is_some.ensures c.file.ensures refl
 
 pub returns : goal.returns
 returns c =
     let before = (goal.at.returns c).After-contains in
-    left_popped credits_kind (call before) (numbers before).out_here _ (numbers before).out_now c.from-2.result
-    c.index_mut-list.result.now c.from-2.ensures c.index_mut-list.ensures.value
+    left_popped credits_kind (call before) (linked before).out _ refl c.from-2.result
+    c.index_mut-list.result.now (number (goal.at.returns c).After-from-2) c.index_mut-list.ensures.value
     (sym c.contains.ensures ∙ c.if-not-contains.false) c.pop_credit.new.self
     (ap (λ (l : LinkView). l.flits) c.pop_credit.ensures)
     (ap (λ (l : LinkView). l.room) c.pop_credit.ensures) (ap (λ (l : LinkView). l.credits) c.pop_credit.ensures)
-    (record c.index_mut-here.result.now { credits = c.file-2.new.self }) c.is_some.result c.front_credit-front.result
-    c.front_credit-front.ensures c.is_some.ensures c.file-2.ensures refl
+    (record c.index_mut-here.result.now { credits = c.file.new.self }) c.is_some.result c.front_credit-front.result
+    c.front_credit-front.ensures c.is_some.ensures c.file.ensures refl

@@ -9,7 +9,7 @@ returns c =
     let now = c.args.self.now in
     let radices = subst AreRadices c.self.view_is c.nodes-nodes.ensures.mesh in
     let into = c.kept-into.ensures.value ∙ ap
-    (λ p. kept_number (out_link now c.beyond-beyond.result p)) c.opposite-entered.ensures.value in
+    (λ p. kept_number (out_link now c.beyond-beyond.result p)) c.entered-entered.ensures.value in
     let links = joined now c.args.node c.args.port c.beyond-beyond.result c.args.out c.kept-into.result radices
     c.beyond-beyond.ensures c.requires.out into in
-    rw c.opposite-entered.ensures.value links
+    rw c.entered-entered.ensures.value links
