@@ -189,7 +189,7 @@ impl<R: Abort + AllocGlobal + Copy> Pair<R> {
         assert!(self.rt; self.links.links_at(node, port).is_some());
         let links = self.links.links_beyond(node, port);
         assert_eq!(self.rt; links.into, number);
-        self.links.pop(node, port, links);
+        self.links.pop(node, port);
     }
 
     /// There are so many links.

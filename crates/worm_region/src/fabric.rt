@@ -11,7 +11,6 @@ ghost use Rattle.worm_region.specs.State.{with_node, with_router, with_source};
 ghost use Rattle.worm_region.specs.Moves.{CreditFits, FrontFits, LeavesByLink, Sends, after_getting, after_giving};
 ghost use Rattle.worm_region.specs.Moves.{after_take, can_enter, can_get, fed_node, front_credit, front_into};
 ghost use Rattle.worm_region.specs.Moves.{link_into, link_out};
-ghost use Rattle.worm_wires.specs.Wiring.{port_links};
 ghost use Rattle.worm_region.specs.UnderWay.{IsUnderWay, accepted_in, taken_in};
 ghost use Rattle.std.specs.Borrow.{Lends, sem};
 ghost use Rattle.worm_region.specs.contracts.fabric.Fabric.{the_row};
@@ -32,7 +31,7 @@ use worm_flit::{ClassChannels, Flit};
 use worm_mesh::Mesh;
 use worm_router::Router;
 use worm_term::Source;
-use worm_wires::{Inboxes, Links, PortLinks};
+use worm_wires::{Inboxes, Links};
 
 /// The nodes by number and the links by number, whatever they hold (Dally and Towles, chapters 5, 13 and 16).
 #[derive(Drop)]

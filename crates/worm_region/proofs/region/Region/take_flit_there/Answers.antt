@@ -4,15 +4,10 @@ use Rattle.worm_region.specs.Answers.{moved_of}
 use Rattle.worm_region.specs.Replies.{Replies}
 use Rattle.worm_region.specs.Workable.{IsWorkable}
 use Rattle.worm_region.proofs.TakeAgrees.{take_answers, front_fits}
-use Rattle.worm_region.proofs.LinkedPorts.{line_back, port_inside}
+use Rattle.worm_region.proofs.LinkedPorts.{port_inside}
 use Rattle.worm_region.proofs.ReachedBySteps.{answered_inside}
 use Rattle.worm_region.proofs.region.Region.take_flit_there.Goals as goal
 use Rattle.worm_region.proofs.region.Region.take_flit_there.Goals.{After-take_flit}
-
-pub links_beyond-links-requires : goal.links_beyond-links-requires
-links_beyond-links-requires c =
-    line_back c.self.inside.fabric c.wires.result.now c.args.node c.args.port c.wires.ensures
-    (port_inside c.args.node c.args.port c.self.view_is c.requires)
 
 pub take_flit-requires-clause-front : goal.take_flit-requires-clause-front
 take_flit-requires-clause-front c =

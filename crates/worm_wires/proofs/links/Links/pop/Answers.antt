@@ -50,7 +50,7 @@ index_mut-list-requires c =
     let before = (goal.at.index_mut-list-requires c).After-contains in
     let is = there flits_kind (call before) (linked before).into in
     let within : c.from-2.result < length c.self.inside.lists.items = omega
-        (arith, (number (goal.at.index_mut-list-requires c).After-from-2), is) in
+    (arith, (number (goal.at.index_mut-list-requires c).After-from-2), is) in
     search (rules, within)
 
 pub invariant_of-self-2 : goal.invariant_of-self-2

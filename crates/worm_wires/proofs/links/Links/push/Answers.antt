@@ -16,7 +16,7 @@ beyond : (c : After-contains)
 beyond c =
     beyond_of c.self.inside.wiring _ c.args.self.now c.args.node c.args.port c.beyond-beyond.result
     c.entered-entered.result c.self.invariant.radices c.self.view_is c.beyond-beyond.ensures
-        c.entered-entered.ensures.value
+    c.entered-entered.ensures.value
 
 call : (c : After-contains) → IsCall c.self.inside.wiring c.self.inside.lists.items c.self.inside.inboxes.items
     c.args.self.now c.beyond-beyond.result c.from.result c.index_mut-there.result.now

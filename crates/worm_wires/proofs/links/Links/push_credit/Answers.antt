@@ -16,7 +16,7 @@ beyond : (c : After-contains)
 beyond c =
     beyond_of c.self.inside.wiring _ c.args.self.now c.args.node c.args.port c.beyond-beyond.result
     c.entered-entered.result c.self.invariant.radices c.self.view_is c.beyond-beyond.ensures
-        c.entered-entered.ensures.value
+    c.entered-entered.ensures.value
 
 call : (c : After-contains) → IsCall c.self.inside.wiring c.self.inside.lists.items c.self.inside.inboxes.items
     c.args.self.now c.beyond-beyond.result c.from.result c.index_mut-there.result.now
@@ -68,7 +68,7 @@ index_mut-list-requires c =
     let before = (goal.at.index_mut-list-requires c).After-contains in
     let is = there credits_kind (call before) (beyond before).out in
     let within : c.from-2.result < length c.self.inside.lists.items = omega
-        (arith, (number (goal.at.index_mut-list-requires c).After-from-2), is) in
+    (arith, (number (goal.at.index_mut-list-requires c).After-from-2), is) in
     search (rules, within)
 
 pub spill_credits-requires-clause-way : goal.spill_credits-requires-clause-way
