@@ -115,8 +115,7 @@ impl Fabric {
         self.links.wiring().terminal()
     }
 
-    /// Moves the front of the link into a port to the buffer of its channel (Dally and Towles,
-    /// chapter 13).
+    /// Moves the front of the link into a port to the buffer of its channel (Dally and Towles, chapter 13).
     pub(crate) fn take_flit(&mut self, node: u8, port: u8) -> bool
         requires node { node < length self.old.nodes }
         requires linked { IsSome (neighbour_of self.old.mesh node port) }
@@ -203,8 +202,7 @@ impl Fabric {
         self.links.push_credit(node, port, vc);
     }
 
-    /// Takes the front credit of the link out of this port into its channel's count (Dally and
-    /// Towles, chapter 13).
+    /// Takes the front credit of the link out of this port into its channel's count (Dally and Towles, chapter 13).
     pub(crate) fn take_credit(&mut self, node: u8, port: u8) -> bool
         requires node { node < length self.old.nodes }
         requires linked { IsSome (neighbour_of self.old.mesh node port) }
