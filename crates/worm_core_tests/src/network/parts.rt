@@ -1,23 +1,43 @@
 //! A network taken apart and put together again.
 
 use crate::cases::lane;
-use crate::steps::{feed, offer};
+use crate::steps::{buffer, feed, grant, link, offer, route, send, take};
 use crate::trial::{Shape, Trial};
+
+/// Three by two nodes, buffers of two flits, and three channels in two classes.
+const SHAPE: Shape = Shape {
+    radices: &[3, 2],
+    depth: 2,
+    channels: &[1, 2],
+    nodes: 6,
+    links: 14,
+    room: 6,
+};
 
 #[test]
 fn parts_make_the_same_network(rt: HostRuntime) {
-    let mut trial = Trial::new(rt, &[3, 2], 2, &[1, 2]);
+    let mut trial = Trial::new(rt, SHAPE.radices, SHAPE.depth, SHAPE.channels);
     let far = lane(0, 5, 1);
     trial.run([offer(&rt, far, &[9]), feed(0, 1)]);
-    let shape = Shape {
-        radices: &[3, 2],
-        depth: 2,
-        channels: &[1, 2],
-        nodes: 6,
-        links: 14,
-        room: 6,
-    };
-    let trial = trial.through_parts(&shape);
+    let trial = trial.through_parts(&SHAPE);
     trial.has_names(2);
     trial.has_under_way(far, 1);
+}
+
+/// A flit alone on a link is still on it, and comes in.
+#[test]
+fn what_is_on_a_link_goes_through_parts(rt: HostRuntime) {
+    let mut trial = Trial::new(rt, SHAPE.radices, SHAPE.depth, SHAPE.channels);
+    let near = lane(0, 1, 0);
+    trial.does([
+        offer(&rt, near, &[9]),
+        feed(0, 0),
+        route(0, 4, 0),
+        grant(0, 4, 0, 0),
+        send(0, 4, 0),
+    ]);
+    let mut trial = trial.through_parts(&SHAPE);
+    trial.stands(near, &[(0, 0, link(0, 1, 0))]);
+    trial.does([take(1, 0)]);
+    trial.stands(near, &[(0, 0, buffer(1, 0, 0))]);
 }
