@@ -54,21 +54,12 @@ list_is lists k j list there same reads =
 
 -- The call's port, by its links
 
-linked_now : (mesh : List ℕ) (states : List LinkView) (now : LinksView) (x p : ℕ) (links : PortLinks)
-    → record { mesh = mesh; states = states } ≡ now
-    → ◌≡◌ {A = Option PortLinks} (Some links) (port_links now.mesh x p)
-    → ◌≡◌ {A = Option PortLinks} (Some links) (port_links mesh x p)
-linked_now mesh states now x p links same linked =
-    subst (λ (v : LinksView). ◌≡◌ {A = Option PortLinks} (Some links) (port_links v.mesh x p)) (sym same) linked
-
 -- what a call is told of the links of a port
 pub record AreNumbers (mesh : List ℕ) (now : LinksView) (x p : ℕ) (links : PortLinks) : Type 0 where
   -- by what is seen
   pub out_now : number_out now x p ≡ links.out
   pub into_now : number_into now x p ≡ links.into
-  -- of the port, and of the port beyond
-  pub in_here : in_link mesh x p ≡ Some links.into
-  pub out_here : out_link mesh x p ≡ Some links.out
+  -- of the port beyond
   pub in_beyond : in_link mesh links.beyond links.entered ≡ Some links.out
   pub out_beyond : out_link mesh links.beyond links.entered ≡ Some links.into
 
@@ -84,11 +75,6 @@ numbers_by mesh states now x p links radices same linked =
     record {
       out_now = ap (λ (l : LinksView). number_out l x p) (sym same) ∙ sym numbers.0;
       into_now = ap (λ (l : LinksView). number_into l x p) (sym same) ∙ sym numbers.1;
-      in_here =
-          ap (λ (n : Option ℕ). option_map (λ y. links_before mesh y (opposite_of p)) n) these.0
-          ∙ ap (λ (k : ℕ). Some k) (sym into);
-      out_here =
-          ap (λ (n : Option ℕ). option_map (λ y. links_before mesh x p) n) these.0 ∙ ap (λ (k : ℕ). Some k) (sym out);
       in_beyond =
           ap (λ (q : ℕ). in_link mesh links.beyond q) entered ∙ into_beyond mesh x p links.beyond radices these.0
           ∙ ap (λ (k : ℕ). Some k) (sym out);
@@ -98,12 +84,6 @@ numbers_by mesh states now x p links radices same linked =
           (back_of mesh x p links.beyond radices these.0)
           ∙ ap (λ (k : ℕ). Some k) (sym into);
     }
-
-pub numbers_of : (mesh : List ℕ) (states : List LinkView) (now : LinksView) (x p : ℕ) (links : PortLinks)
-    → AreRadices mesh → record { mesh = mesh; states = states } ≡ now
-    → ◌≡◌ {A = Option PortLinks} (Some links) (port_links now.mesh x p) → AreNumbers mesh now x p links
-numbers_of mesh states now x p links radices same linked =
-    numbers_by mesh states now x p links radices same (linked_now mesh states now x p links same linked)
 
 -- a port that has a neighbour, and the numbers of its links
 

@@ -72,26 +72,30 @@ module _ {A B : Type 0} {kind : Kind A} {other : Kind B} {put : LinkView → Lis
   module _ (j : ℕ) (list : LinkView) (at : j ≡ k) (reads : list ≡ get_or lists j list) where
     module _ (some : has (kind.tray read).more p ≡ true) (link : LinkView)
         (same : other.list link ≡ other.list list) (room : link.room ≡ list.room)
-        (popped : kind.list link ≡ drop 1 (kind.list list)) (box : Inbox) (more : Bool) (front : Option A)
-        (is_front : front ≡ slice_get (kind.list link) 0) (is_more : more ≡ is_some front)
-        (filed : IsFiled (kind.tray read) (kind.tray box) p (is_some front) more front)
+        (popped : kind.list link ≡ drop 1 (kind.list list)) (box : Inbox)
+        (filed : IsFiled (kind.tray read) (kind.tray box) p (has_front (drop 1 (kind.list list)))
+        (has_front (drop 1 (kind.list list))) (slice_get (drop 1 (kind.list list)) 0))
         (kept : other.tray box ≡ other.tray read) where
-      comes : is_some front ≡ has_front (kind.list link)
-      comes = ap (λ (f : Option A). is_some f) is_front
+      abbrev front : Option A
+      front = slice_get (drop 1 (kind.list list)) 0
 
-      left : IsWay (is_some front) more (slice_get (kind.tray box).front p) (kind.list link) link.room
+      comes : is_some front ≡ has_front (kind.list link)
+      comes = ap (λ (l : List A). has_front l) (sym popped)
+
+      left : IsWay (is_some front) (is_some front) (slice_get (kind.tray box).front p) (kind.list link) link.room
       left =
-          way_front (is_some front) more (slice_get (kind.tray box).front p) (kind.list link) link.room comes
-          (is_more ∙ comes) (λ within. filed.first within ∙ is_front)
+          way_front (is_some front) (is_some front) (slice_get (kind.tray box).front p) (kind.list link) link.room comes
+          comes (λ within. filed.first within ∙ ap (λ (l : List A). slice_get l 0) (sym popped))
 
       pub left_sound : AreInboxes mesh (set lists j link) (set inboxes i box)
       left_sound =
-          both_sound is call by j list at reads box (is_some front) more front filed kept link same room left
+          both_sound is call by j list at reads box (is_some front) (is_some front) front filed kept link same room left
 
       pub left_popped : record { mesh = mesh; states = links_by mesh (set lists j link) (set inboxes i box) }
           ≡ with_state now n (put (state_at now n) (drop 1 (kind.list (state_at now n))))
       left_popped =
-          both_seen is call by j list at reads box (is_some front) more front filed kept link same room left n _ number
+          both_seen is call by j list at reads box (is_some front) (is_some front) front filed kept link same room left
+          n _ number
           (whole_front (is_some front) (slice_get (kind.tray box).front p) _ comes ∙ popped
           ∙ ap (λ (l : List A). drop 1 l)
           (ap kind.list (the_list is call by j list at reads) ∙ sym (seen_listed is call by n number some)))

@@ -301,10 +301,7 @@ impl Links {
             return;
         }
         let number = self.wiring.links_beyond(node, port).into;
-        let list = &mut self.lists[usize::from(number)];
-        list.pop();
-        let front = list.front().copied();
-        here.flits.file(port, front.is_some(), front);
+        here.pop_flit(port, &mut self.lists[usize::from(number)]);
     }
 
     /// Puts the flit at the end of the link out of this port.
@@ -342,10 +339,7 @@ impl Links {
             return;
         }
         let number = self.wiring.links_beyond(node, port).out;
-        let list = &mut self.lists[usize::from(number)];
-        list.pop_credit();
-        let front = list.front_credit();
-        here.credits.file(port, front.is_some(), front);
+        here.pop_credit(port, &mut self.lists[usize::from(number)]);
     }
 
     /// Puts a credit of the channel at the end of the credits of the link into this port.

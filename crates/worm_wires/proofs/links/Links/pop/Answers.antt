@@ -45,30 +45,28 @@ number c =
     ∙ sym (numbers_by c.self.inside.wiring _ c.args.self.now c.args.node c.args.port c.links_beyond-number.result
     c.self.invariant.radices c.self.view_is c.links_beyond-number.ensures.value).into_now
 
-pub index_mut-list-requires : goal.index_mut-list-requires
-index_mut-list-requires c =
-    let before = (goal.at.index_mut-list-requires c).After-contains in
+pub index_mut-requires : goal.index_mut-requires
+index_mut-requires c =
+    let before = (goal.at.index_mut-requires c).After-contains in
     let is = there flits_kind (call before) (linked before).into in
     let within : c.from-2.result < length c.self.inside.lists.items = omega
-    (arith, (number (goal.at.index_mut-list-requires c).After-from-2), is) in
+    (arith, (number (goal.at.index_mut-requires c).After-from-2), is) in
     search (rules, within)
 
 pub invariant_of-self-2 : goal.invariant_of-self-2
 invariant_of-self-2 c =
     let before = (goal.at.invariant_of-self-2 c).After-contains in
     left_sound flits_kind (call before) (linked before).into _ refl c.from-2.result
-    c.index_mut-list.result.now (number (goal.at.invariant_of-self-2 c).After-from-2) c.index_mut-list.ensures.value
-    (sym c.contains.ensures ∙ c.if-not-contains.false) c.pop.new.self (ap (λ (l : LinkView). l.credits) c.pop.ensures)
-    (ap (λ (l : LinkView). l.room) c.pop.ensures) (ap (λ (l : LinkView). l.flits) c.pop.ensures)
-    (record c.index_mut-here.result.now { flits = c.file.new.self }) c.is_some.result c.copied-front.result
-    (c.copied-front.ensures ∙ c.front.ensures.value) c.is_some.ensures c.file.ensures refl
+    c.index_mut.result.now (number (goal.at.invariant_of-self-2 c).After-from-2) c.index_mut.ensures.value
+    (sym c.contains.ensures ∙ c.if-not-contains.false) c.pop_flit.new.link
+    (ap (λ (l : LinkView). l.credits) c.pop_flit.ensures.link) (ap (λ (l : LinkView). l.room) c.pop_flit.ensures.link)
+    (ap (λ (l : LinkView). l.flits) c.pop_flit.ensures.link) c.pop_flit.new.self c.pop_flit.ensures.filed c.pop_flit.ensures.kept
 
 pub returns : goal.returns
 returns c =
     let before = (goal.at.returns c).After-contains in
     left_popped flits_kind (call before) (linked before).into _ refl c.from-2.result
-    c.index_mut-list.result.now (number (goal.at.returns c).After-from-2) c.index_mut-list.ensures.value
-    (sym c.contains.ensures ∙ c.if-not-contains.false) c.pop.new.self (ap (λ (l : LinkView). l.credits) c.pop.ensures)
-    (ap (λ (l : LinkView). l.room) c.pop.ensures) (ap (λ (l : LinkView). l.flits) c.pop.ensures)
-    (record c.index_mut-here.result.now { flits = c.file.new.self }) c.is_some.result c.copied-front.result
-    (c.copied-front.ensures ∙ c.front.ensures.value) c.is_some.ensures c.file.ensures refl
+    c.index_mut.result.now (number (goal.at.returns c).After-from-2) c.index_mut.ensures.value
+    (sym c.contains.ensures ∙ c.if-not-contains.false) c.pop_flit.new.link
+    (ap (λ (l : LinkView). l.credits) c.pop_flit.ensures.link) (ap (λ (l : LinkView). l.room) c.pop_flit.ensures.link)
+    (ap (λ (l : LinkView). l.flits) c.pop_flit.ensures.link) c.pop_flit.new.self c.pop_flit.ensures.filed c.pop_flit.ensures.kept

@@ -45,32 +45,28 @@ number c =
     ∙ sym (numbers_by c.self.inside.wiring _ c.args.self.now c.args.node c.args.port c.links_beyond-number.result
     c.self.invariant.radices c.self.view_is c.links_beyond-number.ensures.value).out_now
 
-pub index_mut-list-requires : goal.index_mut-list-requires
-index_mut-list-requires c =
-    let before = (goal.at.index_mut-list-requires c).After-contains in
+pub index_mut-requires : goal.index_mut-requires
+index_mut-requires c =
+    let before = (goal.at.index_mut-requires c).After-contains in
     let is = there credits_kind (call before) (linked before).out in
     let within : c.from-2.result < length c.self.inside.lists.items = omega
-    (arith, (number (goal.at.index_mut-list-requires c).After-from-2), is) in
+    (arith, (number (goal.at.index_mut-requires c).After-from-2), is) in
     search (rules, within)
 
 pub invariant_of-self-2 : goal.invariant_of-self-2
 invariant_of-self-2 c =
     let before = (goal.at.invariant_of-self-2 c).After-contains in
     left_sound credits_kind (call before) (linked before).out _ refl c.from-2.result
-    c.index_mut-list.result.now (number (goal.at.invariant_of-self-2 c).After-from-2) c.index_mut-list.ensures.value
-    (sym c.contains.ensures ∙ c.if-not-contains.false) c.pop_credit.new.self
-    (ap (λ (l : LinkView). l.flits) c.pop_credit.ensures)
-    (ap (λ (l : LinkView). l.room) c.pop_credit.ensures) (ap (λ (l : LinkView). l.credits) c.pop_credit.ensures)
-    (record c.index_mut-here.result.now { credits = c.file.new.self }) c.is_some.result c.front_credit-front.result
-    c.front_credit-front.ensures c.is_some.ensures c.file.ensures refl
+    c.index_mut.result.now (number (goal.at.invariant_of-self-2 c).After-from-2) c.index_mut.ensures.value
+    (sym c.contains.ensures ∙ c.if-not-contains.false) c.pop_credit.new.link
+    (ap (λ (l : LinkView). l.flits) c.pop_credit.ensures.link) (ap (λ (l : LinkView). l.room) c.pop_credit.ensures.link)
+    (ap (λ (l : LinkView). l.credits) c.pop_credit.ensures.link) c.pop_credit.new.self c.pop_credit.ensures.filed c.pop_credit.ensures.kept
 
 pub returns : goal.returns
 returns c =
     let before = (goal.at.returns c).After-contains in
     left_popped credits_kind (call before) (linked before).out _ refl c.from-2.result
-    c.index_mut-list.result.now (number (goal.at.returns c).After-from-2) c.index_mut-list.ensures.value
-    (sym c.contains.ensures ∙ c.if-not-contains.false) c.pop_credit.new.self
-    (ap (λ (l : LinkView). l.flits) c.pop_credit.ensures)
-    (ap (λ (l : LinkView). l.room) c.pop_credit.ensures) (ap (λ (l : LinkView). l.credits) c.pop_credit.ensures)
-    (record c.index_mut-here.result.now { credits = c.file.new.self }) c.is_some.result c.front_credit-front.result
-    c.front_credit-front.ensures c.is_some.ensures c.file.ensures refl
+    c.index_mut.result.now (number (goal.at.returns c).After-from-2) c.index_mut.ensures.value
+    (sym c.contains.ensures ∙ c.if-not-contains.false) c.pop_credit.new.link
+    (ap (λ (l : LinkView). l.flits) c.pop_credit.ensures.link) (ap (λ (l : LinkView). l.room) c.pop_credit.ensures.link)
+    (ap (λ (l : LinkView). l.credits) c.pop_credit.ensures.link) c.pop_credit.new.self c.pop_credit.ensures.filed c.pop_credit.ensures.kept
