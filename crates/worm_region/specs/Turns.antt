@@ -1,7 +1,7 @@
 -- The turn of a node, the turns of all nodes, and the run on one thread: which step is tried in which order, and where
 -- the allocators pass between them (Dally and Towles, chapters 16, 18 and 19).
 use Rattle.std.specs.Prelude.{ℕ, zero, suc, ◌≡◌, ◌+◌, ◌*◌, ◌<◌, ◌==◌, nat_lt, ◌⊎◌, List, [], ◌∷◌, length, sum, map}
-use Rattle.std.specs.Prelude.{true}
+use Rattle.std.specs.Prelude.{Bool, true, false}
 use Rattle.worm_vcalloc.specs.ChannelSet.{has}
 use Rattle.std.specs.Prelude.{All, slice_index_or, Option, Some, None, IsSome, option_map, Result, Ok, Err, MatchBool}
 use Rattle.std.specs.List.{range_with_len, flat_map, find}
@@ -88,6 +88,10 @@ ask x (ToClose lane) = CloseLane x lane
 -- the node's source is asked what the entries ask of it
 abbrev pub AsksSourceBy : (Step → Passage) → List Entry → ℕ → Passage
 AsksSourceBy T entries x = ForEach (λ s. map (λ (e : Entry). ask x e.act) (begun_at x entries)) T
+
+-- of a mark for each node, those of the nodes whose sources the entries ask are set, and perhaps others
+abbrev pub AreMarked : List Entry → List Bool → Type 0
+AreMarked entries marks = (x : ℕ) → x < 256 → slice_index_or marks x true ≡ false → begun_at x entries ≡ []
 
 -- a credit is taken from each link out of the node, and a flit from each link into it
 abbrev pub TakesCreditsBy : (Step → Passage) → ℕ → Passage

@@ -5,7 +5,7 @@ ghost use Rattle.std.specs.Result.{result_err};
 ghost use Rattle.std.specs.Prelude.{IsSome};
 ghost use Rattle.worm_mesh.specs.Address.{neighbour_of, node_count};
 ghost use Rattle.worm_region.specs.Replies.{Attempts, Replies};
-ghost use Rattle.worm_script.specs.Script.{begun_at, is_marked};
+ghost use Rattle.worm_script.specs.Script.{begun_at};
 ghost use Rattle.worm_region.specs.Owned.{sole};
 ghost use Rattle.worm_region.specs.Workable.{IsWorkable};
 ghost use Rattle.worm_script.specs.declared.script.Entry.{Entry};
@@ -18,7 +18,7 @@ ghost use Rattle.worm_region.specs.Moves.{NoCredit, NoFeed, NoFlit, OwesTheSame,
 ghost use Rattle.worm_region.specs.Turns.{Does, ForEach, ReachesAt, all_nodes, ask, fault_of, lowest_owed};
 ghost use Rattle.worm_region.specs.Turns.{AsksSourceBy, ComesInBy, FeedsClassesBy, GivesCreditBy, GivesCreditsBy};
 ghost use Rattle.worm_region.specs.Turns.{NodePassesBy, NodeTurnBy, RoutesChannelsBy, SendsBy, TakesCreditsBy};
-ghost use Rattle.worm_region.specs.Turns.{TakesFlitsBy, AreGrants, AreThere, MayAllSend};
+ghost use Rattle.worm_region.specs.Turns.{TakesFlitsBy, AreGrants, AreMarked, AreThere, MayAllSend};
 ghost use Rattle.worm_region.specs.Prepared.{Prepares};
 
 use crate::region::Region;
@@ -36,29 +36,18 @@ pub fn tried(answer: Result<Moved, StepFault>) -> Result<(), StepFault>
     }
 }
 
-/// The nodes whose sources these entries ask, by number: an entry is for none of the others. None where there is no
-/// entry.
-fn sources_of(entries: &Due<'_>) -> Option<[bool; 256]>
-    ensures { (x : ℕ) → x < 256 → is_marked result x ≡ false → begun_at x entries.now ≡ [] }
+/// No node, of marks by number.
+const NOBODY: [bool; 256] = [false; 256];
+
+/// The nodes whose sources these entries ask, by number: an entry is for none of the others.
+fn sources_of(entries: &Due<'_>) -> [bool; 256]
+    ensures { AreMarked entries.now result }
 {
-    if entries.is_empty() {
-        return None;
-    }
     let mut sources = [false; 256];
     for i in 0..entries.len() {
         sources[usize::from(entries.source(i))] = true;
     }
-    Some(sources)
-}
-
-/// Whether the node is one of these.
-fn asks(sources: &Option<[bool; 256]>, node: u8) -> bool
-    ensures { result ≡ is_marked sources.now node }
-{
-    match sources {
-        None => false,
-        Some(sources) => sources[usize::from(node)],
-    }
+    sources
 }
 
 impl Region {
@@ -296,15 +285,27 @@ impl Region {
         true
     }
 
+    /// The turns of all nodes with these entries, in rising number, where these are the nodes that they ask.
+    fn turns_of(&mut self, entries: &Due<'_>, asked: &[bool; 256]) -> Result<(), StepFault>
+        requires asked { AreMarked entries.now asked.now }
+        requires whole { self.old.own ≡ sole }
+        ensures { Does (ForEach all_nodes (NodeTurnBy Attempts entries.now)) self.old (result_err result) self.new }
+    {
+        for node in 0..self.nodes() {
+            self.node_turn(node as u8, entries, asked[usize::from(node)])?;
+        }
+        Ok(())
+    }
+
     /// The turns of all nodes with these entries, in rising number.
     pub fn all_turns(&mut self, entries: &Due<'_>) -> Result<(), StepFault>
         requires { self.old.own ≡ sole }
         ensures { Does (ForEach all_nodes (NodeTurnBy Attempts entries.now)) self.old (result_err result) self.new }
     {
-        let sources = sources_of(entries);
-        for node in 0..self.nodes() {
-            self.node_turn(node as u8, entries, asks(&sources, node as u8))?;
+        // Few turns have an entry, and 256 marks are not made for the others.
+        if entries.is_empty() {
+            return self.turns_of(entries, &NOBODY);
         }
-        Ok(())
+        self.turns_of(entries, &sources_of(entries))
     }
 }

@@ -69,8 +69,3 @@ pub record IsScript (entries : List Entry) (gaps lasts : List ℕ) : Type 0 wher
   pub nexts : AreGaps (sources_of entries) gaps
   pub inner : (i : ℕ) → i < length entries → i + slice_index gaps i < length entries
   pub last : AreLasts (sources_of entries) lasts
-
--- a node of a list with a mark for each, if there is one
-abbrev pub is_marked : Option (List Bool) → ℕ → Bool
-is_marked None x = false
-is_marked (Some marks) x = slice_index_or marks x true

@@ -5,7 +5,7 @@ use Rattle.worm_region.specs.Replies.{Attempts}
 use Rattle.worm_region.specs.Turns.{all_nodes, NodeTurnBy}
 use Rattle.worm_region.proofs.Passages.{loop_more, loop_cut, does_for}
 use Rattle.worm_region.proofs.ReachedBySteps.{whole_after}
-use Rattle.worm_region.proofs.region.Region.all_turns.Goals as goal
+use Rattle.worm_region.proofs.region.Region.turns_of.Goals as goal
 
 pub returns-in_err-node_turn : goal.returns-in_err-node_turn
 returns-in_err-node_turn c =
@@ -30,4 +30,4 @@ returns c =
 
 pub node_turn-requires-clause-whole : goal.node_turn-requires-clause-whole
 node_turn-requires-clause-whole c =
-    whole_after c.args.self.now c.loop-node.self c.loop-node.invariant.reaches.config c.requires
+    whole_after c.args.self.now c.loop-node.self c.loop-node.invariant.reaches.config c.requires.whole

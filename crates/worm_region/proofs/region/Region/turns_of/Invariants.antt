@@ -2,7 +2,7 @@ use Rattle.std.proofs.Common.{None}
 use Rattle.std.specs.List.{range_with_len}
 use Rattle.worm_region.specs.Replies.{Attempts}
 use Rattle.worm_region.specs.Turns.{Does, Each, NodeTurnBy}
-use Rattle.worm_region.proofs.region.Region.all_turns.Given as goal
+use Rattle.worm_region.proofs.region.Region.turns_of.Given as goal
 
 abbrev pub invariant-loop-node : goal.invariant-loop-node
 invariant-loop-node l =
