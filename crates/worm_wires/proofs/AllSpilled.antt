@@ -13,8 +13,8 @@ use Rattle.worm_wires.specs.Inbox.{AreInboxes, AreSpilled, IsInbox, IsSpilled, I
 use Rattle.worm_wires.specs.Inbox.{inbox_at, link_by, links_by, of_credits, of_flits, room_of, whole}
 use Rattle.worm_wires.specs.Links.{LinkView, blank_link}
 use Rattle.worm_wires.specs.Wiring.{out_link}
-use Rattle.worm_wires.specs.declared.inbox.Inbox.{Inbox}
-use Rattle.worm_wires.specs.declared.inbox.Tray.{Tray}
+use Rattle.worm_wires.specs.Inbox.{Inbox}
+use Rattle.worm_wires.specs.Inbox.{Tray}
 use Rattle.worm_wires.proofs.Apart.{into_beyond}
 use Rattle.worm_wires.proofs.ByNumber.{determined}
 use Rattle.worm_wires.proofs.ListsWritten.{entered_in, linked_at, same_link}

@@ -8,7 +8,7 @@ use Rattle.worm_wires.specs.Arrivals.{AreFronts, LinksView, credits_to, flits_to
 use Rattle.worm_wires.specs.Inbox.{AreInboxes, inbox_at, links_by, no_inbox}
 use Rattle.worm_wires.specs.Links.{LinkView, blank_link}
 use Rattle.worm_wires.specs.Wiring.{in_link, into_from, out_link, port_links}
-use Rattle.worm_wires.specs.declared.inbox.Inbox.{Inbox}
+use Rattle.worm_wires.specs.Inbox.{Inbox}
 use Rattle.worm_wires.specs.declared.wiring.PortLinks.{PortLinks}
 use Rattle.worm_wires.proofs.Apart.{back_of, into_beyond}
 use Rattle.worm_wires.proofs.EachKind.{credits_kind, flits_kind}

@@ -13,7 +13,7 @@ use Rattle.worm_wires.specs.Inbox.{AreInboxes, IsTray, Kind, come, flits_beyond,
 use Rattle.worm_wires.specs.Inbox.{link_by, links_by, of_credits, of_flits, whole}
 use Rattle.worm_wires.specs.Links.{LinkView, blank_link}
 use Rattle.worm_wires.specs.Wiring.{in_link, out_link}
-use Rattle.worm_wires.specs.declared.inbox.Inbox.{Inbox}
+use Rattle.worm_wires.specs.Inbox.{Inbox}
 use Rattle.worm_wires.proofs.Apart.{back_of, in_once, into_beyond, out_once}
 use Rattle.worm_wires.proofs.ListsWritten.{all_written, entered_in, is_seen, linked_at, rooms_same, same_link}
 use Rattle.worm_wires.proofs.Seen.{credits_at, flits_past, room_at}

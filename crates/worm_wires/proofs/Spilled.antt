@@ -9,8 +9,8 @@ use Rattle.worm_wires.specs.Arrivals.{LinksView, has_front}
 use Rattle.worm_wires.specs.Links.{LinkView}
 use Rattle.worm_wires.specs.Inbox.{AreSpilled, IsFiled, IsPortSpilled, IsSpilled, Kind, inbox_at, no_inbox, of_credits}
 use Rattle.worm_wires.specs.Inbox.{of_flits}
-use Rattle.worm_wires.specs.declared.inbox.Inbox.{Inbox}
-use Rattle.worm_wires.specs.declared.inbox.Tray.{Tray}
+use Rattle.worm_wires.specs.Inbox.{Inbox}
+use Rattle.worm_wires.specs.Inbox.{Tray}
 use Rattle.worm_wires.proofs.Apart.{number_cases}
 use Rattle.worm_wires.proofs.Called.{IsCall, inbox_is}
 use Rattle.worm_wires.proofs.EachKind.{IsKind}

@@ -6,7 +6,7 @@ use Rattle.worm_flit.specs.SmallSet.{has}
 use Rattle.worm_wires.specs.Arrivals.{LinksView, has_front, state_at, with_state}
 use Rattle.worm_wires.specs.Inbox.{AreInboxes, IsFiled, IsWay, Kind, links_by, whole}
 use Rattle.worm_wires.specs.Links.{LinkView, blank_link}
-use Rattle.worm_wires.specs.declared.inbox.Inbox.{Inbox}
+use Rattle.worm_wires.specs.Inbox.{Inbox}
 use Rattle.worm_wires.proofs.Called.{IsCall}
 use Rattle.worm_wires.proofs.EachKind.{IsKind}
 use Rattle.worm_wires.proofs.TrayCalled.{both_seen, both_sound, first_read, inbox_seen, inbox_sound, none_listed}

@@ -11,8 +11,8 @@ use Rattle.worm_wires.specs.Inbox.{AreInboxes, IsFiled, IsInbox, IsTray, IsWay, 
 use Rattle.worm_wires.specs.Inbox.{no_inbox, room_of}
 use Rattle.worm_wires.specs.Inbox.{whole}
 use Rattle.worm_wires.specs.Links.{LinkView, blank_link}
-use Rattle.worm_wires.specs.declared.inbox.Inbox.{Inbox}
-use Rattle.worm_wires.specs.declared.inbox.Tray.{Tray}
+use Rattle.worm_wires.specs.Inbox.{Inbox}
+use Rattle.worm_wires.specs.Inbox.{Tray}
 use Rattle.worm_wires.proofs.Apart.{number_cases}
 use Rattle.worm_wires.proofs.ListsWritten.{on_other, on_same, room_kept}
 use Rattle.worm_wires.proofs.Ways.{way_same}
