@@ -47,6 +47,12 @@ joined_at : (arrivals : List Arrivals) (fronts : List NodeFronts) (i : ℕ) (d :
 unfolding inboxes_by
 joined_at arrivals fronts i d e b a_in f_in = get_or-zip2 inbox_by arrivals fronts i d e b a_in f_in
 
+abbrev pub no_arrivals : Arrivals
+no_arrivals = record { flits = 0; credits = 0 }
+
+abbrev pub no_fronts : NodeFronts
+no_fronts = record { flits = record { more = 0; front = [] }; credits = record { more = 0; front = [] } }
+
 module _ {mesh : List ℕ} {lists : List LinkView} {arrivals : List Arrivals} {fronts : List NodeFronts}
     (filed : AreFiled mesh lists arrivals fronts) (i : ℕ) where
   -- what a call reads of a node
@@ -65,6 +71,15 @@ module _ {mesh : List ℕ} {lists : List LinkView} {arrivals : List Arrivals} {f
             ∙ sym (joined_at arrivals fronts i d f (inbox_by (get_or arrivals i d) f)
             (sets_there arrivals fronts i i_in) (omega (arith, filed.all, at, x_in)));
       }
+
+  -- and one that reads no front
+  pub sets_call_of : (now : LinksView) (x : ℕ) (d : Arrivals)
+      → record { mesh = mesh; states = links_by mesh lists (inboxes_by arrivals fronts) } ≡ now → x < 256 → i ≡ x
+      → IsCall mesh lists (inboxes_by arrivals fronts) now x i
+      (inbox_by (get_or arrivals i d) (get_or fronts i no_fronts))
+  sets_call_of now x d seen x_in at =
+      call_of now x d (get_or fronts i no_fronts) seen x_in at
+      (get_or_default fronts i no_fronts (get_or fronts i no_fronts) (omega (arith, filed.all, at, x_in)))
 
   -- and what stands there after a write, at one node of both
 

@@ -228,10 +228,9 @@ impl Links {
         ensures variant { is_some result
             ≡ is_some (slice_get (state_at self.now (number_into self.now node port)).flits 0) }
     {
-        let here = &self.arrivals[usize::from(node)];
-        self.fronts[usize::from(node)]
-            .flits
-            .front_at(&here.flits, port)
+        let at = usize::from(node);
+        let here = &self.arrivals[at];
+        self.fronts[at].flits.front_at(&here.flits, port)
     }
 
     /// The channel of the credit that comes back next over the link out of this port, if there is one.
@@ -239,11 +238,9 @@ impl Links {
         requires { IsSome (neighbour_of self.now.mesh node port) }
         ensures { result ≡ slice_get (state_at self.now (number_out self.now node port)).credits 0 }
     {
-        let here = &self.arrivals[usize::from(node)];
-        self.fronts[usize::from(node)]
-            .credits
-            .front_at(&here.credits, port)
-            .copied()
+        let at = usize::from(node);
+        let here = &self.arrivals[at];
+        self.fronts[at].credits.front_at(&here.credits, port).copied()
     }
 
     /// Whether a flit is on the link out of this port.
@@ -274,12 +271,11 @@ impl Links {
         ensures { result ≡ length (state_at self.now (number_out self.now node port)).flits }
     {
         let links = self.wiring.links_beyond(node, port);
-        let there = &self.fronts[usize::from(links.beyond)];
-        if there.flits.more.contains(links.entered) {
+        let at = usize::from(links.beyond);
+        if self.fronts[at].flits.more.contains(links.entered) {
             return self.lists[usize::from(links.out)].count();
         }
-        let arrivals = &self.arrivals[usize::from(links.beyond)];
-        usize::from(arrivals.flits.contains(links.entered))
+        usize::from(self.arrivals[at].flits.contains(links.entered))
     }
 
     /// The flit at place `i` of the link out of this port, counted from the front.
