@@ -3,7 +3,7 @@ use Rattle.std.proofs.Common.{◌≡◌, ℕ, suc, zero, ◌<◌, true, false, L
 use Rattle.std.proofs.Common.{refl, arith, ap, sym, subst, ◌∙◌}
 use Rattle.std.specs.Simd.Lanes.{zip2}
 use Rattle.std.proofs.lemmas.List.{get_or_default, set-get_or}
-use Rattle.std.proofs.lemmas.Simd.{get_or-zip2}
+use Rattle.std.proofs.lemmas.Simd.{get_or-zip2, length-zip2}
 use Rattle.worm_flit.specs.SmallSet.{has, IsPut}
 use Rattle.worm_wires.specs.Arrivals.{LinksView}
 use Rattle.worm_wires.specs.Inbox.{AreFiled, AreInboxes, AreSeenAlike, Inbox, IsFiled, inbox_by, inboxes_by, links_by}
@@ -31,10 +31,15 @@ zip2_set f (a ∷ xs) (b ∷ ys) zero x y = refl
 zip2_set f (a ∷ xs) (b ∷ ys) (suc i) x y = ap (λ l. f a b ∷ l) (zip2_set f xs ys i x y)
 
 -- both written are the joined list written
-joined_set : (arrivals : List Arrivals) (fronts : List NodeFronts) (i : ℕ) (a : Arrivals) (f : NodeFronts)
+pub joined_set : (arrivals : List Arrivals) (fronts : List NodeFronts) (i : ℕ) (a : Arrivals) (f : NodeFronts)
     → inboxes_by (set arrivals i a) (set fronts i f) ≡ set (inboxes_by arrivals fronts) i (inbox_by a f)
 unfolding inboxes_by
 joined_set arrivals fronts i a f = zip2_set inbox_by arrivals fronts i a f
+
+pub joined_length : (arrivals : List Arrivals) (fronts : List NodeFronts) → length arrivals ≡ 256
+    → length fronts ≡ 256 → length (inboxes_by arrivals fronts) ≡ 256
+unfolding inboxes_by
+joined_length arrivals fronts sets all = length-zip2 inbox_by arrivals fronts (sets ∙ sym all) ∙ sets
 
 sets_there : (arrivals : List Arrivals) (fronts : List NodeFronts) (i : ℕ)
     → i < length (inboxes_by arrivals fronts) → i < length arrivals
@@ -103,6 +108,19 @@ module _ {mesh : List ℕ} {lists : List LinkView} {arrivals : List Arrivals} {f
   fronts_set d f =
       ap (λ (l : List Arrivals). inboxes_by l (set fronts i f)) (sym (set-get_or arrivals i d))
       ∙ joined_set arrivals fronts i (get_or arrivals i d) f
+
+  pub alike_by : (d : Arrivals) (f : NodeFronts) (now : List LinkView)
+      → AreInboxes mesh now (set (inboxes_by arrivals fronts) i (inbox_by (get_or arrivals i d) f))
+      → links_by mesh now (set (inboxes_by arrivals fronts) i (inbox_by (get_or arrivals i d) f))
+      ≡ links_by mesh lists (inboxes_by arrivals fronts)
+      → AreSeenAlike mesh arrivals lists fronts now (set fronts i f)
+  alike_by d f now sound same = record {
+    sound = record {
+      all = rw length-set filed.all;
+      inboxes = subst (λ (b : List Inbox). AreInboxes mesh now b) (sym (fronts_set d f)) sound;
+    };
+    same = ap (λ (b : List Inbox). links_by mesh now b) (fronts_set d f) ∙ same;
+  }
 
 -- the one that came in by a port, alone, is taken
 pub taken : {A : Type 0} (here now : ℕ) (fronts : Fronts A) (p : ℕ) → IsPut here now p false

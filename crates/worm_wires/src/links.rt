@@ -94,8 +94,9 @@ fn spill_flits(
     ensures spilled { IsPortSpilled of_flits of_credits (inboxes_by arrivals.now fronts.old.items)
         (inboxes_by arrivals.now fronts.new.items) node port }
 {
-    let here = &mut fronts[usize::from(node)];
-    if arrivals[usize::from(node)].flits.contains(port) {
+    let at = usize::from(node);
+    let here = &mut fronts[at];
+    if arrivals[at].flits.contains(port) {
         let links = wiring.links_beyond(node, port);
         here.spill_flits(port, &mut lists[usize::from(links.into)]);
     }
@@ -117,8 +118,9 @@ fn spill_credits(
     ensures spilled { IsPortSpilled of_credits of_flits (inboxes_by arrivals.now fronts.old.items)
         (inboxes_by arrivals.now fronts.new.items) node port }
 {
-    let here = &mut fronts[usize::from(node)];
-    if arrivals[usize::from(node)].credits.contains(port) {
+    let at = usize::from(node);
+    let here = &mut fronts[at];
+    if arrivals[at].credits.contains(port) {
         let links = wiring.links_beyond(node, port);
         here.spill_credits(port, &mut lists[usize::from(links.out)]);
     }
@@ -156,9 +158,10 @@ impl Links {
         let mut arrivals = [Arrivals::new(); 256];
         let Inboxes { list: mut fronts } = inboxes;
         for node in 0..256u16 {
+            let at = usize::from(node);
             let inbox = inbox_of(&wiring, states.as_slice(), node as u8);
-            arrivals[usize::from(node)] = inbox.0;
-            fronts[usize::from(node)] = inbox.1;
+            arrivals[at] = inbox.0;
+            fronts[at] = inbox.1;
         }
         Links {
             wiring,
