@@ -102,6 +102,27 @@ module _ {mesh : List ℕ} {lists : List LinkView} {arrivals : List Arrivals} {f
     seen_by view seen =
         (λ t. record { mesh = mesh; states = links_by mesh now (joined_set arrivals fronts i a f t) }) ∙ seen
 
+  -- or of the ports alone
+
+  module _ (a : Arrivals) (f : NodeFronts) (reads : f ≡ get_or fronts i f) where
+    sets_set : inboxes_by (set arrivals i a) fronts ≡ set (inboxes_by arrivals fronts) i (inbox_by a f)
+    sets_set =
+        ap (λ (l : List NodeFronts). inboxes_by (set arrivals i a) l)
+        (sym ((λ t. set fronts i (reads t)) ∙ set-get_or fronts i f))
+        ∙ joined_set arrivals fronts i a f
+
+    pub sets_filed_by : AreInboxes mesh lists (set (inboxes_by arrivals fronts) i (inbox_by a f))
+        → AreFiled mesh lists (set arrivals i a) fronts
+    sets_filed_by sound = record {
+      all = filed.all;
+      inboxes = subst (λ (b : List Inbox). AreInboxes mesh lists b) (sym sets_set) sound;
+    }
+
+    pub sets_seen_by : (view : LinksView)
+        → record { mesh = mesh; states = links_by mesh lists (set (inboxes_by arrivals fronts) i (inbox_by a f)) } ≡ view
+        → record { mesh = mesh; states = links_by mesh lists (inboxes_by (set arrivals i a) fronts) } ≡ view
+    sets_seen_by view seen = (λ t. record { mesh = mesh; states = links_by mesh lists (sets_set t) }) ∙ seen
+
   -- or of the fronts alone
   pub fronts_set : (d : Arrivals) (f : NodeFronts) → inboxes_by arrivals (set fronts i f)
       ≡ set (inboxes_by arrivals fronts) i (inbox_by (get_or arrivals i d) f)

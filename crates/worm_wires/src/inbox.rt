@@ -1,7 +1,6 @@
 //! The inboxes of the nodes: at each mesh port the flit that comes in next, and the credit that comes back next.
 
-ghost use Rattle.std.specs.Prelude.{◌≡◌, ◌<◌, ℕ, drop, is_some, option_copied, slice_get, true, Some, false};
-ghost use Rattle.worm_wires.specs.Arrivals.{has_front};
+ghost use Rattle.std.specs.Prelude.{◌≡◌, ◌<◌, ℕ, is_some, option_copied, slice_get, true, Some, false};
 ghost use Rattle.worm_flit.specs.SmallSet.{has};
 ghost use Rattle.worm_wires.specs.Inbox.{IsFiled, IsWay, front_of, tray_of, whole};
 
@@ -126,35 +125,6 @@ impl NodeFronts {
             flits: Fronts::new(NO_FLIT),
             credits: Fronts::new(0),
         }
-    }
-
-    /// Drops the first flit of the list of the link into the port, and files the next, if there is one. A link seldom
-    /// has a list, so this is no part of the loops that call it.
-    #[inline(never)]
-    pub(crate) fn pop_flit(&mut self, here: &mut SmallSet, port: u8, link: &mut LinkState)
-        requires { port < 6 }
-        ensures link { link.new ≡ record link.old { flits = drop 1 link.old.flits } }
-        ensures filed { IsFiled (tray_of here.old self.old.flits) (tray_of here.new self.new.flits) port
-            (has_front (drop 1 link.old.flits)) (has_front (drop 1 link.old.flits))
-            (slice_get (drop 1 link.old.flits) 0) }
-        ensures kept { self.new.credits ≡ self.old.credits }
-    {
-        link.pop();
-        self.flits.file(here, port, link.front().copied());
-    }
-
-    /// The same of the first credit of the list of the link out of the port.
-    #[inline(never)]
-    pub(crate) fn pop_credit(&mut self, here: &mut SmallSet, port: u8, link: &mut LinkState)
-        requires { port < 6 }
-        ensures link { link.new ≡ record link.old { credits = drop 1 link.old.credits } }
-        ensures filed { IsFiled (tray_of here.old self.old.credits) (tray_of here.new self.new.credits) port
-            (has_front (drop 1 link.old.credits)) (has_front (drop 1 link.old.credits))
-            (slice_get (drop 1 link.old.credits) 0) }
-        ensures kept { self.new.flits ≡ self.old.flits }
-    {
-        link.pop_credit();
-        self.credits.file(here, port, link.front_credit());
     }
 
     /// Moves the flit that comes in by the port into the list of its link, where it is in the inbox alone.

@@ -327,14 +327,29 @@ impl Links {
             { flits = drop 1 (state_at self.old (number_into self.old node port)).flits }) }
     {
         let at = usize::from(node);
-        let here = &mut self.arrivals[at].flits;
-        let fronts = &mut self.fronts[at];
-        if !fronts.flits.more.contains(port) {
-            here.put(port, false);
+        if !self.fronts[at].flits.more.contains(port) {
+            self.arrivals[at].flits.put(port, false);
             return;
         }
+        self.pop_listed(node, port);
+    }
+
+    /// The same by the link's list, and files what comes in next. A link seldom has a list, so this is no part of the
+    /// loops that call it.
+    #[inline(never)]
+    fn pop_listed(&mut self, node: u8, port: u8)
+        requires { IsSome (neighbour_of self.old.mesh node port) }
+        ensures { self.new ≡ with_state self.old (number_into self.old node port)
+            (record (state_at self.old (number_into self.old node port))
+            { flits = drop 1 (state_at self.old (number_into self.old node port)).flits }) }
+    {
         let number = self.wiring.links_beyond(node, port).into;
-        fronts.pop_flit(here, port, &mut self.lists[usize::from(number)]);
+        let list = &mut self.lists[usize::from(number)];
+        list.pop();
+        let front = list.front().copied();
+        let at = usize::from(node);
+        let here = &mut self.arrivals[at].flits;
+        self.fronts[at].flits.file(here, port, front);
     }
 
     /// Puts the flit at the end of the link out of this port.
@@ -369,14 +384,28 @@ impl Links {
             { credits = drop 1 (state_at self.old (number_out self.old node port)).credits }) }
     {
         let at = usize::from(node);
-        let here = &mut self.arrivals[at].credits;
-        let fronts = &mut self.fronts[at];
-        if !fronts.credits.more.contains(port) {
-            here.put(port, false);
+        if !self.fronts[at].credits.more.contains(port) {
+            self.arrivals[at].credits.put(port, false);
             return;
         }
+        self.pop_listed_credit(node, port);
+    }
+
+    /// The same by the link's list, and files what comes back next.
+    #[inline(never)]
+    fn pop_listed_credit(&mut self, node: u8, port: u8)
+        requires { IsSome (neighbour_of self.old.mesh node port) }
+        ensures { self.new ≡ with_state self.old (number_out self.old node port)
+            (record (state_at self.old (number_out self.old node port))
+            { credits = drop 1 (state_at self.old (number_out self.old node port)).credits }) }
+    {
         let number = self.wiring.links_beyond(node, port).out;
-        fronts.pop_credit(here, port, &mut self.lists[usize::from(number)]);
+        let list = &mut self.lists[usize::from(number)];
+        list.pop_credit();
+        let front = list.front_credit();
+        let at = usize::from(node);
+        let here = &mut self.arrivals[at].credits;
+        self.fronts[at].credits.file(here, port, front);
     }
 
     /// Puts a credit of the channel at the end of the credits of the link into this port.
