@@ -132,15 +132,15 @@ module _ {mesh : List ℕ} {lists : List LinkView} {arrivals : List Arrivals} {f
 
   pub alike_by : (d : Arrivals) (f : NodeFronts) (now : List LinkView)
       → AreInboxes mesh now (set (inboxes_by arrivals fronts) i (inbox_by (get_or arrivals i d) f))
-      → links_by mesh now (set (inboxes_by arrivals fronts) i (inbox_by (get_or arrivals i d) f))
-      ≡ links_by mesh lists (inboxes_by arrivals fronts)
+      × (links_by mesh now (set (inboxes_by arrivals fronts) i (inbox_by (get_or arrivals i d) f))
+      ≡ links_by mesh lists (inboxes_by arrivals fronts))
       → AreSeenAlike mesh arrivals lists fronts now (set fronts i f)
-  alike_by d f now sound same = record {
+  alike_by d f now alike = record {
     sound = record {
       all = rw length-set filed.all;
-      inboxes = subst (λ (b : List Inbox). AreInboxes mesh now b) (sym (fronts_set d f)) sound;
+      inboxes = subst (λ (b : List Inbox). AreInboxes mesh now b) (sym (fronts_set d f)) alike.0;
     };
-    same = ap (λ (b : List Inbox). links_by mesh now b) (fronts_set d f) ∙ same;
+    same = ap (λ (b : List Inbox). links_by mesh now b) (fronts_set d f) ∙ alike.1;
   }
 
 -- the one that came in by a port, alone, is taken

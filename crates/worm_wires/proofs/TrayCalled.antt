@@ -180,16 +180,16 @@ module _ {A B : Type 0} {kind : Kind A} {other : Kind B} {put : LinkView → Lis
             (λ t. whole true (first t) (spilled t)) ∙ whole_twice (slice_get (kind.tray read).front p) (kind.list list)
             ∙ sym (seen_read k refl some)
 
-        pub spilled_sound : AreInboxes mesh (set lists j link) (set inboxes i box)
-        spilled_sound = both_sound box true true (slice_get (kind.tray read).front p) filed kept link same room way_spilled
-
-        pub spilled_same : links_by mesh (set lists j link) (set inboxes i box) ≡ links_by mesh lists inboxes
-        spilled_same =
-            ap (λ (l : LinksView). l.states)
-            (both_seen box true true (slice_get (kind.tray read).front p) filed kept link same room way_spilled k
-            (kind.list (state_at now k)) refl same_now
-            ∙ ap (λ (l : LinkView). with_state now k l) (is.is_put (state_at now k))
-            ∙ (λ t. record { mesh = now.mesh; states = set-get_or now.states k blank_link t }) ∙ sym call.seen)
+        pub spilled_alike : AreInboxes mesh (set lists j link) (set inboxes i box)
+            × (links_by mesh (set lists j link) (set inboxes i box) ≡ links_by mesh lists inboxes)
+        spilled_alike = (
+          both_sound box true true (slice_get (kind.tray read).front p) filed kept link same room way_spilled,
+          ap (λ (l : LinksView). l.states)
+              (both_seen box true true (slice_get (kind.tray read).front p) filed kept link same room way_spilled k
+              (kind.list (state_at now k)) refl same_now
+              ∙ ap (λ (l : LinkView). with_state now k l) (is.is_put (state_at now k))
+              ∙ (λ t. record { mesh = now.mesh; states = set-get_or now.states k blank_link t }) ∙ sym call.seen),
+        )
 
     -- the inbox alone is written
     module _ (box : Inbox) (here more : Bool) (front : Option A)

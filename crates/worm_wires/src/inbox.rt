@@ -24,7 +24,7 @@ const NO_FLIT: Flit = Flit {
 };
 
 /// The mesh ports of a node at which something comes in. A turn looks at those of each node, so they stand apart from
-/// what comes in, near those of other nodes.
+/// what comes in, beside those of other nodes.
 #[derive(Clone, Copy)]
 pub struct Arrivals {
     /// Those at which a flit comes in.

@@ -1,5 +1,5 @@
-//! The links of a mesh with what is on them. What comes in next at a node stands in its inbox, so that a turn looks at
-//! one place, and goes past all other ports.
+//! The links of a mesh with what is on them. What comes in next at a node stands in its inbox, and the ports at which
+//! something does stand apart, so that a turn goes past all others, and past a node that rests by one look.
 
 ghost use Rattle.std.specs.Prelude.{◌≡◌, ◌<◌, ◌↔◌, ◌++◌, ◌∷◌, [], ℕ, IsSome, IsTrue};
 ghost use Rattle.std.specs.Prelude.{Option, Some, true, drop, is_some, length, option_copied, slice_get};
@@ -19,14 +19,15 @@ use worm_flit::{Flit, SmallSet};
 use worm_mesh::Mesh;
 
 /// A mesh, and its links by number with what is on them. What comes in next stands in the inbox of the node that takes
-/// it; a link on which more than one flit is has them all in a list, and so it is with credits.
+/// it; a link on which more than one flit is has them all in a list, and so it is with credits. Of the inboxes the sets
+/// of ports are here by value, two bytes a node, and what comes in is behind the vector.
 #[derive(Drop)]
 pub struct Links {
     /// The mesh, with the numbers of each node's links.
     wiring: Wiring,
     /// The lists, by link number.
     lists: Vec<LinkState>,
-    /// Where something comes in, by node number.
+    /// The ports at which something comes in, by node number.
     arrivals: [Arrivals; 256],
     /// What comes in next, by node number.
     fronts: Vec<NodeFronts>,
@@ -252,9 +253,8 @@ impl Links {
         ensures { result ≡ has_front (state_at self.now (number_out self.now node port)).flits }
     {
         let links = self.wiring.links_beyond(node, port);
-        self.arrivals[usize::from(links.beyond)]
-            .flits
-            .contains(links.entered)
+        let beyond = &self.arrivals[usize::from(links.beyond)];
+        beyond.flits.contains(links.entered)
     }
 
     /// Whether a credit is on its way back over the link into this port.
@@ -263,9 +263,8 @@ impl Links {
         ensures { result ≡ has_front (state_at self.now (number_into self.now node port)).credits }
     {
         let links = self.wiring.links_beyond(node, port);
-        self.arrivals[usize::from(links.beyond)]
-            .credits
-            .contains(links.entered)
+        let beyond = &self.arrivals[usize::from(links.beyond)];
+        beyond.credits.contains(links.entered)
     }
 
     /// How many flits are on the link out of this port.
@@ -334,8 +333,8 @@ impl Links {
         self.pop_listed(node, port);
     }
 
-    /// The same by the link's list, and files what comes in next. A link seldom has a list, so this is no part of the
-    /// loops that call it.
+    /// The same by the link's list, whether it has one or not. A link seldom has, so this is no part of the loops that
+    /// call it.
     #[inline(never)]
     fn pop_listed(&mut self, node: u8, port: u8)
         requires { IsSome (neighbour_of self.old.mesh node port) }
@@ -391,7 +390,7 @@ impl Links {
         self.pop_listed_credit(node, port);
     }
 
-    /// The same by the link's list, and files what comes back next.
+    /// The same by the link's list of credits.
     #[inline(never)]
     fn pop_listed_credit(&mut self, node: u8, port: u8)
         requires { IsSome (neighbour_of self.old.mesh node port) }

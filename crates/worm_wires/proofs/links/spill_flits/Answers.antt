@@ -12,7 +12,7 @@ use Rattle.worm_wires.proofs.Called.{IsCall}
 use Rattle.worm_wires.proofs.EachKind.{flits_kind}
 use Rattle.worm_wires.proofs.Joined.{alike_by, call_of, fronts_set}
 use Rattle.worm_wires.proofs.Spilled.{port_put, port_stays}
-use Rattle.worm_wires.proofs.TrayCalled.{here_read, linked_read, spilled_same, spilled_sound}
+use Rattle.worm_wires.proofs.TrayCalled.{here_read, linked_read, spilled_alike}
 use Rattle.worm_wires.proofs.links.spill_flits.Goals as goal
 use Rattle.worm_wires.proofs.links.spill_flits.Goals.{After-contains, After-from}
 
@@ -63,11 +63,7 @@ returns-then-contains-clause-kept c =
     let fronts = c.spill_flits.new.self in
     let kept = ap (λ (g : Fronts ℕ). tray_of (sets before).credits g) done.kept in
     alike_by c.requires.filed c.from-at.result c.index-arrivals-at.result fronts _
-    (spilled_sound flits_kind (call before) link c.from.result c.index_mut.result.now refl c.index_mut.ensures.value
-    (inbox_by (sets before) fronts) (done.filed (sets before).flits some) kept some c.spill_flits.new.link
-    (ap (λ (l : LinkView). l.credits) done.link) (ap (λ (l : LinkView). l.room) done.link)
-    (ap (λ (l : LinkView). l.flits) done.link))
-    (spilled_same flits_kind (call before) link c.from.result c.index_mut.result.now refl c.index_mut.ensures.value
+    (spilled_alike flits_kind (call before) link c.from.result c.index_mut.result.now refl c.index_mut.ensures.value
     (inbox_by (sets before) fronts) (done.filed (sets before).flits some) kept some c.spill_flits.new.link
     (ap (λ (l : LinkView). l.credits) done.link) (ap (λ (l : LinkView). l.room) done.link)
     (ap (λ (l : LinkView). l.flits) done.link))
