@@ -1,5 +1,5 @@
 -- What a pop and a push leave of a port's tray and of the list behind it.
-use Rattle.std.proofs.Common.{◌≡◌, ℕ, ◌<◌, ◌++◌, Bool, true, false, List, [], ◌∷◌, length, get_or, set, drop, Option}
+use Rattle.std.proofs.Common.{◌≡◌, ℕ, ◌<◌, ◌++◌, true, false, List, [], ◌∷◌, length, get_or, set, drop, Option}
 use Rattle.std.proofs.Common.{Some, None, refl, arith, ap, sym, subst, ◌∙◌}
 use Rattle.std.specs.Prelude.{is_some, slice_get}
 use Rattle.worm_flit.specs.SmallSet.{has}

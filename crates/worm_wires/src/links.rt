@@ -244,7 +244,10 @@ impl Links {
     {
         let at = usize::from(node);
         let here = &self.arrivals[at];
-        self.fronts[at].credits.front_at(&here.credits, port).copied()
+        self.fronts[at]
+            .credits
+            .front_at(&here.credits, port)
+            .copied()
     }
 
     /// Whether a flit is on the link out of this port.

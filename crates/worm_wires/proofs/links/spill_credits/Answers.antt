@@ -1,4 +1,4 @@
-use Rattle.std.proofs.Common.{◌≡◌, ◌∙◌, List, get_or, set, subst, ℕ, Some, true, ap, arith, refl, sym}
+use Rattle.std.proofs.Common.{◌≡◌, ◌∙◌, List, get_or, subst, ℕ, Some, true, ap, arith, refl, sym}
 use Rattle.std.specs.Prelude.{IsSome, slice_get}
 use Rattle.worm_flit.specs.declared.Flit.{Flit}
 use Rattle.worm_flit.specs.SmallSet.{has}

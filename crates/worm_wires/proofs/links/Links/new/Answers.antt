@@ -1,7 +1,7 @@
-use Rattle.std.proofs.Common.{◌≡◌, ◌≤◌, ℕ, arith, length, length-set, subst, sym, List}
+use Rattle.std.proofs.Common.{◌≤◌, arith, length-set, subst, List}
 use Rattle.std.proofs.lemmas.List.{length-replicate}
 use Rattle.worm_wires.specs.Links.{LinkView}
-use Rattle.worm_wires.specs.Inbox.{AreFiled, AreSpilled, Inbox, IsInbox, inbox_at, inbox_by, inboxes_by}
+use Rattle.worm_wires.specs.Inbox.{AreFiled, IsInbox, inbox_by, inboxes_by}
 use Rattle.worm_wires.proofs.AllSpilled.{links_spilled}
 use Rattle.worm_wires.proofs.InboxFilled.{nodes_more}
 use Rattle.worm_wires.proofs.Joined.{joined_length, joined_set}

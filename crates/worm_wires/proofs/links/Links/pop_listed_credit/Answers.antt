@@ -1,4 +1,4 @@
-use Rattle.std.proofs.Common.{◌≡◌, ◌<◌, ℕ, length, get_or, ap, ◌∙◌, arith, rules, sym, refl}
+use Rattle.std.proofs.Common.{◌≡◌, get_or, ap, ◌∙◌, arith, sym, refl}
 use Rattle.std.specs.Prelude.{slice_get}
 use Rattle.worm_wires.specs.Arrivals.{number_out}
 use Rattle.worm_wires.specs.Inbox.{inbox_by, inboxes_by}
@@ -8,7 +8,6 @@ use Rattle.worm_wires.specs.declared.inbox.NodeFronts.{NodeFronts}
 use Rattle.worm_wires.proofs.Called.{IsCall, IsLinked, linked_of, numbers_by}
 use Rattle.worm_wires.proofs.EachKind.{credits_kind}
 use Rattle.worm_wires.proofs.Joined.{call_of, filed_by, seen_by}
-use Rattle.worm_wires.proofs.TrayCalled.{there}
 use Rattle.worm_wires.proofs.TrayMoved.{left_popped, left_sound}
 use Rattle.worm_wires.proofs.links.Links.pop_listed_credit.Goals as goal
 use Rattle.worm_wires.proofs.links.Links.pop_listed_credit.Goals.{After-file, After-from}

@@ -1,4 +1,4 @@
-use Rattle.std.proofs.Common.{◌≡◌, ℕ, get_or, ◌<◌, length, [], ◌∷◌, ◌++◌, true, ap, ◌∙◌, arith, rules, sym, refl}
+use Rattle.std.proofs.Common.{◌≡◌, get_or, ◌<◌, length, [], ◌∷◌, ◌++◌, true, ap, ◌∙◌, arith, rules, sym, refl}
 use Rattle.std.specs.Prelude.{slice_get}
 use Rattle.worm_flit.specs.declared.Flit.{Flit}
 use Rattle.worm_wires.specs.Arrivals.{number_into}
