@@ -7,10 +7,9 @@ use Rattle.std.proofs.lemmas.Bool.{cases_lt}
 use Rattle.worm_flit.specs.SmallSet.{has}
 use Rattle.worm_flit.proofs.SmallSets.{has_none}
 use Rattle.worm_wires.specs.Arrivals.{has_front, on_link}
-use Rattle.worm_wires.specs.Inbox.{AreSpilled, IsFiled, IsInbox, IsSpilled, IsTray, IsWay, Kind, inbox_at, room_of}
+use Rattle.worm_wires.specs.Inbox.{AreSpilled, Inbox, IsFiled, IsInbox, IsSpilled, IsTray, IsWay, Kind, Tray, inbox_at}
+use Rattle.worm_wires.specs.Inbox.{room_of}
 use Rattle.worm_wires.specs.Links.{LinkView}
-use Rattle.worm_wires.specs.Inbox.{Inbox}
-use Rattle.worm_wires.specs.Inbox.{Tray}
 use Rattle.worm_wires.proofs.Apart.{number_cases}
 
 -- of one port, where the list has all that comes in

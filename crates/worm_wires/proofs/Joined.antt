@@ -119,7 +119,8 @@ module _ {mesh : List ℕ} {lists : List LinkView} {arrivals : List Arrivals} {f
     }
 
     pub sets_seen_by : (view : LinksView)
-        → record { mesh = mesh; states = links_by mesh lists (set (inboxes_by arrivals fronts) i (inbox_by a f)) } ≡ view
+        → record { mesh = mesh; states = links_by mesh lists (set (inboxes_by arrivals fronts) i (inbox_by a f)) }
+        ≡ view
         → record { mesh = mesh; states = links_by mesh lists (inboxes_by (set arrivals i a) fronts) } ≡ view
     sets_seen_by view seen = (λ t. record { mesh = mesh; states = links_by mesh lists (sets_set t) }) ∙ seen
 

@@ -7,10 +7,9 @@ use Rattle.std.proofs.lemmas.List.{get_or_default, set-get_or}
 use Rattle.worm_flit.specs.SmallSet.{has}
 use Rattle.worm_mesh.specs.Address.{neighbour_of}
 use Rattle.worm_wires.specs.Arrivals.{LinksView, has_front, on_link, state_at, with_state}
-use Rattle.worm_wires.specs.Inbox.{front_of, AreInboxes, IsFiled, IsWay, IsWayOf, Kind, inbox_at}
-use Rattle.worm_wires.specs.Inbox.{links_by, room_of, whole}
+use Rattle.worm_wires.specs.Inbox.{AreInboxes, Inbox, IsFiled, IsWay, IsWayOf, Kind, front_of, inbox_at, links_by}
+use Rattle.worm_wires.specs.Inbox.{room_of, whole}
 use Rattle.worm_wires.specs.Links.{LinkView, blank_link}
-use Rattle.worm_wires.specs.Inbox.{Inbox}
 use Rattle.worm_wires.proofs.Called.{IsCall, inbox_is, list_is}
 use Rattle.worm_wires.proofs.EachKind.{IsKind}
 use Rattle.worm_wires.proofs.TraysWritten.{IsWrite}
@@ -90,7 +89,7 @@ module _ {A B : Type 0} {kind : Kind A} {other : Kind B} {put : LinkView → Lis
       pub the_list : list ≡ get_or lists k blank_link
       the_list = list_is lists k j list there at reads
 
-      pub way_read : IsWayOf (kind.tray read) p (kind.list list) list.room
+      way_read : IsWayOf (kind.tray read) p (kind.list list) list.room
       way_read =
           subst (λ (l : LinkView). IsWayOf (kind.tray read) p (kind.list l) l.room) (sym the_list) way
 

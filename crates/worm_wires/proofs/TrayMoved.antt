@@ -4,9 +4,8 @@ use Rattle.std.proofs.Common.{Some, None, refl, arith, ap, sym, subst, ◌∙◌
 use Rattle.std.specs.Prelude.{is_some, slice_get}
 use Rattle.worm_flit.specs.SmallSet.{has}
 use Rattle.worm_wires.specs.Arrivals.{LinksView, has_front, state_at, with_state}
-use Rattle.worm_wires.specs.Inbox.{AreInboxes, IsFiled, IsWay, Kind, links_by, whole}
+use Rattle.worm_wires.specs.Inbox.{AreInboxes, Inbox, IsFiled, IsWay, Kind, links_by, whole}
 use Rattle.worm_wires.specs.Links.{LinkView, blank_link}
-use Rattle.worm_wires.specs.Inbox.{Inbox}
 use Rattle.worm_wires.proofs.Called.{IsCall}
 use Rattle.worm_wires.proofs.EachKind.{IsKind}
 use Rattle.worm_wires.proofs.TrayCalled.{both_seen, both_sound, first_read, inbox_seen, inbox_sound, none_listed}
@@ -80,12 +79,13 @@ module _ {A B : Type 0} {kind : Kind A} {other : Kind B} {put : LinkView → Lis
 
       left : IsWay (is_some front) (is_some front) (slice_get (kind.tray box).front p) (kind.list link) link.room
       left =
-          way_front (is_some front) (is_some front) (slice_get (kind.tray box).front p) (kind.list link) link.room comes
-          comes (λ within. filed.first within ∙ next)
+          way_front (is_some front) (is_some front) (slice_get (kind.tray box).front p) (kind.list link) link.room
+          comes comes (λ within. filed.first within ∙ next)
 
       pub left_sound : AreInboxes mesh (set lists j link) (set inboxes i box)
       left_sound =
-          both_sound is call by j list at reads box (is_some front) (is_some front) front filed kept link same room left
+          both_sound is call by j list at reads box (is_some front) (is_some front) front filed kept link same room
+          left
 
       pub left_popped : record { mesh = mesh; states = links_by mesh (set lists j link) (set inboxes i box) }
           ≡ with_state now n (put (state_at now n) (drop 1 (kind.list (state_at now n))))

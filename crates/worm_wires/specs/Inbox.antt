@@ -2,6 +2,7 @@
 -- Towles, chapter 13).
 use Rattle.std.specs.Prelude.{ℕ, ◌≡◌, ◌*◌, ◌<◌, ◌++◌, ◌∷◌, Bool, true, cond, List, [], length, slice_get}
 use Rattle.std.specs.Prelude.{slice_index_or, Option, None, Some, IsSome, option_to_list, zero, suc}
+use Rattle.std.specs.Simd.Lanes.{zip2}
 use Rattle.worm_flit.specs.declared.Flit.{Flit}
 use Rattle.worm_flit.specs.SmallSet.{has, IsPut}
 use Rattle.worm_mesh.specs.Address.{AreRadices, has_neighbour, neighbour_of, node_count, opposite_of}
@@ -12,20 +13,20 @@ use Rattle.worm_wires.specs.Wiring.{in_link, out_link}
 use Rattle.worm_wires.specs.declared.inbox.Arrivals.{Arrivals}
 use Rattle.worm_wires.specs.declared.inbox.Fronts.{Fronts}
 use Rattle.worm_wires.specs.declared.inbox.NodeFronts.{NodeFronts}
-use Rattle.std.specs.Simd.Lanes.{zip2}
 
--- What comes in of one kind at the mesh ports of a node: the ports at which one does, those of them whose link has a
--- list, and the first, by port
+-- what comes in of one kind at the mesh ports of a node: the ports at which one does, those of them whose link has a
+-- list, and the one that comes in next, by port
 pub record Tray (A : Type 0) : Type 0 where
   pub here : ℕ
   pub more : ℕ
   pub front : List A
 
+-- what comes in at a node
 pub record Inbox : Type 0 where
   pub flits : Tray Flit
   pub credits : Tray ℕ
 
--- It stands in two places: the set of the ports apart, near those of other nodes.
+-- the same, as it stands in two places: the ports at which one comes in apart, beside those of other nodes
 abbrev pub tray_of : {A : Type 0} → ℕ → Fronts A → Tray A
 tray_of here fronts = record { here = here; more = fronts.more; front = fronts.front }
 
@@ -35,6 +36,7 @@ inbox_by arrivals fronts = record {
   credits = tray_of arrivals.credits fronts.credits;
 }
 
+-- those of all nodes
 unfoldable pub inboxes_by : List Arrivals → List NodeFronts → List Inbox
 inboxes_by arrivals fronts = zip2 inbox_by arrivals fronts
 

@@ -56,7 +56,7 @@ pub struct Fronts<T> {
 }
 
 impl<T: Copy> Fronts<T> {
-    /// One in which nothing is.
+    /// Those of a node where none comes in.
     pub(crate) fn new(blank: T) -> Fronts<T>
         ensures { result.more ≡ 0 }
     {

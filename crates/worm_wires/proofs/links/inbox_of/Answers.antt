@@ -43,10 +43,12 @@ returns-clause-inbox c =
     omega (arith, c.terminal-terminal.ensures.value, c.terminal-terminal.ensures.bound) in
     record {
       flits = (tray_filled of_flits c.args.wiring.now c.args.lists.now c.args.node
-          (tray_of c.loop-port.arrivals.flits c.loop-port.fronts.flits) c.loop-port.port c.loop-port-test.false c.loop-port.auto.port-end
+          (tray_of c.loop-port.arrivals.flits c.loop-port.fronts.flits) c.loop-port.port c.loop-port-test.false
+          c.loop-port.auto.port-end
           (λ p above. in_none c.args.wiring.now c.args.node p (omega (arith, few, above))) inv.flits).0;
       credits = (tray_filled of_credits c.args.wiring.now c.args.lists.now c.args.node
-          (tray_of c.loop-port.arrivals.credits c.loop-port.fronts.credits) c.loop-port.port c.loop-port-test.false c.loop-port.auto.port-end
+          (tray_of c.loop-port.arrivals.credits c.loop-port.fronts.credits) c.loop-port.port c.loop-port-test.false
+          c.loop-port.auto.port-end
           (λ o above. out_none c.args.wiring.now c.args.node o (omega (arith, few, above))) inv.credits).0;
     }
 
@@ -57,9 +59,11 @@ returns-clause-spilled c =
     omega (arith, c.terminal-terminal.ensures.value, c.terminal-terminal.ensures.bound) in
     record {
       flits = (tray_filled of_flits c.args.wiring.now c.args.lists.now c.args.node
-          (tray_of c.loop-port.arrivals.flits c.loop-port.fronts.flits) c.loop-port.port c.loop-port-test.false c.loop-port.auto.port-end
+          (tray_of c.loop-port.arrivals.flits c.loop-port.fronts.flits) c.loop-port.port c.loop-port-test.false
+          c.loop-port.auto.port-end
           (λ p above. in_none c.args.wiring.now c.args.node p (omega (arith, few, above))) inv.flits).1;
       credits = (tray_filled of_credits c.args.wiring.now c.args.lists.now c.args.node
-          (tray_of c.loop-port.arrivals.credits c.loop-port.fronts.credits) c.loop-port.port c.loop-port-test.false c.loop-port.auto.port-end
+          (tray_of c.loop-port.arrivals.credits c.loop-port.fronts.credits) c.loop-port.port c.loop-port-test.false
+          c.loop-port.auto.port-end
           (λ o above. out_none c.args.wiring.now c.args.node o (omega (arith, few, above))) inv.credits).1;
     }

@@ -6,6 +6,8 @@ use Rattle.worm_wires.proofs.links.inbox_of.Given as goal
 
 abbrev pub invariant-loop-port : goal.invariant-loop-port
 invariant-loop-port l = record {
-  flits : IsFilled (tray_of l.arrivals.flits l.fronts.flits) (λ p. flits_of l.lists (in_link l.wiring l.node p)) l.port;
-  credits : IsFilled (tray_of l.arrivals.credits l.fronts.credits) (λ o. credits_of l.lists (out_link l.wiring l.node o)) l.port;
+  flits : IsFilled (tray_of l.arrivals.flits l.fronts.flits)
+      (λ p. flits_of l.lists (in_link l.wiring l.node p)) l.port;
+  credits : IsFilled (tray_of l.arrivals.credits l.fronts.credits)
+      (λ o. credits_of l.lists (out_link l.wiring l.node o)) l.port;
 }

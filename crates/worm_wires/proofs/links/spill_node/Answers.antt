@@ -28,8 +28,8 @@ loop-port-preserved c =
       };
       spilled = port_spilled (inboxes_by c.args.arrivals.now c.loop-port.fronts.items)
           (inboxes_by c.args.arrivals.now c.spill_flits.new.fronts.items)
-          (inboxes_by c.args.arrivals.now c.spill_credits.new.fronts.items) c.args.node c.loop-port.port c.loop-port-test.true flits.spilled
-          credits.spilled inv.spilled;
+          (inboxes_by c.args.arrivals.now c.spill_credits.new.fronts.items) c.args.node c.loop-port.port
+          c.loop-port-test.true flits.spilled credits.spilled inv.spilled;
       others = λ y away.
           credits.spilled.others y away ∙ flits.spilled.others y away ∙ inv.others y away;
     }
@@ -40,8 +40,8 @@ returns-clause-kept c = c.loop-port.invariant.kept
 pub returns-clause-spilled : goal.returns-clause-spilled
 returns-clause-spilled c =
     let six : c.loop-port.port ≡ 6 = omega (arith, c.loop-port-test.false, c.loop-port.auto.port-end) in
-    subst (λ (n : ℕ). AreSpilled (inbox_at (inboxes_by c.args.arrivals.now c.loop-port.fronts.items) c.args.node) n) six
-    c.loop-port.invariant.spilled
+    let inboxes = inboxes_by c.args.arrivals.now c.loop-port.fronts.items in
+    subst (λ (n : ℕ). AreSpilled (inbox_at inboxes c.args.node) n) six c.loop-port.invariant.spilled
 
 pub returns-clause-others : goal.returns-clause-others
 returns-clause-others c = c.loop-port.invariant.others

@@ -36,10 +36,11 @@ pub returns-then-contains : goal.returns-then-contains
 returns-then-contains c =
     let before = (goal.at.returns-then-contains c).After-contains in
     let link = (numbers before).in_beyond in
-    let list = the_list flits_kind (call before no_arrivals) link c.from.result c.index-then-contains.result.now
-    c.from.ensures c.index-then-contains.ensures in
+    let is = call before no_arrivals in
+    let list = the_list flits_kind is link c.from.result c.index-then-contains.result.now c.from.ensures
+    c.index-then-contains.ensures in
     c.count.ensures ∙ ap (λ (l : LinkView). length l.flits) list
-    ∙ sym (ap (λ (fs : List Flit). length fs) (seen_listed flits_kind (call before no_arrivals) link _ (numbers before).out_now
+    ∙ sym (ap (λ (fs : List Flit). length fs) (seen_listed flits_kind is link _ (numbers before).out_now
     (sym c.contains.ensures ∙ c.if-contains.true)))
 
 byte_is : (b : Bool) → bool_byte b ≡ cond b 1 0
@@ -51,9 +52,10 @@ returns c =
     let before = (goal.at.returns c).After-contains in
     let link = (numbers before).in_beyond in
     let read = inbox before c.index-self-at.result in
+    let is = call before c.index-self-at.result in
     let port = c.links_beyond-links.result.entered in
     let alone = count_alone (has read.flits.here port) (has read.flits.more port) (slice_get read.flits.front port) _ _
-    (way flits_kind (call before c.index-self-at.result) link) (sym c.contains.ensures ∙ c.if-contains.false) in
-    let seen = ap (λ (fs : List Flit). length fs) (seen_is flits_kind (call before c.index-self-at.result) link _ (numbers before).out_now) in
+    (way flits_kind is link) (sym c.contains.ensures ∙ c.if-contains.false) in
+    let seen = ap (λ (fs : List Flit). length fs) (seen_is flits_kind is link _ (numbers before).out_now) in
     c.from-2.ensures ∙ byte_is c.contains-2.result ∙ ap (λ (b : Bool). cond b 1 0) c.contains-2.ensures
     ∙ sym (seen ∙ alone)

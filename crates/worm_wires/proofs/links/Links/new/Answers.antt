@@ -23,11 +23,11 @@ loop-node-preserved c =
     (λ (lists : List LinkView). IsInbox c.new-wiring.result lists c.loop-node.node (inbox_by made.0 made.1))
     c.as_slice.ensures.value c.inbox_of-inbox.ensures.inbox in
     let long = joined_length c.loop-node.arrivals c.loop-node.fronts.items inv.sets inv.all in
+    let put = joined_set c.loop-node.arrivals c.loop-node.fronts.items c.loop-node.node made.0 made.1 in
     record {
       sets = rw length-set inv.sets;
       all = rw length-set inv.all;
-      known = rw (c.from-at.ensures, joined_set c.loop-node.arrivals c.loop-node.fronts.items c.loop-node.node made.0 made.1)
-          (nodes_more c.new-wiring.result c.args.states.items
+      known = rw (c.from-at.ensures, put) (nodes_more c.new-wiring.result c.args.states.items
           (inboxes_by c.loop-node.arrivals c.loop-node.fronts.items) c.loop-node.node (inbox_by made.0 made.1)
           (omega (arith, long, c.loop-node-test.true)) (one, c.inbox_of-inbox.ensures.spilled) inv.known);
     }

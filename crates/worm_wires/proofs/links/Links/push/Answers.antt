@@ -112,8 +112,8 @@ invariant_of-self-2 c =
     (behind_sound flits_kind (call before) (beyond before).into _ refl c.from.result c.index_mut-list.result.now
     (number (goal.at.invariant_of-self-2 c).After-from) c.index_mut-list.ensures.value some c.args.flit
     (inbox_by (sets before) fronts) (c.spill_flits.ensures.filed (sets before).flits some)
-    (ap (λ (g : Fronts ℕ). tray_of (sets before).credits g) c.spill_flits.ensures.kept) c.push.new.self (others c) (room c)
-    (pushed c))
+    (ap (λ (g : Fronts ℕ). tray_of (sets before).credits g) c.spill_flits.ensures.kept) c.push.new.self (others c)
+    (room c) (pushed c))
 
 pub returns : goal.returns
 returns c =
@@ -124,5 +124,5 @@ returns c =
     (behind_pushed flits_kind (call before) (beyond before).into _ refl c.from.result c.index_mut-list.result.now
     (number (goal.at.returns c).After-from) c.index_mut-list.ensures.value some c.args.flit
     (inbox_by (sets before) fronts) (c.spill_flits.ensures.filed (sets before).flits some)
-    (ap (λ (g : Fronts ℕ). tray_of (sets before).credits g) c.spill_flits.ensures.kept) c.push.new.self (others c) (room c)
-    (pushed c))
+    (ap (λ (g : Fronts ℕ). tray_of (sets before).credits g) c.spill_flits.ensures.kept) c.push.new.self (others c)
+    (room c) (pushed c))
