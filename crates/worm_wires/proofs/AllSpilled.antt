@@ -9,12 +9,10 @@ use Rattle.worm_mesh.specs.Links.{links_before}
 use Rattle.worm_mesh.proofs.Digits.{AreLarge-from_radices}
 use Rattle.worm_mesh.proofs.Neighbours.{Joins-from}
 use Rattle.worm_wires.specs.Arrivals.{credits_of, flits_of, on_link}
-use Rattle.worm_wires.specs.Inbox.{AreInboxes, AreSpilled, IsInbox, IsSpilled, IsTray, IsWay, Kind, come, flits_beyond}
-use Rattle.worm_wires.specs.Inbox.{inbox_at, link_by, links_by, of_credits, of_flits, room_of, whole}
+use Rattle.worm_wires.specs.Inbox.{AreInboxes, AreSpilled, Inbox, IsInbox, IsSpilled, IsTray, IsWay, Kind, Tray, come}
+use Rattle.worm_wires.specs.Inbox.{flits_beyond, inbox_at, link_by, links_by, of_credits, of_flits, room_of, whole}
 use Rattle.worm_wires.specs.Links.{LinkView, blank_link}
 use Rattle.worm_wires.specs.Wiring.{out_link}
-use Rattle.worm_wires.specs.declared.inbox.Inbox.{Inbox}
-use Rattle.worm_wires.specs.declared.inbox.Tray.{Tray}
 use Rattle.worm_wires.proofs.Apart.{into_beyond}
 use Rattle.worm_wires.proofs.ByNumber.{determined}
 use Rattle.worm_wires.proofs.ListsWritten.{entered_in, linked_at, same_link}

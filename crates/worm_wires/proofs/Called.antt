@@ -5,10 +5,9 @@ use Rattle.std.proofs.lemmas.List.{get_or_default}
 use Rattle.worm_mesh.specs.Address.{AreRadices, neighbour_of, opposite_of}
 use Rattle.worm_mesh.specs.Links.{links_before}
 use Rattle.worm_wires.specs.Arrivals.{AreFronts, LinksView, credits_to, flits_to, number_into, number_out}
-use Rattle.worm_wires.specs.Inbox.{AreInboxes, inbox_at, links_by, no_inbox}
+use Rattle.worm_wires.specs.Inbox.{AreInboxes, Inbox, inbox_at, links_by, no_inbox}
 use Rattle.worm_wires.specs.Links.{LinkView, blank_link}
 use Rattle.worm_wires.specs.Wiring.{in_link, into_from, out_link, port_links}
-use Rattle.worm_wires.specs.declared.inbox.Inbox.{Inbox}
 use Rattle.worm_wires.specs.declared.wiring.PortLinks.{PortLinks}
 use Rattle.worm_wires.proofs.Apart.{back_of, into_beyond}
 use Rattle.worm_wires.proofs.EachKind.{credits_kind, flits_kind}

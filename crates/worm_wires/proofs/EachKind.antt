@@ -9,11 +9,10 @@ use Rattle.worm_mesh.specs.Links.{links_before}
 use Rattle.worm_mesh.proofs.Digits.{AreLarge-from_radices}
 use Rattle.worm_mesh.proofs.Neighbours.{Joins-back, Joins-from, opposite_twice}
 use Rattle.worm_mesh.proofs.Numbers.{below_count}
-use Rattle.worm_wires.specs.Inbox.{AreInboxes, IsTray, Kind, come, flits_beyond, inbox_at}
-use Rattle.worm_wires.specs.Inbox.{link_by, links_by, of_credits, of_flits, whole}
+use Rattle.worm_wires.specs.Inbox.{AreInboxes, Inbox, IsTray, Kind, come, flits_beyond, inbox_at, link_by, links_by}
+use Rattle.worm_wires.specs.Inbox.{of_credits, of_flits, whole}
 use Rattle.worm_wires.specs.Links.{LinkView, blank_link}
 use Rattle.worm_wires.specs.Wiring.{in_link, out_link}
-use Rattle.worm_wires.specs.declared.inbox.Inbox.{Inbox}
 use Rattle.worm_wires.proofs.Apart.{back_of, in_once, into_beyond, out_once}
 use Rattle.worm_wires.proofs.ListsWritten.{all_written, entered_in, is_seen, linked_at, rooms_same, same_link}
 use Rattle.worm_wires.proofs.Seen.{credits_at, flits_past, room_at}

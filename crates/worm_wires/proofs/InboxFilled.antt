@@ -7,10 +7,9 @@ use Rattle.std.proofs.lemmas.Bool.{cases_lt}
 use Rattle.worm_flit.specs.SmallSet.{has}
 use Rattle.worm_flit.proofs.SmallSets.{has_none}
 use Rattle.worm_wires.specs.Arrivals.{has_front, on_link}
-use Rattle.worm_wires.specs.Inbox.{AreSpilled, IsFiled, IsInbox, IsSpilled, IsTray, IsWay, Kind, inbox_at, room_of}
+use Rattle.worm_wires.specs.Inbox.{AreSpilled, Inbox, IsFiled, IsInbox, IsSpilled, IsTray, IsWay, Kind, Tray, inbox_at}
+use Rattle.worm_wires.specs.Inbox.{room_of}
 use Rattle.worm_wires.specs.Links.{LinkView}
-use Rattle.worm_wires.specs.declared.inbox.Inbox.{Inbox}
-use Rattle.worm_wires.specs.declared.inbox.Tray.{Tray}
 use Rattle.worm_wires.proofs.Apart.{number_cases}
 
 -- of one port, where the list has all that comes in
@@ -46,10 +45,10 @@ filled_none tray list no_here no_more = record {
 }
 
 -- one port more
-pub filled_more : {A : Type 0} (old new : Tray A) (list : ℕ → List A) (port : ℕ) (behind : Bool) (front : Option A)
-    → port < 6 → IsFiled old new port (is_some front) behind front → behind ≡ is_some front
-    → front ≡ slice_get (list port) 0 → IsFilled old list port → IsFilled new list (port + 1)
-filled_more old new list port behind front port_in filed also is filled =
+pub filled_more : {A : Type 0} (old new : Tray A) (list : ℕ → List A) (port : ℕ) (front : Option A) → port < 6
+    → IsFiled old new port (is_some front) (is_some front) front → front ≡ slice_get (list port) 0
+    → IsFilled old list port → IsFilled new list (port + 1)
+filled_more old new list port front port_in filed is filled =
     let some : is_some front ≡ has_front (list port) = ap is_some is in
     record {
       done = λ p below. elim (number_cases p port) [
@@ -57,7 +56,7 @@ filled_more old new list port behind front port_in filed also is filled =
             subst (λ (v : ℕ). IsAsList (has new.here v) (has new.more v) (slice_get new.front v) (list v)) (sym at.1)
             record {
               comes = filed.comes.here ∙ some;
-              listed = filed.listed.here ∙ also ∙ some;
+              listed = filed.listed.here ∙ some;
               first = λ within. filed.first (sym filed.comes.here ∙ within) ∙ is;
             }
         | inr away ↦

@@ -10,6 +10,7 @@ pub mod TraysWritten
 pub mod EachKind
 pub mod TraysSeen
 pub mod Called
+pub mod Joined
 pub mod TrayCalled
 pub mod TrayMoved
 pub mod InboxFilled

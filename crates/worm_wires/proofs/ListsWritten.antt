@@ -7,9 +7,8 @@ use Rattle.worm_mesh.specs.Links.{link_count, links_before}
 use Rattle.worm_mesh.proofs.Digits.{AreLarge-from_radices}
 use Rattle.worm_mesh.proofs.Neighbours.{IsLink-from_test, Joins-back, Joins-from, neighbour_of-some}
 use Rattle.worm_wires.specs.Arrivals.{on_link}
-use Rattle.worm_wires.specs.Inbox.{link_by, links_by, room_of}
+use Rattle.worm_wires.specs.Inbox.{Inbox, link_by, links_by, room_of}
 use Rattle.worm_wires.specs.Links.{LinkView, blank_link}
-use Rattle.worm_wires.specs.declared.inbox.Inbox.{Inbox}
 use Rattle.worm_wires.proofs.Apart.{number_cases}
 use Rattle.worm_wires.proofs.ByNumber.{determined, number_at, numbers_count}
 

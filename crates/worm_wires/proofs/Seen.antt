@@ -4,9 +4,8 @@ use Rattle.worm_mesh.specs.Address.{AreRadices, neighbour_of, opposite_of}
 use Rattle.worm_mesh.specs.Links.{links_before}
 use Rattle.worm_mesh.proofs.Digits.{AreLarge-from_radices}
 use Rattle.worm_mesh.proofs.Neighbours.{Joins-from, has_neighbour-from_Joins}
-use Rattle.worm_wires.specs.Inbox.{come, flits_beyond, link_by, links_by, of_credits, of_flits}
+use Rattle.worm_wires.specs.Inbox.{Inbox, come, flits_beyond, link_by, links_by, of_credits, of_flits}
 use Rattle.worm_wires.specs.Links.{LinkView, blank_link}
-use Rattle.worm_wires.specs.declared.inbox.Inbox.{Inbox}
 use Rattle.worm_wires.proofs.ByNumber.{number_at}
 
 module _ (mesh : List ℕ) (links : List LinkView) (inboxes : List Inbox) (radices : AreRadices mesh) where

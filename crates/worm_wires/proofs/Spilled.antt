@@ -7,10 +7,8 @@ use Rattle.std.proofs.lemmas.List.{get_or-set_other, get_or-set_same, set-get_or
 use Rattle.worm_flit.specs.SmallSet.{has}
 use Rattle.worm_wires.specs.Arrivals.{LinksView, has_front}
 use Rattle.worm_wires.specs.Links.{LinkView}
-use Rattle.worm_wires.specs.Inbox.{AreSpilled, IsFiled, IsPortSpilled, IsSpilled, Kind, inbox_at, no_inbox, of_credits}
-use Rattle.worm_wires.specs.Inbox.{of_flits}
-use Rattle.worm_wires.specs.declared.inbox.Inbox.{Inbox}
-use Rattle.worm_wires.specs.declared.inbox.Tray.{Tray}
+use Rattle.worm_wires.specs.Inbox.{AreSpilled, Inbox, IsFiled, IsPortSpilled, IsSpilled, Kind, Tray, inbox_at}
+use Rattle.worm_wires.specs.Inbox.{no_inbox, of_credits, of_flits}
 use Rattle.worm_wires.proofs.Apart.{number_cases}
 use Rattle.worm_wires.proofs.Called.{IsCall, inbox_is}
 use Rattle.worm_wires.proofs.EachKind.{IsKind}

@@ -7,10 +7,9 @@ use Rattle.std.proofs.lemmas.List.{get_or_default, set-get_or}
 use Rattle.worm_flit.specs.SmallSet.{has}
 use Rattle.worm_mesh.specs.Address.{neighbour_of}
 use Rattle.worm_wires.specs.Arrivals.{LinksView, has_front, on_link, state_at, with_state}
-use Rattle.worm_wires.specs.Inbox.{front_of, AreInboxes, AreSeenAlike, IsFiled, IsWay, IsWayOf, Kind, inbox_at}
-use Rattle.worm_wires.specs.Inbox.{links_by, room_of, whole}
+use Rattle.worm_wires.specs.Inbox.{AreInboxes, Inbox, IsFiled, IsWay, IsWayOf, Kind, front_of, inbox_at, links_by}
+use Rattle.worm_wires.specs.Inbox.{room_of, whole}
 use Rattle.worm_wires.specs.Links.{LinkView, blank_link}
-use Rattle.worm_wires.specs.declared.inbox.Inbox.{Inbox}
 use Rattle.worm_wires.proofs.Called.{IsCall, inbox_is, list_is}
 use Rattle.worm_wires.proofs.EachKind.{IsKind}
 use Rattle.worm_wires.proofs.TraysWritten.{IsWrite}
@@ -90,7 +89,7 @@ module _ {A B : Type 0} {kind : Kind A} {other : Kind B} {put : LinkView → Lis
       pub the_list : list ≡ get_or lists k blank_link
       the_list = list_is lists k j list there at reads
 
-      pub way_read : IsWayOf (kind.tray read) p (kind.list list) list.room
+      way_read : IsWayOf (kind.tray read) p (kind.list list) list.room
       way_read =
           subst (λ (l : LinkView). IsWayOf (kind.tray read) p (kind.list l) l.room) (sym the_list) way
 
@@ -101,7 +100,7 @@ module _ {A B : Type 0} {kind : Kind A} {other : Kind B} {put : LinkView → Lis
           seen_is n same
           ∙ (λ t. whole (some t) (slice_get (kind.tray read).front p) (kind.list (sym the_list t)))
 
-      here_read : has (kind.tray read).here p ≡ true
+      pub here_read : has (kind.tray read).here p ≡ true
           → IsWay true (has (kind.tray read).more p) (slice_get (kind.tray read).front p) (kind.list list) list.room
       here_read some =
           subst (λ (b : Bool). IsWay b (has (kind.tray read).more p) (slice_get (kind.tray read).front p)
@@ -180,15 +179,16 @@ module _ {A B : Type 0} {kind : Kind A} {other : Kind B} {put : LinkView → Lis
             (λ t. whole true (first t) (spilled t)) ∙ whole_twice (slice_get (kind.tray read).front p) (kind.list list)
             ∙ sym (seen_read k refl some)
 
-        pub spilled_alike : AreSeenAlike mesh lists inboxes (set lists j link) (set inboxes i box)
-        spilled_alike = record {
-          sound = both_sound box true true (slice_get (kind.tray read).front p) filed kept link same room way_spilled;
-          same = ap (λ (l : LinksView). l.states)
+        pub spilled_alike : AreInboxes mesh (set lists j link) (set inboxes i box)
+            × (links_by mesh (set lists j link) (set inboxes i box) ≡ links_by mesh lists inboxes)
+        spilled_alike = (
+          both_sound box true true (slice_get (kind.tray read).front p) filed kept link same room way_spilled,
+          ap (λ (l : LinksView). l.states)
               (both_seen box true true (slice_get (kind.tray read).front p) filed kept link same room way_spilled k
               (kind.list (state_at now k)) refl same_now
               ∙ ap (λ (l : LinkView). with_state now k l) (is.is_put (state_at now k))
-              ∙ (λ t. record { mesh = now.mesh; states = set-get_or now.states k blank_link t }) ∙ sym call.seen);
-        }
+              ∙ (λ t. record { mesh = now.mesh; states = set-get_or now.states k blank_link t }) ∙ sym call.seen),
+        )
 
     -- the inbox alone is written
     module _ (box : Inbox) (here more : Bool) (front : Option A)

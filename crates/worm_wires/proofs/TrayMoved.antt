@@ -1,19 +1,18 @@
 -- What a pop and a push leave of a port's tray and of the list behind it.
-use Rattle.std.proofs.Common.{◌≡◌, ℕ, ◌<◌, ◌++◌, Bool, true, false, List, [], ◌∷◌, length, get_or, set, drop, Option}
+use Rattle.std.proofs.Common.{◌≡◌, ℕ, ◌<◌, ◌++◌, true, false, List, [], ◌∷◌, length, get_or, set, drop, Option}
 use Rattle.std.proofs.Common.{Some, None, refl, arith, ap, sym, subst, ◌∙◌}
 use Rattle.std.specs.Prelude.{is_some, slice_get}
 use Rattle.worm_flit.specs.SmallSet.{has}
 use Rattle.worm_wires.specs.Arrivals.{LinksView, has_front, state_at, with_state}
-use Rattle.worm_wires.specs.Inbox.{AreInboxes, IsFiled, IsWay, Kind, links_by, whole}
+use Rattle.worm_wires.specs.Inbox.{AreInboxes, Inbox, IsFiled, IsWay, Kind, links_by, whole}
 use Rattle.worm_wires.specs.Links.{LinkView, blank_link}
-use Rattle.worm_wires.specs.declared.inbox.Inbox.{Inbox}
 use Rattle.worm_wires.proofs.Called.{IsCall}
 use Rattle.worm_wires.proofs.EachKind.{IsKind}
 use Rattle.worm_wires.proofs.TrayCalled.{both_seen, both_sound, first_read, inbox_seen, inbox_sound, none_listed}
 use Rattle.worm_wires.proofs.TrayCalled.{room_is}
-use Rattle.worm_wires.proofs.TrayCalled.{room_read, seen_is, seen_listed, seen_read, the_list, way}
+use Rattle.worm_wires.proofs.TrayCalled.{room_read, seen_is, seen_read, the_list, way}
 use Rattle.worm_wires.proofs.Ways.{alone_dropped, not_here, one_behind, one_pushed, way_alone, way_front, way_more}
-use Rattle.worm_wires.proofs.Ways.{way_none, whole_front}
+use Rattle.worm_wires.proofs.Ways.{list_dropped, way_none, whole_front}
 
 module _ {A B : Type 0} {kind : Kind A} {other : Kind B} {put : LinkView → List A → LinkView}
     (is : IsKind kind other put) {mesh : List ℕ} {lists : List LinkView} {inboxes : List Inbox} {now : LinksView}
@@ -70,26 +69,23 @@ module _ {A B : Type 0} {kind : Kind A} {other : Kind B} {put : LinkView → Lis
   -- where the link has a list, or gets one
 
   module _ (j : ℕ) (list : LinkView) (at : j ≡ k) (reads : list ≡ get_or lists j list) where
-    module _ (some : has (kind.tray read).more p ≡ true) (link : LinkView)
-        (same : other.list link ≡ other.list list) (room : link.room ≡ list.room)
-        (popped : kind.list link ≡ drop 1 (kind.list list)) (box : Inbox)
-        (filed : IsFiled (kind.tray read) (kind.tray box) p (has_front (drop 1 (kind.list list)))
-        (has_front (drop 1 (kind.list list))) (slice_get (drop 1 (kind.list list)) 0))
+    module _ (link : LinkView) (same : other.list link ≡ other.list list) (room : link.room ≡ list.room)
+        (popped : kind.list link ≡ drop 1 (kind.list list)) (box : Inbox) (front : Option A)
+        (next : front ≡ slice_get (kind.list link) 0)
+        (filed : IsFiled (kind.tray read) (kind.tray box) p (is_some front) (is_some front) front)
         (kept : other.tray box ≡ other.tray read) where
-      abbrev front : Option A
-      front = slice_get (drop 1 (kind.list list)) 0
-
       comes : is_some front ≡ has_front (kind.list link)
-      comes = ap (λ (l : List A). has_front l) (sym popped)
+      comes = ap (λ (f : Option A). is_some f) next
 
       left : IsWay (is_some front) (is_some front) (slice_get (kind.tray box).front p) (kind.list link) link.room
       left =
-          way_front (is_some front) (is_some front) (slice_get (kind.tray box).front p) (kind.list link) link.room comes
-          comes (λ within. filed.first within ∙ ap (λ (l : List A). slice_get l 0) (sym popped))
+          way_front (is_some front) (is_some front) (slice_get (kind.tray box).front p) (kind.list link) link.room
+          comes comes (λ within. filed.first within ∙ next)
 
       pub left_sound : AreInboxes mesh (set lists j link) (set inboxes i box)
       left_sound =
-          both_sound is call by j list at reads box (is_some front) (is_some front) front filed kept link same room left
+          both_sound is call by j list at reads box (is_some front) (is_some front) front filed kept link same room
+          left
 
       pub left_popped : record { mesh = mesh; states = links_by mesh (set lists j link) (set inboxes i box) }
           ≡ with_state now n (put (state_at now n) (drop 1 (kind.list (state_at now n))))
@@ -97,8 +93,10 @@ module _ {A B : Type 0} {kind : Kind A} {other : Kind B} {put : LinkView → Lis
           both_seen is call by j list at reads box (is_some front) (is_some front) front filed kept link same room left
           n _ number
           (whole_front (is_some front) (slice_get (kind.tray box).front p) _ comes ∙ popped
-          ∙ ap (λ (l : List A). drop 1 l)
-          (ap kind.list (the_list is call by j list at reads) ∙ sym (seen_listed is call by n number some)))
+          ∙ ap (λ (l : LinkView). drop 1 (kind.list l)) (the_list is call by j list at reads)
+          ∙ list_dropped (has (kind.tray read).here p) (slice_get (kind.tray read).front p)
+          (kind.list (get_or lists k blank_link))
+          ∙ ap (λ (l : List A). drop 1 l) (sym (seen_is is call by n number)))
 
     module _ (some : has (kind.tray read).here p ≡ true) where
       pub fits_behind : length (kind.list (state_at now n)) < (state_at now n).room → (mid : LinkView)

@@ -5,9 +5,8 @@ use Rattle.std.specs.Prelude.{IsSome, slice_get}
 use Rattle.worm_flit.specs.SmallSet.{has}
 use Rattle.worm_mesh.specs.Address.{neighbour_of}
 use Rattle.worm_wires.specs.Arrivals.{AreFronts, has_front, on_link}
-use Rattle.worm_wires.specs.Inbox.{AreInboxes, IsTray, IsWay, Kind, come, inbox_at, links_by, room_of, whole}
+use Rattle.worm_wires.specs.Inbox.{AreInboxes, Inbox, IsTray, IsWay, Kind, come, inbox_at, links_by, room_of, whole}
 use Rattle.worm_wires.specs.Links.{LinkView}
-use Rattle.worm_wires.specs.declared.inbox.Inbox.{Inbox}
 use Rattle.worm_wires.proofs.EachKind.{IsKind}
 use Rattle.worm_wires.proofs.Ways.{comes_by, unlinked}
 

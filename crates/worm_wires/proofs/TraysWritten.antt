@@ -7,12 +7,9 @@ use Rattle.worm_mesh.specs.Address.{AreRadices, neighbour_of}
 use Rattle.std.proofs.lemmas.List.{get_or-set_other, get_or-set_same}
 use Rattle.worm_flit.specs.SmallSet.{has}
 use Rattle.worm_wires.specs.Arrivals.{on_link}
-use Rattle.worm_wires.specs.Inbox.{AreInboxes, IsFiled, IsInbox, IsTray, IsWay, IsWayOf, Kind, come, inbox_at}
-use Rattle.worm_wires.specs.Inbox.{no_inbox, room_of}
-use Rattle.worm_wires.specs.Inbox.{whole}
+use Rattle.worm_wires.specs.Inbox.{AreInboxes, Inbox, IsFiled, IsInbox, IsTray, IsWay, IsWayOf, Kind, Tray, come}
+use Rattle.worm_wires.specs.Inbox.{inbox_at, no_inbox, room_of, whole}
 use Rattle.worm_wires.specs.Links.{LinkView, blank_link}
-use Rattle.worm_wires.specs.declared.inbox.Inbox.{Inbox}
-use Rattle.worm_wires.specs.declared.inbox.Tray.{Tray}
 use Rattle.worm_wires.proofs.Apart.{number_cases}
 use Rattle.worm_wires.proofs.ListsWritten.{on_other, on_same, room_kept}
 use Rattle.worm_wires.proofs.Ways.{way_same}

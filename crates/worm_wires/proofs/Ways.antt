@@ -103,6 +103,14 @@ alone_dropped true (Some x) now [] empty = refl
 alone_dropped false front now [] empty = refl
 alone_dropped here front now (x ∷ xs) empty = absurd (cc)
 
+-- what is dropped of the list is dropped of all
+pub list_dropped : {A : Type 0} (here : Bool) (front : Option A) (list : List A)
+    → drop 1 list ≡ drop 1 (whole here front list)
+list_dropped true None [] = refl
+list_dropped true (Some x) [] = refl
+list_dropped false front [] = refl
+list_dropped here front (x ∷ xs) = refl
+
 -- one more behind all that the list has
 pub way_more : {A : Type 0} (front : Option A) (list : List A) (more : A) (room : ℕ) → has_front list ≡ true
     → front ≡ slice_get list 0 → IsWay true true front (list ++ more ∷ []) room

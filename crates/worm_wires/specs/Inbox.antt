@@ -2,6 +2,7 @@
 -- Towles, chapter 13).
 use Rattle.std.specs.Prelude.{ℕ, ◌≡◌, ◌*◌, ◌<◌, ◌++◌, ◌∷◌, Bool, true, cond, List, [], length, slice_get}
 use Rattle.std.specs.Prelude.{slice_index_or, Option, None, Some, IsSome, option_to_list, zero, suc}
+use Rattle.std.specs.Simd.Lanes.{zip2}
 use Rattle.worm_flit.specs.declared.Flit.{Flit}
 use Rattle.worm_flit.specs.SmallSet.{has, IsPut}
 use Rattle.worm_mesh.specs.Address.{AreRadices, has_neighbour, neighbour_of, node_count, opposite_of}
@@ -9,8 +10,35 @@ use Rattle.worm_mesh.specs.Links.{link_count, links_before}
 use Rattle.worm_wires.specs.Arrivals.{has_front, on_link}
 use Rattle.worm_wires.specs.Links.{LinkView, blank_link}
 use Rattle.worm_wires.specs.Wiring.{in_link, out_link}
-use Rattle.worm_wires.specs.declared.inbox.Inbox.{Inbox}
-use Rattle.worm_wires.specs.declared.inbox.Tray.{Tray}
+use Rattle.worm_wires.specs.declared.inbox.Arrivals.{Arrivals}
+use Rattle.worm_wires.specs.declared.inbox.Fronts.{Fronts}
+use Rattle.worm_wires.specs.declared.inbox.NodeFronts.{NodeFronts}
+
+-- what comes in of one kind at the mesh ports of a node: the ports at which one does, those of them whose link has a
+-- list, and the one that comes in next, by port
+pub record Tray (A : Type 0) : Type 0 where
+  pub here : ℕ
+  pub more : ℕ
+  pub front : List A
+
+-- what comes in at a node
+pub record Inbox : Type 0 where
+  pub flits : Tray Flit
+  pub credits : Tray ℕ
+
+-- the same, as it stands in two places: the ports at which one comes in apart, beside those of other nodes
+abbrev pub tray_of : {A : Type 0} → ℕ → Fronts A → Tray A
+tray_of here fronts = record { here = here; more = fronts.more; front = fronts.front }
+
+abbrev pub inbox_by : Arrivals → NodeFronts → Inbox
+inbox_by arrivals fronts = record {
+  flits = tray_of arrivals.flits fronts.flits;
+  credits = tray_of arrivals.credits fronts.credits;
+}
+
+-- those of all nodes
+unfoldable pub inboxes_by : List Arrivals → List NodeFronts → List Inbox
+inboxes_by arrivals fronts = zip2 inbox_by arrivals fronts
 
 -- what is on one way of a link: what stands in its list, or what is in the inbox alone
 abbrev pub whole : {A : Type 0} → Bool → Option A → List A → List A
@@ -138,8 +166,15 @@ pub record IsPortSpilled {A B : Type 0} (kind : Kind A) (other : Kind B) (old ne
   pub kept : other.tray (inbox_at new x) ≡ other.tray (inbox_at old x)
   pub others : (y : ℕ) → (y ≡ x → ⊥) → inbox_at new y ≡ inbox_at old y
 
+-- the same of inboxes that stand in two places
+pub record AreFiled (mesh : List ℕ) (links : List LinkView) (arrivals : List Arrivals) (fronts : List NodeFronts)
+    : Type 0 where
+  pub all : length fronts ≡ 256
+  pub inboxes : AreInboxes mesh links (inboxes_by arrivals fronts)
+
 -- the links are seen as they were
-pub record AreSeenAlike (mesh : List ℕ) (links : List LinkView) (inboxes : List Inbox) (links_now : List LinkView)
-    (inboxes_now : List Inbox) : Type 0 where
-  pub sound : AreInboxes mesh links_now inboxes_now
-  pub same : links_by mesh links_now inboxes_now ≡ links_by mesh links inboxes
+pub record AreSeenAlike (mesh : List ℕ) (arrivals : List Arrivals) (links : List LinkView) (fronts : List NodeFronts)
+    (links_now : List LinkView) (fronts_now : List NodeFronts) : Type 0 where
+  pub sound : AreFiled mesh links_now arrivals fronts_now
+  pub same : links_by mesh links_now (inboxes_by arrivals fronts_now)
+      ≡ links_by mesh links (inboxes_by arrivals fronts)

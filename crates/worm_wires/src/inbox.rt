@@ -1,9 +1,8 @@
 //! The inboxes of the nodes: at each mesh port the flit that comes in next, and the credit that comes back next.
 
-ghost use Rattle.std.specs.Prelude.{◌≡◌, ◌<◌, drop, is_some, option_copied, slice_get, true, None, Some, false};
-ghost use Rattle.worm_wires.specs.Arrivals.{has_front};
+ghost use Rattle.std.specs.Prelude.{◌≡◌, ◌<◌, ℕ, is_some, option_copied, slice_get, true, Some, false};
 ghost use Rattle.worm_flit.specs.SmallSet.{has};
-ghost use Rattle.worm_wires.specs.Inbox.{IsFiled, IsWayOf, front_of, whole};
+ghost use Rattle.worm_wires.specs.Inbox.{IsFiled, IsWay, front_of, tray_of, whole};
 
 use crate::LinkState;
 use std::alloc::{AllocError, Global};
@@ -24,25 +23,44 @@ const NO_FLIT: Flit = Flit {
     word: 0,
 };
 
+/// The mesh ports of a node at which something comes in. A turn looks at those of each node, so they stand apart from
+/// what comes in, beside those of other nodes.
+#[derive(Clone, Copy)]
+pub struct Arrivals {
+    /// Those at which a flit comes in.
+    pub flits: SmallSet,
+    /// Those at which a credit comes back.
+    pub credits: SmallSet,
+}
+
+impl Arrivals {
+    /// Those of a node where nothing comes in.
+    pub(crate) fn new() -> Arrivals
+        ensures flits { result.flits ≡ 0 }
+        ensures credits { result.credits ≡ 0 }
+    {
+        Arrivals {
+            flits: SmallSet::new(),
+            credits: SmallSet::new(),
+        }
+    }
+}
+
 /// What comes in of one kind, flits or credits, at the mesh ports of a node (Dally and Towles, chapter 13).
 #[derive(Clone, Copy)]
-pub struct Tray<T> {
-    /// The ports at which one comes in.
-    pub here: SmallSet,
-    /// Those of them whose link has a list of them, since it has or had several.
+pub struct Fronts<T> {
+    /// The ports at which one comes in and whose link has a list of them, since it has or had several.
     pub more: SmallSet,
     /// The one that comes in next, by port.
     pub front: [T; 6],
 }
 
-impl<T: Copy> Tray<T> {
-    /// One in which nothing is.
-    pub(crate) fn new(blank: T) -> Tray<T>
-        ensures here { result.here ≡ 0 }
-        ensures more { result.more ≡ 0 }
+impl<T: Copy> Fronts<T> {
+    /// Those of a node where none comes in.
+    pub(crate) fn new(blank: T) -> Fronts<T>
+        ensures { result.more ≡ 0 }
     {
-        Tray {
-            here: SmallSet::new(),
+        Fronts {
             more: SmallSet::new(),
             front: [blank; 6],
         }
@@ -51,12 +69,12 @@ impl<T: Copy> Tray<T> {
     /// The one that comes in next by the port, if one does: where it lies, since what takes it asks first whether there
     /// is room for it.
     #[inline(always)]
-    pub(crate) fn front_at(&self, port: u8) -> Option<&T>
+    pub(crate) fn front_at(&self, here: &SmallSet, port: u8) -> Option<&T>
         requires { port < 6 }
-        ensures value { option_copied result ≡ front_of self.now port }
-        ensures variant { is_some result ≡ is_some (front_of self.now port) }
+        ensures value { option_copied result ≡ front_of (tray_of here.now self.now) port }
+        ensures variant { is_some result ≡ is_some (front_of (tray_of here.now self.now) port) }
     {
-        if !self.here.contains(port) {
+        if !here.contains(port) {
             return None;
         }
         Some(&self.front[usize::from(port)])
@@ -64,33 +82,24 @@ impl<T: Copy> Tray<T> {
 
     /// One comes in by the port, by which none did.
     #[inline(always)]
-    pub(crate) fn put(&mut self, port: u8, item: T)
+    pub(crate) fn put(&mut self, here: &mut SmallSet, port: u8, item: T)
         requires port { port < 6 }
         requires alone { has self.old.more port ≡ false }
-        ensures { IsFiled self.old self.new port true false (Some item) }
+        ensures { IsFiled (tray_of here.old self.old) (tray_of here.new self.new) port true false (Some item) }
     {
-        self.here.put(port, true);
+        here.put(port, true);
         self.front[usize::from(port)] = item;
     }
 
-    /// The one that came in by the port, alone, is taken.
+    /// Files which one comes in next by the port, if one does, where the link has a list of all that do.
     #[inline(always)]
-    pub(crate) fn take(&mut self, port: u8)
-        requires port { port < 6 }
-        requires alone { has self.old.more port ≡ false }
-        ensures { IsFiled self.old self.new port false false None }
-    {
-        self.here.put(port, false);
-    }
-
-    /// Files which one comes in next by the port, if one does, and whether the link has a list of them.
-    #[inline(always)]
-    pub(crate) fn file(&mut self, port: u8, more: bool, front: Option<T>)
+    pub(crate) fn file(&mut self, here: &mut SmallSet, port: u8, front: Option<T>)
         requires { port < 6 }
-        ensures { IsFiled self.old self.new port (is_some front) more front }
+        ensures { IsFiled (tray_of here.old self.old) (tray_of here.new self.new) port (is_some front) (is_some front)
+            front }
     {
-        self.here.put(port, front.is_some());
-        self.more.put(port, more);
+        here.put(port, front.is_some());
+        self.more.put(port, front.is_some());
         if let Some(first) = front {
             self.front[usize::from(port)] = first;
         }
@@ -99,65 +108,35 @@ impl<T: Copy> Tray<T> {
 
 /// What comes in next at the mesh ports of a node.
 #[derive(Clone, Copy)]
-pub struct Inbox {
+pub struct NodeFronts {
     /// The flits, each over the link into the port.
-    pub flits: Tray<Flit>,
+    pub flits: Fronts<Flit>,
     /// The channels whose credits come back, each over the link out of the port.
-    pub credits: Tray<u8>,
+    pub credits: Fronts<u8>,
 }
 
-impl Inbox {
-    /// One in which nothing is.
-    pub(crate) fn new() -> Inbox
-        ensures flits { result.flits.here ≡ 0 }
-        ensures credits { result.credits.here ≡ 0 }
-        ensures more_flits { result.flits.more ≡ 0 }
-        ensures more_credits { result.credits.more ≡ 0 }
+impl NodeFronts {
+    /// Those of a node where nothing comes in.
+    pub(crate) fn new() -> NodeFronts
+        ensures flits { result.flits.more ≡ 0 }
+        ensures credits { result.credits.more ≡ 0 }
     {
-        Inbox {
-            flits: Tray::new(NO_FLIT),
-            credits: Tray::new(0),
+        NodeFronts {
+            flits: Fronts::new(NO_FLIT),
+            credits: Fronts::new(0),
         }
-    }
-
-    /// Drops the first flit of the list of the link into the port, and files the next, if there is one. A link seldom
-    /// has a list, so this is no part of the loops that call it.
-    #[inline(never)]
-    pub(crate) fn pop_flit(&mut self, port: u8, link: &mut LinkState)
-        requires { port < 6 }
-        ensures link { link.new ≡ record link.old { flits = drop 1 link.old.flits } }
-        ensures filed { IsFiled self.old.flits self.new.flits port (has_front (drop 1 link.old.flits))
-            (has_front (drop 1 link.old.flits)) (slice_get (drop 1 link.old.flits) 0) }
-        ensures kept { self.new.credits ≡ self.old.credits }
-    {
-        link.pop();
-        let front = link.front().copied();
-        self.flits.file(port, front.is_some(), front);
-    }
-
-    /// The same of the first credit of the list of the link out of the port.
-    #[inline(never)]
-    pub(crate) fn pop_credit(&mut self, port: u8, link: &mut LinkState)
-        requires { port < 6 }
-        ensures link { link.new ≡ record link.old { credits = drop 1 link.old.credits } }
-        ensures filed { IsFiled self.old.credits self.new.credits port (has_front (drop 1 link.old.credits))
-            (has_front (drop 1 link.old.credits)) (slice_get (drop 1 link.old.credits) 0) }
-        ensures kept { self.new.flits ≡ self.old.flits }
-    {
-        link.pop_credit();
-        let front = link.front_credit();
-        self.credits.file(port, front.is_some(), front);
     }
 
     /// Moves the flit that comes in by the port into the list of its link, where it is in the inbox alone.
     pub(crate) fn spill_flits(&mut self, port: u8, link: &mut LinkState)
         requires port { port < 6 }
-        requires here { has self.old.flits.here port ≡ true }
-        requires way { IsWayOf self.old.flits port link.old.flits link.old.room }
+        requires way { IsWay true (has self.old.flits.more port) (slice_get self.old.flits.front port) link.old.flits
+            link.old.room }
         ensures link { link.new ≡ record link.old {
           flits = whole true (slice_get self.old.flits.front port) link.old.flits;
         } }
-        ensures filed { IsFiled self.old.flits self.new.flits port true true (slice_get self.old.flits.front port) }
+        ensures filed { (here : ℕ) → has here port ≡ true → IsFiled (tray_of here self.old.flits)
+            (tray_of here self.new.flits) port true true (slice_get self.old.flits.front port) }
         ensures kept { self.new.credits ≡ self.old.credits }
     {
         if self.flits.more.contains(port) {
@@ -170,13 +149,13 @@ impl Inbox {
     /// The same of a credit that comes back by the port.
     pub(crate) fn spill_credits(&mut self, port: u8, link: &mut LinkState)
         requires port { port < 6 }
-        requires here { has self.old.credits.here port ≡ true }
-        requires way { IsWayOf self.old.credits port link.old.credits link.old.room }
+        requires way { IsWay true (has self.old.credits.more port) (slice_get self.old.credits.front port)
+            link.old.credits link.old.room }
         ensures link { link.new ≡ record link.old {
           credits = whole true (slice_get self.old.credits.front port) link.old.credits;
         } }
-        ensures filed { IsFiled self.old.credits self.new.credits port true true
-            (slice_get self.old.credits.front port) }
+        ensures filed { (here : ℕ) → has here port ≡ true → IsFiled (tray_of here self.old.credits)
+            (tray_of here self.new.credits) port true true (slice_get self.old.credits.front port) }
         ensures kept { self.new.flits ≡ self.old.flits }
     {
         if self.credits.more.contains(port) {
@@ -192,7 +171,7 @@ impl Inbox {
 #[derive(Drop)]
 pub struct Inboxes {
     /// By node number.
-    pub(crate) list: Vec<Inbox>,
+    pub(crate) list: Vec<NodeFronts>,
 }
 
 impl Model for Inboxes {
@@ -209,7 +188,7 @@ impl Inboxes {
     /// Memory in which nothing is yet.
     pub fn new(alloc: Global) -> Result<Inboxes, AllocError> {
         Ok(Inboxes {
-            list: vec![in alloc; Inbox::new(); 256]?,
+            list: vec![in alloc; NodeFronts::new(); 256]?,
         })
     }
 }

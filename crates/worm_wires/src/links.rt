@@ -1,5 +1,5 @@
-//! The links of a mesh with what is on them. What comes in next at a node stands in its inbox, so that a turn looks at
-//! one place, and goes past all other ports.
+//! The links of a mesh with what is on them. What comes in next at a node stands in its inbox, and the ports at which
+//! something does stand apart, so that a turn goes past all others, and past a node that rests by one look.
 
 ghost use Rattle.std.specs.Prelude.{◌≡◌, ◌<◌, ◌↔◌, ◌++◌, ◌∷◌, [], ℕ, IsSome, IsTrue};
 ghost use Rattle.std.specs.Prelude.{Option, Some, true, drop, is_some, length, option_copied, slice_get};
@@ -7,38 +7,44 @@ ghost use Rattle.worm_mesh.specs.Address.{AreRadices, neighbour_of};
 ghost use Rattle.worm_mesh.specs.Links.{link_count};
 ghost use Rattle.worm_wires.specs.Arrivals.{AreFronts, LinksView, credits_of, credits_to, flits_of};
 ghost use Rattle.worm_wires.specs.Arrivals.{flits_to, has_front, number_into, number_out, state_at, with_state};
-ghost use Rattle.worm_wires.specs.Inbox.{AreInboxes, AreSeenAlike, AreSpilled, IsInbox, IsPortSpilled, inbox_at};
-ghost use Rattle.worm_wires.specs.Inbox.{of_credits, of_flits};
+ghost use Rattle.worm_wires.specs.Inbox.{AreFiled, AreSeenAlike, AreSpilled, IsInbox, IsPortSpilled, inbox_at};
+ghost use Rattle.worm_wires.specs.Inbox.{inbox_by, inboxes_by, of_credits, of_flits};
 ghost use Rattle.worm_wires.specs.Wiring.{port_links};
 
 use crate::LinkState;
-use crate::inbox::{Inbox, Inboxes};
+use crate::inbox::{Arrivals, Inboxes, NodeFronts};
 use crate::wiring::{PortLinks, Wiring};
 use std::marker::Model;
 use worm_flit::{Flit, SmallSet};
 use worm_mesh::Mesh;
 
 /// A mesh, and its links by number with what is on them. What comes in next stands in the inbox of the node that takes
-/// it; a link on which more than one flit is has them all in a list, and so it is with credits.
+/// it; a link on which more than one flit is has them all in a list, and so it is with credits. The sets of ports of the
+/// inboxes are here by value, two bytes a node, and what comes in by them is on the heap.
 #[derive(Drop)]
 pub struct Links {
     /// The mesh, with the numbers of each node's links.
     wiring: Wiring,
     /// The lists, by link number.
     lists: Vec<LinkState>,
-    /// The inboxes, by node number.
-    inboxes: Vec<Inbox>,
+    /// The ports at which something comes in, by node number.
+    arrivals: [Arrivals; 256],
+    /// What comes in next, by node number.
+    fronts: Vec<NodeFronts>,
 }
 
 impl Model for Links {
     ghost use Rattle.worm_wires.specs.Arrivals.{LinksView};
-    ghost use Rattle.worm_wires.specs.Inbox.{AreInboxes, links_by};
+    ghost use Rattle.worm_wires.specs.Inbox.{AreFiled, inboxes_by, links_by};
 
     ghost Value = { LinksView };
 
-    ghost view = { λ l. record { mesh = l.wiring; states = links_by l.wiring l.lists.items l.inboxes.items } };
+    ghost view = { λ l. record {
+      mesh = l.wiring;
+      states = links_by l.wiring l.lists.items (inboxes_by l.arrivals l.fronts.items);
+    } };
 
-    ghost invariant = { λ l. AreInboxes l.wiring l.lists.items l.inboxes.items };
+    ghost invariant = { λ l. AreFiled l.wiring l.lists.items l.arrivals l.fronts.items };
 }
 
 /// The first flit of the link of this number, if it is there and has one.
@@ -56,37 +62,42 @@ fn front_credit(lists: &[LinkState], number: Option<u16>) -> Option<u8>
 }
 
 /// The inbox of a node, where each list has all that is on its link.
-fn inbox_of(wiring: &Wiring, lists: &[LinkState], node: u8) -> Inbox
-    ensures inbox { IsInbox wiring.now lists.now node result }
-    ensures spilled { AreSpilled result 8 }
+fn inbox_of(wiring: &Wiring, lists: &[LinkState], node: u8) -> (Arrivals, NodeFronts)
+    ensures inbox { IsInbox wiring.now lists.now node (inbox_by result.0 result.1) }
+    ensures spilled { AreSpilled (inbox_by result.0 result.1) 8 }
 {
     // For the proof: a mesh has at most three dimensions.
     let _terminal = wiring.terminal();
-    let mut inbox = Inbox::new();
+    let mut arrivals = Arrivals::new();
+    let mut fronts = NodeFronts::new();
     for port in 0..6u8 {
         let flit = front_flit(lists, wiring.link_into(node, port));
-        inbox.flits.file(port, flit.is_some(), flit);
+        fronts.flits.file(&mut arrivals.flits, port, flit);
         let credit = front_credit(lists, wiring.link_out(node, port));
-        inbox.credits.file(port, credit.is_some(), credit);
+        fronts.credits.file(&mut arrivals.credits, port, credit);
     }
-    inbox
+    (arrivals, fronts)
 }
 
 /// Moves a flit that is in the node's inbox alone into the list of the link into the port.
 fn spill_flits(
     wiring: &Wiring,
+    arrivals: &[Arrivals; 256],
     lists: &mut Vec<LinkState>,
-    inboxes: &mut Vec<Inbox>,
+    fronts: &mut Vec<NodeFronts>,
     node: u8,
     port: u8,
 )
     requires port { port < 6 }
-    requires inboxes { AreInboxes wiring.now lists.old.items inboxes.old.items }
-    ensures kept { AreSeenAlike wiring.now lists.old.items inboxes.old.items lists.new.items inboxes.new.items }
-    ensures spilled { IsPortSpilled of_flits of_credits inboxes.old.items inboxes.new.items node port }
+    requires filed { AreFiled wiring.now lists.old.items arrivals.now fronts.old.items }
+    ensures kept { AreSeenAlike wiring.now arrivals.now lists.old.items fronts.old.items lists.new.items
+        fronts.new.items }
+    ensures spilled { IsPortSpilled of_flits of_credits (inboxes_by arrivals.now fronts.old.items)
+        (inboxes_by arrivals.now fronts.new.items) node port }
 {
-    let here = &mut inboxes[usize::from(node)];
-    if here.flits.here.contains(port) {
+    let at = usize::from(node);
+    let here = &mut fronts[at];
+    if arrivals[at].flits.contains(port) {
         let links = wiring.links_beyond(node, port);
         here.spill_flits(port, &mut lists[usize::from(links.into)]);
     }
@@ -95,33 +106,45 @@ fn spill_flits(
 /// The same of a credit and the list of the link out of the port.
 fn spill_credits(
     wiring: &Wiring,
+    arrivals: &[Arrivals; 256],
     lists: &mut Vec<LinkState>,
-    inboxes: &mut Vec<Inbox>,
+    fronts: &mut Vec<NodeFronts>,
     node: u8,
     port: u8,
 )
     requires port { port < 6 }
-    requires inboxes { AreInboxes wiring.now lists.old.items inboxes.old.items }
-    ensures kept { AreSeenAlike wiring.now lists.old.items inboxes.old.items lists.new.items inboxes.new.items }
-    ensures spilled { IsPortSpilled of_credits of_flits inboxes.old.items inboxes.new.items node port }
+    requires filed { AreFiled wiring.now lists.old.items arrivals.now fronts.old.items }
+    ensures kept { AreSeenAlike wiring.now arrivals.now lists.old.items fronts.old.items lists.new.items
+        fronts.new.items }
+    ensures spilled { IsPortSpilled of_credits of_flits (inboxes_by arrivals.now fronts.old.items)
+        (inboxes_by arrivals.now fronts.new.items) node port }
 {
-    let here = &mut inboxes[usize::from(node)];
-    if here.credits.here.contains(port) {
+    let at = usize::from(node);
+    let here = &mut fronts[at];
+    if arrivals[at].credits.contains(port) {
         let links = wiring.links_beyond(node, port);
         here.spill_credits(port, &mut lists[usize::from(links.out)]);
     }
 }
 
 /// Moves all that is in the node's inbox alone into the lists of its links.
-fn spill_node(wiring: &Wiring, lists: &mut Vec<LinkState>, inboxes: &mut Vec<Inbox>, node: u8)
-    requires { AreInboxes wiring.now lists.old.items inboxes.old.items }
-    ensures kept { AreSeenAlike wiring.now lists.old.items inboxes.old.items lists.new.items inboxes.new.items }
-    ensures spilled { AreSpilled (inbox_at inboxes.new.items node) 6 }
-    ensures others { (y : ℕ) → (y ≡ node → ⊥) → inbox_at inboxes.new.items y ≡ inbox_at inboxes.old.items y }
+fn spill_node(
+    wiring: &Wiring,
+    arrivals: &[Arrivals; 256],
+    lists: &mut Vec<LinkState>,
+    fronts: &mut Vec<NodeFronts>,
+    node: u8,
+)
+    requires { AreFiled wiring.now lists.old.items arrivals.now fronts.old.items }
+    ensures kept { AreSeenAlike wiring.now arrivals.now lists.old.items fronts.old.items lists.new.items
+        fronts.new.items }
+    ensures spilled { AreSpilled (inbox_at (inboxes_by arrivals.now fronts.new.items) node) 6 }
+    ensures others { (y : ℕ) → (y ≡ node → ⊥) → inbox_at (inboxes_by arrivals.now fronts.new.items) y
+        ≡ inbox_at (inboxes_by arrivals.now fronts.old.items) y }
 {
     for port in 0..6u8 {
-        spill_flits(wiring, lists, inboxes, node, port);
-        spill_credits(wiring, lists, inboxes, node, port);
+        spill_flits(wiring, arrivals, lists, fronts, node, port);
+        spill_credits(wiring, arrivals, lists, fronts, node, port);
     }
 }
 
@@ -133,14 +156,19 @@ impl Links {
         ensures { result ≡ record { mesh = mesh; states = states.items } }
     {
         let wiring = Wiring::new(mesh);
-        let Inboxes { list: mut inboxes } = inboxes;
+        let mut arrivals = [Arrivals::new(); 256];
+        let Inboxes { list: mut fronts } = inboxes;
         for node in 0..256u16 {
-            inboxes[usize::from(node)] = inbox_of(&wiring, states.as_slice(), node as u8);
+            let at = usize::from(node);
+            let inbox = inbox_of(&wiring, states.as_slice(), node as u8);
+            arrivals[at] = inbox.0;
+            fronts[at] = inbox.1;
         }
         Links {
             wiring,
             lists: states,
-            inboxes,
+            arrivals,
+            fronts,
         }
     }
 
@@ -159,12 +187,13 @@ impl Links {
         let Links {
             wiring,
             mut lists,
-            mut inboxes,
+            arrivals,
+            mut fronts,
         } = self;
         for node in 0..256u16 {
-            spill_node(&wiring, &mut lists, &mut inboxes, node as u8);
+            spill_node(&wiring, &arrivals, &mut lists, &mut fronts, node as u8);
         }
-        (lists, Inboxes { list: inboxes })
+        (lists, Inboxes { list: fronts })
     }
 
     /// Whether nothing comes in at the node.
@@ -176,22 +205,22 @@ impl Links {
     {
         // For the proof: a mesh has at most three dimensions.
         let _terminal = self.wiring.terminal();
-        let here = &self.inboxes[usize::from(node)];
-        here.flits.here.is_empty() && here.credits.here.is_empty()
+        let here = &self.arrivals[usize::from(node)];
+        here.flits.is_empty() && here.credits.is_empty()
     }
 
     /// The mesh ports of the node by which a flit comes in.
     pub fn flits_in(&self, node: u8) -> SmallSet
         ensures { AreFronts (flits_to self.now node) result }
     {
-        self.inboxes[usize::from(node)].flits.here
+        self.arrivals[usize::from(node)].flits
     }
 
     /// The mesh ports of the node by which a credit comes back.
     pub fn credits_in(&self, node: u8) -> SmallSet
         ensures { AreFronts (credits_to self.now node) result }
     {
-        self.inboxes[usize::from(node)].credits.here
+        self.arrivals[usize::from(node)].credits
     }
 
     /// The flit that comes in next by this port of the node, if there is one: where it lies, since what takes it asks
@@ -203,7 +232,9 @@ impl Links {
         ensures variant { is_some result
             ≡ is_some (slice_get (state_at self.now (number_into self.now node port)).flits 0) }
     {
-        self.inboxes[usize::from(node)].flits.front_at(port)
+        let at = usize::from(node);
+        let here = &self.arrivals[at];
+        self.fronts[at].flits.front_at(&here.flits, port)
     }
 
     /// The channel of the credit that comes back next over the link out of this port, if there is one.
@@ -211,9 +242,11 @@ impl Links {
         requires { IsSome (neighbour_of self.now.mesh node port) }
         ensures { result ≡ slice_get (state_at self.now (number_out self.now node port)).credits 0 }
     {
-        self.inboxes[usize::from(node)]
+        let at = usize::from(node);
+        let here = &self.arrivals[at];
+        self.fronts[at]
             .credits
-            .front_at(port)
+            .front_at(&here.credits, port)
             .copied()
     }
 
@@ -223,8 +256,8 @@ impl Links {
         ensures { result ≡ has_front (state_at self.now (number_out self.now node port)).flits }
     {
         let links = self.wiring.links_beyond(node, port);
-        let beyond = &self.inboxes[usize::from(links.beyond)];
-        beyond.flits.here.contains(links.entered)
+        let beyond = &self.arrivals[usize::from(links.beyond)];
+        beyond.flits.contains(links.entered)
     }
 
     /// Whether a credit is on its way back over the link into this port.
@@ -233,8 +266,8 @@ impl Links {
         ensures { result ≡ has_front (state_at self.now (number_into self.now node port)).credits }
     {
         let links = self.wiring.links_beyond(node, port);
-        let beyond = &self.inboxes[usize::from(links.beyond)];
-        beyond.credits.here.contains(links.entered)
+        let beyond = &self.arrivals[usize::from(links.beyond)];
+        beyond.credits.contains(links.entered)
     }
 
     /// How many flits are on the link out of this port.
@@ -243,11 +276,11 @@ impl Links {
         ensures { result ≡ length (state_at self.now (number_out self.now node port)).flits }
     {
         let links = self.wiring.links_beyond(node, port);
-        let there = &self.inboxes[usize::from(links.beyond)];
-        if there.flits.more.contains(links.entered) {
+        let at = usize::from(links.beyond);
+        if self.fronts[at].flits.more.contains(links.entered) {
             return self.lists[usize::from(links.out)].count();
         }
-        usize::from(there.flits.here.contains(links.entered))
+        usize::from(self.arrivals[at].flits.contains(links.entered))
     }
 
     /// The flit at place `i` of the link out of this port, counted from the front.
@@ -257,7 +290,7 @@ impl Links {
         ensures { slice_get (state_at self.now (number_out self.now node port)).flits i ≡ Some result }
     {
         let links = self.wiring.links_beyond(node, port);
-        let there = &self.inboxes[usize::from(links.beyond)];
+        let there = &self.fronts[usize::from(links.beyond)];
         if there.flits.more.contains(links.entered) {
             return self.lists[usize::from(links.out)].flit(i);
         }
@@ -295,13 +328,30 @@ impl Links {
             (record (state_at self.old (number_into self.old node port))
             { flits = drop 1 (state_at self.old (number_into self.old node port)).flits }) }
     {
-        let here = &mut self.inboxes[usize::from(node)];
-        if !here.flits.more.contains(port) {
-            here.flits.take(port);
+        let at = usize::from(node);
+        if !self.fronts[at].flits.more.contains(port) {
+            self.arrivals[at].flits.put(port, false);
             return;
         }
+        self.pop_listed(node, port);
+    }
+
+    /// The same by the link's list, whether it has one or not. A link seldom has, so this is no part of the loops that
+    /// call it.
+    #[inline(never)]
+    fn pop_listed(&mut self, node: u8, port: u8)
+        requires { IsSome (neighbour_of self.old.mesh node port) }
+        ensures { self.new ≡ with_state self.old (number_into self.old node port)
+            (record (state_at self.old (number_into self.old node port))
+            { flits = drop 1 (state_at self.old (number_into self.old node port)).flits }) }
+    {
         let number = self.wiring.links_beyond(node, port).into;
-        here.pop_flit(port, &mut self.lists[usize::from(number)]);
+        let list = &mut self.lists[usize::from(number)];
+        list.pop();
+        let front = list.front().copied();
+        let at = usize::from(node);
+        let here = &mut self.arrivals[at].flits;
+        self.fronts[at].flits.file(here, port, front);
     }
 
     /// Puts the flit at the end of the link out of this port.
@@ -315,14 +365,16 @@ impl Links {
     {
         let beyond = self.wiring.beyond(node, port);
         let entered = self.wiring.entered(node, port);
-        let there = &mut self.inboxes[usize::from(beyond)];
-        if !there.flits.here.contains(entered) {
-            there.flits.put(entered, flit);
+        let at = usize::from(beyond);
+        let there = &mut self.arrivals[at].flits;
+        let fronts = &mut self.fronts[at];
+        if !there.contains(entered) {
+            fronts.flits.put(there, entered, flit);
             return;
         }
         let number = self.wiring.links_beyond(node, port).out;
         let list = &mut self.lists[usize::from(number)];
-        there.spill_flits(entered, list);
+        fronts.spill_flits(entered, list);
         list.push(flit);
     }
 
@@ -333,13 +385,29 @@ impl Links {
             (record (state_at self.old (number_out self.old node port))
             { credits = drop 1 (state_at self.old (number_out self.old node port)).credits }) }
     {
-        let here = &mut self.inboxes[usize::from(node)];
-        if !here.credits.more.contains(port) {
-            here.credits.take(port);
+        let at = usize::from(node);
+        if !self.fronts[at].credits.more.contains(port) {
+            self.arrivals[at].credits.put(port, false);
             return;
         }
+        self.pop_listed_credit(node, port);
+    }
+
+    /// The same by the link's list of credits.
+    #[inline(never)]
+    fn pop_listed_credit(&mut self, node: u8, port: u8)
+        requires { IsSome (neighbour_of self.old.mesh node port) }
+        ensures { self.new ≡ with_state self.old (number_out self.old node port)
+            (record (state_at self.old (number_out self.old node port))
+            { credits = drop 1 (state_at self.old (number_out self.old node port)).credits }) }
+    {
         let number = self.wiring.links_beyond(node, port).out;
-        here.pop_credit(port, &mut self.lists[usize::from(number)]);
+        let list = &mut self.lists[usize::from(number)];
+        list.pop_credit();
+        let front = list.front_credit();
+        let at = usize::from(node);
+        let here = &mut self.arrivals[at].credits;
+        self.fronts[at].credits.file(here, port, front);
     }
 
     /// Puts a credit of the channel at the end of the credits of the link into this port.
@@ -353,14 +421,16 @@ impl Links {
     {
         let beyond = self.wiring.beyond(node, port);
         let entered = self.wiring.entered(node, port);
-        let there = &mut self.inboxes[usize::from(beyond)];
-        if !there.credits.here.contains(entered) {
-            there.credits.put(entered, vc);
+        let at = usize::from(beyond);
+        let there = &mut self.arrivals[at].credits;
+        let fronts = &mut self.fronts[at];
+        if !there.contains(entered) {
+            fronts.credits.put(there, entered, vc);
             return;
         }
         let number = self.wiring.links_beyond(node, port).into;
         let list = &mut self.lists[usize::from(number)];
-        there.spill_credits(entered, list);
+        fronts.spill_credits(entered, list);
         list.push_credit(vc);
     }
 }

@@ -1,5 +1,5 @@
 use Rattle.std.proofs.Common.{◌≡◌, ◌∙◌, ℕ, arith, refl, subst}
-use Rattle.worm_wires.specs.Inbox.{AreSpilled, inbox_at}
+use Rattle.worm_wires.specs.Inbox.{AreSpilled, inbox_at, inboxes_by}
 use Rattle.worm_wires.proofs.Spilled.{port_spilled}
 use Rattle.worm_wires.proofs.links.spill_node.Goals as goal
 
@@ -13,8 +13,8 @@ loop-port-init c = record {
   others = λ y away. refl;
 }
 
-pub spill_flits-requires-clause-inboxes : goal.spill_flits-requires-clause-inboxes
-spill_flits-requires-clause-inboxes c = c.loop-port.invariant.kept.sound
+pub spill_flits-requires-clause-filed : goal.spill_flits-requires-clause-filed
+spill_flits-requires-clause-filed c = c.loop-port.invariant.kept.sound
 
 pub loop-port-preserved : goal.loop-port-preserved
 loop-port-preserved c =
@@ -26,9 +26,10 @@ loop-port-preserved c =
         sound = credits.kept.sound;
         same = credits.kept.same ∙ flits.kept.same ∙ inv.kept.same;
       };
-      spilled = port_spilled c.loop-port.inboxes.items c.spill_flits.new.inboxes.items
-          c.spill_credits.new.inboxes.items c.args.node c.loop-port.port c.loop-port-test.true flits.spilled
-          credits.spilled inv.spilled;
+      spilled = port_spilled (inboxes_by c.args.arrivals.now c.loop-port.fronts.items)
+          (inboxes_by c.args.arrivals.now c.spill_flits.new.fronts.items)
+          (inboxes_by c.args.arrivals.now c.spill_credits.new.fronts.items) c.args.node c.loop-port.port
+          c.loop-port-test.true flits.spilled credits.spilled inv.spilled;
       others = λ y away.
           credits.spilled.others y away ∙ flits.spilled.others y away ∙ inv.others y away;
     }
@@ -39,8 +40,8 @@ returns-clause-kept c = c.loop-port.invariant.kept
 pub returns-clause-spilled : goal.returns-clause-spilled
 returns-clause-spilled c =
     let six : c.loop-port.port ≡ 6 = omega (arith, c.loop-port-test.false, c.loop-port.auto.port-end) in
-    subst (λ (n : ℕ). AreSpilled (inbox_at c.loop-port.inboxes.items c.args.node) n) six
-    c.loop-port.invariant.spilled
+    let inboxes = inboxes_by c.args.arrivals.now c.loop-port.fronts.items in
+    subst (λ (n : ℕ). AreSpilled (inbox_at inboxes c.args.node) n) six c.loop-port.invariant.spilled
 
 pub returns-clause-others : goal.returns-clause-others
 returns-clause-others c = c.loop-port.invariant.others

@@ -1,13 +1,9 @@
 use Rattle.std.proofs.Common.{arith}
 use Rattle.worm_wires.proofs.Called.{credits_read}
+use Rattle.worm_wires.proofs.Joined.{sets_call_of}
 use Rattle.worm_wires.proofs.links.Links.credits_in.Goals as goal
 
 pub returns : goal.returns
 returns c =
-    credits_read record {
-      sound = c.self.invariant;
-      seen = c.self.view_is;
-      node = omega arith;
-      at = c.from.ensures;
-      reads = c.index.ensures;
-    }
+    credits_read (sets_call_of c.self.invariant c.from.result c.args.self.now c.args.node c.index-self-from.result
+    c.self.view_is (omega arith) c.from.ensures)

@@ -1,10 +1,12 @@
-use Rattle.std.proofs.Common.{List, length, ap, ◌∙◌, arith, sym, refl}
+use Rattle.std.proofs.Common.{List, get_or, length, ap, ◌∙◌, arith, sym, refl}
 use Rattle.std.specs.Prelude.{slice_get}
 use Rattle.worm_flit.specs.declared.Flit.{Flit}
 use Rattle.worm_flit.specs.SmallSet.{has}
+use Rattle.worm_wires.specs.Inbox.{Inbox, inbox_by, inboxes_by}
 use Rattle.worm_wires.specs.Links.{LinkView}
 use Rattle.worm_wires.proofs.Called.{AreNumbers, IsCall, numbers_by}
 use Rattle.worm_wires.proofs.EachKind.{flits_kind}
+use Rattle.worm_wires.proofs.Joined.{call_of, no_arrivals}
 use Rattle.worm_wires.proofs.TrayCalled.{seen_is, seen_listed, the_list, way}
 use Rattle.worm_wires.proofs.Ways.{alone_at}
 use Rattle.worm_wires.proofs.links.Links.flit.Goals as goal
@@ -14,17 +16,18 @@ numbers : (c : After-contains) → AreNumbers c.self.inside.wiring c.args.self.n
     c.links_beyond-links.result
 numbers c =
     numbers_by c.self.inside.wiring _ c.args.self.now c.args.node c.args.port c.links_beyond-links.result
-    c.self.invariant.radices c.self.view_is c.links_beyond-links.ensures.value
+    c.self.invariant.inboxes.radices c.self.view_is c.links_beyond-links.ensures.value
 
-call : (c : After-contains) → IsCall c.self.inside.wiring c.self.inside.lists.items c.self.inside.inboxes.items
-    c.args.self.now c.links_beyond-links.result.beyond c.from.result c.index-there.result.now
-call c = record {
-  sound = c.self.invariant;
-  seen = c.self.view_is;
-  node = omega arith;
-  at = c.from.ensures;
-  reads = c.index-there.ensures;
-}
+-- the inbox beyond
+abbrev inbox : After-contains → Inbox
+inbox c = inbox_by (get_or c.self.inside.arrivals c.from.result no_arrivals) c.index-there.result.now
+
+call : (c : After-contains) → IsCall c.self.inside.wiring c.self.inside.lists.items
+    (inboxes_by c.self.inside.arrivals c.self.inside.fronts.items) c.args.self.now
+    c.links_beyond-links.result.beyond c.from.result (inbox c)
+call c =
+    call_of c.self.invariant c.from.result c.args.self.now c.links_beyond-links.result.beyond no_arrivals
+    c.index-there.result.now c.self.view_is (omega arith) c.from.ensures c.index-there.ensures
 
 pub flit-requires : goal.flit-requires
 flit-requires c =
@@ -51,7 +54,7 @@ pub returns : goal.returns
 returns c =
     let before = (goal.at.returns c).After-contains in
     let link = (numbers before).in_beyond in
-    let read = c.index-there.result.now in
+    let read = inbox before in
     let port = c.links_beyond-links.result.entered in
     let seen = seen_is flits_kind (call before) link _ (numbers before).out_now in
     let long = ap (λ (fs : List Flit). length fs) seen in

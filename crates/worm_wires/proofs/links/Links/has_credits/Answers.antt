@@ -1,9 +1,11 @@
-use Rattle.std.proofs.Common.{ℕ, List, ap, ◌∙◌, arith, sym}
+use Rattle.std.proofs.Common.{ℕ, List, get_or, ap, ◌∙◌, arith, sym}
 use Rattle.std.specs.Prelude.{slice_get}
 use Rattle.worm_flit.specs.SmallSet.{has}
 use Rattle.worm_wires.specs.Arrivals.{has_front}
+use Rattle.worm_wires.specs.Inbox.{Inbox, inbox_by, inboxes_by}
 use Rattle.worm_wires.proofs.Called.{AreNumbers, IsCall, numbers_by}
 use Rattle.worm_wires.proofs.EachKind.{credits_kind}
+use Rattle.worm_wires.proofs.Joined.{no_fronts, sets_call_of}
 use Rattle.worm_wires.proofs.TrayCalled.{seen_is, way}
 use Rattle.worm_wires.proofs.Ways.{comes_by}
 use Rattle.worm_wires.proofs.links.Links.has_credits.Goals as goal
@@ -13,23 +15,26 @@ numbers : (c : After-contains) → AreNumbers c.self.inside.wiring c.args.self.n
     c.links_beyond-links.result
 numbers c =
     numbers_by c.self.inside.wiring _ c.args.self.now c.args.node c.args.port c.links_beyond-links.result
-    c.self.invariant.radices c.self.view_is c.links_beyond-links.ensures.value
+    c.self.invariant.inboxes.radices c.self.view_is c.links_beyond-links.ensures.value
 
-call : (c : After-contains) → IsCall c.self.inside.wiring c.self.inside.lists.items c.self.inside.inboxes.items
-    c.args.self.now c.links_beyond-links.result.beyond c.from.result c.index-beyond.result.now
-call c = record {
-  sound = c.self.invariant;
-  seen = c.self.view_is;
-  node = omega arith;
-  at = c.from.ensures;
-  reads = c.index-beyond.ensures;
-}
+-- the inbox beyond
+abbrev inbox : After-contains → Inbox
+inbox c =
+    inbox_by (get_or c.self.inside.arrivals c.from.result c.index-self-from.result)
+    (get_or c.self.inside.fronts.items c.from.result no_fronts)
+
+call : (c : After-contains) → IsCall c.self.inside.wiring c.self.inside.lists.items
+    (inboxes_by c.self.inside.arrivals c.self.inside.fronts.items) c.args.self.now
+    c.links_beyond-links.result.beyond c.from.result (inbox c)
+call c =
+    sets_call_of c.self.invariant c.from.result c.args.self.now c.links_beyond-links.result.beyond
+    c.index-self-from.result c.self.view_is (omega arith) c.from.ensures
 
 pub returns : goal.returns
 returns c =
     let before = (goal.at.returns c).After-contains in
     let link = (numbers before).out_beyond in
-    let read = c.index-beyond.result.now in
+    let read = inbox before in
     let port = c.links_beyond-links.result.entered in
     c.contains.ensures
     ∙ sym (ap (λ (fs : List ℕ). has_front fs) (seen_is credits_kind (call before) link _ (numbers before).into_now)

@@ -1,72 +1,41 @@
-use Rattle.std.proofs.Common.{◌≡◌, ◌<◌, length, ap, ◌∙◌, arith, rules, sym, refl}
-use Rattle.worm_wires.specs.Arrivals.{number_into}
-use Rattle.worm_wires.specs.Links.{LinkView}
-use Rattle.worm_wires.proofs.Called.{IsCall, IsLinked, linked_of, numbers_by}
+use Rattle.std.proofs.Common.{get_or, ◌∙◌, arith, sym, refl}
+use Rattle.worm_wires.specs.Inbox.{inbox_by, inboxes_by}
+use Rattle.worm_wires.specs.declared.inbox.Arrivals.{Arrivals}
+use Rattle.worm_wires.proofs.Called.{IsCall, IsLinked, linked_of}
 use Rattle.worm_wires.proofs.EachKind.{flits_kind}
-use Rattle.worm_wires.proofs.TrayCalled.{there}
-use Rattle.worm_wires.proofs.TrayMoved.{left_popped, left_sound, lone_popped, lone_sound}
+use Rattle.worm_wires.proofs.Joined.{call_of, sets_filed_by, sets_seen_by, taken}
+use Rattle.worm_wires.proofs.TrayMoved.{lone_popped, lone_sound}
 use Rattle.worm_wires.proofs.links.Links.pop.Goals as goal
-use Rattle.worm_wires.proofs.links.Links.pop.Goals.{After-contains, After-from-2}
+use Rattle.worm_wires.proofs.links.Links.pop.Goals.{After-put}
 
-linked : (c : After-contains) → IsLinked c.self.inside.wiring c.args.self.now c.args.node c.args.port
+linked : (c : After-put) → IsLinked c.self.inside.wiring c.args.self.now c.args.node c.args.port
 linked c = linked_of c.self.inside.wiring _ c.args.self.now c.args.node c.args.port c.self.view_is c.requires
 
-call : (c : After-contains) → IsCall c.self.inside.wiring c.self.inside.lists.items c.self.inside.inboxes.items
-    c.args.self.now c.args.node c.from.result c.index_mut-here.result.now
-call c = record {
-  sound = c.self.invariant;
-  seen = c.self.view_is;
-  node = omega arith;
-  at = c.from.ensures;
-  reads = c.index_mut-here.ensures.value;
-}
+-- the node's ports at which one comes in
+abbrev sets : After-put → Arrivals
+sets c = get_or c.self.inside.arrivals c.from-at.result c.index-self-at.result
 
--- the link has no list
+call : (c : After-put) → IsCall c.self.inside.wiring c.self.inside.lists.items
+    (inboxes_by c.self.inside.arrivals c.self.inside.fronts.items) c.args.self.now c.args.node c.from-at.result
+    (inbox_by (sets c) c.index.result.now)
+call c =
+    call_of c.self.invariant c.from-at.result c.args.self.now c.args.node c.index-self-at.result c.index.result.now
+    c.self.view_is (omega arith) c.from-at.ensures c.index.ensures
 
 pub invariant_of-self : goal.invariant_of-self
 invariant_of-self c =
-    let before = (goal.at.invariant_of-self c).After-contains in
-    lone_sound flits_kind (call before) (linked before).into _ refl
-    (sym c.contains.ensures ∙ c.if-not-contains.true)
-    (record c.index_mut-here.result.now { flits = c.take.new.self }) c.take.ensures refl
+    let none = sym c.contains.ensures ∙ c.if-not-contains.true in
+    let now : Arrivals = record (sets c) { flits = c.put.new.self } in
+    let fronts = c.index.result.now in
+    sets_filed_by c.self.invariant c.from-at.result now fronts c.index.ensures
+    (lone_sound flits_kind (call c) (linked c).into _ refl none (inbox_by now fronts)
+    (taken (sets c).flits c.put.new.self fronts.flits c.args.port c.put.ensures none) refl)
 
 pub returns-then-not-contains : goal.returns-then-not-contains
 returns-then-not-contains c =
-    let before = (goal.at.returns-then-not-contains c).After-contains in
-    lone_popped flits_kind (call before) (linked before).into _ refl
-    (sym c.contains.ensures ∙ c.if-not-contains.true)
-    (record c.index_mut-here.result.now { flits = c.take.new.self }) c.take.ensures refl
-
--- it has one
-
-number : (c : After-from-2) → c.from-2.result ≡ number_into c.args.self.now c.args.node c.args.port
-number c =
-    c.from-2.ensures
-    ∙ sym (numbers_by c.self.inside.wiring _ c.args.self.now c.args.node c.args.port c.links_beyond-number.result
-    c.self.invariant.radices c.self.view_is c.links_beyond-number.ensures.value).into_now
-
-pub index_mut-requires : goal.index_mut-requires
-index_mut-requires c =
-    let before = (goal.at.index_mut-requires c).After-contains in
-    let is = there flits_kind (call before) (linked before).into in
-    let within : c.from-2.result < length c.self.inside.lists.items = omega
-    (arith, (number (goal.at.index_mut-requires c).After-from-2), is) in
-    search (rules, within)
-
-pub invariant_of-self-2 : goal.invariant_of-self-2
-invariant_of-self-2 c =
-    let before = (goal.at.invariant_of-self-2 c).After-contains in
-    left_sound flits_kind (call before) (linked before).into _ refl c.from-2.result
-    c.index_mut.result.now (number (goal.at.invariant_of-self-2 c).After-from-2) c.index_mut.ensures.value
-    (sym c.contains.ensures ∙ c.if-not-contains.false) c.pop_flit.new.link
-    (ap (λ (l : LinkView). l.credits) c.pop_flit.ensures.link) (ap (λ (l : LinkView). l.room) c.pop_flit.ensures.link)
-    (ap (λ (l : LinkView). l.flits) c.pop_flit.ensures.link) c.pop_flit.new.self c.pop_flit.ensures.filed c.pop_flit.ensures.kept
-
-pub returns : goal.returns
-returns c =
-    let before = (goal.at.returns c).After-contains in
-    left_popped flits_kind (call before) (linked before).into _ refl c.from-2.result
-    c.index_mut.result.now (number (goal.at.returns c).After-from-2) c.index_mut.ensures.value
-    (sym c.contains.ensures ∙ c.if-not-contains.false) c.pop_flit.new.link
-    (ap (λ (l : LinkView). l.credits) c.pop_flit.ensures.link) (ap (λ (l : LinkView). l.room) c.pop_flit.ensures.link)
-    (ap (λ (l : LinkView). l.flits) c.pop_flit.ensures.link) c.pop_flit.new.self c.pop_flit.ensures.filed c.pop_flit.ensures.kept
+    let none = sym c.contains.ensures ∙ c.if-not-contains.true in
+    let now : Arrivals = record (sets c) { flits = c.put.new.self } in
+    let fronts = c.index.result.now in
+    sets_seen_by c.self.invariant c.from-at.result now fronts c.index.ensures _
+    (lone_popped flits_kind (call c) (linked c).into _ refl none (inbox_by now fronts)
+    (taken (sets c).flits c.put.new.self fronts.flits c.args.port c.put.ensures none) refl)

@@ -1,48 +1,57 @@
-use Rattle.std.proofs.Common.{◌≡◌, [], ◌∷◌, ◌++◌, true, ap, ◌∙◌, arith, sym, refl}
+use Rattle.std.proofs.Common.{◌≡◌, ℕ, get_or, [], ◌∷◌, ◌++◌, true, ap, ◌∙◌, arith, sym, refl}
 use Rattle.std.specs.Prelude.{slice_get}
 use Rattle.worm_wires.specs.Arrivals.{number_out}
-use Rattle.worm_wires.specs.Inbox.{whole}
+use Rattle.worm_wires.specs.Inbox.{inbox_by, inboxes_by, tray_of, whole}
 use Rattle.worm_wires.specs.Links.{LinkView}
+use Rattle.worm_wires.specs.declared.inbox.Arrivals.{Arrivals}
+use Rattle.worm_wires.specs.declared.inbox.Fronts.{Fronts}
+use Rattle.worm_wires.specs.declared.inbox.NodeFronts.{NodeFronts}
 use Rattle.worm_wires.proofs.Called.{IsBeyond, IsCall, beyond_of, numbers_by}
 use Rattle.worm_wires.proofs.EachKind.{flits_kind}
-use Rattle.worm_wires.proofs.TrayCalled.{none_more, way_read}
+use Rattle.worm_wires.proofs.Joined.{call_of, filed_by, seen_by}
+use Rattle.worm_wires.proofs.TrayCalled.{here_read, none_more}
 use Rattle.worm_wires.proofs.TrayMoved.{alone_pushed, alone_sound, behind_pushed, behind_sound, fits_behind}
 use Rattle.worm_wires.proofs.links.Links.push.Goals as goal
-use Rattle.worm_wires.proofs.links.Links.push.Goals.{After-contains, After-from-2, After-self-3-1}
+use Rattle.worm_wires.proofs.links.Links.push.Goals.{After-contains, After-from, After-self-3-1}
 
 beyond : (c : After-contains)
     → IsBeyond c.self.inside.wiring c.args.self.now c.args.node c.args.port c.beyond-beyond.result
     c.entered-entered.result
 beyond c =
     beyond_of c.self.inside.wiring _ c.args.self.now c.args.node c.args.port c.beyond-beyond.result
-    c.entered-entered.result c.self.invariant.radices c.self.view_is c.beyond-beyond.ensures
+    c.entered-entered.result c.self.invariant.inboxes.radices c.self.view_is c.beyond-beyond.ensures
     c.entered-entered.ensures.value
 
-call : (c : After-contains) → IsCall c.self.inside.wiring c.self.inside.lists.items c.self.inside.inboxes.items
-    c.args.self.now c.beyond-beyond.result c.from.result c.index_mut-there.result.now
-call c = record {
-  sound = c.self.invariant;
-  seen = c.self.view_is;
-  node = omega arith;
-  at = c.from.ensures;
-  reads = c.index_mut-there.ensures.value;
-}
+-- the ports of the node beyond at which one comes in
+abbrev sets : After-contains → Arrivals
+sets c = get_or c.self.inside.arrivals c.from-at.result c.index-self-at.result
+
+call : (c : After-contains) → IsCall c.self.inside.wiring c.self.inside.lists.items
+    (inboxes_by c.self.inside.arrivals c.self.inside.fronts.items) c.args.self.now c.beyond-beyond.result
+    c.from-at.result (inbox_by (sets c) c.index_mut-fronts.result.now)
+call c =
+    call_of c.self.invariant c.from-at.result c.args.self.now c.beyond-beyond.result c.index-self-at.result
+    c.index_mut-fronts.result.now c.self.view_is (omega arith) c.from-at.ensures c.index_mut-fronts.ensures.value
 
 -- none comes in there yet
 
 pub invariant_of-self : goal.invariant_of-self
 invariant_of-self c =
     let before = (goal.at.invariant_of-self c).After-contains in
-    alone_sound flits_kind (call before) (beyond before).into _ refl c.args.flit
-    (sym c.contains.ensures ∙ c.if-not-contains.true) c.requires.room
-    (record c.index_mut-there.result.now { flits = c.put.new.self }) c.put.ensures refl
+    let now : Arrivals = record (sets before) { flits = c.put.new.here } in
+    let fronts : NodeFronts = record c.index_mut-fronts.result.now { flits = c.put.new.self } in
+    filed_by c.self.invariant c.from-at.result now fronts _
+    (alone_sound flits_kind (call before) (beyond before).into _ refl c.args.flit
+    (sym c.contains.ensures ∙ c.if-not-contains.true) c.requires.room (inbox_by now fronts) c.put.ensures refl)
 
 pub returns-then-not-contains : goal.returns-then-not-contains
 returns-then-not-contains c =
     let before = (goal.at.returns-then-not-contains c).After-contains in
-    alone_pushed flits_kind (call before) (beyond before).into _ refl c.args.flit
-    (sym c.contains.ensures ∙ c.if-not-contains.true) c.requires.room
-    (record c.index_mut-there.result.now { flits = c.put.new.self }) c.put.ensures refl
+    let now : Arrivals = record (sets before) { flits = c.put.new.here } in
+    let fronts : NodeFronts = record c.index_mut-fronts.result.now { flits = c.put.new.self } in
+    seen_by c.self.invariant c.from-at.result now fronts _ _
+    (alone_pushed flits_kind (call before) (beyond before).into _ refl c.args.flit
+    (sym c.contains.ensures ∙ c.if-not-contains.true) c.requires.room (inbox_by now fronts) c.put.ensures refl)
 
 pub put-requires : goal.put-requires
 put-requires c =
@@ -57,30 +66,30 @@ put-requires c =
 
 -- others are there
 
-number : (c : After-from-2) → c.from-2.result ≡ number_out c.args.self.now c.args.node c.args.port
+number : (c : After-from) → c.from.result ≡ number_out c.args.self.now c.args.node c.args.port
 number c =
-    c.from-2.ensures
+    c.from.ensures
     ∙ sym (numbers_by c.self.inside.wiring _ c.args.self.now c.args.node c.args.port c.links_beyond-number.result
-    c.self.invariant.radices c.self.view_is c.links_beyond-number.ensures.value).out_now
+    c.self.invariant.inboxes.radices c.self.view_is c.links_beyond-number.ensures.value).out_now
 
 pub spill_flits-requires-clause-way : goal.spill_flits-requires-clause-way
 spill_flits-requires-clause-way c =
     let before = (goal.at.spill_flits-requires-clause-way c).After-contains in
-    way_read flits_kind (call before) (beyond before).into c.from-2.result c.index_mut-list.result.now
-    (number (goal.at.spill_flits-requires-clause-way c).After-from-2)
-    c.index_mut-list.ensures.value
+    here_read flits_kind (call before) (beyond before).into c.from.result c.index_mut-list.result.now
+    (number (goal.at.spill_flits-requires-clause-way c).After-from)
+    c.index_mut-list.ensures.value (sym c.contains.ensures ∙ c.if-not-contains.false)
 
 pub push-requires : goal.push-requires
 push-requires c =
     let before = (goal.at.push-requires c).After-contains in
-    fits_behind flits_kind (call before) (beyond before).into _ refl c.from-2.result
-    c.index_mut-list.result.now (number (goal.at.push-requires c).After-from-2) c.index_mut-list.ensures.value
+    fits_behind flits_kind (call before) (beyond before).into _ refl c.from.result
+    c.index_mut-list.result.now (number (goal.at.push-requires c).After-from) c.index_mut-list.ensures.value
     (sym c.contains.ensures ∙ c.if-not-contains.false) c.requires.room c.spill_flits.new.link
     (ap (λ (l : LinkView). l.flits) c.spill_flits.ensures.link)
     (ap (λ (l : LinkView). l.room) c.spill_flits.ensures.link)
 
 pushed : (c : After-self-3-1) → c.push.new.self.flits
-    ≡ whole true (slice_get c.index_mut-there.result.now.flits.front c.entered-entered.result)
+    ≡ whole true (slice_get c.index_mut-fronts.result.now.flits.front c.entered-entered.result)
     c.index_mut-list.result.now.flits
     ++ c.args.flit ∷ []
 pushed c =
@@ -97,15 +106,23 @@ room c = ap (λ (l : LinkView). l.room) c.push.ensures ∙ ap (λ (l : LinkView)
 pub invariant_of-self-2 : goal.invariant_of-self-2
 invariant_of-self-2 c =
     let before = (goal.at.invariant_of-self-2 c).After-contains in
-    behind_sound flits_kind (call before) (beyond before).into _ refl c.from-2.result
-    c.index_mut-list.result.now (number (goal.at.invariant_of-self-2 c).After-from-2) c.index_mut-list.ensures.value
-    (sym c.contains.ensures ∙ c.if-not-contains.false) c.args.flit c.spill_flits.new.self c.spill_flits.ensures.filed
-    c.spill_flits.ensures.kept c.push.new.self (others c) (room c) (pushed c)
+    let some = sym c.contains.ensures ∙ c.if-not-contains.false in
+    let fronts = c.spill_flits.new.self in
+    filed_by c.self.invariant c.from-at.result (sets before) fronts _
+    (behind_sound flits_kind (call before) (beyond before).into _ refl c.from.result c.index_mut-list.result.now
+    (number (goal.at.invariant_of-self-2 c).After-from) c.index_mut-list.ensures.value some c.args.flit
+    (inbox_by (sets before) fronts) (c.spill_flits.ensures.filed (sets before).flits some)
+    (ap (λ (g : Fronts ℕ). tray_of (sets before).credits g) c.spill_flits.ensures.kept) c.push.new.self (others c)
+    (room c) (pushed c))
 
 pub returns : goal.returns
 returns c =
     let before = (goal.at.returns c).After-contains in
-    behind_pushed flits_kind (call before) (beyond before).into _ refl c.from-2.result
-    c.index_mut-list.result.now (number (goal.at.returns c).After-from-2) c.index_mut-list.ensures.value
-    (sym c.contains.ensures ∙ c.if-not-contains.false) c.args.flit c.spill_flits.new.self c.spill_flits.ensures.filed
-    c.spill_flits.ensures.kept c.push.new.self (others c) (room c) (pushed c)
+    let some = sym c.contains.ensures ∙ c.if-not-contains.false in
+    let fronts = c.spill_flits.new.self in
+    seen_by c.self.invariant c.from-at.result (sets before) fronts _ _
+    (behind_pushed flits_kind (call before) (beyond before).into _ refl c.from.result c.index_mut-list.result.now
+    (number (goal.at.returns c).After-from) c.index_mut-list.ensures.value some c.args.flit
+    (inbox_by (sets before) fronts) (c.spill_flits.ensures.filed (sets before).flits some)
+    (ap (λ (g : Fronts ℕ). tray_of (sets before).credits g) c.spill_flits.ensures.kept) c.push.new.self (others c)
+    (room c) (pushed c))
