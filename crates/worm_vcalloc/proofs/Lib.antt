@@ -9,5 +9,4 @@ pub mod PassAgrees
 pub mod ArbitersStay
 pub mod PassMatches
 pub mod AskedPassed
-pub mod RequestersGathered
 pub mod PlacesInOrder

@@ -98,6 +98,12 @@ pub record IsPlaced (ports channels : ℕ) (places : List (List ℕ)) : Type 0 w
   pub port : (i j : ℕ) → i < 7 → j < 8 → cell places i j 0 / 8 < ports
   pub channel : (i j : ℕ) → i < 7 → j < 8 → cell places i j 0 % 8 < channels
 
+-- the place is that of the line after this input channel's, cyclically
+pub record IsPlaceAfter (ports channels port vc place : ℕ) : Type 0 where
+  pub port_in : place / 8 < ports
+  pub channel_in : place % 8 < channels
+  pub line : line_of channels place ≡ (port * channels + vc + 1) % (ports * channels)
+
 -- input channel (port, vc) was granted this channel of this output port
 pub record HasWon (waiting : List (List (Option VcRequest))) (grants : List (List (Option ℕ)))
     (port vc out channel : ℕ) : Type 0 where
