@@ -10,3 +10,4 @@ pub mod ArbitersStay
 pub mod PassMatches
 pub mod AskedPassed
 pub mod PlacesInOrder
+pub mod ChannelsAllowed

@@ -1,16 +1,14 @@
-use Rattle.std.proofs.Common.{rules, ◌≡◌, ℕ, ◌<◌, ◌≤◌, ◌&&◌, replicate, slice_index_or, ◌+◌, ◌-◌, ◌*◌, length, ◌/◌, ◌%◌, Bool, true, false, nat_eq, nat_lt, List, [], ◌∷◌, ◌++◌, slice_set, bit_and, bit_or, Fits, w8, w32, w64, Bor, MutBor}
-use Rattle.worm_vcalloc.specs.Asked.{AreAllowed, IsFiled}
-use Rattle.worm_vcalloc.specs.ChannelSet.{has}
+use Rattle.std.proofs.Common.{◌<◌, length, arith}
+use Rattle.std.specs.Int.{trailing_zeros, w8}
+use Rattle.worm_flit.specs.SmallSet as small
+use Rattle.worm_flit.proofs.SmallSets.{first_taken}
+use Rattle.worm_vcalloc.proofs.ChannelsAllowed.{allowed_more}
 use Rattle.worm_vcalloc.proofs.asked.file_allowed.Goals as goal
 
--- src/asked.rt:81:5
-pub loop-left-init : goal.loop-left-init
-loop-left-init c = ?
-
--- src/asked.rt:81:5
 pub loop-left-preserved : goal.loop-left-preserved
-loop-left-preserved c = ?
-
--- src/asked.rt:75:1
-pub returns : goal.returns
-returns c = ?
+loop-left-preserved c =
+    let some : 0 < c.loop-left.left = omega arith in
+    let first = first_taken c.loop-left.left some (omega arith) in
+    let long : trailing_zeros w8 c.loop-left.left < length c.loop-left.by_channel = omega (arith, first.in_range) in
+    allowed_more c.args.by_channel.now c.loop-left.by_channel c.args.port c.args.vc c.args.allowed c.loop-left.left _
+    (trailing_zeros w8 c.loop-left.left) _ c.put.new.self c.loop-left.invariant first long c.put.ensures
