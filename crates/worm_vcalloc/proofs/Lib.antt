@@ -10,4 +10,6 @@ pub mod ArbitersStay
 pub mod PassMatches
 pub mod AskedPassed
 pub mod PlacesInOrder
+pub mod PlacesKept
+pub mod RequestersHeard
 pub mod ChannelsAllowed

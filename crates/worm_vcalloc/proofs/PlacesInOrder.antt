@@ -8,7 +8,7 @@ use Rattle.std.proofs.lemmas.Nat.Bits.{bit_at-trailing_zeros, bit_at_above}
 use Rattle.std.proofs.Math.Nat.{div-mul-le_self, mod-eq_of_lt, mod_self}
 use Rattle.worm_vcalloc.specs.Arbiter.{ArbiterState, winner, line_requests, IsFirstRequester, asked_before}
 use Rattle.worm_vcalloc.specs.ChannelSet.{has, IsFirstFrom}
-use Rattle.worm_vcalloc.specs.VcAlloc.{line_of, arbiter_at, IsPlaceAfter}
+use Rattle.worm_vcalloc.specs.Places.{line_of, arbiter_at, IsPlace, IsPlaceAfter}
 use Rattle.worm_flit.proofs.BitTests.{bit_set, bit_unset}
 use Rattle.worm_vcalloc.proofs.LineByLine.{shifted_low, shifted_high, at_line, line_within, line_port}
 use Rattle.worm_vcalloc.proofs.SetMembers.{has-zero}
@@ -47,8 +47,7 @@ line_of_place channels port vc within =
 pub next_channel : (ports channels port vc : ℕ) → port < ports → channels ≤ 8 → vc + 1 < channels
     → IsPlaceAfter ports channels port vc (8 * port + vc + 1)
 next_channel ports channels port vc lp few lv = record {
-  port_in = omega arith;
-  channel_in = omega arith;
+  here = record { port_in = omega arith; channel_in = omega arith };
   line =
       let inside : port * channels + (vc + 1) < ports * channels =
       line_within ports channels port (vc + 1) lp lv in
@@ -62,8 +61,7 @@ next_channel ports channels port vc lp few lv = record {
 pub next_port : (ports channels port vc : ℕ) → port + 1 < ports → vc < channels → channels ≤ vc + 1
     → IsPlaceAfter ports channels port vc (8 * (port + 1))
 next_port ports channels port vc lp lv last = record {
-  port_in = omega arith;
-  channel_in = omega arith;
+  here = record { port_in = omega arith; channel_in = omega arith };
   line =
       let inside : (port + 1) * channels + 0 < ports * channels =
       line_within ports channels (port + 1) 0 lp (omega arith) in
@@ -78,8 +76,7 @@ next_port ports channels port vc lp lv last = record {
 pub first_again : (ports channels port vc : ℕ) → ports ≡ port + 1 → vc < channels → channels ≤ vc + 1
     → IsPlaceAfter ports channels port vc 0
 first_again ports channels port vc top lv last = record {
-  port_in = omega arith;
-  channel_in = omega arith;
+  here = record { port_in = omega arith; channel_in = omega arith };
   line =
       let row : (port + 1) * channels ≡ port * channels + channels = omega arith in
       let whole : ports * channels ≡ (port + 1) * channels = ap (λ p. p * channels) top in

@@ -1,11 +1,11 @@
 -- One pass of virtual-channel allocation (Dally and Towles, chapter 19).
-use Rattle.std.specs.Prelude.{◌≡◌, ℕ, ◌+◌, ◌*◌, ◌/◌, ◌%◌, ◌<◌, ◌≤◌, ◌&&◌, Bool, false, if◌then◌else◌, List, Option, Some}
+use Rattle.std.specs.Prelude.{◌≡◌, ℕ, ◌*◌, ◌/◌, ◌%◌, ◌<◌, ◌≤◌, ◌&&◌, Bool, false, if◌then◌else◌, List, Option, Some}
 use Rattle.std.specs.Prelude.{None, is_none, IsTrue, fold}
 use Rattle.std.specs.List.{range_with_len}
 use Rattle.worm_vcalloc.specs.declared.request.VcRequest.{VcRequest}
 use Rattle.worm_vcalloc.specs.VcRequest.{may_use}
 use Rattle.worm_vcalloc.specs.Arbiter.{ArbiterState, no_arbiter, winner, after_pick}
-use Rattle.worm_vcalloc.specs.Table.{cell, with_cell, table, IsTable}
+use Rattle.worm_vcalloc.specs.Table.{cell, with_cell}
 
 -- an allocator: an arbiter for each output port and channel
 pub record VcAllocState : Type 0 where
@@ -61,24 +61,6 @@ port_pass waiting free pass out = fold (vc_step waiting free out) pass (range_wi
 unfoldable pub vc_pass : List (List (Option VcRequest)) → List (List Bool) → VcPass → VcPass
 vc_pass waiting free pass = fold (port_pass waiting free) pass (range_with_len 0 pass.alloc.ports)
 
--- the line of the input channel at a place, `8 * port + vc`
-abbrev pub line_of : ℕ → ℕ → ℕ
-line_of channels place = place / 8 * channels + place % 8
-
--- the arbiter that asks first the input channel at a place
-abbrev pub arbiter_at : ℕ → ℕ → ℕ → ArbiterState
-arbiter_at ports channels place = record { width = ports * channels; pointer = line_of channels place }
-
--- the arbiters, by the places of the input channels that they ask first
-abbrev pub arbiters_at : ℕ → ℕ → List (List ℕ) → List (List ArbiterState)
-arbiters_at ports channels places = table (λ out channel. arbiter_at ports channels (cell places out channel 0))
-
--- the places of the input channels that the arbiters ask first
-abbrev pub places_of : ℕ → List (List ArbiterState) → List (List ℕ)
-places_of channels arbiters =
-    table (λ out channel. let line = (cell arbiters out channel no_arbiter).pointer in
-    8 * (line / channels) + line % channels)
-
 -- between passes: one to seven ports, one to eight channels, and each arbiter has a line for each input channel
 pub record IsVcAlloc (ports channels : ℕ) (arbiters : List (List ArbiterState)) : Type 0 where
   pub some_port : 0 < ports
@@ -87,22 +69,6 @@ pub record IsVcAlloc (ports channels : ℕ) (arbiters : List (List ArbiterState)
   pub few_channels : channels ≤ 8
   pub width : (i j : ℕ) → i < 7 → j < 8 → (cell arbiters i j no_arbiter).width ≡ ports * channels
   pub pointer : (i j : ℕ) → i < 7 → j < 8 → (cell arbiters i j no_arbiter).pointer < ports * channels
-
--- each place is that of an input channel of the router
-pub record IsPlaced (ports channels : ℕ) (places : List (List ℕ)) : Type 0 where
-  pub some_port : 0 < ports
-  pub few_ports : ports ≤ 7
-  pub some_channel : 0 < channels
-  pub few_channels : channels ≤ 8
-  pub shape : IsTable places
-  pub port : (i j : ℕ) → i < 7 → j < 8 → cell places i j 0 / 8 < ports
-  pub channel : (i j : ℕ) → i < 7 → j < 8 → cell places i j 0 % 8 < channels
-
--- the place is that of the line after this input channel's, cyclically
-pub record IsPlaceAfter (ports channels port vc place : ℕ) : Type 0 where
-  pub port_in : place / 8 < ports
-  pub channel_in : place % 8 < channels
-  pub line : line_of channels place ≡ (port * channels + vc + 1) % (ports * channels)
 
 -- input channel (port, vc) was granted this channel of this output port
 pub record HasWon (waiting : List (List (Option VcRequest))) (grants : List (List (Option ℕ)))

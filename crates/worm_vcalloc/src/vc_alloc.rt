@@ -1,7 +1,7 @@
 ghost use Rattle.std.specs.Prelude.{◌≡◌, ℕ, ◌+◌, ◌*◌, ◌<◌, ◌≤◌, ◌/◌, ◌%◌, None, List, Option, replicate};
 ghost use Rattle.worm_vcalloc.specs.Asked.{IsFiled};
-ghost use Rattle.worm_vcalloc.specs.VcAlloc.{VcAllocState, IsPlaced, IsPlaceAfter, IsChannelMatching};
-ghost use Rattle.worm_vcalloc.specs.VcAlloc.{arbiters_at, places_of, offered, port_pass, vc_pass};
+ghost use Rattle.worm_vcalloc.specs.Places.{IsPlaceAfter};
+ghost use Rattle.worm_vcalloc.specs.VcAlloc.{VcAllocState, IsChannelMatching, offered, port_pass, vc_pass};
 ghost use Rattle.worm_vcalloc.specs.declared.request.VcRequest.{VcRequest};
 
 use crate::asked::Asked;
@@ -37,6 +37,10 @@ pub struct VcAlloc {
 }
 
 impl Model for VcAlloc {
+    ghost use Rattle.std.proofs.Common.{refl};
+    ghost use Rattle.worm_vcalloc.specs.Places.{IsPlaced, arbiters_at, places_again, places_of};
+    ghost use Rattle.worm_vcalloc.specs.VcAlloc.{VcAllocState};
+
     ghost Value = { VcAllocState };
 
     ghost view = { λ a. record {
@@ -53,7 +57,7 @@ impl Model for VcAlloc {
       places = places_of v.channels v.arbiters;
     } };
 
-    ghost inverse_ok = { λ a h. Prim.rw (places_of_arbiters a.ports a.channels a.places h) refl };
+    ghost inverse_ok = { λ a h. Prim.rw (places_again a.ports a.channels a.places h.each) refl };
 }
 
 impl VcAlloc {
