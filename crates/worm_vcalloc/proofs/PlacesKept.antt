@@ -1,16 +1,16 @@
 -- The arbiters of an allocator, by the places that they ask first.
-use Rattle.std.proofs.Common.{◌≡◌, ℕ, ◌+◌, ◌*◌, ◌/◌, ◌%◌, ◌<◌, ◌≤◌, List, [], length, map, replicate, slice_index_or}
+use Rattle.std.proofs.Common.{◌≡◌, ℕ, ◌+◌, ◌*◌, ◌/◌, ◌%◌, ◌<◌, ◌≤◌, List, [], length, map, slice_index_or}
 use Rattle.std.proofs.Common.{slice_set, Some, sym, ap, ◌∙◌, subst, arith}
 use Rattle.std.specs.List.{All}
 use Rattle.std.proofs.Math.ListN as listn
 use Rattle.std.proofs.lemmas.List.{get_or-map, map-set}
-use Rattle.std.proofs.lemmas.List.Elements.{All-get_or, All-replicate, All-set}
+use Rattle.std.proofs.lemmas.List.Elements.{All-get_or, All-set}
 use Rattle.worm_vcalloc.specs.Arbiter.{ArbiterState, after_pick, no_arbiter}
 use Rattle.worm_vcalloc.specs.Places.{line_of, arbiter_at, arbiters_at, IsPlace, IsPlaced, IsPlaceAfter}
 use Rattle.worm_vcalloc.specs.Table.{cell, with_cell}
 use Rattle.worm_vcalloc.specs.VcAlloc.{IsVcAlloc}
 use Rattle.worm_vcalloc.proofs.LineByLine.{line_within}
-use Rattle.worm_vcalloc.proofs.TableCells.{IsTable-replicate, IsTable-with_cell}
+use Rattle.worm_vcalloc.proofs.TableCells.{IsTable-with_cell}
 
 -- a row of them
 row_at : (ports channels : ℕ) (places : List (List ℕ)) (out : ℕ)
@@ -49,26 +49,6 @@ IsVcAlloc-placed ports channels places h = record {
       subst (λ (a : ArbiterState). a.pointer < ports * channels) (sym (cell_at ports channels places i j h li lj))
       (line_within ports channels (cell places i j 0 / 8) (cell places i j 0 % 8) here.port_in here.channel_in);
 }
-
--- all ask the first place at first
-pub IsPlaced-new : (ports channels : ℕ) → 0 < ports → ports ≤ 7 → 0 < channels → channels ≤ 8
-    → IsPlaced ports channels (replicate 7 (replicate 8 0))
-IsPlaced-new ports channels some few some' few' = record {
-  some_port = some;
-  few_ports = few;
-  some_channel = some';
-  few_channels = few';
-  shape = IsTable-replicate 0;
-  each = All-replicate (All (IsPlace ports channels)) 7 (replicate 8 0)
-      (All-replicate (IsPlace ports channels) 8 0 (record { port_in = some; channel_in = some' }));
-}
-
-pub arbiters_at_first : (ports channels : ℕ)
-    → arbiters_at ports channels (replicate 7 (replicate 8 0))
-    ≡ replicate 7 (replicate 8 (record { width = ports * channels; pointer = 0 }))
-arbiters_at_first ports channels =
-    let start : line_of channels 0 ≡ 0 = omega arith in
-    ap (λ line. replicate 7 (replicate 8 (record { width = ports * channels; pointer = line }))) start
 
 -- ---- one arbiter picks
 

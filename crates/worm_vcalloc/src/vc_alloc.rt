@@ -106,6 +106,8 @@ impl VcAlloc {
     /// Offers the free channels of one output port, rising, whatever requests these are the files of.
     fn grant_port(&mut self, out: u8, asked: &Asked, free: &FreeChannels, grants: &mut VcGrants)
         requires out { out < self.old.ports }
+        requires filed { (waiting : List (List (Option VcRequest)))
+            × IsFiled waiting self.old.ports self.old.channels asked.now }
         ensures pass { (waiting : List (List (Option VcRequest)))
             → IsFiled waiting self.old.ports self.old.channels asked.now
             → record { alloc = self.new; grants = grants.new }
@@ -125,6 +127,8 @@ impl VcAlloc {
     fn offer(&mut self, out: u8, channel: u8, asked: &Asked, grants: &mut VcGrants)
         requires out { out < self.old.ports }
         requires channel { channel < self.old.channels }
+        requires filed { (waiting : List (List (Option VcRequest)))
+            × IsFiled waiting self.old.ports self.old.channels asked.now }
         ensures pass { (waiting : List (List (Option VcRequest)))
             → IsFiled waiting self.old.ports self.old.channels asked.now
             → record { alloc = self.new; grants = grants.new }
@@ -132,8 +136,8 @@ impl VcAlloc {
         ensures ports { self.new.ports ≡ self.old.ports }
         ensures channels { self.new.channels ≡ self.old.channels }
     {
-        let asking = asked.asking(out, channel).difference(&grants.keys());
         let place = self.places[out as usize][channel as usize];
+        let asking = asked.asking(out, channel).difference(&grants.keys());
         if let Some((port, vc)) = asking.first_from(place) {
             let next = place_after(self.ports, self.channels, port, vc);
             let row = &mut self.places[out as usize];
