@@ -8,7 +8,7 @@ use Rattle.std.proofs.lemmas.Nat.Bits.{bit_at-trailing_zeros, bit_at_above}
 use Rattle.std.proofs.Math.Nat.{div-mul-le_self, mod-eq_of_lt, mod_self}
 use Rattle.worm_vcalloc.specs.Arbiter.{ArbiterState, winner, line_requests, IsFirstRequester, asked_before}
 use Rattle.worm_vcalloc.specs.ChannelSet.{has, IsFirstFrom}
-use Rattle.worm_vcalloc.specs.Places.{line_of, arbiter_at, IsPlace, IsPlaceAfter}
+use Rattle.worm_vcalloc.specs.Places.{line_of, arbiter_at, IsPlaceAfter}
 use Rattle.worm_flit.proofs.BitTests.{bit_set, bit_unset}
 use Rattle.worm_vcalloc.proofs.LineByLine.{shifted_low, shifted_high, at_line, line_within, line_port}
 use Rattle.worm_vcalloc.proofs.SetMembers.{has-zero}

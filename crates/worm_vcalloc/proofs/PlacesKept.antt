@@ -1,12 +1,12 @@
 -- The arbiters of an allocator, by the places that they ask first.
-use Rattle.std.proofs.Common.{◌≡◌, ℕ, ◌+◌, ◌*◌, ◌/◌, ◌%◌, ◌<◌, ◌≤◌, List, [], length, map, slice_index_or}
+use Rattle.std.proofs.Common.{◌≡◌, ℕ, ◌+◌, ◌*◌, ◌/◌, ◌%◌, ◌<◌, List, [], map, slice_index_or}
 use Rattle.std.proofs.Common.{slice_set, Some, sym, ap, ◌∙◌, subst, arith}
 use Rattle.std.specs.List.{All}
 use Rattle.std.proofs.Math.ListN as listn
 use Rattle.std.proofs.lemmas.List.{get_or-map, map-set}
 use Rattle.std.proofs.lemmas.List.Elements.{All-get_or, All-set}
 use Rattle.worm_vcalloc.specs.Arbiter.{ArbiterState, after_pick, no_arbiter}
-use Rattle.worm_vcalloc.specs.Places.{line_of, arbiter_at, arbiters_at, IsPlace, IsPlaced, IsPlaceAfter}
+use Rattle.worm_vcalloc.specs.Places.{arbiter_at, arbiters_at, IsPlace, IsPlaced, IsPlaceAfter}
 use Rattle.worm_vcalloc.specs.Table.{cell, with_cell}
 use Rattle.worm_vcalloc.specs.VcAlloc.{IsVcAlloc}
 use Rattle.worm_vcalloc.proofs.LineByLine.{line_within}

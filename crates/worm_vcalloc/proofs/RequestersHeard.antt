@@ -1,5 +1,5 @@
 -- Lemmas on the requesters of an output channel, as a set of the input channels that the router hears ask for it.
-use Rattle.std.proofs.Common.{◌≡◌, ℕ, ◌+◌, ◌*◌, ◌/◌, ◌%◌, ◌<◌, ◌≤◌, ◌&&◌, Bool, true, false, not, List, Option, Some, None}
+use Rattle.std.proofs.Common.{◌≡◌, ℕ, ◌<◌, ◌≤◌, ◌&&◌, Bool, true, false, not, List, Option, Some, None}
 use Rattle.std.proofs.Common.{is_some, is_none, nat_lt, slice_index_or, if◌then◌else◌, refl, sym, ap, ◌∙◌, arith, inl, inr}
 use Rattle.std.proofs.lemmas.Bool.{cases_Bool, cases_lt, and_from, and_parts, lt-ltb, le-ltb, ltb-true, ne_eqb, eqb-true, true≢false}
 use Rattle.worm_vcalloc.specs.declared.asked.Asked.{Asked}

@@ -1,6 +1,5 @@
 use Rattle.std.proofs.Common.{◌<◌, length, arith}
 use Rattle.std.specs.Int.{trailing_zeros, w8}
-use Rattle.worm_flit.specs.SmallSet as small
 use Rattle.worm_flit.proofs.SmallSets.{first_taken}
 use Rattle.worm_vcalloc.proofs.ChannelsAllowed.{allowed_more}
 use Rattle.worm_vcalloc.proofs.asked.file_allowed.Goals as goal

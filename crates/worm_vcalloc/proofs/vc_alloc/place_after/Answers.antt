@@ -1,4 +1,4 @@
-use Rattle.std.proofs.Common.{◌≡◌, ◌+◌, arith}
+use Rattle.std.proofs.Common.{arith}
 use Rattle.worm_vcalloc.proofs.PlacesInOrder.{next_channel, next_port, first_again}
 use Rattle.worm_vcalloc.proofs.vc_alloc.place_after.Goals as goal
 use Rattle.worm_vcalloc.proofs.vc_alloc.place_after.Goals.{then-vc-channels, else-vc-channels}

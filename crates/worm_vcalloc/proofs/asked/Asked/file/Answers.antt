@@ -1,4 +1,4 @@
-use Rattle.std.proofs.Common.{◌<◌, ◌≤◌, arith, length, sym, subst}
+use Rattle.std.proofs.Common.{◌<◌, arith, length, sym, subst}
 use Rattle.worm_vcalloc.specs.declared.asked.Asked.{Asked}
 use Rattle.worm_vcalloc.proofs.RequestsFiled.{AreFiledBut, filed_start, filed_for, filed_nowhere, filed_all, heard_none}
 use Rattle.worm_vcalloc.proofs.asked.Asked.file.Goals as goal

@@ -1,4 +1,4 @@
-use Rattle.std.proofs.Common.{◌<◌, ◌+◌, ◌/◌, ◌%◌, arith, subst, sym}
+use Rattle.std.proofs.Common.{◌<◌, ◌/◌, ◌%◌, arith, subst, sym}
 use Rattle.std.specs.Int.{trailing_zeros, w64}
 use Rattle.worm_vcalloc.specs.ChannelSet.{IsFirstFrom}
 use Rattle.worm_vcalloc.proofs.PlacesInOrder.{first_ahead, first_behind}

@@ -1,8 +1,8 @@
-use Rattle.std.proofs.Common.{◌≡◌, ◌<◌, ◌∙◌, ap, arith, sym}
+use Rattle.std.proofs.Common.{◌∙◌, ap}
 use Rattle.worm_vcalloc.specs.Asked.{IsFiled}
 use Rattle.worm_vcalloc.specs.Places.{arbiters_at}
 use Rattle.worm_vcalloc.specs.VcAlloc.{VcAllocState, VcPass, vc_pass}
-use Rattle.worm_vcalloc.proofs.AskedPassed.{IsPassed, passed_start, passed_more, passed_all}
+use Rattle.worm_vcalloc.proofs.AskedPassed.{passed_start, passed_more, passed_all}
 use Rattle.worm_vcalloc.proofs.PassMatches.{matching_of}
 use Rattle.worm_vcalloc.proofs.PlacesKept.{IsVcAlloc-placed}
 use Rattle.worm_vcalloc.proofs.vc_alloc.VcAlloc.grant.Goals as goal

@@ -1,11 +1,8 @@
-use Rattle.std.proofs.Common.{ℕ, ◌≡◌, ◌<◌, List, Option, arith, [], sym, ap, ◌∙◌}
-use Rattle.worm_vcalloc.specs.declared.request.VcRequest.{VcRequest}
+use Rattle.std.proofs.Common.{◌<◌, arith}
 use Rattle.worm_vcalloc.specs.Asked.{IsFiled}
-use Rattle.worm_vcalloc.specs.Places.{arbiters_at}
-use Rattle.worm_vcalloc.specs.Table.{with_cell}
 use Rattle.worm_vcalloc.proofs.PassAgrees.{offered_first, offered_none}
 use Rattle.worm_vcalloc.proofs.PlacesKept.{IsPlaced-moved}
-use Rattle.worm_vcalloc.proofs.RequestersHeard.{AreAsking, are_asking}
+use Rattle.worm_vcalloc.proofs.RequestersHeard.{are_asking}
 use Rattle.worm_vcalloc.proofs.vc_alloc.VcAlloc.offer.Goals as goal
 
 pub returns-in-Some-clause-pass : goal.returns-in-Some-clause-pass
