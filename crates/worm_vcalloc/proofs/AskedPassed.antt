@@ -9,9 +9,9 @@ use Rattle.worm_vcalloc.specs.declared.request.VcRequest.{VcRequest}
 use Rattle.worm_vcalloc.specs.declared.asked.Asked.{Asked}
 use Rattle.worm_vcalloc.specs.Asked.{IsFiled}
 use Rattle.worm_vcalloc.specs.Table.{cell}
-use Rattle.worm_vcalloc.specs.VcAlloc.{VcPass, IsVcAlloc, vc_winner, offered, vc_step, port_pass, vc_pass}
+use Rattle.worm_vcalloc.specs.VcAlloc.{VcPass, vc_winner, offered, vc_step, port_pass, vc_pass}
 use Rattle.worm_vcalloc.specs.VcRequest.{is_for}
-use Rattle.worm_vcalloc.proofs.ArbitersStay.{IsVcAlloc-picked}
+use Rattle.worm_vcalloc.proofs.ArbitersStay.{IsVcAlloc, IsVcAlloc-picked}
 use Rattle.worm_vcalloc.proofs.PassAgrees.{Reached, port_passed, port_pass_unasked, fold-range_next}
 use Rattle.worm_vcalloc.proofs.RequestersHeard.{heard_for}
 

@@ -1,5 +1,5 @@
 pub mod Winner
-pub mod LineByLine
+pub mod Lines
 pub mod SetMembers
 pub mod TableCells
 pub mod TableRows

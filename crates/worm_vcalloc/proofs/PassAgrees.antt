@@ -10,11 +10,12 @@ use Rattle.worm_vcalloc.specs.Arbiter.{ArbiterState, winner, after_pick, no_arbi
 use Rattle.worm_vcalloc.specs.ChannelSet.{IsFirstFrom}
 use Rattle.worm_vcalloc.specs.Places.{arbiters_at, IsPlaced, IsPlaceAfter}
 use Rattle.worm_vcalloc.specs.Table.{cell, with_cell}
-use Rattle.worm_vcalloc.specs.VcAlloc.{VcAllocState, VcPass, IsVcAlloc, with_grant, is_requester, vc_winner, offered}
+use Rattle.worm_vcalloc.specs.VcAlloc.{VcAllocState, VcPass, with_grant, is_requester, vc_winner, offered}
 use Rattle.worm_vcalloc.specs.VcAlloc.{vc_step, port_pass}
 use Rattle.worm_vcalloc.specs.VcRequest.{is_for, allows}
+use Rattle.worm_vcalloc.proofs.ArbitersStay.{IsVcAlloc}
 use Rattle.worm_vcalloc.proofs.Winner.{winner_none}
-use Rattle.worm_vcalloc.proofs.LineByLine.{at_line, line_port}
+use Rattle.worm_vcalloc.proofs.Lines.{at_line, line_port}
 use Rattle.worm_vcalloc.proofs.PlacesInOrder.{first_wins, none_wins}
 use Rattle.worm_vcalloc.proofs.PlacesKept.{arbiter_after, arbiters_at_moved, cell_at, place_in}
 use Rattle.worm_vcalloc.proofs.RequestersHeard.{AreAsking}

@@ -10,7 +10,7 @@ use Rattle.worm_vcalloc.specs.Arbiter.{ArbiterState, winner, line_requests, IsFi
 use Rattle.worm_vcalloc.specs.ChannelSet.{has, IsFirstFrom}
 use Rattle.worm_vcalloc.specs.Places.{line_of, arbiter_at, IsPlaceAfter}
 use Rattle.worm_flit.proofs.BitTests.{bit_set, bit_unset}
-use Rattle.worm_vcalloc.proofs.LineByLine.{shifted_low, shifted_high, at_line, line_within, line_port}
+use Rattle.worm_vcalloc.proofs.Lines.{shifted_low, shifted_high, at_line, line_within, line_port}
 use Rattle.worm_vcalloc.proofs.SetMembers.{has-zero}
 use Rattle.worm_vcalloc.proofs.Winner.{asked_ahead, asked_behind, first_is_winner, winner_is_first, winner_none}
 use Rattle.worm_vcalloc.proofs.Winner.{winner_ahead, winner_from_low}

@@ -8,8 +8,8 @@ use Rattle.std.proofs.lemmas.List.Elements.{All-get_or, All-set}
 use Rattle.worm_vcalloc.specs.Arbiter.{ArbiterState, after_pick, no_arbiter}
 use Rattle.worm_vcalloc.specs.Places.{arbiter_at, arbiters_at, IsPlace, IsPlaced, IsPlaceAfter}
 use Rattle.worm_vcalloc.specs.Table.{cell, with_cell}
-use Rattle.worm_vcalloc.specs.VcAlloc.{IsVcAlloc}
-use Rattle.worm_vcalloc.proofs.LineByLine.{line_within}
+use Rattle.worm_vcalloc.proofs.ArbitersStay.{IsVcAlloc}
+use Rattle.worm_vcalloc.proofs.Lines.{line_within}
 use Rattle.worm_vcalloc.proofs.TableCells.{IsTable-with_cell}
 
 -- a row of them
