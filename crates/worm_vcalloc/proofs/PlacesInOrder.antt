@@ -206,26 +206,26 @@ first_ahead bits place fits start some =
     first_at bits place k start inside
     (winner_ahead (record { width = 56; pointer = place }) (line_requests bits) k above inside (bit_set bits k here)
     (λ i from below. bit_unset bits i (sym (from_place_high bits place i fits from) ∙ lowest.2 i below))) where
-  k : ℕ
-  k = trailing_zeros w64 (from_place bits place)
+      k : ℕ
+      k = trailing_zeros w64 (from_place bits place)
 
-  lowest : (k < 64) × (bit_at (from_place bits place) k ≡ 1) × ((i : ℕ) → i < k → bit_at (from_place bits place) i ≡ 0)
-  lowest = bit_at-trailing_zeros w64 (from_place bits place) some (omega arith)
+      lowest : (k < 64) × (bit_at (from_place bits place) k ≡ 1) × ((i : ℕ) → i < k → bit_at (from_place bits place) i ≡ 0)
+      lowest = bit_at-trailing_zeros w64 (from_place bits place) some (omega arith)
 
-  above : place ≤ k
-  above = elim (cases_lt k place) [
-    | inl below ↦ let none = from_place_low bits place k fits below in absurd (omega (arith, lowest.1))
-    | inr ahead ↦ ahead
-  ]
+      above : place ≤ k
+      above = elim (cases_lt k place) [
+        | inl below ↦ let none = from_place_low bits place k fits below in absurd (omega (arith, lowest.1))
+        | inr ahead ↦ ahead
+      ]
 
-  here : bit_at bits k ≡ 1
-  here = sym (from_place_high bits place k fits above) ∙ lowest.1
+      here : bit_at bits k ≡ 1
+      here = sym (from_place_high bits place k fits above) ∙ lowest.1
 
-  inside : k < 56
-  inside = elim (cases_lt k 56) [
-    | inl low ↦ low
-    | inr high ↦ let none = bit_at_above bits 56 k fits high in absurd (omega (arith, here))
-  ]
+      inside : k < 56
+      inside = elim (cases_lt k 56) [
+        | inl low ↦ low
+        | inr high ↦ let none = bit_at_above bits 56 k fits high in absurd (omega (arith, here))
+      ]
 
 zero_of_shift : (n place : ℕ) → n * 2 ^ place ≡ 0 → n ≡ 0
 zero_of_shift n place e = elim (cases_eq n 0) [

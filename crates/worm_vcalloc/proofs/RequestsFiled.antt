@@ -179,57 +179,57 @@ pub filed_for : (requests : List (List (Option VcRequest))) (ports channels left
     (record { by_port = slice_set files.by_port r.out set; by_channel = by_channel; ports = asked })
 filed_for requests ports channels left left' port vc d set asked by_channel r files b f is few lp lv lo long put added
     allowed = record {
-  by_port = λ out l. holds_more (λ p v. is_for (heard requests ports channels p v) out) left left' port vc
-      (slice_index_or files.by_port out 0) (slice_index_or (slice_set files.by_port r.out set) out 0) f
-      (b.by_port out l) (elim (cases_eq out r.out) [
-        | inl same ↦ at_file out same port vc ∙ put.here ∙ sym (asks out ∙ eq-eqb r.out out (sym same))
-        | inr other ↦ at_other out other port vc
-            ∙ not_held (λ p v. is_for (heard requests ports channels p v) out) left left' port vc _ f (b.by_port out l)
-            ∙ sym (asks out ∙ ne_eqb r.out out (λ e. other (sym e)))
-      ]) (λ p v lp' lv' apart. elim (cases_eq out r.out) [
-        | inl same ↦
-            at_file out same p v ∙ put.elsewhere p v lp' lv' apart
-            ∙ ap (λ s. has s p v) (sym (get_or_default files.by_port r.out 0 d long))
-            ∙ ap (λ k. has (slice_index_or files.by_port k 0) p v) (sym same)
-        | inr other ↦ at_other out other p v
-      ]);
-  by_channel = λ channel l. holds_more (λ p v. allows (heard requests ports channels p v) channel) left left' port vc
-      (slice_index_or files.by_channel channel 0) (slice_index_or by_channel channel 0) f (b.by_channel channel l)
-      (allowed.here channel l
-      ∙ ap (λ t. t || small.has r.allowed channel)
-      (not_held (λ p v. allows (heard requests ports channels p v) channel) left left' port vc _ f
-      (b.by_channel channel l))
-      ∙ sym (ap (λ o. allows o channel) hears))
-      (λ p v lp' lv' apart. allowed.elsewhere channel p v l lp' lv' apart);
-  asked =
-      asked_more requests ports channels left left' port vc files asked b f
-      (λ out l e. ap (small.has asked) (sym (eqb-true r.out out (sym (asks out) ∙ e))) ∙ added.here)
-      (λ out l e. elim (cases_eq out r.out) [
-        | inl same ↦ ap (small.has asked) same ∙ added.here
-        | inr other ↦ added.elsewhere out (omega arith) other ∙ e
-      ]);
-  within = λ out l e. elim (cases_eq out r.out) [
-    | inl same ↦ omega arith
-    | inr other ↦ b.within out l (sym (added.elsewhere out l other) ∙ e)
-  ];
-  waits = waits_more requests ports channels left left' port vc files b f;
-} where
-  hears : heard requests ports channels port vc ≡ Some r
-  hears = heard_some requests ports channels port vc r lp lv lo is
+      by_port = λ out l. holds_more (λ p v. is_for (heard requests ports channels p v) out) left left' port vc
+          (slice_index_or files.by_port out 0) (slice_index_or (slice_set files.by_port r.out set) out 0) f
+          (b.by_port out l) (elim (cases_eq out r.out) [
+            | inl same ↦ at_file out same port vc ∙ put.here ∙ sym (asks out ∙ eq-eqb r.out out (sym same))
+            | inr other ↦ at_other out other port vc
+                ∙ not_held (λ p v. is_for (heard requests ports channels p v) out) left left' port vc _ f (b.by_port out l)
+                ∙ sym (asks out ∙ ne_eqb r.out out (λ e. other (sym e)))
+          ]) (λ p v lp' lv' apart. elim (cases_eq out r.out) [
+            | inl same ↦
+                at_file out same p v ∙ put.elsewhere p v lp' lv' apart
+                ∙ ap (λ s. has s p v) (sym (get_or_default files.by_port r.out 0 d long))
+                ∙ ap (λ k. has (slice_index_or files.by_port k 0) p v) (sym same)
+            | inr other ↦ at_other out other p v
+          ]);
+      by_channel = λ channel l. holds_more (λ p v. allows (heard requests ports channels p v) channel) left left' port vc
+          (slice_index_or files.by_channel channel 0) (slice_index_or by_channel channel 0) f (b.by_channel channel l)
+          (allowed.here channel l
+          ∙ ap (λ t. t || small.has r.allowed channel)
+          (not_held (λ p v. allows (heard requests ports channels p v) channel) left left' port vc _ f
+          (b.by_channel channel l))
+          ∙ sym (ap (λ o. allows o channel) hears))
+          (λ p v lp' lv' apart. allowed.elsewhere channel p v l lp' lv' apart);
+      asked =
+          asked_more requests ports channels left left' port vc files asked b f
+          (λ out l e. ap (small.has asked) (sym (eqb-true r.out out (sym (asks out) ∙ e))) ∙ added.here)
+          (λ out l e. elim (cases_eq out r.out) [
+            | inl same ↦ ap (small.has asked) same ∙ added.here
+            | inr other ↦ added.elsewhere out (omega arith) other ∙ e
+          ]);
+      within = λ out l e. elim (cases_eq out r.out) [
+        | inl same ↦ omega arith
+        | inr other ↦ b.within out l (sym (added.elsewhere out l other) ∙ e)
+      ];
+      waits = waits_more requests ports channels left left' port vc files b f;
+    } where
+      hears : heard requests ports channels port vc ≡ Some r
+      hears = heard_some requests ports channels port vc r lp lv lo is
 
-  asks : (out : ℕ) → is_for (heard requests ports channels port vc) out ≡ (r.out == out)
-  asks out = ap (λ o. is_for o out) hears
+      asks : (out : ℕ) → is_for (heard requests ports channels port vc) out ≡ (r.out == out)
+      asks out = ap (λ o. is_for o out) hears
 
-  at_file : (out : ℕ) → out ≡ r.out → (p v : ℕ)
-      → has (slice_index_or (slice_set files.by_port r.out set) out 0) p v ≡ has set p v
-  at_file out same p v =
-      ap (λ k. has (slice_index_or (slice_set files.by_port r.out set) k 0) p v) same
-      ∙ ap (λ s. has s p v) (get_or-set_same files.by_port r.out set 0 long)
+      at_file : (out : ℕ) → out ≡ r.out → (p v : ℕ)
+          → has (slice_index_or (slice_set files.by_port r.out set) out 0) p v ≡ has set p v
+      at_file out same p v =
+          ap (λ k. has (slice_index_or (slice_set files.by_port r.out set) k 0) p v) same
+          ∙ ap (λ s. has s p v) (get_or-set_same files.by_port r.out set 0 long)
 
-  at_other : (out : ℕ) → (out ≡ r.out → ⊥) → (p v : ℕ)
-      → has (slice_index_or (slice_set files.by_port r.out set) out 0) p v
-      ≡ has (slice_index_or files.by_port out 0) p v
-  at_other out other p v = ap (λ s. has s p v) (get_or-set_other files.by_port r.out out set 0 other)
+      at_other : (out : ℕ) → (out ≡ r.out → ⊥) → (p v : ℕ)
+          → has (slice_index_or (slice_set files.by_port r.out set) out 0) p v
+          ≡ has (slice_index_or files.by_port out 0) p v
+      at_other out other p v = ap (λ s. has s p v) (get_or-set_other files.by_port r.out out set 0 other)
 
 -- one that it does not hear is put into none
 pub filed_nowhere : (requests : List (List (Option VcRequest))) (ports channels left left' port vc : ℕ) (files : Asked)

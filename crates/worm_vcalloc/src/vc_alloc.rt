@@ -161,9 +161,5 @@ fn place_after(ports: u8, channels: u8, port: u8, vc: u8) -> u8
     } else {
         8 * (port + 1)
     };
-    if next < 8 * ports {
-        next
-    } else {
-        0
-    }
+    if next < 8 * ports { next } else { 0 }
 }
