@@ -64,8 +64,8 @@ pub record IsPassed (waiting : List (List (Option VcRequest))) (free : List (Lis
       → is_for (cell waiting p v None) out ≡ true → small.has left out ≡ true
   pub within : (out : ℕ) → out < 8 → small.has left out ≡ true → out < start.alloc.ports
 
-pub passed_start : (waiting : List (List (Option VcRequest))) (free : List (List Bool)) (start : VcPass) (files : Asked)
-    → IsVcAlloc start.alloc.ports start.alloc.channels start.alloc.arbiters
+pub passed_start : (waiting : List (List (Option VcRequest))) (free : List (List Bool)) (start : VcPass)
+    (files : Asked) → IsVcAlloc start.alloc.ports start.alloc.channels start.alloc.arbiters
     → IsFiled waiting start.alloc.ports start.alloc.channels files → IsPassed waiting free start start files.ports
 passed_start waiting free start files r filed = record {
   next = 0;

@@ -153,7 +153,8 @@ offered_first waiting grants ports channels places out channel asking d port vc 
     first_wins ports channels (cell places out channel 0) asking port vc (is_requester waiting grants out channel)
     few h.some_channel few' start.port_in start.channel_in place.0 place.1 a.requesters
     (subst (λ s. IsFirstFrom asking s port vc)
-    (sym (get_or_default (slice_index_or places out []) channel 0 d (omega (arith, h.shape.columns out (omega arith)))))
+    (sym (get_or_default (slice_index_or places out []) channel 0 d
+    (omega (arith, h.shape.columns out (omega arith)))))
     f)
     ∙ ap (λ b. winner b (λ line. is_requester waiting grants out channel (line / channels) (line % channels)))
     (sym old) in

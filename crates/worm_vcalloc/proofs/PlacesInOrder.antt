@@ -146,7 +146,8 @@ first_wins ports channels place set port vc asks few some few' lp lp' l l' same 
           let order = f.first.first (8 * (line / channels) + line % channels) (omega (arith, spot.0, spot.1))
           (same (line / channels) (line % channels) spot.0 spot.1 ∙ asked) in
           let alike = asked_alike ports channels place (8 * port + vc) (8 * (line / channels) + line % channels) lp'
-          (omega arith) (omega (arith, spot.1)) (omega arith) (omega (arith, spot.0, spot.1)) (omega (arith, mine, inside))
+          (omega arith) (omega (arith, spot.1)) (omega arith) (omega (arith, spot.0, spot.1))
+          (omega (arith, mine, inside))
           start order in
           rw (mine, other, there) at alike;
     }))
@@ -209,7 +210,8 @@ first_ahead bits place fits start some =
       k : ℕ
       k = trailing_zeros w64 (from_place bits place)
 
-      lowest : (k < 64) × (bit_at (from_place bits place) k ≡ 1) × ((i : ℕ) → i < k → bit_at (from_place bits place) i ≡ 0)
+      lowest : (k < 64) × (bit_at (from_place bits place) k ≡ 1)
+          × ((i : ℕ) → i < k → bit_at (from_place bits place) i ≡ 0)
       lowest = bit_at-trailing_zeros w64 (from_place bits place) some (omega arith)
 
       above : place ≤ k

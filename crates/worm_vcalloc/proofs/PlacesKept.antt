@@ -32,7 +32,8 @@ cell_at ports channels places out channel h lo lc =
 pub place_in : (ports channels : ℕ) (places : List (List ℕ)) (out channel : ℕ) → IsPlaced ports channels places
     → out < 7 → channel < 8 → IsPlace ports channels (cell places out channel 0)
 place_in ports channels places out channel h lo lc =
-    All-get_or (IsPlace ports channels) (slice_index_or places out []) channel 0 (omega (arith, h.shape.columns out lo))
+    All-get_or (IsPlace ports channels) (slice_index_or places out []) channel 0
+    (omega (arith, h.shape.columns out lo))
     (All-get_or (All (IsPlace ports channels)) places out [] (omega (arith, h.shape.rows)) h.each)
 
 -- each has a line for each input channel

@@ -1,7 +1,9 @@
 -- Lemmas on the requesters of an output channel, as a set of the input channels that the router hears ask for it.
 use Rattle.std.proofs.Common.{◌≡◌, ℕ, ◌<◌, ◌≤◌, ◌&&◌, Bool, true, false, not, List, Option, Some, None}
-use Rattle.std.proofs.Common.{is_some, is_none, nat_lt, slice_index_or, if◌then◌else◌, refl, sym, ap, ◌∙◌, arith, inl, inr}
-use Rattle.std.proofs.lemmas.Bool.{cases_Bool, cases_lt, and_from, and_parts, lt-ltb, le-ltb, ltb-true, ne_eqb, eqb-true, true≢false}
+use Rattle.std.proofs.Common.{is_some, is_none, nat_lt, slice_index_or, if◌then◌else◌, refl, sym, ap, ◌∙◌, arith}
+use Rattle.std.proofs.Common.{inl, inr}
+use Rattle.std.proofs.lemmas.Bool.{cases_Bool, cases_lt, and_from, and_parts, lt-ltb, le-ltb, ltb-true, ne_eqb}
+use Rattle.std.proofs.lemmas.Bool.{eqb-true, true≢false}
 use Rattle.worm_vcalloc.specs.declared.asked.Asked.{Asked}
 use Rattle.worm_vcalloc.specs.declared.request.VcRequest.{VcRequest}
 use Rattle.worm_vcalloc.specs.Asked.{IsFiled, heard, is_below}
@@ -81,20 +83,22 @@ pub are_asking : (waiting : List (List (Option VcRequest))) (grants : List (List
     → ((p v : ℕ) → p < 7 → v < 8 → has granted p v ≡ is_some (cell grants p v None))
     → ((p v : ℕ) → p < 7 → v < 8 → has asking p v ≡ (has filed p v && not (has granted p v)))
     → AreAsking waiting grants ports channels out channel asking
-are_asking waiting grants ports channels out channel filed granted asking files few few' lo lc f both have rest = record {
-  requesters = λ p v lp lv.
-      all p v (omega arith) (omega arith)
-      ∙ ap (λ t. t && is_none (cell grants p v None)) (heard_use waiting ports channels p v out channel lp lv lo);
-  within = λ p v lp lv e.
-      heard_within waiting ports channels p v out
-      (and_parts _ _ (and_parts _ _ (sym (all p v lp lv) ∙ e)).0).0;
-} where
-  all : (p v : ℕ) → p < 7 → v < 8 → has asking p v
-      ≡ (may_use (heard waiting ports channels p v) out channel && is_none (cell grants p v None))
-  all p v lp lv =
-      rest p v lp lv
-      ∙ ap (λ t. t && not (has granted p v)) (both p v
-      ∙ ap (λ t. t && has (slice_index_or files.by_channel channel 0) p v) (f.by_port out p v (omega arith) lp lv)
-      ∙ ap (λ t. is_for (heard waiting ports channels p v) out && t) (f.by_channel channel p v (omega arith) lp lv))
-      ∙ ap (λ t. may_use (heard waiting ports channels p v) out channel && not t) (have p v lp lv)
-      ∙ ap (λ t. may_use (heard waiting ports channels p v) out channel && t) (none_is (cell grants p v None))
+are_asking waiting grants ports channels out channel filed granted asking files few few' lo lc f both have rest =
+    record {
+      requesters = λ p v lp lv.
+          all p v (omega arith) (omega arith)
+          ∙ ap (λ t. t && is_none (cell grants p v None)) (heard_use waiting ports channels p v out channel lp lv lo);
+      within = λ p v lp lv e.
+          heard_within waiting ports channels p v out
+          (and_parts _ _ (and_parts _ _ (sym (all p v lp lv) ∙ e)).0).0;
+    } where
+      all : (p v : ℕ) → p < 7 → v < 8 → has asking p v
+          ≡ (may_use (heard waiting ports channels p v) out channel && is_none (cell grants p v None))
+      all p v lp lv =
+          rest p v lp lv
+          ∙ ap (λ t. t && not (has granted p v)) (both p v
+          ∙ ap (λ t. t && has (slice_index_or files.by_channel channel 0) p v) (f.by_port out p v (omega arith) lp lv)
+          ∙ ap (λ t. is_for (heard waiting ports channels p v) out && t)
+          (f.by_channel channel p v (omega arith) lp lv))
+          ∙ ap (λ t. may_use (heard waiting ports channels p v) out channel && not t) (have p v lp lv)
+          ∙ ap (λ t. may_use (heard waiting ports channels p v) out channel && t) (none_is (cell grants p v None))

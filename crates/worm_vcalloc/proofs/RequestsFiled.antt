@@ -1,9 +1,10 @@
 -- Lemmas on requests that are filed one by one.
-use Rattle.std.proofs.Common.{◌≡◌, ℕ, ◌<◌, ◌≤◌, ◌==◌, ◌&&◌, ◌||◌, Bool, true, false, not, List, Option, None, Some, is_some}
+use Rattle.std.proofs.Common.{◌≡◌, ℕ, ◌<◌, ◌≤◌, ◌==◌, ◌&&◌, ◌||◌, Bool, true, false, not, List, Option, None, Some}
+use Rattle.std.proofs.Common.{is_some}
 use Rattle.std.proofs.Common.{slice_index_or, slice_set, length, replicate, get_or-set_same, get_or-set_other, nat_lt}
 use Rattle.std.proofs.Common.{if◌then◌else◌, refl, sym, ap, ◌∙◌, arith, inl, inr}
-use Rattle.std.proofs.lemmas.Bool.{cases_eq, cases_Bool, and_from, and_parts, eqb-true, eq-eqb, ltb-true, lt-ltb, ne_eqb}
-use Rattle.std.proofs.lemmas.Bool.{true≢false}
+use Rattle.std.proofs.lemmas.Bool.{cases_eq, cases_Bool, and_from, and_parts, eqb-true, eq-eqb, ltb-true, lt-ltb}
+use Rattle.std.proofs.lemmas.Bool.{ne_eqb, true≢false}
 use Rattle.std.proofs.Math.Bool.{and-true, and-false}
 use Rattle.std.proofs.lemmas.List.{get_or-replicate, get_or_default}
 use Rattle.worm_flit.specs.SmallSet as small
@@ -108,13 +109,21 @@ holds_all says left set none holds p v lp lv =
 
 -- ---- one request after the other
 
+-- whether an input channel is heard to ask for an output port
+abbrev pub for_port : List (List (Option VcRequest)) → ℕ → ℕ → ℕ → ℕ → ℕ → Bool
+for_port requests ports channels out p v = is_for (heard requests ports channels p v) out
+
+-- and to allow a channel
+abbrev pub for_channel : List (List (Option VcRequest)) → ℕ → ℕ → ℕ → ℕ → ℕ → Bool
+for_channel requests ports channels channel p v = allows (heard requests ports channels p v) channel
+
 -- all requests that the router hears are filed but those of the input channels in a set
 pub record AreFiledBut (requests : List (List (Option VcRequest))) (ports channels left : ℕ) (files : Asked)
     : Type 0 where
   pub by_port : (out : ℕ) → out < 7
-      → Holds (λ p v. is_for (heard requests ports channels p v) out) left (slice_index_or files.by_port out 0)
+      → Holds (for_port requests ports channels out) left (slice_index_or files.by_port out 0)
   pub by_channel : (channel : ℕ) → channel < 8
-      → Holds (λ p v. allows (heard requests ports channels p v) channel) left
+      → Holds (for_channel requests ports channels channel) left
       (slice_index_or files.by_channel channel 0)
   pub asked : (out p v : ℕ) → out < 7 → p < 7 → v < 8 → is_for (heard requests ports channels p v) out ≡ true
       → has left p v ≡ false → small.has files.ports out ≡ true
@@ -128,10 +137,10 @@ pub filed_start : (requests : List (List (Option VcRequest))) (ports channels wa
     (record { by_port = replicate 7 0; by_channel = replicate 8 0; ports = 0 })
 filed_start requests ports channels waiting waits = record {
   by_port = λ out lo. rw (get_or-replicate {A = ℕ} 7 out 0 0 lo)
-      (holds_none (λ p v. is_for (heard requests ports channels p v) out) waiting
+      (holds_none (for_port requests ports channels out) waiting
       (λ p v lp lv e. left p v lp lv (for_some (heard requests ports channels p v) out e)));
   by_channel = λ channel lc. rw (get_or-replicate {A = ℕ} 8 channel 0 0 lc)
-      (holds_none (λ p v. allows (heard requests ports channels p v) channel) waiting
+      (holds_none (for_channel requests ports channels channel) waiting
       (λ p v lp lv e. left p v lp lv (allows_some (heard requests ports channels p v) channel e)));
   asked = λ out p v lo lp lv asks off.
       absurd (true≢false (sym (left p v lp lv (for_some (heard requests ports channels p v) out asks)) ∙ off));
@@ -179,12 +188,12 @@ pub filed_for : (requests : List (List (Option VcRequest))) (ports channels left
     (record { by_port = slice_set files.by_port r.out set; by_channel = by_channel; ports = asked })
 filed_for requests ports channels left left' port vc d set asked by_channel r files b f is few lp lv lo long put added
     allowed = record {
-      by_port = λ out l. holds_more (λ p v. is_for (heard requests ports channels p v) out) left left' port vc
+      by_port = λ out l. holds_more (for_port requests ports channels out) left left' port vc
           (slice_index_or files.by_port out 0) (slice_index_or (slice_set files.by_port r.out set) out 0) f
           (b.by_port out l) (elim (cases_eq out r.out) [
             | inl same ↦ at_file out same port vc ∙ put.here ∙ sym (asks out ∙ eq-eqb r.out out (sym same))
             | inr other ↦ at_other out other port vc
-                ∙ not_held (λ p v. is_for (heard requests ports channels p v) out) left left' port vc _ f (b.by_port out l)
+                ∙ not_held (for_port requests ports channels out) left left' port vc _ f (b.by_port out l)
                 ∙ sym (asks out ∙ ne_eqb r.out out (λ e. other (sym e)))
           ]) (λ p v lp' lv' apart. elim (cases_eq out r.out) [
             | inl same ↦
@@ -193,11 +202,11 @@ filed_for requests ports channels left left' port vc d set asked by_channel r fi
                 ∙ ap (λ k. has (slice_index_or files.by_port k 0) p v) (sym same)
             | inr other ↦ at_other out other p v
           ]);
-      by_channel = λ channel l. holds_more (λ p v. allows (heard requests ports channels p v) channel) left left' port vc
+      by_channel = λ channel l. holds_more (for_channel requests ports channels channel) left left' port vc
           (slice_index_or files.by_channel channel 0) (slice_index_or by_channel channel 0) f (b.by_channel channel l)
           (allowed.here channel l
           ∙ ap (λ t. t || small.has r.allowed channel)
-          (not_held (λ p v. allows (heard requests ports channels p v) channel) left left' port vc _ f
+          (not_held (for_channel requests ports channels channel) left left' port vc _ f
           (b.by_channel channel l))
           ∙ sym (ap (λ o. allows o channel) hears))
           (λ p v lp' lv' apart. allowed.elsewhere channel p v l lp' lv' apart);
@@ -236,14 +245,14 @@ pub filed_nowhere : (requests : List (List (Option VcRequest))) (ports channels 
     → AreFiledBut requests ports channels left files → IsFirst left left' port vc
     → heard requests ports channels port vc ≡ None → AreFiledBut requests ports channels left' files
 filed_nowhere requests ports channels left left' port vc files b f silent = record {
-  by_port = λ out l. holds_more (λ p v. is_for (heard requests ports channels p v) out) left left' port vc _ _ f
+  by_port = λ out l. holds_more (for_port requests ports channels out) left left' port vc _ _ f
       (b.by_port out l)
-      (not_held (λ p v. is_for (heard requests ports channels p v) out) left left' port vc _ f (b.by_port out l)
+      (not_held (for_port requests ports channels out) left left' port vc _ f (b.by_port out l)
       ∙ sym (ap (λ o. is_for o out) silent))
       (λ p v lp lv apart. refl);
-  by_channel = λ channel l. holds_more (λ p v. allows (heard requests ports channels p v) channel) left left' port vc
+  by_channel = λ channel l. holds_more (for_channel requests ports channels channel) left left' port vc
       _ _ f (b.by_channel channel l)
-      (not_held (λ p v. allows (heard requests ports channels p v) channel) left left' port vc _ f
+      (not_held (for_channel requests ports channels channel) left left' port vc _ f
       (b.by_channel channel l)
       ∙ sym (ap (λ o. allows o channel) silent))
       (λ p v lp lv apart. refl);
@@ -258,9 +267,9 @@ filed_nowhere requests ports channels left left' port vc files b f silent = reco
 pub filed_all : (requests : List (List (Option VcRequest))) (ports channels left : ℕ) (files : Asked)
     → AreFiledBut requests ports channels left files → left ≡ 0 → IsFiled requests ports channels files
 filed_all requests ports channels left files b e = record {
-  by_port = λ out p v lo. holds_all (λ p v. is_for (heard requests ports channels p v) out) left _ e (b.by_port out lo)
+  by_port = λ out p v lo. holds_all (for_port requests ports channels out) left _ e (b.by_port out lo)
       p v;
-  by_channel = λ channel p v lc. holds_all (λ p v. allows (heard requests ports channels p v) channel) left _ e
+  by_channel = λ channel p v lc. holds_all (for_channel requests ports channels channel) left _ e
       (b.by_channel channel lc) p v;
   asked = λ out p v lo lp lv asks. b.asked out p v lo lp lv asks (ap (λ s. has s p v) e ∙ has-zero p v);
   within = b.within;

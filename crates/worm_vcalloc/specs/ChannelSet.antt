@@ -40,8 +40,8 @@ pub record IsLowest (set port channel : ℕ) : Type 0 where
   pub is_in : IsTrue (has set port channel)
   pub none_below : (c : ℕ) → c < channel → has set port c ≡ false
 
--- the channel is in the set, and of the others none comes before it in the order that starts at a place and goes round,
--- where a channel stands at the place `8 * port + channel`
+-- the channel is in the set, and of the others none comes before it in the order that starts at a place and goes
+-- round, where a channel stands at the place `8 * port + channel`
 pub record IsFirstFrom (set place port channel : ℕ) : Type 0 where
   pub port_in : port < 7
   pub channel_in : channel < 8

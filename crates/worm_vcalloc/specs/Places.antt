@@ -1,4 +1,5 @@
--- Arbiters by the places of the input channels that they ask first, where (port, vc) stands at the place 8 * port + vc.
+-- Arbiters by the places of the input channels that they ask first. Input channel (port, vc) stands at the place
+-- `8 * port + vc`, and a place has the line of its input channel.
 use Rattle.std.specs.Prelude.{◌≡◌, ℕ, ◌+◌, ◌*◌, ◌/◌, ◌%◌, ◌<◌, ◌≤◌, List, [], ◌∷◌, map}
 use Rattle.std.specs.List.{All}
 use Rattle.std.proofs.Common.{suc, refl, ap, ◌∙◌, arith}
@@ -31,7 +32,8 @@ pub record IsPlace (ports channels place : ℕ) : Type 0 where
   pub port_in : place / 8 < ports
   pub channel_in : place % 8 < channels
 
--- between passes: one to seven ports, one to eight channels, and each arbiter asks first an input channel of the router
+-- between passes: one to seven ports, one to eight channels, and what each arbiter asks first is an input channel of
+-- the router
 pub record IsPlaced (ports channels : ℕ) (places : List (List ℕ)) : Type 0 where
   pub some_port : 0 < ports
   pub few_ports : ports ≤ 7
@@ -66,5 +68,6 @@ pub places_again : (ports channels : ℕ) (places : List (List ℕ)) → All (Al
     → places_of channels (arbiters_at ports channels places) ≡ places
 places_again ports channels [] h = refl
 places_again ports channels (row ∷ rows) h =
-    ap (λ r. r ∷ places_of channels (arbiters_at ports channels rows)) (row_again ports channels row (h 0 row (omega arith)))
+    ap (λ r. r ∷ places_of channels (arbiters_at ports channels rows))
+    (row_again ports channels row (h 0 row (omega arith)))
     ∙ ap (λ rs. row ∷ rs) (places_again ports channels rows (λ k d below. h (suc k) d (omega arith)))

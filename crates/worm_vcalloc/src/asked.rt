@@ -64,7 +64,8 @@ impl Asked {
         requires out { out < 7 }
         requires channel { channel < 8 }
         ensures { (p v : ℕ) → has result p v
-            ≡ (has (slice_index_or self.now.by_port out 0) p v && has (slice_index_or self.now.by_channel channel 0) p v) }
+            ≡ (has (slice_index_or self.now.by_port out 0) p v
+            && has (slice_index_or self.now.by_channel channel 0) p v) }
     {
         let (by_port, by_channel) = (&self.by_port, &self.by_channel);
         by_port[out as usize].intersection(&by_channel[channel as usize])

@@ -147,8 +147,8 @@ impl VcAlloc {
     }
 }
 
-/// The place of the input channel that is asked next after this one: that of the channel above it, or of the first of the
-/// port above, or of the first of all.
+/// The place of the input channel that is asked next after this one: that of the channel above it, or of the first of
+/// the port above, or of the first of all.
 fn place_after(ports: u8, channels: u8, port: u8, vc: u8) -> u8
     requires few_ports { ports ≤ 7 }
     requires few_channels { channels ≤ 8 }

@@ -1,6 +1,7 @@
 use Rattle.std.proofs.Common.{◌<◌, arith, length, sym, subst}
 use Rattle.worm_vcalloc.specs.declared.asked.Asked.{Asked}
-use Rattle.worm_vcalloc.proofs.RequestsFiled.{AreFiledBut, filed_start, filed_for, filed_nowhere, filed_all, heard_none}
+use Rattle.worm_vcalloc.proofs.RequestsFiled.{AreFiledBut, filed_start, filed_for, filed_nowhere, filed_all}
+use Rattle.worm_vcalloc.proofs.RequestsFiled.{heard_none}
 use Rattle.worm_vcalloc.proofs.asked.Asked.file.Goals as goal
 use Rattle.worm_vcalloc.proofs.asked.Asked.file.Goals.{
   else-port-ports-via-then-port-ports+then-vc-channels+else-request-ports,
@@ -16,7 +17,8 @@ loop-port-init c =
 
 pub loop-port-preserved-then-request-ports : goal.loop-port-preserved-then-request-ports
 loop-port-preserved-then-request-ports c =
-    let long : c.request-request.result.out < length c.loop-port.self.by_port = omega (arith, c.if-request-ports.true) in
+    let long : c.request-request.result.out < length c.loop-port.self.by_port =
+    omega (arith, c.if-request-ports.true) in
     filed_for c.args.waiting.now c.args.ports c.args.channels c.loop-port.left c.pop_first.new.self c.in-Some.port
     c.in-Some.vc _ c.put.new.self c.put-then-request-ports.new.self c.file_allowed.new.by_channel
     c.request-request.result c.loop-port.self c.loop-port.invariant c.in-Some.ensures (sym c.request-request.ensures)

@@ -12,7 +12,8 @@ returns c =
       | then-ahead-ne0 w ↦
           subst (λ asked. IsFirstFrom c.self.inside.bits c.args.place (trailing_zeros w64 asked / 8)
           (trailing_zeros w64 asked % 8)) (sym w.asked-is)
-          (first_ahead c.self.inside.bits c.args.place c.self.invariant c.requires (omega (arith, w.if-ahead-ne0.true)))
+          (first_ahead c.self.inside.bits c.args.place c.self.invariant c.requires
+          (omega (arith, w.if-ahead-ne0.true)))
       | else-ahead-ne0 w ↦
           subst (λ asked. IsFirstFrom c.self.inside.bits c.args.place (trailing_zeros w64 asked / 8)
           (trailing_zeros w64 asked % 8)) (sym w.asked-is)
