@@ -1,4 +1,4 @@
-ghost use Rattle.std.specs.Prelude.{◌≡◌, ℕ, ◌+◌, ◌*◌, ◌<◌, ◌≤◌, ◌/◌, ◌%◌, None, List, Option, replicate};
+ghost use Rattle.std.specs.Prelude.{◌≡◌, ◌*◌, ◌<◌, ◌≤◌, None, List, Option, replicate};
 ghost use Rattle.worm_vcalloc.specs.Asked.{IsFiled};
 ghost use Rattle.worm_vcalloc.specs.Places.{IsPlaceAfter};
 ghost use Rattle.worm_vcalloc.specs.VcAlloc.{VcAllocState, IsChannelMatching, offered, port_pass, vc_pass};
