@@ -1,9 +1,18 @@
 -- The arbiters of an allocator keep their lines.
-use Rattle.std.proofs.Common.{◌≡◌, ℕ, ◌*◌, ◌<◌, List, Option, None, Some, arith}
+use Rattle.std.proofs.Common.{◌≡◌, ℕ, ◌*◌, ◌<◌, ◌≤◌, List, Option, None, Some, arith}
 use Rattle.worm_vcalloc.specs.Arbiter.{ArbiterState, after_pick, no_arbiter}
 use Rattle.worm_vcalloc.specs.Table.{cell, with_cell}
-use Rattle.worm_vcalloc.specs.VcAlloc.{IsVcAlloc}
 use Rattle.worm_vcalloc.proofs.TableCells.{cell-with_cell_keeps}
+
+-- an allocator between passes: one to seven ports, one to eight channels, and each arbiter has a line for each input
+-- channel
+pub record IsVcAlloc (ports channels : ℕ) (arbiters : List (List ArbiterState)) : Type 0 where
+  pub some_port : 0 < ports
+  pub few_ports : ports ≤ 7
+  pub some_channel : 0 < channels
+  pub few_channels : channels ≤ 8
+  pub width : (i j : ℕ) → i < 7 → j < 8 → (cell arbiters i j no_arbiter).width ≡ ports * channels
+  pub pointer : (i j : ℕ) → i < 7 → j < 8 → (cell arbiters i j no_arbiter).pointer < ports * channels
 
 -- an arbiter of so many lines
 pub record HasWidth (width : ℕ) (a : ArbiterState) : Type 0 where

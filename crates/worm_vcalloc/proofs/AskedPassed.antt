@@ -6,12 +6,14 @@ use Rattle.std.proofs.lemmas.Bool.{cases_eq, cases_lt, cases_Bool, eq-eqb, true�
 use Rattle.worm_flit.specs.SmallSet as small
 use Rattle.worm_flit.proofs.SmallSets.{has_none}
 use Rattle.worm_vcalloc.specs.declared.request.VcRequest.{VcRequest}
-use Rattle.worm_vcalloc.specs.Asked.{HasAsked}
+use Rattle.worm_vcalloc.specs.declared.asked.Asked.{Asked}
+use Rattle.worm_vcalloc.specs.Asked.{IsFiled}
 use Rattle.worm_vcalloc.specs.Table.{cell}
-use Rattle.worm_vcalloc.specs.VcAlloc.{VcPass, IsVcAlloc, vc_winner, offered, vc_step, port_pass, vc_pass}
+use Rattle.worm_vcalloc.specs.VcAlloc.{VcPass, vc_winner, offered, vc_step, port_pass, vc_pass}
 use Rattle.worm_vcalloc.specs.VcRequest.{is_for}
-use Rattle.worm_vcalloc.proofs.ArbitersStay.{IsVcAlloc-picked}
+use Rattle.worm_vcalloc.proofs.ArbitersStay.{IsVcAlloc, IsVcAlloc-picked}
 use Rattle.worm_vcalloc.proofs.PassAgrees.{Reached, port_passed, port_pass_unasked, fold-range_next}
+use Rattle.worm_vcalloc.proofs.RequestersHeard.{heard_for}
 
 -- ---- an allocator stays one
 
@@ -58,25 +60,32 @@ pub record IsPassed (waiting : List (List (Option VcRequest))) (free : List (Lis
   pub reached : Reached start.alloc here (fold (port_pass waiting free) start (range_with_len 0 next))
   pub ready : IsVcAlloc here.alloc.ports here.alloc.channels here.alloc.arbiters
   pub gone : (out : ℕ) → out < next → small.has left out ≡ false
-  pub kept : (out p v : ℕ) → next ≤ out → out < start.alloc.ports → p < 7 → v < 8
+  pub kept : (out p v : ℕ) → next ≤ out → out < start.alloc.ports → p < start.alloc.ports → v < start.alloc.channels
       → is_for (cell waiting p v None) out ≡ true → small.has left out ≡ true
+  pub within : (out : ℕ) → out < 8 → small.has left out ≡ true → out < start.alloc.ports
 
-pub passed_start : (waiting : List (List (Option VcRequest))) (free : List (List Bool)) (start : VcPass) (left : ℕ)
-    → IsVcAlloc start.alloc.ports start.alloc.channels start.alloc.arbiters → HasAsked waiting left
-    → IsPassed waiting free start start left
-passed_start waiting free start left r asked = record {
+pub passed_start : (waiting : List (List (Option VcRequest))) (free : List (List Bool)) (start : VcPass)
+    (files : Asked) → IsVcAlloc start.alloc.ports start.alloc.channels start.alloc.arbiters
+    → IsFiled waiting start.alloc.ports start.alloc.channels files → IsPassed waiting free start start files.ports
+passed_start waiting free start files r filed = record {
   next = 0;
   few = omega arith;
   reached = record { is = refl; ports = refl; channels = refl };
   ready = r;
   gone = λ out below. absurd (omega arith);
-  kept = λ out p v _ within lp lv asks. let few = r.few_ports in asked out p v (omega arith) lp lv asks;
+  kept = λ out p v _ lo lp lv asks.
+      let few = r.few_ports in
+      let few' = r.few_channels in
+      filed.asked out p v (omega arith) (omega arith) (omega arith)
+      (heard_for waiting start.alloc.ports start.alloc.channels p v out lp lv lo asks);
+  within = filed.within;
 }
 
 -- output ports that nobody asks for are passed over
 over_unasked : (waiting : List (List (Option VcRequest))) (free : List (List Bool)) (start here : VcPass) (from to : ℕ)
     → IsVcAlloc here.alloc.ports here.alloc.channels here.alloc.arbiters → from ≤ to → to ≤ here.alloc.ports
-    → ((out p v : ℕ) → from ≤ out → out < to → p < 7 → v < 8 → is_for (cell waiting p v None) out ≡ false)
+    → ((out p v : ℕ) → from ≤ out → out < to → p < here.alloc.ports → v < here.alloc.channels
+    → is_for (cell waiting p v None) out ≡ false)
     → here ≡ fold (port_pass waiting free) start (range_with_len 0 from)
     → here ≡ fold (port_pass waiting free) start (range_with_len 0 to)
 over_unasked waiting free start here from zero r ahead few none is =
@@ -100,7 +109,8 @@ passed_to waiting free start here left to b ahead few off = record {
   is =
       over_unasked waiting free start here b.next to b.ready ahead (omega (arith, b.reached.ports))
       (λ out p v from below lp lv. elim (cases_Bool (is_for (cell waiting p v None) out)) [
-        | inl asks ↦ absurd (true≢false (sym (b.kept out p v from (omega arith) lp lv asks) ∙ off out from below))
+        | inl asks ↦ absurd (true≢false (sym (b.kept out p v from (omega arith) (omega (arith, b.reached.ports))
+            (omega (arith, b.reached.channels)) asks) ∙ off out from below))
         | inr quiet ↦ quiet
       ])
       b.reached.is;
@@ -130,6 +140,10 @@ passed_more waiting free start here there left left' out b f lo is same_ports sa
   kept = λ k p v from within lp lv asks.
       f.taken.elsewhere k (let few = b.ready.few_ports in omega (arith, b.reached.ports)) (λ e. absurd (omega arith))
       ∙ b.kept k p v (omega (arith, ahead)) within lp lv asks;
+  within = λ k k_in e. elim (cases_eq k out) [
+    | inl same ↦ absurd (true≢false (sym e ∙ ap (small.has left') same ∙ f.taken.here))
+    | inr other ↦ b.within k k_in (sym (f.taken.elsewhere k k_in other) ∙ e)
+  ];
 } where
   ahead : b.next ≤ out
   ahead = elim (cases_lt out b.next) [

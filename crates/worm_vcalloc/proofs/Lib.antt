@@ -1,5 +1,5 @@
 pub mod Winner
-pub mod LineByLine
+pub mod Lines
 pub mod SetMembers
 pub mod TableCells
 pub mod TableRows
@@ -9,4 +9,7 @@ pub mod PassAgrees
 pub mod ArbitersStay
 pub mod PassMatches
 pub mod AskedPassed
-pub mod RequestersGathered
+pub mod PlacesInOrder
+pub mod PlacesKept
+pub mod RequestersHeard
+pub mod ChannelsAllowed

@@ -1,60 +1,25 @@
 -- Lemmas that tie the code of a pass to its definition.
 use Rattle.std.proofs.Common.{◌≡◌, ℕ, ◌+◌, ◌/◌, ◌%◌, ◌<◌, ◌≤◌, Bool, true, false, List, zero, suc, fold, cond, ◌&&◌}
-use Rattle.std.proofs.Common.{◌*◌, Option, Some, None, is_some, is_none, refl, sym, ap, ◌∙◌, arith, add-one, inl, inr}
+use Rattle.std.proofs.Common.{◌*◌, Option, Some, None, is_some, is_none, refl, sym, ap, ◌∙◌, subst, arith}
+use Rattle.std.proofs.Common.{[], slice_index_or, add-one, inl, inr}
 use Rattle.std.proofs.lemmas.Bool.{cases_Bool}
+use Rattle.std.proofs.lemmas.List.{get_or_default}
 use Rattle.std.specs.List.{range_with_len}
 use Rattle.worm_vcalloc.specs.declared.request.VcRequest.{VcRequest}
-use Rattle.worm_vcalloc.specs.Arbiter.{ArbiterState, winner, after_pick, line_requests, no_arbiter}
+use Rattle.worm_vcalloc.specs.Arbiter.{ArbiterState, winner, after_pick, no_arbiter}
+use Rattle.worm_vcalloc.specs.ChannelSet.{IsFirstFrom}
+use Rattle.worm_vcalloc.specs.Places.{arbiters_at, IsPlaced, IsPlaceAfter}
 use Rattle.worm_vcalloc.specs.Table.{cell, with_cell}
-use Rattle.worm_vcalloc.specs.VcAlloc.{VcAllocState, VcPass, IsVcAlloc, with_grant, is_requester, vc_winner, offered}
+use Rattle.worm_vcalloc.specs.VcAlloc.{VcAllocState, VcPass, with_grant, is_requester, vc_winner, offered}
 use Rattle.worm_vcalloc.specs.VcAlloc.{vc_step, port_pass}
 use Rattle.worm_vcalloc.specs.VcRequest.{is_for, allows}
-use Rattle.worm_vcalloc.proofs.Winner.{winner_same, winner_none}
-use Rattle.worm_vcalloc.proofs.LineByLine.{line_port}
+use Rattle.worm_vcalloc.proofs.ArbitersStay.{IsVcAlloc}
+use Rattle.worm_vcalloc.proofs.Winner.{winner_none}
+use Rattle.worm_vcalloc.proofs.Lines.{at_line, line_port}
+use Rattle.worm_vcalloc.proofs.PlacesInOrder.{first_wins, none_wins}
+use Rattle.worm_vcalloc.proofs.PlacesKept.{arbiter_after, arbiters_at_moved, cell_at, place_in}
+use Rattle.worm_vcalloc.proofs.RequestersHeard.{AreAsking}
 use Rattle.worm_vcalloc.proofs.TableCells.{with_cell_same}
-
--- what `offer` leaves, by what its arbiter picked
-pub offer_is : (waiting : List (List (Option VcRequest))) (grants : List (List (Option ℕ))) (s : VcAllocState)
-    (out channel requests : ℕ) (old new : ArbiterState) (line : Option ℕ)
-    → cell s.arbiters out channel no_arbiter ≡ old
-    → old.pointer ≤ old.width
-    → ((i : ℕ) → i < old.width → line_requests requests i
-    ≡ is_requester waiting grants out channel (i / s.channels) (i % s.channels))
-    → line ≡ winner old (line_requests requests)
-    → new ≡ after_pick old line
-    → record {
-      alloc = record {
-        ports = s.ports;
-        channels = s.channels;
-        arbiters = with_cell s.arbiters out channel new;
-      };
-      grants = with_grant s.channels grants channel line;
-    }
-    ≡ offered waiting (record { alloc = s; grants = grants }) out channel
-unfolding offered
-offer_is waiting grants s out channel requests old new line here in_range lines won moved =
-    let same : line ≡ vc_winner waiting (record { alloc = s; grants = grants }) out channel =
-    won ∙ winner_same old _ (λ i. is_requester waiting grants out channel (i / s.channels) (i % s.channels)) in_range
-    lines
-    ∙ ap (λ a. winner a (λ i. is_requester waiting grants out channel (i / s.channels) (i % s.channels))) (sym here) in
-    let moved_here : new ≡ after_pick (cell s.arbiters out channel no_arbiter) line =
-    moved ∙ ap (λ a. after_pick a line) (sym here) in
-    ap (λ a. record {
-      alloc = record {
-        ports = s.ports;
-        channels = s.channels;
-        arbiters = with_cell s.arbiters out channel a;
-      };
-      grants = with_grant s.channels grants channel line;
-    }) moved_here
-    ∙ ap (λ l. record {
-      alloc = record {
-        ports = s.ports;
-        channels = s.channels;
-        arbiters = with_cell s.arbiters out channel (after_pick (cell s.arbiters out channel no_arbiter) l);
-      };
-      grants = with_grant s.channels grants channel l;
-    }) same
 
 -- a fold over a range that is one longer
 fold-range_suc : {X : Type 0} (step : X → ℕ → X) (x : X) (a n : ℕ)
@@ -128,7 +93,14 @@ port_passed waiting free first start here there out r is same_ports same_channel
   channels = same_channels ∙ r.channels;
 }
 
--- ---- where nobody asks
+-- ---- what an offer leaves
+
+-- a pass of an allocator that is kept by places
+abbrev pub pass_at : ℕ → ℕ → List (List ℕ) → List (List (Option ℕ)) → VcPass
+pass_at ports channels places grants = record {
+  alloc = record { ports = ports; channels = channels; arbiters = arbiters_at ports channels places };
+  grants = grants;
+}
 
 -- an output channel that nobody wins is offered in vain
 pub offered_in_vain : (waiting : List (List (Option VcRequest))) (pass : VcPass) (out channel : ℕ)
@@ -155,11 +127,85 @@ offered_in_vain waiting pass out channel nobody =
       grants = pass.grants;
     }) (with_cell_same pass.alloc.arbiters out channel no_arbiter)
 
+-- one whose requesters are a set, of which one is the first from the place of its arbiter
+pub offered_first : (waiting : List (List (Option VcRequest))) (grants : List (List (Option ℕ)))
+    (ports channels : ℕ) (places : List (List ℕ)) (out channel asking d port vc next : ℕ)
+    → IsPlaced ports channels places → out < ports → channel < channels
+    → AreAsking waiting grants ports channels out channel asking
+    → IsFirstFrom asking (cell places out channel d) port vc → IsPlaceAfter ports channels port vc next
+    → record {
+      alloc = record {
+        ports = ports;
+        channels = channels;
+        arbiters = arbiters_at ports channels (with_cell places out channel next);
+      };
+      grants = with_cell grants port vc (Some channel);
+    }
+    ≡ offered waiting (pass_at ports channels places grants) out channel
+unfolding offered
+offered_first waiting grants ports channels places out channel asking d port vc next h lo lc a f after =
+    let few = h.few_ports in
+    let few' = h.few_channels in
+    let old = cell_at ports channels places out channel h (omega arith) (omega arith) in
+    let start = place_in ports channels places out channel h (omega arith) (omega arith) in
+    let place = a.within port vc f.port_in f.channel_in f.first.requests in
+    let won : Some (port * channels + vc) ≡ vc_winner waiting (pass_at ports channels places grants) out channel =
+    first_wins ports channels (cell places out channel 0) asking port vc (is_requester waiting grants out channel)
+    few h.some_channel few' start.port_in start.channel_in place.0 place.1 a.requesters
+    (subst (λ s. IsFirstFrom asking s port vc)
+    (sym (get_or_default (slice_index_or places out []) channel 0 d
+    (omega (arith, h.shape.columns out (omega arith)))))
+    f)
+    ∙ ap (λ b. winner b (λ line. is_requester waiting grants out channel (line / channels) (line % channels)))
+    (sym old) in
+    ap (λ arbiters. record {
+      alloc = record { ports = ports; channels = channels; arbiters = arbiters };
+      grants = with_cell grants port vc (Some channel);
+    }) (arbiters_at_moved ports channels places out channel next
+    ∙ ap (with_cell (arbiters_at ports channels places) out channel)
+    (arbiter_after ports channels (cell places out channel 0) port vc next after
+    ∙ ap (λ b. after_pick b (Some (port * channels + vc))) (sym old)))
+    ∙ ap (λ granted. record {
+      alloc = record {
+        ports = ports;
+        channels = channels;
+        arbiters = with_cell (arbiters_at ports channels places) out channel
+            (after_pick (cell (arbiters_at ports channels places) out channel no_arbiter)
+            (Some (port * channels + vc)));
+      };
+      grants = granted;
+    }) (sym (at_line (λ p v. with_cell grants p v (Some channel)) port channels vc place.1))
+    ∙ ap (λ line. record {
+      alloc = record {
+        ports = ports;
+        channels = channels;
+        arbiters = with_cell (arbiters_at ports channels places) out channel
+            (after_pick (cell (arbiters_at ports channels places) out channel no_arbiter) line);
+      };
+      grants = with_grant channels grants channel line;
+    }) won
+
+-- one whose requesters are the empty set
+pub offered_none : (waiting : List (List (Option VcRequest))) (grants : List (List (Option ℕ)))
+    (ports channels : ℕ) (places : List (List ℕ)) (out channel asking : ℕ)
+    → IsPlaced ports channels places → out < ports → channel < channels
+    → AreAsking waiting grants ports channels out channel asking → asking ≡ 0
+    → pass_at ports channels places grants ≡ offered waiting (pass_at ports channels places grants) out channel
+offered_none waiting grants ports channels places out channel asking h lo lc a empty =
+    let few = h.few_ports in
+    let few' = h.few_channels in
+    let start = place_in ports channels places out channel h (omega arith) (omega arith) in
+    sym (offered_in_vain waiting (pass_at ports channels places grants) out channel
+    (sym (none_wins ports channels (cell places out channel 0) asking (is_requester waiting grants out channel)
+    h.some_channel start.port_in start.channel_in a.requesters empty
+    ∙ ap (λ b. winner b (λ line. is_requester waiting grants out channel (line / channels) (line % channels)))
+    (sym (cell_at ports channels places out channel h (omega arith) (omega arith))))))
+
 -- one that nobody asks for
 offered_unasked : (waiting : List (List (Option VcRequest))) (pass : VcPass) (out channel : ℕ)
     → IsVcAlloc pass.alloc.ports pass.alloc.channels pass.alloc.arbiters
     → out < pass.alloc.ports → channel < pass.alloc.channels
-    → ((p v : ℕ) → p < 7 → v < 8 → is_for (cell waiting p v None) out ≡ false)
+    → ((p v : ℕ) → p < pass.alloc.ports → v < pass.alloc.channels → is_for (cell waiting p v None) out ≡ false)
     → offered waiting pass out channel ≡ pass
 offered_unasked waiting pass out channel r lo lc none =
     let few = r.few_ports in
@@ -174,14 +220,13 @@ offered_unasked waiting pass out channel r lo lc none =
     ap
     (λ b. (b && allows (cell waiting (line / pass.alloc.channels) (line % pass.alloc.channels) None) channel) && is_none
     (cell pass.grants (line / pass.alloc.channels) (line % pass.alloc.channels) None))
-    (none (line / pass.alloc.channels) (line % pass.alloc.channels) (omega (arith, place.0))
-    (omega (arith, place.1)))))
+    (none (line / pass.alloc.channels) (line % pass.alloc.channels) place.0 place.1)))
 
 -- an output port that nobody asks for is passed over
 pub port_pass_unasked : (waiting : List (List (Option VcRequest))) (free : List (List Bool)) (pass : VcPass) (out : ℕ)
     → IsVcAlloc pass.alloc.ports pass.alloc.channels pass.alloc.arbiters
     → out < pass.alloc.ports
-    → ((p v : ℕ) → p < 7 → v < 8 → is_for (cell waiting p v None) out ≡ false)
+    → ((p v : ℕ) → p < pass.alloc.ports → v < pass.alloc.channels → is_for (cell waiting p v None) out ≡ false)
     → port_pass waiting free pass out ≡ pass
 unfolding port_pass
 port_pass_unasked waiting free pass out r lo none = go pass.alloc.channels (omega arith) where

@@ -9,13 +9,13 @@ use Rattle.worm_vcalloc.specs.declared.request.VcRequest.{VcRequest}
 use Rattle.worm_vcalloc.specs.Arbiter.{ArbiterState, no_arbiter}
 use Rattle.worm_vcalloc.specs.Table.{cell, with_cell, IsTable}
 use Rattle.worm_vcalloc.specs.VcRequest.{may_use, is_for}
-use Rattle.worm_vcalloc.specs.VcAlloc.{VcAllocState, VcPass, IsVcAlloc, HasWon, IsChannelMatching, with_grant}
+use Rattle.worm_vcalloc.specs.VcAlloc.{VcAllocState, VcPass, HasWon, IsChannelMatching, with_grant}
 use Rattle.worm_vcalloc.specs.VcAlloc.{is_requester, vc_winner, offered, vc_step, port_pass, vc_pass}
 use Rattle.worm_vcalloc.proofs.TableCells.{IsTable-replicate, IsTable-with_cell, cell-with_cell_same}
 use Rattle.worm_vcalloc.proofs.TableCells.{cell-with_cell_other, cell-with_cell_keeps, cell-replicate}
 use Rattle.worm_vcalloc.proofs.Winner.{winner_requests, winner_none_requests}
-use Rattle.worm_vcalloc.proofs.LineByLine.{at_line, line_within, line_port}
-use Rattle.worm_vcalloc.proofs.ArbitersStay.{HasWidth, HasWidth-after_pick}
+use Rattle.worm_vcalloc.proofs.Lines.{at_line, line_within, line_port}
+use Rattle.worm_vcalloc.proofs.ArbitersStay.{IsVcAlloc, HasWidth, HasWidth-after_pick}
 use Rattle.worm_vcalloc.proofs.PassAgrees.{fold-range_next}
 
 -- ---- one step

@@ -1,167 +1,276 @@
 -- Lemmas on requests that are filed one by one.
-use Rattle.std.proofs.Common.{◌≡◌, ℕ, ◌<◌, ◌==◌, ◌&&◌, true, false, not, List, Option, None, Some, is_some}
-use Rattle.std.proofs.Common.{slice_index_or, slice_set, length, replicate, get_or-set_same, get_or-set_other}
-use Rattle.std.proofs.Common.{refl, sym, ap, ◌∙◌, arith, inl, inr}
-use Rattle.std.proofs.lemmas.Bool.{cases_eq, eqb-true, eq-eqb, ne_eqb, true≢false}
+use Rattle.std.proofs.Common.{◌≡◌, ℕ, ◌<◌, ◌≤◌, ◌==◌, ◌&&◌, ◌||◌, Bool, true, false, not, List, Option, None, Some}
+use Rattle.std.proofs.Common.{is_some}
+use Rattle.std.proofs.Common.{slice_index_or, slice_set, length, replicate, get_or-set_same, get_or-set_other, nat_lt}
+use Rattle.std.proofs.Common.{if◌then◌else◌, refl, sym, ap, ◌∙◌, arith, inl, inr}
+use Rattle.std.proofs.lemmas.Bool.{cases_eq, cases_Bool, and_from, and_parts, eqb-true, eq-eqb, ltb-true, lt-ltb}
+use Rattle.std.proofs.lemmas.Bool.{ne_eqb, true≢false}
 use Rattle.std.proofs.Math.Bool.{and-true, and-false}
 use Rattle.std.proofs.lemmas.List.{get_or-replicate, get_or_default}
 use Rattle.worm_flit.specs.SmallSet as small
+use Rattle.worm_flit.proofs.SmallSets.{has_none}
 use Rattle.worm_vcalloc.specs.declared.asked.Asked.{Asked}
 use Rattle.worm_vcalloc.specs.declared.request.VcRequest.{VcRequest}
-use Rattle.worm_vcalloc.specs.Asked.{IsFiled}
+use Rattle.worm_vcalloc.specs.Asked.{AreAllowed, IsFiled, heard, is_below}
 use Rattle.worm_vcalloc.specs.ChannelSet.{has, IsFirst, IsPut}
 use Rattle.worm_vcalloc.specs.Table.{cell}
-use Rattle.worm_vcalloc.specs.VcRequest.{is_for}
+use Rattle.worm_vcalloc.specs.VcRequest.{is_for, allows}
 use Rattle.worm_vcalloc.proofs.SetMembers.{has-zero, was_in}
 
--- all requests are filed but those of the input channels in a set
-pub record AreFiledBut (requests : List (List (Option VcRequest))) (left : ℕ) (by_port : List ℕ)
-    (ports : ℕ) : Type 0 where
-  pub each : (out p v : ℕ) → out < 7 → p < 7 → v < 8
-      → has (slice_index_or by_port out 0) p v ≡ (is_for (cell requests p v None) out && not (has left p v))
-  pub asked : (out p v : ℕ) → out < 7 → p < 7 → v < 8 → is_for (cell requests p v None) out ≡ true
-      → has left p v ≡ false → small.has ports out ≡ true
-  pub waits : (p v : ℕ) → p < 7 → v < 8 → has left p v ≡ true → is_some (cell requests p v None) ≡ true
+-- ---- what a router hears
 
--- a request that is missing is for no port
-for_none : (o : Option VcRequest) (out : ℕ) → false ≡ (is_for o out && not (is_some o))
-for_none None out = refl
-for_none (Some r) out = sym (and-false (r.out == out))
+-- a request whose port and channel the router has
+pub heard_some : (requests : List (List (Option VcRequest))) (ports channels p v : ℕ) (r : VcRequest) → p < ports
+    → v < channels → r.out < ports → cell requests p v None ≡ Some r → heard requests ports channels p v ≡ Some r
+heard_some requests ports channels p v r lp lv lo is =
+    ap (λ t. if t then cell requests p v None else None)
+    (and_from (nat_lt p ports && nat_lt v channels) (is_below (cell requests p v None) ports)
+    (and_from (nat_lt p ports) (nat_lt v channels) (lt-ltb p ports lp) (lt-ltb v channels lv))
+    (ap (λ o. is_below o ports) is ∙ lt-ltb r.out ports lo))
+    ∙ is
 
-pub for_some : (o : Option VcRequest) (out : ℕ) → is_for o out ≡ true → is_some o ≡ true
+-- any other
+pub heard_none : (requests : List (List (Option VcRequest))) (ports channels p v : ℕ) (r : VcRequest)
+    → (p < ports → v < channels → r.out < ports → ⊥) → cell requests p v None ≡ Some r
+    → heard requests ports channels p v ≡ None
+heard_none requests ports channels p v r foreign is =
+    elim (cases_Bool (nat_lt p ports && nat_lt v channels && is_below (cell requests p v None) ports)) [
+      | inl all ↦
+          let parts = and_parts _ _ all in
+          let place = and_parts _ _ parts.0 in
+          absurd (foreign (ltb-true p ports place.0) (ltb-true v channels place.1)
+          (ltb-true r.out ports (sym (ap (λ o. is_below o ports) is) ∙ parts.1)))
+      | inr some ↦ ap (λ t. if t then cell requests p v None else None) some
+    ]
+
+-- what the router hears waits
+heard_waits : (requests : List (List (Option VcRequest))) (ports channels p v : ℕ)
+    → is_some (heard requests ports channels p v) ≡ true → is_some (cell requests p v None) ≡ true
+heard_waits requests ports channels p v =
+    by_test (nat_lt p ports && nat_lt v channels && is_below (cell requests p v None) ports) (cell requests p v None)
+  where
+    by_test : (b : Bool) (o : Option VcRequest) → is_some (if b then o else None) ≡ true → is_some o ≡ true
+    by_test true o e = e
+    by_test false o e = absurd (cc)
+
+for_some : (o : Option VcRequest) (out : ℕ) → is_for o out ≡ true → is_some o ≡ true
 for_some None out e = absurd (cc)
 for_some (Some r) out e = refl
 
--- none is filed at first
-pub filed_start : (requests : List (List (Option VcRequest))) (waiting : ℕ) (by_port : List ℕ) (ports : ℕ)
-    → by_port ≡ replicate 7 0
-    → ((p v : ℕ) → p < 7 → v < 8 → has waiting p v ≡ is_some (cell requests p v None))
-    → AreFiledBut requests waiting by_port ports
-filed_start requests waiting by_port ports e waits = record {
-  each = λ out p v lo lp lv.
-      ap (λ s. has s p v) (ap (λ s. slice_index_or s out 0) e ∙ get_or-replicate 7 out 0 0 lo) ∙ has-zero p v
-      ∙ for_none (cell requests p v None) out
-      ∙ ap (λ b. is_for (cell requests p v None) out && not b) (sym (waits p v lp lv));
-  asked = λ out p v lo lp lv asks off.
-      absurd (true≢false (sym (for_some (cell requests p v None) out asks) ∙ sym (waits p v lp lv) ∙ off));
-  waits = λ p v lp lv e. sym (waits p v lp lv) ∙ e;
-}
+allows_some : (o : Option VcRequest) (channel : ℕ) → allows o channel ≡ true → is_some o ≡ true
+allows_some None channel e = absurd (cc)
+allows_some (Some r) channel e = refl
 
--- one input channel is filed, and no other file changes
-pub record IsFiledOne (request : Option VcRequest) (by_port by_port' : List ℕ) (ports ports' port vc : ℕ)
+-- ---- files of all input channels but those in a set
+
+-- the set holds those input channels of which `says` is true and that are not left
+abbrev pub Holds : (ℕ → ℕ → Bool) → ℕ → ℕ → Type 0
+Holds says left set = (p v : ℕ) → p < 7 → v < 8 → has set p v ≡ (says p v && not (has left p v))
+
+-- where it is true only of those that are left, the empty set does
+holds_none : (says : ℕ → ℕ → Bool) (left : ℕ)
+    → ((p v : ℕ) → p < 7 → v < 8 → says p v ≡ true → has left p v ≡ true) → Holds says left 0
+holds_none says left all p v lp lv = has-zero p v ∙ by_test (says p v) (has left p v) (all p v lp lv) where
+  by_test : (b l : Bool) → (b ≡ true → l ≡ true) → false ≡ (b && not l)
+  by_test true l only = sym (ap not (only refl))
+  by_test false l only = refl
+
+-- the first of those that are left is put into the set where it is true of that one
+holds_more : (says : ℕ → ℕ → Bool) (left left' port vc set set' : ℕ) → IsFirst left left' port vc
+    → Holds says left set → has set' port vc ≡ says port vc
+    → ((p v : ℕ) → p < 7 → v < 8 → ((p ≡ port) → (v ≡ vc) → ⊥) → has set' p v ≡ has set p v)
+    → Holds says left' set'
+holds_more says left left' port vc set set' f holds here elsewhere p v lp lv = elim (cases_eq p port) [
+  | inl ep ↦ elim (cases_eq v vc) [
+    | inl ev ↦
+        ap (λ k. has set' k v) ep ∙ ap (has set' port) ev ∙ here ∙ sym (and-true (says port vc))
+        ∙ sym (ap (λ k. says k v && not (has left' k v)) ep ∙ ap (λ k. says port k && not (has left' port k)) ev
+        ∙ ap (λ t. says port vc && not t) f.taken.here)
+    | inr other ↦ apart (λ _ e. other e)
+  ]
+  | inr other ↦ apart (λ e _. other e)
+] where
+  apart : ((p ≡ port) → (v ≡ vc) → ⊥) → has set' p v ≡ (says p v && not (has left' p v))
+  apart other =
+      elsewhere p v lp lv other ∙ holds p v lp lv
+      ∙ ap (λ t. says p v && not t) (sym (f.taken.elsewhere p v lp lv other))
+
+-- one that is left is not in the set yet
+not_held : (says : ℕ → ℕ → Bool) (left left' port vc set : ℕ) → IsFirst left left' port vc → Holds says left set
+    → has set port vc ≡ false
+not_held says left left' port vc set f holds =
+    holds port vc f.port_in f.channel_in ∙ ap (λ t. says port vc && not t) f.was_in ∙ and-false (says port vc)
+
+-- where none is left, the set holds those of which it is true
+holds_all : (says : ℕ → ℕ → Bool) (left set : ℕ) → left ≡ 0 → Holds says left set → (p v : ℕ) → p < 7 → v < 8
+    → has set p v ≡ says p v
+holds_all says left set none holds p v lp lv =
+    holds p v lp lv ∙ ap (λ t. says p v && not t) (ap (λ s. has s p v) none ∙ has-zero p v) ∙ and-true (says p v)
+
+-- ---- one request after the other
+
+-- whether an input channel is heard to ask for an output port
+abbrev pub for_port : List (List (Option VcRequest)) → ℕ → ℕ → ℕ → ℕ → ℕ → Bool
+for_port requests ports channels out p v = is_for (heard requests ports channels p v) out
+
+-- and to allow a channel
+abbrev pub for_channel : List (List (Option VcRequest)) → ℕ → ℕ → ℕ → ℕ → ℕ → Bool
+for_channel requests ports channels channel p v = allows (heard requests ports channels p v) channel
+
+-- all requests that the router hears are filed but those of the input channels in a set
+pub record AreFiledBut (requests : List (List (Option VcRequest))) (ports channels left : ℕ) (files : Asked)
     : Type 0 where
-  pub here : (out : ℕ) → out < 7 → has (slice_index_or by_port' out 0) port vc ≡ is_for request out
-  pub elsewhere : (out p v : ℕ) → out < 7 → p < 7 → v < 8 → ((p ≡ port) → (v ≡ vc) → ⊥)
-      → has (slice_index_or by_port' out 0) p v ≡ has (slice_index_or by_port out 0) p v
-  pub asked : (out : ℕ) → out < 7 → is_for request out ≡ true → small.has ports' out ≡ true
-  pub more : (out : ℕ) → out < 7 → small.has ports out ≡ true → small.has ports' out ≡ true
+  pub by_port : (out : ℕ) → out < 7
+      → Holds (for_port requests ports channels out) left (slice_index_or files.by_port out 0)
+  pub by_channel : (channel : ℕ) → channel < 8
+      → Holds (for_channel requests ports channels channel) left
+      (slice_index_or files.by_channel channel 0)
+  pub asked : (out p v : ℕ) → out < 7 → p < 7 → v < 8 → is_for (heard requests ports channels p v) out ≡ true
+      → has left p v ≡ false → small.has files.ports out ≡ true
+  pub within : (out : ℕ) → out < 8 → small.has files.ports out ≡ true → out < ports
+  pub waits : (p v : ℕ) → p < 7 → v < 8 → has left p v ≡ true → is_some (cell requests p v None) ≡ true
 
--- the first input channel of those that are left is filed
-pub filed_more : (requests : List (List (Option VcRequest))) (left left' port vc : ℕ) (by_port by_port' : List ℕ)
-    (ports ports' : ℕ) → AreFiledBut requests left by_port ports → IsFirst left left' port vc
-    → IsFiledOne (cell requests port vc None) by_port by_port' ports ports' port vc
-    → AreFiledBut requests left' by_port' ports'
-filed_more requests left left' port vc by_port by_port' ports ports' b f one = record {
-  each = λ out p v lo lp lv. elim (cases_eq p port) [
-    | inl ep ↦ elim (cases_eq v vc) [
-      | inl ev ↦
-          ap (λ k. has (slice_index_or by_port' out 0) k v) ep ∙ ap (has (slice_index_or by_port' out 0) port) ev
-          ∙ one.here out lo
-          ∙ sym (and-true (is_for (cell requests port vc None) out))
-          ∙ sym (ap (λ k. is_for (cell requests k v None) out && not (has left' k v)) ep
-          ∙ ap (λ k. is_for (cell requests port k None) out && not (has left' port k)) ev
-          ∙ ap (λ t. is_for (cell requests port vc None) out && not t) f.taken.here)
-      | inr other ↦ apart out p v lo lp lv (λ _ e. other e)
-    ]
-    | inr other ↦ apart out p v lo lp lv (λ e _. other e)
-  ];
-  asked = λ out p v lo lp lv asks off. elim (cases_eq p port) [
-    | inl ep ↦ elim (cases_eq v vc) [
-      | inl ev ↦ one.asked out lo (sym (ap (λ k. is_for (cell requests k v None) out) ep
-          ∙ ap (λ k. is_for (cell requests port k None) out) ev) ∙ asks)
-      | inr other ↦ one.more out lo (b.asked out p v lo lp lv asks
-          (sym (f.taken.elsewhere p v lp lv (λ _ e. other e)) ∙ off))
-    ]
-    | inr other ↦ one.more out lo (b.asked out p v lo lp lv asks
-        (sym (f.taken.elsewhere p v lp lv (λ e _. other e)) ∙ off))
-  ];
-  waits = λ p v lp lv e. b.waits p v lp lv (was_in left left' port vc p v f.taken lp lv e);
+-- none is filed at first
+pub filed_start : (requests : List (List (Option VcRequest))) (ports channels waiting : ℕ)
+    → ((p v : ℕ) → p < 7 → v < 8 → has waiting p v ≡ is_some (cell requests p v None))
+    → AreFiledBut requests ports channels waiting
+    (record { by_port = replicate 7 0; by_channel = replicate 8 0; ports = 0 })
+filed_start requests ports channels waiting waits = record {
+  by_port = λ out lo. rw (get_or-replicate {A = ℕ} 7 out 0 0 lo)
+      (holds_none (for_port requests ports channels out) waiting
+      (λ p v lp lv e. left p v lp lv (for_some (heard requests ports channels p v) out e)));
+  by_channel = λ channel lc. rw (get_or-replicate {A = ℕ} 8 channel 0 0 lc)
+      (holds_none (for_channel requests ports channels channel) waiting
+      (λ p v lp lv e. left p v lp lv (allows_some (heard requests ports channels p v) channel e)));
+  asked = λ out p v lo lp lv asks off.
+      absurd (true≢false (sym (left p v lp lv (for_some (heard requests ports channels p v) out asks)) ∙ off));
+  within = λ out lo e. absurd (true≢false (sym e ∙ has_none 0 out refl));
+  waits = λ p v lp lv e. sym (waits p v lp lv) ∙ e;
 } where
-  apart : (out p v : ℕ) → out < 7 → p < 7 → v < 8 → ((p ≡ port) → (v ≡ vc) → ⊥)
-      → has (slice_index_or by_port' out 0) p v ≡ (is_for (cell requests p v None) out && not (has left' p v))
-  apart out p v lo lp lv other =
-      one.elsewhere out p v lo lp lv other ∙ b.each out p v lo lp lv
-      ∙ ap (λ t. is_for (cell requests p v None) out && not t) (sym (f.taken.elsewhere p v lp lv other))
+  left : (p v : ℕ) → p < 7 → v < 8 → is_some (heard requests ports channels p v) ≡ true → has waiting p v ≡ true
+  left p v lp lv some = waits p v lp lv ∙ heard_waits requests ports channels p v some
 
--- an input channel that is left is in no file
-not_filed : (requests : List (List (Option VcRequest))) (left left' port vc out : ℕ) (by_port : List ℕ) (ports : ℕ)
-    → AreFiledBut requests left by_port ports → IsFirst left left' port vc → out < 7
-    → has (slice_index_or by_port out 0) port vc ≡ false
-not_filed requests left left' port vc out by_port ports b f lo =
-    b.each out port vc lo f.port_in f.channel_in
-    ∙ ap (λ t. is_for (cell requests port vc None) out && not t) f.was_in
-    ∙ and-false (is_for (cell requests port vc None) out)
+-- the first of those that are left waits no less once it is out
+waits_more : (requests : List (List (Option VcRequest))) (ports channels left left' port vc : ℕ) (files : Asked)
+    → AreFiledBut requests ports channels left files → IsFirst left left' port vc
+    → (p v : ℕ) → p < 7 → v < 8 → has left' p v ≡ true → is_some (cell requests p v None) ≡ true
+waits_more requests ports channels left left' port vc files b f p v lp lv e =
+    b.waits p v lp lv (was_in left left' port vc p v f.taken lp lv e)
 
--- one that asks for a port is put into its file
-pub filed_for : (requests : List (List (Option VcRequest))) (left left' port vc d set : ℕ) (by_port : List ℕ)
-    (ports ports' : ℕ) (r : VcRequest) → AreFiledBut requests left by_port ports → IsFirst left left' port vc
-    → cell requests port vc None ≡ Some r → r.out < length by_port
-    → IsPut (slice_index_or by_port r.out d) set port vc true → small.IsPut ports ports' r.out true
-    → AreFiledBut requests left' (slice_set by_port r.out set) ports'
-filed_for requests left left' port vc d set by_port ports ports' r b f is long put added =
-    filed_more requests left left' port vc by_port (slice_set by_port r.out set) ports ports' b f (record {
-      here = λ out lo. elim (cases_eq out r.out) [
-        | inl same ↦ at_file out same port vc ∙ put.here ∙ sym (asks out ∙ eq-eqb r.out out (sym same))
-        | inr other ↦ at_other out other port vc ∙ not_filed requests left left' port vc out by_port ports b f lo
-            ∙ sym (asks out ∙ ne_eqb r.out out (λ e. other (sym e)))
+-- the output ports of all that are filed are in the set where that of the first that was left is
+asked_more : (requests : List (List (Option VcRequest))) (ports channels left left' port vc : ℕ) (files : Asked)
+    (set : ℕ) → AreFiledBut requests ports channels left files → IsFirst left left' port vc
+    → ((out : ℕ) → out < 7 → is_for (heard requests ports channels port vc) out ≡ true → small.has set out ≡ true)
+    → ((out : ℕ) → out < 7 → small.has files.ports out ≡ true → small.has set out ≡ true)
+    → (out p v : ℕ) → out < 7 → p < 7 → v < 8 → is_for (heard requests ports channels p v) out ≡ true
+    → has left' p v ≡ false → small.has set out ≡ true
+asked_more requests ports channels left left' port vc files set b f here more out p v lo lp lv asks off =
+    elim (cases_eq p port) [
+      | inl ep ↦ elim (cases_eq v vc) [
+        | inl ev ↦ here out lo (sym (ap (λ k. is_for (heard requests ports channels k v) out) ep
+            ∙ ap (λ k. is_for (heard requests ports channels port k) out) ev) ∙ asks)
+        | inr other ↦ before (λ _ e. other e)
+      ]
+      | inr other ↦ before (λ e _. other e)
+    ]
+  where
+    before : ((p ≡ port) → (v ≡ vc) → ⊥) → small.has set out ≡ true
+    before apart = more out lo (b.asked out p v lo lp lv asks (sym (f.taken.elsewhere p v lp lv apart) ∙ off))
+
+-- one that the router hears is put into its files
+pub filed_for : (requests : List (List (Option VcRequest))) (ports channels left left' port vc d set asked : ℕ)
+    (by_channel : List ℕ) (r : VcRequest) (files : Asked) → AreFiledBut requests ports channels left files
+    → IsFirst left left' port vc → cell requests port vc None ≡ Some r → ports ≤ 7 → port < ports → vc < channels
+    → r.out < ports → r.out < length files.by_port
+    → IsPut (slice_index_or files.by_port r.out d) set port vc true → small.IsPut files.ports asked r.out true
+    → AreAllowed files.by_channel by_channel port vc r.allowed
+    → AreFiledBut requests ports channels left'
+    (record { by_port = slice_set files.by_port r.out set; by_channel = by_channel; ports = asked })
+filed_for requests ports channels left left' port vc d set asked by_channel r files b f is few lp lv lo long put added
+    allowed = record {
+      by_port = λ out l. holds_more (for_port requests ports channels out) left left' port vc
+          (slice_index_or files.by_port out 0) (slice_index_or (slice_set files.by_port r.out set) out 0) f
+          (b.by_port out l) (elim (cases_eq out r.out) [
+            | inl same ↦ at_file out same port vc ∙ put.here ∙ sym (asks out ∙ eq-eqb r.out out (sym same))
+            | inr other ↦ at_other out other port vc
+                ∙ not_held (for_port requests ports channels out) left left' port vc _ f (b.by_port out l)
+                ∙ sym (asks out ∙ ne_eqb r.out out (λ e. other (sym e)))
+          ]) (λ p v lp' lv' apart. elim (cases_eq out r.out) [
+            | inl same ↦
+                at_file out same p v ∙ put.elsewhere p v lp' lv' apart
+                ∙ ap (λ s. has s p v) (sym (get_or_default files.by_port r.out 0 d long))
+                ∙ ap (λ k. has (slice_index_or files.by_port k 0) p v) (sym same)
+            | inr other ↦ at_other out other p v
+          ]);
+      by_channel = λ channel l. holds_more (for_channel requests ports channels channel) left left' port vc
+          (slice_index_or files.by_channel channel 0) (slice_index_or by_channel channel 0) f (b.by_channel channel l)
+          (allowed.here channel l
+          ∙ ap (λ t. t || small.has r.allowed channel)
+          (not_held (for_channel requests ports channels channel) left left' port vc _ f
+          (b.by_channel channel l))
+          ∙ sym (ap (λ o. allows o channel) hears))
+          (λ p v lp' lv' apart. allowed.elsewhere channel p v l lp' lv' apart);
+      asked =
+          asked_more requests ports channels left left' port vc files asked b f
+          (λ out l e. ap (small.has asked) (sym (eqb-true r.out out (sym (asks out) ∙ e))) ∙ added.here)
+          (λ out l e. elim (cases_eq out r.out) [
+            | inl same ↦ ap (small.has asked) same ∙ added.here
+            | inr other ↦ added.elsewhere out (omega arith) other ∙ e
+          ]);
+      within = λ out l e. elim (cases_eq out r.out) [
+        | inl same ↦ omega arith
+        | inr other ↦ b.within out l (sym (added.elsewhere out l other) ∙ e)
       ];
-      elsewhere = λ out p v lo lp lv apart. elim (cases_eq out r.out) [
-        | inl same ↦
-            at_file out same p v ∙ put.elsewhere p v lp lv apart
-            ∙ ap (λ s. has s p v) (sym (get_or_default by_port r.out 0 d long))
-            ∙ ap (λ k. has (slice_index_or by_port k 0) p v) (sym same)
-        | inr other ↦ at_other out other p v
-      ];
-      asked = λ out lo e. ap (small.has ports') (sym (eqb-true r.out out (sym (asks out) ∙ e))) ∙ added.here;
-      more = λ out lo e. elim (cases_eq out r.out) [
-        | inl same ↦ ap (small.has ports') same ∙ added.here
-        | inr other ↦ added.elsewhere out (omega arith) other ∙ e
-      ];
-    }) where
-      asks : (out : ℕ) → is_for (cell requests port vc None) out ≡ (r.out == out)
-      asks out = ap (λ o. is_for o out) is
+      waits = waits_more requests ports channels left left' port vc files b f;
+    } where
+      hears : heard requests ports channels port vc ≡ Some r
+      hears = heard_some requests ports channels port vc r lp lv lo is
+
+      asks : (out : ℕ) → is_for (heard requests ports channels port vc) out ≡ (r.out == out)
+      asks out = ap (λ o. is_for o out) hears
 
       at_file : (out : ℕ) → out ≡ r.out → (p v : ℕ)
-          → has (slice_index_or (slice_set by_port r.out set) out 0) p v ≡ has set p v
+          → has (slice_index_or (slice_set files.by_port r.out set) out 0) p v ≡ has set p v
       at_file out same p v =
-          ap (λ k. has (slice_index_or (slice_set by_port r.out set) k 0) p v) same
-          ∙ ap (λ s. has s p v) (get_or-set_same by_port r.out set 0 long)
+          ap (λ k. has (slice_index_or (slice_set files.by_port r.out set) k 0) p v) same
+          ∙ ap (λ s. has s p v) (get_or-set_same files.by_port r.out set 0 long)
 
       at_other : (out : ℕ) → (out ≡ r.out → ⊥) → (p v : ℕ)
-          → has (slice_index_or (slice_set by_port r.out set) out 0) p v ≡ has (slice_index_or by_port out 0) p v
-      at_other out other p v = ap (λ s. has s p v) (get_or-set_other by_port r.out out set 0 other)
+          → has (slice_index_or (slice_set files.by_port r.out set) out 0) p v
+          ≡ has (slice_index_or files.by_port out 0) p v
+      at_other out other p v = ap (λ s. has s p v) (get_or-set_other files.by_port r.out out set 0 other)
 
--- one that asks for no port of a router is put into none
-pub filed_nowhere : (requests : List (List (Option VcRequest))) (left left' port vc : ℕ) (by_port : List ℕ)
-    (ports : ℕ) → AreFiledBut requests left by_port ports → IsFirst left left' port vc
-    → ((out : ℕ) → out < 7 → is_for (cell requests port vc None) out ≡ false)
-    → AreFiledBut requests left' by_port ports
-filed_nowhere requests left left' port vc by_port ports b f none =
-    filed_more requests left left' port vc by_port by_port ports ports b f (record {
-      here = λ out lo. not_filed requests left left' port vc out by_port ports b f lo ∙ sym (none out lo);
-      elsewhere = λ out p v lo lp lv apart. refl;
-      asked = λ out lo e. absurd (true≢false (sym e ∙ none out lo));
-      more = λ out lo e. e;
-    })
+-- one that it does not hear is put into none
+pub filed_nowhere : (requests : List (List (Option VcRequest))) (ports channels left left' port vc : ℕ) (files : Asked)
+    → AreFiledBut requests ports channels left files → IsFirst left left' port vc
+    → heard requests ports channels port vc ≡ None → AreFiledBut requests ports channels left' files
+filed_nowhere requests ports channels left left' port vc files b f silent = record {
+  by_port = λ out l. holds_more (for_port requests ports channels out) left left' port vc _ _ f
+      (b.by_port out l)
+      (not_held (for_port requests ports channels out) left left' port vc _ f (b.by_port out l)
+      ∙ sym (ap (λ o. is_for o out) silent))
+      (λ p v lp lv apart. refl);
+  by_channel = λ channel l. holds_more (for_channel requests ports channels channel) left left' port vc
+      _ _ f (b.by_channel channel l)
+      (not_held (for_channel requests ports channels channel) left left' port vc _ f
+      (b.by_channel channel l)
+      ∙ sym (ap (λ o. allows o channel) silent))
+      (λ p v lp lv apart. refl);
+  asked =
+      asked_more requests ports channels left left' port vc files files.ports b f
+      (λ out l e. absurd (true≢false (sym e ∙ ap (λ o. is_for o out) silent))) (λ out l e. e);
+  within = b.within;
+  waits = waits_more requests ports channels left left' port vc files b f;
+}
 
 -- all are filed
-pub filed_all : (requests : List (List (Option VcRequest))) (left : ℕ) (files : Asked)
-    → AreFiledBut requests left files.by_port files.ports → left ≡ 0 → IsFiled requests files
-filed_all requests left files b e = record {
-  each = λ out p v lo lp lv.
-      b.each out p v lo lp lv ∙ ap (λ t. is_for (cell requests p v None) out && not t) (none p v)
-      ∙ and-true (is_for (cell requests p v None) out);
-  asked = λ out p v lo lp lv asks. b.asked out p v lo lp lv asks (none p v);
-} where
-  none : (p v : ℕ) → has left p v ≡ false
-  none p v = ap (λ s. has s p v) e ∙ has-zero p v
+pub filed_all : (requests : List (List (Option VcRequest))) (ports channels left : ℕ) (files : Asked)
+    → AreFiledBut requests ports channels left files → left ≡ 0 → IsFiled requests ports channels files
+filed_all requests ports channels left files b e = record {
+  by_port = λ out p v lo. holds_all (for_port requests ports channels out) left _ e (b.by_port out lo)
+      p v;
+  by_channel = λ channel p v lc. holds_all (for_channel requests ports channels channel) left _ e
+      (b.by_channel channel lc) p v;
+  asked = λ out p v lo lp lv asks. b.asked out p v lo lp lv asks (ap (λ s. has s p v) e ∙ has-zero p v);
+  within = b.within;
+}

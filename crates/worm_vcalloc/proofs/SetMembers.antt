@@ -15,7 +15,7 @@ use Rattle.worm_vcalloc.specs.Arbiter.{line_requests}
 use Rattle.worm_vcalloc.specs.ChannelSet.{has, IsPut, IsFirst, IsFirstPort, IsLowest}
 use Rattle.worm_flit.proofs.BitTests.{bit_set, bit_unset, both_set, turned}
 use Rattle.worm_flit.proofs.LowestBit.{lowest_cleared}
-use Rattle.worm_vcalloc.proofs.LineByLine.{shifted_low, shifted_high}
+use Rattle.worm_vcalloc.proofs.Lines.{shifted_low, shifted_high}
 
 -- ---- tests of bits
 

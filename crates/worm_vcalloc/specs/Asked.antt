@@ -1,19 +1,41 @@
--- Requests filed by the output port that they ask for.
-use Rattle.std.specs.Prelude.{◌≡◌, ℕ, ◌<◌, true, List, Option, None, slice_index_or}
+-- Requests filed by the output port that they ask for and by the channels of it that will do.
+use Rattle.std.specs.Prelude.{◌≡◌, ℕ, ◌<◌, ◌&&◌, ◌||◌, Bool, true, false, List, Option, Some, None, slice_index_or}
+use Rattle.std.specs.Prelude.{if◌then◌else◌, nat_lt}
 use Rattle.worm_flit.specs.SmallSet as small
 use Rattle.worm_vcalloc.specs.declared.asked.Asked.{Asked}
 use Rattle.worm_vcalloc.specs.declared.request.VcRequest.{VcRequest}
 use Rattle.worm_vcalloc.specs.ChannelSet.{has}
 use Rattle.worm_vcalloc.specs.Table.{cell}
-use Rattle.worm_vcalloc.specs.VcRequest.{is_for}
+use Rattle.worm_vcalloc.specs.VcRequest.{is_for, allows}
 
--- the output ports that some input channel asks for are in the set
-abbrev pub HasAsked : List (List (Option VcRequest)) → ℕ → Type 0
-HasAsked requests ports = (out p v : ℕ) → out < 7 → p < 7 → v < 8
-    → is_for (cell requests p v None) out ≡ true → small.has ports out ≡ true
+-- whether it is for one of so many output ports
+abbrev pub is_below : Option VcRequest → ℕ → Bool
+is_below None ports = false
+is_below (Some r) ports = nat_lt r.out ports
 
--- the files of a table of requests: for each output port the input channels that ask for it
-pub record IsFiled (requests : List (List (Option VcRequest))) (files : Asked) : Type 0 where
-  pub each : (out p v : ℕ) → out < 7 → p < 7 → v < 8
-      → has (slice_index_or files.by_port out 0) p v ≡ is_for (cell requests p v None) out
-  pub asked : HasAsked requests files.ports
+-- what an input channel asks of a router, which hears only its own channels and only of its own output ports
+abbrev pub heard : List (List (Option VcRequest)) → ℕ → ℕ → ℕ → ℕ → Option VcRequest
+heard requests ports channels p v =
+    if nat_lt p ports && nat_lt v channels && is_below (cell requests p v None) ports
+    then cell requests p v None
+    else None
+
+-- the files of a table of requests, as a router hears them
+pub record IsFiled (requests : List (List (Option VcRequest))) (ports channels : ℕ) (files : Asked) : Type 0 where
+  -- for each output port the input channels that ask for it
+  pub by_port : (out p v : ℕ) → out < 7 → p < 7 → v < 8
+      → has (slice_index_or files.by_port out 0) p v ≡ is_for (heard requests ports channels p v) out
+  -- for each channel the input channels that allow it
+  pub by_channel : (channel p v : ℕ) → channel < 8 → p < 7 → v < 8
+      → has (slice_index_or files.by_channel channel 0) p v ≡ allows (heard requests ports channels p v) channel
+  -- the output ports that some input channel asks for are in the set, and none but the router's
+  pub asked : (out p v : ℕ) → out < 7 → p < 7 → v < 8 → is_for (heard requests ports channels p v) out ≡ true
+      → small.has files.ports out ≡ true
+  pub within : (out : ℕ) → out < 8 → small.has files.ports out ≡ true → out < ports
+
+-- of all sets, those of the channels that are allowed have got this input channel
+pub record AreAllowed (old new : List ℕ) (port vc allowed : ℕ) : Type 0 where
+  pub here : (channel : ℕ) → channel < 8 → has (slice_index_or new channel 0) port vc
+      ≡ (has (slice_index_or old channel 0) port vc || small.has allowed channel)
+  pub elsewhere : (channel p v : ℕ) → channel < 8 → p < 7 → v < 8 → ((p ≡ port) → (v ≡ vc) → ⊥)
+      → has (slice_index_or new channel 0) p v ≡ has (slice_index_or old channel 0) p v

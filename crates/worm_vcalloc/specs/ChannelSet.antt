@@ -1,6 +1,7 @@
 -- Sets of the channels of a router, seen as one number.
 use Rattle.std.specs.Prelude.{◌≡◌, ℕ, ◌+◌, ◌*◌, ◌<◌, ◌^◌, ◌==◌, Bool, false, IsTrue}
 use Rattle.std.specs.Int.{bit_at}
+use Rattle.worm_vcalloc.specs.Arbiter.{IsFirstRequester, line_requests}
 
 -- whether a channel of a port is in the set: a bit for each, eight to a port
 abbrev pub has : ℕ → ℕ → ℕ → Bool
@@ -38,3 +39,10 @@ pub record IsLowest (set port channel : ℕ) : Type 0 where
   pub channel_in : channel < 8
   pub is_in : IsTrue (has set port channel)
   pub none_below : (c : ℕ) → c < channel → has set port c ≡ false
+
+-- the channel is in the set, and of the others none comes before it in the order that starts at a place and goes
+-- round, where a channel stands at the place `8 * port + channel`
+pub record IsFirstFrom (set place port channel : ℕ) : Type 0 where
+  pub port_in : port < 7
+  pub channel_in : channel < 8
+  pub first : IsFirstRequester (record { width = 56; pointer = place }) (line_requests set) (8 * port + channel)

@@ -3,4 +3,5 @@ pub mod ChannelSet
 pub mod Table
 pub mod VcRequest
 pub mod Asked
+pub mod Places
 pub mod VcAlloc

@@ -1,5 +1,5 @@
 -- One pass of virtual-channel allocation (Dally and Towles, chapter 19).
-use Rattle.std.specs.Prelude.{◌≡◌, ℕ, ◌*◌, ◌/◌, ◌%◌, ◌<◌, ◌≤◌, ◌&&◌, Bool, false, if◌then◌else◌, List, Option, Some}
+use Rattle.std.specs.Prelude.{◌≡◌, ℕ, ◌/◌, ◌%◌, ◌<◌, ◌&&◌, Bool, false, if◌then◌else◌, List, Option, Some}
 use Rattle.std.specs.Prelude.{None, is_none, IsTrue, fold}
 use Rattle.std.specs.List.{range_with_len}
 use Rattle.worm_vcalloc.specs.declared.request.VcRequest.{VcRequest}
@@ -60,15 +60,6 @@ port_pass waiting free pass out = fold (vc_step waiting free out) pass (range_wi
 -- the output ports, rising
 unfoldable pub vc_pass : List (List (Option VcRequest)) → List (List Bool) → VcPass → VcPass
 vc_pass waiting free pass = fold (port_pass waiting free) pass (range_with_len 0 pass.alloc.ports)
-
--- between passes: one to seven ports, one to eight channels, and each arbiter has a line for each input channel
-pub record IsVcAlloc (ports channels : ℕ) (arbiters : List (List ArbiterState)) : Type 0 where
-  pub some_port : 0 < ports
-  pub few_ports : ports ≤ 7
-  pub some_channel : 0 < channels
-  pub few_channels : channels ≤ 8
-  pub width : (i j : ℕ) → i < 7 → j < 8 → (cell arbiters i j no_arbiter).width ≡ ports * channels
-  pub pointer : (i j : ℕ) → i < 7 → j < 8 → (cell arbiters i j no_arbiter).pointer < ports * channels
 
 -- input channel (port, vc) was granted this channel of this output port
 pub record HasWon (waiting : List (List (Option VcRequest))) (grants : List (List (Option ℕ)))

@@ -1,17 +1,20 @@
-ghost use Rattle.std.specs.Prelude.{◌≡◌, ◌<◌, replicate, slice_index_or};
-ghost use Rattle.worm_vcalloc.specs.Asked.{IsFiled};
+ghost use Rattle.std.specs.Prelude.{◌≡◌, ℕ, ◌<◌, ◌≤◌, ◌&&◌, replicate, slice_index_or};
+ghost use Rattle.worm_vcalloc.specs.Asked.{AreAllowed, IsFiled};
+ghost use Rattle.worm_vcalloc.specs.ChannelSet.{has};
 
 use crate::channel_set::ChannelSet;
 use crate::request::VcRequests;
 use worm_flit::SmallSet;
 
-/// Files of what the input channels wait for, by the output port that they ask for, so that an output channel finds its
-/// requesters without a look at the others. They are made anew for each pass: to keep them up as requests come and go
-/// takes no less time over a run, and is one invariant more.
+/// Files of what the input channels wait for, by the output port that they ask for and by the channels of it that will
+/// do, so that an output channel finds its requesters without a look at the others. They are made anew for each pass:
+/// to keep them up as requests come and go takes no less time over a run, and is one invariant more.
 #[derive(Drop)]
 pub(crate) struct Asked {
     /// For each output port the input channels that wait for a channel of it.
     by_port: [ChannelSet; 7],
+    /// For each channel the input channels for which it will do, whatever the output port.
+    by_channel: [ChannelSet; 8],
     /// The output ports that an input channel waits for.
     ports: SmallSet,
 }
@@ -19,28 +22,32 @@ pub(crate) struct Asked {
 impl Asked {
     /// Nothing is filed.
     pub(crate) fn new() -> Asked
-        ensures { result ≡ record { by_port = replicate 7 0; ports = 0 } }
+        ensures { result ≡ record { by_port = replicate 7 0; by_channel = replicate 8 0; ports = 0 } }
     {
         Asked {
             by_port: [ChannelSet::new(); 7],
+            by_channel: [ChannelSet::new(); 8],
             ports: SmallSet::new(),
         }
     }
 
-    /// Files each request, where nothing is filed yet.
+    /// Files each request that a router of so many ports and channels can meet, where nothing is filed yet.
     ///
     /// They are filed in place: filed in an array of its own and then moved in here, the words would be read 16 bytes
     /// at a time right behind stores of 8, which a processor cannot forward.
-    pub(crate) fn file(&mut self, waiting: &VcRequests)
-        requires { self.old.by_port ≡ replicate 7 0 }
-        ensures { IsFiled waiting.now self.new }
+    pub(crate) fn file(&mut self, waiting: &VcRequests, ports: u8, channels: u8)
+        requires few_ports { ports ≤ 7 }
+        requires few_channels { channels ≤ 8 }
+        requires empty { self.old ≡ record { by_port = replicate 7 0; by_channel = replicate 8 0; ports = 0 } }
+        ensures { IsFiled waiting.now ports channels self.new }
     {
         let mut left = waiting.waiting();
         while let Some((port, vc)) = left.pop_first() {
             let request = waiting.request(port, vc);
-            if request.out < 7 {
+            if port < ports && vc < channels && request.out < ports {
                 self.by_port[request.out as usize].put(port, vc, true);
                 self.ports.put(request.out, true);
+                file_allowed(&mut self.by_channel, port, vc, request.allowed);
             }
         }
     }
@@ -52,12 +59,30 @@ impl Asked {
         self.ports
     }
 
-    /// The input channels that wait for a channel of an output port.
-    pub(crate) fn asking_port(&self, out: u8) -> ChannelSet
-        requires { out < 7 }
-        ensures { result ≡ slice_index_or self.now.by_port out 0 }
+    /// The input channels that wait for this channel of an output port.
+    pub(crate) fn asking(&self, out: u8, channel: u8) -> ChannelSet
+        requires out { out < 7 }
+        requires channel { channel < 8 }
+        ensures { (p v : ℕ) → has result p v
+            ≡ (has (slice_index_or self.now.by_port out 0) p v
+            && has (slice_index_or self.now.by_channel channel 0) p v) }
     {
-        let by_port = &self.by_port;
-        by_port[out as usize]
+        let (by_port, by_channel) = (&self.by_port, &self.by_channel);
+        by_port[out as usize].intersection(&by_channel[channel as usize])
+    }
+}
+
+/// Files an input channel for each channel that will do, where `allowed` has a bit for each.
+fn file_allowed(by_channel: &mut [ChannelSet; 8], port: u8, vc: u8, allowed: u8)
+    requires port { port < 7 }
+    requires vc { vc < 8 }
+    ensures { AreAllowed by_channel.old by_channel.new port vc allowed }
+{
+    let mut left = allowed;
+    while left != 0 {
+        let channel = left.trailing_zeros();
+        by_channel[channel as usize].put(port, vc, true);
+        // The number before has all the bits but the lowest.
+        left &= left - 1;
     }
 }

@@ -1,6 +1,6 @@
 ghost use Rattle.std.specs.Prelude.{◌≡◌, ℕ, ◌^◌, ◌<◌, ◌≤◌, ◌==◌, ◌&&◌, ◌||◌, MatchOption, not};
 ghost use Rattle.worm_vcalloc.specs.Arbiter.{line_requests};
-ghost use Rattle.worm_vcalloc.specs.ChannelSet.{has, IsPut, IsFirst, IsFirstPort, IsLowest};
+ghost use Rattle.worm_vcalloc.specs.ChannelSet.{has, IsPut, IsFirst, IsFirstFrom, IsFirstPort, IsLowest};
 
 use std::marker::Model;
 
@@ -92,6 +92,22 @@ impl ChannelSet {
         let bit = self.bits.trailing_zeros() as u8;
         // The number before has all the bits but the lowest.
         self.bits &= self.bits - 1;
+        Some((bit / 8, bit % 8))
+    }
+
+    /// The first channel at a place or after it, else the first of all, by port and channel, where a channel stands at
+    /// the place `8 * port + channel`; None where the set is empty.
+    pub(crate) fn first_from(&self, place: u8) -> Option<(u8, u8)>
+        requires { place < 56 }
+        ensures { MatchOption result (self.now ≡ 0) (λ found. IsFirstFrom self.now place found.0 found.1) }
+    {
+        if self.bits == 0 {
+            return None;
+        }
+        // The bits before the place shifted out.
+        let ahead = self.bits >> place << place;
+        let asked = if ahead != 0 { ahead } else { self.bits };
+        let bit = asked.trailing_zeros() as u8;
         Some((bit / 8, bit % 8))
     }
 

@@ -7,8 +7,9 @@
 //!
 //! The definition of a pass looks at every input channel for every output channel; the code does not.
 //! [`VcRequests`] are plain rows beside a [`ChannelSet`] of one word, which says who waits. A pass files those by
-//! the output port that they ask for, goes to these ports alone, and offers a channel only to those that ask for
-//! its port. A [`ChannelMap`] likewise knows its keys without a scan.
+//! the output port that they ask for and by the channels that will do, each file a word, and goes to these ports
+//! alone. What two files share are the requesters of an output channel, and its arbiter, kept as a place in such a
+//! word, chooses among them by a shift and a count of zeros. A [`ChannelMap`] likewise knows its keys without a scan.
 //!
 //! No allocator here is fair over several turns or finds a largest matching, and none claims it: what is
 //! promised is the exact pass, and that its grants are a matching.

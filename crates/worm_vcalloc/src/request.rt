@@ -53,8 +53,6 @@ impl Model for VcRequests {
 }
 
 impl VcRequests {
-    ghost use Rattle.worm_vcalloc.specs.VcRequest.{allows};
-
     /// No request.
     pub fn new() -> Self
         ensures { result ≡ replicate 7 (replicate 8 None) }
@@ -116,16 +114,5 @@ impl VcRequests {
         ensures { (p v : ℕ) → p < 7 → v < 8 → has result p v ≡ is_some (cell self.now p v None) }
     {
         self.waiting
-    }
-
-    /// Whether this channel will do for what an input channel waits for.
-    pub(crate) fn takes(&self, port: u8, vc: u8, channel: u8) -> bool
-        requires port { port < 7 }
-        requires vc { vc < 8 }
-        requires channel { channel < 8 }
-        requires waits { is_some (cell self.now port vc None) ≡ true }
-        ensures { result ≡ allows (cell self.now port vc None) channel }
-    {
-        self.request(port, vc).allowed >> channel & 1 == 1
     }
 }

@@ -1,28 +1,46 @@
-use Rattle.std.proofs.Common.{arith, sym, ap, ◌∙◌, ◌<◌, length}
-use Rattle.std.proofs.lemmas.Bool.{ne_eqb}
-use Rattle.worm_vcalloc.specs.VcRequest.{is_for}
-use Rattle.worm_vcalloc.proofs.RequestsFiled.{filed_start, filed_for, filed_nowhere, filed_all}
+use Rattle.std.proofs.Common.{◌<◌, arith, length, sym, subst}
+use Rattle.worm_vcalloc.specs.declared.asked.Asked.{Asked}
+use Rattle.worm_vcalloc.proofs.RequestsFiled.{AreFiledBut, filed_start, filed_for, filed_nowhere, filed_all}
+use Rattle.worm_vcalloc.proofs.RequestsFiled.{heard_none}
 use Rattle.worm_vcalloc.proofs.asked.Asked.file.Goals as goal
+use Rattle.worm_vcalloc.proofs.asked.Asked.file.Goals.{
+  else-port-ports-via-then-port-ports+then-vc-channels+else-request-ports,
+}
+use Rattle.worm_vcalloc.proofs.asked.Asked.file.Goals.{else-port-ports-via-then-port-ports+else-vc-channels}
+use Rattle.worm_vcalloc.proofs.asked.Asked.file.Goals.{else-port-ports-via-else-port-ports}
 
 pub loop-port-init : goal.loop-port-init
-loop-port-init c = filed_start c.args.waiting.now c.waiting-left.result c.args.self.now.by_port c.args.self.now.ports
-    c.requires c.waiting-left.ensures
+loop-port-init c =
+    subst (λ (files : Asked). AreFiledBut c.args.waiting.now c.args.ports c.args.channels c.waiting-left.result files)
+    (sym c.requires.empty)
+    (filed_start c.args.waiting.now c.args.ports c.args.channels c.waiting-left.result c.waiting-left.ensures)
 
-pub loop-port-preserved-then-request-lt7 : goal.loop-port-preserved-then-request-lt7
-loop-port-preserved-then-request-lt7 c =
-    let long : c.request-request.result.out < length c.loop-port.self.by_port = omega arith in
-    filed_for c.args.waiting.now c.loop-port.left c.pop_first.new.self c.in-Some.port c.in-Some.vc _ c.put.new.self
-    c.loop-port.self.by_port c.loop-port.self.ports c.put-then-request-lt7.new.self c.request-request.result
-    c.loop-port.invariant c.in-Some.ensures (sym c.request-request.ensures) long c.put.ensures
-    c.put-then-request-lt7.ensures
+pub loop-port-preserved-then-request-ports : goal.loop-port-preserved-then-request-ports
+loop-port-preserved-then-request-ports c =
+    let long : c.request-request.result.out < length c.loop-port.self.by_port =
+    omega (arith, c.if-request-ports.true) in
+    filed_for c.args.waiting.now c.args.ports c.args.channels c.loop-port.left c.pop_first.new.self c.in-Some.port
+    c.in-Some.vc _ c.put.new.self c.put-then-request-ports.new.self c.file_allowed.new.by_channel
+    c.request-request.result c.loop-port.self c.loop-port.invariant c.in-Some.ensures (sym c.request-request.ensures)
+    c.requires.few_ports c.if-port-ports.true c.if-vc-channels.true c.if-request-ports.true long c.put.ensures
+    c.put-then-request-ports.ensures c.file_allowed.ensures
 
 pub loop-port-preserved : goal.loop-port-preserved
 loop-port-preserved c =
-    filed_nowhere c.args.waiting.now c.loop-port.left c.pop_first.new.self c.in-Some.port c.in-Some.vc
-    c.loop-port.self.by_port c.loop-port.self.ports c.loop-port.invariant c.in-Some.ensures
-    (λ out lo. ap (λ o. is_for o out) (sym c.request-request.ensures)
-    ∙ ne_eqb c.request-request.result.out out (λ e. absurd (omega (arith, c.if-request-lt7.false))))
+    let foreign : c.in-Some.port < c.args.ports → c.in-Some.vc < c.args.channels
+    → c.request-request.result.out < c.args.ports → ⊥ =
+    λ lp lv lo. elim c.else-port-ports.branch [
+      | else-port-ports-via-then-port-ports+then-vc-channels+else-request-ports w ↦
+          omega (arith, lo, w.if-request-ports.false)
+      | else-port-ports-via-then-port-ports+else-vc-channels w ↦ omega (arith, lv, w.if-vc-channels.false)
+      | else-port-ports-via-else-port-ports w ↦ omega (arith, lp, w.if-port-ports.false)
+    ] in
+    filed_nowhere c.args.waiting.now c.args.ports c.args.channels c.loop-port.left c.pop_first.new.self c.in-Some.port
+    c.in-Some.vc c.loop-port.self c.loop-port.invariant c.in-Some.ensures
+    (heard_none c.args.waiting.now c.args.ports c.args.channels c.in-Some.port c.in-Some.vc c.request-request.result
+    foreign (sym c.request-request.ensures))
 
 pub returns : goal.returns
 returns c =
-    filed_all c.args.waiting.now c.loop-port.left c.loop-port.self c.loop-port.invariant c.in_default.ensures.0
+    filed_all c.args.waiting.now c.args.ports c.args.channels c.loop-port.left c.loop-port.self c.loop-port.invariant
+    c.in_default.ensures.0

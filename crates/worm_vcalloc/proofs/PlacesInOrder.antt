@@ -1,0 +1,245 @@
+-- The places of input channels stand in the order of their lines, so that what comes first among the places wins.
+use Rattle.std.proofs.Common.{◌≡◌, ℕ, suc, ◌+◌, ◌*◌, ◌-◌, ◌/◌, ◌%◌, ◌^◌, ◌<◌, ◌≤◌, Bool, Some, None, sym, ap, ◌∙◌}
+use Rattle.std.proofs.Common.{subst, arith, inl, inr, mul_comm, pow_pos}
+use Rattle.std.specs.Int.{bit_at, trailing_zeros, w64}
+use Rattle.std.proofs.lemmas.Bool.{cases_eq, cases_lt}
+use Rattle.std.proofs.lemmas.Nat.{mul-le, shr-shr}
+use Rattle.std.proofs.lemmas.Nat.Bits.{bit_at-trailing_zeros, bit_at_above}
+use Rattle.std.proofs.Math.Nat.{div-mul-le_self, mod-eq_of_lt, mod_self}
+use Rattle.worm_vcalloc.specs.Arbiter.{ArbiterState, winner, line_requests, IsFirstRequester, asked_before}
+use Rattle.worm_vcalloc.specs.ChannelSet.{has, IsFirstFrom}
+use Rattle.worm_vcalloc.specs.Places.{line_of, arbiter_at, IsPlaceAfter}
+use Rattle.worm_flit.proofs.BitTests.{bit_set, bit_unset}
+use Rattle.worm_vcalloc.proofs.Lines.{shifted_low, shifted_high, at_line, line_within, line_port}
+use Rattle.worm_vcalloc.proofs.SetMembers.{has-zero}
+use Rattle.worm_vcalloc.proofs.Winner.{asked_ahead, asked_behind, first_is_winner, winner_is_first, winner_none}
+use Rattle.worm_vcalloc.proofs.Winner.{winner_ahead, winner_from_low}
+
+-- a lower port has the lower lines
+port_first : (channels x y : ℕ) → x % 8 < channels → x / 8 < y / 8 → line_of channels x < line_of channels y
+port_first channels x y lx below =
+    let most : suc (x / 8) * channels ≤ y / 8 * channels = mul-le (suc (x / 8)) channels (y / 8) channels below
+    (omega arith) in
+    let next : suc (x / 8) * channels ≡ x / 8 * channels + channels = omega arith in
+    omega arith
+
+pub lines_rise : (channels x y : ℕ) → x % 8 < channels → x < y → line_of channels x < line_of channels y
+lines_rise channels x y lx below = elim (cases_eq (x / 8) (y / 8)) [
+  | inl same ↦ let row = ap (λ p. p * channels) same in omega arith
+  | inr other ↦ port_first channels x y lx (omega arith)
+]
+
+lines_keep : (channels x y : ℕ) → x % 8 < channels → x ≤ y → line_of channels x ≤ line_of channels y
+lines_keep channels x y lx upto = elim (cases_eq x y) [
+  | inl same ↦ let line = ap (line_of channels) same in omega arith
+  | inr other ↦ let line = lines_rise channels x y lx (omega arith) in omega arith
+]
+
+-- the line of a place that is named by port and channel
+pub line_of_place : (channels port vc : ℕ) → vc < 8 → line_of channels (8 * port + vc) ≡ port * channels + vc
+line_of_place channels port vc within =
+    let p : (8 * port + vc) / 8 ≡ port = omega arith in
+    let v : (8 * port + vc) % 8 ≡ vc = omega arith in
+    ap (λ k. k * channels + (8 * port + vc) % 8) p ∙ ap (λ k. port * channels + k) v
+
+-- ---- the place that is asked next
+
+pub next_channel : (ports channels port vc : ℕ) → port < ports → channels ≤ 8 → vc + 1 < channels
+    → IsPlaceAfter ports channels port vc (8 * port + vc + 1)
+next_channel ports channels port vc lp few lv = record {
+  here = record { port_in = omega arith; channel_in = omega arith };
+  line =
+      let inside : port * channels + (vc + 1) < ports * channels =
+      line_within ports channels port (vc + 1) lp lv in
+      let line = line_of_place channels port (vc + 1) (omega arith) in
+      let same : 8 * port + vc + 1 ≡ 8 * port + (vc + 1) = omega arith in
+      let small : port * channels + vc + 1 < ports * channels = omega arith in
+      ap (line_of channels) same ∙ line ∙ (let sums : port * channels + (vc + 1) ≡ port * channels + vc + 1 =
+      omega arith in sums) ∙ sym (mod-eq_of_lt small);
+}
+
+pub next_port : (ports channels port vc : ℕ) → port + 1 < ports → vc < channels → channels ≤ vc + 1
+    → IsPlaceAfter ports channels port vc (8 * (port + 1))
+next_port ports channels port vc lp lv last = record {
+  here = record { port_in = omega arith; channel_in = omega arith };
+  line =
+      let inside : (port + 1) * channels + 0 < ports * channels =
+      line_within ports channels (port + 1) 0 lp (omega arith) in
+      let line = line_of_place channels (port + 1) 0 (omega arith) in
+      let same : 8 * (port + 1) ≡ 8 * (port + 1) + 0 = omega arith in
+      let row : (port + 1) * channels ≡ port * channels + channels = omega arith in
+      let sums : (port + 1) * channels + 0 ≡ port * channels + vc + 1 = omega arith in
+      let small : port * channels + vc + 1 < ports * channels = omega arith in
+      ap (line_of channels) same ∙ line ∙ sums ∙ sym (mod-eq_of_lt small);
+}
+
+pub first_again : (ports channels port vc : ℕ) → ports ≡ port + 1 → vc < channels → channels ≤ vc + 1
+    → IsPlaceAfter ports channels port vc 0
+first_again ports channels port vc top lv last = record {
+  here = record { port_in = omega arith; channel_in = omega arith };
+  line =
+      let row : (port + 1) * channels ≡ port * channels + channels = omega arith in
+      let whole : ports * channels ≡ (port + 1) * channels = ap (λ p. p * channels) top in
+      let sums : port * channels + vc + 1 ≡ ports * channels = omega arith in
+      let none : line_of channels 0 ≡ 0 = omega arith in
+      none ∙ sym (ap (λ n. n % (ports * channels)) sums ∙ mod_self (ports * channels));
+}
+
+-- ---- the one that is asked first
+
+-- what is asked no later among the places is asked no later among the lines
+asked_alike : (ports channels place x y : ℕ) → place % 8 < channels → x % 8 < channels → y % 8 < channels
+    → x < 56 → y < 56 → line_of channels x < ports * channels → line_of channels place < ports * channels
+    → asked_before (record { width = 56; pointer = place }) x ≤ asked_before (record { width = 56; pointer = place }) y
+    → asked_before (arbiter_at ports channels place) (line_of channels x)
+    ≤ asked_before (arbiter_at ports channels place) (line_of channels y)
+asked_alike ports channels place x y lp lx ly hx hy inside start before =
+    elim (cases_lt x place) [
+      | inl x_behind ↦
+          let x_at = asked_behind places x x_behind in
+          let x_line = asked_behind lines (line_of channels x) (lines_rise channels x place lx x_behind) in
+          elim (cases_lt y place) [
+            | inl y_behind ↦
+                let y_at = asked_behind places y y_behind in
+                let y_line = asked_behind lines (line_of channels y) (lines_rise channels y place ly y_behind) in
+                let order = lines_keep channels x y lx (omega arith) in
+                omega arith
+            | inr y_ahead ↦ let y_at = asked_ahead places y y_ahead in absurd (omega arith)
+          ]
+      | inr x_ahead ↦
+          let x_at = asked_ahead places x x_ahead in
+          let x_line = asked_ahead lines (line_of channels x) (lines_keep channels place x lp x_ahead) in
+          elim (cases_lt y place) [
+            | inl y_behind ↦
+                let y_line = asked_behind lines (line_of channels y) (lines_rise channels y place ly y_behind) in
+                omega arith
+            | inr y_ahead ↦
+                let y_at = asked_ahead places y y_ahead in
+                let y_line = asked_ahead lines (line_of channels y) (lines_keep channels place y lp y_ahead) in
+                let order = lines_keep channels x y lx (omega arith) in
+                omega arith
+          ]
+    ] where
+      places : ArbiterState
+      places = record { width = 56; pointer = place }
+
+      lines : ArbiterState
+      lines = arbiter_at ports channels place
+
+-- the first of a set of input channels wins among their lines
+pub first_wins : (ports channels place set port vc : ℕ) (asks : ℕ → ℕ → Bool) → ports ≤ 7 → 0 < channels
+    → channels ≤ 8 → place / 8 < ports → place % 8 < channels → port < ports → vc < channels
+    → ((p v : ℕ) → p < ports → v < channels → has set p v ≡ asks p v) → IsFirstFrom set place port vc
+    → Some (port * channels + vc)
+    ≡ winner (arbiter_at ports channels place) (λ line. asks (line / channels) (line % channels))
+first_wins ports channels place set port vc asks few some few' lp lp' l l' same f =
+    sym (first_is_winner (arbiter_at ports channels place) _ (port * channels + vc) (omega (arith, start)) (record {
+      within = inside;
+      requests = at_line asks port channels vc l' ∙ sym (same port vc l l') ∙ f.first.requests;
+      first = λ line below asked.
+          let spot = line_port ports channels line some below in
+          let there : line / channels * channels + line % channels ≡ line =
+          let parts : channels * (line / channels) + line % channels ≡ line = omega arith in
+          let turned = mul_comm channels (line / channels) in omega arith in
+          let mine = line_of_place channels port vc (omega arith) in
+          let other = line_of_place channels (line / channels) (line % channels) (omega (arith, spot.1)) in
+          let order = f.first.first (8 * (line / channels) + line % channels) (omega (arith, spot.0, spot.1))
+          (same (line / channels) (line % channels) spot.0 spot.1 ∙ asked) in
+          let alike = asked_alike ports channels place (8 * port + vc) (8 * (line / channels) + line % channels) lp'
+          (omega arith) (omega (arith, spot.1)) (omega arith) (omega (arith, spot.0, spot.1))
+          (omega (arith, mine, inside))
+          start order in
+          rw (mine, other, there) at alike;
+    }))
+  where
+    inside : port * channels + vc < ports * channels
+    inside = line_within ports channels port vc l l'
+
+    start : line_of channels place < ports * channels
+    start = line_within ports channels (place / 8) (place % 8) lp lp'
+
+-- where the set is empty nobody wins
+pub none_wins : (ports channels place set : ℕ) (asks : ℕ → ℕ → Bool) → 0 < channels → place / 8 < ports
+    → place % 8 < channels → ((p v : ℕ) → p < ports → v < channels → has set p v ≡ asks p v) → set ≡ 0
+    → None ≡ winner (arbiter_at ports channels place) (λ line. asks (line / channels) (line % channels))
+none_wins ports channels place set asks some lp lp' same empty =
+    let start = line_within ports channels (place / 8) (place % 8) lp lp' in
+    sym (winner_none (arbiter_at ports channels place) _ (omega arith) (λ line below.
+    let spot = line_port ports channels line some below in
+    sym (same (line / channels) (line % channels) spot.0 spot.1)
+    ∙ ap (λ s. has s (line / channels) (line % channels)) empty ∙ has-zero (line / channels) (line % channels)))
+
+-- ---- as the code finds it
+
+first_at : (bits place k : ℕ) → place < 56 → k < 56
+    → winner (record { width = 56; pointer = place }) (line_requests bits) ≡ Some k
+    → IsFirstFrom bits place (k / 8) (k % 8)
+first_at bits place k start inside won = record {
+  port_in = omega arith;
+  channel_in = omega arith;
+  first =
+      let same : k ≡ 8 * (k / 8) + k % 8 = omega arith in
+      subst (IsFirstRequester (record { width = 56; pointer = place }) (line_requests bits)) same
+      (winner_is_first (record { width = 56; pointer = place }) (line_requests bits) k (omega arith) won);
+}
+
+-- the bits before a place shifted out
+abbrev pub from_place : ℕ → ℕ → ℕ
+from_place bits place = bits / 2 ^ place * 2 ^ place % 2 ^ 64
+
+from_place_is : (bits place : ℕ) → bits < 2 ^ 56 → from_place bits place ≡ bits / 2 ^ place * 2 ^ place
+from_place_is bits place fits = let less = div-mul-le_self bits (2 ^ place) in omega arith
+
+from_place_low : (bits place i : ℕ) → bits < 2 ^ 56 → i < place → bit_at (from_place bits place) i ≡ 0
+from_place_low bits place i fits below =
+    ap (λ n. bit_at n i) (from_place_is bits place fits) ∙ shifted_low (bits / 2 ^ place) place i below
+
+from_place_high : (bits place i : ℕ) → bits < 2 ^ 56 → place ≤ i → bit_at (from_place bits place) i ≡ bit_at bits i
+from_place_high bits place i fits above =
+    let whole : place + (i - place) ≡ i = omega arith in
+    ap (λ n. bit_at n i) (from_place_is bits place fits) ∙ shifted_high (bits / 2 ^ place) place i above
+    ∙ ap (λ n. n % 2) (shr-shr bits place (i - place)) ∙ ap (bit_at bits) whole
+
+pub first_ahead : (bits place : ℕ) → bits < 2 ^ 56 → place < 56 → 0 < from_place bits place
+    → IsFirstFrom bits place (trailing_zeros w64 (from_place bits place) / 8)
+    (trailing_zeros w64 (from_place bits place) % 8)
+first_ahead bits place fits start some =
+    first_at bits place k start inside
+    (winner_ahead (record { width = 56; pointer = place }) (line_requests bits) k above inside (bit_set bits k here)
+    (λ i from below. bit_unset bits i (sym (from_place_high bits place i fits from) ∙ lowest.2 i below))) where
+      k : ℕ
+      k = trailing_zeros w64 (from_place bits place)
+
+      lowest : (k < 64) × (bit_at (from_place bits place) k ≡ 1)
+          × ((i : ℕ) → i < k → bit_at (from_place bits place) i ≡ 0)
+      lowest = bit_at-trailing_zeros w64 (from_place bits place) some (omega arith)
+
+      above : place ≤ k
+      above = elim (cases_lt k place) [
+        | inl below ↦ let none = from_place_low bits place k fits below in absurd (omega (arith, lowest.1))
+        | inr ahead ↦ ahead
+      ]
+
+      here : bit_at bits k ≡ 1
+      here = sym (from_place_high bits place k fits above) ∙ lowest.1
+
+      inside : k < 56
+      inside = elim (cases_lt k 56) [
+        | inl low ↦ low
+        | inr high ↦ let none = bit_at_above bits 56 k fits high in absurd (omega (arith, here))
+      ]
+
+zero_of_shift : (n place : ℕ) → n * 2 ^ place ≡ 0 → n ≡ 0
+zero_of_shift n place e = elim (cases_eq n 0) [
+  | inl none ↦ none
+  | inr some ↦ let more = mul-le 1 1 n (2 ^ place) (omega arith) (pow_pos place) in absurd (omega arith)
+]
+
+pub first_behind : (bits place : ℕ) → bits < 2 ^ 56 → place < 56 → 0 < bits → from_place bits place ≡ 0
+    → IsFirstFrom bits place (trailing_zeros w64 bits / 8) (trailing_zeros w64 bits % 8)
+first_behind bits place fits start some none =
+    let gone : bits / 2 ^ place * 2 ^ place ≡ 0 = sym (from_place_is bits place fits) ∙ none in
+    let past : bits / 2 ^ place ≡ 0 = zero_of_shift (bits / 2 ^ place) place gone in
+    let won = winner_from_low (record { width = 56; pointer = place }) bits start (omega arith) fits past some
+    (omega arith) in
+    first_at bits place (trailing_zeros w64 bits) start won.1 won.0
