@@ -1,5 +1,5 @@
 -- The order of a script's entries, and those of a turn and of a node.
-use Rattle.std.specs.Prelude.{ℕ, ◌≡◌, ◌≢◌, ◌≤◌, ◌+◌, ◌-◌, ◌<◌, ◌==◌, Bool, false, true, List, [], ◌∷◌}
+use Rattle.std.specs.Prelude.{ℕ, ◌≡◌, ◌≢◌, ◌≤◌, ◌+◌, ◌-◌, ◌<◌, ◌==◌, List, [], ◌∷◌}
 use Rattle.std.specs.Prelude.{Option, None, Some, length, drop, filter, map, slice_index, slice_index_or}
 use Rattle.worm_flit.specs.declared.Lane.{Lane}
 use Rattle.worm_script.specs.declared.script.Act.{Act}
