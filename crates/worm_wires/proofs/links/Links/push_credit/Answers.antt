@@ -122,8 +122,8 @@ invariant_of-self-2 c =
     (behind_sound credits_kind (call before) (beyond before).out _ refl c.from.result c.index_mut-list.result.now
     (number (goal.at.invariant_of-self-2 c).After-from) c.index_mut-list.ensures.value some c.args.vc
     (inbox_by (sets before) fronts) (c.spill_credits.ensures.filed (sets before).credits some)
-    (ap (λ (g : Fronts Flit). tray_of (sets before).flits g) c.spill_credits.ensures.kept) c.push_credit.new.self (others c)
-    (room c) (pushed c))
+    (ap (λ (g : Fronts Flit). tray_of (sets before).flits g) c.spill_credits.ensures.kept) c.push_credit.new.self
+    (others c) (room c) (pushed c))
 
 pub returns : goal.returns
 returns c =
@@ -134,5 +134,5 @@ returns c =
     (behind_pushed credits_kind (call before) (beyond before).out _ refl c.from.result c.index_mut-list.result.now
     (number (goal.at.returns c).After-from) c.index_mut-list.ensures.value some c.args.vc
     (inbox_by (sets before) fronts) (c.spill_credits.ensures.filed (sets before).credits some)
-    (ap (λ (g : Fronts Flit). tray_of (sets before).flits g) c.spill_credits.ensures.kept) c.push_credit.new.self (others c)
-    (room c) (pushed c))
+    (ap (λ (g : Fronts Flit). tray_of (sets before).flits g) c.spill_credits.ensures.kept) c.push_credit.new.self
+    (others c) (room c) (pushed c))
