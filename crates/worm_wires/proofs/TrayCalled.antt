@@ -122,7 +122,8 @@ module _ {A B : Type 0} {kind : Kind A} {other : Kind B} {put : LinkView → Lis
 
       -- both are written
       module _ (box : Inbox) (here more : Bool) (front : Option A)
-          (filed : IsFiled (kind.tray read) (kind.tray box) p here more front) (kept : other.tray box ≡ other.tray read)
+          (filed : IsFiled (kind.tray read) (kind.tray box) p here more front)
+          (kept : other.tray box ≡ other.tray read)
           (link : LinkView) (same : other.list link ≡ other.list list) (room : link.room ≡ list.room)
           (way_now : IsWay here more (slice_get (kind.tray box).front p) (kind.list link) link.room) where
         write : IsWrite kind other mesh lists inboxes x p k box link here more front

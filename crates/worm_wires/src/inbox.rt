@@ -66,8 +66,8 @@ impl<T: Copy> Fronts<T> {
         }
     }
 
-    /// The one that comes in next by the port, if one does: where it lies, since what takes it asks first whether there
-    /// is room for it.
+    /// The one that comes in next by the port, if one does: where it lies, since what takes it asks first whether
+    /// there is room for it.
     #[inline(always)]
     pub(crate) fn front_at(&self, here: &SmallSet, port: u8) -> Option<&T>
         requires { port < 6 }

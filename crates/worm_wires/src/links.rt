@@ -19,8 +19,8 @@ use worm_flit::{Flit, SmallSet};
 use worm_mesh::Mesh;
 
 /// A mesh, and its links by number with what is on them. What comes in next stands in the inbox of the node that takes
-/// it; a link on which more than one flit is has them all in a list, and so it is with credits. The inboxes' sets of
-/// ports are here by value, two bytes a node, and what comes in by them is on the heap.
+/// it; a link on which more than one flit is has them all in a list, and so it is with credits. The sets of ports of
+/// the inboxes are here by value, two bytes a node, and what comes in by them is on the heap.
 #[derive(Drop)]
 pub struct Links {
     /// The mesh, with the numbers of each node's links.

@@ -46,8 +46,9 @@ returns-then-contains c =
     let link = (numbers before).in_beyond in
     let list = the_list flits_kind (call before) link c.from-then-contains.result c.index.result.now
     c.from-then-contains.ensures c.index.ensures in
-    ap (λ (fs : List Flit). slice_get fs c.args.i) (seen_listed flits_kind (call before) link _ (numbers before).out_now
-    (sym c.contains.ensures ∙ c.if-contains.true) ∙ ap (λ (l : LinkView). l.flits) (sym list))
+    let seen = seen_listed flits_kind (call before) link _ (numbers before).out_now
+    (sym c.contains.ensures ∙ c.if-contains.true) in
+    ap (λ (fs : List Flit). slice_get fs c.args.i) (seen ∙ ap (λ (l : LinkView). l.flits) (sym list))
     ∙ c.flit.ensures
 
 pub returns : goal.returns
