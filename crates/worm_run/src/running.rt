@@ -7,6 +7,7 @@ ghost use Rattle.worm_run.specs.Working.{AllWorked, WorkedAs, stop_of};
 ghost use Rattle.worm_run.specs.Runs.{FailsAs, HasRooms, HasWorkers, IsEndOf, RanAs, IsRunOf, RunsTo};
 
 use crate::gate::Gate;
+use crate::pace::Pace;
 use crate::plan::{RunEnd, RunFault, RunPlan, Stop, StopWhy};
 use crate::working::{Worked, WorksAs, work};
 use std::alloc::{AllocError, Global};
@@ -62,6 +63,7 @@ fn start<'s, E, R: Threads + Wait + Sync, G: Gate + Sync>(
     script: &'s Script,
     turns: u64,
     gate: &'s G,
+    pace: &'s Pace,
     parts: &mut Vec<Part>,
 ) -> Result<PromisedHandle<Worked, WorksAs<'s, G>>, usize>
     requires { 0 < vec_len parts.old }
@@ -85,7 +87,10 @@ fn start<'s, E, R: Threads + Wait + Sync, G: Gate + Sync>(
         worker,
         part: Snapshot::of(&part),
     };
-    match scope.spawn_with(promise, move || work(rt, part, worker, turns, script, gate)) {
+    match scope.spawn_with(
+        promise,
+        move || work(rt, part, worker, turns, script, gate, pace),
+    ) {
         Ok(child) => Ok(child),
         Err(_) => Err(worker),
     }
@@ -118,6 +123,7 @@ fn run_parts<'s, E, R: Threads + Wait + Sync, G: Gate + Sync>(
     script: &'s Script,
     turns: u64,
     gate: &'s G,
+    pace: &'s Pace,
     parts: &mut Vec<Part>,
     done: &mut Vec<Worked>,
 ) -> Result<(), usize>
@@ -134,8 +140,8 @@ fn run_parts<'s, E, R: Threads + Wait + Sync, G: Gate + Sync>(
     if parts.is_empty() {
         return Ok(());
     }
-    let child = start(scope, rt, script, turns, gate, parts)?;
-    run_parts(scope, rt, script, turns, gate, parts, done)?;
+    let child = start(scope, rt, script, turns, gate, pace, parts)?;
+    run_parts(scope, rt, script, turns, gate, pace, parts, done)?;
     collect(rt, child, done);
     Ok(())
 }
@@ -198,6 +204,7 @@ fn run_scoped<'s, E, R: Threads + Wait + Sync, G: Gate + Sync>(
     script: &'s Script,
     turns: u64,
     gate: &'s G,
+    pace: &'s Pace,
     mut parts: Vec<Part>,
     rooms: Rooms,
 ) -> Result<Ran, usize>
@@ -210,7 +217,7 @@ fn run_scoped<'s, E, R: Threads + Wait + Sync, G: Gate + Sync>(
         stops,
         ended,
     } = rooms;
-    run_parts(scope, rt, script, turns, gate, &mut parts, &mut done)?;
+    run_parts(scope, rt, script, turns, gate, pace, &mut parts, &mut done)?;
     Ok(gather(done, parts, stops, ended))
 }
 
@@ -220,6 +227,7 @@ fn run_all<R: Threads + Wait + Sync, G: Gate + Sync>(
     script: &Script,
     turns: u64,
     gate: &G,
+    pace: &Pace,
     parts: Vec<Part>,
     rooms: Rooms,
 ) -> Result<Ran, usize>
@@ -235,7 +243,7 @@ fn run_all<R: Threads + Wait + Sync, G: Gate + Sync>(
             ensures ran { IfOk result
                 (RanAs (G.may_stop gate.entry.now) (G.may_pass gate.entry.now) script.entry.now turns parts.items) }
             ensures refused { IfErr result (λ w. w < vec_len parts) }
-        { run_scoped(scope, rt, script, turns, gate, parts, rooms) },
+        { run_scoped(scope, rt, script, turns, gate, pace, parts, rooms) },
     )
 }
 
@@ -271,11 +279,14 @@ pub fn run<R: Threads + Wait + Sync, G: Gate + Sync>(
     let Ok(rooms) = Rooms::new(alloc, workers) else {
         return Err(RunFault::NoMemory(net));
     };
+    let Ok(pace) = Pace::new(alloc, workers) else {
+        return Err(RunFault::NoMemory(net));
+    };
     let parts = match split(alloc, net, workers) {
         Ok(parts) => parts,
         Err((net, _none)) => return Err(RunFault::NoMemory(net)),
     };
-    match run_all(rt, script, plan.turns, gate, parts, rooms) {
+    match run_all(rt, script, plan.turns, gate, &pace, parts, rooms) {
         Ok(ran) => {
             let Ran {
                 parts,
