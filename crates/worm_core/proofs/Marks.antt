@@ -1,7 +1,7 @@
 -- Marks of lanes are never lost; and of a lane without a mark no marked list has a flit.
 use Rattle.std.proofs.Common.{ℕ, zero, suc, ◌≡◌, ◌+◌, ◌*◌, ◌<◌, ◌≤◌, ◌^◌, Bool, true, false, ◌==◌, ◌⊎◌, inl, inr, List}
-use Rattle.std.proofs.Common.{[], ◌∷◌, ◌-◌, length, take, drop, sum, set, get_or, not, Some, arith, refl, ap, sym, subst}
-use Rattle.std.proofs.Common.{◌∙◌, mul_comm}
+use Rattle.std.proofs.Common.{[], ◌∷◌, ◌-◌, length, take, drop, sum, set, get_or, not, Some, arith, refl, ap, sym}
+use Rattle.std.proofs.Common.{subst, ◌∙◌, mul_comm}
 use Rattle.std.specs.Prelude.{slice_get, IsSome, Option}
 use Rattle.std.proofs.Math.Nat.{mul-le-mul_left, mul-le-mul_right}
 use Rattle.std.specs.List.{list_all, slice_range}

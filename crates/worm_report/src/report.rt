@@ -157,7 +157,7 @@ fn put_source<W: Write>(desk: &mut Desk<'_, W>, busy: &Busy<'_>, src: u8) -> Res
     ensures { PutsRows W.contents desk.old desk.new result (source_rows (seen busy.now.net.now) src) }
 {
     let nodes = busy.net.nodes();
-    // Of most sources a drained network has nothing, so that no lane of theirs is asked for.
+    // Of a source that has nothing under way no lane is asked for, and in a drained network that is each.
     if busy.lanes.lacks_all_from(src, nodes, busy.net.classes()) {
         return Ok(());
     }
