@@ -1,9 +1,13 @@
 -- Marks of lanes are never lost; and of a lane without a mark no marked list has a flit.
 use Rattle.std.proofs.Common.{ℕ, zero, suc, ◌≡◌, ◌+◌, ◌*◌, ◌<◌, ◌≤◌, ◌^◌, Bool, true, false, ◌==◌, ◌⊎◌, inl, inr, List}
-use Rattle.std.proofs.Common.{[], ◌∷◌, length, take, drop, sum, set, get_or, Some, arith, refl, ap, sym, subst, ◌∙◌}
+use Rattle.std.proofs.Common.{[], ◌∷◌, ◌-◌, length, take, drop, sum, set, get_or, not, Some, arith, refl, ap, sym}
+use Rattle.std.proofs.Common.{subst, ◌∙◌, mul_comm}
 use Rattle.std.specs.Prelude.{slice_get, IsSome, Option}
 use Rattle.std.proofs.Math.Nat.{mul-le-mul_left, mul-le-mul_right}
-use Rattle.std.proofs.lemmas.List.{get_or_past}
+use Rattle.std.specs.List.{list_all, slice_range}
+use Rattle.std.proofs.lemmas.Nat.{mul-add-lt}
+use Rattle.std.proofs.lemmas.List.{get_or-drop, get_or-take, get_or_past, length-drop, length-take-le}
+use Rattle.std.proofs.lemmas.List.Folds.{list_all_at}
 use Rattle.std.proofs.lemmas.List.Elements.{All-filter, All-head, All-tail, All-append}
 use Rattle.worm_flit.specs.declared.Lane.{Lane}
 use Rattle.worm_flit.specs.declared.Flit.{Flit}
@@ -23,7 +27,7 @@ use Rattle.worm_region.specs.declared.node.Node.{Node}
 use Rattle.worm_core.specs.declared.view.Place.{Place}
 use Rattle.worm_core.specs.declared.view.Place.TheVariants.{Source, Buffer, Link}
 use Rattle.worm_core.specs.LaneSet.{LaneMarks, lane_line, is_marked, with_mark, AllMarked, KeepsMarks, IsComplete}
-use Rattle.worm_core.specs.LaneSet.{IsMarkedOut, LinksMarked, NodesMarked}
+use Rattle.worm_core.specs.LaneSet.{IsMarkedOut, LacksAllFrom, LinksMarked, NodesMarked}
 use Rattle.worm_region.proofs.NodeWritten.{below_cases}
 use Rattle.worm_region.proofs.NewNet.{input_fresh}
 use Rattle.worm_core.proofs.ViewLists.{take_more, none_each}
@@ -268,3 +272,37 @@ links_more s old new x keeps before here = record {
         subst (λ (z : ℕ). IsMarkedOut s new z o) same (here o o_in) linked
   ];
 }
+
+-- ---- the lanes from one source stand together
+
+clear_at : (marks : List Bool) (i : ℕ) → i < length marks → list_all not marks ≡ true → get_or marks i true ≡ false
+clear_at marks i within clear = elim (bool_cases (get_or marks i true)) [
+  | inl set ↦
+      let some : list_all not marks ≡ false = list_all_at not marks i true within (ap not set) in
+      let unlike : true ≡ false = sym clear ∙ some in
+      absurd (cc)
+  | inr unset ↦ unset
+]
+
+pub lacks_all : (lanes : LaneMarks) (src nodes count first row : ℕ) → nodes ≡ lanes.nodes → count ≡ lanes.classes
+    → row ≡ nodes * count → first ≡ src * row → first + row ≤ length lanes.marks
+    → list_all not (slice_range lanes.marks first (first + row)) ≡ true → LacksAllFrom lanes src nodes count
+lacks_all lanes src nodes count first row same same' is_row is_first room clear dst class dst_in class_in =
+    let at : ℕ = dst * count + class in
+    let inside : at < row = let within = mul-add-lt dst count class nodes dst_in class_in in
+    omega (arith, within, is_row, mul_comm nodes count) in
+    let parts : (src * nodes + dst) * count + class ≡ src * (nodes * count) + (dst * count + class) =
+    grind (arith) in
+    let place : lane_line lanes (record { src = src; dst = dst; class = class }) ≡ first + at =
+    ap (λ n. (src * n + dst) * lanes.classes + class) (sym same)
+    ∙ ap (λ k. (src * nodes + dst) * k + class) (sym same') ∙ parts
+    ∙ ap (λ n. n + at) (ap (λ n. src * n) (sym is_row) ∙ sym is_first) in
+    let width : first + row - first ≡ row = omega arith in
+    let long : length (slice_range lanes.marks first (first + row)) ≡ row =
+    ap (λ n. length (take n (drop first lanes.marks))) width
+    ∙ length-take-le row (drop first lanes.marks) (omega (arith, room, length-drop first lanes.marks)) in
+    let read : get_or (slice_range lanes.marks first (first + row)) at true ≡ get_or lanes.marks (first + at) true =
+    ap (λ n. get_or (take n (drop first lanes.marks)) at true) width
+    ∙ get_or-take row (drop first lanes.marks) at true inside ∙ get_or-drop first lanes.marks at true in
+    ap (λ k. get_or lanes.marks k true) place ∙ sym read
+    ∙ clear_at (slice_range lanes.marks first (first + row)) at (omega (arith, inside, long)) clear

@@ -22,6 +22,11 @@ lane_line set lane = (lane.src * set.nodes + lane.dst) * set.classes + lane.clas
 abbrev pub is_marked : LaneMarks → Lane → Bool
 is_marked set lane = slice_index_or set.marks (lane_line set lane) true
 
+-- no lane from this source to one of so many nodes, in one of so many classes, is marked
+abbrev pub LacksAllFrom : LaneMarks → ℕ → ℕ → ℕ → Type 0
+LacksAllFrom set src nodes classes = (dst class : ℕ) → dst < nodes → class < classes
+    → is_marked set (record { src = src; dst = dst; class = class }) ≡ false
+
 abbrev pub with_mark : LaneMarks → Lane → LaneMarks
 with_mark set lane = record set { marks = slice_set set.marks (lane_line set lane) true }
 

@@ -1,12 +1,14 @@
 //! Which lanes may have something under way, found in one pass over all places that hold flits: so a report asks for
 //! the views of these lanes alone, and not of all that the network has.
 
-ghost use Rattle.std.specs.Prelude.{ℕ, true, false, ◌≡◌, ◌*◌, ◌<◌, ◌≤◌, IfOk, IsSome, drop, length, replicate};
+ghost use Rattle.std.specs.Prelude.{ℕ, true, false, not, ◌≡◌, ◌*◌, ◌<◌, ◌≤◌, IfOk, IsSome, IsTrue, drop, length};
+ghost use Rattle.std.specs.Prelude.{replicate};
+ghost use Rattle.std.specs.List.{list_all};
 ghost use Rattle.worm_mesh.specs.Address.{neighbour_of, node_count};
 ghost use Rattle.worm_router.specs.Router.{IsPlace, input_at, terminal, width};
 ghost use Rattle.worm_term.specs.Source.{classes, queue_at};
-ghost use Rattle.worm_core.specs.LaneSet.{AllMarked, IsComplete, IsMarkedOut, KeepsMarks, LinksMarked, NodesMarked};
-ghost use Rattle.worm_core.specs.LaneSet.{is_marked, lane_line, with_mark};
+ghost use Rattle.worm_core.specs.LaneSet.{AllMarked, IsComplete, IsMarkedOut, KeepsMarks, LacksAllFrom, LinksMarked};
+ghost use Rattle.worm_core.specs.LaneSet.{NodesMarked, is_marked, lane_line, with_mark};
 ghost use Rattle.worm_region.specs.Moves.{link_out};
 ghost use Rattle.worm_region.specs.State.{IsFramed, link_at};
 
@@ -47,6 +49,13 @@ impl Model for LaneSet {
     ghost invariant = { λ s. (s.nodes ≤ 256) × (s.classes ≤ 4) };
 }
 
+/// Whether none of these marks is set.
+fn are_clear(marks: &[bool]) -> bool
+    ensures { result ≡ list_all not marks.now }
+{
+    marks.iter().all(|mark| !*mark)
+}
+
 impl LaneSet {
     /// No lane of a network with so many nodes and classes.
     fn new(alloc: Global, nodes: u16, classes: u8) -> Result<LaneSet, AllocError>
@@ -80,6 +89,22 @@ impl LaneSet {
         ensures { result ≡ is_marked self.now lane }
     {
         self.marks.get(self.line(lane)).copied().unwrap_or(true)
+    }
+
+    /// Whether no lane from this source is in the set, where the network has so many nodes and classes. Where none is
+    /// this may not be found, if it is asked for another network.
+    pub fn lacks_all_from(&self, src: u8, nodes: u16, classes: u8) -> bool
+        ensures { IsTrue result → LacksAllFrom self.now src nodes classes }
+    {
+        if nodes != self.nodes || classes != self.classes {
+            return false;
+        }
+        let row = usize::from(nodes) * usize::from(classes);
+        let first = usize::from(src) * row;
+        if self.marks.len() < first + row {
+            return false;
+        }
+        are_clear(&self.marks[first..first + row])
     }
 
     /// Puts the lane into the set.

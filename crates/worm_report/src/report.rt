@@ -156,7 +156,12 @@ fn put_source<W: Write>(desk: &mut Desk<'_, W>, busy: &Busy<'_>, src: u8) -> Res
     requires { src < node_count busy.now.net.now.mesh }
     ensures { PutsRows W.contents desk.old desk.new result (source_rows (seen busy.now.net.now) src) }
 {
-    for dst in 0..busy.net.nodes() {
+    let nodes = busy.net.nodes();
+    // Of a source that has nothing under way no lane is asked for, and in a drained network that is each.
+    if busy.lanes.lacks_all_from(src, nodes, busy.net.classes()) {
+        return Ok(());
+    }
+    for dst in 0..nodes {
         put_pair(desk, busy, src, dst as u8)?;
     }
     Ok(())
