@@ -318,7 +318,7 @@ impl Region {
             (λ out. EndsWithin (shape self.old) (owned self.old) node out.0) }
         ensures { Replies self.old (Event.Send node port vc) result self.new }
     {
-        if !self.fabric.may_send(node, port, vc) {
+        if !self.fabric.node(node).router.may_send(port, vc) {
             return Ok(Moved::Idle);
         }
         self.send_next(node, port, vc)
