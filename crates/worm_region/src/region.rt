@@ -342,7 +342,7 @@ impl Region {
     pub(crate) fn take_flit(&mut self, node: u8, port: u8) -> Result<Moved, StepFault>
         ensures { Replies self.old (Event.Take node port) result self.new }
     {
-        if self.fabric.wires().links_at(node, port).is_none() {
+        if !self.fabric.has_link(node, port) {
             return Err(StepFault::NoSuchPlace);
         }
         Ok(moved(self.take_flit_there(node, port)))
@@ -360,7 +360,7 @@ impl Region {
         requires { self.old.own ≡ sole }
         ensures { Replies self.old (Event.GiveCredit node port vc) result self.new }
     {
-        if self.fabric.wires().links_at(node, port).is_none() || vc >= self.fabric.channels() {
+        if !self.fabric.has_link(node, port) || vc >= self.fabric.channels() {
             return Err(StepFault::NoSuchPlace);
         }
         if self.fabric.node(node).router.owed_count(port, vc) == 0 {
@@ -384,7 +384,7 @@ impl Region {
     pub(crate) fn take_credit(&mut self, node: u8, port: u8) -> Result<Moved, StepFault>
         ensures { Replies self.old (Event.TakeCredit node port) result self.new }
     {
-        if self.fabric.wires().links_at(node, port).is_none() {
+        if !self.fabric.has_link(node, port) {
             return Err(StepFault::NoSuchPlace);
         }
         Ok(moved(self.take_credit_there(node, port)))
