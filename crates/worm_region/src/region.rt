@@ -125,7 +125,7 @@ impl Region {
     pub fn links_at(&self, node: u8, port: u8) -> Option<PortLinks>
         ensures { result ≡ port_links self.now.mesh node port }
     {
-        self.fabric.wires().links_at(node, port)
+        self.fabric.wires().wiring().links_at(node, port)
     }
 
     /// The links of this port, by which the node has a neighbour.
@@ -133,7 +133,7 @@ impl Region {
         requires { IsSome (neighbour_of self.now.mesh node port) }
         ensures { Some result ≡ port_links self.now.mesh node port }
     {
-        self.fabric.wires().links_beyond(node, port)
+        self.fabric.wires().wiring().links_beyond(node, port)
     }
 
     /// The terminal port of each node.
