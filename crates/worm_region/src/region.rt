@@ -15,10 +15,10 @@ ghost use Rattle.worm_region.specs.Workable.{EndsWithin, IsWorkable, owned};
 ghost use Rattle.worm_region.specs.Turns.{AreThere, Chooses, ComesInBy, MayAllSend, NodePassesBy, ReachesAt};
 ghost use Rattle.worm_mesh.specs.Address.{node_count, neighbour_of};
 ghost use Rattle.worm_router.specs.Router.{input_at, leaving};
-ghost use Rattle.worm_router.specs.Busy.{IsSetOf, owes};
+ghost use Rattle.worm_router.specs.Busy.{IsSetOf, lacks_route, owes};
 ghost use Rattle.worm_router.specs.Rest.{IsAtRest};
 ghost use Rattle.worm_router.specs.Allocation.{after_allocate};
-ghost use Rattle.worm_region.specs.Moves.{AreLinked, AreUnrouted, CoversNumbers, IsReady, NoCredit, NoFeed, NoFlit};
+ghost use Rattle.worm_region.specs.Moves.{AreLinked, Covers, IsReady, NoCredit, NoFeed, NoFlit};
 
 mod edges;
 mod parts;
@@ -167,16 +167,16 @@ impl Region {
     /// The channels of the node with a flit that lack a route; no other has anything to route.
     pub(crate) fn unrouted(&self, node: u8) -> ChannelSet
         requires { node < node_count self.now.mesh }
-        ensures routes { AreUnrouted (router_at self.now node) result }
+        ensures routes { IsSetOf lacks_route (router_at self.now node) result }
         ensures there { AreThere self.now node result }
         ensures sound { IsWorkable self.now }
     {
-        self.fabric.node(node).unrouted()
+        self.fabric.node(node).router.unrouted()
     }
 
     /// The mesh ports of the node by which a credit comes back.
     pub(crate) fn credits_in(&self, node: u8) -> SmallSet
-        ensures ports { CoversNumbers (NoCredit self.now node) (2 * length self.now.mesh) result }
+        ensures ports { Covers (NoCredit self.now node) (2 * length self.now.mesh) result }
         ensures linked { AreLinked self.now node result }
         ensures sound { IsWorkable self.now }
     {
@@ -185,7 +185,7 @@ impl Region {
 
     /// The mesh ports of the node by which a flit comes in.
     pub(crate) fn flits_in(&self, node: u8) -> SmallSet
-        ensures ports { CoversNumbers (NoFlit self.now node) (2 * length self.now.mesh) result }
+        ensures ports { Covers (NoFlit self.now node) (2 * length self.now.mesh) result }
         ensures linked { AreLinked self.now node result }
         ensures sound { IsWorkable self.now }
     {
@@ -196,7 +196,7 @@ impl Region {
     /// known to be full.
     pub(crate) fn unfed(&self, node: u8) -> SmallSet
         requires { node < node_count self.now.mesh }
-        ensures classes { CoversNumbers (NoFeed self.now node) (length self.now.channels) result }
+        ensures classes { Covers (NoFeed self.now node) (length self.now.channels) result }
         ensures sound { IsWorkable self.now }
     {
         self.fabric.node(node).unfed()

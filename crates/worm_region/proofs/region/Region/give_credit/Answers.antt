@@ -11,7 +11,9 @@ use Rattle.worm_region.proofs.LinkedPorts.{port_there}
 use Rattle.worm_region.proofs.AllOwned.{all_within}
 use Rattle.worm_region.proofs.region.Region.give_credit.Goals as goal
 use Rattle.worm_region.proofs.region.Region.give_credit.Goals.{After-owed_count, then-not-has_link-via-then-not-has_link}
-use Rattle.worm_region.proofs.region.Region.give_credit.Goals.{then-not-has_link-via-else-not-has_link+then-vc-channels}
+use Rattle.worm_region.proofs.region.Region.give_credit.Goals.{
+  then-not-has_link-via-else-not-has_link+then-vc-channels,
+}
 
 pub returns-then-not-has_link : goal.returns-then-not-has_link
 unfolding net_shape
