@@ -1,13 +1,11 @@
-//! What a router has to route, and whether a turn may pass it over.
+//! Whether a turn may pass a router over.
 
 ghost use Rattle.std.specs.Prelude.{◌≡◌, IsTrue, None, replicate};
 ghost use Rattle.worm_router.specs.Allocation.{requests, free_channels, after_allocate, switch_grants, after_choose};
-ghost use Rattle.worm_router.specs.Busy.{IsSetOf, lacks_route};
 ghost use Rattle.worm_router.specs.Demand.{GrantsNothing};
 ghost use Rattle.worm_router.specs.Rest.{RoutesNothing, SendsNothing, OwesNothing, IsAtRest};
 
 use crate::router::Router;
-use worm_vcalloc::ChannelSet;
 
 impl Router {
     /// Whether a turn would leave the router as it is, as long as no flit and no credit comes. One-sided: what is at
@@ -19,16 +17,6 @@ impl Router {
             && self.allocates_nothing()
             && self.sends_nothing()
             && self.owes_nothing()
-    }
-
-    /// The input channels with a flit that lack a route; no other has anything to route.
-    pub fn unrouted(&self) -> ChannelSet
-        ensures { IsSetOf lacks_route self.now result }
-    {
-        let occupied = &self.busy.occupied;
-        occupied
-            .difference(&self.waiting())
-            .difference(&self.active())
     }
 
     /// Whether each channel with a flit has its route.

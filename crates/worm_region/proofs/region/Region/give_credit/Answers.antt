@@ -10,7 +10,8 @@ use Rattle.worm_region.specs.declared.node.Node.{Node}
 use Rattle.worm_region.proofs.LinkedPorts.{port_there}
 use Rattle.worm_region.proofs.AllOwned.{all_within}
 use Rattle.worm_region.proofs.region.Region.give_credit.Goals as goal
-use Rattle.worm_region.proofs.region.Region.give_credit.Goals.{After-owed_count, then-not-has_link-via-then-not-has_link}
+use Rattle.worm_region.proofs.region.Region.give_credit.Goals.{After-owed_count}
+use Rattle.worm_region.proofs.region.Region.give_credit.Goals.{then-not-has_link-via-then-not-has_link}
 use Rattle.worm_region.proofs.region.Region.give_credit.Goals.{
   then-not-has_link-via-else-not-has_link+then-vc-channels,
 }
