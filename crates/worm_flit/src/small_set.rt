@@ -35,6 +35,13 @@ impl SmallSet {
         SmallSet { bits: 0 }
     }
 
+    /// The numbers whose bits are 1.
+    pub fn from_bits(bits: u8) -> Self
+        ensures { result ≡ bits }
+    {
+        SmallSet { bits }
+    }
+
     /// Whether no number is in the set.
     pub fn is_empty(&self) -> bool
         ensures value { result ≡ (self.now == 0) }
@@ -91,6 +98,7 @@ impl SmallSet {
             self.remove(number);
         }
     }
+
     /// The numbers that are in this set and not in the other.
     pub fn difference(&self, other: &SmallSet) -> SmallSet
         ensures { (n : ℕ) → n < 8 → has result n ≡ (has self.now n && not (has other.now n)) }

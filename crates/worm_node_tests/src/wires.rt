@@ -134,35 +134,35 @@ impl<R: Abort + AllocGlobal + Copy> Pair<R> {
 
     /// These are the numbers of the links out of the port and into it.
     fn are_numbered(&self, node: u8, port: u8, out: u16, into: u16) {
-        assert!(self.rt; self.links.links_at(node, port).is_some());
-        let links = self.links.links_beyond(node, port);
+        assert!(self.rt; self.links.wiring().links_at(node, port).is_some());
+        let links = self.links.wiring().links_beyond(node, port);
         assert_eq!(self.rt; links.out, out);
         assert_eq!(self.rt; links.into, into);
     }
 
     /// The flit that comes in next by the port has this word; none where none comes in.
     fn comes_next(&self, node: u8, port: u8, word: Option<u32>) {
-        assert!(self.rt; self.links.links_at(node, port).is_some());
+        assert!(self.rt; self.links.wiring().links_at(node, port).is_some());
         let flit = self.links.front_in(node, port).copied();
         assert_eq!(self.rt; flit, word.map(|word| single(0, word)), "at {node}");
     }
 
     /// The credit that comes back next by the port is of this channel; none where none comes back.
     fn comes_back(&self, node: u8, port: u8, vc: Option<u8>) {
-        assert!(self.rt; self.links.links_at(node, port).is_some());
+        assert!(self.rt; self.links.wiring().links_at(node, port).is_some());
         assert_eq!(self.rt; self.links.front_credit(node, port), vc, "at {node}");
     }
 
     /// Whether there are flits on the link out of the port, and credits on the link into it.
     fn is_used(&self, node: u8, port: u8, flits: bool, credits: bool) {
-        assert!(self.rt; self.links.links_at(node, port).is_some());
+        assert!(self.rt; self.links.wiring().links_at(node, port).is_some());
         assert_eq!(self.rt; self.links.has_flits(node, port), flits, "out of {node}");
         assert_eq!(self.rt; self.links.has_credits(node, port), credits, "into {node}");
     }
 
     /// On the link out of the port are so many flits, the last of this word.
     fn ends_with(&self, node: u8, port: u8, count: usize, word: u32) {
-        assert!(self.rt; self.links.links_at(node, port).is_some());
+        assert!(self.rt; self.links.wiring().links_at(node, port).is_some());
         assert_eq!(self.rt; self.links.count(node, port), count);
         assert!(self.rt; 0 < self.links.count(node, port));
         let last = self.links.count(node, port) - 1;
@@ -173,8 +173,8 @@ impl<R: Abort + AllocGlobal + Copy> Pair<R> {
     /// by itself tells its room.
     fn send(self, node: u8, port: u8, flit: Flit) -> Pair<R> {
         let Pair { rt, links } = self;
-        assert!(rt; links.links_at(node, port).is_some());
-        let number = usize::from(links.links_beyond(node, port).out);
+        assert!(rt; links.wiring().links_at(node, port).is_some());
+        let number = usize::from(links.wiring().links_beyond(node, port).out);
         let mesh = *links.wiring().mesh();
         let (states, inboxes) = links.into_states();
         assert!(rt; states.len() == usize::from(mesh.links()));
@@ -186,8 +186,8 @@ impl<R: Abort + AllocGlobal + Copy> Pair<R> {
 
     /// The front flit of the link into the port is dropped; the link has this number.
     fn take(&mut self, node: u8, port: u8, number: u16) {
-        assert!(self.rt; self.links.links_at(node, port).is_some());
-        let links = self.links.links_beyond(node, port);
+        assert!(self.rt; self.links.wiring().links_at(node, port).is_some());
+        let links = self.links.wiring().links_beyond(node, port);
         assert_eq!(self.rt; links.into, number);
         self.links.pop(node, port);
     }

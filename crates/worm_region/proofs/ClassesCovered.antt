@@ -19,7 +19,7 @@ use Rattle.worm_term.specs.Queue.{QueueState, empty_queue, one_fed, waiting}
 use Rattle.worm_term.specs.Source.{AreUnfed, SourceState, after_fed, front_of, queue_at}
 use Rattle.worm_region.specs.Shape.{net_shape}
 use Rattle.worm_region.specs.State.{NetState, fresh_node, node_at, router_at, source_at, with_node}
-use Rattle.worm_region.specs.Moves.{AreToFeed, CoversNumbers, NoFeed, can_enter, fed_node}
+use Rattle.worm_region.specs.Moves.{AreToFeed, Covers, NoFeed, can_enter, fed_node}
 use Rattle.worm_region.specs.Workable.{IsWorkable}
 use Rattle.worm_region.specs.Replies.{Replies}
 use Rattle.worm_region.specs.Resting.{nth_node}
@@ -147,7 +147,7 @@ to_feed n unfed set same are within full = record {
 }
 
 pub unfed_cover : (s : NetState) (x set : ℕ) → IsWorkable s → x < node_count s.mesh
-    → AreToFeed (node_at s x) set → CoversNumbers (NoFeed s x) (length s.channels) set
+    → AreToFeed (node_at s x) set → Covers (NoFeed s x) (length s.channels) set
 unfed_cover s x set net x_in feeds =
     let all = net.framed.all_nodes in
     let node = net.framed.each_node x (omega arith) in

@@ -21,7 +21,7 @@ use Rattle.worm_wires.proofs.ArrivalsFound.{nothing_in}
 use Rattle.worm_wires.proofs.ArrivalsFound.{nothing_out}
 use Rattle.worm_region.specs.Shape.{net_shape}
 use Rattle.worm_region.specs.State.{IsSameConfig, NetState, link_at, with_link}
-use Rattle.worm_region.specs.Moves.{AreLinked, CoversNumbers, NoCredit, NoFlit, after_getting, after_take, front_credit}
+use Rattle.worm_region.specs.Moves.{AreLinked, Covers, NoCredit, NoFlit, after_getting, after_take, front_credit}
 use Rattle.worm_region.specs.Moves.{front_into}
 use Rattle.worm_region.specs.Moves.{link_into, link_out}
 use Rattle.worm_region.specs.Workable.{IsWorkable}
@@ -54,7 +54,7 @@ Covered kind a b set =
     (kind.count a)
 
 module _ {x : ℕ} (kind : Kind x) (a : NetState) where
-  pub covered_start : (set : ℕ) → IsWorkable a → CoversNumbers (kind.NoneAt a) (kind.count a) set
+  pub covered_start : (set : ℕ) → IsWorkable a → Covers (kind.NoneAt a) (kind.count a) set
       → Covered kind a a set
   covered_start set sound covers =
       let few = kind.few a sound in
@@ -180,7 +180,7 @@ flits x = record {
 -- the sets that the links keep
 
 pub credits_cover : (s : NetState) (x set : ℕ) → IsWorkable s → AreFronts (credits_to (links_of s) x) set
-    → CoversNumbers (NoCredit s x) (2 * length s.mesh) set
+    → Covers (NoCredit s x) (2 * length s.mesh) set
 credits_cover s x set net fronts =
     let few = net.framed.radices.few_dims in
     let last = 2 * length s.mesh in
@@ -194,7 +194,7 @@ credits_cover s x set net fronts =
     }
 
 pub flits_cover : (s : NetState) (x set : ℕ) → IsWorkable s → AreFronts (flits_to (links_of s) x) set
-    → CoversNumbers (NoFlit s x) (2 * length s.mesh) set
+    → Covers (NoFlit s x) (2 * length s.mesh) set
 flits_cover s x set net fronts =
     let few = net.framed.radices.few_dims in
     let last = 2 * length s.mesh in

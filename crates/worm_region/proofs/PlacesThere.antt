@@ -1,17 +1,17 @@
 -- A port or a place of the theory is one of the network's routers, and a channel with a flit is a place of the theory.
 use Rattle.std.proofs.Common.{◌≡◌, ℕ, ◌*◌, ◌<◌, ◌≤◌, true, inl, inr, [], ◌∷◌, length, nat_lt, refl}
-use Rattle.std.proofs.Common.{subst, sym, ◌∙◌, arith}
+use Rattle.std.proofs.Common.{subst, sym, ◌∙◌, ◌&&◌, arith, Bool, false}
 use Rattle.std.specs.Prelude.{All, IsSome, List, Option, Some, None}
 use Rattle.std.proofs.lemmas.List.Elements.{All-head}
 use Rattle.worm_flit.specs.declared.Flit.{Flit}
 use Rattle.worm_mesh.specs.Address.{neighbour_of, node_count}
 use Rattle.worm_mesh.proofs.Digits.{AreLarge, AreLarge-from_radices}
 use Rattle.worm_mesh.proofs.Neighbours.{Joins-from}
-use Rattle.worm_router.specs.Router.{input_at}
+use Rattle.worm_router.specs.Router.{input_at, is_idle}
+use Rattle.worm_router.specs.Busy.{IsSetOf, is_occupied, lacks_route}
 use Rattle.worm_theory.specs.Steps.{IsPort, IsThere, Send}
 use Rattle.worm_region.specs.Shape.{net_shape}
 use Rattle.worm_region.specs.State.{NetState, IsFramed, IsNetPlace, router_at, shape}
-use Rattle.worm_region.specs.Moves.{AreUnrouted, HaveFlits}
 use Rattle.worm_region.specs.Turns.{AreThere}
 use Rattle.worm_region.specs.Workable.{IsKept, IsWorkable}
 use Rattle.worm_region.proofs.AsListed.{buffer_there}
@@ -72,12 +72,18 @@ occupied_there : (s : NetState) (x p v : ℕ) → IsWorkable s → x < node_coun
 occupied_there s x p v net x_in place [] b some = absurd (cc)
 occupied_there s x p v net x_in place (f ∷ rest) b some = flit_there s x p v f rest net x_in place b
 
--- and so are the channels of a set that have flits
+has_flit : (idle full : Bool) → (idle && full) ≡ true → full ≡ true
+has_flit true full e = e
+has_flit false full e = absurd (cc)
+
+-- and so are the channels that lack a route
 pub unrouted_there : (s : NetState) (x set : ℕ) → IsWorkable s → x < node_count s.mesh
-    → AreUnrouted (router_at s x) set → HaveFlits (router_at s x) set → AreThere s x set
-unrouted_there s x set net x_in unrouted flits = λ p v p_in v_in on.
+    → IsSetOf lacks_route (router_at s x) set → AreThere s x set
+unrouted_there s x set net x_in unrouted = λ p v p_in v_in on.
     let all = net.framed.all_nodes in
-    let place = unrouted.places (p, v) (p_in, v_in) on in
+    let c = input_at (router_at s x) p v in
+    let place = unrouted.outside p v p_in v_in on in
+    let lacks = sym (unrouted.inside p v place.0 place.1) ∙ on in
     occupied_there s x p v net x_in
     (record { node_in = omega arith; place = record { port_in = place.0; channel_in = place.1 } })
-    (input_at (router_at s x) p v).buffer refl (flits p v p_in v_in on)
+    c.buffer refl (has_flit (is_idle c.state) (is_occupied c) lacks)

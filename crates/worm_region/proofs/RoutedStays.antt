@@ -1,17 +1,11 @@
 -- Where each channel of a node with a flit has its route, trying to route changes nothing.
-use Rattle.std.proofs.Common.{◌≡◌, ℕ, zero, suc, ◌+◌, ◌*◌, ◌<◌, ◌≤◌, ◌&&◌, true, false, ◌⊎◌, inl, inr, List, [], ◌∷◌}
-use Rattle.std.proofs.Common.{length, not, nat_lt, map, sum, Option, Some, None, Ok, Err, refl, arith, sym, subst}
+use Rattle.std.proofs.Common.{◌≡◌, ℕ, zero, suc, ◌+◌, ◌*◌, ◌<◌, ◌≤◌, false, ◌⊎◌, inl, inr}
+use Rattle.std.proofs.Common.{length, map, sum, Option, Some, None, Ok, Err, refl, arith, sym, subst}
 use Rattle.std.specs.Prelude.{IsSome}
 use Rattle.std.specs.List.{range_with_len}
 use Rattle.worm_mesh.specs.Address.{node_count, neighbour_of}
-use Rattle.worm_router.specs.Router.{terminal, width, can_route, is_idle, opens_front}
-use Rattle.worm_flit.specs.declared.Flit.{Flit}
-use Rattle.worm_records.specs.declared.InRecord.{InRecord}
-use Rattle.worm_records.specs.declared.InRecord.TheVariants.{Idle as IdleRecord, Waiting, Active}
-use Rattle.worm_router.specs.Router.{ChannelState}
+use Rattle.worm_router.specs.Router.{terminal, width, can_route}
 use Rattle.worm_router.specs.Rest.{RoutesNothing}
-use Rattle.worm_router.specs.Busy.{is_occupied, is_waiting, is_active, waits, holds}
-use Rattle.std.proofs.lemmas.Bool.Decides.{nat_tests}
 use Rattle.worm_theory.specs.Steps.{Route, IsPort}
 use Rattle.worm_theory.proofs.Places.{number_cases}
 use Rattle.worm_region.specs.Shape.{net_shape}
@@ -46,20 +40,6 @@ pub numbers_still : (P : ℕ → Passage) (s : NetState) (n from : ℕ) → ((i 
 numbers_still P s zero from still = (refl, refl)
 numbers_still P s (suc n) from still =
     inr (s, still from (omega arith), numbers_still P s n (from + 1) (λ i below. still i (omega arith)))
-
--- a channel with a flit that neither waits nor is active is idle; any other has nothing to route
-unrouted : (state : InRecord) (buffer : List Flit) →
-    ((nat_lt 0 (length buffer) && not (waits state)) && not (holds state)) ≡ false →
-    (is_idle state && opens_front buffer) ≡ false
-unrouted IdleRecord [] none = refl
-unrouted IdleRecord (f ∷ fs) none =
-    let some : nat_lt 0 (length (f ∷ fs)) ≡ true = grind (arith, nat_tests) in absurd (cc)
-unrouted (Waiting o) buffer none = refl
-unrouted (Active o c) buffer none = refl
-
-pub routes_none : (c : ChannelState) → ((is_occupied c && not (is_waiting c)) && not (is_active c)) ≡ false →
-    (is_idle c.state && opens_front c.buffer) ≡ false
-routes_none c none = unrouted c.state c.buffer none
 
 -- a route that is tried where there is nothing to route
 

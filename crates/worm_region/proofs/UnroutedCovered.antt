@@ -11,12 +11,14 @@ use Rattle.worm_mesh.specs.Address.{node_count}
 use Rattle.worm_records.specs.declared.InRecord.TheVariants.{Waiting}
 use Rattle.worm_router.specs.Router.{ChannelState, input_at, in_state, is_idle, opens_front, front_port}
 use Rattle.worm_router.specs.Router.{width, can_route}
+use Rattle.worm_router.specs.Busy.{IsSetOf, lacks_route}
+use Rattle.worm_router.proofs.Resting.{routes_none}
 use Rattle.worm_theory.specs.Steps.{IsThere, Route}
 use Rattle.worm_region.specs.Shape.{net_shape}
 use Rattle.worm_region.specs.State.{NetState, router_at, shape}
 use Rattle.worm_region.specs.Workable.{IsWorkable}
 use Rattle.worm_region.specs.Replies.{Attempts, Replies}
-use Rattle.worm_region.specs.Moves.{AreUnrouted, RoutesTheSame}
+use Rattle.worm_region.specs.Moves.{RoutesTheSame}
 use Rattle.worm_region.specs.Turns.{Each, Does, Reaches, all_channels, all_ports, RoutesChannelsBy}
 use Rattle.worm_region.specs.Turns.{AreThere, RoutesPortBy}
 use Rattle.worm_region.specs.declared.step.Moved.{Moved}
@@ -130,7 +132,7 @@ module _ (x : ℕ) (a : NetState) where
       let at : 8 * p + v ≡ n = omega arith in
       channel_done b c p v (passed.to p v at (omega arith)) (step p v at) (stays p v at (omega arith))
 
-  pub routed_start : (set : ℕ) → x < node_count a.mesh → IsWorkable a → AreUnrouted (router_at a x) set
+  pub routed_start : (set : ℕ) → x < node_count a.mesh → IsWorkable a → IsSetOf lacks_route (router_at a x) set
       → AreThere a x set → Covered x a a set
   routed_start set there sound unrouted all_there =
       let size = router_size a x sound there in
@@ -147,10 +149,10 @@ module _ (x : ℕ) (a : NetState) where
             (record { mid = a; ports = does_nothing a; channels = does_nothing a }));
       })
       (λ n past p v is p_few v_few. false_from_ne_true (has set p v)
-      (λ on. let place = unrouted.places (p, v) (p_few, v_few) on in omega (arith, size.0, place.0)))
+      (λ on. let place = unrouted.outside p v p_few v_few on in omega (arith, size.0, place.0)))
       (λ n n_in. record {
-        rest = λ p v is v_in none. unrouted.rest (p, v) (omega arith, omega arith)
-            (omega (arith, size.0), omega (arith, size.1)) none;
+        rest = λ p v is v_in none. routes_none (input_at (router_at a x) p v)
+            (sym (unrouted.inside p v (omega (arith, size.0)) (omega (arith, size.1))) ∙ none);
         there = λ p v is v_few some. all_there p v (omega arith) v_few some;
       })
 

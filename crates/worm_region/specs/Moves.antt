@@ -1,5 +1,5 @@
 -- What the moves of a network make of its lists, in the words of routers, terminals and links.
-use Rattle.std.specs.Prelude.{ℕ, ◌*◌, ◌<◌, ◌≤◌, ◌≡◌, ◌==◌, Bool, true, false, nat_lt, if◌then◌else◌, List, [], ◌∷◌}
+use Rattle.std.specs.Prelude.{ℕ, ◌*◌, ◌<◌, ◌≡◌, ◌==◌, Bool, true, false, nat_lt, if◌then◌else◌, List, [], ◌∷◌}
 use Rattle.std.specs.Prelude.{◌++◌, length, drop, slice_get, slice_index_or, Option, Some, None, IsSome, Result}
 use Rattle.std.specs.Prelude.{Ok, Err}
 use Rattle.worm_flit.specs.declared.Flit.{Flit}
@@ -9,9 +9,7 @@ use Rattle.worm_mesh.specs.Links.{links_before}
 use Rattle.worm_router.specs.Router.{RouterState, IsPlace, terminal, width, input_at, output_at, leaving, after_accept}
 use Rattle.worm_router.specs.Router.{after_route, after_grant, after_send, after_gave, after_credit, can_route}
 use Rattle.worm_router.specs.Allocation.{after_choose}
-use Rattle.worm_router.specs.Busy.{is_occupied}
 use Rattle.worm_swalloc.specs.declared.grant.SwGrant.{SwGrant}
-use Rattle.worm_vcalloc.specs.ChannelSet.{has}
 use Rattle.worm_term.specs.Sink.{after_take as after_sink}
 use Rattle.worm_term.specs.Queue.{waiting}
 use Rattle.worm_term.specs.Source.{front_of, after_offer, after_close, after_fed, queue_at}
@@ -29,24 +27,10 @@ use Rattle.worm_region.specs.declared.fault.StepFault.TheVariants.{NoSuchPlace, 
 unfoldable pub chosen_router : RouterState → RouterState
 chosen_router r = after_choose r
 
--- a set of places, of those that it can hold, and at each place that is left out there is none
-pub record Covers {K : Type 0} (CanHold IsPlace NoneAt : K → Type 0) (member : K → Bool) : Type 0 where
-  pub rest : (k : K) → CanHold k → IsPlace k → member k ≡ false → NoneAt k
-  pub places : (k : K) → CanHold k → member k ≡ true → IsPlace k
-
--- of mesh ports or of classes, of which there are so many
-abbrev pub CoversNumbers : (ℕ → Type 0) → ℕ → ℕ → Type 0
-CoversNumbers NoneAt count set = Covers (λ n. n < 8) (λ n. n < count) NoneAt (λ n. has_small set n)
-
--- of the router's channels, where no opening flit waits for its route at those that are left out
-abbrev pub AreUnrouted : RouterState → ℕ → Type 0
-AreUnrouted r set =
-    Covers (λ (c : ℕ × ℕ). (c.0 < 7) × (c.1 < 8)) (λ c. (c.0 ≤ terminal r) × (c.1 < width r))
-    (λ c. can_route r c.0 c.1 ≡ false) (λ c. has set c.0 c.1)
-
--- a set of channels, each of which has a flit
-abbrev pub HaveFlits : RouterState → ℕ → Type 0
-HaveFlits r set = (p v : ℕ) → p < 7 → v < 8 → has set p v ≡ true → is_occupied (input_at r p v) ≡ true
+-- a set of mesh ports or of classes, of which there are so many, and at each that is left out there is none
+pub record Covers (NoneAt : ℕ → Type 0) (count set : ℕ) : Type 0 where
+  pub rest : (n : ℕ) → n < 8 → n < count → has_small set n ≡ false → NoneAt n
+  pub places : (n : ℕ) → n < 8 → has_small set n ≡ true → n < count
 
 -- a flit may leave this channel now
 pub record IsReady (r : RouterState) (p v : ℕ) : Type 0 where

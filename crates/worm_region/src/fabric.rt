@@ -1,5 +1,5 @@
 ghost use Rattle.std.specs.Prelude.{true, false, IfOk, ◌==◌, ◌≡◌, ◌*◌, ◌<◌, ◌≤◌, ◌↔◌};
-ghost use Rattle.std.specs.Prelude.{IsTrue, IsSome, ◌⊎◌, None, Some, IfSome, is_some};
+ghost use Rattle.std.specs.Prelude.{IsTrue, IsSome, ◌⊎◌, None, Some, IfSome};
 ghost use Rattle.std.specs.Prelude.{if◌then◌else◌, length, sum};
 ghost use Rattle.worm_flit.specs.Channels.{AreChannels};
 ghost use Rattle.worm_region.specs.NewNet.{IsFresh};
@@ -145,15 +145,6 @@ impl Fabric {
             Some(flit) => flit.lane.dst == node,
             None => false,
         }
-    }
-
-    /// Whether a flit may leave this channel now.
-    #[inline(always)]
-    pub(crate) fn may_send(&self, node: u8, port: u8, vc: u8) -> bool
-        requires { IsNetPlace self.now node port vc }
-        ensures { result ≡ is_some (leaving (router_at self.now node) port vc) }
-    {
-        self.node(node).router.may_send(port, vc)
     }
 
     /// Lets out the flit of a channel that may send, into the sink or onto the link of its port (Dally and Towles,

@@ -2,13 +2,12 @@ ghost use Rattle.std.specs.Prelude.{true, false, ◌≡◌, ◌<◌, Some, None}
 ghost use Rattle.std.specs.Prelude.{if◌then◌else◌};
 ghost use Rattle.worm_router.specs.Router.{IsPlace, terminal, leaving};
 ghost use Rattle.worm_term.specs.Source.{classes, front_of};
-ghost use Rattle.worm_region.specs.Moves.{AreToFeed, AreUnrouted, FrontFits, HaveFlits, can_enter, delivered_node};
+ghost use Rattle.worm_region.specs.Moves.{AreToFeed, FrontFits, can_enter, delivered_node};
 ghost use Rattle.worm_region.specs.Moves.{fed_node};
 
 use worm_flit::{Flit, SmallSet};
 use worm_router::Router;
 use worm_term::{Sink, Source};
-use worm_vcalloc::ChannelSet;
 
 /// One node: its router, and the two ends of its lanes.
 #[derive(Drop)]
@@ -83,17 +82,5 @@ impl Node {
         }
         self.router.let_out(port, vc, out, flit);
         true
-    }
-
-    /// The channels with a flit that lack a route; no other has anything to route.
-    pub(crate) fn unrouted(&self) -> ChannelSet
-        ensures routes { AreUnrouted self.now.router result }
-        ensures flits { HaveFlits self.now.router result }
-    {
-        let router = &self.router;
-        router
-            .occupied()
-            .difference(&router.waiting())
-            .difference(&router.active())
     }
 }

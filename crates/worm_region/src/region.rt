@@ -15,10 +15,10 @@ ghost use Rattle.worm_region.specs.Workable.{EndsWithin, IsWorkable, owned};
 ghost use Rattle.worm_region.specs.Turns.{AreThere, Chooses, ComesInBy, MayAllSend, NodePassesBy, ReachesAt};
 ghost use Rattle.worm_mesh.specs.Address.{node_count, neighbour_of};
 ghost use Rattle.worm_router.specs.Router.{input_at, leaving};
-ghost use Rattle.worm_router.specs.Busy.{IsSetOf, owes};
+ghost use Rattle.worm_router.specs.Busy.{IsSetOf, lacks_route, owes};
 ghost use Rattle.worm_router.specs.Rest.{IsAtRest};
 ghost use Rattle.worm_router.specs.Allocation.{after_allocate};
-ghost use Rattle.worm_region.specs.Moves.{AreLinked, AreUnrouted, CoversNumbers, IsReady, NoCredit, NoFeed, NoFlit};
+ghost use Rattle.worm_region.specs.Moves.{AreLinked, Covers, IsReady, NoCredit, NoFeed, NoFlit};
 
 mod edges;
 mod parts;
@@ -125,7 +125,7 @@ impl Region {
     pub fn links_at(&self, node: u8, port: u8) -> Option<PortLinks>
         ensures { result ≡ port_links self.now.mesh node port }
     {
-        self.fabric.wires().links_at(node, port)
+        self.fabric.wires().wiring().links_at(node, port)
     }
 
     /// The links of this port, by which the node has a neighbour.
@@ -133,7 +133,7 @@ impl Region {
         requires { IsSome (neighbour_of self.now.mesh node port) }
         ensures { Some result ≡ port_links self.now.mesh node port }
     {
-        self.fabric.wires().links_beyond(node, port)
+        self.fabric.wires().wiring().links_beyond(node, port)
     }
 
     /// The terminal port of each node.
@@ -167,16 +167,16 @@ impl Region {
     /// The channels of the node with a flit that lack a route; no other has anything to route.
     pub(crate) fn unrouted(&self, node: u8) -> ChannelSet
         requires { node < node_count self.now.mesh }
-        ensures routes { AreUnrouted (router_at self.now node) result }
+        ensures routes { IsSetOf lacks_route (router_at self.now node) result }
         ensures there { AreThere self.now node result }
         ensures sound { IsWorkable self.now }
     {
-        self.fabric.node(node).unrouted()
+        self.fabric.node(node).router.unrouted()
     }
 
     /// The mesh ports of the node by which a credit comes back.
     pub(crate) fn credits_in(&self, node: u8) -> SmallSet
-        ensures ports { CoversNumbers (NoCredit self.now node) (2 * length self.now.mesh) result }
+        ensures ports { Covers (NoCredit self.now node) (2 * length self.now.mesh) result }
         ensures linked { AreLinked self.now node result }
         ensures sound { IsWorkable self.now }
     {
@@ -185,7 +185,7 @@ impl Region {
 
     /// The mesh ports of the node by which a flit comes in.
     pub(crate) fn flits_in(&self, node: u8) -> SmallSet
-        ensures ports { CoversNumbers (NoFlit self.now node) (2 * length self.now.mesh) result }
+        ensures ports { Covers (NoFlit self.now node) (2 * length self.now.mesh) result }
         ensures linked { AreLinked self.now node result }
         ensures sound { IsWorkable self.now }
     {
@@ -196,7 +196,7 @@ impl Region {
     /// known to be full.
     pub(crate) fn unfed(&self, node: u8) -> SmallSet
         requires { node < node_count self.now.mesh }
-        ensures classes { CoversNumbers (NoFeed self.now node) (length self.now.channels) result }
+        ensures classes { Covers (NoFeed self.now node) (length self.now.channels) result }
         ensures sound { IsWorkable self.now }
     {
         self.fabric.node(node).unfed()
@@ -318,7 +318,7 @@ impl Region {
             (λ out. EndsWithin (shape self.old) (owned self.old) node out.0) }
         ensures { Replies self.old (Event.Send node port vc) result self.new }
     {
-        if !self.fabric.may_send(node, port, vc) {
+        if !self.fabric.node(node).router.may_send(port, vc) {
             return Ok(Moved::Idle);
         }
         self.send_next(node, port, vc)
@@ -342,7 +342,7 @@ impl Region {
     pub(crate) fn take_flit(&mut self, node: u8, port: u8) -> Result<Moved, StepFault>
         ensures { Replies self.old (Event.Take node port) result self.new }
     {
-        if self.fabric.wires().links_at(node, port).is_none() {
+        if !self.fabric.has_link(node, port) {
             return Err(StepFault::NoSuchPlace);
         }
         Ok(moved(self.take_flit_there(node, port)))
@@ -360,7 +360,7 @@ impl Region {
         requires { self.old.own ≡ sole }
         ensures { Replies self.old (Event.GiveCredit node port vc) result self.new }
     {
-        if self.fabric.wires().links_at(node, port).is_none() || vc >= self.fabric.channels() {
+        if !self.fabric.has_link(node, port) || vc >= self.fabric.channels() {
             return Err(StepFault::NoSuchPlace);
         }
         if self.fabric.node(node).router.owed_count(port, vc) == 0 {
@@ -384,7 +384,7 @@ impl Region {
     pub(crate) fn take_credit(&mut self, node: u8, port: u8) -> Result<Moved, StepFault>
         ensures { Replies self.old (Event.TakeCredit node port) result self.new }
     {
-        if self.fabric.wires().links_at(node, port).is_none() {
+        if !self.fabric.has_link(node, port) {
             return Err(StepFault::NoSuchPlace);
         }
         Ok(moved(self.take_credit_there(node, port)))

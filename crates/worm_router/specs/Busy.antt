@@ -15,7 +15,7 @@ use Rattle.worm_router.specs.Allocation.{within}
 use Rattle.worm_router.specs.Demand.{DemandView, IsDemandOf}
 use Rattle.worm_router.specs.declared.busy.BusyChannels.{BusyChannels}
 use Rattle.worm_router.specs.Router.{ChannelState, RouterState, IsRouter, terminal, width, fresh_channel}
-use Rattle.worm_router.specs.Router.{input_at, output_at}
+use Rattle.worm_router.specs.Router.{input_at, is_idle, output_at}
 
 -- an input channel has a flit
 abbrev pub is_occupied : ChannelState → Bool
@@ -38,6 +38,10 @@ holds (Active o c) = true
 -- it holds an output channel
 abbrev pub is_active : ChannelState → Bool
 is_active c = holds c.state
+
+-- it has a flit and lacks a route
+abbrev pub lacks_route : ChannelState → Bool
+lacks_route c = is_idle c.state && is_occupied c
 
 -- it owes a credit
 abbrev pub owes : ChannelState → Bool

@@ -9,7 +9,8 @@ ghost use Rattle.worm_router.specs.Router.{IsPlace, IsRouter, line, fresh_channe
 ghost use Rattle.worm_router.specs.Router.{output_at, terminal, width, after_accept, can_route, after_route, can_grant};
 ghost use Rattle.worm_router.specs.Router.{after_grant, after_granting, leaving, MayLeave, credit_of};
 ghost use Rattle.worm_router.specs.Router.{after_send, after_gave, after_credit};
-ghost use Rattle.worm_router.specs.Busy.{IsSetOf, AreMasks, AreRoutes, is_occupied, is_waiting, is_active, owes};
+ghost use Rattle.worm_router.specs.Busy.{IsSetOf, AreMasks, AreRoutes, is_active, is_occupied, is_waiting};
+ghost use Rattle.worm_router.specs.Busy.{lacks_route, owes};
 
 mod allocation;
 mod fresh;
@@ -167,6 +168,14 @@ impl Router {
         ensures { IsSetOf is_active self.now result }
     {
         self.busy.outs.keys()
+    }
+
+    /// The input channels with a flit that lack a route; no other has anything to route.
+    pub fn unrouted(&self) -> ChannelSet
+        ensures { IsSetOf lacks_route self.now result }
+    {
+        let flits = &self.busy.occupied;
+        flits.difference(&self.waiting()).difference(&self.active())
     }
 
     /// The input channels that owe a credit.

@@ -47,7 +47,7 @@ impl Asked {
             if port < ports && vc < channels && request.out < ports {
                 self.by_port[request.out as usize].put(port, vc, true);
                 self.ports.put(request.out, true);
-                file_allowed(&mut self.by_channel, port, vc, request.allowed);
+                file_allowed(&mut self.by_channel, port, vc, SmallSet::from_bits(request.allowed));
             }
         }
     }
@@ -72,17 +72,14 @@ impl Asked {
     }
 }
 
-/// Files an input channel for each channel that will do, where `allowed` has a bit for each.
-fn file_allowed(by_channel: &mut [ChannelSet; 8], port: u8, vc: u8, allowed: u8)
+/// Files an input channel for each channel that will do.
+fn file_allowed(by_channel: &mut [ChannelSet; 8], port: u8, vc: u8, allowed: SmallSet)
     requires port { port < 7 }
     requires vc { vc < 8 }
     ensures { AreAllowed by_channel.old by_channel.new port vc allowed }
 {
     let mut left = allowed;
-    while left != 0 {
-        let channel = left.trailing_zeros();
+    while let Some(channel) = left.pop_first() {
         by_channel[channel as usize].put(port, vc, true);
-        // The number before has all the bits but the lowest.
-        left &= left - 1;
     }
 }

@@ -1,7 +1,7 @@
 -- The numbers of a node's links, against the mesh.
 use Rattle.std.proofs.Common.{◌≡◌, ℕ, ◌*◌, ◌+◌, ◌<◌, ◌≤◌, ◌≢◌, List, length, Option, Some, None, refl, arith, ap, sym}
 use Rattle.std.proofs.Common.{subst, ◌∙◌, get_or, set, below_more, get_or-set_other, get_or-set_same}
-use Rattle.std.specs.Prelude.{IfSome, IsSome, option_map}
+use Rattle.std.specs.Prelude.{IfSome, IsSome, false, option_map, true}
 use Rattle.std.specs.Option.{SomeIff}
 use Rattle.worm_mesh.specs.Address.{AreRadices, neighbour_of, node_count, opposite_of}
 use Rattle.worm_mesh.specs.Links.{IsLink, degree_of, links_before, link_count}
@@ -82,6 +82,11 @@ none_by mesh x p radices (Some y) e kept =
 pub none_kept : (mesh : List ℕ) (x p : ℕ) → AreRadices mesh → kept_number (out_link mesh x p) ≡ 65535
     → neighbour_of mesh x p ≡ None
 none_kept mesh x p radices kept = none_by mesh x p radices (neighbour_of mesh x p) refl kept
+
+pub none_found : (beyond : Option ℕ) → beyond ≡ None
+    → (false ≡ true → IsSome beyond) × (IsSome beyond → false ≡ true)
+none_found None e = (λ found. absurd (cc), λ some. absurd (cc))
+none_found (Some y) e = absurd (cc)
 
 -- the links of a port put together of their parts
 pub joined : (mesh : List ℕ) (x p y k j : ℕ) → AreRadices mesh → Some y ≡ neighbour_of mesh x p

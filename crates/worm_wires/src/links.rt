@@ -9,11 +9,10 @@ ghost use Rattle.worm_wires.specs.Arrivals.{AreFronts, LinksView, credits_of, cr
 ghost use Rattle.worm_wires.specs.Arrivals.{flits_to, has_front, number_into, number_out, state_at, with_state};
 ghost use Rattle.worm_wires.specs.Inbox.{AreFiled, AreSeenAlike, AreSpilled, IsInbox, IsPortSpilled, inbox_at};
 ghost use Rattle.worm_wires.specs.Inbox.{inbox_by, inboxes_by, of_credits, of_flits};
-ghost use Rattle.worm_wires.specs.Wiring.{port_links};
 
 use crate::LinkState;
 use crate::inbox::{Arrivals, Inboxes, NodeFronts};
-use crate::wiring::{PortLinks, Wiring};
+use crate::wiring::Wiring;
 use std::marker::Model;
 use worm_flit::{Flit, SmallSet};
 use worm_mesh::Mesh;
@@ -295,30 +294,6 @@ impl Links {
             return self.lists[usize::from(links.out)].flit(i);
         }
         there.flits.front[usize::from(links.entered)]
-    }
-
-    /// The links of this port, if the node has a neighbour there.
-    pub fn links_at(&self, node: u8, port: u8) -> Option<PortLinks>
-        ensures there { IsSome result ↔ IsSome (neighbour_of self.now.mesh node port) }
-        ensures value { result ≡ port_links self.now.mesh node port }
-        ensures mesh { AreRadices self.now.mesh }
-    {
-        self.wiring.links_at(node, port)
-    }
-
-    /// The links of this port of the node, which has a neighbour there.
-    pub fn links_beyond(&self, node: u8, port: u8) -> PortLinks
-        requires { IsSome (neighbour_of self.now.mesh node port) }
-        ensures value { Some result ≡ port_links self.now.mesh node port }
-        ensures mesh { AreRadices self.now.mesh }
-
-        // The numbers again, by themselves.
-        ensures out { result.out ≡ number_out self.now node port }
-        ensures into { result.into ≡ number_into self.now node port }
-        ensures out_bound { result.out < link_count self.now.mesh }
-        ensures into_bound { result.into < link_count self.now.mesh }
-    {
-        self.wiring.links_beyond(node, port)
     }
 
     /// Drops the front flit of the link into this port.

@@ -1,6 +1,6 @@
 //! A mesh with the numbers of its links kept by node and port, so that no step searches for a link.
 
-ghost use Rattle.std.specs.Prelude.{◌≡◌, ◌<◌, ◌≤◌, ◌*◌, ℕ, IfSome, IsSome, Some, length};
+ghost use Rattle.std.specs.Prelude.{◌≡◌, ◌<◌, ◌≤◌, ◌*◌, ◌↔◌, ℕ, IfSome, IsSome, Some, length};
 ghost use Rattle.worm_mesh.specs.Address.{AreRadices, neighbour_of, node_count, opposite_of, stride_of};
 ghost use Rattle.worm_mesh.specs.Links.{link_count, links_before};
 ghost use Rattle.worm_wires.specs.Wiring.{AreLinksOf, AreSteps, in_link, into_from, kept_number, out_link};
@@ -207,6 +207,7 @@ impl Wiring {
 
     /// The links of this port of the node, if there is a neighbour.
     pub fn links_at(&self, node: u8, port: u8) -> Option<PortLinks>
+        ensures there { IsSome result ↔ IsSome (neighbour_of self.now node port) }
         ensures value { result ≡ port_links self.now node port }
         ensures mesh { AreRadices self.now }
 

@@ -23,11 +23,7 @@ impl Router {
     fn routes_nothing(&self) -> bool
         ensures { IsTrue result → RoutesNothing self.now }
     {
-        let unrouted = self
-            .occupied()
-            .difference(&self.waiting())
-            .difference(&self.active());
-        unrouted.is_empty()
+        self.unrouted().is_empty()
     }
 
     /// Whether a pass for output channels would do nothing: no channel waits, or it is known that none of those that

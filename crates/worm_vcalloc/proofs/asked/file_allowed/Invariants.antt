@@ -1,8 +1,8 @@
 use Rattle.worm_vcalloc.proofs.ChannelsAllowed.{AreAllowedBut}
 use Rattle.worm_vcalloc.proofs.asked.file_allowed.Given as goal
 
-abbrev pub invariant-loop-left : goal.invariant-loop-left
-invariant-loop-left l = AreAllowedBut l.initial.by_channel l.by_channel l.port l.vc l.allowed l.left
+abbrev pub invariant-loop-channel : goal.invariant-loop-channel
+invariant-loop-channel l = AreAllowedBut l.initial.by_channel l.by_channel l.port l.vc l.fn.allowed l.left
 
-abbrev pub decreases-loop-left : goal.decreases-loop-left
-decreases-loop-left l = l.left
+abbrev pub decreases-loop-channel : goal.decreases-loop-channel
+decreases-loop-channel l = l.left

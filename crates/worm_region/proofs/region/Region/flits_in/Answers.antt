@@ -1,7 +1,7 @@
 use Rattle.std.proofs.Common.{◌*◌, length, subst}
 use Rattle.worm_wires.specs.Arrivals.{AreFronts, LinksView, flits_to}
 use Rattle.worm_region.specs.State.{NetState}
-use Rattle.worm_region.specs.Moves.{AreLinked, CoversNumbers, NoFlit}
+use Rattle.worm_region.specs.Moves.{AreLinked, Covers, NoFlit}
 use Rattle.worm_region.proofs.EachCovered.{flits_cover, flits_linked}
 use Rattle.worm_region.proofs.region.Region.flits_in.Goals as goal
 
@@ -9,7 +9,7 @@ pub returns-clause-ports : goal.returns-clause-ports
 returns-clause-ports c =
     let set = c.flits_in.result in
     let x = c.args.node in
-    subst (λ (s : NetState). CoversNumbers (NoFlit s x) (2 * length s.mesh) set) c.self.view_is
+    subst (λ (s : NetState). Covers (NoFlit s x) (2 * length s.mesh) set) c.self.view_is
     (flits_cover c.self.inside.fabric x set c.self.invariant
     (subst (λ (l : LinksView). AreFronts (flits_to l x) set) c.wires.ensures c.flits_in.ensures))
 

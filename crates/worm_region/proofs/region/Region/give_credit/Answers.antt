@@ -1,4 +1,4 @@
-use Rattle.std.proofs.Common.{◌≡◌, ◌<◌, Ok, ap, arith, not, refl, subst, sym, ◌∙◌, false}
+use Rattle.std.proofs.Common.{◌≡◌, ◌<◌, Ok, ap, arith, refl, subst, sym, ◌∙◌, false}
 use Rattle.worm_theory.specs.Steps.{GiveCredit, IsThere}
 use Rattle.worm_router.specs.Router.{input_at}
 use Rattle.worm_region.specs.Shape.{net_shape}
@@ -7,23 +7,23 @@ use Rattle.worm_region.specs.Replies.{Replies}
 use Rattle.worm_region.specs.Answers.{moved_of}
 use Rattle.worm_region.proofs.GiveAgrees.{gave_none}
 use Rattle.worm_region.specs.declared.node.Node.{Node}
-use Rattle.worm_region.proofs.LinkedPorts.{line_back, line_there}
+use Rattle.worm_region.proofs.LinkedPorts.{port_there}
 use Rattle.worm_region.proofs.AllOwned.{all_within}
 use Rattle.worm_region.proofs.region.Region.give_credit.Goals as goal
-use Rattle.worm_region.proofs.region.Region.give_credit.Goals.{After-owed_count, then-is_none-via-then-is_none}
-use Rattle.worm_region.proofs.region.Region.give_credit.Goals.{then-is_none-via-else-is_none+then-vc-channels}
+use Rattle.worm_region.proofs.region.Region.give_credit.Goals.{After-owed_count}
+use Rattle.worm_region.proofs.region.Region.give_credit.Goals.{then-not-has_link-via-then-not-has_link}
+use Rattle.worm_region.proofs.region.Region.give_credit.Goals.{
+  then-not-has_link-via-else-not-has_link+then-vc-channels,
+}
 
-pub returns-then-is_none : goal.returns-then-is_none
+pub returns-then-not-has_link : goal.returns-then-not-has_link
 unfolding net_shape
-returns-then-is_none c = (
+returns-then-not-has_link c = (
   subst (λ (s : NetState). IsThere (shape s) (GiveCredit c.args.node c.args.port c.args.vc) → ⊥) c.self.view_is
-      (λ there. elim c.then-is_none.branch [
-        | then-is_none-via-then-is_none w ↦
-            let found = c.links_at.ensures.there.1 (line_back c.self.inside.fabric c.wires.result.now c.args.node
-            c.args.port c.wires.ensures there.1) in
-            let missing = c.is_none.ensures ∙ ap not w.if-is_none.true in
-            absurd (cc)
-        | then-is_none-via-else-is_none+then-vc-channels w ↦
+      (λ there. elim c.then-not-has_link.branch [
+        | then-not-has_link-via-then-not-has_link w ↦
+            let found = c.has_link.ensures.1 there.1 in let missing = w.if-not-has_link.true in absurd (cc)
+        | then-not-has_link-via-else-not-has_link+then-vc-channels w ↦
             let past = w.if-vc-channels.true in absurd (omega (arith, there.2, w.channels.ensures))
       ]),
   refl,
@@ -34,8 +34,8 @@ there : (c : goal.After-owed_count) → IsThere (shape c.self.inside.fabric)
     (GiveCredit c.args.node c.args.port c.args.vc)
 unfolding net_shape
 there c =
-    let some = c.links_at.ensures.there.0 (c.is_none.ensures ∙ ap not c.if-is_none.false) in
-    let line = line_there c.self.inside.fabric c.wires.result.now c.args.node c.args.port c.wires.ensures some in
+    let line = port_there c.self.inside.fabric.mesh c.args.node c.args.port
+    (c.has_link.ensures.0 c.if-not-has_link.false) in
     let few = c.if-vc-channels.false in
     (line.0, line.1, omega (arith, c.channels.ensures))
 

@@ -1,21 +1,23 @@
-use Rattle.std.proofs.Common.{refl}
+use Rattle.std.proofs.Common.{refl, subst}
+use Rattle.std.specs.Prelude.{IsSome}
+use Rattle.worm_mesh.specs.Address.{neighbour_of}
+use Rattle.worm_theory.specs.Steps.{TakeCredit, IsThere}
 use Rattle.worm_region.specs.Shape.{net_shape}
-use Rattle.worm_region.proofs.LinkedPorts.{port_bare, port_linked}
+use Rattle.worm_region.specs.State.{NetState, shape}
 use Rattle.worm_region.proofs.region.Region.take_credit.Goals as goal
 
-pub returns-then-is_none : goal.returns-then-is_none
+pub returns-then-not-has_link : goal.returns-then-not-has_link
 unfolding net_shape
-returns-then-is_none c = (
-  λ there.
-      port_bare c.args.node c.args.port c.links_at.result c.self.view_is c.wires.ensures c.links_at.ensures.there
-      c.is_none.ensures c.if-is_none.true there.1,
+returns-then-not-has_link c = (
+  subst (λ (s : NetState). IsThere (shape s) (TakeCredit c.args.node c.args.port) → ⊥) c.self.view_is
+      (λ there. let found = c.has_link.ensures.1 there.1 in let missing = c.if-not-has_link.true in absurd (cc)),
   refl,
 )
 
 pub take_credit_there-requires : goal.take_credit_there-requires
 take_credit_there-requires c =
-    port_linked c.args.node c.args.port c.links_at.result c.self.view_is c.wires.ensures c.links_at.ensures.there
-    c.is_none.ensures c.if-is_none.false
+    subst (λ (s : NetState). IsSome (neighbour_of s.mesh c.args.node c.args.port)) c.self.view_is
+    (c.has_link.ensures.0 c.if-not-has_link.false)
 
 pub returns : goal.returns
 returns c = rw c.moved.ensures c.take_credit_there.ensures
