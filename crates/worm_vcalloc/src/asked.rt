@@ -47,7 +47,12 @@ impl Asked {
             if port < ports && vc < channels && request.out < ports {
                 self.by_port[request.out as usize].put(port, vc, true);
                 self.ports.put(request.out, true);
-                file_allowed(&mut self.by_channel, port, vc, SmallSet::from_bits(request.allowed));
+                file_allowed(
+                    &mut self.by_channel,
+                    port,
+                    vc,
+                    SmallSet::from_bits(request.allowed),
+                );
             }
         }
     }
