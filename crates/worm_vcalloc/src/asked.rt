@@ -47,12 +47,8 @@ impl Asked {
             if port < ports && vc < channels && request.out < ports {
                 self.by_port[request.out as usize].put(port, vc, true);
                 self.ports.put(request.out, true);
-                file_allowed(
-                    &mut self.by_channel,
-                    port,
-                    vc,
-                    SmallSet::from_bits(request.allowed),
-                );
+                let allowed = SmallSet::from_bits(request.allowed);
+                file_allowed(&mut self.by_channel, port, vc, allowed);
             }
         }
     }

@@ -23,7 +23,7 @@ loop-port-preserved-then-request-ports c =
     c.in-Some.vc _ c.put.new.self c.put-then-request-ports.new.self c.file_allowed.new.by_channel
     c.request-request.result c.loop-port.self c.loop-port.invariant c.in-Some.ensures (sym c.request-request.ensures)
     c.requires.few_ports c.if-port-ports.true c.if-vc-channels.true c.if-request-ports.true long c.put.ensures
-    c.put-then-request-ports.ensures (rw (← c.from_bits.ensures) c.file_allowed.ensures)
+    c.put-then-request-ports.ensures (rw (← c.from_bits-allowed.ensures) c.file_allowed.ensures)
 
 pub loop-port-preserved : goal.loop-port-preserved
 loop-port-preserved c =
