@@ -1,0 +1,4 @@
+pub mod Joined
+pub mod Batched
+pub mod OnBundles
+pub mod OnReturns

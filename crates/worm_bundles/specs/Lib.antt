@@ -1,0 +1,4 @@
+pub mod Batches
+pub mod Roles
+pub mod Bundles
+pub mod Fronts
