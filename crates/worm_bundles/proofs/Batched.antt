@@ -1,5 +1,5 @@
 -- What each step of the ends of a queue of batches keeps.
-use Rattle.std.proofs.Common.{◌≡◌, ℕ, zero, suc, ◌<◌, ◌≤◌, ◌+◌, ◌-◌, Bool, true, false, List, [], ◌∷◌, ◌++◌, length}
+use Rattle.std.proofs.Common.{◌≡◌, ℕ, ◌<◌, ◌+◌, true, false, List, [], ◌∷◌, ◌++◌, length}
 use Rattle.std.proofs.Common.{Option, refl, sym, ap, ◌∙◌, subst, arith, append_assoc, length-append, map, set, ⊎_elim}
 use Rattle.std.specs.Prelude.{All}
 use Rattle.std.proofs.lemmas.List.{append-nil}
@@ -187,14 +187,14 @@ module _ {X : Type 0} where
               let later = joined h.rest.0 in (
                 ahead ++ (later ++ last.ahead),
                 ap (λ l. joined v.sent ++ (l ++ last.ahead)) e ∙
-                ap (λ (l : List (List X)). joined l ++ last.ahead) h.rest.1 ∙
-                ap (λ l. l ++ last.ahead) (joined-append v.taken h.rest.0) ∙
-                ap (λ l. (l ++ later) ++ last.ahead) h.at_hand ∙
-                ap (λ l. l ++ last.ahead) (append_assoc all ahead later) ∙
-                append_assoc all (ahead ++ later) last.ahead ∙
-                ap (λ l. all ++ l) (append_assoc ahead later last.ahead) ∙
-                ap (λ l. l ++ (ahead ++ (later ++ last.ahead))) (sym (append-nil all)) ∙
-                ap (λ l. (all ++ l) ++ (ahead ++ (later ++ last.ahead))) (sym e),
+                    ap (λ (l : List (List X)). joined l ++ last.ahead) h.rest.1 ∙
+                    ap (λ l. l ++ last.ahead) (joined-append v.taken h.rest.0) ∙
+                    ap (λ l. (l ++ later) ++ last.ahead) h.at_hand ∙
+                    ap (λ l. l ++ last.ahead) (append_assoc all ahead later) ∙
+                    append_assoc all (ahead ++ later) last.ahead ∙
+                    ap (λ l. all ++ l) (append_assoc ahead later last.ahead) ∙
+                    ap (λ l. l ++ (ahead ++ (later ++ last.ahead))) (sym (append-nil all)) ∙
+                    ap (λ l. (all ++ l) ++ (ahead ++ (later ++ last.ahead))) (sym e),
               )
           by_gone (g ∷ gs) e =
               let more : 0 < length last.gone = subst (λ l. 0 < length l) (sym e) (omega arith) in
@@ -202,7 +202,7 @@ module _ {X : Type 0} where
                 last.ahead,
                 ap (λ l. l ++ (last.gone ++ last.ahead))
                     (sym begun.1 ∙ h.at_hand ∙ ap (λ l. all ++ l) begun.0 ∙ append-nil all) ∙
-                sym (append_assoc all last.gone last.ahead),
+                    sym (append_assoc all last.gone last.ahead),
               )
 
       -- and so a history
@@ -240,8 +240,8 @@ module _ {X : Type 0} where
               begun = λ begun. absurd (omega (arith, begun, ap length none));
             },
             ap (λ l. before (joined v.taken) rest ++ l) none ∙ append-nil (before (joined v.taken) rest) ∙ one.1 ∙
-            ap (λ l. l ++ x ∷ []) (sym (append-nil (before (joined v.taken) ahead))) ∙
-            ap (λ l. (before (joined v.taken) ahead ++ l) ++ x ∷ []) (sym none),
+                ap (λ l. l ++ x ∷ []) (sym (append-nil (before (joined v.taken) ahead))) ∙
+                ap (λ l. (before (joined v.taken) ahead ++ l) ++ x ∷ []) (sym none),
           )
 
       -- a batch came to hand, where nothing was

@@ -1,6 +1,6 @@
 -- Batches joined end to end, and the front of a list before its end.
-use Rattle.std.proofs.Common.{◌≡◌, ℕ, zero, suc, ◌<◌, ◌≤◌, ◌+◌, ◌-◌, List, [], ◌∷◌, ◌++◌, length, refl, sym, ap, ◌∙◌}
-use Rattle.std.proofs.Common.{subst, arith, append_assoc, length-append}
+use Rattle.std.proofs.Common.{◌≡◌, ◌<◌, ◌≤◌, List, [], ◌∷◌, ◌++◌, length, sym, ap, ◌∙◌}
+use Rattle.std.proofs.Common.{arith, append_assoc, length-append}
 use Rattle.std.specs.Prelude.{All}
 use Rattle.std.proofs.lemmas.List.{append-nil, take_at, take_all}
 use Rattle.std.proofs.lemmas.List.Concat.{flat_map-append}

@@ -1,7 +1,6 @@
 -- Histories of credits on one bundle.
-use Rattle.std.proofs.Common.{ℕ, ◌<◌, List, [], ◌∷◌, ◌++◌, length, subst}
-use Rattle.std.proofs.lemmas.List.Elements.{All-nil, All-push, All-take, All-head, All-drop}
-use Rattle.std.proofs.Math.Seq.{take-append_seam}
+use Rattle.std.proofs.Common.{◌<◌, List, [], ◌∷◌, ◌++◌}
+use Rattle.std.proofs.lemmas.List.Elements.{All-nil, All-push, All-head, All-drop}
 use Rattle.worm_bundles.specs.declared.Returned.{Returned}
 use Rattle.worm_bundles.specs.declared.history.Opened.{Opened}
 use Rattle.worm_bundles.specs.Bundles.{IsReturnHistory}

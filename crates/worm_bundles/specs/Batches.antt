@@ -1,5 +1,5 @@
 -- The items of a queue's batches, and how its ends are seen.
-use Rattle.std.specs.Prelude.{ℕ, ◌<◌, ◌-◌, List, ◌++◌, length, take, All}
+use Rattle.std.specs.Prelude.{ℕ, ◌<◌, ◌-◌, List, length, take, All}
 use Rattle.std.specs.List.{flat_map}
 use Rattle.arrayvec.specs.ArrayVec.{ArrayVec}
 use Rattle.worm_bundles.specs.declared.history.Opened.{Opened}
@@ -25,7 +25,8 @@ module _ {X : Type 0} where
   before all ahead = take (length all - length ahead) all
 
   -- no batch is empty, and their items are a history
-  pub record AreBatches (IsHistory : Opened → List X → Type 0) (bundle : Opened) (batches : List (List X)) : Type 0 where
+  pub record AreBatches (IsHistory : Opened → List X → Type 0) (bundle : Opened) (batches : List (List X))
+      : Type 0 where
     pub filled : All IsFilled batches
     pub history : IsHistory bundle (joined batches)
 

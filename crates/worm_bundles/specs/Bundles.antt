@@ -2,7 +2,7 @@
 -- chapter 13).
 use Rattle.std.specs.Prelude.{ℕ, ◌*◌, ◌<◌, ◌==◌, List, [], All, map, filter, slice_index_or, replicate}
 use Rattle.worm_links.specs.History.{QueueName}
-use Rattle.worm_links.specs.Links.{opened, AreWorms, IsLinkHistory}
+use Rattle.worm_links.specs.Links.{opened, IsLinkHistory}
 use Rattle.worm_links.specs.declared.LinkCfg.{LinkCfg}
 use Rattle.worm_flit.specs.declared.Flit.{Flit}
 use Rattle.worm_bundles.specs.declared.BundleCfg.{BundleCfg}

@@ -1,5 +1,5 @@
 -- What the ends of a queue of batches hold.
-use Rattle.std.specs.Prelude.{◌≡◌, ℕ, ◌<◌, Option, List, [], ◌++◌, length}
+use Rattle.std.specs.Prelude.{◌≡◌, ◌<◌, Option, List, [], ◌++◌, length}
 use Rattle.arrayvec.specs.ArrayVec.{ArrayVec}
 use Rattle.crossbeam_queue.specs.declared.array_queue.Doing.{Doing}
 use Rattle.crossbeam_queue.specs.declared.array_queue.Slotted.{Slotted}

@@ -166,7 +166,10 @@ pub fn bundle(alloc: Global, cfg: BundleCfg) -> Result<(FlitTx, FlitRx), LinkFau
 /// for them. A call picks them in its proof, or is generic in `B` itself.
 ///
 /// There are 1 to 8 channels and 1 to 17 places of depth. `NoMemory` where memory is refused.
-pub fn bundle_after<B: Opening>(alloc: Global, cfg: BundleCfg) -> Result<(FlitTx, FlitRx), LinkFault>
+pub fn bundle_after<B: Opening>(
+    alloc: Global,
+    cfg: BundleCfg,
+) -> Result<(FlitTx, FlitRx), LinkFault>
     requires channels { (0 < cfg.channels) × (cfg.channels ≤ 8) }
     requires depth { (0 < cfg.depth) × (cfg.depth ≤ 17) }
     requires pasts { (node : ℕ) → AreWorms (past_at B.pasts node) }
@@ -257,7 +260,12 @@ impl FlitRx {
 pub fn reunite(tx: FlitTx, rx: FlitRx) -> Ends
     requires { tx.queue ≡ rx.queue }
     ensures { result ≡ record {
-        bundle = tx.bundle; pasts = tx.pasts; queue = rx.queue; sent = tx.sent; taken = rx.taken } }
+      bundle = tx.bundle;
+      pasts = tx.pasts;
+      queue = rx.queue;
+      sent = tx.sent;
+      taken = rx.taken;
+    } }
 {
     let FlitTx { end: sender } = tx;
     let FlitRx { end: taker } = rx;
@@ -273,8 +281,8 @@ impl Ends {
         self.ends.history();
     }
 
-    /// The next flit that was sent and not taken: of the batch at hand, of those on the queue, and of the sender's last.
-    /// `None` only where all was taken.
+    /// The next flit that was sent and not taken: of the batch at hand, then of those on the queue, and of the sender's
+    /// last. `None` only where all was taken.
     pub fn pop_rest<R: Wait>(&mut self, rt: &R) -> Option<Carried>
         ensures none { IfNone result ((self.new ≡ self.old) × (self.old.taken ≡ self.old.sent)) }
         ensures taken { IfSome result (λ next. self.new ≡ record self.old { taken = self.old.taken ++ next ∷ [] }) }

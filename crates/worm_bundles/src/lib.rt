@@ -1,4 +1,16 @@
-//! All links that leave one worker's nodes by one port, as one pair of queues of batches.
+//! All links that leave one worker's nodes by one port, as one pair of queues between two threads: flits go one way,
+//! credits the other (Dally and Towles, chapters 12 and 13).
+//!
+//! A flit that crosses alone costs two threads a cache line to and fro. So a queue holds batches: the sender fills one,
+//! of 16 flits or 60 credits, and puts it onto the queue when it is full or flushed; the taker has one at hand.
+//! One idea carries both kinds: what was sent is the items of the batches that were taken, and then of those that the
+//! queue holds, and then of the batch that is being filled. For each node the flits among them are a history of its
+//! link, as in `worm_links`, so the taker has that of what it takes with no check. An end is written and proved once,
+//! for whatever is carried (`batches`); flits and credits say only what a history of theirs is.
+//!
+//! Only making a queue takes memory. Nothing here waits for room or for a batch; a push, a flush, and a pop of what is
+//! left at the end, may yet wait within the queue, so that they return is not claimed, nor that a batch is ever taken,
+//! nor when. That a node is one of the sender's worker is the caller's affair.
 #![tactic(auto)]
 
 mod batches;

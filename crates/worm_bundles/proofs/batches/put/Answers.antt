@@ -1,4 +1,4 @@
-use Rattle.std.proofs.Common.{◌<◌, ◌≤◌, ◌∙◌, ap, arith, subst, sym, List, [], ◌∷◌, ◌++◌, length}
+use Rattle.std.proofs.Common.{◌<◌, ◌∙◌, ap, arith, subst, sym, List, [], ◌∷◌, ◌++◌, length}
 use Rattle.arrayvec.specs.ArrayVec.{ArrayVec}
 use Rattle.crossbeam_queue.specs.Passes.{view}
 use Rattle.worm_bundles.specs.Batches.{joined, items_of, IsBatch, AreBatches}
@@ -37,5 +37,9 @@ returns-in-Ok-clause-end g c =
 
 pub returns-in-Err-clause-full : goal.returns-in-Err-clause-full
 returns-in-Err-clause-full g c = λ _.
-    omega (arith, c.in-Err.ensures.rule.2.1, c.in-Err.ensures.rule.2.2,
-    no_more_batches _ c.requires.end.batches.filled)
+    omega (
+      arith,
+      c.in-Err.ensures.rule.2.1,
+      c.in-Err.ensures.rule.2.2,
+      no_more_batches _ c.requires.end.batches.filled,
+    )

@@ -1,7 +1,7 @@
-use Rattle.std.proofs.Common.{◌≡◌, ◌∙◌, ◌∷◌, [], ◌++◌, ap, arith, rules, subst, sym, List, length}
+use Rattle.std.proofs.Common.{◌≡◌, ◌∙◌, ◌∷◌, [], ◌++◌, ap, rules, sym}
 use Rattle.crossbeam_queue.specs.Passes.{view}
 use Rattle.std.specs.Arc.{arc_value}
-use Rattle.worm_bundles.specs.Batches.{items_of, joined, before, IsBatch, AreBatches, HandView}
+use Rattle.worm_bundles.specs.Batches.{items_of, joined, before, IsBatch, AreBatches}
 use Rattle.worm_bundles.specs.Roles.{IsBoth}
 use Rattle.worm_bundles.proofs.Batched.{is_none, batches_front, pops, takes_at_hand, IsLast, ends, rests, takes_last}
 use Rattle.worm_links.proofs.Histories.{takes, learns_rest}

@@ -1,4 +1,4 @@
-use Rattle.std.proofs.Common.{◌≡◌, ◌∙◌, ◌∷◌, [], ◌++◌, ap, arith, rules, subst, sym, List, length}
+use Rattle.std.proofs.Common.{◌≡◌, ap, rules, subst, sym, List}
 use Rattle.crossbeam_queue.specs.Passes.{view}
 use Rattle.std.specs.Arc.{arc_value}
 use Rattle.worm_bundles.specs.Batches.{items_of, joined, before, IsBatch, AreBatches}

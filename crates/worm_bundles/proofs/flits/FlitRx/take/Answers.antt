@@ -1,4 +1,4 @@
-use Rattle.std.proofs.Common.{◌∷◌, [], ◌++◌, subst}
+use Rattle.std.proofs.Common.{subst}
 use Rattle.worm_bundles.specs.declared.Carried.{Carried}
 use Rattle.worm_bundles.specs.Batches.{TakerView}
 use Rattle.worm_bundles.specs.Bundles.{IsBundleHistory, RxView}

@@ -13,6 +13,11 @@ push-requires g c =
     let is = sym c.self.view_is in
     let more = subst (λ (s : TxView). Continues (on_channel f.vc (past_at s.pasts node ++ on_node node s.sent)) f) is
     c.requires.continues in
-    let may = subst (λ (s : TxView). MayCross (link_of s.bundle node) f) is c.requires.crossing in
-    (omega arith, (omega arith, bundle_grows c.self.inside.end.bundle c.self.inside.end.sent
-    (record { node = node; flit = f }) more may c.history.ensures))
+    let may = subst (λ (s : TxView). MayCross (link_of s.bundle node) f) is c.requires.crossing in (
+      omega arith,
+      (
+        omega arith,
+        bundle_grows c.self.inside.end.bundle c.self.inside.end.sent
+            (record { node = node; flit = f }) more may c.history.ensures,
+      ),
+    )
