@@ -2,3 +2,4 @@ pub mod Joined
 pub mod Batched
 pub mod OnBundles
 pub mod OnReturns
+pub mod Trials

@@ -16,13 +16,13 @@ use Rattle.worm_bundles.specs.Fronts.{on_node-append}
 abbrev Link : Opened → ℕ → List Flit → Type 0
 Link bundle node = IsLinkHistory (opened (link_of bundle.cfg node) (past_at bundle.pasts node))
 
-on_node_here : (node : ℕ) (xs : List Carried) (c : Carried) → (node == c.node) ≡ true →
+pub on_node_here : (node : ℕ) (xs : List Carried) (c : Carried) → (node == c.node) ≡ true →
     on_node node (xs ++ c ∷ []) ≡ on_node node xs ++ c.flit ∷ []
 on_node_here node xs c e =
     on_node-append node xs (c ∷ []) ∙
     ap (λ b. on_node node xs ++ map (λ (c : Carried). c.flit) (cond b (c ∷ []) [])) e
 
-on_node_else : (node : ℕ) (xs : List Carried) (c : Carried) → (node == c.node) ≡ false →
+pub on_node_else : (node : ℕ) (xs : List Carried) (c : Carried) → (node == c.node) ≡ false →
     on_node node (xs ++ c ∷ []) ≡ on_node node xs
 on_node_else node xs c e =
     on_node-append node xs (c ∷ []) ∙

@@ -2,3 +2,4 @@ pub mod Batches
 pub mod Roles
 pub mod Bundles
 pub mod Fronts
+pub mod Trial

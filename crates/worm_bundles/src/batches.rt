@@ -1,7 +1,7 @@
 //! The ends of a queue of batches: the sender fills a batch and puts it onto the queue, the taker takes the items of a
 //! batch that came off it.
 ghost use Rattle.std.specs.Prelude.{◌≡◌, ◌<◌, ◌≤◌, [], ◌∷◌, ◌++◌, true, false, length, List, slice_get, IfOk, IfErr};
-ghost use Rattle.std.specs.Prelude.{IfSome, IfNone};
+ghost use Rattle.std.specs.Prelude.{IfSome, IfNone, IsSome, ◌↔◌};
 ghost use Rattle.crossbeam_queue.specs.Passes.{view, IsPassOf, IsSamePass, ruled_capacity};
 ghost use Rattle.worm_bundles.specs.Batches.{joined};
 ghost use Rattle.worm_bundles.specs.Bundles.{no_bundle, bundle_capacity};
@@ -338,7 +338,8 @@ impl<X: Copy + Default, const N: usize, H: Carriage<X>> Taker<X, N, H> {
 
     /// The next item at hand.
     pub fn front(&self) -> Option<X>
-        ensures { result ≡ slice_get self.now.ahead 0 }
+        ensures value { result ≡ slice_get self.now.ahead 0 }
+        ensures variant { IsSome result ↔ (0 < length self.now.ahead) }
     {
         self.hand.front()
     }

@@ -1,6 +1,7 @@
 //! The ends of a bundle's credit lines: the queue on which credits go the other way, each with the node that its link
 //! leaves (Dally and Towles, chapter 13).
-ghost use Rattle.std.specs.Prelude.{◌≡◌, ◌<◌, ◌≤◌, [], ◌∷◌, ◌++◌, length, List, slice_get, IfOk, IfErr, IfSome, IfNone};
+ghost use Rattle.std.specs.Prelude.{◌≡◌, ◌<◌, ◌≤◌, [], ◌∷◌, ◌++◌, length, List, slice_get, IfOk, IfErr};
+ghost use Rattle.std.specs.Prelude.{IfSome, IfNone, IsSome, ◌↔◌};
 ghost use Rattle.worm_bundles.specs.Bundles.{bundled, bundle_capacity, IsReturnHistory};
 
 use crate::batches::{self, Both, Sender, Taker};
@@ -184,7 +185,8 @@ impl CreditRx {
 
     /// The next credit at hand; `None` where nothing is at hand.
     pub fn front(&self) -> Option<Returned>
-        ensures { result ≡ slice_get self.now.ahead 0 }
+        ensures value { result ≡ slice_get self.now.ahead 0 }
+        ensures variant { IsSome result ↔ (0 < length self.now.ahead) }
     {
         self.end.front()
     }

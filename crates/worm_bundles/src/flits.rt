@@ -1,7 +1,7 @@
 //! The ends of a bundle: the queue on which flits go from one worker's nodes to another's, each with the node that its
 //! link leaves (Dally and Towles, chapter 13).
 ghost use Rattle.std.specs.Prelude.{◌≡◌, ℕ, ◌<◌, ◌≤◌, [], ◌∷◌, ◌++◌, length, List, slice_get, IfOk, IfErr, IfSome};
-ghost use Rattle.std.specs.Prelude.{IfNone};
+ghost use Rattle.std.specs.Prelude.{IfNone, IsSome, ◌↔◌};
 ghost use Rattle.worm_flit.specs.Stamps.{on_channel};
 ghost use Rattle.worm_flit.specs.Worms.{Continues};
 ghost use Rattle.worm_links.specs.Links.{AreWorms, MayCross};
@@ -235,7 +235,8 @@ impl FlitRx {
 
     /// The next flit at hand; `None` where nothing is at hand.
     pub fn front(&self) -> Option<Carried>
-        ensures { result ≡ slice_get self.now.ahead 0 }
+        ensures value { result ≡ slice_get self.now.ahead 0 }
+        ensures variant { IsSome result ↔ (0 < length self.now.ahead) }
     {
         self.end.front()
     }

@@ -1,5 +1,5 @@
 //! A batch off the queue, whose items are taken one by one.
-ghost use Rattle.std.specs.Prelude.{◌≡◌, ◌<◌, [], ◌∷◌, ◌++◌, ◌==◌, length, slice_get, IfSome, IfNone};
+ghost use Rattle.std.specs.Prelude.{◌≡◌, ◌<◌, [], ◌∷◌, ◌++◌, ◌==◌, length, slice_get, IsSome, ◌↔◌};
 
 use arrayvec::ArrayVec;
 use std::marker::Model;
@@ -50,7 +50,8 @@ impl<X: Copy + Default, const N: usize> Hand<X, N> {
 
     /// The next item, if any.
     pub fn front(&self) -> Option<X>
-        ensures { result ≡ slice_get self.now.ahead 0 }
+        ensures value { result ≡ slice_get self.now.ahead 0 }
+        ensures variant { IsSome result ↔ (0 < length self.now.ahead) }
     {
         if self.next == self.batch.len() {
             return None;
