@@ -17,6 +17,7 @@ mod history;
 
 pub use credits::{CreditEnds, CreditRx, CreditTx, credit_line, reunite_credits};
 pub use flits::{Ends, FlitRx, FlitTx, Opening, link, link_after, reunite};
+pub use history::Known;
 use std::alloc::AllocError;
 use worm_mesh::Mesh;
 

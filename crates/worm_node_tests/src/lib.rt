@@ -5,6 +5,8 @@
 #![tactic(auto)]
 
 #[cfg(test)]
+mod bundles;
+#[cfg(test)]
 mod cases;
 #[cfg(test)]
 mod flit;

@@ -1,0 +1,5 @@
+pub mod Joined
+pub mod Batched
+pub mod OnBundles
+pub mod OnReturns
+pub mod Trials

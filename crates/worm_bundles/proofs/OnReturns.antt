@@ -1,0 +1,19 @@
+-- Histories of credits on one bundle.
+use Rattle.std.proofs.Common.{◌<◌, List, [], ◌∷◌, ◌++◌}
+use Rattle.std.proofs.lemmas.List.Elements.{All-nil, All-push, All-head, All-drop}
+use Rattle.worm_bundles.specs.declared.Returned.{Returned}
+use Rattle.worm_bundles.specs.declared.history.Opened.{Opened}
+use Rattle.worm_bundles.specs.Bundles.{IsReturnHistory}
+
+pub no_return : (bundle : Opened) → IsReturnHistory bundle []
+no_return bundle = All-nil (λ (r : Returned). r.vc < bundle.cfg.channels)
+
+pub returns_grow : (bundle : Opened) (xs : List Returned) (r : Returned) → r.vc < bundle.cfg.channels →
+    IsReturnHistory bundle xs → IsReturnHistory bundle (xs ++ r ∷ [])
+returns_grow bundle xs r below h = All-push (λ (r : Returned). r.vc < bundle.cfg.channels) xs r h below
+
+pub latest_return : (bundle : Opened) (xs : List Returned) (r : Returned) → IsReturnHistory bundle (xs ++ r ∷ []) →
+    r.vc < bundle.cfg.channels
+latest_return bundle [] r h = All-head (λ (r : Returned). r.vc < bundle.cfg.channels) r [] h
+latest_return bundle (x ∷ xs) r h =
+    latest_return bundle xs r (All-drop (λ (r : Returned). r.vc < bundle.cfg.channels) 1 (x ∷ (xs ++ r ∷ [])) h)

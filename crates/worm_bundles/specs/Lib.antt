@@ -1,0 +1,5 @@
+pub mod Batches
+pub mod Roles
+pub mod Bundles
+pub mod Fronts
+pub mod Trial

@@ -1,0 +1,87 @@
+//! All links that leave one worker's nodes by one port, as one pair of queues between two threads: flits go one way,
+//! credits the other (Dally and Towles, chapters 12 and 13).
+//!
+//! A flit that crosses alone costs two threads a cache line to and fro. So a queue holds batches: the sender fills one,
+//! of 16 flits or 60 credits, and puts it onto the queue when it is full or flushed; the taker has one at hand.
+//! One idea carries both kinds: what was sent is the items of the batches that were taken, and then of those that the
+//! queue holds, and then of the batch that is being filled. For each node the flits among them are a history of its
+//! link, as in `worm_links`, so the taker has that of what it takes with no check. An end is written and proved once,
+//! for whatever is carried (`batches`); flits and credits say only what a history of theirs is.
+//!
+//! Only making a queue takes memory. Nothing here waits for room or for a batch; a push, a flush, and a pop of what is
+//! left at the end, may yet wait within the queue, so that they return is not claimed, nor that a batch is ever taken,
+//! nor when. That a node is one of the sender's worker is the caller's affair.
+#![tactic(auto)]
+
+mod batches;
+mod credits;
+mod flits;
+mod hand;
+mod history;
+
+pub use credits::{CreditEnds, CreditRx, CreditTx, credit_bundle, reunite_credits};
+pub use flits::{Ends, FlitRx, FlitTx, Opening, bundle, bundle_after, reunite};
+use worm_flit::{Flit, Kind, Lane};
+use worm_mesh::Mesh;
+
+/// All links that leave one worker's nodes by one port, and what each may carry.
+#[derive(Clone, Copy, PartialEq, Eq, Debug)]
+pub struct BundleCfg {
+    /// The mesh whose routes may cross the links.
+    pub mesh: Mesh,
+    /// The port of each sending node: `2d` on the minus side of dimension `d`, `2d + 1` on its plus side.
+    pub port: u8,
+    /// How many virtual channels each link has: 1 to 8.
+    pub channels: u8,
+    /// How many flits a channel's buffer at its far end holds: 1 to 17.
+    pub depth: u8,
+    /// The class that owns each channel; those past the last channel say nothing.
+    pub owners: [u8; 8],
+}
+
+/// A flit, and the node whose link it crosses.
+#[derive(Clone, Copy, PartialEq, Eq, Debug)]
+pub struct Carried {
+    /// The node that the link leaves.
+    pub node: u8,
+    /// What crosses it.
+    pub flit: Flit,
+}
+
+/// A credit, and the node whose link it is for.
+#[derive(Clone, Copy, PartialEq, Eq, Debug)]
+pub struct Returned {
+    /// The node that the link leaves.
+    pub node: u8,
+    /// The link's channel on which a place came free.
+    pub vc: u8,
+}
+
+/// What an unused place of a batch holds.
+impl Default for Carried {
+    fn default() -> Carried {
+        let lane = Lane {
+            src: 0,
+            dst: 0,
+            class: 0,
+        };
+        Carried {
+            node: 0,
+            flit: Flit {
+                lane,
+                packet: 0,
+                index: 0,
+                kind: Kind::Single,
+                vc: 0,
+                word: 0,
+            },
+        }
+    }
+}
+
+/// What an unused place of a batch holds.
+impl Default for Returned {
+    fn default() -> Returned {
+        Returned { node: 0, vc: 0 }
+    }
+}

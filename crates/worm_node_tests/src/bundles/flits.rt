@@ -1,0 +1,176 @@
+//! What goes onto a bundle comes out of it, in order: batch by batch, and at the reunion of its ends.
+
+ghost use Rattle.std.specs.Prelude.{◌≡◌, ◌+◌, ◌<◌, ◌%◌};
+ghost use Rattle.worm_bundles.specs.Trial.{pair_flit, IsReady};
+
+use crate::bundles::{node_of, pairs};
+use crate::cases::lane;
+use std::alloc::Global;
+use std::process::Abort;
+use std::sync::Wait;
+use std::thread;
+use worm_bundles::{Carried, Ends, FlitRx, FlitTx, bundle, reunite};
+use worm_flit::{Flit, Kind};
+
+/// The ends of a new bundle of one channel, and room for one flit on it.
+fn ends_of(rt: &impl Abort, alloc: Global) -> (FlitTx, FlitRx)
+    ensures ready { IsReady 1 result.0 }
+    ensures queue { result.0.queue ≡ result.1.queue }
+{
+    bundle(alloc, pairs(rt, 1, 1)).expect(rt, "memory")
+}
+
+/// The only flit of a packet from a node to the next, which carries the packet's number.
+fn flit(node: u8, packet: u16) -> Flit
+    requires { node + 1 < 256 }
+    ensures { result ≡ pair_flit node packet }
+{
+    Flit {
+        lane: lane(node, node + 1, 0),
+        packet,
+        index: 0,
+        kind: Kind::Single,
+        vc: 0,
+        word: u32::from(packet),
+    }
+}
+
+/// Pushes the only flit of a packet. False where there is no room.
+fn push<R: Wait>(rt: &R, tx: &mut FlitTx, node: u8, packet: u16) -> bool
+    requires node { (node % 2 ≡ 0) × (node + 1 < 256) }
+    requires ready { IsReady 1 tx.old }
+    ensures ready { IsReady 1 tx.new }
+    ensures queue { tx.new.queue ≡ tx.old.queue }
+{
+    let single = flit(node, packet);
+    tx.history();
+    match tx.push(rt, node, single) {
+        Ok(()) => true,
+        Err(_) => false,
+    }
+}
+
+/// Pushes packets of one flit, from two nodes in turn. How many there was room for.
+fn push_all<R: Wait>(rt: &R, tx: &mut FlitTx, packets: u16) -> u16
+    requires { IsReady 1 tx.old }
+    ensures ready { IsReady 1 tx.new }
+    ensures queue { tx.new.queue ≡ tx.old.queue }
+{
+    for packet in 0..packets {
+        if !push(rt, tx, node_of(packet), packet) {
+            return packet;
+        }
+    }
+    packets
+}
+
+/// What is sent as the packet of this number.
+fn carried(packet: u16) -> Carried {
+    let node = node_of(packet);
+    Carried {
+        node,
+        flit: flit(node, packet),
+    }
+}
+
+/// What comes next is at hand, and is taken.
+fn next(rx: &mut FlitRx) -> Option<Carried>
+    ensures { rx.new.queue ≡ rx.old.queue }
+{
+    rx.fetch();
+    if rx.front().is_none() {
+        return None;
+    }
+    Some(rx.take())
+}
+
+/// The flits of these packets come, from two nodes in turn.
+fn come(rt: &impl Abort, rx: &mut FlitRx, first: u16, end: u16)
+    ensures { rx.new.queue ≡ rx.old.queue }
+{
+    for packet in first..end {
+        rx.fetch();
+        assert_eq!(rt; rx.front(), Some(carried(packet)));
+        assert_eq!(rt; next(rx), Some(carried(packet)));
+    }
+}
+
+/// The flits of these packets are left, and no more.
+fn are_left<R: Abort + Wait>(rt: &R, ends: &mut Ends, first: u16, end: u16) {
+    for packet in first..end {
+        assert_eq!(rt; ends.pop_rest(rt), Some(carried(packet)));
+    }
+    assert_eq!(rt; ends.pop_rest(rt), None);
+}
+
+/// Two batches and a part: what is in the sender's batch comes once it is flushed.
+#[test]
+fn forty_flits_of_two_links(rt: HostRuntime) {
+    let (mut tx, mut rx) = ends_of(&rt, rt.alloc());
+    assert_eq!(rt; next(&mut rx), None);
+    assert_eq!(rt; push_all(&rt, &mut tx, 40), 40);
+    come(&rt, &mut rx, 0, 32);
+    assert_eq!(rt; next(&mut rx), None);
+    tx.flush(&rt);
+    tx.flush(&rt);
+    come(&rt, &mut rx, 32, 40);
+    assert_eq!(rt; next(&mut rx), None);
+}
+
+/// The queue has room for 64 batches of 16 flits, and the sender for one more.
+#[test]
+fn a_full_bundle(rt: HostRuntime) {
+    let (mut tx, mut rx) = ends_of(&rt, rt.alloc());
+    assert_eq!(rt; push_all(&rt, &mut tx, 2000), 1040);
+    tx.flush(&rt);
+    come(&rt, &mut rx, 0, 1024);
+    assert_eq!(rt; next(&mut rx), None);
+    tx.flush(&rt);
+    come(&rt, &mut rx, 1024, 1040);
+}
+
+/// Some flits at hand, some on the queue and some in the sender's batch.
+#[test]
+fn flits_left_at_the_reunion(rt: HostRuntime) {
+    let (mut tx, mut rx) = ends_of(&rt, rt.alloc());
+    assert_eq!(rt; push_all(&rt, &mut tx, 35), 35);
+    come(&rt, &mut rx, 0, 2);
+    let mut ends = reunite(tx, rx);
+    are_left(&rt, &mut ends, 2, 35);
+}
+
+/// Pushes and flushes packets of one flit in turns of 70, as long as there is room; how many.
+fn send_turns<R: Wait>(rt: &R, mut tx: FlitTx) -> u16
+    requires { IsReady 1 tx }
+{
+    let mut pushed = 0;
+    for _ in 0..10u8 {
+        pushed += push_all(rt, &mut tx, 70);
+        tx.flush(rt);
+    }
+    pushed
+}
+
+/// Takes so many flits, or fewer where the tries run out.
+fn take_all(mut rx: FlitRx, flits: u16) -> u16 {
+    let mut taken = 0;
+    for _ in 0..10_000_000u32 {
+        if taken >= flits {
+            break;
+        }
+        match next(&mut rx) {
+            Some(_) => taken += 1,
+            None => thread::yield_now(),
+        }
+    }
+    taken
+}
+
+#[test]
+fn two_threads_lose_no_flit(rt: HostRuntime) {
+    let (tx, rx) = ends_of(&rt, rt.alloc());
+    let started = thread::spawn(&rt, move || send_turns(&rt, tx));
+    let sender = started.expect(&rt, "a thread");
+    assert_eq!(rt; take_all(rx, 700), 700);
+    assert_eq!(rt; sender.join(&rt), 700);
+}
