@@ -142,8 +142,8 @@ impl CreditTx {
     }
 
     /// Sends a credit for the channel of the link that leaves the node. It stays in the batch until that is full or
-    /// flushed. `Err` gives the channel back and changes nothing: the batch and the queue are full, so at least channels
-    /// times depth credits were sent.
+    /// flushed. `Err` gives the channel back and changes nothing: the batch and the queue are full, so at least
+    /// channels times depth credits were sent.
     pub fn push<R: Wait>(&mut self, rt: &R, node: u8, vc: u8) -> Result<(), u8>
         requires { vc < self.old.bundle.channels }
         ensures sent { IfOk result (λ _. self.new
