@@ -143,9 +143,9 @@ fn flits_left_at_the_reunion(rt: HostRuntime) {
 fn send_turns<R: Wait>(rt: &R, mut tx: FlitTx) -> u16
     requires { IsReady 1 tx }
 {
-    let mut pushed = 0;
+    let mut pushed = 0u16;
     for _ in 0..10u8 {
-        pushed += push_all(rt, &mut tx, 70);
+        pushed = push_all(rt, &mut tx, 70).saturating_add(pushed);
         tx.flush(rt);
     }
     pushed
