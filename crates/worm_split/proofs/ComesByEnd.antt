@@ -7,15 +7,16 @@ use Rattle.worm_flit.specs.Stamps.{on_channel}
 use Rattle.worm_flit.specs.Worms.{Continues}
 use Rattle.worm_mesh.specs.Address.{neighbour_of, node_count, opposite_of}
 use Rattle.worm_mesh.specs.Links.{links_before}
-use Rattle.worm_links.specs.Links.{TxView, RxView, CreditTxView, CreditRxView, MayCross}
+use Rattle.worm_links.specs.Links.{MayCross}
+use Rattle.worm_split.specs.Ends.{TxView, RxView, CreditTxView, CreditRxView}
 use Rattle.worm_region.specs.Shape.{net_shape}
 use Rattle.worm_region.specs.State.{NetState, IsFramed, IsSameConfig, shape, network_of, link_at}
 use Rattle.worm_region.specs.Edges.{Arrives, ComesBack, after_arriving, after_credit_back}
 use Rattle.worm_region.specs.Workable.{owned}
 use Rattle.worm_region.specs.Moves.{link_into, link_out}
 use Rattle.worm_wires.specs.declared.wiring.PortLinks.{PortLinks}
-use Rattle.worm_split.specs.declared.ends.End.{End}
-use Rattle.worm_split.specs.declared.ends.End.TheVariants.{Leaving, Entering}
+use Rattle.worm_split.specs.Ends.{End}
+use Rattle.worm_split.specs.Ends.{Leaving, Entering}
 use Rattle.worm_split.specs.Ends.{CreditPopped, FlitPopped}
 use Rattle.worm_split.specs.PartState.{PartState, IsPart, IsSamePart, end_of}
 use Rattle.worm_split.specs.PartTurns.{CreditComes, FlitComes, with_end}

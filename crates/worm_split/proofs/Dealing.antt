@@ -11,9 +11,9 @@ use Rattle.worm_region.specs.Owned.{owned_by}
 use Rattle.worm_region.specs.State.{NetState, fresh_node, link_at}
 use Rattle.worm_region.specs.declared.node.Node.{Node}
 use Rattle.worm_region.specs.declared.own.Own.{Own}
-use Rattle.worm_split.specs.declared.ends.End.{End}
-use Rattle.worm_split.specs.declared.ends.End.TheVariants.{Inner}
-use Rattle.worm_split.specs.declared.ends.Line.{Line}
+use Rattle.worm_split.specs.Ends.{End}
+use Rattle.worm_split.specs.Ends.{Inner}
+use Rattle.worm_split.specs.Ends.{Line}
 use Rattle.worm_split.specs.declared.making.Seat.{Seat}
 use Rattle.worm_split.specs.Apart.{Apart, IsExchanged}
 use Rattle.worm_split.specs.Ends.{end_at, end_made, line_at}

@@ -12,9 +12,9 @@ use Rattle.worm_region.specs.State.{NetState, IsNet, IsNodeOf}
 use Rattle.worm_region.specs.Workable.{IsWorkable}
 use Rattle.worm_region.specs.declared.node.Node.{Node}
 use Rattle.worm_region.specs.declared.own.Own.{Own}
-use Rattle.worm_split.specs.declared.ends.End.{End}
-use Rattle.worm_split.specs.declared.ends.End.TheVariants.{Inner}
-use Rattle.worm_split.specs.declared.ends.Line.{Line}
+use Rattle.worm_split.specs.Ends.{End}
+use Rattle.worm_split.specs.Ends.{Inner}
+use Rattle.worm_split.specs.Ends.{Line}
 use Rattle.worm_split.specs.declared.making.Seat.{Seat}
 use Rattle.worm_split.specs.Apart.{Apart, AreWays, ArePaired, IsExchanged, with_lists}
 use Rattle.worm_split.specs.PartState.{PartState, HasConfigOf, IsPart}

@@ -8,15 +8,16 @@ use Rattle.worm_mesh.specs.Address.{neighbour_of, node_count, opposite_of}
 use Rattle.worm_mesh.specs.Links.{links_before, link_count}
 use Rattle.worm_mesh.proofs.Digits.{AreLarge-from_radices}
 use Rattle.worm_mesh.proofs.Neighbours.{Joins-from, Joins-back, neighbour_of-some, opposite_twice}
-use Rattle.worm_links.specs.Links.{TxView, RxView, CreditTxView, CreditRxView, MayCross}
+use Rattle.worm_links.specs.Links.{MayCross}
+use Rattle.worm_split.specs.Ends.{TxView, RxView, CreditTxView, CreditRxView}
 use Rattle.worm_region.specs.State.{IsFramed, network_of, link_at}
 use Rattle.worm_wires.specs.Wiring.{port_links}
 use Rattle.worm_region.specs.Moves.{link_into, link_out}
 use Rattle.worm_wires.specs.declared.wiring.PortLinks.{PortLinks}
 use Rattle.worm_region.proofs.LinkWritten.{out_there, credits_there}
 use Rattle.worm_wires.proofs.Wired.{parts, ports_within}
-use Rattle.worm_split.specs.declared.ends.End.{End}
-use Rattle.worm_split.specs.declared.ends.End.TheVariants.{Inner, Leaving, Entering}
+use Rattle.worm_split.specs.Ends.{End}
+use Rattle.worm_split.specs.Ends.{Inner, Leaving, Entering}
 use Rattle.worm_split.specs.Ends.{CreditPopped, FlitPopped, end_at}
 use Rattle.worm_split.specs.PartState.{PartState, IsPart, end_of}
 use Rattle.worm_split.proofs.PartFacts.{linked_there}

@@ -8,8 +8,8 @@ use Rattle.worm_region.specs.declared.node.Node.{Node}
 use Rattle.worm_region.specs.declared.own.Own.{Own}
 use Rattle.worm_wires.specs.Links.{LinkView}
 use Rattle.worm_mesh.specs.declared.mesh.LinkEnds.{LinkEnds}
-use Rattle.worm_split.specs.declared.ends.End.{End}
-use Rattle.worm_split.specs.declared.ends.Line.{Line}
+use Rattle.worm_split.specs.Ends.{End}
+use Rattle.worm_split.specs.Ends.{Line}
 use Rattle.worm_split.specs.Apart.{Apart, ArePaired, Fits, IsExchanged, with_lists}
 use Rattle.worm_split.specs.Exchange.{EndsSwapped, LinksSwapped, NodesSwapped}
 use Rattle.worm_split.specs.PartState.{HasConfigOf}

@@ -1,8 +1,8 @@
 -- A worker's ends of links as they are made: nothing has gone over them.
 use Rattle.std.proofs.Common.{◌≡◌, ℕ, Bool, true, false, cond, List, [], refl}
 use Rattle.worm_flit.specs.declared.Flit.{Flit}
-use Rattle.worm_split.specs.declared.ends.End.{End}
-use Rattle.worm_split.specs.declared.ends.End.TheVariants.{Inner, Leaving, Entering}
+use Rattle.worm_split.specs.Ends.{End}
+use Rattle.worm_split.specs.Ends.{Inner, Leaving, Entering}
 use Rattle.worm_split.specs.Ends.{AreEndsMade, IsSameEnd, given_on, returned_on, sent_on, taken_on}
 
 pub same_end_itself : (e : End) → IsSameEnd e e

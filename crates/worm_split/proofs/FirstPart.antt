@@ -30,8 +30,8 @@ use Rattle.worm_region.proofs.StaysWorking.{sound_works}
 use Rattle.worm_parts.specs.Openings.{past_of}
 use Rattle.worm_parts.specs.Region.{Begins, HasPart}
 use Rattle.worm_parts.proofs.RegionQueues.{first_part}
-use Rattle.worm_split.specs.declared.ends.End.{End}
-use Rattle.worm_split.specs.declared.ends.End.TheVariants.{Inner}
+use Rattle.worm_split.specs.Ends.{End}
+use Rattle.worm_split.specs.Ends.{Inner}
 use Rattle.worm_split.specs.Apart.{AreWays}
 use Rattle.worm_split.specs.Ends.{AreEndsMade, IsSameEnd, end_at, end_made, given_on, line_at, returned_on, sent_on}
 use Rattle.worm_split.specs.Ends.{taken_on}

@@ -20,8 +20,8 @@ use Rattle.worm_parts.specs.Join.{Holds}
 use Rattle.worm_parts.specs.Region.{HasPart, Begins}
 use Rattle.worm_parts.specs.Openings.{past_of}
 use Rattle.worm_parts.proofs.RegionQueues.{first_part}
-use Rattle.worm_split.specs.declared.ends.End.TheVariants.{Inner}
-use Rattle.worm_split.specs.declared.ends.Line.{Line}
+use Rattle.worm_split.specs.Ends.{Inner}
+use Rattle.worm_split.specs.Ends.{Line}
 use Rattle.worm_split.specs.Apart.{AreWays}
 use Rattle.worm_split.specs.Ends.{AreEndsMade, IsSameEnd, end_made, line_at, returned_on, taken_on}
 use Rattle.worm_split.specs.Exchange.{way_at}

@@ -7,7 +7,7 @@ use Rattle.worm_region.specs.Owned.{owned_by}
 use Rattle.worm_region.specs.State.{IsFramed, link_at}
 use Rattle.worm_region.specs.declared.node.Node.{Node}
 use Rattle.worm_region.specs.declared.own.Own.{Own}
-use Rattle.worm_split.specs.declared.ends.End.{End}
+use Rattle.worm_split.specs.Ends.{End}
 use Rattle.worm_split.specs.Apart.{Apart, IsPutBack}
 use Rattle.worm_split.specs.Ends.{end_at, line_at}
 use Rattle.worm_split.specs.Exchange.{way_at}

@@ -11,7 +11,8 @@ use Rattle.worm_mesh.specs.Links.{links_before}
 use Rattle.worm_records.specs.declared.InRecord.{InRecord}
 use Rattle.worm_records.specs.declared.InRecord.TheVariants.{Idle, Waiting, Active}
 use Rattle.worm_links.specs.declared.LinkCfg.{LinkCfg}
-use Rattle.worm_links.specs.Links.{TxView, RxView, CreditTxView, CreditRxView, MayCross, link_capacity}
+use Rattle.worm_links.specs.Links.{MayCross, link_capacity}
+use Rattle.worm_split.specs.Ends.{TxView, RxView, CreditTxView, CreditRxView}
 use Rattle.worm_router.specs.Router.{RouterState, input_at, output_at, terminal, leaving, leaving_by}
 use Rattle.worm_router.specs.Router.{after_send, after_gave}
 use Rattle.worm_theory.specs.Shape.{Shape}
@@ -27,8 +28,8 @@ use Rattle.worm_region.proofs.PlacesThere.{net_place}
 use Rattle.worm_region.proofs.AsListed.{buffer_there, record_there}
 use Rattle.worm_parts.specs.Openings.{past_of}
 use Rattle.worm_parts.proofs.Regions.{push_part}
-use Rattle.worm_split.specs.declared.ends.End.{End}
-use Rattle.worm_split.specs.declared.ends.End.TheVariants.{Leaving, Entering}
+use Rattle.worm_split.specs.Ends.{End}
+use Rattle.worm_split.specs.Ends.{Leaving, Entering}
 use Rattle.worm_split.specs.Ends.{FlitPushed, CreditPushed, MayGo, MayGive, sent_on}
 use Rattle.worm_split.specs.PartState.{PartState, IsPart, IsSamePart, end_of, owns, part_network, taken_by, returned_to}
 use Rattle.worm_split.specs.PartTurns.{SendsAcross, GivesAcross, ComesBy, LeavesBy, with_end}

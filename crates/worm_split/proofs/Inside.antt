@@ -22,8 +22,8 @@ use Rattle.worm_region.specs.declared.own.Own.{Own}
 use Rattle.worm_script.specs.declared.script.Entry.{Entry}
 use Rattle.worm_region.proofs.PassIsGrants.{IsKeptByGrants, allocated_keeps, chosen_apart}
 use Rattle.worm_parts.specs.Region.{HasPart}
-use Rattle.worm_split.specs.declared.ends.End.{End}
-use Rattle.worm_split.specs.declared.ends.End.TheVariants.{Inner, Leaving, Entering}
+use Rattle.worm_split.specs.Ends.{End}
+use Rattle.worm_split.specs.Ends.{Inner, Leaving, Entering}
 use Rattle.worm_split.specs.Ends.{IsSameEnd, end_made, end_at, line_at, seen_by, taken_on, returned_on}
 use Rattle.worm_split.specs.PartState.{PartState, IsPart, end_of, owns, taken_by, returned_to}
 use Rattle.worm_split.proofs.Keeping.{IsOf, Keeps, keeps_answer, keeps_asking, keeps_credits, keeps_flits}
@@ -58,7 +58,7 @@ module _ (p : PartState) (part : IsPart p) where
         made = rw config.own part.made;
         all_ends = part.all_ends ∙ ap link_count (sym config.mesh);
         ends = λ y o x linked.
-            let line = line_at p.lines (links_before p.opening.mesh y o) in
+            let line = line_of p y o in
             let first = subst (λ (f : ℕ → ℕ → End). IsSameEnd (end_made (owns p y) (owns p x) line) (f y o)) ends
             (part.ends y o x linked) in
             subst (λ (w : Own). IsSameEnd (end_made (owned_by w y) (owned_by w x) line)

@@ -11,8 +11,8 @@ use Rattle.worm_region.specs.Shape.{net_shape}
 use Rattle.worm_region.specs.State.{IsFramed, link_at, network_of, shape}
 use Rattle.worm_wires.specs.Links.{LinkView, blank_link}
 use Rattle.worm_region.proofs.LinkWritten.{credits_there, out_there}
-use Rattle.worm_split.specs.declared.ends.End.{End}
-use Rattle.worm_split.specs.declared.ends.End.TheVariants.{Inner, Leaving}
+use Rattle.worm_split.specs.Ends.{End}
+use Rattle.worm_split.specs.Ends.{Inner, Leaving}
 use Rattle.worm_split.specs.Apart.{Apart, AreWays}
 use Rattle.worm_split.specs.Ends.{end_at, given_on, line_at, returned_on, sent_on, taken_on}
 use Rattle.worm_split.specs.Exchange.{way_at}

@@ -12,8 +12,8 @@ use Rattle.worm_wires.specs.Links.{LinkView}
 use Rattle.worm_region.specs.State.{link_at, network_of, node_at, output_of, shape, sink_at}
 use Rattle.worm_region.specs.declared.node.Node.{Node}
 use Rattle.worm_region.proofs.LinkWritten.{credits_there, out_there}
-use Rattle.worm_split.specs.declared.ends.End.{End}
-use Rattle.worm_split.specs.declared.ends.End.TheVariants.{Inner}
+use Rattle.worm_split.specs.Ends.{End}
+use Rattle.worm_split.specs.Ends.{Inner}
 use Rattle.worm_split.specs.Apart.{Apart, with_lists}
 use Rattle.worm_split.specs.Ends.{sent_on}
 use Rattle.worm_split.specs.Joins.{AreEmptied, AreParts, IsGathered, owner_of}

@@ -22,7 +22,7 @@ use Rattle.worm_region.specs.declared.fault.StepFault.{StepFault}
 use Rattle.worm_region.specs.declared.fault.StepFault.TheVariants.{NoSuchPlace, Refused, NoMemory}
 use Rattle.worm_parts.specs.Region.{HasPart, node_of}
 use Rattle.worm_parts.proofs.Regions.{step_part}
-use Rattle.worm_split.specs.declared.ends.End.{End}
+use Rattle.worm_split.specs.Ends.{End}
 use Rattle.worm_split.specs.Ends.{seen_by}
 use Rattle.worm_split.proofs.Within.{Sees, seen_after, seen_enabled}
 

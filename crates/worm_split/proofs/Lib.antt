@@ -2,6 +2,7 @@ pub mod ComesByEnd
 pub mod CreditsGiven
 pub mod Crossing
 pub mod EndFacts
+pub mod LinesMade
 pub mod GoesByEnd
 pub mod GrantsSent
 pub mod Inside
@@ -42,4 +43,3 @@ pub mod NodeEffects
 pub mod Effects
 pub mod AtRest
 pub mod Sharing
-pub mod PortsAsked

@@ -10,9 +10,9 @@ use Rattle.worm_mesh.specs.Links.{link_count}
 use Rattle.worm_theory.proofs.Places.{number_cases}
 use Rattle.worm_region.specs.State.{NetState, IsFramed}
 use Rattle.worm_wires.specs.Links.{LinkView, blank_link}
-use Rattle.worm_split.specs.declared.ends.Line.{Line}
-use Rattle.worm_split.specs.declared.ends.End.{End}
-use Rattle.worm_split.specs.declared.ends.End.TheVariants.{Inner, Leaving, Entering}
+use Rattle.worm_split.specs.Ends.{Line}
+use Rattle.worm_split.specs.Ends.{End}
+use Rattle.worm_split.specs.Ends.{Inner, Leaving, Entering}
 use Rattle.worm_split.specs.Apart.{Apart, AreWays, Fits, with_lists}
 use Rattle.worm_split.specs.Ends.{line_at, no_line}
 use Rattle.worm_split.specs.Exchange.{way_at}

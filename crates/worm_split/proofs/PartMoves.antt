@@ -6,7 +6,8 @@ use Rattle.worm_flit.specs.Worms.{Continues}
 use Rattle.worm_records.specs.declared.InRecord.TheVariants.{Active}
 use Rattle.worm_theory.specs.Network.{Network, put2}
 use Rattle.worm_theory.specs.Steps.{IsThere, Enabled, Send, GiveCredit, after, sent, sent_by, gave, gave_to}
-use Rattle.worm_links.specs.Links.{TxView, RxView, CreditTxView, CreditRxView, MayCross}
+use Rattle.worm_links.specs.Links.{MayCross}
+use Rattle.worm_split.specs.Ends.{TxView, RxView, CreditTxView, CreditRxView}
 use Rattle.worm_mesh.specs.Address.{neighbour_of}
 use Rattle.worm_region.specs.Shape.{net_shape}
 use Rattle.worm_region.specs.State.{NetState, IsSameConfig, shape, network_of}
@@ -14,8 +15,8 @@ use Rattle.worm_parts.specs.Region.{HasPart, among}
 use Rattle.worm_parts.specs.Openings.{past_of}
 use Rattle.worm_parts.proofs.Regions.{pull_part, step_part}
 use Rattle.worm_parts.proofs.RegionQueues.{pull_credit_region}
-use Rattle.worm_split.specs.declared.ends.End.{End}
-use Rattle.worm_split.specs.declared.ends.End.TheVariants.{Leaving, Entering}
+use Rattle.worm_split.specs.Ends.{End}
+use Rattle.worm_split.specs.Ends.{Leaving, Entering}
 use Rattle.worm_split.specs.Ends.{IsSameEnd, seen_by, taken_on, returned_on}
 use Rattle.worm_split.specs.PartState.{PartState, IsPart, end_of, owns, part_network, taken_by, returned_to}
 use Rattle.worm_split.specs.PartTurns.{with_end}

@@ -3,7 +3,7 @@ use Rattle.std.proofs.Common.{◌≡◌, ℕ, Bool, true, false, Option, Some}
 use Rattle.std.proofs.Common.{None, Ok, Err, refl, sym, ap, subst, ◌∙◌}
 use Rattle.std.specs.Prelude.{IfSome, IsTrue, Result}
 use Rattle.worm_flit.specs.declared.Flit.{Flit}
-use Rattle.worm_links.specs.Links.{TxView, RxView, CreditTxView, CreditRxView}
+use Rattle.worm_split.specs.Ends.{TxView, RxView, CreditTxView, CreditRxView}
 use Rattle.worm_mesh.specs.Address.{neighbour_of, opposite_of}
 use Rattle.worm_records.specs.declared.InRecord.{InRecord}
 use Rattle.worm_records.specs.declared.InRecord.TheVariants.{Idle}
@@ -19,8 +19,8 @@ use Rattle.worm_region.specs.declared.step.Moved.TheVariants.{Done, Idle}
 use Rattle.worm_region.specs.declared.fault.StepFault.{StepFault}
 use Rattle.worm_region.specs.declared.fault.StepFault.TheVariants.{NoSuchPlace, Refused, NoMemory}
 use Rattle.worm_region.proofs.PlacesThere.{net_place}
-use Rattle.worm_split.specs.declared.ends.End.{End}
-use Rattle.worm_split.specs.declared.ends.End.TheVariants.{Inner, Leaving, Entering}
+use Rattle.worm_split.specs.Ends.{End}
+use Rattle.worm_split.specs.Ends.{Inner, Leaving, Entering}
 use Rattle.worm_split.specs.Ends.{leaves_by, enters_by}
 use Rattle.worm_split.specs.PartState.{PartState, IsPart, end_of, owns, taken_by, returned_to}
 use Rattle.worm_split.specs.PartTurns.{LeavesBy, ComesBy, StaysWithin}

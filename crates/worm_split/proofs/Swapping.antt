@@ -10,8 +10,8 @@ use Rattle.worm_region.specs.Owned.{owned_by}
 use Rattle.worm_wires.specs.Links.{LinkView}
 use Rattle.worm_region.specs.declared.node.Node.{Node}
 use Rattle.worm_region.specs.declared.own.Own.{Own}
-use Rattle.worm_split.specs.declared.ends.End.{End}
-use Rattle.worm_split.specs.declared.ends.Line.{Line}
+use Rattle.worm_split.specs.Ends.{End}
+use Rattle.worm_split.specs.Ends.{Line}
 use Rattle.worm_split.specs.Exchange.{AreSwapped, EndsSwapped, LinksSwapped, NodesSwapped, SwapsEnd, SwapsLink}
 use Rattle.worm_split.specs.Exchange.{SwapsNode, far_of, near_of, way_at}
 

@@ -1,4 +1,6 @@
 pub mod Ends
+pub mod Sides
+pub mod Crossings
 pub mod PartState
 pub mod PartTurns
 pub mod Effects

@@ -4,9 +4,9 @@
 ghost use Rattle.std.specs.Prelude.{◌≡◌, ◌<◌, length};
 ghost use Rattle.worm_region.specs.Owned.{owned_by};
 ghost use Rattle.worm_split.specs.Apart.{ArePaired, Fits, IsExchanged};
-ghost use Rattle.worm_split.specs.Exchange.{EndsSwapped, LinksSwapped, NodesSwapped, SwapsEnd, SwapsLink, SwapsNode};
+ghost use Rattle.worm_split.specs.Exchange.{LinksSwapped, NodesSwapped, SwapsLink, SwapsNode};
 
-use crate::ends::{End, Line};
+use crate::sides::Side;
 use std::marker::Model;
 use std::mem::swap;
 use worm_core::{Config, Inboxes, LinkState, Node, Own};
@@ -26,8 +26,8 @@ pub struct Kept {
     pub(crate) links: Vec<LinkState>,
     /// Memory for the inboxes of its nodes.
     pub(crate) inboxes: Inboxes,
-    /// Both ends of each link between two workers, by the link's number.
-    pub(crate) lines: Vec<Line>,
+    /// What each worker has by port, by the worker's number.
+    pub(crate) sides: Vec<Side>,
 }
 
 impl Model for Kept {
@@ -35,9 +35,9 @@ impl Model for Kept {
 
     ghost Value = { Apart };
 
-    ghost view = { λ k. taken_apart k.config k.ways.items k.nodes.items k.links.items k.lines.items };
+    ghost view = { λ k. taken_apart k.config k.ways.items k.nodes.items k.links.items k.sides.items };
 
-    ghost invariant = { λ k. Fits (taken_apart k.config k.ways.items k.nodes.items k.links.items k.lines.items) };
+    ghost invariant = { λ k. Fits (taken_apart k.config k.ways.items k.nodes.items k.links.items k.sides.items) };
 }
 
 /// Whether the worker owns the node.
@@ -100,36 +100,6 @@ fn swap_links(kept: &mut Vec<LinkState>, links: &mut Vec<LinkState>, ways: &Vec<
     }
 }
 
-/// Exchanges the worker's end of a link, if just one of the link's nodes is the worker's.
-fn swap_end(line: &mut Line, end: &mut End, near: bool, far: bool)
-    ensures { SwapsEnd near far line.old end.old line.new end.new }
-{
-    if near && !far {
-        swap(&mut line.out, end);
-    } else if far && !near {
-        swap(&mut line.into, end);
-    }
-}
-
-/// Exchanges the worker's ends.
-fn swap_ends(lines: &mut Vec<Line>, ends: &mut Vec<End>, ways: &Vec<LinkEnds>, own: Own)
-    requires workers { 0 < own.workers }
-    requires length { length ends.old.items ≡ length lines.old.items }
-    requires ways { length ways.now.items ≡ length lines.old.items }
-    ensures { EndsSwapped own ways.now.items (length lines.old.items) lines.old.items ends.old.items lines.new.items
-        ends.new.items }
-{
-    for k in 0..ways.len() {
-        let way = ways[k];
-        swap_end(
-            &mut lines[k],
-            &mut ends[k],
-            owns(own, way.from),
-            owns(own, way.to),
-        );
-    }
-}
-
 impl Kept {
     /// Tells that the lists fit one another.
     pub(crate) fn recall(&self)
@@ -143,16 +113,16 @@ impl Kept {
         &mut self,
         nodes: &mut Vec<Node>,
         links: &mut Vec<LinkState>,
-        ends: &mut Vec<End>,
+        side: &mut Side,
         own: Own,
     )
         requires workers { 0 < own.workers }
-        requires paired { ArePaired self.old nodes.old.items links.old.items ends.old.items }
+        requires paired { ArePaired own self.old nodes.old.items links.old.items }
         ensures { IsExchanged own self.old self.new nodes.old.items nodes.new.items links.old.items links.new.items
-            ends.old.items ends.new.items }
+            side.old side.new }
     {
         swap_nodes(&mut self.nodes, nodes, own);
         swap_links(&mut self.links, links, &self.ways, own);
-        swap_ends(&mut self.lines, ends, &self.ways, own);
+        swap(&mut self.sides[usize::from(own.worker)], side);
     }
 }

@@ -2,21 +2,19 @@
 
 ghost use Rattle.std.specs.Prelude.{◌≡◌, ◌<◌, ◌≤◌, ◌++◌, ◌∷◌, ◌%◌, ◌==◌, [], ℕ, false, length, true};
 ghost use Rattle.worm_core.specs.Headline.{DeliversInOrder};
-ghost use Rattle.worm_split.specs.Ends.{line_at};
 ghost use Rattle.worm_split.specs.Apart.{ArePaired, IsPutBack, with_lists};
-ghost use Rattle.worm_split.specs.Joins.{AreEmptied, AreOfOne, AreParts, CreditsEmptied, FlitsEmptied, IsBetween};
-ghost use Rattle.worm_split.specs.Joins.{IsEmptied, IsGathered, IsJoinOf, IsLaterThan};
+ghost use Rattle.worm_split.specs.Joins.{AreEmptied, AreParts, IsGathered, IsJoinOf, IsLaterThan};
 ghost use Rattle.worm_split.specs.Splits.{part_at};
 
-use crate::ends::{End, Line};
 use crate::exchange::Kept;
 use crate::part::Part;
+use crate::sides::{Inlet, Outlet, Side};
 use std::mem::replace;
 use std::sync::Wait;
+use worm_bundles::{Carried, CreditRx, CreditTx, FlitRx, FlitTx, Returned, reunite, reunite_credits};
 use worm_core::{LinkState, Net, NetParts, Region};
 use worm_flit::Flit;
-use worm_links::{CreditRx, CreditTx, FlitRx, FlitTx, reunite, reunite_credits};
-use worm_mesh::LinkEnds;
+use worm_mesh::Mesh;
 
 /// Puts the flit behind the link's, if there is room.
 fn put_behind(link: &mut LinkState, flit: Flit)
@@ -40,75 +38,77 @@ fn put_credit_behind(link: &mut LinkState, vc: u8)
     }
 }
 
-/// Puts what the queue still holds behind the link's flits. There is room for it, but that is known only of all links
-/// together, once all queues are empty; so it is asked.
-fn empty_flits<R: Wait>(rt: &R, tx: FlitTx, rx: FlitRx, link: &mut LinkState)
+/// Puts what a bundle's queue still holds behind the flits of its links. There is room for it, but that is known only of
+/// all links together, once all queues are empty; so it is asked.
+fn empty_flits<R: Wait>(
+    rt: &R,
+    mesh: &Mesh,
+    port: u8,
+    tx: FlitTx,
+    rx: FlitRx,
+    links: &mut Vec<LinkState>,
+)
     requires { tx.queue ≡ rx.queue }
-    ensures { FlitsEmptied tx.sent rx.taken link.old link.new }
 {
     let mut ends = reunite(tx, rx);
-    while let Some(flit) = ends.pop_rest(rt) {
-        put_behind(link, flit);
+    while let Some(Carried { node, flit }) = ends.pop_rest(rt) {
+        if let Some(number) = mesh.link_number(node, port) {
+            put_behind(&mut links[usize::from(number)], flit);
+        }
     }
 }
 
 /// The same of credits.
-fn empty_credits<R: Wait>(rt: &R, tx: CreditTx, rx: CreditRx, link: &mut LinkState)
+fn empty_credits<R: Wait>(
+    rt: &R,
+    mesh: &Mesh,
+    port: u8,
+    tx: CreditTx,
+    rx: CreditRx,
+    links: &mut Vec<LinkState>,
+)
     requires { tx.queue ≡ rx.queue }
-    ensures { CreditsEmptied tx.sent rx.taken link.old link.new }
 {
     let mut ends = reunite_credits(tx, rx);
-    while let Some(vc) = ends.pop_rest(rt) {
-        put_credit_behind(link, vc);
+    while let Some(Returned { node, vc }) = ends.pop_rest(rt) {
+        if let Some(number) = mesh.link_number(node, port) {
+            put_credit_behind(&mut links[usize::from(number)], vc);
+        }
     }
 }
 
-/// Puts what the line's queues still hold onto the link, if it has ends.
-fn empty_line<R: Wait>(rt: &R, line: Line, link: &mut LinkState)
-    requires { AreOfOne line.out line.into }
-    ensures { IsEmptied line.out line.into link.old link.new }
+/// Puts what both queues of the bundle still hold onto its links, which leave by this port.
+fn empty_bundle<R: Wait>(
+    rt: &R,
+    mesh: &Mesh,
+    port: u8,
+    out: Outlet,
+    into: Inlet,
+    links: &mut Vec<LinkState>,
+)
 {
-    let Line { out, into } = line;
-    let End::Leaving(tx, back) = out else {
+    let Outlet {
+        ends: Some((tx, back)),
+    } = out
+    else {
         return;
     };
-    let End::Entering(rx, give) = into else {
+    let Inlet {
+        ends: Some((rx, give)),
+    } = into
+    else {
         return;
     };
-    empty_flits(rt, tx, rx, link);
-    empty_credits(rt, give, back, link);
-}
-
-/// The same, unless both of the link's nodes are of one worker.
-fn empty_between<R: Wait>(rt: &R, line: &mut Line, link: &mut LinkState, within: bool)
-    requires { within ≡ false → AreOfOne line.old.out line.old.into }
-    ensures between { within ≡ false → IsEmptied line.old.out line.old.into link.old link.new }
-    ensures within { within ≡ true → link.new ≡ link.old }
-{
-    if within {
-        return;
-    }
-    let none = Line {
-        out: End::Inner,
-        into: End::Inner,
-    };
-    empty_line(rt, replace(line, none), link);
-}
-
-/// Whether both of the link's nodes are of one worker.
-fn is_within(way: LinkEnds, workers: usize) -> bool
-    requires { 0 < workers }
-    ensures { result ≡ (way.from % workers == way.to % workers) }
-{
-    usize::from(way.from) % workers == usize::from(way.to) % workers
+    empty_flits(rt, mesh, port, tx, rx, links);
+    empty_credits(rt, mesh, port, give, back, links);
 }
 
 impl Kept {
-    /// Puts a part back: its nodes, what is on its links, and its ends.
-    fn put_back(&mut self, region: Region, mut ends: Vec<End>)
+    /// Puts a part back: its nodes, what is on its links, and what it has by port.
+    fn put_back(&mut self, region: Region, mut side: Side)
         requires workers { 0 < region.own.workers }
-        requires paired { ArePaired self.old region.nodes region.links ends.items }
-        ensures { IsPutBack region.own self.old self.new region.nodes region.links ends.items }
+        requires paired { ArePaired region.own self.old region.nodes region.links }
+        ensures { IsPutBack region.own self.old self.new region.nodes region.links side }
     {
         let own = region.own();
         let NetParts {
@@ -117,21 +117,50 @@ impl Kept {
             mut links,
             inboxes: _,
         } = region.into_parts();
-        self.exchange(&mut nodes, &mut links, &mut ends, own);
+        self.exchange(&mut nodes, &mut links, &mut side, own);
+    }
+
+    /// Puts what the queues of the bundle by this port, from one worker to another, still hold onto its links.
+    fn empty_between<R: Wait>(&mut self, rt: &R, mesh: &Mesh, port: u8, from: usize, to: usize)
+    {
+        let out = replace(
+            &mut self.sides[from].leaving[usize::from(port)],
+            Outlet { ends: None },
+        );
+        let into = replace(
+            &mut self.sides[to].entering[usize::from(mesh.opposite(port))],
+            Inlet { ends: None },
+        );
+        empty_bundle(rt, mesh, port, out, into, &mut self.links);
+    }
+
+    /// The same of all bundles by both ports of a dimension, in which a step adds `stride` to a node's number.
+    fn empty_dim<R: Wait>(&mut self, rt: &R, mesh: &Mesh, dim: u8, stride: usize)
+    {
+        let workers = self.sides.len();
+        for worker in 0..workers {
+            let above = (worker + stride) % workers;
+            self.empty_between(rt, mesh, 2 * dim + 1, worker, above);
+            self.empty_between(rt, mesh, 2 * dim, above, worker);
+        }
     }
 
     /// Puts what all queues still hold onto their links.
-    fn empty_lines<R: Wait>(&mut self, rt: &R, workers: usize)
-        requires workers { 0 < workers }
-        requires queues { (k : ℕ) → IsBetween workers self.old.ways k →
-            AreOfOne (line_at self.old.lines k).out (line_at self.old.lines k).into }
-        ensures links { AreEmptied workers (length self.old.ways) self.old.ways self.old.lines self.old.net.links
-            self.new.net.links }
+    fn empty_bundles<R: Wait>(&mut self, rt: &R)
+        ensures links { AreEmptied self.old.ways self.old.sides self.old.net.links self.new.net.links }
         ensures rest { self.new.net ≡ with_lists self.old.net self.old.net.nodes self.new.net.links }
     {
-        for k in 0..self.ways.len() {
-            let within = is_within(self.ways[k], workers);
-            empty_between(rt, &mut self.lines[k], &mut self.links[k], within);
+        let Ok(mesh) = Mesh::new(self.config.radices.as_slice()) else {
+            unreachable!()
+        };
+        let workers = self.sides.len();
+        for dim in 0..mesh.dims() {
+            let Some(beyond) = mesh.neighbour(0, 2 * dim + 1) else {
+                unreachable!()
+            };
+            if usize::from(beyond) % workers != 0 {
+                self.empty_dim(rt, &mesh, dim, usize::from(beyond));
+            }
         }
     }
 }
@@ -146,9 +175,9 @@ fn gather(mut parts: Vec<Part>) -> Kept
     };
     let Part {
         region,
-        ends,
+        side,
         opening: _,
-        lines: _,
+        sides: _,
         kept,
     } = last;
     let Some(mut whole) = kept else {
@@ -156,17 +185,17 @@ fn gather(mut parts: Vec<Part>) -> Kept
     };
     region.recall();
     whole.recall();
-    whole.put_back(region, ends);
+    whole.put_back(region, side);
     while let Some(part) = parts.pop() {
         let Part {
             region,
-            ends,
+            side,
             opening: _,
-            lines: _,
+            sides: _,
             kept: _,
         } = part;
         region.recall();
-        whole.put_back(region, ends);
+        whole.put_back(region, side);
     }
     whole
 }
@@ -184,16 +213,15 @@ pub fn join<R: Wait>(rt: &R, parts: Vec<Part>) -> Net
     ensures later { IsLaterThan (part_at parts.items 0).opening result }
     ensures delivers { DeliversInOrder result }
 {
-    let workers = parts.len();
     let mut whole = gather(parts);
-    whole.empty_lines(rt, workers);
+    whole.empty_bundles(rt);
     let Kept {
         config,
         ways: _,
         nodes,
         links,
         inboxes,
-        lines: _,
+        sides: _,
     } = whole;
     let lists = NetParts {
         config,

@@ -1,9 +1,9 @@
-//! What a part does in a turn of one of its nodes.
+//! What a part does in a turn: it receives what came, and its nodes have their turns.
 
 ghost use Rattle.std.specs.Prelude.{◌≡◌, ◌<◌, ◌+◌, ◌*◌, ◌%◌, ◌↔◌, ◌∷◌, [], filter, true, None, Some, IsTrue};
-ghost use Rattle.std.specs.Prelude.{false, List, Option, length, sum};
+ghost use Rattle.std.specs.Prelude.{false, List, Option, length, sum, ℕ};
 ghost use Rattle.std.specs.Result.{result_err};
-ghost use Rattle.worm_mesh.specs.Address.{node_count, stride_of};
+ghost use Rattle.worm_mesh.specs.Address.{node_count};
 ghost use Rattle.worm_region.specs.Replies.{Attempts};
 ghost use Rattle.worm_script.specs.Script.{due};
 ghost use Rattle.worm_region.specs.Prepared.{Prepares};
@@ -16,117 +16,96 @@ ghost use Rattle.worm_swalloc.specs.SwAlloc.{AreGranted};
 ghost use Rattle.worm_swalloc.specs.declared.grant.SwGrant.{SwGrant};
 ghost use Rattle.worm_router.specs.Router.{input_at, leaving};
 ghost use Rattle.worm_theory.specs.Steps.{IsThere, Step as Event};
-ghost use Rattle.worm_split.specs.PartTurns.{ComesBy, EachOf, Gives, GivesAcross, GivesCredits, LeavesBy};
-ghost use Rattle.worm_split.specs.PartTurns.{NodePasses, NodeTurn, Sends, SendsAcross, SendsGrants, StaysWithin, Turn};
-ghost use Rattle.worm_split.specs.PartTurns.{AreShared, PullsCredit, PullsCredits, PullsFlit, PullsFlits, Within};
+ghost use Rattle.worm_split.specs.PartTurns.{ComesBy, CreditComes, EachOf, FlitComes, Gives};
+ghost use Rattle.worm_split.specs.PartTurns.{GivesAcross, GivesCredits, LeavesBy, NodePasses, NodeTurn, NodeTurns};
+ghost use Rattle.worm_split.specs.PartTurns.{ReceivesCredits, ReceivesFlits, Sends, SendsAcross, SendsGrants};
+ghost use Rattle.worm_split.specs.PartTurns.{StaysWithin, Turn, Within};
 
-use crate::ends::{is_entering, is_leaving, pop_credit, pop_flit, push_credit, push_flit};
 use crate::part::Part;
 use std::sync::Wait;
 use worm_core::{Act, Due, Entry, Script, StepFault, tried};
-use worm_flit::{Flit, SmallSet};
+use worm_flit::Flit;
 use worm_vcalloc::ChannelSet;
 
 impl Part {
-    /// Whether a step in this dimension leads to another worker's node. It adds the same to each node's number, so it
-    /// does so from all nodes or from none.
-    fn leads_away(&self, dim: u8) -> bool
-        requires { dim < length self.now.net.mesh }
-        ensures { result ≡ false → stride_of self.now.net.mesh dim % self.now.net.own.workers ≡ 0 }
+    /// Receives the next flit that came by the port, if its link has none on it. False where none came, or one waits.
+    fn receive_flit(&mut self, port: u8) -> bool
+        requires { port < 2 * length self.old.net.mesh }
+        ensures came { result ≡ true → (node : ℕ) × FlitComes node port self.old self.new }
+        ensures none { result ≡ false → self.new ≡ self.old }
     {
-        self.region.recall();
-        let Some(beyond) = self.region.mesh().neighbour(0, 2 * dim + 1) else {
-            unreachable!()
+        let Some(inlet) = self.side.entering.get_mut(usize::from(port)) else {
+            return false;
         };
-        u16::from(beyond) % self.region.own().workers != 0
+        let out = self.region.mesh().opposite(port);
+        let Some(carried) = inlet.receive(&self.region, out) else {
+            return false;
+        };
+        self.region.arrive(carried.node, out, carried.flit);
+        true
     }
 
-    /// The mesh ports by which a link may lead to another worker's node. The links by the others stay within the part,
-    /// so their queues need not be asked.
-    fn shared_ports(&self) -> SmallSet
-        ensures { AreShared self.now.net result }
+    /// Receives the next credit that came back by the port, if its link has none on its way. False where none came, or
+    /// one waits.
+    fn receive_credit(&mut self, port: u8) -> bool
+        requires { port < 2 * length self.old.net.mesh }
+        ensures came { result ≡ true → (node : ℕ) × CreditComes node port self.old self.new }
+        ensures none { result ≡ false → self.new ≡ self.old }
     {
-        self.region.recall();
-        let mut shared = SmallSet::new();
+        let Some(outlet) = self.side.leaving.get_mut(usize::from(port)) else {
+            return false;
+        };
+        let Some(returned) = outlet.receive(&self.region, port) else {
+            return false;
+        };
+        let links = self.region.links_beyond(returned.node, port);
+        self.region.arrive_credit(links.beyond, links.entered, returned.vc);
+        true
+    }
+
+    /// Receives what flits came by the port: of each link one at most, so no more than there are nodes.
+    fn receive_flits_by(&mut self, port: u8)
+        requires { port < 2 * length self.old.net.mesh }
+        ensures came { ReceivesFlits self.old None self.new }
+        ensures same { IsSamePart self.old self.new }
+    {
+        for _link in 0..self.region.nodes() {
+            if !self.receive_flit(port) {
+                return;
+            }
+        }
+    }
+
+    /// The same of credits.
+    fn receive_credits_by(&mut self, port: u8)
+        requires { port < 2 * length self.old.net.mesh }
+        ensures came { ReceivesCredits self.old None self.new }
+        ensures same { IsSamePart self.old self.new }
+    {
+        for _link in 0..self.region.nodes() {
+            if !self.receive_credit(port) {
+                return;
+            }
+        }
+    }
+
+    /// Receives what flits came by all ports.
+    fn receive_flits(&mut self)
+        ensures came { ReceivesFlits self.old None self.new }
+        ensures same { IsSamePart self.old self.new }
+    {
         for port in 0..self.region.terminal() {
-            shared.put(port, self.leads_away(port / 2));
-        }
-        shared
-    }
-
-    /// Asks for the next credit of the link out of the port, where the link leaves the worker's nodes and no credit of
-    /// it waits.
-    fn pull_credit(&mut self, node: u8, port: u8)
-        requires node { node < node_count self.old.net.mesh }
-        requires own { owned self.old.net node ≡ true }
-        ensures pulls { PullsCredit node port self.old None self.new }
-        ensures same { IsSamePart self.old self.new }
-    {
-        self.region.recall();
-        let Some(links) = self.region.links_at(node, port) else {
-            return;
-        };
-        let number = usize::from(links.out);
-        if !is_leaving(&self.ends[number]) {
-            return;
-        }
-        if self.region.has_credits(links.beyond, links.entered) {
-            return;
-        }
-        let Some(vc) = pop_credit(&mut self.ends[number]) else {
-            return;
-        };
-        self.region.arrive_credit(links.beyond, links.entered, vc);
-    }
-
-    /// Asks for the next flit of the link into the port, where the link enters the worker's nodes and no flit of it
-    /// waits.
-    fn pull_flit(&mut self, node: u8, port: u8)
-        requires node { node < node_count self.old.net.mesh }
-        requires own { owned self.old.net node ≡ true }
-        ensures pulls { PullsFlit node port self.old None self.new }
-        ensures same { IsSamePart self.old self.new }
-    {
-        self.region.recall();
-        let Some(links) = self.region.links_at(node, port) else {
-            return;
-        };
-        let number = usize::from(links.into);
-        if !is_entering(&self.ends[number]) {
-            return;
-        }
-        if self.region.has_flits(links.beyond, links.entered) {
-            return;
-        }
-        let Some(flit) = pop_flit(&mut self.ends[number]) else {
-            return;
-        };
-        self.region.arrive(links.beyond, links.entered, flit);
-    }
-
-    /// Asks for a credit of each link out of the node by one of these ports, rising.
-    fn pull_credits(&mut self, node: u8, shared: SmallSet)
-        requires node { node < node_count self.old.net.mesh }
-        requires own { owned self.old.net node ≡ true }
-        ensures pulls { PullsCredits node self.old None self.new }
-        ensures same { IsSamePart self.old self.new }
-    {
-        let mut left = shared;
-        while let Some(port) = left.pop_first() {
-            self.pull_credit(node, port);
+            self.receive_flits_by(port);
         }
     }
 
-    /// Asks for a flit of each link into the node by one of these ports, rising.
-    fn pull_flits(&mut self, node: u8, shared: SmallSet)
-        requires node { node < node_count self.old.net.mesh }
-        requires own { owned self.old.net node ≡ true }
-        ensures pulls { PullsFlits node self.old None self.new }
+    /// The same of credits.
+    fn receive_credits(&mut self)
+        ensures came { ReceivesCredits self.old None self.new }
         ensures same { IsSamePart self.old self.new }
     {
-        let mut left = shared;
-        while let Some(port) = left.pop_first() {
-            self.pull_flit(node, port);
+        for port in 0..self.region.terminal() {
+            self.receive_credits_by(port);
         }
     }
 
@@ -151,18 +130,20 @@ impl Part {
         self.region.prepare(node)
     }
 
-    /// The ready flit leaves over the link of this number, which leads to another worker's node, if its push lands.
+    /// The ready flit leaves by this port, which leads to another worker's node, if its push lands.
     fn send_across<R: Wait>(&mut self, rt: &R, node: u8, port: u8, vc: u8, out: u8, flit: Flit)
         requires own { owned self.old.net node ≡ true }
         requires there { IsThere (shape self.old.net) (Event.Send node port vc) }
         requires ready { leaving (router_at self.old.net node) port vc ≡ Some (out, flit) }
-        requires leaves { LeavesBy self.old node out }
+        requires leaves { LeavesBy self.old out }
         ensures sends { SendsAcross node port vc self.old self.new }
         ensures same { IsSamePart self.old self.new }
     {
         self.region.recall();
-        let links = self.region.links_beyond(node, out);
-        if push_flit(rt, &mut self.ends[usize::from(links.out)], flit) {
+        let Some(outlet) = self.side.leaving.get_mut(usize::from(out)) else {
+            unreachable!()
+        };
+        if outlet.send(rt, node, flit) {
             self.region.let_out(node, port, vc, out, flit);
         }
     }
@@ -171,7 +152,7 @@ impl Part {
     fn send_within(&mut self, node: u8, port: u8, vc: u8) -> Result<(), StepFault>
         requires own { owned self.old.net node ≡ true }
         requires there { IsThere (shape self.old.net) (Event.Send node port vc) }
-        requires stays { StaysWithin self.old node (leaving (router_at self.old.net node) port vc) }
+        requires stays { StaysWithin self.old (leaving (router_at self.old.net node) port vc) }
         ensures sends { Within (Attempts (Event.Send node port vc)) self.old (result_err result) self.new }
         ensures same { IsSamePart self.old self.new }
     {
@@ -179,15 +160,24 @@ impl Part {
         tried(self.region.send_there(node, port, vc))
     }
 
-    /// Whether the link out of the port leads to another worker's node.
-    fn leaves(&self, node: u8, out: u8) -> bool
-        ensures { IsTrue result ↔ LeavesBy self.now node out }
+    /// Whether what leaves the part's nodes by the port leaves for another worker's.
+    fn leaves(&self, out: u8) -> bool
+        ensures { IsTrue result ↔ LeavesBy self.now out }
     {
-        self.region.recall();
-        let Some(links) = self.region.links_at(node, out) else {
-            return false;
-        };
-        is_leaving(&self.ends[usize::from(links.out)])
+        match self.side.leaving.get(usize::from(out)) {
+            Some(outlet) => outlet.is_over(),
+            None => false,
+        }
+    }
+
+    /// Whether what enters them by the port comes from another worker's.
+    fn comes(&self, port: u8) -> bool
+        ensures { IsTrue result ↔ ComesBy self.now port }
+    {
+        match self.side.entering.get(usize::from(port)) {
+            Some(inlet) => inlet.is_from(),
+            None => false,
+        }
     }
 
     /// Lets a granted channel send, over a link to another worker or within the part. `NoMemory` where its flit is for
@@ -199,7 +189,7 @@ impl Part {
         ensures same { IsSamePart self.old self.new }
     {
         match self.region.ready(node, port, vc) {
-            Some((out, flit)) if self.leaves(node, out) => {
+            Some((out, flit)) if self.leaves(out) => {
                 self.send_across(rt, node, port, vc, out, flit);
                 Ok(())
             }
@@ -235,13 +225,16 @@ impl Part {
         requires node { node < node_count self.old.net.mesh }
         requires channel { vc < sum self.old.net.channels }
         requires owed { 0 < (input_at (router_at self.old.net node) port vc).owed }
-        requires comes { ComesBy self.old node port }
+        requires comes { ComesBy self.old port }
         ensures gives { GivesAcross node port vc self.old self.new }
         ensures same { IsSamePart self.old self.new }
     {
         self.region.recall();
         let links = self.region.links_beyond(node, port);
-        if push_credit(rt, &mut self.ends[usize::from(links.into)], vc) {
+        let Some(inlet) = self.side.entering.get_mut(usize::from(port)) else {
+            unreachable!()
+        };
+        if inlet.give(rt, links.beyond, vc) {
             self.region.gave(node, port, vc);
         }
     }
@@ -251,7 +244,7 @@ impl Part {
         requires own { owned self.old.net node ≡ true }
         requires channel { vc < sum self.old.net.channels }
         requires owed { 0 < (input_at (router_at self.old.net node) port vc).owed }
-        requires stays { ComesBy self.old node port → ⊥ }
+        requires stays { ComesBy self.old port → ⊥ }
         ensures gives { Within (Attempts (Event.GiveCredit node port vc)) self.old None self.new }
         ensures same { IsSamePart self.old self.new }
     {
@@ -267,10 +260,7 @@ impl Part {
         ensures gives { Gives node port vc self.old None self.new }
         ensures same { IsSamePart self.old self.new }
     {
-        self.region.recall();
-        // A channel owes a credit only where its port has a link.
-        let links = self.region.links_beyond(node, port);
-        if is_entering(&self.ends[usize::from(links.into)]) {
+        if self.comes(port) {
             self.give_across(rt, node, port, vc);
         } else {
             self.give_within(node, port, vc);
@@ -303,7 +293,7 @@ impl Part {
         self.region.rests(node)
     }
 
-    /// What a node does in a turn once its source and its links were asked, up to the first fault.
+    /// What a node does in a turn once its source was asked, up to the first fault.
     fn node_passes<R: Wait>(&mut self, rt: &R, node: u8) -> Result<(), StepFault>
         requires node { node < node_count self.old.net.mesh }
         requires own { owned self.old.net node ≡ true }
@@ -325,7 +315,6 @@ impl Part {
         rt: &R,
         node: u8,
         entries: &Due<'_>,
-        shared: SmallSet,
     ) -> Result<(), StepFault>
         requires node { node < node_count self.old.net.mesh }
         requires own { owned self.old.net node ≡ true }
@@ -333,8 +322,6 @@ impl Part {
         ensures same { IsSamePart self.old self.new }
     {
         self.ask_source(node, entries)?;
-        self.pull_credits(node, shared);
-        self.pull_flits(node, shared);
         self.node_passes(rt, node)
     }
 
@@ -345,7 +332,6 @@ impl Part {
         node: u8,
         owner: u16,
         entries: &Due<'_>,
-        shared: SmallSet,
     ) -> Result<(), StepFault>
         requires node { node < node_count self.old.net.mesh }
         requires owner { owner ≡ node % self.old.net.own.workers }
@@ -356,28 +342,27 @@ impl Part {
         if owner != self.region.own().worker {
             return Ok(());
         }
-        self.node_turn(rt, node, entries, shared)
+        self.node_turn(rt, node, entries)
     }
 
     /// The turns of the worker's nodes, in rising number, with these entries for all nodes, up to the first fault.
     fn node_turns<R: Wait>(&mut self, rt: &R, entries: &Due<'_>) -> Result<(), StepFault>
-        ensures turn { Turn entries.now self.old (result_err result) self.new }
+        ensures turn { NodeTurns entries.now self.old (result_err result) self.new }
         ensures same { IsSamePart self.old self.new }
     {
-        let shared = self.shared_ports();
         let workers = self.region.own().workers;
         let mut owner = 0;
         for node in 0..self.region.nodes() {
-            self.own_turn(rt, node as u8, owner, entries, shared)?;
+            self.own_turn(rt, node as u8, owner, entries)?;
             owner = next_owner(owner, workers);
         }
         Ok(())
     }
 
-    /// The turns of the worker's nodes, in rising number: the turn of this number, with the script's entries for it, up
-    /// to the first fault. What leaves by a link to another worker leaves by the link's queue, if its push lands; what
-    /// comes from another worker is what its queue gives. Each of its sources accepts in order what the script has for
-    /// it, each of its sinks gets one flit at most.
+    /// A turn: what came from other workers is received, of each link one flit and one credit at most, and then the
+    /// worker's nodes, in rising number, have the turn of this number, with the script's entries for it, up to the first
+    /// fault. What leaves by a link to another worker leaves by the bundle of its port, if its push lands. Each of its
+    /// sources accepts in order what the script has for it, each of its sinks gets one flit at most.
     /// `Refused` where a source refuses an entry, `NoMemory` where there is none for an accepted or a delivered flit.
     pub fn turn<R: Wait>(&mut self, rt: &R, turn: u64, script: &Script) -> Result<(), StepFault>
         ensures exact { Turn (due turn script.now) self.old (result_err result) self.new }
@@ -389,7 +374,18 @@ impl Part {
         let due = script.due(turn);
         have_words(due.entries());
         self.region.recall();
-        self.node_turns(rt, &due)
+        self.receive_flits();
+        self.receive_credits();
+        let done = self.node_turns(rt, &due);
+        self.flush(rt);
+        done
+    }
+
+    /// Lets out what it sent and gave to other workers.
+    fn flush<R: Wait>(&mut self, rt: &R)
+        ensures { self.new ≡ self.old }
+    {
+        self.side.flush(rt);
     }
 }
 
