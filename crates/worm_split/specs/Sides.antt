@@ -165,7 +165,7 @@ abbrev pub worker_above : List ℕ → ℕ → ℕ → ℕ → ℕ
 worker_above mesh workers d w = (w + stride_of mesh d) % workers
 
 -- By a dimension in which a step leads to another worker, each worker has a bundle to the worker above it and one from
--- it; by any other it has none.
+-- it; by any other port, also one past the mesh ports, it has none.
 pub record AreSides (s : NetState) (workers : ℕ) (sides : List SideView) : Type 0 where
   pub count : length sides ≡ workers
   pub up : (d w : ℕ) → d < length s.mesh → w < workers → (stride_of s.mesh d % workers ≡ 0 → ⊥) →
@@ -174,7 +174,7 @@ pub record AreSides (s : NetState) (workers : ℕ) (sides : List SideView) : Typ
   pub down : (d w : ℕ) → d < length s.mesh → w < workers → (stride_of s.mesh d % workers ≡ 0 → ⊥) →
       AreBundleMade s (2 * d) (outlet_at (side_at sides (worker_above s.mesh workers d w)) (2 * d))
       (inlet_at (side_at sides w) (2 * d + 1))
-  pub within : (p w : ℕ) → w < workers → stride_of s.mesh (p / 2) % workers ≡ 0 →
+  pub within : (p w : ℕ) → w < workers → (p < 2 * length s.mesh → stride_of s.mesh (p / 2) % workers ≡ 0) →
       (outlet_at (side_at sides w) p ≡ Within) × (inlet_at (side_at sides w) p ≡ Inside)
 
 -- the same end of the same bundle, whatever went over it
