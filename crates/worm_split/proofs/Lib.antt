@@ -3,6 +3,8 @@ pub mod CreditsGiven
 pub mod Crossing
 pub mod EndFacts
 pub mod LinesMade
+pub mod SidesPut
+pub mod SameEnds
 pub mod GoesByEnd
 pub mod GrantsSent
 pub mod Inside
@@ -10,7 +12,7 @@ pub mod Keeping
 pub mod PartFacts
 pub mod PartLoops
 pub mod PartMoves
-pub mod EndsKnown
+pub mod PortKnown
 pub mod SeenAtEnds
 pub mod Staying
 pub mod Within

@@ -1,7 +1,7 @@
 -- What a worker has by port: its ends of the bundles that its nodes share with other workers' (Dally and Towles,
 -- chapter 13); and of each link the end that it has with them.
 use Rattle.std.specs.Prelude.{◌≡◌, ℕ, ◌+◌, ◌*◌, ◌<◌, ◌%◌, ◌/◌, ◌==◌, List, [], map, filter, length, sum}
-use Rattle.std.specs.Prelude.{slice_index_or, slice_get, Bool, true, false, Option, Some, None}
+use Rattle.std.specs.Prelude.{slice_index_or, slice_get, slice_set, Bool, true, false, Option, Some, None}
 use Rattle.worm_flit.specs.declared.Flit.{Flit}
 use Rattle.worm_flit.specs.Channels.{owner_of}
 use Rattle.worm_mesh.specs.Address.{neighbour_of, opposite_of, stride_of}
@@ -69,6 +69,13 @@ outlet_at side o = slice_index_or side.leaving o Within
 
 abbrev pub inlet_at : SideView → ℕ → InletView
 inlet_at side p = slice_index_or side.entering p Inside
+
+-- with this by one port
+abbrev pub put_outlet : SideView → ℕ → OutletView → SideView
+put_outlet side o out = record side { leaving = slice_set side.leaving o out }
+
+abbrev pub put_inlet : SideView → ℕ → InletView → SideView
+put_inlet side p into = record side { entering = slice_set side.entering p into }
 
 -- An end of a bundle, as it is an end of the link that leaves this node
 
