@@ -1,7 +1,7 @@
 -- What a worker has by one port changes at one link: so does one of its ends of links, and no other.
 use Rattle.std.proofs.Common.{◌≡◌, ℕ, ◌<◌, ◌≤◌, ◌==◌, true, false, Bool, cond, inl, inr, List, [], ◌∷◌, ◌++◌, length}
 use Rattle.std.proofs.Common.{Option, Some, None, refl, arith, sym, ap, subst, ◌∙◌}
-use Rattle.std.specs.Prelude.{slice_set, slice_index_or, map, filter}
+use Rattle.std.specs.Prelude.{IfSome, slice_set, slice_index_or, map, filter}
 use Rattle.std.proofs.lemmas.Bool.{cases_lt}
 use Rattle.std.proofs.lemmas.List.{get_or_past, get_or_read, get_or-set_other, get_or-set_same, map-append}
 use Rattle.std.proofs.lemmas.List.Elements.{filter-append}
@@ -87,6 +87,11 @@ same_side_still a b c h k = record {
   outlets = λ o. same_outlet_still (outlet_at a o) (outlet_at b o) (outlet_at c o) (h.outlets o) (k.outlets o);
   inlets = λ q. same_inlet_still (inlet_at a q) (inlet_at b q) (inlet_at c q) (h.inlets q) (k.inlets q);
 }
+
+-- what holds of an item that came, if one did
+pub some_also : {A : Type 0} (o : Option A) (P Q : A → Type 0) → IfSome o P → ((a : A) → P a → Q a) → IfSome o Q
+some_also None P Q had more = tt
+some_also (Some a) P Q had more = more a had
 
 -- what was looked up by port
 pub read_outlet : (side : SideView) (n o : ℕ) (out : OutletView) → n ≡ o → n < length side.leaving

@@ -203,9 +203,9 @@ impl Side {
         ensures taken { IfSome result (λ c. FlitTakenBy self.old port c self.new) }
         ensures awaited { IfSome result (λ c. AwaitsFlit region.now c.node out) }
     {
-        self.entering
-            .get_mut(usize::from(port))?
-            .receive(region, out)
+        let inlet = self.entering.get_mut(usize::from(port))?;
+        let carried = inlet.receive(region, out)?;
+        Some(carried)
     }
 
     /// Takes the next credit that came back by the port, where its link has none on its way. None where none came, or one
@@ -216,9 +216,9 @@ impl Side {
         ensures taken { IfSome result (λ r. CreditTakenBy self.old port r self.new) }
         ensures awaited { IfSome result (λ r. AwaitsCredit region.now r.node port) }
     {
-        self.leaving
-            .get_mut(usize::from(port))?
-            .receive(region, port)
+        let outlet = self.leaving.get_mut(usize::from(port))?;
+        let returned = outlet.receive(region, port)?;
+        Some(returned)
     }
 
     /// Lets out what was given and sent by all ports.
