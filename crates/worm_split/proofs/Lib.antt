@@ -4,6 +4,7 @@ pub mod Crossing
 pub mod EndFacts
 pub mod LinesMade
 pub mod SidesPut
+pub mod SharedPorts
 pub mod SameEnds
 pub mod GoesByEnd
 pub mod GrantsSent

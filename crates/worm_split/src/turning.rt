@@ -217,6 +217,7 @@ impl Part {
         ensures gives { Within (Attempts (Event.GiveCredit node port vc)) self.old None self.new }
         ensures same { IsSamePart self.old self.new }
     {
+        self.region.recall();
         self.region.give_owed(node, port, vc);
     }
 

@@ -13,9 +13,9 @@ use Rattle.worm_split.proofs.part.Part.send_within.Goals as goal
 pub send_there-requires-clause-within : goal.send_there-requires-clause-within
 send_there-requires-clause-within c =
     let i = c.self.inside in
-    let p : PartState = part_state i.region i.ends.items i.opening.value i.lines.value.items in
+    let p : PartState = part_state i.region i.side i.opening.value i.sides.value.items in
     let here : owned p.net c.args.node ≡ true = (λ t. owned (c.self.view_is t).net c.args.node) ∙ c.requires.own in
-    let stays = subst (λ (q : PartState). StaysWithin q c.args.node
+    let stays = subst (λ (q : PartState). StaysWithin q
     (leaving (router_at q.net c.args.node) c.args.port c.args.vc)) (sym c.self.view_is) c.requires.stays in
     sends_within p c.self.invariant.0 c.args.node here
     (leaving (router_at p.net c.args.node) c.args.port c.args.vc) stays
@@ -23,9 +23,9 @@ send_there-requires-clause-within c =
 pub invariant_of-self : goal.invariant_of-self
 invariant_of-self c =
     let i = c.self.inside in
-    let p : PartState = part_state i.region i.ends.items i.opening.value i.lines.value.items in
+    let p : PartState = part_state i.region i.side i.opening.value i.sides.value.items in
     let here : owned p.net c.args.node ≡ true = (λ t. owned (c.self.view_is t).net c.args.node) ∙ c.requires.own in
-    let stays = subst (λ (q : PartState). StaysWithin q c.args.node
+    let stays = subst (λ (q : PartState). StaysWithin q
     (leaving (router_at q.net c.args.node) c.args.port c.args.vc)) (sym c.self.view_is) c.requires.stays in
     let made = sent_within p c.self.invariant.0 c.args.node here c.args.port c.args.vc c.send_there.new.self
     c.recall.ensures.framed c.send_there.result stays c.send_there.ensures in (
