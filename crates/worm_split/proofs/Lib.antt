@@ -44,4 +44,3 @@ pub mod SinkSends
 pub mod NodeEffects
 pub mod Effects
 pub mod AtRest
-pub mod Sharing
