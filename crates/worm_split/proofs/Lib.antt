@@ -5,6 +5,8 @@ pub mod EndFacts
 pub mod LinesMade
 pub mod SidesPut
 pub mod SameEnds
+pub mod Pasts
+pub mod SharedSoFar
 pub mod GoesByEnd
 pub mod GrantsSent
 pub mod Inside
