@@ -1,16 +1,13 @@
 -- What all workers have by port as bundles are made for them: what was made, and what stays as it was.
-use Rattle.std.proofs.Common.{◌≡◌, ◌≢◌, ℕ, ◌+◌, ◌*◌, ◌<◌, ◌/◌, ◌%◌, List, length, inl, inr, replicate, arith, ap, sym}
-use Rattle.std.proofs.Common.{subst, ◌∙◌, refl, get_or-set_other, get_or-set_same, length-set, below_more}
+use Rattle.std.proofs.Common.{◌≡◌, ◌≢◌, ℕ, ◌+◌, ◌*◌, ◌<◌, ◌/◌, ◌%◌, List, length, inl, inr, arith, ap}
+use Rattle.std.proofs.Common.{subst, ◌∙◌, get_or-set_other, get_or-set_same, length-set, below_more}
 use Rattle.std.specs.Prelude.{slice_set}
 use Rattle.std.proofs.lemmas.Bool.{cases_lt}
-use Rattle.std.proofs.lemmas.List.{get_or-replicate}
-use Rattle.std.proofs.Math.ListN.{length-replicate}
 use Rattle.worm_mesh.specs.Address.{opposite_of, stride_of}
-use Rattle.worm_router.proofs.NothingReady.{get_or-replicate_same}
 use Rattle.worm_theory.proofs.Places.{number_cases}
 use Rattle.worm_region.specs.State.{NetState}
 use Rattle.worm_split.specs.Making.{AreOthersSame, AreShared, HavePorts, IsShared}
-use Rattle.worm_split.specs.Sides.{AreBundleMade, AreSides, Inside, InletView, OutletView, SideView, Within, inlet_at}
+use Rattle.worm_split.specs.Sides.{AreBundleMade, Inside, InletView, OutletView, SideView, Within, inlet_at}
 use Rattle.worm_split.specs.Sides.{no_side, outlet_at, side_at, worker_above}
 use Rattle.worm_split.proofs.LinesMade.{above_one}
 
@@ -132,7 +129,7 @@ module _ (s : NetState) (workers d w : ℕ) (old mid new : List SideView) (w_in 
       → AreShared s workers d w old → AreShared s workers d (w + 1) new
   one_more_shared up down before = record {
     up = below_more _ _ (λ k k_in.
-    made_same s (2 * d + 1) _ _ _ _
+        made_same s (2 * d + 1) _ _ _ _
         (down.outlets k (2 * d + 1) (λ _ e. omega (arith, e)) ∙ up.outlets k (2 * d + 1) (λ e _. omega (arith, e)))
         (down.inlets (above k) (2 * d) (λ _ e. omega (arith, e, lower))
         ∙ up.inlets (above k) (2 * d)
@@ -143,7 +140,7 @@ module _ (s : NetState) (workers d w : ℕ) (old mid new : List SideView) (w_in 
         (subst (λ (p : ℕ). AreBundleMade s (2 * d + 1) (outlet_at (side_at mid w) (2 * d + 1))
         (inlet_at (side_at mid (above w)) p)) upper up.made));
     down = below_more _ _ (λ k k_in.
-    made_same s (2 * d) _ _ _ _
+        made_same s (2 * d) _ _ _ _
         (down.outlets (above k) (2 * d)
         (λ e _. let one = above_one s.mesh workers d k w (omega arith) w_in e in omega arith)
         ∙ up.outlets (above k) (2 * d) (λ _ e. omega (arith, e)))
@@ -174,37 +171,12 @@ pub record AreMadeBelow (s : NetState) (workers dim : ℕ) (sides : List SideVie
   pub within : (p w : ℕ) → w < workers → (p < 2 * dim → stride_of s.mesh (p / 2) % workers ≡ 0) →
       (outlet_at (side_at sides w) p ≡ Within) × (inlet_at (side_at sides w) p ≡ Inside)
 
-empty_side_at : (workers ports w : ℕ) (sides : List SideView) → w < workers
-    → sides ≡ replicate workers (record { leaving = replicate ports Within; entering = replicate ports Inside })
-    → side_at sides w ≡ record { leaving = replicate ports Within; entering = replicate ports Inside }
-empty_side_at workers ports w sides w_in is =
-    ap (λ (l : List SideView). side_at l w) is ∙ get_or-replicate workers w _ no_side w_in
-
-pub empty_places : (workers ports : ℕ) (sides : List SideView)
-    → sides ≡ replicate workers (record { leaving = replicate ports Within; entering = replicate ports Inside })
-    → HavePorts workers ports sides
-empty_places workers ports sides is = record {
-  count = ap (λ (l : List SideView). length l) is ∙ length-replicate workers _;
-  leaving = λ w w_in. ap (λ (v : SideView). length v.leaving) (empty_side_at workers ports w sides w_in is)
-      ∙ length-replicate ports Within;
-  entering = λ w w_in. ap (λ (v : SideView). length v.entering) (empty_side_at workers ports w sides w_in is)
-      ∙ length-replicate ports Inside;
-}
+-- what holds at each dimension
+pub record IsMadeSoFar (s : NetState) (workers dim : ℕ) (sides : List SideView) : Type 0 where
+  pub places : HavePorts workers (2 * length s.mesh) sides
+  pub made : AreMadeBelow s workers dim sides
 
 module _ (s : NetState) (workers : ℕ) where
-  pub none_made : (ports : ℕ) (sides : List SideView)
-      → sides ≡ replicate workers (record { leaving = replicate ports Within; entering = replicate ports Inside })
-      → AreMadeBelow s workers 0 sides
-  none_made ports sides is = record {
-    up = λ d w none. absurd (omega arith);
-    down = λ d w none. absurd (omega arith);
-    within = λ p w w_in _.
-        let at = empty_side_at workers ports w sides w_in is in (
-          ap (λ (v : SideView). outlet_at v p) at ∙ get_or-replicate_same ports p Within,
-          ap (λ (v : SideView). inlet_at v p) at ∙ get_or-replicate_same ports p Inside,
-        );
-  }
-
   -- a dimension in which a step leads to the same worker has no bundles
   pub dim_within : (dim : ℕ) (sides : List SideView) → stride_of s.mesh dim % workers ≡ 0
       → AreMadeBelow s workers dim sides → AreMadeBelow s workers (dim + 1) sides
@@ -248,13 +220,4 @@ module _ (s : NetState) (workers : ℕ) where
           let before = made.within p w w_in (λ p_in. each (omega (arith, p_in))) in
           (others.outlets w p away.1 ∙ before.0, others.inlets w p away.1 ∙ before.1)
     ];
-  }
-
-  pub all_made : (dims ports : ℕ) (sides : List SideView) → dims ≡ length s.mesh → HavePorts workers ports sides
-      → AreMadeBelow s workers dims sides → AreSides s workers sides
-  all_made dims ports sides all places made = record {
-    count = places.count;
-    up = λ d w d_in. made.up d w (omega (arith, d_in, all));
-    down = λ d w d_in. made.down d w (omega (arith, d_in, all));
-    within = λ p w w_in each. made.within p w w_in (λ p_in. each (omega (arith, p_in, all)));
   }

@@ -1,8 +1,8 @@
 -- What all workers have by port, as the bundles between them are made one after another.
-use Rattle.std.specs.Prelude.{◌≡◌, ℕ, ◌+◌, ◌*◌, ◌<◌, ◌/◌, ◌%◌, List, length}
-use Rattle.worm_mesh.specs.Address.{opposite_of, stride_of}
+use Rattle.std.specs.Prelude.{◌≡◌, ℕ, ◌+◌, ◌*◌, ◌<◌, ◌/◌, List, length}
+use Rattle.worm_mesh.specs.Address.{opposite_of}
 use Rattle.worm_region.specs.State.{NetState}
-use Rattle.worm_split.specs.Sides.{AreBundleMade, Inside, SideView, Within, inlet_at, outlet_at, side_at, worker_above}
+use Rattle.worm_split.specs.Sides.{AreBundleMade, SideView, inlet_at, outlet_at, side_at, worker_above}
 
 -- each of so many workers has a place for each of so many ports
 pub record HavePorts (workers ports : ℕ) (sides : List SideView) : Type 0 where

@@ -195,6 +195,7 @@ fn share_dim(
         sides.new.items) }
     ensures others { IfOk result (λ _. AreOthersSame dim sides.old.items sides.new.items) }
 {
+    net.recall();
     let workers = sides.len();
     for worker in 0..workers {
         let above = (worker + usize::from(stride)) % workers;
