@@ -42,6 +42,7 @@ end_first sides side own y x o is =
     made_same true false l m out into = out refl
     made_same false true l m out into = into refl
     made_same false false l m out into = refl
+
     of_owner : (z : ℕ) → owned_by own z ≡ true → side ≡ side_at sides (z % own.workers)
     of_owner z e = let at : z % own.workers ≡ own.worker = grind (arith, e) in is ∙ ap (side_at sides) (sym at)
 
