@@ -6,6 +6,8 @@ pub mod LinesMade
 pub mod SidesPut
 pub mod SharedPorts
 pub mod SameEnds
+pub mod Pasts
+pub mod SharedSoFar
 pub mod GoesByEnd
 pub mod GrantsSent
 pub mod Inside
@@ -45,4 +47,3 @@ pub mod SinkSends
 pub mod NodeEffects
 pub mod Effects
 pub mod AtRest
-pub mod Sharing
