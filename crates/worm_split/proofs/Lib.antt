@@ -40,6 +40,7 @@ pub mod FirstPart
 pub mod DealtSoFar
 pub mod Accepted
 pub mod PassagesTell
+pub mod AcrossLinks
 pub mod Alone
 pub mod Grants
 pub mod FirstAccepted

@@ -24,6 +24,7 @@ use Rattle.worm_region.specs.declared.node.Node.{Node}
 use Rattle.worm_region.specs.declared.step.Moved.{Moved}
 use Rattle.worm_region.specs.declared.step.Moved.TheVariants.{Done, Idle}
 use Rattle.worm_split.specs.Effects.{HaveTheSame, OneMore}
+use Rattle.worm_split.proofs.AcrossLinks.{sent_or_not}
 use Rattle.worm_split.specs.PartState.{PartState}
 use Rattle.worm_split.specs.PartTurns.{EachOf, PartPassage, Sends, SendsGrant, SendsGranted}
 use Rattle.worm_split.proofs.Accepted.{same_source}
@@ -125,11 +126,11 @@ one_sent x p g old new fault there holding sends =
     elim sends [
       | inl across ↦
           subst (λ (f : Option StepFault). OneSent x p g s f new.net) (sym across.0)
-          (elim across.1.answer [
+          (elim (sent_or_not x p g.vc old new across.1) [
             | inl went ↦
-                subst (λ (t : PartState). OneSent x p g s None t.net) (sym went) (link_sent x p g s s.links there)
+                subst (λ (t : NetState). OneSent x p g s None t) (sym went) (link_sent x p g s s.links there)
             | inr stayed ↦
-                subst (λ (t : PartState). OneSent x p g s None t.net) (sym stayed.0)
+                subst (λ (t : PartState). OneSent x p g s None t.net) (sym stayed)
                 (still_sent x p g s None none_refuses)
           ])
       | inr within ↦

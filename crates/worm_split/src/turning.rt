@@ -343,9 +343,9 @@ impl Part {
     {
         let due = script.due(turn);
         have_words(due.entries());
-        self.region.recall();
         self.receive_flits();
         self.receive_credits();
+        self.region.recall();
         let done = self.node_turns(rt, &due);
         self.flush(rt);
         done
