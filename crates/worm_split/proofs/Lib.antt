@@ -2,6 +2,7 @@ pub mod ComesByEnd
 pub mod CreditsGiven
 pub mod Crossing
 pub mod EndFacts
+pub mod SameEnds
 pub mod LinesMade
 pub mod GoesByEnd
 pub mod GrantsSent
