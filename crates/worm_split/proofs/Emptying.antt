@@ -160,7 +160,7 @@ pub record CreditsSoFar (span : Span) (sent taken now_sent now_taken : List Retu
 pub flit_put : (link new : LinkView) (f : Flit)
     → (length link.flits < link.room → new ≡ record link { flits = link.flits ++ f ∷ [] })
     → (link.room ≤ length link.flits → new ≡ link) → (new.credits ≡ link.credits) × (new.room ≡ link.room)
-flit_put link new f fits full = elim (cases_lt (length link.flits) link.room) [
+flit_put link after f fits full = elim (cases_lt (length link.flits) link.room) [
   | inl lt ↦ let e = fits lt in (ap (λ (l : LinkView). l.credits) e, ap (λ (l : LinkView). l.room) e)
   | inr ge ↦ let e = full ge in (ap (λ (l : LinkView). l.credits) e, ap (λ (l : LinkView). l.room) e)
 ]
@@ -168,7 +168,7 @@ flit_put link new f fits full = elim (cases_lt (length link.flits) link.room) [
 pub credit_put : (link new : LinkView) (vc : ℕ)
     → (length link.credits < link.room → new ≡ record link { credits = link.credits ++ vc ∷ [] })
     → (link.room ≤ length link.credits → new ≡ link) → (new.flits ≡ link.flits) × (new.room ≡ link.room)
-credit_put link new vc fits full = elim (cases_lt (length link.credits) link.room) [
+credit_put link after vc fits full = elim (cases_lt (length link.credits) link.room) [
   | inl lt ↦ let e = fits lt in (ap (λ (l : LinkView). l.flits) e, ap (λ (l : LinkView). l.room) e)
   | inr ge ↦ let e = full ge in (ap (λ (l : LinkView). l.flits) e, ap (λ (l : LinkView). l.room) e)
 ]

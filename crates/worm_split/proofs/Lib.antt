@@ -19,6 +19,7 @@ pub mod Swapping
 pub mod Meeting
 pub mod Gathered
 pub mod Emptying
+pub mod BundlesEmptied
 pub mod JoinLinks
 pub mod MadeSoFar
 pub mod JoinNet

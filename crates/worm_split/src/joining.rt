@@ -123,16 +123,12 @@ fn empty_bundle<R: Wait>(
     requires bundle { AreBundle out into }
     ensures { IsBundleEmptied span.now out into links.old.items links.new.items }
 {
-    let Outlet {
-        ends: Some((tx, back)),
-    } = out
-    else {
+    let Outlet { ends: near } = out;
+    let Some((tx, back)) = near else {
         unreachable!()
     };
-    let Inlet {
-        ends: Some((rx, give)),
-    } = into
-    else {
+    let Inlet { ends: far } = into;
+    let Some((rx, give)) = far else {
         unreachable!()
     };
     empty_flits(rt, span, tx, rx, links);
