@@ -20,6 +20,8 @@ pub mod Meeting
 pub mod Gathered
 pub mod Emptying
 pub mod BundlesEmptied
+pub mod SidesLeft
+pub mod BetweenEmptied
 pub mod JoinLinks
 pub mod MadeSoFar
 pub mod JoinNet
