@@ -22,6 +22,8 @@ pub mod Emptying
 pub mod BundlesEmptied
 pub mod SidesLeft
 pub mod BetweenEmptied
+pub mod Around
+pub mod PortsEmptied
 pub mod JoinLinks
 pub mod MadeSoFar
 pub mod JoinNet

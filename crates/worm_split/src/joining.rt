@@ -1,7 +1,7 @@
 //! The parts of a network joined again.
 
 ghost use Rattle.std.specs.Prelude.{◌≡◌, ◌+◌, ◌*◌, ◌<◌, ◌≤◌, ◌++◌, ◌∷◌, [], IfSome, SomeIff, length};
-ghost use Rattle.worm_mesh.specs.Address.{opposite_of};
+ghost use Rattle.worm_mesh.specs.Address.{AreRadices, opposite_of};
 ghost use Rattle.worm_mesh.specs.Links.{IsNumbering, link_count};
 ghost use Rattle.worm_core.specs.Headline.{DeliversInOrder};
 ghost use Rattle.worm_split.specs.Apart.{ArePaired, IsPutBack, with_lists};
@@ -169,6 +169,7 @@ fn empty_port<R: Wait>(
 )
     requires some { 0 < length sides.old.items }
     requires step { step < length sides.old.items }
+    requires mesh { AreRadices mesh.now }
     requires port { port < 2 * length mesh.now }
     requires length { length links.old.items ≡ link_count mesh.now }
     requires bundles { AreBundlesBy port step sides.old.items }
@@ -195,6 +196,7 @@ fn empty_dim<R: Wait>(
     links: &mut Vec<LinkState>,
 )
     requires some { 0 < length sides.old.items }
+    requires mesh { AreRadices mesh.now }
     requires dim { dim < length mesh.now }
     requires length { length links.old.items ≡ link_count mesh.now }
     requires bundles { AreBundlesAlong mesh.now dim sides.old.items }
