@@ -24,6 +24,7 @@ pub mod SidesLeft
 pub mod BetweenEmptied
 pub mod Around
 pub mod PortsEmptied
+pub mod DimsEmptied
 pub mod JoinLinks
 pub mod MadeSoFar
 pub mod JoinNet
