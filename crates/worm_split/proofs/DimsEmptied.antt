@@ -1,6 +1,6 @@
 -- The bundles by both ports of a dimension are emptied, and so those of one dimension after another.
 use Rattle.std.proofs.Common.{◌≡◌, ℕ, ◌+◌, ◌-◌, ◌*◌, ◌/◌, ◌<◌, ◌≤◌, ◌%◌, ◌⊎◌, inl, inr, List, length, Option, Some}
-use Rattle.std.proofs.Common.{refl, arith, sym, ap, subst, ◌∙◌}
+use Rattle.std.proofs.Common.{None, refl, arith, sym, ap, subst, ◌∙◌}
 use Rattle.std.specs.Prelude.{IsSome}
 use Rattle.std.proofs.Math.Nat.{mod-lt}
 use Rattle.std.proofs.lemmas.Bool.{cases_lt}
@@ -10,7 +10,7 @@ use Rattle.worm_mesh.proofs.Digits.{AreLarge, AreLarge-from_radices}
 use Rattle.worm_mesh.proofs.Neighbours.{Joins-from}
 use Rattle.worm_mesh.proofs.Numbers.{one_link}
 use Rattle.worm_theory.proofs.Places.{number_cases}
-use Rattle.worm_wires.proofs.StepsAdd.{step_down, step_up}
+use Rattle.worm_wires.proofs.StepsAdd.{step_down, step_from_zero, step_up}
 use Rattle.worm_wires.specs.Links.{LinkView}
 use Rattle.worm_split.specs.Emptying.{AreBundle, AreBundles, AreBundlesAlong, AreBundlesBy, AreLinksEmptied, IsDimEmptied}
 use Rattle.worm_split.specs.Emptying.{IsLinkEmptied, IsPortEmptied, link_of_number}
@@ -61,6 +61,22 @@ module _ (mesh : List ℕ) (radices : AreRadices mesh) where
 
     worker_in : (x : ℕ) → x % W < W
     worker_in x = mod-lt x some
+
+    -- node 0 has a neighbour on the plus side, one step above it
+    pub no_step : (out : Option ℕ) → d < length mesh → out ≡ neighbour_of mesh 0 (2 * d + 1) → out ≡ None → ⊥
+    no_step out d_in out_is none =
+        let some_out = out_is ∙ step_from_zero mesh d (2 * d + 1) radices d_in refl in
+        let clash : ◌≡◌ {A = Option ℕ} None (Some (stride_of mesh d)) = sym none ∙ some_out in
+        cc
+
+    pub step_read : (out : Option ℕ) (beyond from workers : ℕ) → d < length mesh
+        → out ≡ neighbour_of mesh 0 (2 * d + 1) → out ≡ Some beyond → from ≡ beyond → workers ≡ length sides
+        → from % workers ≡ rest
+    step_read out beyond from workers d_in out_is found from_is workers_is =
+        let some_out = out_is ∙ step_from_zero mesh d (2 * d + 1) radices d_in refl in
+        let same : ◌≡◌ {A = Option ℕ} (Some beyond) (Some (stride_of mesh d)) = sym found ∙ some_out in
+        let at : beyond ≡ stride_of mesh d = cc in
+        λ t. (from_is ∙ at) t % workers_is t
 
     -- the worker a step up
     above_is : (a x : ℕ) → a + stride_of mesh d ≡ x → (a % W + rest) % W ≡ x % W
@@ -135,6 +151,23 @@ module _ (mesh : List ℕ) (radices : AreRadices mesh) where
           (opposite_of (2 * d)))) from
           (subst (λ (p : ℕ). AreBundle (outlet_at (side_at sides (worker_above mesh W d v)) (2 * d))
           (inlet_at (side_at sides v) p)) (sym port) (along v (worker_in (w + back)) over).1)
+
+      -- those by the other port are as they were
+      pub bundles_mid : (mid_sides : List SideView) (mid : List LinkView)
+          → IsPortEmptied mesh (2 * d + 1) step sides mid_sides old mid → AreBundlesAlong mesh d sides
+          → AreBundlesBy (2 * d) back mid_sides
+      bundles_mid mid_sides mid up along w w_in =
+          let v = (w + back) % W in
+          let out : outlet_at (side_at mid_sides w) (2 * d) ≡ outlet_at (side_at sides w) (2 * d)
+          = up.outlets w (2 * d) (λ e. omega (arith, e)) in
+          let into : inlet_at (side_at mid_sides v) (opposite_of (2 * d)) ≡ inlet_at (side_at sides v)
+          (opposite_of (2 * d)) = up.inlets v (opposite_of (2 * d)) (λ e. omega (arith, e)) in
+          let there : w < W = subst (λ (n : ℕ). w < n) up.all_sides w_in in
+          subst (λ (n : ℕ). AreBundle (outlet_at (side_at mid_sides w) (2 * d)) (inlet_at
+          (side_at mid_sides ((w + back) % n)) (opposite_of (2 * d)))) (sym up.all_sides)
+          (subst (λ (o : OutletView). AreBundle o (inlet_at (side_at mid_sides v) (opposite_of (2 * d)))) (sym out)
+          (subst (λ (i : InletView). AreBundle (outlet_at (side_at sides w) (2 * d)) i) (sym into)
+          (bundles_down along w there)))
 
       module _ (mid_sides after_sides : List SideView) (mid after : List LinkView)
           (up : IsPortEmptied mesh (2 * d + 1) step sides mid_sides old mid)

@@ -25,6 +25,7 @@ pub mod BetweenEmptied
 pub mod Around
 pub mod PortsEmptied
 pub mod DimsEmptied
+pub mod DimsSoFar
 pub mod JoinLinks
 pub mod MadeSoFar
 pub mod JoinNet
