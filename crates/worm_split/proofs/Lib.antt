@@ -29,7 +29,7 @@ pub mod DimsSoFar
 pub mod JoinLinks
 pub mod MadeSoFar
 pub mod JoinNet
-pub mod LinesEmptied
+pub mod LinksEmptied
 pub mod JoinState
 pub mod Swapped
 pub mod Exchanged
