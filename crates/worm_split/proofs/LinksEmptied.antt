@@ -4,19 +4,16 @@ use Rattle.std.specs.Prelude.{slice_index_or}
 use Rattle.std.proofs.lemmas.Bool.{cases_lt}
 use Rattle.std.proofs.lemmas.List.{get_or_past}
 use Rattle.worm_mesh.specs.Address.{neighbour_of}
-use Rattle.worm_mesh.specs.Links.{links_before}
-use Rattle.worm_mesh.specs.declared.mesh.LinkEnds.{LinkEnds}
-use Rattle.worm_mesh.proofs.Digits.{AreLarge, AreLarge-from_radices}
+use Rattle.worm_mesh.proofs.Digits.{AreLarge-from_radices}
 use Rattle.worm_mesh.proofs.Neighbours.{neighbour_of-some}
 use Rattle.worm_theory.proofs.Places.{number_cases}
-use Rattle.worm_region.specs.State.{NetState, IsFramed}
+use Rattle.worm_region.specs.State.{IsFramed}
 use Rattle.worm_wires.specs.Links.{LinkView, blank_link}
 use Rattle.worm_split.specs.Ends.{End, Inner, Leaving, Entering}
-use Rattle.worm_split.specs.Apart.{Apart, AreWays, Fits, with_lists}
+use Rattle.worm_split.specs.Apart.{Apart, Fits, with_lists}
 use Rattle.worm_split.specs.Emptying.{AreLinksEmptied, link_of_number}
 use Rattle.worm_split.specs.Exchange.{way_at}
-use Rattle.worm_split.specs.Joins.{AreEmptied, IsBetween, IsEmptied, line_at}
-use Rattle.worm_split.specs.Sides.{SideView}
+use Rattle.worm_split.specs.Joins.{AreEmptied, IsEmptied, line_at}
 use Rattle.worm_split.proofs.Exchanged.{framed_with}
 
 -- a link that is emptied keeps its room
@@ -74,17 +71,4 @@ by_number old links fits emptied =
             let long = emptied.same_length in
             get_or_past links k blank_link (omega arith) ∙ sym (get_or_past old.net.links k blank_link (omega arith))
       ];
-    }
-
--- emptied, the lists fit as before, whatever the workers have by port
-pub emptied_fits : (old after : Apart) → Fits old → after.ways ≡ old.ways
-    → after.net ≡ with_lists old.net old.net.nodes after.net.links
-    → AreEmptied old.ways old.sides old.net.links after.net.links → Fits after
-emptied_fits old after fits ways rest emptied =
-    let mesh : after.net.mesh ≡ old.net.mesh = ap (λ (s : NetState). s.mesh) rest in
-    record {
-      framed = subst IsFramed (sym rest) (emptied_framed old after.net.links fits emptied);
-      all_owned = ap (λ (s : NetState). s.own) rest ∙ fits.all_owned;
-      ways = subst (λ (m : List ℕ). AreWays m after.ways) (sym mesh)
-          (subst (λ (ws : List LinkEnds). AreWays old.net.mesh ws) (sym ways) fits.ways);
     }
