@@ -4,6 +4,10 @@ pub mod Crossing
 pub mod EndFacts
 pub mod SameEnds
 pub mod LinesMade
+pub mod SidesPut
+pub mod SameEnds
+pub mod Pasts
+pub mod SharedSoFar
 pub mod GoesByEnd
 pub mod GrantsSent
 pub mod Inside
@@ -11,7 +15,7 @@ pub mod Keeping
 pub mod PartFacts
 pub mod PartLoops
 pub mod PartMoves
-pub mod EndsKnown
+pub mod PortKnown
 pub mod SeenAtEnds
 pub mod Staying
 pub mod Within
@@ -50,4 +54,3 @@ pub mod SinkSends
 pub mod NodeEffects
 pub mod Effects
 pub mod AtRest
-pub mod Sharing

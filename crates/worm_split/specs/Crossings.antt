@@ -1,6 +1,6 @@
 -- What goes over the end of a bundle: a flit that is sent or taken, a credit that is given or comes back (Dally and
 -- Towles, chapter 13), and which link awaits what came.
-use Rattle.std.specs.Prelude.{◌≡◌, ℕ, ◌≤◌, ◌<◌, Bool, true, false, [], ◌∷◌, ◌++◌, length, Some}
+use Rattle.std.specs.Prelude.{◌≡◌, ℕ, ◌≤◌, ◌<◌, Bool, true, false, cond, [], ◌∷◌, ◌++◌, length, Some}
 use Rattle.worm_flit.specs.declared.Flit.{Flit}
 use Rattle.worm_flit.specs.Stamps.{on_channel}
 use Rattle.worm_flit.specs.Worms.{Continues}
@@ -12,7 +12,8 @@ use Rattle.worm_bundles.specs.Bundles.{bundle_capacity, link_of, on_node, past_a
 use Rattle.worm_region.specs.State.{NetState, link_at}
 use Rattle.worm_region.specs.Moves.{link_into, link_out}
 use Rattle.worm_region.specs.Workable.{owned}
-use Rattle.worm_split.specs.Sides.{FlitsIn, CreditsIn, OutletView, InletView, Within, Over, Inside, From}
+use Rattle.worm_split.specs.Sides.{OutletView, InletView, SideView, Within, Over, Inside, From}
+use Rattle.worm_split.specs.Sides.{inlet_at, outlet_at, put_inlet, put_outlet}
 
 -- The link out of port o of node y leads from another worker's node to one of these lists' own, and no flit is on it.
 pub record AwaitsFlit (net : NetState) (y o : ℕ) : Type 0 where
@@ -69,3 +70,19 @@ CreditGiven Inside y v true new = ⊥
 CreditGiven (From rx give) y v true new = new ≡ From rx (record give { sent = give.sent ++ record { node = y; vc = v } ∷ [] })
 CreditGiven Inside y v false new = new ≡ Inside
 CreditGiven (From rx give) y v false new = (new ≡ From rx give) × (bundle_capacity give.bundle ≤ length give.sent)
+
+-- The same by a port of a worker's
+
+abbrev pub FlitTakenBy : SideView → ℕ → Carried → SideView → Type 0
+FlitTakenBy old p c new = (into : InletView) × FlitTaken (inlet_at old p) c into × (new ≡ put_inlet old p into)
+
+abbrev pub CreditTakenBy : SideView → ℕ → Returned → SideView → Type 0
+CreditTakenBy old o r new = (out : OutletView) × CreditTaken (outlet_at old o) r out × (new ≡ put_outlet old o out)
+
+abbrev pub FlitSentBy : SideView → ℕ → ℕ → Flit → Bool → SideView → Type 0
+FlitSentBy old o y f sent new =
+    (out : OutletView) × FlitSent (outlet_at old o) y f sent out × (new ≡ cond sent (put_outlet old o out) old)
+
+abbrev pub CreditGivenBy : SideView → ℕ → ℕ → ℕ → Bool → SideView → Type 0
+CreditGivenBy old p y v given new =
+    (into : InletView) × CreditGiven (inlet_at old p) y v given into × (new ≡ cond given (put_inlet old p into) old)

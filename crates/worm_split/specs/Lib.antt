@@ -1,5 +1,6 @@
 pub mod Ends
 pub mod Sides
+pub mod Making
 pub mod Crossings
 pub mod PartState
 pub mod PartTurns

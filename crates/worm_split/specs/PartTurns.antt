@@ -1,6 +1,6 @@
 -- The turn of a node in a worker's part: the turn of a node, in which what goes to another worker goes by the worker's
 -- end of the link, and what comes from one comes by it (Dally and Towles, chapters 13 and 16).
-use Rattle.std.specs.Prelude.{ℕ, ◌≡◌, ◌⊎◌, List, [], ◌∷◌, Bool, true, cond, filter, slice_index_or, slice_set}
+use Rattle.std.specs.Prelude.{ℕ, ◌≡◌, ◌⊎◌, List, [], ◌∷◌, Bool, true, cond, filter, slice_index_or}
 use Rattle.std.specs.Prelude.{Option, Some, None, IsSome}
 use Rattle.std.specs.Option.{option_to_list}
 use Rattle.worm_flit.specs.declared.Flit.{Flit}
@@ -20,7 +20,7 @@ use Rattle.worm_region.specs.Workable.{owned}
 use Rattle.worm_swalloc.specs.declared.grant.SwGrant.{SwGrant}
 use Rattle.worm_split.specs.Crossings.{AwaitsCredit, AwaitsFlit, CreditGiven, CreditTaken, FlitSent, FlitTaken}
 use Rattle.worm_split.specs.PartState.{PartState}
-use Rattle.worm_split.specs.Sides.{InletView, OutletView, inlet_at, is_from, is_over, outlet_at}
+use Rattle.worm_split.specs.Sides.{InletView, OutletView, inlet_at, is_from, is_over, outlet_at, put_inlet, put_outlet}
 
 -- Passages of a part
 
@@ -50,10 +50,10 @@ Within P old fault new = P old.net fault new.net × (new ≡ record old { net = 
 
 -- the part with this by a port, and this network
 abbrev pub with_outlet : PartState → ℕ → OutletView → NetState → PartState
-with_outlet p o out net = record p { net = net; side = record p.side { leaving = slice_set p.side.leaving o out } }
+with_outlet p o out net = record p { net = net; side = put_outlet p.side o out }
 
 abbrev pub with_inlet : PartState → ℕ → InletView → NetState → PartState
-with_inlet p q into net = record p { net = net; side = record p.side { entering = slice_set p.side.entering q into } }
+with_inlet p q into net = record p { net = net; side = put_inlet p.side q into }
 
 -- A credit came back over the link out of port o of node x, on whose way back none was, and stands there.
 pub record CreditComes (x o : ℕ) (old new : PartState) : Type 0 where

@@ -1,7 +1,7 @@
 -- What a worker has by port: its ends of the bundles that its nodes share with other workers' (Dally and Towles,
 -- chapter 13); and of each link the end that it has with them.
 use Rattle.std.specs.Prelude.{◌≡◌, ℕ, ◌+◌, ◌*◌, ◌<◌, ◌%◌, ◌/◌, ◌==◌, List, [], map, filter, length, sum}
-use Rattle.std.specs.Prelude.{slice_index_or, slice_get, Bool, true, false, Option, Some, None}
+use Rattle.std.specs.Prelude.{slice_index_or, slice_get, slice_set, Bool, true, false, Option, Some, None}
 use Rattle.worm_flit.specs.declared.Flit.{Flit}
 use Rattle.worm_flit.specs.Channels.{owner_of}
 use Rattle.worm_mesh.specs.Address.{neighbour_of, opposite_of, stride_of}
@@ -69,6 +69,13 @@ outlet_at side o = slice_index_or side.leaving o Within
 
 abbrev pub inlet_at : SideView → ℕ → InletView
 inlet_at side p = slice_index_or side.entering p Inside
+
+-- with this by one port
+abbrev pub put_outlet : SideView → ℕ → OutletView → SideView
+put_outlet side o out = record side { leaving = slice_set side.leaving o out }
+
+abbrev pub put_inlet : SideView → ℕ → InletView → SideView
+put_inlet side p into = record side { entering = slice_set side.entering p into }
 
 -- An end of a bundle, as it is an end of the link that leaves this node
 
@@ -165,7 +172,7 @@ abbrev pub worker_above : List ℕ → ℕ → ℕ → ℕ → ℕ
 worker_above mesh workers d w = (w + stride_of mesh d) % workers
 
 -- By a dimension in which a step leads to another worker, each worker has a bundle to the worker above it and one from
--- it; by any other it has none.
+-- it; by any other port, also one past the mesh ports, it has none.
 pub record AreSides (s : NetState) (workers : ℕ) (sides : List SideView) : Type 0 where
   pub count : length sides ≡ workers
   pub up : (d w : ℕ) → d < length s.mesh → w < workers → (stride_of s.mesh d % workers ≡ 0 → ⊥) →
@@ -174,7 +181,7 @@ pub record AreSides (s : NetState) (workers : ℕ) (sides : List SideView) : Typ
   pub down : (d w : ℕ) → d < length s.mesh → w < workers → (stride_of s.mesh d % workers ≡ 0 → ⊥) →
       AreBundleMade s (2 * d) (outlet_at (side_at sides (worker_above s.mesh workers d w)) (2 * d))
       (inlet_at (side_at sides w) (2 * d + 1))
-  pub within : (p w : ℕ) → w < workers → stride_of s.mesh (p / 2) % workers ≡ 0 →
+  pub within : (p w : ℕ) → w < workers → (p < 2 * length s.mesh → stride_of s.mesh (p / 2) % workers ≡ 0) →
       (outlet_at (side_at sides w) p ≡ Within) × (inlet_at (side_at sides w) p ≡ Inside)
 
 -- the same end of the same bundle, whatever went over it

@@ -1,11 +1,16 @@
 //! All that the parts of a network need, made before the network is taken apart.
 
-ghost use Rattle.std.specs.Prelude.{◌≡◌, ◌<◌, ◌*◌, ◌+◌, ◌%◌, All, IfOk, length, replicate, sum, ℕ, slice_get, Some};
+ghost use Rattle.std.specs.Prelude.{◌≡◌, ◌<◌, ◌*◌, All, IfOk, length, replicate, sum, ℕ, slice_get, slice_set};
+ghost use Rattle.std.specs.Prelude.{Some};
 ghost use Rattle.worm_flit.specs.Channels.{AreChannels, owner_of};
+ghost use Rattle.worm_links.specs.Links.{AreWorms};
+ghost use Rattle.worm_mesh.specs.Address.{stride_of};
 ghost use Rattle.worm_mesh.specs.Links.{link_count};
+ghost use Rattle.worm_bundles.specs.Bundles.{past_at};
 ghost use Rattle.worm_wires.specs.Links.{empty_link};
 ghost use Rattle.worm_region.specs.Parts.{IsConfigOf};
 ghost use Rattle.worm_split.specs.Apart.{AreWays};
+ghost use Rattle.worm_split.specs.Making.{AreOthersSame, AreShared, HavePorts, IsShared};
 ghost use Rattle.worm_split.specs.Sides.{AreBundleMade, AreSides, HasPasts, Inside, IsBundleOf, Within};
 ghost use Rattle.worm_split.specs.Splits.{AreRooms, IsSeat};
 
@@ -109,17 +114,18 @@ fn make_empty_sides(alloc: Global, ports: u8, workers: u16) -> Result<Vec<Side>,
 fn make_bundle<B: Opening>(
     alloc: Global,
     net: &Net,
-    cfg: BundleCfg,
+    cfg: &BundleCfg,
 ) -> Result<(Outlet, Inlet), AllocError>
-    requires bundle { IsBundleOf net.now cfg.port cfg }
-    requires pasts { HasPasts net.now cfg.port B.pasts }
-    ensures { IfOk result (λ ends. AreBundleMade net.now cfg.port ends.0 ends.1) }
+    requires bundle { IsBundleOf net.now cfg.now.port cfg.now }
+    requires pasts { HasPasts net.now cfg.now.port B.pasts }
+    requires worms { (node : ℕ) → AreWorms (past_at B.pasts node) }
+    ensures { IfOk result (λ ends. AreBundleMade net.now cfg.now.port ends.0 ends.1) }
 {
     net.recall();
-    let Ok((tx, rx)) = bundle_after::<B>(alloc, cfg) else {
+    let Ok((tx, rx)) = bundle_after::<B>(alloc, *cfg) else {
         return Err(AllocError);
     };
-    let Ok((give, back)) = credit_bundle(alloc, cfg) else {
+    let Ok((give, back)) = credit_bundle(alloc, *cfg) else {
         return Err(AllocError);
     };
     let out = Outlet {
@@ -131,19 +137,43 @@ fn make_bundle<B: Opening>(
     Ok((out, into))
 }
 
+/// Puts in its place what leaves by the port.
+fn put_outlet(side: &mut Side, port: u8, out: Outlet)
+    requires { port < length side.old.leaving }
+    ensures { side.new ≡ record side.old { leaving = slice_set side.old.leaving port out } }
+{
+    side.leaving[usize::from(port)] = out;
+}
+
+/// Puts in its place what enters by the port.
+fn put_inlet(side: &mut Side, port: u8, into: Inlet)
+    requires { port < length side.old.entering }
+    ensures { side.new ≡ record side.old { entering = slice_set side.old.entering port into } }
+{
+    side.entering[usize::from(port)] = into;
+}
+
 /// Makes the bundle by this port from one worker to another, and gives each its end.
 fn share(
     alloc: Global,
     net: &Net,
     sides: &mut Vec<Side>,
-    cfg: BundleCfg,
+    cfg: &BundleCfg,
     from: usize,
     to: usize,
 ) -> Result<(), AllocError>
+    requires bundle { IsBundleOf net.now cfg.now.port cfg.now }
+    requires port { cfg.now.port < 2 * length net.now.mesh }
+    requires places { HavePorts (length sides.old.items) (2 * length net.now.mesh) sides.old.items }
+    requires from { from < length sides.old.items }
+    requires to { to < length sides.old.items }
+    ensures places { IfOk result (λ _. HavePorts (length sides.old.items) (2 * length net.now.mesh) sides.new.items) }
+    ensures shared { IfOk result (λ _. IsShared net.now cfg.now.port from to sides.old.items sides.new.items) }
 {
+    net.recall();
     let (out, into) = make_bundle::<Brand>(alloc, net, cfg)?;
-    sides[from].leaving[usize::from(cfg.port)] = out;
-    sides[to].entering[usize::from(cfg.mesh.opposite(cfg.port))] = into;
+    put_outlet(&mut sides[from], cfg.port, out);
+    put_inlet(&mut sides[to], cfg.mesh.opposite(cfg.port), into);
     Ok(())
 }
 
@@ -154,16 +184,31 @@ fn share_dim(
     sides: &mut Vec<Side>,
     cfg: &BundleCfg,
     dim: u8,
-    stride: usize,
+    stride: u8,
 ) -> Result<(), AllocError>
+    requires bundle { IsBundleOf net.now cfg.now.port cfg.now }
+    requires dim { dim < length net.now.mesh }
+    requires stride { stride ≡ stride_of net.now.mesh dim }
+    requires places { HavePorts (length sides.old.items) (2 * length net.now.mesh) sides.old.items }
+    ensures places { IfOk result (λ _. HavePorts (length sides.old.items) (2 * length net.now.mesh) sides.new.items) }
+    ensures shared { IfOk result (λ _. AreShared net.now (length sides.old.items) dim (length sides.old.items)
+        sides.new.items) }
+    ensures others { IfOk result (λ _. AreOthersSame dim sides.old.items sides.new.items) }
 {
+    net.recall();
     let workers = sides.len();
     for worker in 0..workers {
-        let above = (worker + stride) % workers;
-        let up = BundleCfg { port: 2 * dim + 1, ..*cfg };
-        share(alloc, net, sides, up, worker, above)?;
-        let down = BundleCfg { port: 2 * dim, ..*cfg };
-        share(alloc, net, sides, down, above, worker)?;
+        let above = (worker + usize::from(stride)) % workers;
+        let up = BundleCfg {
+            port: 2 * dim + 1,
+            ..*cfg
+        };
+        share(alloc, net, sides, &up, worker, above)?;
+        let down = BundleCfg {
+            port: 2 * dim,
+            ..*cfg
+        };
+        share(alloc, net, sides, &down, above, worker)?;
     }
     Ok(())
 }
@@ -197,7 +242,7 @@ fn make_sides(
             unreachable!()
         };
         if u16::from(beyond) % workers != 0 {
-            share_dim(alloc, net, &mut sides, &cfg, dim, usize::from(beyond))?;
+            share_dim(alloc, net, &mut sides, &cfg, dim, beyond)?;
         }
     }
     Ok(sides)

@@ -1,9 +1,9 @@
 //! What a worker has by port: its ends of the bundles that its nodes share with other workers'.
 
-ghost use Rattle.std.specs.Prelude.{◌≡◌, IfNone, IfSome, IsTrue};
+ghost use Rattle.std.specs.Prelude.{◌≡◌, ◌<◌, IfNone, IfSome, IsTrue, true};
 ghost use Rattle.worm_split.specs.Crossings.{AwaitsCredit, AwaitsFlit, CreditGiven, CreditTaken, FlitSent, FlitTaken};
-ghost use Rattle.worm_split.specs.Crossings.{MayGive, MaySend};
-ghost use Rattle.worm_split.specs.Sides.{is_from, is_over};
+ghost use Rattle.worm_split.specs.Crossings.{CreditGivenBy, CreditTakenBy, FlitSentBy, FlitTakenBy, MayGive, MaySend};
+ghost use Rattle.worm_split.specs.Sides.{inlet_at, is_from, is_over, outlet_at};
 
 use crate::exchange::owns;
 use std::marker::Model;
@@ -83,6 +83,7 @@ impl Outlet {
     /// Takes the next credit that came back, where its link, out of this port of one of the region's nodes, has none on
     /// its way. None where none came, or one waits.
     pub fn receive(&mut self, region: &Region, port: u8) -> Option<Returned>
+        requires { 0 < region.now.own.workers }
         ensures none { IfNone result (self.new ≡ self.old) }
         ensures taken { IfSome result (λ r. CreditTaken self.old r self.new) }
         ensures awaited { IfSome result (λ r. AwaitsCredit region.now r.node port) }
@@ -128,6 +129,7 @@ impl Inlet {
     /// Takes the next flit that came, where its link, out of this port of another worker's node, has none on it. None
     /// where none came, or one waits.
     pub fn receive(&mut self, region: &Region, out: u8) -> Option<Carried>
+        requires { 0 < region.now.own.workers }
         ensures none { IfNone result (self.new ≡ self.old) }
         ensures taken { IfSome result (λ c. FlitTaken self.old c self.new) }
         ensures awaited { IfSome result (λ c. AwaitsFlit region.now c.node out) }
@@ -153,15 +155,81 @@ impl Inlet {
 }
 
 impl Side {
+    /// Whether what leaves by the port leaves for another worker's nodes.
+    pub fn leaves(&self, port: u8) -> bool
+        ensures { result ≡ is_over (outlet_at self.now port) }
+    {
+        match self.leaving.get(usize::from(port)) {
+            Some(outlet) => outlet.is_over(),
+            None => false,
+        }
+    }
+
+    /// Whether what enters by the port comes from another worker's nodes.
+    pub fn comes(&self, port: u8) -> bool
+        ensures { result ≡ is_from (inlet_at self.now port) }
+    {
+        match self.entering.get(usize::from(port)) {
+            Some(inlet) => inlet.is_from(),
+            None => false,
+        }
+    }
+
+    /// Sends a flit over the link that leaves the node by the port, which leads to another worker's. False where there is
+    /// no room; then nothing changed.
+    pub fn send<R: Wait>(&mut self, rt: &R, node: u8, port: u8, flit: Flit) -> bool
+        requires over { is_over (outlet_at self.old port) ≡ true }
+        requires may { MaySend (outlet_at self.old port) node flit }
+        ensures { FlitSentBy self.old port node flit result self.new }
+    {
+        self.leaving[usize::from(port)].send(rt, node, flit)
+    }
+
+    /// Gives a credit of the link that leaves the node and enters by the port, from another worker's. False where there is
+    /// no room; then nothing changed.
+    pub fn give<R: Wait>(&mut self, rt: &R, node: u8, port: u8, vc: u8) -> bool
+        requires from { is_from (inlet_at self.old port) ≡ true }
+        requires may { MayGive (inlet_at self.old port) vc }
+        ensures { CreditGivenBy self.old port node vc result self.new }
+    {
+        self.entering[usize::from(port)].give(rt, node, vc)
+    }
+
+    /// Takes the next flit that came in by the port, where its link, out of port `out` of another worker's node, has none
+    /// on it. None where none came, or one waits.
+    pub fn receive_flit(&mut self, region: &Region, port: u8, out: u8) -> Option<Carried>
+        requires { 0 < region.now.own.workers }
+        ensures none { IfNone result (self.new ≡ self.old) }
+        ensures taken { IfSome result (λ c. FlitTakenBy self.old port c self.new) }
+        ensures awaited { IfSome result (λ c. AwaitsFlit region.now c.node out) }
+    {
+        let inlet = self.entering.get_mut(usize::from(port))?;
+        let carried = inlet.receive(region, out)?;
+        Some(carried)
+    }
+
+    /// Takes the next credit that came back by the port, where its link has none on its way. None where none came, or one
+    /// waits.
+    pub fn receive_credit(&mut self, region: &Region, port: u8) -> Option<Returned>
+        requires { 0 < region.now.own.workers }
+        ensures none { IfNone result (self.new ≡ self.old) }
+        ensures taken { IfSome result (λ r. CreditTakenBy self.old port r self.new) }
+        ensures awaited { IfSome result (λ r. AwaitsCredit region.now r.node port) }
+    {
+        let outlet = self.leaving.get_mut(usize::from(port))?;
+        let returned = outlet.receive(region, port)?;
+        Some(returned)
+    }
+
     /// Lets out what was given and sent by all ports.
     pub fn flush<R: Wait>(&mut self, rt: &R)
         ensures { self.new ≡ self.old }
     {
-        for inlet in &mut self.entering {
-            inlet.flush(rt);
+        for port in 0..self.entering.len() {
+            self.entering[port].flush(rt);
         }
-        for outlet in &mut self.leaving {
-            outlet.flush(rt);
+        for port in 0..self.leaving.len() {
+            self.leaving[port].flush(rt);
         }
     }
 }
@@ -169,6 +237,7 @@ impl Side {
 /// Whether the link out of this port awaits a flit: it leads from another worker's node to one of the region's own, and
 /// no flit is on it.
 fn awaits_flit(region: &Region, node: u8, out: u8) -> bool
+    requires { 0 < region.now.own.workers }
     ensures { IsTrue result → AwaitsFlit region.now node out }
 {
     region.recall();
@@ -176,12 +245,16 @@ fn awaits_flit(region: &Region, node: u8, out: u8) -> bool
         return false;
     };
     let own = region.own();
-    !owns(own, node) && owns(own, links.beyond) && !region.has_flits(node, out)
+    if owns(own, node) || !owns(own, links.beyond) {
+        return false;
+    }
+    !region.has_flits(node, out)
 }
 
 /// Whether the link out of this port awaits a credit: it leads from one of the region's own nodes to another worker's,
 /// and no credit is on its way back over it.
 fn awaits_credit(region: &Region, node: u8, out: u8) -> bool
+    requires { 0 < region.now.own.workers }
     ensures { IsTrue result → AwaitsCredit region.now node out }
 {
     region.recall();
@@ -189,5 +262,8 @@ fn awaits_credit(region: &Region, node: u8, out: u8) -> bool
         return false;
     };
     let own = region.own();
-    owns(own, node) && !owns(own, links.beyond) && !region.has_credits(links.beyond, links.entered)
+    if owns(own, links.beyond) || !owns(own, node) {
+        return false;
+    }
+    !region.has_credits(links.beyond, links.entered)
 }

@@ -95,8 +95,8 @@ fn deal(
 }
 
 /// Splits the network at its links among so many workers, 1 to 16: a part for each, in rising number. The nodes go to
-/// them in
-/// turn, and a worker past the last node gets none. `Err` gives the network back as it was, where memory is refused.
+/// them in turn, and a worker past the last node gets none. `Err` gives the network back as it was, where memory is
+/// refused.
 ///
 /// ```text
 /// let parts = split(alloc, net, 4)?;

@@ -34,11 +34,8 @@ impl Part {
         ensures came { result ≡ true → (node : ℕ) × FlitComes node port self.old self.new }
         ensures none { result ≡ false → self.new ≡ self.old }
     {
-        let Some(inlet) = self.side.entering.get_mut(usize::from(port)) else {
-            return false;
-        };
         let out = self.region.mesh().opposite(port);
-        let Some(carried) = inlet.receive(&self.region, out) else {
+        let Some(carried) = self.side.receive_flit(&self.region, port, out) else {
             return false;
         };
         self.region.arrive(carried.node, out, carried.flit);
@@ -52,10 +49,8 @@ impl Part {
         ensures came { result ≡ true → (node : ℕ) × CreditComes node port self.old self.new }
         ensures none { result ≡ false → self.new ≡ self.old }
     {
-        let Some(outlet) = self.side.leaving.get_mut(usize::from(port)) else {
-            return false;
-        };
-        let Some(returned) = outlet.receive(&self.region, port) else {
+        self.region.recall();
+        let Some(returned) = self.side.receive_credit(&self.region, port) else {
             return false;
         };
         let links = self.region.links_beyond(returned.node, port);
@@ -140,10 +135,7 @@ impl Part {
         ensures same { IsSamePart self.old self.new }
     {
         self.region.recall();
-        let Some(outlet) = self.side.leaving.get_mut(usize::from(out)) else {
-            unreachable!()
-        };
-        if outlet.send(rt, node, flit) {
+        if self.side.send(rt, node, out, flit) {
             self.region.let_out(node, port, vc, out, flit);
         }
     }
@@ -160,26 +152,6 @@ impl Part {
         tried(self.region.send_there(node, port, vc))
     }
 
-    /// Whether what leaves the part's nodes by the port leaves for another worker's.
-    fn leaves(&self, out: u8) -> bool
-        ensures { IsTrue result ↔ LeavesBy self.now out }
-    {
-        match self.side.leaving.get(usize::from(out)) {
-            Some(outlet) => outlet.is_over(),
-            None => false,
-        }
-    }
-
-    /// Whether what enters them by the port comes from another worker's.
-    fn comes(&self, port: u8) -> bool
-        ensures { IsTrue result ↔ ComesBy self.now port }
-    {
-        match self.side.entering.get(usize::from(port)) {
-            Some(inlet) => inlet.is_from(),
-            None => false,
-        }
-    }
-
     /// Lets a granted channel send, over a link to another worker or within the part. `NoMemory` where its flit is for
     /// the sink and there is none for it there.
     fn send<R: Wait>(&mut self, rt: &R, node: u8, port: u8, vc: u8) -> Result<(), StepFault>
@@ -189,7 +161,7 @@ impl Part {
         ensures same { IsSamePart self.old self.new }
     {
         match self.region.ready(node, port, vc) {
-            Some((out, flit)) if self.leaves(out) => {
+            Some((out, flit)) if self.side.leaves(out) => {
                 self.send_across(rt, node, port, vc, out, flit);
                 Ok(())
             }
@@ -231,10 +203,7 @@ impl Part {
     {
         self.region.recall();
         let links = self.region.links_beyond(node, port);
-        let Some(inlet) = self.side.entering.get_mut(usize::from(port)) else {
-            unreachable!()
-        };
-        if inlet.give(rt, links.beyond, vc) {
+        if self.side.give(rt, links.beyond, port, vc) {
             self.region.gave(node, port, vc);
         }
     }
@@ -260,7 +229,7 @@ impl Part {
         ensures gives { Gives node port vc self.old None self.new }
         ensures same { IsSamePart self.old self.new }
     {
-        if self.comes(port) {
+        if self.side.comes(port) {
             self.give_across(rt, node, port, vc);
         } else {
             self.give_within(node, port, vc);
