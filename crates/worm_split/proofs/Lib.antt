@@ -5,7 +5,6 @@ pub mod EndFacts
 pub mod SameEnds
 pub mod LinesMade
 pub mod SidesPut
-pub mod SameEnds
 pub mod Pasts
 pub mod SharedSoFar
 pub mod GoesByEnd
