@@ -9,3 +9,4 @@ pub mod Apart
 pub mod Exchange
 pub mod Splits
 pub mod Joins
+pub mod Emptying

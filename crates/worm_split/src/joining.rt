@@ -1,9 +1,15 @@
 //! The parts of a network joined again.
 
-ghost use Rattle.std.specs.Prelude.{◌≡◌, ◌<◌, ◌≤◌, ◌++◌, ◌∷◌, ◌%◌, ◌==◌, [], ℕ, false, length, true};
+ghost use Rattle.std.specs.Prelude.{◌≡◌, ◌+◌, ◌*◌, ◌<◌, ◌≤◌, ◌++◌, ◌∷◌, [], IfSome, SomeIff, length};
+ghost use Rattle.worm_mesh.specs.Address.{AreRadices, opposite_of};
+ghost use Rattle.worm_mesh.specs.Links.{IsNumbering, link_count};
 ghost use Rattle.worm_core.specs.Headline.{DeliversInOrder};
 ghost use Rattle.worm_split.specs.Apart.{ArePaired, IsPutBack, with_lists};
+ghost use Rattle.worm_split.specs.Emptying.{AreBundle, AreBundles, AreBundlesAlong, AreBundlesBy, AreLinksEmptied};
+ghost use Rattle.worm_split.specs.Emptying.{CreditsEmptied, FlitsEmptied, IsBetweenEmptied, IsBundleEmptied};
+ghost use Rattle.worm_split.specs.Emptying.{IsDimEmptied, IsOver, IsPortEmptied, number_over};
 ghost use Rattle.worm_split.specs.Joins.{AreEmptied, AreParts, IsGathered, IsJoinOf, IsLaterThan};
+ghost use Rattle.worm_split.specs.Sides.{inlet_at, outlet_at, side_at};
 ghost use Rattle.worm_split.specs.Splits.{part_at};
 
 use crate::exchange::Kept;
@@ -38,21 +44,46 @@ fn put_credit_behind(link: &mut LinkState, vc: u8)
     }
 }
 
+/// The links of one bundle: those that leave one worker's nodes, of so many workers, by one port.
+#[derive(Clone, Copy)]
+pub(crate) struct Span {
+    /// The mesh.
+    pub(crate) mesh: Mesh,
+    /// The port of each node that a link leaves.
+    pub(crate) port: u8,
+    /// The worker of those nodes.
+    pub(crate) worker: usize,
+    /// How many workers there are.
+    pub(crate) workers: usize,
+}
+
+impl Span {
+    /// The number of the link that leaves the node, if it is one of them.
+    fn number(&self, node: u8) -> Option<u16>
+        requires workers { 0 < self.now.workers }
+        ensures value { SomeIff result (IsOver self.now node) (number_over self.now node) }
+        ensures in_range { IfSome result (λ n. n < link_count self.now.mesh) }
+        ensures one_link { IsNumbering self.now.mesh }
+    {
+        let number = self.mesh.link_number(node, self.port);
+        if usize::from(node) % self.workers != self.worker {
+            return None;
+        }
+        number
+    }
+}
+
 /// Puts what a bundle's queue still holds behind the flits of its links. There is room for it, but that is known only of
 /// all links together, once all queues are empty; so it is asked.
-fn empty_flits<R: Wait>(
-    rt: &R,
-    mesh: &Mesh,
-    port: u8,
-    tx: FlitTx,
-    rx: FlitRx,
-    links: &mut Vec<LinkState>,
-)
-    requires { tx.queue ≡ rx.queue }
+fn empty_flits<R: Wait>(rt: &R, span: &Span, tx: FlitTx, rx: FlitRx, links: &mut Vec<LinkState>)
+    requires workers { 0 < span.now.workers }
+    requires length { length links.old.items ≡ link_count span.now.mesh }
+    requires queue { tx.queue ≡ rx.queue }
+    ensures { FlitsEmptied span.now tx.sent rx.taken links.old.items links.new.items }
 {
     let mut ends = reunite(tx, rx);
     while let Some(Carried { node, flit }) = ends.pop_rest(rt) {
-        if let Some(number) = mesh.link_number(node, port) {
+        if let Some(number) = span.number(node) {
             put_behind(&mut links[usize::from(number)], flit);
         }
     }
@@ -61,46 +92,142 @@ fn empty_flits<R: Wait>(
 /// The same of credits.
 fn empty_credits<R: Wait>(
     rt: &R,
-    mesh: &Mesh,
-    port: u8,
+    span: &Span,
     tx: CreditTx,
     rx: CreditRx,
     links: &mut Vec<LinkState>,
 )
-    requires { tx.queue ≡ rx.queue }
+    requires workers { 0 < span.now.workers }
+    requires length { length links.old.items ≡ link_count span.now.mesh }
+    requires queue { tx.queue ≡ rx.queue }
+    ensures { CreditsEmptied span.now tx.sent rx.taken links.old.items links.new.items }
 {
     let mut ends = reunite_credits(tx, rx);
     while let Some(Returned { node, vc }) = ends.pop_rest(rt) {
-        if let Some(number) = mesh.link_number(node, port) {
+        if let Some(number) = span.number(node) {
             put_credit_behind(&mut links[usize::from(number)], vc);
         }
     }
 }
 
-/// Puts what both queues of the bundle still hold onto its links, which leave by this port.
+/// Puts what both queues of a bundle still hold onto its links.
 fn empty_bundle<R: Wait>(
     rt: &R,
-    mesh: &Mesh,
-    port: u8,
+    span: &Span,
     out: Outlet,
     into: Inlet,
     links: &mut Vec<LinkState>,
 )
+    requires workers { 0 < span.now.workers }
+    requires length { length links.old.items ≡ link_count span.now.mesh }
+    requires bundle { AreBundle out into }
+    ensures { IsBundleEmptied span.now out into links.old.items links.new.items }
 {
-    let Outlet {
-        ends: Some((tx, back)),
-    } = out
-    else {
-        return;
+    let Outlet { ends: near } = out;
+    let Some((tx, back)) = near else {
+        unreachable!()
     };
-    let Inlet {
-        ends: Some((rx, give)),
-    } = into
-    else {
-        return;
+    let Inlet { ends: far } = into;
+    let Some((rx, give)) = far else {
+        unreachable!()
     };
-    empty_flits(rt, mesh, port, tx, rx, links);
-    empty_credits(rt, mesh, port, give, back, links);
+    empty_flits(rt, span, tx, rx, links);
+    empty_credits(rt, span, give, back, links);
+}
+
+/// Puts what the queues of the bundle to this worker still hold onto its links.
+fn empty_between<R: Wait>(
+    rt: &R,
+    span: &Span,
+    to: usize,
+    sides: &mut Vec<Side>,
+    links: &mut Vec<LinkState>,
+)
+    requires workers { span.now.workers ≡ length sides.old.items }
+    requires worker { (span.now.worker < length sides.old.items) × (to < length sides.old.items) }
+    requires port { span.now.port < 2 * length span.now.mesh }
+    requires length { length links.old.items ≡ link_count span.now.mesh }
+    requires bundle { AreBundle (outlet_at (side_at sides.old.items span.now.worker) span.now.port)
+        (inlet_at (side_at sides.old.items to) (opposite_of span.now.port)) }
+    ensures { IsBetweenEmptied span.now to sides.old.items sides.new.items links.old.items links.new.items }
+{
+    let left = &mut sides[span.worker].leaving[usize::from(span.port)];
+    let out = replace(left, Outlet { ends: None });
+    let entered = &mut sides[to].entering[usize::from(span.mesh.opposite(span.port))];
+    let into = replace(entered, Inlet { ends: None });
+    empty_bundle(rt, span, out, into, links);
+}
+
+/// The same of all bundles by a port, each to the worker so many further on.
+fn empty_port<R: Wait>(
+    rt: &R,
+    mesh: &Mesh,
+    port: u8,
+    step: usize,
+    sides: &mut Vec<Side>,
+    links: &mut Vec<LinkState>,
+)
+    requires some { 0 < length sides.old.items }
+    requires step { step < length sides.old.items }
+    requires mesh { AreRadices mesh.now }
+    requires port { port < 2 * length mesh.now }
+    requires length { length links.old.items ≡ link_count mesh.now }
+    requires bundles { AreBundlesBy port step sides.old.items }
+    ensures { IsPortEmptied mesh.now port step sides.old.items sides.new.items links.old.items links.new.items }
+{
+    let workers = sides.len();
+    for worker in 0..workers {
+        let span = Span {
+            mesh: *mesh,
+            port,
+            worker,
+            workers,
+        };
+        empty_between(rt, &span, (worker + step) % workers, sides, links);
+    }
+}
+
+/// The same of all bundles by both ports of a dimension.
+fn empty_dim<R: Wait>(
+    rt: &R,
+    mesh: &Mesh,
+    dim: u8,
+    sides: &mut Vec<Side>,
+    links: &mut Vec<LinkState>,
+)
+    requires some { 0 < length sides.old.items }
+    requires mesh { AreRadices mesh.now }
+    requires dim { dim < length mesh.now }
+    requires length { length links.old.items ≡ link_count mesh.now }
+    requires bundles { AreBundlesAlong mesh.now dim sides.old.items }
+    ensures { IsDimEmptied mesh.now dim sides.old.items sides.new.items links.old.items links.new.items }
+{
+    let Some(beyond) = mesh.neighbour(0, 2 * dim + 1) else {
+        unreachable!()
+    };
+    let workers = sides.len();
+    let step = usize::from(beyond) % workers;
+    if step != 0 {
+        empty_port(rt, mesh, 2 * dim + 1, step, sides, links);
+        empty_port(rt, mesh, 2 * dim, workers - step, sides, links);
+    }
+}
+
+/// The same of all bundles.
+fn empty_sides<R: Wait>(
+    rt: &R,
+    mesh: &Mesh,
+    sides: &mut Vec<Side>,
+    links: &mut Vec<LinkState>,
+)
+    requires some { 0 < length sides.old.items }
+    requires length { length links.old.items ≡ link_count mesh.now }
+    requires bundles { AreBundles mesh.now sides.old.items }
+    ensures { AreLinksEmptied mesh.now sides.old.items links.old.items links.new.items }
+{
+    for dim in 0..mesh.dims() {
+        empty_dim(rt, mesh, dim, sides, links);
+    }
 }
 
 impl Kept {
@@ -120,48 +247,17 @@ impl Kept {
         self.exchange(&mut nodes, &mut links, &mut side, own);
     }
 
-    /// Puts what the queues of the bundle by this port, from one worker to another, still hold onto its links.
-    fn empty_between<R: Wait>(&mut self, rt: &R, mesh: &Mesh, port: u8, from: usize, to: usize)
-    {
-        let out = replace(
-            &mut self.sides[from].leaving[usize::from(port)],
-            Outlet { ends: None },
-        );
-        let into = replace(
-            &mut self.sides[to].entering[usize::from(mesh.opposite(port))],
-            Inlet { ends: None },
-        );
-        empty_bundle(rt, mesh, port, out, into, &mut self.links);
-    }
-
-    /// The same of all bundles by both ports of a dimension, in which a step adds `stride` to a node's number.
-    fn empty_dim<R: Wait>(&mut self, rt: &R, mesh: &Mesh, dim: u8, stride: usize)
-    {
-        let workers = self.sides.len();
-        for worker in 0..workers {
-            let above = (worker + stride) % workers;
-            self.empty_between(rt, mesh, 2 * dim + 1, worker, above);
-            self.empty_between(rt, mesh, 2 * dim, above, worker);
-        }
-    }
-
     /// Puts what all queues still hold onto their links.
     fn empty_bundles<R: Wait>(&mut self, rt: &R)
+        requires some { 0 < length self.old.sides }
+        requires bundles { AreBundles self.old.net.mesh self.old.sides }
         ensures links { AreEmptied self.old.ways self.old.sides self.old.net.links self.new.net.links }
         ensures rest { self.new.net ≡ with_lists self.old.net self.old.net.nodes self.new.net.links }
     {
         let Ok(mesh) = Mesh::new(self.config.radices.as_slice()) else {
             unreachable!()
         };
-        let workers = self.sides.len();
-        for dim in 0..mesh.dims() {
-            let Some(beyond) = mesh.neighbour(0, 2 * dim + 1) else {
-                unreachable!()
-            };
-            if usize::from(beyond) % workers != 0 {
-                self.empty_dim(rt, &mesh, dim, usize::from(beyond));
-            }
-        }
+        empty_sides(rt, &mesh, &mut self.sides, &mut self.links);
     }
 }
 
