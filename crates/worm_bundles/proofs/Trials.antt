@@ -27,7 +27,8 @@ pub may_cross_pair : (bundle : BundleCfg) (f : Flit) (channels node packet index
     → bundle ≡ pairs_bundle channels bundle.depth → f ≡ trial_flit node packet index kind → node % 2 ≡ 0
     → node + 1 < 256 → 0 < channels → MayCross (link_of bundle node) f
 may_cross_pair bundle f channels node packet index kind is it even below more =
-    let one : MayCross (link_of (pairs_bundle channels bundle.depth) node) (trial_flit node packet index kind) = record {
+    let g = trial_flit node packet index kind in
+    let one : MayCross (link_of (pairs_bundle channels bundle.depth) node) g = record {
       channel = more;
       owned = refl;
       source = omega (arith, below);
