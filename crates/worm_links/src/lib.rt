@@ -2,8 +2,8 @@
 //! Towles, chapters 12 and 13). No queue stands here: `worm_bundles` makes them.
 //!
 //! A flit may cross a link where its channel is one of the link's, owned by its class, and its route goes that way.
-//! What was sent over a link is a history of it: each flit may cross it, and with those that went before they are a worm
-//! on each channel.
+//! What was sent over a link is a history of it: each flit may cross it, and with those that went before they are on
+//! each channel a worm.
 //!
 //! The sender's end of a queue knows all that was sent, the taker's end all that was taken, and one rule of the queue
 //! ties them, whoever runs when: what was sent is what was taken, and then what the queue holds. What was sent is a
