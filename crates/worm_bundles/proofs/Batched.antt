@@ -1,10 +1,8 @@
 -- What each step of the ends of a queue of batches keeps.
-use Rattle.std.proofs.Common.{◌≡◌, ℕ, ◌<◌, ◌+◌, true, false, List, [], ◌∷◌, ◌++◌, length}
-use Rattle.std.proofs.Common.{Option, refl, sym, ap, ◌∙◌, subst, arith, append_assoc, length-append, map, set, ⊎_elim}
-use Rattle.std.specs.Prelude.{All}
+use Rattle.std.proofs.Common.{◌≡◌, ◌<◌, ◌+◌, true, List, [], ◌∷◌, ◌++◌, length}
+use Rattle.std.proofs.Common.{Option, refl, sym, ap, ◌∙◌, subst, arith, append_assoc, length-append, map}
 use Rattle.std.proofs.lemmas.List.{append-nil}
-use Rattle.std.proofs.lemmas.List.Elements.{All-nil, All-push, All-take}
-use Rattle.std.proofs.Math.Seq.{take-append_seam}
+use Rattle.std.proofs.lemmas.List.Elements.{All-nil, All-push}
 use Rattle.arrayvec.specs.ArrayVec.{ArrayVec}
 use Rattle.crossbeam_queue.specs.declared.array_queue.Doing.{Doing}
 use Rattle.crossbeam_queue.specs.declared.array_queue.Slotted.{Slotted}
@@ -14,20 +12,13 @@ use Rattle.worm_bundles.specs.Batches.{joined, before, items_of, IsFilled, IsBat
 use Rattle.worm_bundles.specs.Roles.{IsSender, IsTaker, IsBoth}
 use Rattle.worm_bundles.proofs.Joined.{joined-append, joined-push, before-nothing, is_end, takes_one, IsEnd}
 use Rattle.worm_links.specs.declared.history.Known.{Known}
-use Rattle.worm_links.specs.History.{known, sender, taker, whole, IsKept, Popped}
-use Rattle.worm_links.proofs.Histories.{reunites}
-use Rattle.crossbeam_queue.specs.Fifo.{Merges}
-use Rattle.crossbeam_queue.proofs.Lists.{at_set}
-use mathlib.Core.Option.{some}
-use lib.ListN.{get_elem?}
+use Rattle.worm_links.specs.History.{known, sender, taker, whole, Popped}
+use Rattle.worm_links.proofs.OnLinks.{All-front}
 
 abbrev Knows : Type 0 → Type 0
 Knows X = Known Opened (List X)
 
 module _ {X : Type 0} where
-  all_front : (P : List X → Type 0) (xs ys : List (List X)) → All P (xs ++ ys) → All P xs
-  all_front P xs ys h = subst (All P) (take-append_seam xs ys) (All-take P (length xs) (xs ++ ys) h)
-
   pub is_none : (xs : List X) → length xs ≡ 0 → xs ≡ []
   is_none [] e = refl
   is_none (x ∷ xs) e = absurd (omega (arith, e))
@@ -54,24 +45,9 @@ module _ {X : Type 0} where
         Batches bundle bs
     batches_front front bundle bs cs h =
         record {
-          filled = all_front IsFilled bs cs h.filled;
+          filled = All-front IsFilled bs cs h.filled;
           history = front bundle (joined bs) (joined cs) (subst (IsHistory bundle) (joined-append bs cs) h.history);
         }
-
-    -- the sender's bundle is the taker's
-    pub reunites_all : (pass : ℕ) (v : Knows X) (other : ℕ) (u : Knows X) (nobody : Opened) → v.pops ≡ true →
-        u.pushes ≡ true
-        → Merges (IsKept items_of IsBatch Batches) pass v other u (whole u.link u.sent v.taken)
-        (known nobody false false [] [])
-    reunites_all pass v other u nobody a b items views h at two at' =
-        let Ends : Opened → Knows X = λ link. whole link u.sent v.taken in
-        let was : get_elem? views other ≡ some u =
-        ⊎_elim (λ x. absurd (two x.0)) (λ x. x.1) (at_set views pass other (Ends u.link) u at') in
-        let same : v.link ≡ u.link = ((h.fits pass v at).1 a).1 ∙ sym ((h.fits other u was).0 b).1 in
-        subst (λ (l : Opened). IsKept items_of IsBatch Batches items
-        (set (set views pass (Ends l)) other (known nobody false false [] []))) same
-        (reunites items_of IsBatch Batches pass v other u nobody a b items views h at two
-        (subst (λ (l : Opened). get_elem? (set views pass (Ends l)) other ≡ some u) (sym same) at'))
 
     module _ {Q A : Type 0} (line : Slotted (Option (ArrayVec X)) (Doing (ArrayVec X) (Knows X)) Q A)
         (pass : Pass (ArrayVec X) (Knows X)) where

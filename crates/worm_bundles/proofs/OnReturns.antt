@@ -1,6 +1,7 @@
 -- Histories of credits on one bundle.
 use Rattle.std.proofs.Common.{◌<◌, List, [], ◌∷◌, ◌++◌}
-use Rattle.std.proofs.lemmas.List.Elements.{All-nil, All-push, All-head, All-drop}
+use Rattle.std.proofs.lemmas.List.Elements.{All-nil, All-push}
+use Rattle.worm_links.proofs.OnLinks.{All-last}
 use Rattle.worm_bundles.specs.declared.Returned.{Returned}
 use Rattle.worm_bundles.specs.declared.history.Opened.{Opened}
 use Rattle.worm_bundles.specs.Bundles.{IsReturnHistory}
@@ -14,6 +15,4 @@ returns_grow bundle xs r below h = All-push (λ (r : Returned). r.vc < bundle.cf
 
 pub latest_return : (bundle : Opened) (xs : List Returned) (r : Returned) → IsReturnHistory bundle (xs ++ r ∷ []) →
     r.vc < bundle.cfg.channels
-latest_return bundle [] r h = All-head (λ (r : Returned). r.vc < bundle.cfg.channels) r [] h
-latest_return bundle (x ∷ xs) r h =
-    latest_return bundle xs r (All-drop (λ (r : Returned). r.vc < bundle.cfg.channels) 1 (x ∷ (xs ++ r ∷ [])) h)
+latest_return bundle xs r h = All-last (λ (r : Returned). r.vc < bundle.cfg.channels) xs r h

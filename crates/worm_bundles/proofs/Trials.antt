@@ -1,20 +1,20 @@
 -- The tests' flits may cross the links of the tests' bundle, one after another.
-use Rattle.std.proofs.Common.{◌≡◌, ℕ, List, ◌+◌, ◌*◌, ◌/◌, ◌%◌, ◌<◌, ◌==◌, Bool, true, false, [], ◌∷◌, ◌++◌, Some}
+use Rattle.std.proofs.Common.{◌≡◌, ℕ, zero, suc, List, ◌+◌, ◌/◌, ◌%◌, ◌<◌, ◌==◌, Bool, true, false, [], ◌∷◌, ◌++◌, Some}
 use Rattle.std.proofs.Common.{refl, sym, ap, ◌∙◌, subst, arith, append_assoc, eq-eqb, eqb-true}
-use Rattle.std.specs.Prelude.{nat_le, nat_lt, ◌&&◌, slice_get, Option, None, MatchBool}
+use Rattle.std.specs.Prelude.{nat_le, nat_lt, ◌&&◌, Option, None, MatchBool}
 use Rattle.worm_flit.specs.declared.Flit.{Flit}
 use Rattle.worm_flit.specs.declared.Kind.{Kind}
+use Rattle.worm_flit.specs.declared.Kind.TheVariants.{Head}
 use Rattle.worm_flit.specs.Stamps.{on_channel}
 use Rattle.worm_flit.specs.Worms.{Continues, Opens, latest_on, MayFollow}
-use Rattle.worm_flit.proofs.Worming.{continues_latest, latest_here, latest_else}
-use Rattle.worm_links.specs.Links.{MayCross}
-use Rattle.worm_links.specs.Trial.{IsClear}
+use Rattle.worm_flit.proofs.Worming.{continues_latest, latest_here, latest_else, worms_grow}
+use Rattle.worm_links.specs.Links.{AreWorms, MayCross}
 use Rattle.worm_mesh.proofs.Digits.{step_mod}
 use Rattle.worm_route.specs.Crossing.{crosses}
 use Rattle.worm_bundles.specs.declared.BundleCfg.{BundleCfg}
 use Rattle.worm_bundles.specs.declared.Carried.{Carried}
 use Rattle.worm_bundles.specs.Bundles.{bundled, link_of, on_node, past_at, IsBundleHistory, TxView}
-use Rattle.worm_bundles.specs.Trial.{pairs_bundle, pair_flit, IsReady}
+use Rattle.worm_bundles.specs.Trial.{pairs_bundle, trial_flit, pair_flit, begun_pasts, IsClear, IsReady}
 use Rattle.worm_bundles.proofs.OnBundles.{on_node_here, on_node_else}
 
 crosses_pair : (x : ℕ) → x % 2 ≡ 0 → crosses (2 ∷ 8 ∷ 16 ∷ []) x 1 x (x + 1) ≡ true
@@ -23,11 +23,12 @@ crosses_pair x even =
     subst (λ (y : ℕ × ℕ). (nat_le y.0 y.0 && nat_lt y.0 y.1) && (x / 2 == x / 2) ≡ true)
     (λ i. (sym even i, sym next i)) (eq-eqb (x / 2) (x / 2) refl)
 
-pub may_cross_pair : (bundle : BundleCfg) (f : Flit) (channels node packet : ℕ)
-    → bundle ≡ pairs_bundle channels bundle.depth → f ≡ pair_flit node packet → node % 2 ≡ 0 → node + 1 < 256
-    → 0 < channels → MayCross (link_of bundle node) f
-may_cross_pair bundle f channels node packet is it even below more =
-    let one : MayCross (link_of (pairs_bundle channels bundle.depth) node) (pair_flit node packet) = record {
+pub may_cross_pair : (bundle : BundleCfg) (f : Flit) (channels node packet index : ℕ) (kind : Kind)
+    → bundle ≡ pairs_bundle channels bundle.depth → f ≡ trial_flit node packet index kind → node % 2 ≡ 0
+    → node + 1 < 256 → 0 < channels → MayCross (link_of bundle node) f
+may_cross_pair bundle f channels node packet index kind is it even below more =
+    let g = trial_flit node packet index kind in
+    let one : MayCross (link_of (pairs_bundle channels bundle.depth) node) g = record {
       channel = more;
       owned = refl;
       source = omega (arith, below);
@@ -51,6 +52,11 @@ goes_on channels tx f node packet it ready history =
     subst (λ (f : Flit). Continues (on_channel f.vc before) f) (sym it)
     (continues_latest _ (pair_flit node packet) ((history node).worms 0)
     (may_begin (latest_on 0 before) node packet (ready.clear node 0)))
+
+-- a head alone is a worm
+pub begun_worms : (node : ℕ) → AreWorms (past_at begun_pasts node)
+begun_worms zero c = worms_grow [] (trial_flit 0 7 0 Head) (λ _. tt) (tt, tt) c
+begun_worms (suc node) c = tt
 
 abbrev pub with_flit : TxView → ℕ → Flit → TxView
 with_flit tx node f = record tx { sent = tx.sent ++ record { node = node; flit = f } ∷ [] }

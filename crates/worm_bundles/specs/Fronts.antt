@@ -1,12 +1,11 @@
 -- The beginning of a history is a history.
-use Rattle.std.proofs.Common.{◌≡◌, ℕ, ◌<◌, ◌==◌, List, ◌++◌, length, map, ap, ◌∙◌, subst}
+use Rattle.std.proofs.Common.{◌≡◌, ℕ, ◌<◌, ◌==◌, List, ◌++◌, map, ap, ◌∙◌, subst}
 use Rattle.std.specs.Prelude.{filter}
 use Rattle.std.proofs.lemmas.List.{map-append}
-use Rattle.std.proofs.lemmas.List.Elements.{All-take, filter-append}
-use Rattle.std.proofs.Math.Seq.{take-append_seam}
+use Rattle.std.proofs.lemmas.List.Elements.{filter-append}
 use Rattle.worm_flit.specs.declared.Flit.{Flit}
 use Rattle.worm_links.specs.Links.{opened, IsLinkHistory}
-use Rattle.worm_links.proofs.OnLinks.{history_front}
+use Rattle.worm_links.proofs.OnLinks.{All-front, history_front}
 use Rattle.worm_bundles.specs.declared.Carried.{Carried}
 use Rattle.worm_bundles.specs.declared.Returned.{Returned}
 use Rattle.worm_bundles.specs.declared.history.Opened.{Opened}
@@ -28,5 +27,4 @@ bundle_front bundle xs ys h node =
 pub returns_front : (bundle : Opened) (xs ys : List Returned) → IsReturnHistory bundle (xs ++ ys) →
     IsReturnHistory bundle xs
 returns_front bundle xs ys h =
-    subst (IsReturnHistory bundle) (take-append_seam xs ys)
-    (All-take (λ (r : Returned). r.vc < bundle.cfg.channels) (length xs) (xs ++ ys) h)
+    All-front (λ (r : Returned). r.vc < bundle.cfg.channels) xs ys h

@@ -11,8 +11,6 @@ mod cases;
 #[cfg(test)]
 mod flit;
 #[cfg(test)]
-mod links;
-#[cfg(test)]
 mod mesh;
 #[cfg(test)]
 mod records;

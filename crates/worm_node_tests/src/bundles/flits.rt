@@ -1,15 +1,16 @@
 //! What goes onto a bundle comes out of it, in order: batch by batch, and at the reunion of its ends.
 
-ghost use Rattle.std.specs.Prelude.{◌≡◌, ◌+◌, ◌<◌, ◌%◌};
-ghost use Rattle.worm_bundles.specs.Trial.{pair_flit, IsReady};
+ghost use Rattle.std.specs.Prelude.{◌≡◌, ◌+◌, ◌<◌, ◌%◌, []};
+ghost use Rattle.worm_bundles.specs.Trial.{pairs_bundle, trial_flit, pair_flit, begun_pasts, IsReady};
 
 use crate::bundles::{node_of, pairs};
 use crate::cases::lane;
 use std::alloc::Global;
+use std::marker::Brand;
 use std::process::Abort;
 use std::sync::Wait;
 use std::thread;
-use worm_bundles::{Carried, Ends, FlitRx, FlitTx, bundle, reunite};
+use worm_bundles::{Carried, Ends, FlitRx, FlitTx, bundle, bundle_after, reunite};
 use worm_flit::{Flit, Kind};
 
 /// The ends of a new bundle of one channel, and room for one flit on it.
@@ -20,33 +21,41 @@ fn ends_of(rt: &impl Abort, alloc: Global) -> (FlitTx, FlitRx)
     bundle(alloc, pairs(rt, 1, 1)).expect(rt, "memory")
 }
 
-/// The only flit of a packet from a node to the next, which carries the packet's number.
-fn flit(node: u8, packet: u16) -> Flit
+/// A flit from a node to the next, which carries its packet's number.
+fn flit(node: u8, packet: u16, index: u8, kind: Kind) -> Flit
     requires { node + 1 < 256 }
-    ensures { result ≡ pair_flit node packet }
+    ensures { result ≡ trial_flit node packet index kind }
 {
     Flit {
         lane: lane(node, node + 1, 0),
         packet,
-        index: 0,
-        kind: Kind::Single,
+        index,
+        kind,
         vc: 0,
         word: u32::from(packet),
     }
 }
 
-/// Pushes the only flit of a packet. False where there is no room.
-fn push<R: Wait>(rt: &R, tx: &mut FlitTx, node: u8, packet: u16) -> bool
+/// The only flit of a packet.
+fn only(node: u8, packet: u16) -> Flit
+    requires { node + 1 < 256 }
+    ensures { result ≡ pair_flit node packet }
+{
+    flit(node, packet, 0, Kind::Single)
+}
+
+/// Pushes the only flit of a packet. `Err` gives it back where there is no room.
+fn push<R: Wait>(rt: &R, tx: &mut FlitTx, node: u8, packet: u16) -> Result<(), Flit>
     requires node { (node % 2 ≡ 0) × (node + 1 < 256) }
     requires ready { IsReady 1 tx.old }
     ensures ready { IsReady 1 tx.new }
     ensures queue { tx.new.queue ≡ tx.old.queue }
 {
-    let single = flit(node, packet);
+    let single = only(node, packet);
     tx.history();
     match tx.push(rt, node, single) {
-        Ok(()) => true,
-        Err(_) => false,
+        Ok(()) => Ok(()),
+        Err(back) => Err(back),
     }
 }
 
@@ -57,7 +66,7 @@ fn push_all<R: Wait>(rt: &R, tx: &mut FlitTx, packets: u16) -> u16
     ensures queue { tx.new.queue ≡ tx.old.queue }
 {
     for packet in 0..packets {
-        if !push(rt, tx, node_of(packet), packet) {
+        if push(rt, tx, node_of(packet), packet).is_err() {
             return packet;
         }
     }
@@ -69,7 +78,7 @@ fn carried(packet: u16) -> Carried {
     let node = node_of(packet);
     Carried {
         node,
-        flit: flit(node, packet),
+        flit: only(node, packet),
     }
 }
 
@@ -122,6 +131,7 @@ fn forty_flits_of_two_links(rt: HostRuntime) {
 fn a_full_bundle(rt: HostRuntime) {
     let (mut tx, mut rx) = ends_of(&rt, rt.alloc());
     assert_eq!(rt; push_all(&rt, &mut tx, 2000), 1040);
+    assert_eq!(rt; push(&rt, &mut tx, 2, 1040), Err(only(2, 1040)));
     tx.flush(&rt);
     come(&rt, &mut rx, 0, 1024);
     assert_eq!(rt; next(&mut rx), None);
@@ -151,15 +161,18 @@ fn send_turns<R: Wait>(rt: &R, mut tx: FlitTx) -> u16
     pushed
 }
 
-/// Takes so many flits, or fewer where the tries run out.
-fn take_all(mut rx: FlitRx, flits: u16) -> u16 {
+/// Takes so many flits, or fewer where the tries run out. They come in the order in which they were sent, 70 a turn.
+fn take_all(rt: &impl Abort, mut rx: FlitRx, flits: u16) -> u16 {
     let mut taken = 0;
     for _ in 0..10_000_000u32 {
         if taken >= flits {
             break;
         }
         match next(&mut rx) {
-            Some(_) => taken += 1,
+            Some(found) => {
+                assert_eq!(rt; found, carried(taken % 70));
+                taken += 1;
+            }
             None => thread::yield_now(),
         }
     }
@@ -171,6 +184,57 @@ fn two_threads_lose_no_flit(rt: HostRuntime) {
     let (tx, rx) = ends_of(&rt, rt.alloc());
     let started = thread::spawn(&rt, move || send_turns(&rt, tx));
     let sender = started.expect(&rt, "a thread");
-    assert_eq!(rt; take_all(rx, 700), 700);
+    assert_eq!(rt; take_all(&rt, rx, 700), 700);
     assert_eq!(rt; sender.join(&rt), 700);
+}
+
+/// The ends of a bundle over whose first link the head of packet 7 went before.
+fn begun(rt: &impl Abort, alloc: Global) -> (FlitTx, FlitRx)
+    ensures bundle { result.0.bundle ≡ pairs_bundle 1 1 }
+    ensures before { (result.0.pasts ≡ begun_pasts) × (result.0.sent ≡ []) }
+    ensures queue { result.0.queue ≡ result.1.queue }
+{
+    bundle_after::<Brand>(alloc, pairs(rt, 1, 1)).expect(rt, "memory")
+}
+
+/// Pushes the body and the tail of packet 7, whose head went before. False where there is no room.
+fn finish<R: Wait>(rt: &R, tx: &mut FlitTx) -> bool
+    requires bundle { tx.old.bundle ≡ pairs_bundle 1 1 }
+    requires before { (tx.old.pasts ≡ begun_pasts) × (tx.old.sent ≡ []) }
+    ensures { tx.new.queue ≡ tx.old.queue }
+{
+    let body = flit(0, 7, 1, Kind::Body);
+    tx.history();
+    if tx.push(rt, 0, body).is_err() {
+        return false;
+    }
+    let tail = flit(0, 7, 2, Kind::Tail);
+    tx.history();
+    tx.push(rt, 0, tail).is_ok()
+}
+
+/// A packet whose head went over its link before: its body and tail are the first flits that are sent.
+#[test]
+fn an_opening_history_is_continued(rt: HostRuntime) {
+    let (mut tx, mut rx) = begun(&rt, rt.alloc());
+    assert!(rt; finish(&rt, &mut tx));
+    tx.flush(&rt);
+    let body = flit(0, 7, 1, Kind::Body);
+    let tail = flit(0, 7, 2, Kind::Tail);
+    assert_eq!(rt;
+        next(&mut rx),
+        Some(Carried {
+            node: 0,
+            flit: body
+        })
+    );
+    let mut ends = reunite(tx, rx);
+    assert_eq!(rt;
+        ends.pop_rest(&rt),
+        Some(Carried {
+            node: 0,
+            flit: tail
+        })
+    );
+    assert_eq!(rt; ends.pop_rest(&rt), None);
 }

@@ -5,13 +5,13 @@ use Rattle.worm_bundles.specs.Batches.{items_of, IsBatch, AreBatches}
 use Rattle.worm_bundles.specs.declared.history.Opened.{Opened}
 use Rattle.worm_links.specs.declared.history.Known.{Known}
 use Rattle.worm_bundles.specs.Bundles.{no_bundle}
-use Rattle.worm_bundles.proofs.Batched.{meets, reunites_all}
-use Rattle.worm_links.proofs.Histories.{learns_rest}
+use Rattle.worm_bundles.proofs.Batched.{meets}
+use Rattle.worm_links.proofs.Histories.{learns_rest, reunites}
 use Rattle.worm_bundles.proofs.batches.reunite.Goals as goal
 
 pub absorb-requires-clause-rule : goal.absorb-requires-clause-rule
 absorb-requires-clause-rule g c =
-    reunites_all g.H.Carriage.IsHistory _ _ _ _ no_bundle
+    reunites items_of IsBatch (AreBatches g.H.Carriage.IsHistory) _ _ _ _ no_bundle
     (ap (λ v. v.pops) c.rx.invariant.role) (ap (λ v. v.pushes) c.tx.invariant.role)
 
 pub learn_as-requires-clause-rule : goal.learn_as-requires-clause-rule

@@ -1,4 +1,3 @@
-use Rattle.std.proofs.Common.{◌≡◌, ◌≤◌, ◌*◌}
 use Rattle.worm_bundles.specs.Trial.{IsReady}
 use Rattle.worm_node_tests.proofs.bundles.flits.send_turns.Given as goal
 
