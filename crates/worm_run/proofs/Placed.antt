@@ -10,8 +10,8 @@ use Rattle.worm_region.specs.declared.step.Moved.{Moved}
 use Rattle.worm_region.specs.declared.fault.StepFault.{StepFault}
 use Rattle.worm_region.specs.declared.fault.StepFault.TheVariants.{NoSuchPlace, Refused, NoMemory}
 use Rattle.worm_split.specs.PartState.{PartState}
-use Rattle.worm_split.specs.PartTurns.{Within, PullsCredits, PullsFlits, SendsGranted, Sends}
-use Rattle.worm_split.specs.PartTurns.{GivesCredit, Gives, NodeTurn, Turn, PullsCredit, PullsFlit}
+use Rattle.worm_split.specs.PartTurns.{Within, SendsGranted, Sends, GivesCredit, Gives, NodeTurn, Turn, EachOf}
+use Rattle.worm_split.specs.PartTurns.{PartPassage, ReceivesCredits, ReceivesFlits, TakesCredit, TakesFlit}
 use Rattle.worm_split.proofs.PassagesTell.{Tells, TellsOf, then_tells, each_tells, then_tells_of, each_tells_of}
 use Rattle.worm_split.proofs.PassagesTell.{sends_tell}
 
@@ -65,19 +65,22 @@ node_turn entries x =
     let then = then_tells_of Placed at_rest on in
     then (Within (AsksSourceBy Attempts entries x)) _
     (within (AsksSourceBy Attempts entries x) (λ old. each_tells Placed at_rest on Attempts tried _ old))
-    (then (PullsCredits x) _
-    (λ old. each_tells_of Placed at_rest on (PullsCredit x)
-    (λ o a b fault made. no_fault a.net b.net fault made.0) _ old)
-    (then (PullsFlits x) _
-    (λ old. each_tells_of Placed at_rest on (PullsFlit x) (λ p a b fault made. no_fault a.net b.net fault made.0) _ old)
     (then (Within (ComesInBy Attempts x)) _ (within (ComesInBy Attempts x) (comes_in x))
     (then (Within (Allocates x)) _ (within (Allocates x) (λ old new fault made. no_fault old new fault made.0))
     (then (SendsGranted x) _
     (λ old new fault made. sends_tell Placed at_rest on x (sends x) _ _ new fault made)
     (λ old. each_tells_of Placed at_rest on (GivesCredit x)
-    (λ p mid. each_tells_of Placed at_rest on (Gives x p) (gives x p) _ mid) _ old))))))
+    (λ p mid. each_tells_of Placed at_rest on (Gives x p) (gives x p) _ mid) _ old))))
+
+-- what came is received without a fault
+comes : {A : Type 0} (P : A → PartPassage) → ((a : A) → TellsOf Placed (P a))
+    → TellsOf Placed (λ old fault new. (places : List A) × EachOf P places old fault new)
+comes P each old new fault made = each_tells_of Placed at_rest on P each made.0 old new fault made.1
 
 pub turn_place : (entries : List Entry) (old new : PartState) (fault : Option StepFault) → Turn entries old fault new →
     fault ≡ Some NoSuchPlace → ⊥
 turn_place entries old new fault made =
-    each_tells_of Placed at_rest on (NodeTurn entries) (node_turn entries) _ old new fault made
+    let then = then_tells_of Placed at_rest on in
+    then ReceivesFlits _ (comes TakesFlit (λ place a b ended came. no_fault a.net b.net ended came.0))
+    (then ReceivesCredits _ (comes TakesCredit (λ place a b ended came. no_fault a.net b.net ended came.0))
+    (λ p. each_tells_of Placed at_rest on (NodeTurn entries) (node_turn entries) _ p)) old new fault made

@@ -43,12 +43,24 @@ links_on a b c fault first then =
 
 pub flits_on_links : TellsOf OnLinks ReceivesFlits
 flits_on_links old new fault made = each_tells_of OnLinks links_rest links_on TakesFlit
-    (λ place a b ended came. (came.0, (b.net.links, ap (λ (s : PartState). s.net) came.1.exact
-    ∙ ap (λ (links : List LinkView). record a.net { links = links })
-    (sym (ap (λ (s : PartState). s.net.links) came.1.exact))))) made.0 old new fault made.1
+    (λ place a b ended came. (
+      came.0,
+      (
+        b.net.links,
+        ap (λ (s : PartState). s.net) came.1.exact
+            ∙ ap (λ (links : List LinkView). record a.net { links = links })
+            (sym (ap (λ (s : PartState). s.net.links) came.1.exact)),
+      ),
+    )) made.0 old new fault made.1
 
 pub credits_on_links : TellsOf OnLinks ReceivesCredits
 credits_on_links old new fault made = each_tells_of OnLinks links_rest links_on TakesCredit
-    (λ place a b ended came. (came.0, (b.net.links, ap (λ (s : PartState). s.net) came.1.exact
-    ∙ ap (λ (links : List LinkView). record a.net { links = links })
-    (sym (ap (λ (s : PartState). s.net.links) came.1.exact))))) made.0 old new fault made.1
+    (λ place a b ended came. (
+      came.0,
+      (
+        b.net.links,
+        ap (λ (s : PartState). s.net) came.1.exact
+            ∙ ap (λ (links : List LinkView). record a.net { links = links })
+            (sym (ap (λ (s : PartState). s.net.links) came.1.exact)),
+      ),
+    )) made.0 old new fault made.1

@@ -54,7 +54,8 @@ impl Part {
             return false;
         };
         let links = self.region.links_beyond(returned.node, port);
-        self.region.arrive_credit(links.beyond, links.entered, returned.vc);
+        self.region
+            .arrive_credit(links.beyond, links.entered, returned.vc);
         true
     }
 
@@ -280,12 +281,7 @@ impl Part {
     }
 
     /// The turn of a node, with these entries for all nodes, up to the first fault.
-    fn node_turn<R: Wait>(
-        &mut self,
-        rt: &R,
-        node: u8,
-        entries: &Due<'_>,
-    ) -> Result<(), StepFault>
+    fn node_turn<R: Wait>(&mut self, rt: &R, node: u8, entries: &Due<'_>) -> Result<(), StepFault>
         requires node { node < node_count self.old.net.mesh }
         requires own { owned self.old.net node ≡ true }
         ensures turn { NodeTurn entries.now node self.old (result_err result) self.new }
