@@ -31,6 +31,7 @@ pub mod PortsEmptied
 pub mod DimsEmptied
 pub mod DimsSoFar
 pub mod JoinLinks
+pub mod BundlesMeet
 pub mod MadeSoFar
 pub mod JoinNet
 pub mod LinksEmptied
