@@ -123,23 +123,23 @@ module _ {X V U : Type 0} (node_of : X → ℕ) (value_of : X → V) (list_of : 
 
     pub one_more : Put (items ++ c ∷ []) old (slice_set now k new_link)
     one_more =
-      record {
-        same_length = length-set now k new_link ∙ so_far.same_length;
-        behind = λ y y_over y_room. elim (cases_eq y (node_of c)) [
-          | inl same ↦ behind_here y y_over same y_room
-          | inr apart ↦ behind_there y y_over apart y_room
-        ];
-        others = λ j not_over. away j (λ e. not_over (node_of c) over (sym (e ∙ k_is))) ∙ so_far.others j not_over;
-        other_lists = λ j. elim (cases_eq j k) [
-          | inl at ↦ rw at (ap other_of here ∙ (other ∙ (ap other_of read ∙ so_far.other_lists k)))
-          | inr apart ↦ ap other_of (away j apart) ∙ so_far.other_lists j
-        ];
-        rooms = λ j. elim (cases_eq j k) [
-          | inl at ↦ rw at (ap (λ (l : LinkView). l.room) here ∙ (room ∙ (ap (λ (l : LinkView). l.room) read
-              ∙ so_far.rooms k)))
-          | inr apart ↦ ap (λ (l : LinkView). l.room) (away j apart) ∙ so_far.rooms j
-        ];
-      }
+        record {
+          same_length = length-set now k new_link ∙ so_far.same_length;
+          behind = λ y y_over y_room. elim (cases_eq y (node_of c)) [
+            | inl same ↦ behind_here y y_over same y_room
+            | inr apart ↦ behind_there y y_over apart y_room
+          ];
+          others = λ j not_over. away j (λ e. not_over (node_of c) over (sym (e ∙ k_is))) ∙ so_far.others j not_over;
+          other_lists = λ j. elim (cases_eq j k) [
+            | inl at ↦ rw at (ap other_of here ∙ (other ∙ (ap other_of read ∙ so_far.other_lists k)))
+            | inr apart ↦ ap other_of (away j apart) ∙ so_far.other_lists j
+          ];
+          rooms = λ j. elim (cases_eq j k) [
+            | inl at ↦ rw at (ap (λ (l : LinkView). l.room) here ∙ (room ∙ (ap (λ (l : LinkView). l.room) read
+                ∙ so_far.rooms k)))
+            | inr apart ↦ ap (λ (l : LinkView). l.room) (away j apart) ∙ so_far.rooms j
+          ];
+        }
 
 -- so far, of what was sent and of what was taken before
 pub record FlitsSoFar (span : Span) (sent taken now_sent now_taken : List Carried) (old now : List LinkView)
