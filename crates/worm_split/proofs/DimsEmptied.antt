@@ -1,10 +1,9 @@
 -- The bundles by both ports of a dimension are emptied, and so those of one dimension after another.
-use Rattle.std.proofs.Common.{◌≡◌, ℕ, ◌+◌, ◌-◌, ◌*◌, ◌/◌, ◌<◌, ◌≤◌, ◌%◌, ◌⊎◌, inl, inr, List, length, Option, Some}
+use Rattle.std.proofs.Common.{◌≡◌, ℕ, ◌+◌, ◌-◌, ◌*◌, ◌/◌, ◌<◌, ◌%◌, ◌⊎◌, inl, inr, List, length, Option, Some}
 use Rattle.std.proofs.Common.{None, refl, arith, sym, ap, subst, ◌∙◌}
 use Rattle.std.specs.Prelude.{IsSome}
 use Rattle.std.proofs.Math.Nat.{mod-lt}
-use Rattle.std.proofs.lemmas.Bool.{cases_lt}
-use Rattle.worm_mesh.specs.Address.{AreRadices, Joins, neighbour_of, opposite_of, stride_of}
+use Rattle.worm_mesh.specs.Address.{AreRadices, neighbour_of, opposite_of, stride_of}
 use Rattle.worm_mesh.specs.Links.{IsLink, IsNumbering, links_before}
 use Rattle.worm_mesh.proofs.Digits.{AreLarge, AreLarge-from_radices}
 use Rattle.worm_mesh.proofs.Neighbours.{Joins-from}
@@ -12,8 +11,8 @@ use Rattle.worm_mesh.proofs.Numbers.{one_link}
 use Rattle.worm_theory.proofs.Places.{number_cases}
 use Rattle.worm_wires.proofs.StepsAdd.{step_down, step_from_zero, step_up}
 use Rattle.worm_wires.specs.Links.{LinkView}
-use Rattle.worm_split.specs.Emptying.{AreBundle, AreBundles, AreBundlesAlong, AreBundlesBy, AreLinksEmptied, IsDimEmptied}
-use Rattle.worm_split.specs.Emptying.{IsLinkEmptied, IsPortEmptied, link_of_number}
+use Rattle.worm_split.specs.Emptying.{AreBundle, AreBundlesAlong, AreBundlesBy, IsDimEmptied}
+use Rattle.worm_split.specs.Emptying.{IsPortEmptied, link_of_number}
 use Rattle.worm_split.specs.Joins.{IsEmptied}
 use Rattle.worm_split.specs.Sides.{InletView, OutletView, SideView, entering_at, inlet_at, leaving_at, outlet_at, side_at}
 use Rattle.worm_split.specs.Sides.{worker_above}

@@ -1,5 +1,5 @@
 -- All bundles are emptied, those of one dimension after another.
-use Rattle.std.proofs.Common.{◌≡◌, ℕ, ◌+◌, ◌*◌, ◌/◌, ◌<◌, ◌≤◌, ◌%◌, inl, inr, List, length, Some, refl, arith, sym, ap}
+use Rattle.std.proofs.Common.{◌≡◌, ℕ, ◌+◌, ◌*◌, ◌/◌, ◌<◌, ◌≤◌, ◌%◌, inl, inr, List, length, Some, refl, arith, sym}
 use Rattle.std.proofs.Common.{subst, ◌∙◌}
 use Rattle.std.proofs.lemmas.Bool.{cases_lt}
 use Rattle.worm_mesh.specs.Address.{AreRadices, neighbour_of, opposite_of, stride_of}

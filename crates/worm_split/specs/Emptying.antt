@@ -1,7 +1,6 @@
 -- What joining puts onto the links: of each bundle what its queues still held, each link its own.
 use Rattle.std.specs.Prelude.{◌≡◌, ℕ, ◌+◌, ◌*◌, ◌/◌, ◌<◌, ◌≤◌, ◌%◌, ◌==◌, List, ◌++◌, length, map, filter}
 use Rattle.std.specs.Prelude.{slice_index_or, Some}
-use Rattle.worm_flit.specs.declared.Flit.{Flit}
 use Rattle.worm_mesh.specs.Address.{neighbour_of, opposite_of, stride_of}
 use Rattle.worm_mesh.specs.Links.{IsLink, links_before}
 use Rattle.worm_bundles.specs.declared.Carried.{Carried}
