@@ -14,8 +14,8 @@ use Rattle.worm_wires.specs.Links.{LinkView}
 use Rattle.worm_split.specs.Emptying.{AreBundle, AreBundlesAlong, AreBundlesBy, IsDimEmptied}
 use Rattle.worm_split.specs.Emptying.{IsPortEmptied, link_of_number}
 use Rattle.worm_split.specs.Joins.{IsEmptied}
-use Rattle.worm_split.specs.Sides.{InletView, OutletView, SideView, entering_at, inlet_at, leaving_at, outlet_at, side_at}
-use Rattle.worm_split.specs.Sides.{worker_above}
+use Rattle.worm_split.specs.Sides.{InletView, OutletView, SideView, entering_at, inlet_at, leaving_at, outlet_at}
+use Rattle.worm_split.specs.Sides.{side_at, worker_above}
 use Rattle.worm_split.proofs.Around.{around_back, around_mod, around_node, around_none, around_same}
 
 module _ (mesh : List ℕ) (radices : AreRadices mesh) where
@@ -123,8 +123,7 @@ module _ (mesh : List ℕ) (radices : AreRadices mesh) where
     }
 
     -- the two ports of the dimension
-    module _ (step back : ℕ) (step_is : step ≡ rest) (back_is : back ≡ length sides - step) (over : rest ≡ 0 → ⊥)
-        where
+    module _ (step back : ℕ) (step_is : step ≡ rest) (back_is : back ≡ W - step) (over : rest ≡ 0 → ⊥) where
       back_in : back < W
       back_in = let few = rest_in in omega (arith, over)
 
@@ -227,10 +226,11 @@ module _ (mesh : List ℕ) (radices : AreRadices mesh) where
             (entering_at y (inlet_at (side_at mid_sides ((y % n + back) % n)) q)) (link_of_number mid k)
             (link_of_number after k)) up.all_sides (down.each y (link_there y o x linked)) in
             let with_to = subst (λ (v : ℕ). IsEmptied (leaving_at y (outlet_at (side_at mid_sides (y % W)) o))
-            (entering_at y (inlet_at (side_at mid_sides v) q)) (link_of_number mid k) (link_of_number after k)) to did in
+            (entering_at y (inlet_at (side_at mid_sides v) q)) (link_of_number mid k) (link_of_number after k)) to did
+            in
             let with_out = subst (λ (e : OutletView). IsEmptied (leaving_at y e)
-            (entering_at y (inlet_at (side_at mid_sides (x % W)) q)) (link_of_number mid k) (link_of_number after k)) out
-            with_to in
+            (entering_at y (inlet_at (side_at mid_sides (x % W)) q)) (link_of_number mid k) (link_of_number after k))
+            out with_to in
             let with_into = subst (λ (e : InletView). IsEmptied (leaving_at y (outlet_at (side_at sides (y % W)) o))
             (entering_at y e) (link_of_number mid k) (link_of_number after k)) into with_out in
             subst (λ (l : LinkView). IsEmptied (leaving_at y (outlet_at (side_at sides (y % W)) o))
@@ -265,8 +265,11 @@ module _ (mesh : List ℕ) (radices : AreRadices mesh) where
               let k = links_before mesh y o in
               down.others k (λ z there e.
               let one = (numbering z (2 * d) y o there link e).1 in other (omega arith))
-              ∙ up.others k (λ z there e. let one = (numbering z (2 * d + 1) y o there link e).1 in other (omega arith));
+              ∙ up.others k (λ z there e.
+              let one = (numbering z (2 * d + 1) y o there link e).1 in other (omega arith));
           rooms = λ k. down.rooms k ∙ up.rooms k;
-          outlets = λ w o other. down.outlets w o (λ e. other (omega arith)) ∙ up.outlets w o (λ e. other (omega arith));
-          inlets = λ w p other. down.inlets w p (λ e. other (omega arith)) ∙ up.inlets w p (λ e. other (omega arith));
+          outlets = λ w o other.
+              down.outlets w o (λ e. other (omega arith)) ∙ up.outlets w o (λ e. other (omega arith));
+          inlets = λ w p other.
+              down.inlets w p (λ e. other (omega arith)) ∙ up.inlets w p (λ e. other (omega arith));
         }

@@ -8,8 +8,8 @@ use Rattle.worm_wires.specs.Links.{LinkView}
 use Rattle.worm_split.specs.Emptying.{AreBundle, AreBundles, AreBundlesAlong, AreLinksEmptied, IsDimEmptied}
 use Rattle.worm_split.specs.Emptying.{IsLinkEmptied, link_of_number}
 use Rattle.worm_split.specs.Joins.{IsEmptied}
-use Rattle.worm_split.specs.Sides.{InletView, OutletView, SideView, entering_at, inlet_at, leaving_at, outlet_at, side_at}
-use Rattle.worm_split.specs.Sides.{worker_above}
+use Rattle.worm_split.specs.Sides.{InletView, OutletView, SideView, entering_at, inlet_at, leaving_at, outlet_at}
+use Rattle.worm_split.specs.Sides.{side_at, worker_above}
 use Rattle.worm_split.proofs.DimsEmptied.{link_there}
 
 pub record DimsSoFar (mesh : List ℕ) (count : ℕ) (sides now_sides : List SideView) (old now : List LinkView)
@@ -85,8 +85,8 @@ module _ (mesh : List ℕ) (sides : List SideView) (old : List LinkView) where
             record {
               between = λ apart. subst (λ (l : LinkView). IsEmptied
                   (leaving_at y (outlet_at (side_at sides (y % length sides)) o))
-                  (entering_at y (inlet_at (side_at sides (x % length sides)) (opposite_of o))) (link_of_number old k) l)
-                  (sym stays) (was.between apart);
+                  (entering_at y (inlet_at (side_at sides (x % length sides)) (opposite_of o))) (link_of_number old k)
+                  l) (sym stays) (was.between apart);
               within = λ same. stays ∙ was.within same;
             }
 
@@ -107,8 +107,8 @@ module _ (mesh : List ℕ) (sides : List SideView) (old : List LinkView) where
                   (entering_at y (inlet_at (side_at now_sides (x % length sides)) q)) (link_of_number now k)
                   (link_of_number after k)) out here in
                   let with_into = subst (λ (e : InletView). IsEmptied
-                  (leaving_at y (outlet_at (side_at sides (y % length sides)) o)) (entering_at y e) (link_of_number now k)
-                  (link_of_number after k)) into with_out in
+                  (leaving_at y (outlet_at (side_at sides (y % length sides)) o)) (entering_at y e)
+                  (link_of_number now k) (link_of_number after k)) into with_out in
                   subst (λ (l : LinkView). IsEmptied (leaving_at y (outlet_at (side_at sides (y % length sides)) o))
                   (entering_at y (inlet_at (side_at sides (x % length sides)) q)) l (link_of_number after k)) was
                   with_into;
@@ -123,7 +123,8 @@ module _ (mesh : List ℕ) (sides : List SideView) (old : List LinkView) where
           | inl lt ↦ stays_emptied y o x linked lt
           | inr ge ↦ now_emptied y o x linked (omega arith)
         ];
-        ahead = λ y o x linked past. dim.others y o x linked (λ e. omega arith) ∙ so_far.ahead y o x linked (omega arith);
+        ahead = λ y o x linked past.
+            dim.others y o x linked (λ e. omega arith) ∙ so_far.ahead y o x linked (omega arith);
         rooms = λ k. dim.rooms k ∙ so_far.rooms k;
         outlets = λ w o past. dim.outlets w o (λ e. omega arith) ∙ so_far.outlets w o (omega arith);
         inlets = λ w p past. dim.inlets w p (λ e. omega arith) ∙ so_far.inlets w p (omega arith);

@@ -41,7 +41,8 @@ module _ {X V U : Type 0} (node_of : X → ℕ) (value_of : X → V) (list_of : 
 
   same_values : (y : ℕ) (items : List X) (c : X) → (y ≡ node_of c → ⊥) → values y (items ++ c ∷ []) ≡ values y items
   same_values y items c other =
-      values_more y items c ∙ (ap (λ (l : List V). values y items ++ l) (no_value y c other) ∙ append-nil (values y items))
+      values_more y items c ∙ (ap (λ (l : List V). values y items ++ l) (no_value y c other)
+      ∙ append-nil (values y items))
 
   pub nothing_put : (links : List LinkView) → Put [] links links
   nothing_put links = record {
@@ -124,23 +125,23 @@ module _ {X V U : Type 0} (node_of : X → ℕ) (value_of : X → V) (list_of : 
 
     pub one_more : Put (items ++ c ∷ []) old (slice_set now k new_link)
     one_more =
-      record {
-        same_length = length-set now k new_link ∙ so_far.same_length;
-        behind = λ y y_over y_room. elim (cases_eq y (node_of c)) [
-          | inl same ↦ behind_here y y_over same y_room
-          | inr apart ↦ behind_there y y_over apart y_room
-        ];
-        others = λ j not_over. away j (λ e. not_over (node_of c) over (sym (e ∙ k_is))) ∙ so_far.others j not_over;
-        other_lists = λ j. elim (cases_eq j k) [
-          | inl at ↦ rw at (ap other_of here ∙ (other ∙ (ap other_of read ∙ so_far.other_lists k)))
-          | inr apart ↦ ap other_of (away j apart) ∙ so_far.other_lists j
-        ];
-        rooms = λ j. elim (cases_eq j k) [
-          | inl at ↦ rw at (ap (λ (l : LinkView). l.room) here ∙ (room ∙ (ap (λ (l : LinkView). l.room) read
-              ∙ so_far.rooms k)))
-          | inr apart ↦ ap (λ (l : LinkView). l.room) (away j apart) ∙ so_far.rooms j
-        ];
-      }
+        record {
+          same_length = length-set now k new_link ∙ so_far.same_length;
+          behind = λ y y_over y_room. elim (cases_eq y (node_of c)) [
+            | inl same ↦ behind_here y y_over same y_room
+            | inr apart ↦ behind_there y y_over apart y_room
+          ];
+          others = λ j not_over. away j (λ e. not_over (node_of c) over (sym (e ∙ k_is))) ∙ so_far.others j not_over;
+          other_lists = λ j. elim (cases_eq j k) [
+            | inl at ↦ rw at (ap other_of here ∙ (other ∙ (ap other_of read ∙ so_far.other_lists k)))
+            | inr apart ↦ ap other_of (away j apart) ∙ so_far.other_lists j
+          ];
+          rooms = λ j. elim (cases_eq j k) [
+            | inl at ↦ rw at (ap (λ (l : LinkView). l.room) here ∙ (room ∙ (ap (λ (l : LinkView). l.room) read
+                ∙ so_far.rooms k)))
+            | inr apart ↦ ap (λ (l : LinkView). l.room) (away j apart) ∙ so_far.rooms j
+          ];
+        }
 
 -- so far, of what was sent and of what was taken before
 pub record FlitsSoFar (span : Span) (sent taken now_sent now_taken : List Carried) (old now : List LinkView)
@@ -175,8 +176,8 @@ flits_begun span tx rx ends links made = record {
       (λ (l : LinkView). l.credits) span links;
 }
 
-pub flits_further : (span : Span) (sent taken : List Carried) (ends after_ends : EndsView) (old now after : List LinkView)
-    (next : Carried) → after_ends ≡ record ends { taken = ends.taken ++ next ∷ [] }
+pub flits_further : (span : Span) (sent taken : List Carried) (ends after_ends : EndsView)
+    (old now after : List LinkView) (next : Carried) → after_ends ≡ record ends { taken = ends.taken ++ next ∷ [] }
     → (so_far : FlitsSoFar span sent taken ends.sent ends.taken old now)
     → FlitsPut span (so_far.gone ++ next ∷ []) old after
     → FlitsSoFar span sent taken after_ends.sent after_ends.taken old after

@@ -9,7 +9,8 @@ use Rattle.worm_split.specs.declared.joining.Span.{Span}
 use Rattle.worm_split.specs.Emptying.{AreBundle, AreBundlesBy, IsBetweenEmptied, IsNotOver, IsOver, IsPortEmptied}
 use Rattle.worm_split.specs.Emptying.{link_of_number}
 use Rattle.worm_split.specs.Joins.{IsEmptied}
-use Rattle.worm_split.specs.Sides.{InletView, OutletView, SideView, entering_at, inlet_at, leaving_at, outlet_at, side_at}
+use Rattle.worm_split.specs.Sides.{InletView, OutletView, SideView, entering_at, inlet_at, leaving_at, outlet_at}
+use Rattle.worm_split.specs.Sides.{side_at}
 use Rattle.worm_split.proofs.Around.{around_one}
 
 pub record PortSoFar (mesh : List ℕ) (port step count : ℕ) (sides now_sides : List SideView) (old now : List LinkView)
@@ -77,12 +78,13 @@ module _ (mesh : List ℕ) (port step : ℕ) (sides : List SideView) (old : List
         (subst (λ (i : InletView). AreBundle (outlet_at (side_at sides count) port) i) (sym inlet_now)
         (bundles count there))
 
-    module _ (workers : ℕ) (workers_is : workers ≡ length sides) (numbering : IsNumbering mesh) (few : step < length sides)
-        (after_sides : List SideView) (after : List LinkView) where
+    module _ (workers : ℕ) (workers_is : workers ≡ length sides) (numbering : IsNumbering mesh)
+        (few : step < length sides) (after_sides : List SideView) (after : List LinkView) where
       abbrev pub span : Span
       span = record { mesh = mesh; port = port; worker = count; workers = workers }
 
-      not_over : (y : ℕ) → IsLink mesh y port → (y % length sides ≡ count → ⊥) → IsNotOver span (links_before mesh y port)
+      not_over : (y : ℕ) → IsLink mesh y port → (y % length sides ≡ count → ⊥)
+          → IsNotOver span (links_before mesh y port)
       not_over y link apart z over e =
           let one = numbering z port y port over.link link e in
           apart (subst (λ (n : ℕ). y % n ≡ count) workers_is (subst (λ (v : ℕ). v % workers ≡ count) one.0 over.own))

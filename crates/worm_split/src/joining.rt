@@ -17,7 +17,9 @@ use crate::part::Part;
 use crate::sides::{Inlet, Outlet, Side};
 use std::mem::replace;
 use std::sync::Wait;
-use worm_bundles::{Carried, CreditRx, CreditTx, FlitRx, FlitTx, Returned, reunite, reunite_credits};
+use worm_bundles::{
+    Carried, CreditRx, CreditTx, FlitRx, FlitTx, Returned, reunite, reunite_credits,
+};
 use worm_core::{LinkState, Net, NetParts, Region};
 use worm_flit::Flit;
 use worm_mesh::Mesh;
@@ -73,8 +75,8 @@ impl Span {
     }
 }
 
-/// Puts what a bundle's queue still holds behind the flits of its links. There is room for it, but that is known only of
-/// all links together, once all queues are empty; so it is asked.
+/// Puts what a bundle's queue still holds behind the flits of its links. There is room for it, but that is known only
+/// of all links together, once all queues are empty; so it is asked. What were for none of the links would go nowhere.
 fn empty_flits<R: Wait>(rt: &R, span: &Span, tx: FlitTx, rx: FlitRx, links: &mut Vec<LinkState>)
     requires workers { 0 < span.now.workers }
     requires length { length links.old.items ≡ link_count span.now.mesh }
@@ -111,13 +113,7 @@ fn empty_credits<R: Wait>(
 }
 
 /// Puts what both queues of a bundle still hold onto its links.
-fn empty_bundle<R: Wait>(
-    rt: &R,
-    span: &Span,
-    out: Outlet,
-    into: Inlet,
-    links: &mut Vec<LinkState>,
-)
+fn empty_bundle<R: Wait>(rt: &R, span: &Span, out: Outlet, into: Inlet, links: &mut Vec<LinkState>)
     requires workers { 0 < span.now.workers }
     requires length { length links.old.items ≡ link_count span.now.mesh }
     requires bundle { AreBundle out into }
@@ -214,12 +210,7 @@ fn empty_dim<R: Wait>(
 }
 
 /// The same of all bundles.
-fn empty_sides<R: Wait>(
-    rt: &R,
-    mesh: &Mesh,
-    sides: &mut Vec<Side>,
-    links: &mut Vec<LinkState>,
-)
+fn empty_sides<R: Wait>(rt: &R, mesh: &Mesh, sides: &mut Vec<Side>, links: &mut Vec<LinkState>)
     requires some { 0 < length sides.old.items }
     requires length { length links.old.items ≡ link_count mesh.now }
     requires bundles { AreBundles mesh.now sides.old.items }

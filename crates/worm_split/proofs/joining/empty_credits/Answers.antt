@@ -7,7 +7,8 @@ use Rattle.worm_split.proofs.joining.empty_credits.Goals as goal
 
 pub loop-node-init : goal.loop-node-init
 loop-node-init g c =
-    credits_begun c.args.span.now c.args.tx c.args.rx c.reunite_credits-ends.result c.args.links.now.items c.reunite_credits-ends.ensures
+    credits_begun c.args.span.now c.args.tx c.args.rx c.reunite_credits-ends.result c.args.links.now.items
+    c.reunite_credits-ends.ensures
 
 pub loop-node-preserved-in-Some-number : goal.loop-node-preserved-in-Some-number
 loop-node-preserved-in-Some-number g c =
@@ -26,8 +27,8 @@ loop-node-preserved-in-Some-number g c =
     let new_link = c.put_credit_behind.new.link in
     let kept = credit_put link new_link next.vc c.put_credit_behind.ensures.fits
     c.put_credit_behind.ensures.full in
-    credits_further span c.args.tx.sent c.args.rx.taken s.ends c.pop_rest.new.self old s.links.items (slice_set s.links.items c.from.result new_link) next
-    c.in-Some.ensures.taken so_far
+    credits_further span c.args.tx.sent c.args.rx.taken s.ends c.pop_rest.new.self old s.links.items
+    (slice_set s.links.items c.from.result new_link) next c.in-Some.ensures.taken so_far
     (one_more (λ (d : Returned). d.node) (λ (d : Returned). d.vc) (λ (l : LinkView). l.credits)
     (λ (l : LinkView). l.flits) span so_far.gone next old s.links.items c.from.result link new_link found.one_link
     so_far.put found.value.0 (k_at ∙ found.value.1) there c.index_mut.ensures.value

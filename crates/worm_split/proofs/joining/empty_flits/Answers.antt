@@ -25,8 +25,8 @@ loop-node-preserved-in-Some-number g c =
     let link = c.index_mut.result.now in
     let new_link = c.put_behind.new.link in
     let kept = flit_put link new_link next.flit c.put_behind.ensures.fits c.put_behind.ensures.full in
-    flits_further span c.args.tx.sent c.args.rx.taken s.ends c.pop_rest.new.self old s.links.items (slice_set s.links.items c.from.result new_link) next
-    c.in-Some.ensures.taken so_far
+    flits_further span c.args.tx.sent c.args.rx.taken s.ends c.pop_rest.new.self old s.links.items
+    (slice_set s.links.items c.from.result new_link) next c.in-Some.ensures.taken so_far
     (one_more (λ (d : Carried). d.node) (λ (d : Carried). d.flit) (λ (l : LinkView). l.flits)
     (λ (l : LinkView). l.credits) span so_far.gone next old s.links.items c.from.result link new_link found.one_link
     so_far.put found.value.0 (k_at ∙ found.value.1) there c.index_mut.ensures.value
