@@ -25,7 +25,8 @@ module _ (span : Span) (to : ℕ) (sides : List SideView) (from_in : span.worker
   pub left_read : (left : OutletView) → left ≡ slice_index_or near.leaving i left
       → left ≡ outlet_at (side_at sides span.worker) span.port
   left_read left left_is =
-      let there = (ports_there (side_at sides span.worker) (side_at sides to) span.port (opposite_of span.port) bundle).0 in
+      let there = (ports_there (side_at sides span.worker) (side_at sides to) span.port (opposite_of span.port)
+      bundle).0 in
       let near_there : span.port < length near.leaving = subst (λ (s : SideView). span.port < length s.leaving)
       (sym near_read) there in
       let i_there : i < length near.leaving = subst (λ (k : ℕ). k < length near.leaving) (sym i_is) near_there in
@@ -52,7 +53,8 @@ module _ (span : Span) (to : ℕ) (sides : List SideView) (from_in : span.worker
     entered_read entered entered_is =
         let now = subst (λ (into : InletView). AreBundle (outlet_at (side_at sides span.worker) span.port) into)
         (sym same_inlet) bundle in
-        let there = (ports_there (side_at sides span.worker) (side_at mid to) span.port (opposite_of span.port) now).1 in
+        let there = (ports_there (side_at sides span.worker) (side_at mid to) span.port (opposite_of span.port)
+        now).1 in
         let far_there : opposite_of span.port < length far.entering = subst (λ (s : SideView).
         opposite_of span.port < length s.entering) (sym far_read) there in
         let j_there : j < length far.entering = subst (λ (k : ℕ). k < length far.entering) (sym j_is) far_there in

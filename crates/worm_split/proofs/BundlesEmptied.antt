@@ -1,9 +1,8 @@
 -- Both queues of a bundle emptied: each of its links has what was its own.
-use Rattle.std.proofs.Common.{◌≡◌, ℕ, ◌+◌, ◌≤◌, ◌==◌, List, ◌++◌, length, map, ap, subst, sym, ◌∙◌}
+use Rattle.std.proofs.Common.{◌≡◌, ℕ, ◌==◌, List, ◌++◌, map, ap, ◌∙◌}
 use Rattle.std.specs.Prelude.{filter}
 use Rattle.std.proofs.lemmas.List.{map-append}
 use Rattle.std.proofs.lemmas.List.Elements.{filter-append}
-use Rattle.worm_flit.specs.declared.Flit.{Flit}
 use Rattle.worm_bundles.specs.declared.Carried.{Carried}
 use Rattle.worm_bundles.specs.declared.Returned.{Returned}
 use Rattle.worm_bundles.specs.Bundles.{TxView as FlitsOut, CreditTxView as CreditsOut, on_node}

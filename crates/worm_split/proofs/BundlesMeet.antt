@@ -1,5 +1,5 @@
 -- The two ends of each bundle that were put back are of one bundle's queues.
-use Rattle.std.proofs.Common.{◌≡◌, ℕ, ◌+◌, ◌*◌, ◌<◌, ◌≤◌, ◌%◌, List, length, arith, sym, ap, subst, ◌∙◌}
+use Rattle.std.proofs.Common.{◌≡◌, ℕ, ◌+◌, ◌*◌, ◌<◌, ◌%◌, List, length, arith, sym, subst, ◌∙◌}
 use Rattle.worm_mesh.specs.Address.{stride_of}
 use Rattle.worm_region.specs.State.{NetState}
 use Rattle.worm_region.specs.declared.own.Own.{Own}

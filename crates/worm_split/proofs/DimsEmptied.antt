@@ -1,10 +1,9 @@
 -- The bundles by both ports of a dimension are emptied, and so those of one dimension after another.
-use Rattle.std.proofs.Common.{◌≡◌, ℕ, ◌+◌, ◌-◌, ◌*◌, ◌/◌, ◌<◌, ◌≤◌, ◌%◌, ◌⊎◌, inl, inr, List, length, Option, Some}
+use Rattle.std.proofs.Common.{◌≡◌, ℕ, ◌+◌, ◌-◌, ◌*◌, ◌/◌, ◌<◌, ◌%◌, ◌⊎◌, inl, inr, List, length, Option, Some}
 use Rattle.std.proofs.Common.{None, refl, arith, sym, ap, subst, ◌∙◌}
 use Rattle.std.specs.Prelude.{IsSome}
 use Rattle.std.proofs.Math.Nat.{mod-lt}
-use Rattle.std.proofs.lemmas.Bool.{cases_lt}
-use Rattle.worm_mesh.specs.Address.{AreRadices, Joins, neighbour_of, opposite_of, stride_of}
+use Rattle.worm_mesh.specs.Address.{AreRadices, neighbour_of, opposite_of, stride_of}
 use Rattle.worm_mesh.specs.Links.{IsLink, IsNumbering, links_before}
 use Rattle.worm_mesh.proofs.Digits.{AreLarge, AreLarge-from_radices}
 use Rattle.worm_mesh.proofs.Neighbours.{Joins-from}
@@ -12,11 +11,11 @@ use Rattle.worm_mesh.proofs.Numbers.{one_link}
 use Rattle.worm_theory.proofs.Places.{number_cases}
 use Rattle.worm_wires.proofs.StepsAdd.{step_down, step_from_zero, step_up}
 use Rattle.worm_wires.specs.Links.{LinkView}
-use Rattle.worm_split.specs.Emptying.{AreBundle, AreBundles, AreBundlesAlong, AreBundlesBy, AreLinksEmptied, IsDimEmptied}
-use Rattle.worm_split.specs.Emptying.{IsLinkEmptied, IsPortEmptied, link_of_number}
+use Rattle.worm_split.specs.Emptying.{AreBundle, AreBundlesAlong, AreBundlesBy, IsDimEmptied}
+use Rattle.worm_split.specs.Emptying.{IsPortEmptied, link_of_number}
 use Rattle.worm_split.specs.Joins.{IsEmptied}
-use Rattle.worm_split.specs.Sides.{InletView, OutletView, SideView, entering_at, inlet_at, leaving_at, outlet_at, side_at}
-use Rattle.worm_split.specs.Sides.{worker_above}
+use Rattle.worm_split.specs.Sides.{InletView, OutletView, SideView, entering_at, inlet_at, leaving_at, outlet_at}
+use Rattle.worm_split.specs.Sides.{side_at, worker_above}
 use Rattle.worm_split.proofs.Around.{around_back, around_mod, around_node, around_none, around_same}
 
 module _ (mesh : List ℕ) (radices : AreRadices mesh) where
@@ -124,10 +123,16 @@ module _ (mesh : List ℕ) (radices : AreRadices mesh) where
     }
 
     -- the two ports of the dimension
+<<<<<<< HEAD
     module _ (step back : ℕ) (step_is : step ≡ rest) (back_is : back ≡ length sides - step) (over : rest ≡ 0 → ⊥)
       where
         back_in : back < W
         back_in = let few = rest_in in omega (arith, over)
+=======
+    module _ (step back : ℕ) (step_is : step ≡ rest) (back_is : back ≡ W - step) (over : rest ≡ 0 → ⊥) where
+      back_in : back < W
+      back_in = let few = rest_in in omega (arith, over)
+>>>>>>> 8c840f44e85ca1dcff142bec9b97845032ff7538
 
         pub bundles_up : AreBundlesAlong mesh d sides → AreBundlesBy (2 * d + 1) step sides
         bundles_up along w w_in =
@@ -143,6 +148,7 @@ module _ (mesh : List ℕ) (radices : AreRadices mesh) where
         bundles_down along w w_in =
             let v = (w + back) % W in
             let few = rest_in in
+<<<<<<< HEAD
             let less : back ≡ W - rest = back_is ∙ ap (λ (n : ℕ). W - n) step_is in
             let from : worker_above mesh W d v ≡ w = sym (around_mod v (stride_of mesh d) W) ∙
             (ap (λ (n : ℕ). ((w + n) % W + rest) % W) less ∙ around_back rest W w (omega (arith, over)) few w_in) in
@@ -151,6 +157,34 @@ module _ (mesh : List ℕ) (radices : AreRadices mesh) where
             (opposite_of (2 * d)))) from
             (subst (λ (p : ℕ). AreBundle (outlet_at (side_at sides (worker_above mesh W d v)) (2 * d))
             (inlet_at (side_at sides v) p)) (sym port) (along v (worker_in (w + back)) over).1)
+=======
+            let step_at = step_is in
+            let back_at = back_is in
+            let round : W - back ≡ rest = omega arith in
+            let some_back : 0 < back = omega arith in
+            let from : y % W ≡ (x % W + (W - back)) % W = sym (above_is x y leads)
+            ∙ ap (λ (n : ℕ). (x % W + n) % W) (sym round) in
+            let to : (y % W + back) % W ≡ x % W = ap (λ (n : ℕ). (n + back) % W) from
+            ∙ around_back back W (x % W) some_back back_in (worker_in x) in
+            let stayed : link_of_number mid k ≡ link_of_number old k = up.others k (not_up y x linked) in
+            let out : outlet_at (side_at mid_sides (y % W)) o ≡ outlet_at (side_at sides (y % W)) o
+            = up.outlets (y % W) o (λ e. omega (arith, e)) in
+            let into : inlet_at (side_at mid_sides (x % W)) q ≡ inlet_at (side_at sides (x % W)) q
+            = up.inlets (x % W) q (λ e. omega (arith, e)) in
+            let did = subst (λ (n : ℕ). IsEmptied (leaving_at y (outlet_at (side_at mid_sides (y % n)) o))
+            (entering_at y (inlet_at (side_at mid_sides ((y % n + back) % n)) q)) (link_of_number mid k)
+            (link_of_number after k)) up.all_sides (down.each y (link_there y o x linked)) in
+            let with_to = subst (λ (v : ℕ). IsEmptied (leaving_at y (outlet_at (side_at mid_sides (y % W)) o))
+            (entering_at y (inlet_at (side_at mid_sides v) q)) (link_of_number mid k) (link_of_number after k)) to did
+            in
+            let with_out = subst (λ (e : OutletView). IsEmptied (leaving_at y e)
+            (entering_at y (inlet_at (side_at mid_sides (x % W)) q)) (link_of_number mid k) (link_of_number after k))
+            out with_to in
+            let with_into = subst (λ (e : InletView). IsEmptied (leaving_at y (outlet_at (side_at sides (y % W)) o))
+            (entering_at y e) (link_of_number mid k) (link_of_number after k)) into with_out in
+            subst (λ (l : LinkView). IsEmptied (leaving_at y (outlet_at (side_at sides (y % W)) o))
+            (entering_at y (inlet_at (side_at sides (x % W)) q)) l (link_of_number after k)) stayed with_into
+>>>>>>> 8c840f44e85ca1dcff142bec9b97845032ff7538
 
         -- those by the other port are as they were
         pub bundles_mid : (mid_sides : List SideView) (mid : List LinkView)
@@ -194,6 +228,7 @@ module _ (mesh : List ℕ) (radices : AreRadices mesh) where
           emptied_up y x linked leads =
               let o = 2 * d + 1 in
               let k = links_before mesh y o in
+<<<<<<< HEAD
               let to : (y % W + step) % W ≡ x % W = ap (λ (n : ℕ). (y % W + n) % W) step_is ∙ above_is y x leads in
               let stays : link_of_number after k ≡ link_of_number mid k = down.others k (not_down y x linked) in
               let did = up.each y (link_there y o x linked) in
@@ -271,3 +306,15 @@ module _ (mesh : List ℕ) (radices : AreRadices mesh) where
             outlets = λ w o other. down.outlets w o (λ e. other (omega arith)) ∙ up.outlets w o (λ e. other (omega arith));
             inlets = λ w p other. down.inlets w p (λ e. other (omega arith)) ∙ up.inlets w p (λ e. other (omega arith));
           }
+=======
+              down.others k (λ z there e.
+              let one = (numbering z (2 * d) y o there link e).1 in other (omega arith))
+              ∙ up.others k (λ z there e.
+              let one = (numbering z (2 * d + 1) y o there link e).1 in other (omega arith));
+          rooms = λ k. down.rooms k ∙ up.rooms k;
+          outlets = λ w o other.
+              down.outlets w o (λ e. other (omega arith)) ∙ up.outlets w o (λ e. other (omega arith));
+          inlets = λ w p other.
+              down.inlets w p (λ e. other (omega arith)) ∙ up.inlets w p (λ e. other (omega arith));
+        }
+>>>>>>> 8c840f44e85ca1dcff142bec9b97845032ff7538

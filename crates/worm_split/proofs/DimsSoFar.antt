@@ -1,15 +1,15 @@
 -- All bundles are emptied, those of one dimension after another.
-use Rattle.std.proofs.Common.{◌≡◌, ℕ, ◌+◌, ◌*◌, ◌/◌, ◌<◌, ◌≤◌, ◌%◌, inl, inr, List, length, Some, refl, arith, sym, ap}
+use Rattle.std.proofs.Common.{◌≡◌, ℕ, ◌+◌, ◌/◌, ◌<◌, ◌≤◌, ◌%◌, inl, inr, List, length, Some, arith, sym}
 use Rattle.std.proofs.Common.{subst, ◌∙◌}
 use Rattle.std.proofs.lemmas.Bool.{cases_lt}
-use Rattle.worm_mesh.specs.Address.{AreRadices, neighbour_of, opposite_of, stride_of}
+use Rattle.worm_mesh.specs.Address.{AreRadices, neighbour_of, opposite_of}
 use Rattle.worm_mesh.specs.Links.{links_before}
 use Rattle.worm_wires.specs.Links.{LinkView}
-use Rattle.worm_split.specs.Emptying.{AreBundle, AreBundles, AreBundlesAlong, AreLinksEmptied, IsDimEmptied}
+use Rattle.worm_split.specs.Emptying.{AreLinksEmptied, IsDimEmptied}
 use Rattle.worm_split.specs.Emptying.{IsLinkEmptied, link_of_number}
 use Rattle.worm_split.specs.Joins.{IsEmptied}
-use Rattle.worm_split.specs.Sides.{InletView, OutletView, SideView, entering_at, inlet_at, leaving_at, outlet_at, side_at}
-use Rattle.worm_split.specs.Sides.{worker_above}
+use Rattle.worm_split.specs.Sides.{InletView, OutletView, SideView, entering_at, inlet_at, leaving_at, outlet_at}
+use Rattle.worm_split.specs.Sides.{side_at}
 use Rattle.worm_split.proofs.DimsEmptied.{link_there}
 
 pub record DimsSoFar (mesh : List ℕ) (count : ℕ) (sides now_sides : List SideView) (old now : List LinkView)
@@ -24,17 +24,6 @@ pub record DimsSoFar (mesh : List ℕ) (count : ℕ) (sides now_sides : List Sid
   pub inlets : (w p : ℕ) → count ≤ p / 2 → inlet_at (side_at now_sides w) p ≡ inlet_at (side_at sides w) p
 
 module _ (mesh : List ℕ) (sides : List SideView) (old : List LinkView) where
-  pub dims_begun : DimsSoFar mesh 0 sides sides old old
-  dims_begun = record {
-    all_sides = refl;
-    same_length = refl;
-    each = λ y o x linked below. absurd (omega arith);
-    ahead = λ y o x linked past. refl;
-    rooms = λ k. refl;
-    outlets = λ w o past. refl;
-    inlets = λ w p past. refl;
-  }
-
   pub dims_done : AreRadices mesh → (now_sides : List SideView) (now : List LinkView)
       → DimsSoFar mesh (length mesh) sides now_sides old now → AreLinksEmptied mesh sides old now
   dims_done radices now_sides now so_far = record {
@@ -48,29 +37,6 @@ module _ (mesh : List ℕ) (sides : List SideView) (old : List LinkView) where
   -- the next dimension
   module _ (count : ℕ) (now_sides : List SideView) (now : List LinkView)
       (so_far : DimsSoFar mesh count sides now_sides old now) where
-    bundle_now : (w o v p : ℕ) → count ≤ o / 2 → count ≤ p / 2
-        → AreBundle (outlet_at (side_at sides w) o) (inlet_at (side_at sides v) p)
-        → AreBundle (outlet_at (side_at now_sides w) o) (inlet_at (side_at now_sides v) p)
-    bundle_now w o v p o_past p_past h =
-        subst (λ (e : OutletView). AreBundle e (inlet_at (side_at now_sides v) p)) (sym (so_far.outlets w o o_past))
-        (subst (λ (i : InletView). AreBundle (outlet_at (side_at sides w) o) i) (sym (so_far.inlets v p p_past)) h)
-
-    pub dim_ahead : AreBundles mesh sides → count < length mesh → AreBundlesAlong mesh count now_sides
-    dim_ahead bundles there w w_in over =
-        let long = so_far.all_sides in
-        let above = worker_above mesh (length sides) count w in
-        let up = 2 * count + 1 in
-        let down = 2 * count in
-        let h = bundles count there w (subst (λ (n : ℕ). w < n) long w_in) (λ none. over (subst (λ (n : ℕ).
-        stride_of mesh count % n ≡ 0) (sym long) none)) in
-        subst (λ (n : ℕ). AreBundle (outlet_at (side_at now_sides w) up) (inlet_at (side_at now_sides
-        (worker_above mesh n count w)) down)
-        × AreBundle (outlet_at (side_at now_sides (worker_above mesh n count w)) down)
-        (inlet_at (side_at now_sides w) up)) (sym long) (
-          bundle_now w up above down (omega arith) (omega arith) h.0,
-          bundle_now above down w up (omega arith) (omega arith) h.1,
-        )
-
     module _ (after_sides : List SideView) (after : List LinkView)
         (dim : IsDimEmptied mesh count now_sides after_sides now after) where
       module _ (y o x : ℕ) (linked : neighbour_of mesh y o ≡ Some x) where
@@ -85,8 +51,8 @@ module _ (mesh : List ℕ) (sides : List SideView) (old : List LinkView) where
             record {
               between = λ apart. subst (λ (l : LinkView). IsEmptied
                   (leaving_at y (outlet_at (side_at sides (y % length sides)) o))
-                  (entering_at y (inlet_at (side_at sides (x % length sides)) (opposite_of o))) (link_of_number old k) l)
-                  (sym stays) (was.between apart);
+                  (entering_at y (inlet_at (side_at sides (x % length sides)) (opposite_of o))) (link_of_number old k)
+                  l) (sym stays) (was.between apart);
               within = λ same. stays ∙ was.within same;
             }
 
@@ -107,8 +73,8 @@ module _ (mesh : List ℕ) (sides : List SideView) (old : List LinkView) where
                   (entering_at y (inlet_at (side_at now_sides (x % length sides)) q)) (link_of_number now k)
                   (link_of_number after k)) out here in
                   let with_into = subst (λ (e : InletView). IsEmptied
-                  (leaving_at y (outlet_at (side_at sides (y % length sides)) o)) (entering_at y e) (link_of_number now k)
-                  (link_of_number after k)) into with_out in
+                  (leaving_at y (outlet_at (side_at sides (y % length sides)) o)) (entering_at y e)
+                  (link_of_number now k) (link_of_number after k)) into with_out in
                   subst (λ (l : LinkView). IsEmptied (leaving_at y (outlet_at (side_at sides (y % length sides)) o))
                   (entering_at y (inlet_at (side_at sides (x % length sides)) q)) l (link_of_number after k)) was
                   with_into;
@@ -123,7 +89,8 @@ module _ (mesh : List ℕ) (sides : List SideView) (old : List LinkView) where
           | inl lt ↦ stays_emptied y o x linked lt
           | inr ge ↦ now_emptied y o x linked (omega arith)
         ];
-        ahead = λ y o x linked past. dim.others y o x linked (λ e. omega arith) ∙ so_far.ahead y o x linked (omega arith);
+        ahead = λ y o x linked past.
+            dim.others y o x linked (λ e. omega arith) ∙ so_far.ahead y o x linked (omega arith);
         rooms = λ k. dim.rooms k ∙ so_far.rooms k;
         outlets = λ w o past. dim.outlets w o (λ e. omega arith) ∙ so_far.outlets w o (omega arith);
         inlets = λ w p past. dim.inlets w p (λ e. omega arith) ∙ so_far.inlets w p (omega arith);

@@ -1,5 +1,5 @@
 -- What a queue still holds goes onto the links of its bundle, one item after another, each onto its node's.
-use Rattle.std.proofs.Common.{◌≡◌, ℕ, ◌+◌, ◌<◌, ◌≤◌, ◌==◌, ◌≢◌, true, false, inl, inr, List, [], ◌∷◌, ◌++◌, length}
+use Rattle.std.proofs.Common.{◌≡◌, ℕ, ◌+◌, ◌<◌, ◌≤◌, ◌==◌, ◌≢◌, true, inl, inr, List, [], ◌∷◌, ◌++◌, length}
 use Rattle.std.proofs.Common.{length-append, append-nil, append_assoc, map, refl, arith, sym, ap, subst, ◌∙◌, eq-eqb}
 use Rattle.std.specs.Prelude.{filter, slice_index_or, slice_set}
 use Rattle.std.proofs.Math.ListN.{length-set}
@@ -11,9 +11,10 @@ use Rattle.worm_mesh.specs.Links.{IsNumbering}
 use Rattle.worm_theory.proofs.Places.{number_cases}
 use Rattle.worm_bundles.specs.declared.Carried.{Carried}
 use Rattle.worm_bundles.specs.declared.Returned.{Returned}
+use Rattle.worm_bundles.specs.Bundles.{TxView, RxView, EndsView, CreditTxView, CreditRxView, CreditEndsView}
 use Rattle.worm_wires.specs.Links.{LinkView, blank_link}
 use Rattle.worm_split.specs.declared.joining.Span.{Span}
-use Rattle.worm_split.specs.Emptying.{ArePut, CreditsPut, FlitsPut, IsNotOver, IsOver, link_of_number, number_over}
+use Rattle.worm_split.specs.Emptying.{ArePut, CreditsPut, FlitsPut, IsOver, link_of_number, number_over}
 use Rattle.worm_split.specs.Emptying.{values_at}
 
 module _ {X V U : Type 0} (node_of : X → ℕ) (value_of : X → V) (list_of : LinkView → List V)
@@ -40,7 +41,8 @@ module _ {X V U : Type 0} (node_of : X → ℕ) (value_of : X → V) (list_of : 
 
   same_values : (y : ℕ) (items : List X) (c : X) → (y ≡ node_of c → ⊥) → values y (items ++ c ∷ []) ≡ values y items
   same_values y items c other =
-      values_more y items c ∙ (ap (λ (l : List V). values y items ++ l) (no_value y c other) ∙ append-nil (values y items))
+      values_more y items c ∙ (ap (λ (l : List V). values y items ++ l) (no_value y c other)
+      ∙ append-nil (values y items))
 
   pub nothing_put : (links : List LinkView) → Put [] links links
   nothing_put links = record {
@@ -156,19 +158,85 @@ pub record CreditsSoFar (span : Span) (sent taken now_sent now_taken : List Retu
   pub took : now_taken ≡ taken ++ gone
   pub put : CreditsPut span gone old now
 
--- a flit that is put behind a link's leaves its credits and its room as they are, and a credit its flits
-pub flit_put : (link new : LinkView) (f : Flit)
-    → (length link.flits < link.room → new ≡ record link { flits = link.flits ++ f ∷ [] })
-    → (link.room ≤ length link.flits → new ≡ link) → (new.credits ≡ link.credits) × (new.room ≡ link.room)
-flit_put link after f fits full = elim (cases_lt (length link.flits) link.room) [
-  | inl lt ↦ let e = fits lt in (ap (λ (l : LinkView). l.credits) e, ap (λ (l : LinkView). l.room) e)
-  | inr ge ↦ let e = full ge in (ap (λ (l : LinkView). l.credits) e, ap (λ (l : LinkView). l.room) e)
-]
+-- at first, and with one more taken
 
-pub credit_put : (link new : LinkView) (vc : ℕ)
-    → (length link.credits < link.room → new ≡ record link { credits = link.credits ++ vc ∷ [] })
-    → (link.room ≤ length link.credits → new ≡ link) → (new.flits ≡ link.flits) × (new.room ≡ link.room)
-credit_put link after vc fits full = elim (cases_lt (length link.credits) link.room) [
-  | inl lt ↦ let e = fits lt in (ap (λ (l : LinkView). l.flits) e, ap (λ (l : LinkView). l.room) e)
-  | inr ge ↦ let e = full ge in (ap (λ (l : LinkView). l.flits) e, ap (λ (l : LinkView). l.room) e)
-]
+pub flits_begun : (span : Span) (tx : TxView) (rx : RxView) (ends : EndsView) (links : List LinkView)
+    → ends ≡ record {
+      bundle = tx.bundle;
+      pasts = tx.pasts;
+      queue = rx.queue;
+      sent = tx.sent;
+      taken = rx.taken;
+    } → FlitsSoFar span tx.sent rx.taken ends.sent ends.taken links links
+flits_begun span tx rx ends links made = record {
+  gone = [];
+  same_sent = ap (λ (v : EndsView). v.sent) made;
+  took = ap (λ (v : EndsView). v.taken) made ∙ sym (append-nil rx.taken);
+  put = nothing_put (λ (c : Carried). c.node) (λ (c : Carried). c.flit) (λ (l : LinkView). l.flits)
+      (λ (l : LinkView). l.credits) span links;
+}
+
+pub flits_further : (span : Span) (sent taken : List Carried) (ends after_ends : EndsView)
+    (old now after : List LinkView) (next : Carried) → after_ends ≡ record ends { taken = ends.taken ++ next ∷ [] }
+    → (so_far : FlitsSoFar span sent taken ends.sent ends.taken old now)
+    → FlitsPut span (so_far.gone ++ next ∷ []) old after
+    → FlitsSoFar span sent taken after_ends.sent after_ends.taken old after
+flits_further span sent taken ends after_ends old now after next popped so_far put = record {
+  gone = so_far.gone ++ next ∷ [];
+  same_sent = ap (λ (v : EndsView). v.sent) popped ∙ so_far.same_sent;
+  took = ap (λ (v : EndsView). v.taken) popped ∙ (ap (λ (l : List Carried). l ++ next ∷ []) so_far.took
+      ∙ append_assoc taken so_far.gone (next ∷ []));
+  put = put;
+}
+
+pub credits_begun : (span : Span) (tx : CreditTxView) (rx : CreditRxView) (ends : CreditEndsView)
+    (links : List LinkView)
+    → ends ≡ record { bundle = tx.bundle; queue = rx.queue; sent = tx.sent; taken = rx.taken }
+    → CreditsSoFar span tx.sent rx.taken ends.sent ends.taken links links
+credits_begun span tx rx ends links made = record {
+  gone = [];
+  same_sent = ap (λ (v : CreditEndsView). v.sent) made;
+  took = ap (λ (v : CreditEndsView). v.taken) made ∙ sym (append-nil rx.taken);
+  put = nothing_put (λ (c : Returned). c.node) (λ (c : Returned). c.vc) (λ (l : LinkView). l.credits)
+      (λ (l : LinkView). l.flits) span links;
+}
+
+pub credits_further : (span : Span) (sent taken : List Returned) (ends after_ends : CreditEndsView)
+    (old now after : List LinkView) (next : Returned) → after_ends ≡ record ends { taken = ends.taken ++ next ∷ [] }
+    → (so_far : CreditsSoFar span sent taken ends.sent ends.taken old now)
+    → CreditsPut span (so_far.gone ++ next ∷ []) old after
+    → CreditsSoFar span sent taken after_ends.sent after_ends.taken old after
+credits_further span sent taken ends after_ends old now after next popped so_far put = record {
+  gone = so_far.gone ++ next ∷ [];
+  same_sent = ap (λ (v : CreditEndsView). v.sent) popped ∙ so_far.same_sent;
+  took = ap (λ (v : CreditEndsView). v.taken) popped ∙ (ap (λ (l : List Returned). l ++ next ∷ []) so_far.took
+      ∙ append_assoc taken so_far.gone (next ∷ []));
+  put = put;
+}
+
+-- a flit that is put behind a link's leaves its credits and its room as they are, and a credit its flits
+pub flit_put : (link after : LinkView) (f : Flit)
+    → (length link.flits < link.room → after ≡ record link { flits = link.flits ++ f ∷ [] })
+    → (link.room ≤ length link.flits → after ≡ link)
+    → (length link.flits < link.room → after.flits ≡ link.flits ++ f ∷ []) × (after.credits ≡ link.credits)
+    × (after.room ≡ link.room)
+flit_put link after f fits full =
+    let more : length link.flits < link.room → after.flits ≡ link.flits ++ f ∷ [] = λ lt.
+    ap (λ (l : LinkView). l.flits) (fits lt) in
+    elim (cases_lt (length link.flits) link.room) [
+      | inl lt ↦ let e = fits lt in (more, ap (λ (l : LinkView). l.credits) e, ap (λ (l : LinkView). l.room) e)
+      | inr ge ↦ let e = full ge in (more, ap (λ (l : LinkView). l.credits) e, ap (λ (l : LinkView). l.room) e)
+    ]
+
+pub credit_put : (link after : LinkView) (vc : ℕ)
+    → (length link.credits < link.room → after ≡ record link { credits = link.credits ++ vc ∷ [] })
+    → (link.room ≤ length link.credits → after ≡ link)
+    → (length link.credits < link.room → after.credits ≡ link.credits ++ vc ∷ []) × (after.flits ≡ link.flits)
+    × (after.room ≡ link.room)
+credit_put link after vc fits full =
+    let more : length link.credits < link.room → after.credits ≡ link.credits ++ vc ∷ [] = λ lt.
+    ap (λ (l : LinkView). l.credits) (fits lt) in
+    elim (cases_lt (length link.credits) link.room) [
+      | inl lt ↦ let e = fits lt in (more, ap (λ (l : LinkView). l.flits) e, ap (λ (l : LinkView). l.room) e)
+      | inr ge ↦ let e = full ge in (more, ap (λ (l : LinkView). l.flits) e, ap (λ (l : LinkView). l.room) e)
+    ]

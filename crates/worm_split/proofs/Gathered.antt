@@ -1,5 +1,5 @@
 -- What the parts of one split know together: the configuration, which worker owns a node, and the links by number.
-use Rattle.std.proofs.Common.{◌≡◌, ℕ, ◌<◌, ◌≤◌, ◌%◌, ◌==◌, Bool, true, false, cond, inl, inr, List, [], length, Option, Some}
+use Rattle.std.proofs.Common.{◌≡◌, ℕ, ◌<◌, ◌≤◌, ◌%◌, ◌==◌, Bool, true, false, inl, inr, List, [], length, Option, Some}
 use Rattle.std.proofs.Common.{refl, arith, sym, ap, subst, ◌∙◌, eq-eqb}
 use Rattle.std.proofs.lemmas.List.{get_or_past}
 use Rattle.std.proofs.lemmas.Bool.{cases_lt}
@@ -21,7 +21,7 @@ use Rattle.worm_parts.specs.Region.{HasPart, Begins}
 use Rattle.worm_parts.specs.Openings.{past_of}
 use Rattle.worm_parts.proofs.RegionQueues.{first_part}
 use Rattle.worm_split.specs.Apart.{AreWays}
-use Rattle.worm_split.specs.Ends.{AreEndsMade, End, Inner, IsSameEnd, Line, end_made, returned_on, taken_on}
+use Rattle.worm_split.specs.Ends.{AreEndsMade, Inner, IsSameEnd, Line, end_made, returned_on, taken_on}
 use Rattle.worm_split.specs.Exchange.{way_at}
 use Rattle.worm_split.specs.Joins.{AreParts, owner_of}
 use Rattle.worm_split.specs.PartState.{PartState, IsPart, end_of, part_network, returned_to, taken_by}

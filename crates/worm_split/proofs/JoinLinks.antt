@@ -16,9 +16,11 @@ use Rattle.worm_region.proofs.LinkWritten.{credits_there, out_there}
 use Rattle.worm_split.specs.Ends.{End, Inner, Leaving, end_made, given_on, returned_on, sent_on, taken_on}
 use Rattle.worm_split.specs.Apart.{Apart, AreWays}
 use Rattle.worm_split.specs.Exchange.{way_at}
-use Rattle.worm_split.specs.Joins.{AreEmptied, AreParts, IsBetween, IsEmptied, IsEmptiedOf, IsGathered, line_at, owner_of}
+use Rattle.worm_split.specs.Joins.{AreEmptied, AreParts, IsBetween, IsEmptied, IsEmptiedOf, IsGathered, line_at}
+use Rattle.worm_split.specs.Joins.{owner_of}
 use Rattle.worm_split.specs.PartState.{PartState, IsPart, end_of, part_network, returned_to, taken_by}
-use Rattle.worm_split.specs.Sides.{SideView, end_to, entering_at, inlet_at, leaving_at, line_between, outlet_at, side_at}
+use Rattle.worm_split.specs.Sides.{SideView, end_to, entering_at, inlet_at, leaving_at, line_between, outlet_at}
+use Rattle.worm_split.specs.Sides.{side_at}
 use Rattle.worm_split.specs.Splits.{part_at}
 use Rattle.worm_split.proofs.Gathered.{IsWay, ends_of_link, end_within, large, not_same, owner_below, part_mesh}
 use Rattle.worm_split.proofs.Gathered.{way_is}

@@ -1,15 +1,15 @@
 -- The bundles by one port are emptied one after another, by rising worker that they leave.
-use Rattle.std.proofs.Common.{◌≡◌, ℕ, ◌+◌, ◌<◌, ◌≤◌, ◌%◌, inl, inr, List, length, refl, arith, sym, ap, subst, ◌∙◌}
-use Rattle.std.proofs.Math.Nat.{mod-lt}
+use Rattle.std.proofs.Common.{◌≡◌, ℕ, ◌+◌, ◌<◌, ◌≤◌, ◌%◌, inl, inr, List, length, arith, sym, ap, subst, ◌∙◌}
 use Rattle.std.proofs.lemmas.Bool.{cases_lt}
 use Rattle.worm_mesh.specs.Address.{opposite_of}
 use Rattle.worm_mesh.specs.Links.{IsLink, IsNumbering, links_before}
 use Rattle.worm_wires.specs.Links.{LinkView}
 use Rattle.worm_split.specs.declared.joining.Span.{Span}
-use Rattle.worm_split.specs.Emptying.{AreBundle, AreBundlesBy, IsBetweenEmptied, IsNotOver, IsOver, IsPortEmptied}
+use Rattle.worm_split.specs.Emptying.{IsBetweenEmptied, IsNotOver, IsOver}
 use Rattle.worm_split.specs.Emptying.{link_of_number}
 use Rattle.worm_split.specs.Joins.{IsEmptied}
-use Rattle.worm_split.specs.Sides.{InletView, OutletView, SideView, entering_at, inlet_at, leaving_at, outlet_at, side_at}
+use Rattle.worm_split.specs.Sides.{InletView, OutletView, SideView, entering_at, inlet_at, leaving_at, outlet_at}
+use Rattle.worm_split.specs.Sides.{side_at}
 use Rattle.worm_split.proofs.Around.{around_one}
 
 pub record PortSoFar (mesh : List ℕ) (port step count : ℕ) (sides now_sides : List SideView) (old now : List LinkView)
@@ -32,32 +32,6 @@ pub record PortSoFar (mesh : List ℕ) (port step count : ℕ) (sides now_sides 
       inlet_at (side_at now_sides v) (opposite_of port) ≡ inlet_at (side_at sides v) (opposite_of port)
 
 module _ (mesh : List ℕ) (port step : ℕ) (sides : List SideView) (old : List LinkView) where
-  pub port_begun : PortSoFar mesh port step 0 sides sides old old
-  port_begun = record {
-    all_sides = refl;
-    same_length = refl;
-    each = λ y link below. absurd (omega arith);
-    ahead = λ y link past. refl;
-    others = λ k none. refl;
-    rooms = λ k. refl;
-    outlets = λ w o other. refl;
-    inlets = λ w p other. refl;
-    inlets_ahead = λ w past there. refl;
-  }
-
-  pub port_done : (now_sides : List SideView) (now : List LinkView) → 0 < length sides
-      → PortSoFar mesh port step (length sides) sides now_sides old now
-      → IsPortEmptied mesh port step sides now_sides old now
-  port_done now_sides now some so_far = record {
-    all_sides = so_far.all_sides;
-    same_length = so_far.same_length;
-    each = λ y link. so_far.each y link (mod-lt y some);
-    others = so_far.others;
-    rooms = so_far.rooms;
-    outlets = λ w o other. so_far.outlets w o (λ e below. other e);
-    inlets = so_far.inlets;
-  }
-
   -- the next bundle
   module _ (count : ℕ) (now_sides : List SideView) (now : List LinkView)
       (so_far : PortSoFar mesh port step count sides now_sides old now) (there : count < length sides)
@@ -70,19 +44,13 @@ module _ (mesh : List ℕ) (port step : ℕ) (sides : List SideView) (old : List
     inlet_now = ap (λ (v : ℕ). inlet_at (side_at now_sides v) (opposite_of port)) to_is
         ∙ so_far.inlets_ahead count (omega arith) there
 
-    pub bundle_ahead : AreBundlesBy port step sides
-        → AreBundle (outlet_at (side_at now_sides count) port) (inlet_at (side_at now_sides to) (opposite_of port))
-    bundle_ahead bundles =
-        subst (λ (o : OutletView). AreBundle o (inlet_at (side_at now_sides to) (opposite_of port))) (sym outlet_now)
-        (subst (λ (i : InletView). AreBundle (outlet_at (side_at sides count) port) i) (sym inlet_now)
-        (bundles count there))
-
-    module _ (workers : ℕ) (workers_is : workers ≡ length sides) (numbering : IsNumbering mesh) (few : step < length sides)
-        (after_sides : List SideView) (after : List LinkView) where
+    module _ (workers : ℕ) (workers_is : workers ≡ length sides) (numbering : IsNumbering mesh)
+        (few : step < length sides) (after_sides : List SideView) (after : List LinkView) where
       abbrev pub span : Span
       span = record { mesh = mesh; port = port; worker = count; workers = workers }
 
-      not_over : (y : ℕ) → IsLink mesh y port → (y % length sides ≡ count → ⊥) → IsNotOver span (links_before mesh y port)
+      not_over : (y : ℕ) → IsLink mesh y port → (y % length sides ≡ count → ⊥)
+          → IsNotOver span (links_before mesh y port)
       not_over y link apart z over e =
           let one = numbering z port y port over.link link e in
           apart (subst (λ (n : ℕ). y % n ≡ count) workers_is (subst (λ (v : ℕ). v % workers ≡ count) one.0 over.own))

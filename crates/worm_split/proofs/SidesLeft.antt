@@ -1,5 +1,5 @@
 -- One outlet or one inlet taken out of what the workers have by port: the others are the same.
-use Rattle.std.proofs.Common.{◌≡◌, ℕ, ◌<◌, ◌≤◌, inl, inr, List, length, refl, arith, sym, ap, subst, ◌∙◌}
+use Rattle.std.proofs.Common.{◌≡◌, ℕ, ◌<◌, inl, inr, List, length, refl, sym, ap, subst, ◌∙◌}
 use Rattle.std.specs.Prelude.{slice_index_or, slice_set}
 use Rattle.std.proofs.lemmas.Bool.{cases_eq, cases_lt}
 use Rattle.std.proofs.lemmas.List.{get_or_past, get_or_read, get_or-set_other, get_or-set_same}
@@ -61,8 +61,8 @@ module _ (sides : List SideView) (f : ℕ) (there : f < length sides) (side : Si
     outlets_left w o other = elim (cases_eq w f) [
       | inl e ↦
           let apart : o ≡ i → ⊥ = other e in
-          rw e (ap (λ (s : SideView). outlet_at s o) (here left_side) ∙ (get_or-set_other side.leaving i o dest Within apart
-          ∙ ap (λ (s : SideView). outlet_at s o) side_read))
+          rw e (ap (λ (s : SideView). outlet_at s o) (here left_side)
+          ∙ (get_or-set_other side.leaving i o dest Within apart ∙ ap (λ (s : SideView). outlet_at s o) side_read))
       | inr apart ↦ ap (λ (s : SideView). outlet_at s o) (away left_side w apart)
     ]
 
@@ -78,8 +78,8 @@ module _ (sides : List SideView) (f : ℕ) (there : f < length sides) (side : Si
     inlets_entered w p other = elim (cases_eq w f) [
       | inl e ↦
           let apart : p ≡ i → ⊥ = other e in
-          rw e (ap (λ (s : SideView). inlet_at s p) (here entered_side) ∙ (get_or-set_other side.entering i p dest Inside
-          apart ∙ ap (λ (s : SideView). inlet_at s p) side_read))
+          rw e (ap (λ (s : SideView). inlet_at s p) (here entered_side)
+          ∙ (get_or-set_other side.entering i p dest Inside apart ∙ ap (λ (s : SideView). inlet_at s p) side_read))
       | inr apart ↦ ap (λ (s : SideView). inlet_at s p) (away entered_side w apart)
     ]
 

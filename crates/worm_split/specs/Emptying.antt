@@ -1,7 +1,6 @@
 -- What joining puts onto the links: of each bundle what its queues still held, each link its own.
 use Rattle.std.specs.Prelude.{◌≡◌, ℕ, ◌+◌, ◌*◌, ◌/◌, ◌<◌, ◌≤◌, ◌%◌, ◌==◌, List, ◌++◌, length, map, filter}
 use Rattle.std.specs.Prelude.{slice_index_or, Some}
-use Rattle.worm_flit.specs.declared.Flit.{Flit}
 use Rattle.worm_mesh.specs.Address.{neighbour_of, opposite_of, stride_of}
 use Rattle.worm_mesh.specs.Links.{IsLink, links_before}
 use Rattle.worm_bundles.specs.declared.Carried.{Carried}
@@ -27,8 +26,8 @@ number_over span y = links_before span.mesh y span.port
 abbrev pub IsNotOver : Span → ℕ → Type 0
 IsNotOver span k = (y : ℕ) → IsOver span y → number_over span y ≡ k → ⊥
 
--- Of items, each for a node and with a value, one list of each link gets behind it the values that are its own, if there
--- is room. Nothing else changes.
+-- Of items, each for a node and with a value, one list of each link gets behind it the values that are its own, if
+-- there is room. Nothing else changes.
 module _ {X V U : Type 0} (node_of : X → ℕ) (value_of : X → V) (list_of : LinkView → List V)
     (other_of : LinkView → List U) where
   abbrev pub values_at : ℕ → List X → List V

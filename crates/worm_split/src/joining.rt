@@ -67,6 +67,7 @@ impl Span {
         ensures in_range { IfSome result (λ n. n < link_count self.now.mesh) }
         ensures one_link { IsNumbering self.now.mesh }
     {
+        // Asked of any node, since the call also tells that no two links have one number.
         let number = self.mesh.link_number(node, self.port);
         if usize::from(node) % self.workers != self.worker {
             return None;
@@ -75,8 +76,8 @@ impl Span {
     }
 }
 
-/// Puts what a bundle's queue still holds behind the flits of its links. There is room for it, but that is known only of
-/// all links together, once all queues are empty; so it is asked.
+/// Puts what a bundle's queue still holds behind the flits of its links. There is room for it, but that is known only
+/// of all links together, once all queues are empty; so it is asked. What is for none of the links goes nowhere.
 fn empty_flits<R: Wait>(rt: &R, span: &Span, tx: FlitTx, rx: FlitRx, links: &mut Vec<LinkState>)
     requires workers { 0 < span.now.workers }
     requires length { length links.old.items ≡ link_count span.now.mesh }
@@ -198,6 +199,7 @@ fn empty_dim<R: Wait>(
     requires bundles { AreBundlesAlong mesh.now dim sides.old.items }
     ensures { IsDimEmptied mesh.now dim sides.old.items sides.new.items links.old.items links.new.items }
 {
+    // What a step up adds to node 0's number, it adds to any node's.
     let Some(beyond) = mesh.neighbour(0, 2 * dim + 1) else {
         unreachable!()
     };

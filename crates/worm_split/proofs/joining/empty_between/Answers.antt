@@ -1,5 +1,5 @@
-use Rattle.std.proofs.Common.{◌≡◌, ap, subst, sym, ◌∙◌}
-use Rattle.std.specs.Prelude.{ℕ, slice_index_or}
+use Rattle.std.proofs.Common.{◌≡◌, subst, sym, ◌∙◌}
+use Rattle.std.specs.Prelude.{slice_index_or}
 use Rattle.worm_mesh.specs.Address.{opposite_of}
 use Rattle.worm_split.specs.Sides.{InletView, OutletView, SideView}
 use Rattle.worm_split.proofs.BetweenEmptied.{between_emptied, mid}

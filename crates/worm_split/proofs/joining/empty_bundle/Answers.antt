@@ -1,4 +1,4 @@
-use Rattle.std.proofs.Common.{◌≡◌, Option, Some, ap, subst, sym, ◌∙◌}
+use Rattle.std.proofs.Common.{◌≡◌, Option, ap, subst, sym, ◌∙◌}
 use Rattle.worm_bundles.specs.Bundles.{TxView, RxView, CreditTxView, CreditRxView}
 use Rattle.worm_split.specs.Emptying.{IsBundleEmptied}
 use Rattle.worm_split.specs.Sides.{InletView, OutletView, From, Over, credits_in, flits_in, inlet_of, outlet_of}

@@ -1,5 +1,5 @@
-use Rattle.std.proofs.Common.{◌≡◌, ℕ, ◌<◌, length, List, arith, subst, sym}
-use Rattle.worm_split.proofs.DimsSoFar.{DimsSoFar, dim_ahead, dims_done, dims_further}
+use Rattle.std.proofs.Common.{◌≡◌, ℕ, length, arith, subst}
+use Rattle.worm_split.proofs.DimsSoFar.{DimsSoFar, dims_done, dims_further}
 use Rattle.worm_split.proofs.joining.empty_sides.Goals as goal
 
 pub loop-dim-preserved : goal.loop-dim-preserved

@@ -1,4 +1,4 @@
-use Rattle.std.proofs.Common.{◌≡◌, List, ap, subst, sym, ◌∙◌}
+use Rattle.std.proofs.Common.{◌≡◌, List, subst, ◌∙◌}
 use Rattle.std.specs.Prelude.{ℕ}
 use Rattle.worm_split.specs.Apart.{Apart, taken_apart}
 use Rattle.worm_split.specs.Emptying.{AreLinksEmptied}
