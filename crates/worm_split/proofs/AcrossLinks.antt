@@ -1,6 +1,6 @@
 -- What goes by a bundle or does not: the network of the part moves so, or the part is as it was. And what comes changes
 -- nothing but what is on links.
-use Rattle.std.proofs.Common.{◌≡◌, ◌⊎◌, ℕ, true, false, inl, inr, List, Option, Some, None, refl, sym, ap, subst, ◌∙◌}
+use Rattle.std.proofs.Common.{◌≡◌, ◌⊎◌, ℕ, inl, inr, List, Option, None, refl, sym, ap, ◌∙◌}
 use Rattle.worm_router.specs.Router.{after_send, after_gave}
 use Rattle.worm_theory.proofs.Places.{bool_cases}
 use Rattle.worm_wires.specs.Links.{LinkView}

@@ -1,8 +1,7 @@
 -- What comes by a part's end: a flit of a link that enters its nodes, a credit of one that leaves them.
-use Rattle.std.proofs.Common.{◌≡◌, ℕ, ◌<◌, true, false, List, [], ◌∷◌, ◌++◌, sum, length, Some}
+use Rattle.std.proofs.Common.{◌≡◌, ℕ, ◌<◌, List, [], ◌∷◌, ◌++◌, sum, Some}
 use Rattle.std.proofs.Common.{refl, sym, ap, subst, ◌∙◌}
 use Rattle.std.specs.Prelude.{IsSome}
-use Rattle.worm_flit.specs.declared.Flit.{Flit}
 use Rattle.worm_flit.specs.Stamps.{on_channel}
 use Rattle.worm_flit.specs.Worms.{Continues}
 use Rattle.worm_links.specs.declared.LinkCfg.{LinkCfg}
@@ -15,9 +14,8 @@ use Rattle.worm_bundles.specs.Bundles.{TxView as FlitsOut, CreditTxView as Credi
 use Rattle.worm_parts.specs.Openings.{past_of}
 use Rattle.worm_theory.specs.Network.{put2}
 use Rattle.worm_region.specs.Shape.{net_shape}
-use Rattle.worm_region.specs.State.{NetState, IsFramed, IsSameConfig, shape, network_of, link_at, with_link}
-use Rattle.worm_region.specs.Edges.{Arrives, ComesBack, after_arriving, after_credit_back}
-use Rattle.worm_region.specs.Workable.{owned}
+use Rattle.worm_region.specs.State.{NetState, IsSameConfig, shape, network_of, with_link}
+use Rattle.worm_region.specs.Edges.{Arrives, ComesBack}
 use Rattle.worm_wires.specs.Links.{LinkView}
 use Rattle.worm_split.specs.Crossings.{AwaitsCredit, AwaitsFlit, CreditTaken, FlitTaken}
 use Rattle.worm_split.specs.Ends.{End, Leaving, Entering}

@@ -1,6 +1,6 @@
 -- What a part's network does by itself, at one of the part's nodes, keeps it a part.
 use Rattle.std.proofs.Common.{◌≡◌, ℕ, ◌<◌, true, false, List, Option, Some, None, refl}
-use Rattle.std.proofs.Common.{arith, sym, ap, subst, ◌∙◌}
+use Rattle.std.proofs.Common.{arith, sym, subst, ◌∙◌}
 use Rattle.worm_mesh.specs.Address.{neighbour_of, node_count}
 use Rattle.worm_router.specs.Allocation.{after_allocate}
 use Rattle.worm_theory.specs.Network.{Network}

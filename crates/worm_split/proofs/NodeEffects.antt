@@ -18,7 +18,7 @@ use Rattle.worm_split.specs.Effects.{HasAccepted, HasWords, HaveWords, OneMore, 
 use Rattle.worm_split.specs.PartState.{PartState}
 use Rattle.worm_split.specs.PartTurns.{◌then◌, Gives, GivesCredit, GivesCredits, NodeTurn, PartPassage}
 use Rattle.worm_split.specs.PartTurns.{SendsGranted, Within}
-use Rattle.worm_split.proofs.Accepted.{same_source, same_then}
+use Rattle.worm_split.proofs.Accepted.{same_then}
 use Rattle.worm_split.proofs.Alone.{IsQuiet, Passed, Quiet, Touches, allocates_quietly, comes_in_quietly, gives_quietly}
 use Rattle.worm_split.proofs.Alone.{no_more, none_refuses, passed_quietly, quiet_on, quiet_then, router_quiet}
 use Rattle.worm_split.proofs.Alone.{still_quiet, then_quiet, touched_on}

@@ -1,5 +1,5 @@
 -- What a part knows of its ends and of the links that they are of, and how it stays a part as one end changes.
-use Rattle.std.proofs.Common.{◌≡◌, ℕ, ◌<◌, ◌≤◌, ◌%◌, ◌==◌, true, List, Some, None, refl, arith, sym, ap, subst, ◌∙◌}
+use Rattle.std.proofs.Common.{◌≡◌, ℕ, ◌<◌, ◌%◌, ◌==◌, true, Some, None, refl, arith, sym, ap, subst, ◌∙◌}
 use Rattle.worm_mesh.specs.Address.{has_neighbour, neighbour_of}
 use Rattle.worm_mesh.proofs.Digits.{AreLarge-from_radices}
 use Rattle.worm_mesh.proofs.Neighbours.{has_neighbour-from_Joins, Joins-from}
@@ -15,7 +15,7 @@ use Rattle.worm_parts.specs.Openings.{past_of}
 use Rattle.worm_split.specs.Ends.{TxView, RxView, CreditTxView, CreditRxView, End, Inner, Leaving, Entering}
 use Rattle.worm_split.specs.Ends.{IsSameEnd, AreEndsMade, end_made, seen_by, taken_on, returned_on}
 use Rattle.worm_split.specs.PartState.{PartState, IsPart, end_of, line_of, owns}
-use Rattle.worm_split.specs.Sides.{AreSides, IsSameSide, SideView, end_by, end_to, side_at}
+use Rattle.worm_split.specs.Sides.{AreSides, IsSameSide, SideView, end_by, side_at}
 use Rattle.worm_split.proofs.EndFacts.{IsLeavingEnd, IsEnteringEnd, leaving_end, entering_end, inner_end}
 use Rattle.worm_split.proofs.LinesMade.{line_made}
 use Rattle.worm_split.proofs.SameEnds.{ends_same}

@@ -2,13 +2,12 @@
 use Rattle.std.proofs.Common.{◌≡◌, ℕ, ◌*◌, ◌<◌, ◌≤◌, ◌%◌, ◌==◌, true, false, inl, inr, List, length, Some, None, Option}
 use Rattle.std.proofs.Common.{refl, arith, sym, ap, subst, ◌∙◌}
 use Rattle.std.specs.Prelude.{IsSome}
-use Rattle.std.proofs.lemmas.Bool.{cases_eq}
 use Rattle.worm_bundles.specs.Bundles.{TxView as FlitsOut, CreditTxView as CreditsOut}
 use Rattle.worm_mesh.specs.Address.{neighbour_of}
 use Rattle.worm_records.specs.declared.InRecord.{InRecord}
 use Rattle.worm_records.specs.declared.InRecord.TheVariants.{Active}
 use Rattle.worm_theory.specs.Steps.{IsPort}
-use Rattle.worm_theory.proofs.Places.{bool_cases, number_cases}
+use Rattle.worm_theory.proofs.Places.{number_cases}
 use Rattle.worm_region.specs.Shape.{net_shape}
 use Rattle.worm_region.specs.State.{NetState, network_of, shape}
 use Rattle.worm_region.specs.Workable.{IsWorkable, LeadsOn}

@@ -1,7 +1,7 @@
 -- What a worker has by one port changes at one link: so does one of its ends of links, and no other.
 use Rattle.std.proofs.Common.{◌≡◌, ℕ, ◌<◌, ◌≤◌, ◌==◌, true, false, Bool, cond, inl, inr, List, [], ◌∷◌, ◌++◌, length}
 use Rattle.std.proofs.Common.{Option, Some, None, refl, arith, sym, ap, subst, ◌∙◌}
-use Rattle.std.specs.Prelude.{IfSome, slice_set, slice_index_or, map, filter}
+use Rattle.std.specs.Prelude.{IfSome, slice_index_or, map, filter}
 use Rattle.std.proofs.lemmas.Bool.{cases_lt}
 use Rattle.std.proofs.lemmas.List.{get_or_past, get_or_read, get_or-set_other, get_or-set_same, map-append}
 use Rattle.std.proofs.lemmas.List.Elements.{filter-append}
@@ -14,11 +14,11 @@ use Rattle.worm_bundles.specs.declared.Carried.{Carried}
 use Rattle.worm_bundles.specs.declared.Returned.{Returned}
 use Rattle.worm_bundles.specs.Bundles.{on_node}
 use Rattle.worm_bundles.specs.Fronts.{on_node-append}
-use Rattle.worm_split.specs.Ends.{End, Inner, end_made}
+use Rattle.worm_split.specs.Ends.{End, end_made}
 use Rattle.worm_split.specs.PartState.{PartState, end_of, owns}
 use Rattle.worm_split.specs.Sides.{Inside, InletView, IsSameInlet, IsSameOutlet, IsSameSide, OutletView, SideView, Within}
 use Rattle.worm_split.specs.Sides.{Over, From, credits_on, end_by, end_to, entering_at, inlet_at, leaving_at, outlet_at}
-use Rattle.worm_split.specs.Sides.{is_over, is_from, line_between, put_inlet, put_outlet}
+use Rattle.worm_split.specs.Sides.{is_over, is_from, put_inlet, put_outlet}
 
 -- What of a bundle is one link's
 

@@ -65,14 +65,6 @@ IsEmptied (Leaving tx back) (Leaving tx2 back2) old new = new ≡ old
 IsEmptied (Leaving tx back) (Entering rx give) old new = IsEmptiedOf tx back rx give old new
 IsEmptied (Entering rx give) into old new = new ≡ old
 
--- the two ends are of the same queues
-abbrev pub AreOfOne : End → End → Type 0
-AreOfOne Inner into = Unit {0}
-AreOfOne (Leaving tx back) Inner = Unit {0}
-AreOfOne (Leaving tx back) (Leaving tx2 back2) = Unit {0}
-AreOfOne (Leaving tx back) (Entering rx give) = (tx.queue ≡ rx.queue) × (give.queue ≡ back.queue)
-AreOfOne (Entering rx give) into = Unit {0}
-
 -- the two ends of a link, as its nodes' workers have them
 abbrev pub line_at : List SideView → LinkEnds → Line
 line_at sides way = line_between (side_at sides (way.from % length sides)) (side_at sides (way.to % length sides))

@@ -1,6 +1,6 @@
 -- A worker's part of a network: the network of its own nodes and links, its ends of the links that it shares with other
 -- workers, and, for contracts alone, the network that was split.
-use Rattle.std.specs.Prelude.{◌≡◌, ℕ, ◌<◌, ◌%◌, Bool, List}
+use Rattle.std.specs.Prelude.{◌≡◌, ℕ, ◌<◌, Bool, List}
 use Rattle.worm_flit.specs.declared.Flit.{Flit}
 use Rattle.worm_theory.specs.Network.{Network}
 use Rattle.worm_region.specs.State.{NetState, IsNet, IsSameConfig, network_of, shape}

@@ -1,16 +1,14 @@
 -- A network split among workers: what each has at first, and what the last of them keeps.
-use Rattle.std.specs.Prelude.{◌≡◌, ℕ, ◌*◌, ◌<◌, ◌≤◌, ◌%◌, List, [], length, sum, replicate, slice_index_or, All, true}
+use Rattle.std.specs.Prelude.{◌≡◌, ℕ, ◌*◌, ◌<◌, ◌≤◌, List, [], length, sum, replicate, slice_index_or, All, true}
 use Rattle.std.specs.Prelude.{vec_capacity}
 use Rattle.worm_mesh.specs.Address.{node_count}
 use Rattle.worm_mesh.specs.Links.{link_count}
-use Rattle.worm_mesh.specs.declared.mesh.LinkEnds.{LinkEnds}
 use Rattle.worm_region.specs.NewNet.{AreFresh}
 use Rattle.worm_wires.specs.Links.{empty_link}
 use Rattle.worm_region.specs.Owned.{sole}
 use Rattle.worm_region.specs.Parts.{IsConfigOf}
 use Rattle.worm_region.specs.State.{NetState, net_state, network_of, node_at, shape, texts_of}
 use Rattle.worm_region.specs.declared.own.Own.{Own}
-use Rattle.worm_parts.specs.Openings.{past_of}
 use Rattle.worm_parts.specs.Region.{Begins}
 use Rattle.worm_split.specs.declared.making.Rooms.{Rooms}
 use Rattle.worm_split.specs.declared.making.Seat.{Seat}

@@ -1,4 +1,4 @@
-use Rattle.std.proofs.Common.{◌≡◌, ◌<◌, ℕ, true, sum, sym, subst, ◌∙◌}
+use Rattle.std.proofs.Common.{◌≡◌, ◌<◌, true, sum, sym, subst}
 use Rattle.worm_mesh.specs.Address.{node_count}
 use Rattle.worm_router.specs.Router.{input_at}
 use Rattle.worm_region.specs.Shape.{net_shape}
@@ -9,7 +9,7 @@ use Rattle.worm_region.proofs.OwesToLinks.{owes_there}
 use Rattle.worm_split.specs.Apart.{IsKept}
 use Rattle.worm_split.specs.PartState.{PartState, part_state}
 use Rattle.worm_split.specs.PartTurns.{ComesBy}
-use Rattle.worm_split.proofs.GoesByEnd.{IsGiving, owner_elsewhere, may_give, gave_it, owes_still, giving_there}
+use Rattle.worm_split.proofs.GoesByEnd.{IsGiving, owner_elsewhere, may_give, gave_it, giving_there}
 use Rattle.worm_split.proofs.PortKnown.{HasLinks, linked}
 use Rattle.worm_split.proofs.part.Part.give_across.Goals as goal
 use Rattle.worm_split.proofs.part.Part.give_across.Goals.{After-links_beyond-links}

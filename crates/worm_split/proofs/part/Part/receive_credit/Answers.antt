@@ -3,7 +3,7 @@ use Rattle.worm_mesh.specs.Address.{neighbour_of, opposite_of}
 use Rattle.worm_region.specs.Edges.{ComesBack}
 use Rattle.worm_region.specs.declared.own.Own.{Own}
 use Rattle.worm_split.specs.Apart.{IsKept}
-use Rattle.worm_split.specs.PartState.{PartState, IsPart, IsSamePart, part_state}
+use Rattle.worm_split.specs.PartState.{IsPart, IsSamePart, part_state}
 use Rattle.worm_split.specs.PartTurns.{CreditComes}
 use Rattle.worm_split.specs.Sides.{SideView}
 use Rattle.worm_split.proofs.ComesByEnd.{credit_channel, credit_put}

@@ -1,4 +1,4 @@
-use Rattle.std.proofs.Common.{◌≡◌, ℕ, sym, subst, ◌∙◌}
+use Rattle.std.proofs.Common.{ℕ, sym, subst}
 use Rattle.worm_mesh.specs.Address.{opposite_of}
 use Rattle.worm_region.specs.Edges.{Arrives}
 use Rattle.worm_region.specs.declared.own.Own.{Own}

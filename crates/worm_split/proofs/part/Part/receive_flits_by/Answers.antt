@@ -1,4 +1,4 @@
-use Rattle.std.proofs.Common.{◌≡◌, ◌*◌, ◌<◌, ℕ, List, None, length, refl, sym, subst}
+use Rattle.std.proofs.Common.{◌*◌, ◌<◌, ℕ, List, None, length, refl, sym, subst}
 use Rattle.worm_split.specs.PartState.{PartState, IsSamePart}
 use Rattle.worm_split.specs.PartTurns.{ReceivesFlits, TakesFlit}
 use Rattle.worm_split.proofs.PartLoops.{flit_same, receives_more, receives_none, receives_one, same_on, same_still}

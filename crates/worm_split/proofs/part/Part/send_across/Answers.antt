@@ -1,13 +1,13 @@
-use Rattle.std.proofs.Common.{◌≡◌, Some, true, sym, subst, ◌∙◌}
+use Rattle.std.proofs.Common.{◌≡◌, Some, true, sym, subst}
 use Rattle.worm_router.specs.Router.{leaving}
 use Rattle.worm_theory.specs.Steps.{Send, IsThere}
 use Rattle.worm_region.specs.State.{router_at, shape}
 use Rattle.worm_region.specs.Workable.{owned}
 use Rattle.worm_region.specs.declared.own.Own.{Own}
 use Rattle.worm_split.specs.Apart.{IsKept}
-use Rattle.worm_split.specs.PartState.{PartState, IsPart, part_state}
+use Rattle.worm_split.specs.PartState.{PartState, part_state}
 use Rattle.worm_split.specs.PartTurns.{LeavesBy}
-use Rattle.worm_split.proofs.GoesByEnd.{IsGoing, ends_elsewhere, may_go, went, stayed}
+use Rattle.worm_split.proofs.GoesByEnd.{IsGoing, ends_elsewhere, may_go, went}
 use Rattle.worm_split.proofs.part.Part.send_across.Goals as goal
 use Rattle.worm_split.proofs.part.Part.send_across.Goals.{After-recall}
 use Rattle.worm_split.proofs.part.Part.send_across.Given as given

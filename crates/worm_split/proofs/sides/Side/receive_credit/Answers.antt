@@ -1,5 +1,5 @@
-use Rattle.std.proofs.Common.{◌≡◌, ℕ, ap, arith, length, refl, subst}
-use Rattle.worm_split.specs.Crossings.{CreditTaken, CreditTakenBy}
+use Rattle.std.proofs.Common.{ℕ, ap, arith, refl, subst}
+use Rattle.worm_split.specs.Crossings.{CreditTaken}
 use Rattle.worm_split.specs.Sides.{OutletView, SideView, outlet_at, put_outlet}
 use Rattle.worm_split.proofs.SidesPut.{read_outlet}
 use Rattle.worm_split.proofs.sides.Side.receive_credit.Goals as goal

@@ -1,5 +1,5 @@
-use Rattle.std.proofs.Common.{◌≡◌, ℕ, ap, arith, length, refl, subst}
-use Rattle.worm_split.specs.Crossings.{FlitTaken, FlitTakenBy}
+use Rattle.std.proofs.Common.{ℕ, ap, arith, refl, subst}
+use Rattle.worm_split.specs.Crossings.{FlitTaken}
 use Rattle.worm_split.specs.Sides.{InletView, SideView, inlet_at, put_inlet}
 use Rattle.worm_split.proofs.SidesPut.{read_inlet}
 use Rattle.worm_split.proofs.sides.Side.receive_flit.Goals as goal
