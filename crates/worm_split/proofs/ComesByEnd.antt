@@ -1,5 +1,5 @@
 -- What comes by a part's end: a flit of a link that enters its nodes, a credit of one that leaves them.
-use Rattle.std.proofs.Common.{◌≡◌, ℕ, ◌<◌, List, [], ◌∷◌, ◌++◌, sum, Some}
+use Rattle.std.proofs.Common.{◌≡◌, ℕ, false, ◌<◌, List, [], ◌∷◌, ◌++◌, sum, Some}
 use Rattle.std.proofs.Common.{refl, sym, ap, subst, ◌∙◌}
 use Rattle.std.specs.Prelude.{IsSome}
 use Rattle.worm_flit.specs.Stamps.{on_channel}
@@ -14,7 +14,7 @@ use Rattle.worm_bundles.specs.Bundles.{TxView as FlitsOut, CreditTxView as Credi
 use Rattle.worm_parts.specs.Openings.{past_of}
 use Rattle.worm_theory.specs.Network.{put2}
 use Rattle.worm_region.specs.Shape.{net_shape}
-use Rattle.worm_region.specs.State.{NetState, IsSameConfig, shape, network_of, with_link}
+use Rattle.worm_region.specs.State.{NetState, IsFramed, IsSameConfig, shape, network_of, with_link}
 use Rattle.worm_region.specs.Edges.{Arrives, ComesBack}
 use Rattle.worm_wires.specs.Links.{LinkView}
 use Rattle.worm_split.specs.Crossings.{AwaitsCredit, AwaitsFlit, CreditTaken, FlitTaken}
@@ -27,6 +27,8 @@ use Rattle.worm_split.specs.Sides.{outlet_at, put_inlet, put_outlet, rx_at, tx_a
 use Rattle.worm_split.proofs.EndFacts.{IsEnteringEnd, IsLeavingEnd}
 use Rattle.worm_split.proofs.PartFacts.{is_leaving, is_entering}
 use Rattle.worm_split.proofs.PartMoves.{credit_comes, flit_comes}
+use Rattle.worm_split.proofs.PortKnown.{back_of}
+use Rattle.worm_split.proofs.SharedPorts.{comes_elsewhere, linked_elsewhere}
 use Rattle.worm_split.proofs.SidesPut.{PutsEnd, credits_here, credits_other, entering_now, from_bound, leaving_now}
 use Rattle.worm_split.proofs.SidesPut.{on_here, on_other, over_bound, puts_inlet, puts_outlet}
 
@@ -66,7 +68,7 @@ credit_taken_by Within new r h = absurd h
 credit_taken_by (Over tx back) new r h = record { tx = tx; back = back; is = refl; new_is = h.0; channel = h.1 }
 
 -- A flit came off the bundle by port q: what is asked of where it goes.
-module _ (p : PartState) (part : IsPart p) (q : ℕ) (c : Carried) (new : InletView)
+module _ (p : PartState) (part : IsPart p) (framed : IsFramed p.net) (q : ℕ) (c : Carried) (new : InletView)
     (awaited : AwaitsFlit p.net c.node (opposite_of q)) (taken : FlitTaken (inlet_at p.side q) c new) where
   abbrev y : ℕ
   y = c.node
@@ -83,8 +85,15 @@ module _ (p : PartState) (part : IsPart p) (q : ℕ) (c : Carried) (new : InletV
   abbrev end_new : End
   end_new = Entering (record (rx_at y by.rx) { taken = on_node y by.rx.taken ++ c.flit ∷ [] }) (give_at y by.give)
 
+  into_port : neighbour_of p.net.mesh awaited.beyond q ≡ Some y
+  into_port = subst (λ (r : ℕ). neighbour_of p.net.mesh awaited.beyond r ≡ Some y) (opposite_twice q)
+      (back_of p.net y o awaited.beyond framed awaited.linked)
+
+  pub elsewhere : owns p y ≡ false
+  elsewhere = comes_elsewhere p part awaited.beyond q y into_port awaited.own (ap is_from by.is)
+
   end_is : end_of p y o ≡ end_now
-  end_is = entering_now p y o awaited.beyond awaited.linked awaited.elsewhere awaited.own p.side
+  end_is = entering_now p y o awaited.beyond awaited.linked elsewhere awaited.own p.side
       ∙ (ap (λ (r : ℕ). entering_at y (inlet_at p.side r)) (opposite_twice q)
       ∙ ap (λ (i : InletView). entering_at y i) by.is)
 
@@ -127,7 +136,7 @@ module _ (p : PartState) (part : IsPart p) (q : ℕ) (c : Carried) (new : InletV
       = ap (λ (i : InletView). entering_at y i) by.new_is
       ∙ (λ t. Entering (record (rx_at y by.rx) { taken = on_here y by.rx.taken f t }) (give_at y by.give)) in
       subst (λ (e : End). PutsEnd p y o e (put_inlet p.side q new)) here
-      (puts_inlet p y o awaited.beyond q new awaited.linked awaited.elsewhere awaited.own (opposite_twice q) bound same
+      (puts_inlet p y o awaited.beyond q new awaited.linked elsewhere awaited.own (opposite_twice q) bound same
       others)
 
   -- it is put down, and the part stays a part
@@ -166,8 +175,11 @@ module _ (p : PartState) (part : IsPart p) (o : ℕ) (r : Returned) (new : Outle
     taken = Rattle.worm_split.specs.Sides.credits_on x came.back.taken ++ r.vc ∷ [];
   })
 
+  pub gave_elsewhere : owns p awaited.beyond ≡ false
+  gave_elsewhere = linked_elsewhere p part x o awaited.beyond awaited.linked awaited.own (ap is_over came.is)
+
   out_is : end_of p x o ≡ out_now
-  out_is = leaving_now p x o awaited.beyond awaited.linked awaited.own awaited.elsewhere p.side
+  out_is = leaving_now p x o awaited.beyond awaited.linked awaited.own gave_elsewhere p.side
       ∙ ap (λ (i : OutletView). leaving_at x i) came.is
 
   out_linked : (shape p.opening).neighbour x o ≡ Some awaited.beyond
@@ -205,7 +217,7 @@ module _ (p : PartState) (part : IsPart p) (o : ℕ) (r : Returned) (new : Outle
         taken = credits_here x came.back.taken r.vc t;
       })) in
       subst (λ (e : End). PutsEnd p x o e (put_outlet p.side o new)) here
-      (puts_outlet p x o awaited.beyond new awaited.linked awaited.own awaited.elsewhere bound same others)
+      (puts_outlet p x o awaited.beyond new awaited.linked awaited.own gave_elsewhere bound same others)
 
   -- it is put down, and the part stays a part
   pub credit_put : (net : NetState) → ComesBack p.net awaited.beyond (opposite_of o) r.vc net

@@ -68,7 +68,7 @@ module _ (p : PartState) (part : IsPart p) where
   over_same o leaves is = subst (λ (out : OutletView). IsSameOutlet
       (outlet_at (side_at p.sides p.net.own.worker) o) out) is.is (part.same.outlets o)
 
-  linked_elsewhere : (x o y : ℕ) → neighbour_of p.net.mesh x o ≡ Some y → owns p x ≡ true → LeavesBy p o
+  pub linked_elsewhere : (x o y : ℕ) → neighbour_of p.net.mesh x o ≡ Some y → owns p x ≡ true → LeavesBy p o
       → owns p y ≡ false
   linked_elsewhere x o y linked own leaves =
       let is = over_of (outlet_at p.side o) leaves in

@@ -15,21 +15,18 @@ use Rattle.worm_region.specs.Workable.{owned}
 use Rattle.worm_split.specs.Sides.{OutletView, InletView, SideView, Within, Over, Inside, From}
 use Rattle.worm_split.specs.Sides.{inlet_at, outlet_at, put_inlet, put_outlet}
 
--- The link out of port o of node y leads from another worker's node to one of these lists' own, and no flit is on it.
+-- The link out of port o of node y leads to one of these lists' own nodes, and no flit is on it.
 pub record AwaitsFlit (net : NetState) (y o : ℕ) : Type 0 where
   pub beyond : ℕ
   pub linked : neighbour_of net.mesh y o ≡ Some beyond
-  pub elsewhere : owned net y ≡ false
   pub own : owned net beyond ≡ true
   pub none_waits : (link_at net (link_out net y o)).flits ≡ []
 
--- The link out of port o of node x leads from one of these lists' own nodes to another worker's, and no credit is on its
--- way back over it.
+-- The link out of port o of node x, one of these lists' own, is there, and no credit is on its way back over it.
 pub record AwaitsCredit (net : NetState) (x o : ℕ) : Type 0 where
   pub beyond : ℕ
   pub linked : neighbour_of net.mesh x o ≡ Some beyond
   pub own : owned net x ≡ true
-  pub elsewhere : owned net beyond ≡ false
   pub none_waits : (link_at net (link_into net beyond (opposite_of o))).credits ≡ []
 
 -- the flit was taken: on its link it continues what was taken on its channel, and may cross

@@ -234,8 +234,7 @@ impl Side {
     }
 }
 
-/// Whether the link out of this port awaits a flit: it leads from another worker's node to one of the region's own, and
-/// no flit is on it.
+/// Whether the link out of this port awaits a flit: it leads to one of the region's own nodes, and no flit is on it.
 fn awaits_flit(region: &Region, node: u8, out: u8) -> bool
     requires { 0 < region.now.own.workers }
     ensures { IsTrue result → AwaitsFlit region.now node out }
@@ -244,15 +243,14 @@ fn awaits_flit(region: &Region, node: u8, out: u8) -> bool
     let Some(links) = region.links_at(node, out) else {
         return false;
     };
-    let own = region.own();
-    if owns(own, node) || !owns(own, links.beyond) {
+    if !owns(region.own(), links.beyond) {
         return false;
     }
     !region.has_flits(node, out)
 }
 
-/// Whether the link out of this port awaits a credit: it leads from one of the region's own nodes to another worker's,
-/// and no credit is on its way back over it.
+/// Whether the link out of this port of one of the region's own nodes awaits a credit: it is there, and no credit is on
+/// its way back over it.
 fn awaits_credit(region: &Region, node: u8, out: u8) -> bool
     requires { 0 < region.now.own.workers }
     ensures { IsTrue result → AwaitsCredit region.now node out }
@@ -261,8 +259,7 @@ fn awaits_credit(region: &Region, node: u8, out: u8) -> bool
     let Some(links) = region.links_at(node, out) else {
         return false;
     };
-    let own = region.own();
-    if owns(own, links.beyond) || !owns(own, node) {
+    if !owns(region.own(), node) {
         return false;
     }
     !region.has_credits(links.beyond, links.entered)

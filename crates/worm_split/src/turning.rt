@@ -34,6 +34,7 @@ impl Part {
         ensures came { result ≡ true → (node : ℕ) × FlitComes node port self.old self.new }
         ensures none { result ≡ false → self.new ≡ self.old }
     {
+        self.region.recall();
         let out = self.region.mesh().opposite(port);
         let Some(carried) = self.side.receive_flit(&self.region, port, out) else {
             return false;
@@ -111,6 +112,9 @@ impl Part {
         ensures same { IsSamePart self.old self.new }
         ensures asks { Within (AsksSourceBy Attempts entries.now node) self.old (result_err result) self.new }
     {
+        if entries.is_empty() {
+            return Ok(());
+        }
         self.region.ask_source(node, entries)
     }
 

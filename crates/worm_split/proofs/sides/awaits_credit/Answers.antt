@@ -22,7 +22,7 @@ pub returns : goal.returns
 returns c = λ none.
     let has = port (goal.at.returns c).In-Some in
     let s = c.args.region.now in
-    let owner = sym c.own-own.ensures in
+    let owner = sym c.own.ensures in
     let empty : c.has_credits.result ≡ false = elim (bool_cases c.has_credits.result) [
       | inl some ↦ let clash : false ≡ true = ap (λ (b : Bool). not b) (sym some) ∙ none in absurd (cc)
       | inr none ↦ none
@@ -31,7 +31,6 @@ returns c = λ none.
       beyond = c.in-Some.links.beyond;
       linked = linked has;
       own = ap (λ (w : Own). owned_by w c.args.node) owner ∙ sym c.if-not-owns.ensures;
-      elsewhere = ap (λ (w : Own). owned_by w c.in-Some.links.beyond) owner ∙ sym c.if-owns.ensures;
       none_waits = ap (λ (q : ℕ). (link_at s (link_into s c.in-Some.links.beyond q)).credits) (sym (entered_is has))
           ∙ c.has_credits.ensures.0 empty;
     }
