@@ -1,5 +1,5 @@
 -- What a link may carry (Dally and Towles, chapter 13).
-use Rattle.std.specs.Prelude.{◌≡◌, ℕ, ◌*◌, ◌<◌, true, List, ◌++◌, All, Some, slice_get}
+use Rattle.std.specs.Prelude.{◌≡◌, ℕ, ◌<◌, true, List, ◌++◌, All, Some, slice_get}
 use Rattle.worm_flit.specs.declared.Flit.{Flit}
 use Rattle.worm_flit.specs.Stamps.{on_channel}
 use Rattle.worm_flit.specs.Worms.{IsWorm}
@@ -32,7 +32,3 @@ opened link past = record { cfg = link; past = past }
 pub record IsLinkHistory (link : Opened) (flits : List Flit) : Type 0 where
   pub worms : AreWorms (link.past ++ flits)
   pub crossing : All (MayCross link.cfg) flits
-
--- the places of a link's far buffers
-abbrev pub link_capacity : LinkCfg → ℕ
-link_capacity link = link.channels * link.depth

@@ -2,9 +2,9 @@
 //! gives its part back with what it promised. Then the parts are joined.
 //!
 //! `worm_split` makes the parts and says what a turn of one does. Here they run beside each other: no lock, no
-//! channel, nothing shared but the queues of their links, what the caller lends, and how many turns each has ended, so
-//! that none runs far ahead of those beside it. What is proved holds if a call returns, whatever the pace: that workers
-//! get on is shown by tests.
+//! channel, nothing shared but the queues of their bundles, what the caller lends, and how many turns each has ended,
+//! so that none runs far ahead of those beside it. What is proved holds if a call returns, whatever the pace: that
+//! workers get on is shown by tests.
 #![tactic(auto)]
 
 mod gate;

@@ -127,7 +127,8 @@ credit_same x o a b comes = subst (λ (p : PartState). IsSamePart a p) (sym come
 pub receives_none : {A : Type 0} (P : A → PartPassage) (a : PartState) → (places : List A) × EachOf P places a None a
 receives_none P a = ([], (refl, refl))
 
-pub receives_more : {A : Type 0} (P : A → PartPassage) (a b c : PartState) → ((places : List A) × EachOf P places a None b)
+pub receives_more : {A : Type 0} (P : A → PartPassage) (a b c : PartState)
+    → ((places : List A) × EachOf P places a None b)
     → ((places : List A) × EachOf P places b None c) → (places : List A) × EachOf P places a None c
 receives_more P a b c first then = (first.0 ++ then.0, of_append P first.0 then.0 a b c None first.1 then.1)
 

@@ -16,7 +16,8 @@ use Rattle.worm_bundles.specs.Bundles.{on_node}
 use Rattle.worm_bundles.specs.Fronts.{on_node-append}
 use Rattle.worm_split.specs.Ends.{End, end_made}
 use Rattle.worm_split.specs.PartState.{PartState, end_of, owns}
-use Rattle.worm_split.specs.Sides.{Inside, InletView, IsSameInlet, IsSameOutlet, IsSameSide, OutletView, SideView, Within}
+use Rattle.worm_split.specs.Sides.{Inside, InletView, IsSameInlet, IsSameOutlet, IsSameSide, OutletView, SideView}
+use Rattle.worm_split.specs.Sides.{Within}
 use Rattle.worm_split.specs.Sides.{Over, From, credits_on, end_by, end_to, entering_at, inlet_at, leaving_at, outlet_at}
 use Rattle.worm_split.specs.Sides.{is_over, is_from, put_inlet, put_outlet}
 

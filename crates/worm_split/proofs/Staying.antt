@@ -37,7 +37,8 @@ all_inner true = refl
 all_inner false = refl
 
 -- an outlet by which nothing leaves is no end, nor is an inlet by which nothing comes
-shut_by : (y : ℕ) (out : OutletView) → (is_over out ≡ true → ⊥) → (far : Bool) → cond far Inner (leaving_at y out) ≡ Inner
+shut_by : (y : ℕ) (out : OutletView) → (is_over out ≡ true → ⊥) → (far : Bool)
+    → cond far Inner (leaving_at y out) ≡ Inner
 shut_by y Within shut far = all_inner far
 shut_by y (Over tx back) shut far = absurd (shut refl)
 

@@ -52,7 +52,8 @@ MaySend (Over tx back) y f =
 -- It was sent; or it was not, and as many flits were sent as a link's buffers hold.
 abbrev pub FlitSent : OutletView → ℕ → Flit → Bool → OutletView → Type 0
 FlitSent Within y f true new = ⊥
-FlitSent (Over tx back) y f true new = new ≡ Over (record tx { sent = tx.sent ++ record { node = y; flit = f } ∷ [] }) back
+FlitSent (Over tx back) y f true new =
+    new ≡ Over (record tx { sent = tx.sent ++ record { node = y; flit = f } ∷ [] }) back
 FlitSent Within y f false new = new ≡ Within
 FlitSent (Over tx back) y f false new = (new ≡ Over tx back) × (bundle_capacity tx.bundle ≤ length tx.sent)
 
@@ -64,7 +65,8 @@ MayGive (From rx give) v = v < give.bundle.channels
 -- It was given; or it was not, and as many credits were given as a link's buffers hold flits.
 abbrev pub CreditGiven : InletView → ℕ → ℕ → Bool → InletView → Type 0
 CreditGiven Inside y v true new = ⊥
-CreditGiven (From rx give) y v true new = new ≡ From rx (record give { sent = give.sent ++ record { node = y; vc = v } ∷ [] })
+CreditGiven (From rx give) y v true new =
+    new ≡ From rx (record give { sent = give.sent ++ record { node = y; vc = v } ∷ [] })
 CreditGiven Inside y v false new = new ≡ Inside
 CreditGiven (From rx give) y v false new = (new ≡ From rx give) × (bundle_capacity give.bundle ≤ length give.sent)
 

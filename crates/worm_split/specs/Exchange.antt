@@ -1,6 +1,6 @@
 -- What is exchanged between a network taken apart and a worker's own lists, at the split and again at the join: the
--- nodes that the worker owns, the flits on the links that enter them, the credits on their way back to them, and what it
--- has by port.
+-- nodes that the worker owns, the flits on the links that enter them, the credits on their way back to them, and what
+-- it has by port.
 use Rattle.std.specs.Prelude.{◌≡◌, ℕ, ◌<◌, ◌≤◌, Bool, cond, List, length, slice_index_or}
 use Rattle.worm_mesh.specs.declared.mesh.LinkEnds.{LinkEnds}
 use Rattle.worm_region.specs.Owned.{owned_by}

@@ -1,6 +1,5 @@
 -- The parts of a network joined again: each node as its owner has it, each link as the owner of its far end has it,
--- and then what the
--- queue still held.
+-- and then what of its bundle still is the link's.
 use Rattle.std.specs.Prelude.{◌≡◌, ℕ, ◌+◌, ◌<◌, ◌≤◌, ◌%◌, List, [], ◌++◌, length, slice_index_or, Some}
 use Rattle.worm_mesh.specs.Address.{node_count}
 use Rattle.worm_mesh.specs.declared.mesh.LinkEnds.{LinkEnds}
@@ -47,7 +46,7 @@ pub record IsGathered (parts : List PartState) (from : ℕ) (kept : Apart) : Typ
   pub all_sides : length kept.sides ≡ length parts
   pub sides : (w : ℕ) → from ≤ w → w < length parts → side_at kept.sides w ≡ (part_at parts w).side
 
--- what both of the link's queues still held stands behind its flits, and behind its credits, if there is room
+-- what was sent over the link and not taken stands behind its flits, and the credits likewise, if there is room
 pub record IsEmptiedOf (tx : TxView) (back : CreditRxView) (rx : RxView) (give : CreditTxView)
     (old new : LinkView) : Type 0 where
   pub flits_left : List Flit
@@ -79,9 +78,8 @@ pub record AreEmptied (ways : List LinkEnds) (sides : List SideView) (old new : 
   pub within : (k : ℕ) → (way_at ways k).from % length sides ≡ (way_at ways k).to % length sides →
       slice_index_or new k blank_link ≡ slice_index_or old k blank_link
 
--- The link by port o of node y: what the owner of its far end has of it, and then what its queue still held; its
--- credit line likewise. There
--- is no queue within one worker's part.
+-- The link by port o of node y: what the owner of its far end has of it, and then what its bundle still held of it; its
+-- credits likewise. Within one worker's part there is no bundle.
 pub record IsLinkJoined (near far : PartState) (new : NetState) (y o : ℕ) : Type 0 where
   pub flits_left : List Flit
   pub credits_left : List ℕ

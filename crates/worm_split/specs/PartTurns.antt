@@ -170,9 +170,10 @@ NodeTurn entries x = Within (AsksSourceBy Attempts entries x) then NodePasses x
 abbrev pub own_nodes : PartState → List ℕ
 own_nodes p = filter (owned p.net) (all_nodes p.net)
 
--- what has come is received, and then its nodes have their turns
+-- their turns
 abbrev pub NodeTurns : List Entry → PartPassage
 NodeTurns entries old fault new = EachOf (NodeTurn entries) (own_nodes old) old fault new
 
+-- what has come is received, and then its nodes have their turns
 abbrev pub Turn : List Entry → PartPassage
 Turn entries = ReceivesFlits then ReceivesCredits then NodeTurns entries

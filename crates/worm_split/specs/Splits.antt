@@ -69,8 +69,7 @@ abbrev pub part_at : List PartState → ℕ → PartState
 part_at parts w = slice_index_or parts w no_part
 
 -- The part of a worker as it is at the split: the worker's own nodes and the links between them as they were; of a
--- link that it shares
--- what comes to it.
+-- link that it shares what comes to it; by port what was made for it, over which nothing has gone.
 pub record IsFirstPart (opening : NetState) (workers worker : ℕ) (sides : List SideView) (p : PartState) : Type 0 where
   pub own : p.net.own ≡ record { worker = worker; workers = workers }
   pub opened : p.opening ≡ opening

@@ -290,7 +290,7 @@ fn gather(mut parts: Vec<Part>) -> Kept
 }
 
 /// Joins all parts of one split, in rising number of their workers: each node as its owner has it, each link as the
-/// owner of its far end has it, and then what its queue still held. It takes no memory.
+/// owner of its far end has it, and then what its bundle still held of it. It takes no memory.
 ///
 /// ```text
 /// let parts = split(alloc, net, 4)?;

@@ -1,4 +1,4 @@
-//! What one worker has of a network: its own nodes, and its ends of the links that it shares with other workers.
+//! What one worker has of a network: its own nodes, and its ends of the bundles that it shares with other workers.
 
 use crate::exchange::Kept;
 use crate::sides::Side;

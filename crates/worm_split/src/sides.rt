@@ -175,8 +175,8 @@ impl Side {
         }
     }
 
-    /// Sends a flit over the link that leaves the node by the port, which leads to another worker's. False where there is
-    /// no room; then nothing changed.
+    /// Sends a flit over the link that leaves the node by the port, which leads to another worker's. False where there
+    /// is no room; then nothing changed.
     pub fn send<R: Wait>(&mut self, rt: &R, node: u8, port: u8, flit: Flit) -> bool
         requires over { is_over (outlet_at self.old port) ≡ true }
         requires may { MaySend (outlet_at self.old port) node flit }
@@ -185,8 +185,8 @@ impl Side {
         self.leaving[usize::from(port)].send(rt, node, flit)
     }
 
-    /// Gives a credit of the link that leaves the node and enters by the port, from another worker's. False where there is
-    /// no room; then nothing changed.
+    /// Gives a credit of the link that leaves the node and enters by the port, from another worker's. False where there
+    /// is no room; then nothing changed.
     pub fn give<R: Wait>(&mut self, rt: &R, node: u8, port: u8, vc: u8) -> bool
         requires from { is_from (inlet_at self.old port) ≡ true }
         requires may { MayGive (inlet_at self.old port) vc }
@@ -195,8 +195,8 @@ impl Side {
         self.entering[usize::from(port)].give(rt, node, vc)
     }
 
-    /// Takes the next flit that came in by the port, where its link, out of port `out` of another worker's node, has none
-    /// on it. None where none came, or one waits.
+    /// Takes the next flit that came in by the port, where its link, out of port `out` of another worker's node, has
+    /// none on it. None where none came, or one waits.
     pub fn receive_flit(&mut self, region: &Region, port: u8, out: u8) -> Option<Carried>
         requires { 0 < region.now.own.workers }
         ensures none { IfNone result (self.new ≡ self.old) }
@@ -208,8 +208,8 @@ impl Side {
         Some(carried)
     }
 
-    /// Takes the next credit that came back by the port, where its link has none on its way. None where none came, or one
-    /// waits.
+    /// Takes the next credit that came back by the port, where its link has none on its way. None where none came, or
+    /// one waits.
     pub fn receive_credit(&mut self, region: &Region, port: u8) -> Option<Returned>
         requires { 0 < region.now.own.workers }
         ensures none { IfNone result (self.new ≡ self.old) }

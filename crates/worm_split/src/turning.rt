@@ -329,10 +329,11 @@ impl Part {
         Ok(())
     }
 
-    /// A turn: what came from other workers is received, of each link one flit and one credit at most, and then the
-    /// worker's nodes, in rising number, have the turn of this number, with the script's entries for it, up to the first
-    /// fault. What leaves by a link to another worker leaves by the bundle of its port, if its push lands. Each of its
-    /// sources accepts in order what the script has for it, each of its sinks gets one flit at most.
+    /// A turn: what came from other workers is received, of each link one flit and one credit at most; then the
+    /// worker's nodes, in rising number, have the turn of this number, with the script's entries for it, up to the
+    /// first fault; and what they sent and gave to other workers is let out. What leaves by a link to another worker
+    /// leaves by the bundle of its port, if its push lands. Each of its sources accepts in order what the script has
+    /// for it, each of its sinks gets one flit at most.
     /// `Refused` where a source refuses an entry, `NoMemory` where there is none for an accepted or a delivered flit.
     pub fn turn<R: Wait>(&mut self, rt: &R, turn: u64, script: &Script) -> Result<(), StepFault>
         ensures exact { Turn (due turn script.now) self.old (result_err result) self.new }

@@ -17,5 +17,6 @@ loop-worker-preserved g c =
     let to = (s.worker + c.args.step) % c.len-workers.result in
     let to_is : to ≡ (s.worker + c.args.step) % length sides = ap (λ (n : ℕ). (s.worker + c.args.step) % n) count in
     port_further mesh c.args.port c.args.step sides c.args.links.now.items s.worker s.sides.items s.links.items
-    s.invariant there to to_is c.len-workers.result count (one_link mesh (AreLarge-from_radices mesh c.requires.mesh.radices))
+    s.invariant there to to_is c.len-workers.result count
+    (one_link mesh (AreLarge-from_radices mesh c.requires.mesh.radices))
     c.requires.step c.empty_between.new.sides.items c.empty_between.new.links.items c.empty_between.ensures

@@ -67,8 +67,8 @@ put c =
     c.arrive_credit.new.self) same c.arrive_credit.ensures) in
     subst (λ (s : SideView). let q = record a { net = c.arrive_credit.new.self; side = s } in
     IsPart q × CreditComes c.in-Some.returned.node c.args.port a q × IsSamePart a q) (sym taken.2)
-    (credit_put a c.self.invariant.0 c.args.port c.in-Some.returned taken.0 awaited taken.1 c.arrive_credit.new.self comes
-    back)
+    (credit_put a c.self.invariant.0 c.args.port c.in-Some.returned taken.0 awaited taken.1
+    c.arrive_credit.new.self comes back)
 
 pub invariant_of-self-2 : goal.invariant_of-self-2
 invariant_of-self-2 c = (

@@ -16,12 +16,14 @@ receive_credit-requires c = subst (λ (ks : List ℕ). c.args.port < 2 * length 
 
 pub returns-then-not-receive_credit-clause-came : goal.returns-then-not-receive_credit-clause-came
 returns-then-not-receive_credit-clause-came c =
-    subst (λ (p : PartState). ReceivesCredits c.args.self.now None p) (sym (c.receive_credit.ensures.none c.if-not-receive_credit.true))
+    subst (λ (p : PartState). ReceivesCredits c.args.self.now None p)
+    (sym (c.receive_credit.ensures.none c.if-not-receive_credit.true))
     c.loop-link.invariant.came
 
 pub returns-then-not-receive_credit-clause-same : goal.returns-then-not-receive_credit-clause-same
 returns-then-not-receive_credit-clause-same c =
-    subst (λ (p : PartState). IsSamePart c.args.self.now p) (sym (c.receive_credit.ensures.none c.if-not-receive_credit.true))
+    subst (λ (p : PartState). IsSamePart c.args.self.now p)
+    (sym (c.receive_credit.ensures.none c.if-not-receive_credit.true))
     c.loop-link.invariant.same
 
 pub loop-link-preserved : goal.loop-link-preserved

@@ -29,7 +29,8 @@ pub arrive-requires-clause-channel : goal.arrive-requires-clause-channel
 arrive-requires-clause-channel c =
     let i = (goal.at.arrive-requires-clause-channel c).In-Some in
     let taken = c.in-Some.ensures.taken in
-    flit_channel (p i) c.self.invariant.0 c.recall.ensures.framed c.args.port c.in-Some.carried taken.0 (awaited i) taken.1
+    flit_channel (p i) c.self.invariant.0 c.recall.ensures.framed c.args.port c.in-Some.carried taken.0 (awaited i)
+    taken.1
 
 pub arrive-requires-clause-goal : goal.arrive-requires-clause-goal
 arrive-requires-clause-goal c =
@@ -49,7 +50,8 @@ put c =
     c.opposite-out.ensures.value c.arrive.ensures in
     subst (λ (s : SideView). let q = record a { net = c.arrive.new.self; side = s } in
     IsPart q × FlitComes c.in-Some.carried.node c.args.port a q × IsSamePart a q) (sym taken.2)
-    (flit_put a c.self.invariant.0 c.recall.ensures.framed c.args.port c.in-Some.carried taken.0 (awaited i) taken.1 c.arrive.new.self arrives)
+    (flit_put a c.self.invariant.0 c.recall.ensures.framed c.args.port c.in-Some.carried taken.0 (awaited i) taken.1
+    c.arrive.new.self arrives)
 
 pub invariant_of-self-2 : goal.invariant_of-self-2
 invariant_of-self-2 c = (

@@ -16,12 +16,14 @@ receive_flit-requires c = subst (λ (ks : List ℕ). c.args.port < 2 * length ks
 
 pub returns-then-not-receive_flit-clause-came : goal.returns-then-not-receive_flit-clause-came
 returns-then-not-receive_flit-clause-came c =
-    subst (λ (p : PartState). ReceivesFlits c.args.self.now None p) (sym (c.receive_flit.ensures.none c.if-not-receive_flit.true))
+    subst (λ (p : PartState). ReceivesFlits c.args.self.now None p)
+    (sym (c.receive_flit.ensures.none c.if-not-receive_flit.true))
     c.loop-link.invariant.came
 
 pub returns-then-not-receive_flit-clause-same : goal.returns-then-not-receive_flit-clause-same
 returns-then-not-receive_flit-clause-same c =
-    subst (λ (p : PartState). IsSamePart c.args.self.now p) (sym (c.receive_flit.ensures.none c.if-not-receive_flit.true))
+    subst (λ (p : PartState). IsSamePart c.args.self.now p)
+    (sym (c.receive_flit.ensures.none c.if-not-receive_flit.true))
     c.loop-link.invariant.same
 
 pub loop-link-preserved : goal.loop-link-preserved

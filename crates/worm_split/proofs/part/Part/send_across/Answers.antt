@@ -15,8 +15,8 @@ use Rattle.worm_split.proofs.part.Part.send_across.Given as given
 -- the flit that leaves
 going : (g : given.Over) (c : After-recall g)
     → let i = c.self.inside in
-    IsGoing (part_state i.region i.side i.opening.value i.sides.value.items) c.args.node c.args.port c.args.vc c.args.out
-    c.args.flit
+    IsGoing (part_state i.region i.side i.opening.value i.sides.value.items) c.args.node c.args.port c.args.vc
+    c.args.out c.args.flit
 going g c =
     let back = sym c.self.view_is in
     record {
