@@ -19,5 +19,4 @@ mod turning;
 
 pub use joining::join;
 pub use part::Part;
-pub use sides::{Inlet, Outlet, Side};
 pub use splitting::split;
