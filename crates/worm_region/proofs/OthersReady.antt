@@ -115,20 +115,37 @@ sent_router s x q c d there = by_port (d.0 == 2 * length s.mesh) where
   by_port true = ap (λ (n : Node). n.router) (node_written s x (delivered_node (node_at s x) q c d.1) there)
   by_port false = router_written s x (after_send (router_at s x) q c) there
 
--- so a channel that may send may do so still, once another has sent
+-- a channel that may send may do so still, where another's flit has left the router
+left_still : (s : NetState) (x q c p v : ℕ) (d : ℕ × Flit) → IsWorkable s → IsNetPlace s x q c
+    → (p ≡ q → v ≡ c → ⊥) → leaving (router_at s x) q c ≡ Some d → IsReady (router_at s x) p v
+    → IsReady (after_send (router_at s x) q c) p v
+left_still s x q c p v d net here away is ready =
+    let r = router_at s x in
+    let there : IsNetPlace s x p v = record { node_in = here.node_in; place = ready.place } in
+    subst (λ (t : RouterState). IsReady t p v) (sym (ap (after_leaving r q c) is)) record {
+      place = record { port_in = ready.place.port_in; channel_in = ready.place.channel_in };
+      leaves = subst IsSome (sym (leaving_kept s x q c p v d net here there away is)) ready.leaves;
+    }
+
+-- so it is where the flit goes over a link to another worker
+pub out_ready : (s new : NetState) (x q c p v : ℕ) (d : ℕ × Flit) → IsWorkable s → IsNetPlace s x q c
+    → (p ≡ q → v ≡ c → ⊥) → leaving (router_at s x) q c ≡ Some d
+    → new ≡ with_router s x (after_send (router_at s x) q c) → IsReady (router_at s x) p v
+    → IsReady (router_at new x) p v
+out_ready s new x q c p v d net here away is after ready =
+    subst (λ (t : RouterState). IsReady t p v)
+    (sym (ap (λ (t : NetState). router_at t x) after
+    ∙ router_written s x (after_send (router_at s x) q c) here.node_in))
+    (left_still s x q c p v d net here away is ready)
+
+-- and where it goes to the sink or onto a link of the network's own
 still_ready : (s : NetState) (x q c p v : ℕ) (leaves : Option (ℕ × Flit)) → IsWorkable s → IsNetPlace s x q c
     → (p ≡ q → v ≡ c → ⊥) → leaving (router_at s x) q c ≡ leaves → IsReady (router_at s x) p v
     → IsReady (router_at (after_ready s x q c leaves) x) p v
 still_ready s x q c p v None net here away is ready = ready
 still_ready s x q c p v (Some d) net here away is ready =
-    let r = router_at s x in
-    let there : IsNetPlace s x p v = record { node_in = here.node_in; place = ready.place } in
-    let sent : router_at (after_sending s x q c d) x ≡ after_leaving r q c (Some d) =
-    sent_router s x q c d here.node_in ∙ ap (after_leaving r q c) is in
-    subst (λ (t : RouterState). IsReady t p v) (sym sent) record {
-      place = record { port_in = ready.place.port_in; channel_in = ready.place.channel_in };
-      leaves = subst IsSome (sym (leaving_kept s x q c p v d net here there away is)) ready.leaves;
-    }
+    subst (λ (t : RouterState). IsReady t p v) (sym (sent_router s x q c d here.node_in))
+    (left_still s x q c p v d net here away is ready)
 
 pub others_ready : (s new : NetState) (x q c : ℕ) (answer : Result Moved StepFault) → IsWorkable s
     → Replies s (Send x q c) answer new → (p v : ℕ) → (p ≡ q → v ≡ c → ⊥) → IsReady (router_at s x) p v

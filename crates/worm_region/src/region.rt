@@ -311,8 +311,7 @@ impl Region {
     }
 
     /// A Send where the place is there. What leaves over a link stays among the nodes that are owned.
-    #[inline(always)]
-    pub fn send_there(&mut self, node: u8, port: u8, vc: u8) -> Result<Moved, StepFault>
+    fn send_there(&mut self, node: u8, port: u8, vc: u8) -> Result<Moved, StepFault>
         requires there { IsThere (shape self.old) (Event.Send node port vc) }
         requires within { IfSome (leaving (router_at self.old node) port vc)
             (λ out. EndsWithin (shape self.old) (owned self.old) node out.0) }
@@ -327,7 +326,7 @@ impl Region {
     /// The same of a channel that may send, as one that was granted the switch. No two hold one output channel, so what
     /// may leave any other channel of the node may leave it still.
     #[inline(always)]
-    pub(crate) fn send_next(&mut self, node: u8, port: u8, vc: u8) -> Result<Moved, StepFault>
+    pub fn send_next(&mut self, node: u8, port: u8, vc: u8) -> Result<Moved, StepFault>
         requires there { IsThere (shape self.old) (Event.Send node port vc) }
         requires ready { IsSome (leaving (router_at self.old node) port vc) }
         requires within { IfSome (leaving (router_at self.old node) port vc)

@@ -1,10 +1,10 @@
 //! What comes into a part of a network and goes out of it, over the links that it shares with other workers
 //! (Dally and Towles, chapter 13).
 
-ghost use Rattle.std.specs.Prelude.{◌≡◌, ◌<◌, ◌↔◌, [], false, IsSome, Some, sum};
+ghost use Rattle.std.specs.Prelude.{◌≡◌, ◌<◌, ◌↔◌, [], false, IsSome, Some, sum, ℕ};
 ghost use Rattle.worm_theory.specs.Steps.{IsThere, Step as Event};
 ghost use Rattle.worm_region.specs.Edges.{Arrives, ComesBack, LetsGive, LetsOut};
-ghost use Rattle.worm_region.specs.Moves.{link_into, link_out};
+ghost use Rattle.worm_region.specs.Moves.{IsReady, link_into, link_out};
 ghost use Rattle.worm_region.specs.State.{link_at, router_at, shape};
 ghost use Rattle.worm_region.specs.Workable.{EndsElsewhere, owned};
 ghost use Rattle.worm_mesh.specs.Address.{neighbour_of, node_count};
@@ -14,21 +14,26 @@ use super::Region;
 use worm_flit::Flit;
 
 impl Region {
-    /// By which port the front flit may leave, and as which flit, if it may.
-    pub fn ready(&self, node: u8, port: u8, vc: u8) -> Option<(u8, Flit)>
-        requires { IsThere (shape self.now) (Event.Send node port vc) }
-        ensures { result ≡ leaving (router_at self.now node) port vc }
+    /// By which port the front flit of a channel that may send leaves, and as which flit. Whoever was granted the switch
+    /// may send, and is not asked again.
+    #[inline(always)]
+    pub fn next_out(&self, node: u8, port: u8, vc: u8) -> (u8, Flit)
+        requires there { IsThere (shape self.now) (Event.Send node port vc) }
+        requires ready { IsSome (leaving (router_at self.now node) port vc) }
+        ensures { Some result ≡ leaving (router_at self.now node) port vc }
     {
-        self.fabric.node(node).router.ready(port, vc)
+        self.fabric.node(node).router.next_out(port, vc)
     }
 
     /// The ready flit leaves the node by the output port `out`, over a link to another worker's node: a Send but for
-    /// the link.
+    /// the link. What may leave any other channel of the node may leave it still.
     pub fn let_out(&mut self, node: u8, port: u8, vc: u8, out: u8, flit: Flit)
         requires there { IsThere (shape self.old) (Event.Send node port vc) }
         requires ready { leaving (router_at self.old node) port vc ≡ Some (out, flit) }
         requires crosses { EndsElsewhere (shape self.old) (owned self.old) node out }
-        ensures { LetsOut self.old node port vc self.new }
+        ensures left { LetsOut self.old node port vc self.new }
+        ensures others { (p v : ℕ) → (p ≡ port → v ≡ vc → ⊥) → IsReady (router_at self.old node) p v →
+            IsReady (router_at self.new node) p v }
     {
         self.fabric.router_mut(node).let_out(port, vc, out, flit);
     }
