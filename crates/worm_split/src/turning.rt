@@ -1,13 +1,14 @@
 //! What a part does in a turn: it receives what came, and its nodes have their turns.
 
 ghost use Rattle.std.specs.Prelude.{◌≡◌, ◌<◌, ◌+◌, ◌*◌, ◌%◌, ◌↔◌, ◌∷◌, [], filter, true, None, Some, IsTrue};
-ghost use Rattle.std.specs.Prelude.{false, List, Option, length, sum, ℕ};
+ghost use Rattle.std.specs.Prelude.{false, List, Option, IsSome, length, sum, ℕ};
 ghost use Rattle.std.specs.Result.{result_err};
 ghost use Rattle.worm_mesh.specs.Address.{node_count};
 ghost use Rattle.worm_region.specs.Replies.{Attempts};
 ghost use Rattle.worm_script.specs.Script.{due};
 ghost use Rattle.worm_region.specs.Prepared.{Prepares};
-ghost use Rattle.worm_region.specs.Turns.{AreGrants, AreThere, AsksSourceBy};
+ghost use Rattle.worm_region.specs.Moves.{IsReady};
+ghost use Rattle.worm_region.specs.Turns.{AreGrants, AreThere, AsksSourceBy, MayAllSend};
 ghost use Rattle.worm_region.specs.Workable.{owned};
 ghost use Rattle.worm_split.specs.Effects.{HasWords, HaveWords, IsRefused, SinksTakeOne, SourcesTake};
 ghost use Rattle.worm_split.specs.PartState.{IsSamePart};
@@ -125,6 +126,7 @@ impl Part {
         ensures prepares { Prepares node result self.old.net self.new.net }
         ensures within { self.new ≡ record self.old { net = self.new.net } }
         ensures there { AreThere self.new.net node result }
+        ensures ready { MayAllSend self.new.net node result }
         ensures same { IsSamePart self.old self.new }
     {
         self.region.prepare(node)
@@ -137,6 +139,8 @@ impl Part {
         requires ready { leaving (router_at self.old.net node) port vc ≡ Some (out, flit) }
         requires leaves { LeavesBy self.old out }
         ensures sends { SendsAcross node port vc self.old self.new }
+        ensures others { (p v : ℕ) → (p ≡ port → v ≡ vc → ⊥) → IsReady (router_at self.old.net node) p v →
+            IsReady (router_at self.new.net node) p v }
         ensures same { IsSamePart self.old self.new }
     {
         self.region.recall();
@@ -149,29 +153,34 @@ impl Part {
     fn send_within(&mut self, node: u8, port: u8, vc: u8) -> Result<(), StepFault>
         requires own { owned self.old.net node ≡ true }
         requires there { IsThere (shape self.old.net) (Event.Send node port vc) }
+        requires ready { IsSome (leaving (router_at self.old.net node) port vc) }
         requires stays { StaysWithin self.old (leaving (router_at self.old.net node) port vc) }
         ensures sends { Within (Attempts (Event.Send node port vc)) self.old (result_err result) self.new }
+        ensures others { (p v : ℕ) → (p ≡ port → v ≡ vc → ⊥) → IsReady (router_at self.old.net node) p v →
+            IsReady (router_at self.new.net node) p v }
         ensures same { IsSamePart self.old self.new }
     {
         self.region.recall();
-        tried(self.region.send_there(node, port, vc))
+        tried(self.region.send_next(node, port, vc))
     }
 
-    /// Lets a granted channel send, over a link to another worker or within the part. `NoMemory` where its flit is for
-    /// the sink and there is none for it there.
+    /// Lets a granted channel send, over a link to another worker or within the part; what may leave any other channel of
+    /// the node may leave it still. `NoMemory` where its flit is for the sink and there is none for it there.
     fn send<R: Wait>(&mut self, rt: &R, node: u8, port: u8, vc: u8) -> Result<(), StepFault>
         requires own { owned self.old.net node ≡ true }
         requires there { IsThere (shape self.old.net) (Event.Send node port vc) }
+        requires ready { IsSome (leaving (router_at self.old.net node) port vc) }
         ensures sends { Sends node port vc self.old (result_err result) self.new }
+        ensures others { (p v : ℕ) → (p ≡ port → v ≡ vc → ⊥) → IsReady (router_at self.old.net node) p v →
+            IsReady (router_at self.new.net node) p v }
         ensures same { IsSamePart self.old self.new }
     {
-        match self.region.ready(node, port, vc) {
-            Some((out, flit)) if self.side.leaves(out) => {
-                self.send_across(rt, node, port, vc, out, flit);
-                Ok(())
-            }
-            _ => self.send_within(node, port, vc),
+        let (out, flit) = self.region.next_out(node, port, vc);
+        if !self.side.leaves(out) {
+            return self.send_within(node, port, vc);
         }
+        self.send_across(rt, node, port, vc, out, flit);
+        Ok(())
     }
 
     /// Lets each of these channels, which the switch allocator granted, send, ports rising, up to the first fault.
@@ -183,6 +192,7 @@ impl Part {
     ) -> Result<(), StepFault>
         requires granted { AreGrants granted }
         requires there { AreThere self.old.net node granted }
+        requires ready { MayAllSend self.old.net node granted }
         requires own { owned self.old.net node ≡ true }
         ensures sends { (grants : List (Option SwGrant)) → AreGranted grants granted →
             SendsGrants grants node self.old (result_err result) self.new }

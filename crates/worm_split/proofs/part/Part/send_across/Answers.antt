@@ -1,6 +1,7 @@
-use Rattle.std.proofs.Common.{◌≡◌, Some, true, sym, subst}
+use Rattle.std.proofs.Common.{◌≡◌, ℕ, Some, true, sym, subst}
 use Rattle.worm_router.specs.Router.{leaving}
 use Rattle.worm_theory.specs.Steps.{Send, IsThere}
+use Rattle.worm_region.specs.Moves.{IsReady}
 use Rattle.worm_region.specs.State.{router_at, shape}
 use Rattle.worm_region.specs.Workable.{owned}
 use Rattle.worm_region.specs.declared.own.Own.{Own}
@@ -41,11 +42,16 @@ pub invariant_of-self : goal.invariant_of-self
 invariant_of-self g c =
     let i = c.self.inside in
     let landed = went (going g (goal.at.invariant_of-self g c).After-recall) c.send.new.self c.let_out.new.self
-    c.if-send.ensures c.let_out.ensures in
+    c.if-send.ensures c.let_out.ensures.left in
     (landed.0, subst (λ (w : Own). IsKept i.opening.value w i.kept) (sym landed.2.config.own) c.self.invariant.1)
 
 pub returns-then-send-clause-sends : goal.returns-then-send-clause-sends
 returns-then-send-clause-sends g c =
     let landed = went (going g (goal.at.returns-then-send-clause-sends g c).After-recall) c.send.new.self
-    c.let_out.new.self c.if-send.ensures c.let_out.ensures in
+    c.let_out.new.self c.if-send.ensures c.let_out.ensures.left in
     rw (← c.self.view_is) landed.1
+
+pub returns-then-send-clause-others : goal.returns-then-send-clause-others
+returns-then-send-clause-others g c =
+    subst (λ (q : PartState). (p v : ℕ) → (p ≡ c.args.port → v ≡ c.args.vc → ⊥) → IsReady (router_at q.net c.args.node) p v
+    → IsReady (router_at c.let_out.new.self c.args.node) p v) c.self.view_is c.let_out.ensures.others
