@@ -13,6 +13,7 @@ pub mod GrantsSent
 pub mod Inside
 pub mod Keeping
 pub mod PartFacts
+pub mod OwnNodes
 pub mod PartLoops
 pub mod PartMoves
 pub mod PortKnown

@@ -305,36 +305,17 @@ impl Part {
         self.node_passes(rt, node)
     }
 
-    /// The turn of the node, whose owner this is, if it is the worker's own, and nothing if it is not.
-    fn own_turn<R: Wait>(
-        &mut self,
-        rt: &R,
-        node: u8,
-        owner: u16,
-        entries: &Due<'_>,
-    ) -> Result<(), StepFault>
-        requires node { node < node_count self.old.net.mesh }
-        requires owner { owner ≡ node % self.old.net.own.workers }
-        ensures turn { EachOf (NodeTurn entries.now) (filter (owned self.old.net) (node ∷ [])) self.old
-            (result_err result) self.new }
-        ensures same { IsSamePart self.old self.new }
-    {
-        if owner != self.region.own().worker {
-            return Ok(());
-        }
-        self.node_turn(rt, node, entries)
-    }
-
     /// The turns of the worker's nodes, in rising number, with these entries for all nodes, up to the first fault.
     fn node_turns<R: Wait>(&mut self, rt: &R, entries: &Due<'_>) -> Result<(), StepFault>
         ensures turn { NodeTurns entries.now self.old (result_err result) self.new }
         ensures same { IsSamePart self.old self.new }
     {
-        let workers = self.region.own().workers;
-        let mut owner = 0;
-        for node in 0..self.region.nodes() {
-            self.own_turn(rt, node as u8, owner, entries)?;
-            owner = next_owner(owner, workers);
+        let own = self.region.own();
+        let nodes = u32::from(self.region.nodes());
+        let mut node = u32::from(own.worker);
+        while node < nodes {
+            self.node_turn(rt, node as u8, entries)?;
+            node += u32::from(own.workers);
         }
         Ok(())
     }
@@ -368,17 +349,6 @@ impl Part {
     {
         self.side.flush(rt);
     }
-}
-
-/// The owner of the next node: nodes go to the workers in turn. It is counted, since to divide takes longer.
-fn next_owner(owner: u16, workers: u16) -> u16
-    requires { owner < workers }
-    ensures { result ≡ (owner + 1) % workers }
-{
-    if owner + 1 == workers {
-        return 0;
-    }
-    owner + 1
 }
 
 /// What holds of every packet, for contracts: it has words, and not too many.

@@ -16,8 +16,7 @@ use Rattle.worm_split.proofs.part.Part.send_granted.Goals as goal
 pub loop-port-init : goal.loop-port-init
 loop-port-init g c =
     let net : IsWorkable c.args.self.now.net =
-    subst (λ (p : PartState). IsWorkable p.net) c.self.view_is c.recall.ensures in
-    (
+    subst (λ (p : PartState). IsWorkable p.net) c.self.view_is c.recall.ensures in (
       c.requires.ready,
       λ grants _.
           sent_start c.args.node c.args.granted c.args.self.now.net net c.requires.there
