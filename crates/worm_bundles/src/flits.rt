@@ -233,6 +233,16 @@ impl FlitRx {
         self.end.fetch();
     }
 
+    /// Behind a full batch that was taken, takes the next batch off the queue, if one stands in it. Behind one that was
+    /// not full it looks for none: a sender flushes once a turn, so one seldom stands there, and a look costs both
+    /// threads a cache line.
+    pub fn fetch_behind_full(&mut self)
+        ensures others { self.new ≡ record self.old { ahead = self.new.ahead } }
+        ensures kept { 0 < length self.old.ahead → self.new ≡ self.old }
+    {
+        self.end.fetch_behind_full();
+    }
+
     /// The next flit at hand; `None` where nothing is at hand.
     pub fn front(&self) -> Option<Carried>
         ensures value { result ≡ slice_get self.now.ahead 0 }
