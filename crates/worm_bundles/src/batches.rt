@@ -345,8 +345,8 @@ impl<X: Copy + Default, const N: usize, H: Carriage<X>> Taker<X, N, H> {
         }
     }
 
-    /// The next batch of the queue comes to hand, if it holds one. It stands apart from `fetch`, since a call that it is
-    /// part of clears the place of a whole batch, also where something is at hand.
+    /// The next batch of the queue comes to hand, if it holds one. It stands apart: a call that it were part of would
+    /// clear a whole batch's place each time, also where something is at hand.
     #[inline(never)]
     fn refill(&mut self)
         requires { self.old.ahead ≡ [] }
