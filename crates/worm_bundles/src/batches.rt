@@ -328,9 +328,30 @@ impl<X: Copy + Default, const N: usize, H: Carriage<X>> Taker<X, N, H> {
         ensures others { self.new ≡ record self.old { ahead = self.new.ahead } }
         ensures kept { 0 < length self.old.ahead → self.new ≡ self.old }
     {
-        if !self.hand.is_empty() {
-            return;
+        if self.hand.is_empty() {
+            self.refill();
         }
+    }
+
+    /// Behind a full batch that was taken, the next batch of the queue comes to hand, if it holds one. Behind one that
+    /// was not full it looks for none: a sender flushes once a turn, so one seldom stands there, and a look costs both
+    /// threads a cache line.
+    pub fn fetch_behind_full(&mut self)
+        ensures others { self.new ≡ record self.old { ahead = self.new.ahead } }
+        ensures kept { 0 < length self.old.ahead → self.new ≡ self.old }
+    {
+        if self.hand.is_empty() && self.hand.was_full() {
+            self.refill();
+        }
+    }
+
+    /// The next batch of the queue comes to hand, if it holds one. It stands apart: a call that it were part of would
+    /// clear a whole batch's place each time, also where something is at hand.
+    #[inline(never)]
+    fn refill(&mut self)
+        requires { self.old.ahead ≡ [] }
+        ensures { self.new ≡ record self.old { ahead = self.new.ahead } }
+    {
         if let Some(batch) = self.line.try_pop_as::<Takes<H>>(&mut self.pass) {
             self.hand = Hand::of(batch);
         }

@@ -12,6 +12,9 @@ use std::marker::{Brand, Model};
 use std::sync::Wait;
 use worm_links::LinkFault;
 
+// How many credits a batch has places for.
+const PLACES: usize = 60;
+
 /// Credits, each for a channel of its link.
 pub struct Credits;
 
@@ -37,7 +40,7 @@ impl Carriage<Returned> for Credits {
 #[derive(Drop)]
 pub struct CreditTx {
     // The queue, and the batch that is being filled.
-    end: Sender<Returned, 60, Credits>,
+    end: Sender<Returned, PLACES, Credits>,
 }
 
 impl Model for CreditTx {
@@ -65,7 +68,7 @@ impl Model for CreditTx {
 #[derive(Drop)]
 pub struct CreditRx {
     // The queue, and the batch at hand.
-    end: Taker<Returned, 60, Credits>,
+    end: Taker<Returned, PLACES, Credits>,
 }
 
 impl Model for CreditRx {
@@ -90,7 +93,7 @@ impl Model for CreditRx {
 #[derive(Drop)]
 pub struct CreditEnds {
     // The batch at hand, the queue, and the sender's batch.
-    ends: Both<Returned, 60, Credits>,
+    ends: Both<Returned, PLACES, Credits>,
 }
 
 impl Model for CreditEnds {
@@ -115,7 +118,7 @@ fn open<B: Naming>(alloc: Global, cfg: BundleCfg) -> Result<(CreditTx, CreditRx)
     ensures empty { IfOk result (λ ends. (ends.0.sent ≡ []) × (ends.1.taken ≡ []) × (ends.1.ahead ≡ [])) }
     ensures queue { IfOk result (λ ends. ends.0.queue ≡ ends.1.queue) }
 {
-    let (sender, taker) = batches::batches::<Returned, 60, Credits, B>(alloc, cfg)?;
+    let (sender, taker) = batches::batches::<Returned, PLACES, Credits, B>(alloc, cfg)?;
     Ok((CreditTx { end: sender }, CreditRx { end: taker }))
 }
 
@@ -181,6 +184,16 @@ impl CreditRx {
         ensures kept { 0 < length self.old.ahead → self.new ≡ self.old }
     {
         self.end.fetch();
+    }
+
+    /// Behind a full batch that was taken, takes the next batch off the queue, if one stands in it. Behind one that was
+    /// not full it looks for none: a sender flushes once a turn, so one seldom stands there, and a look costs both
+    /// threads a cache line.
+    pub fn fetch_behind_full(&mut self)
+        ensures others { self.new ≡ record self.old { ahead = self.new.ahead } }
+        ensures kept { 0 < length self.old.ahead → self.new ≡ self.old }
+    {
+        self.end.fetch_behind_full();
     }
 
     /// The next credit at hand; `None` where nothing is at hand.

@@ -16,6 +16,9 @@ use std::sync::Wait;
 use worm_flit::Flit;
 use worm_links::LinkFault;
 
+// How many flits a batch has places for.
+const PLACES: usize = 32;
+
 /// Flits, which are worms on each channel of each link.
 pub struct Flits;
 
@@ -28,7 +31,7 @@ impl Carriage<Carried> for Flits {
     ghost front = { bundle_front };
 }
 
-/// The sender's end of a bundle: it knows all that was sent, and fills a batch of 16 flits. It may lie in a `Vec` and
+/// The sender's end of a bundle: it knows all that was sent, and fills a batch of 32 flits. It may lie in a `Vec` and
 /// go to another thread.
 ///
 /// ```
@@ -41,7 +44,7 @@ impl Carriage<Carried> for Flits {
 #[derive(Drop)]
 pub struct FlitTx {
     // The queue, and the batch that is being filled.
-    end: Sender<Carried, 16, Flits>,
+    end: Sender<Carried, PLACES, Flits>,
 }
 
 impl Model for FlitTx {
@@ -73,7 +76,7 @@ impl Model for FlitTx {
 #[derive(Drop)]
 pub struct FlitRx {
     // The queue, and the batch at hand.
-    end: Taker<Carried, 16, Flits>,
+    end: Taker<Carried, PLACES, Flits>,
 }
 
 impl Model for FlitRx {
@@ -99,7 +102,7 @@ impl Model for FlitRx {
 #[derive(Drop)]
 pub struct Ends {
     // The batch at hand, the queue, and the sender's batch.
-    ends: Both<Carried, 16, Flits>,
+    ends: Both<Carried, PLACES, Flits>,
 }
 
 impl Model for Ends {
@@ -142,7 +145,7 @@ fn open<B: Naming>(alloc: Global, cfg: BundleCfg) -> Result<(FlitTx, FlitRx), Li
     ensures empty { IfOk result (λ ends. (ends.0.sent ≡ []) × (ends.1.taken ≡ []) × (ends.1.ahead ≡ [])) }
     ensures queue { IfOk result (λ ends. ends.0.queue ≡ ends.1.queue) }
 {
-    let (sender, taker) = batches::batches::<Carried, 16, Flits, B>(alloc, cfg)?;
+    let (sender, taker) = batches::batches::<Carried, PLACES, Flits, B>(alloc, cfg)?;
     Ok((FlitTx { end: sender }, FlitRx { end: taker }))
 }
 
@@ -231,6 +234,16 @@ impl FlitRx {
         ensures kept { 0 < length self.old.ahead → self.new ≡ self.old }
     {
         self.end.fetch();
+    }
+
+    /// Behind a full batch that was taken, takes the next batch off the queue, if one stands in it. Behind one that was
+    /// not full it looks for none: a sender flushes once a turn, so one seldom stands there, and a look costs both
+    /// threads a cache line.
+    pub fn fetch_behind_full(&mut self)
+        ensures others { self.new ≡ record self.old { ahead = self.new.ahead } }
+        ensures kept { 0 < length self.old.ahead → self.new ≡ self.old }
+    {
+        self.end.fetch_behind_full();
     }
 
     /// The next flit at hand; `None` where nothing is at hand.

@@ -1,5 +1,5 @@
 //! A batch off the queue, whose items are taken one by one.
-ghost use Rattle.std.specs.Prelude.{◌≡◌, ◌<◌, [], ◌∷◌, ◌++◌, ◌==◌, length, slice_get, IsSome, ◌↔◌};
+ghost use Rattle.std.specs.Prelude.{◌≡◌, ◌<◌, ◌+◌, [], ◌∷◌, ◌++◌, ◌==◌, length, slice_get, IsSome, ◌↔◌};
 
 use arrayvec::ArrayVec;
 use std::marker::Model;
@@ -46,6 +46,13 @@ impl<X: Copy + Default, const N: usize> Hand<X, N> {
         ensures { result ≡ (length self.now.ahead == 0) }
     {
         self.next == self.batch.len()
+    }
+
+    /// Whether the batch has an item in each of its places.
+    pub fn was_full(&self) -> bool
+        ensures { result ≡ (length self.now.gone + length self.now.ahead == N) }
+    {
+        self.batch.is_full()
     }
 
     /// The next item, if any.

@@ -2,7 +2,7 @@
 //! credits the other (Dally and Towles, chapters 12 and 13).
 //!
 //! A flit that crosses alone costs two threads a cache line to and fro. So a queue holds batches: the sender fills one,
-//! of 16 flits or 60 credits, and puts it onto the queue when it is full or flushed; the taker has one at hand.
+//! of 32 flits or 60 credits, and puts it onto the queue when it is full or flushed; the taker has one at hand.
 //! One idea carries both kinds: what was sent is the items of the batches that were taken, and then of those that the
 //! queue holds, and then of the batch that is being filled. For each node the flits among them are a history of its
 //! link, as in `worm_links`, so the taker has that of what it takes with no check. An end is written and proved once,

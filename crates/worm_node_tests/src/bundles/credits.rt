@@ -105,6 +105,18 @@ fn credits_of_eight_channels_of_depth_seventeen(rt: HostRuntime) {
     assert_eq!(rt; next(&mut rx), None);
 }
 
+/// Behind a full batch that was taken the next comes to hand.
+#[test]
+fn credits_behind_a_full_batch(rt: HostRuntime) {
+    let (mut tx, mut rx) = ends_of(&rt, rt.alloc(), 2, 1);
+    assert_eq!(rt; push_all(&rt, &mut tx, 61), 61);
+    tx.flush(&rt);
+    come(&rt, &mut rx, 0, 60);
+    assert_eq!(rt; rx.front(), None);
+    rx.fetch_behind_full();
+    assert_eq!(rt; rx.front(), Some(returned(60)));
+}
+
 /// Some credits at hand, some on the queue and some in the sender's batch.
 #[test]
 fn credits_left_at_the_reunion(rt: HostRuntime) {

@@ -114,39 +114,61 @@ fn are_left<R: Abort + Wait>(rt: &R, ends: &mut Ends, first: u16, end: u16) {
 
 /// Two batches and a part: what is in the sender's batch comes once it is flushed.
 #[test]
-fn forty_flits_of_two_links(rt: HostRuntime) {
+fn eighty_flits_of_two_links(rt: HostRuntime) {
     let (mut tx, mut rx) = ends_of(&rt, rt.alloc());
     assert_eq!(rt; next(&mut rx), None);
-    assert_eq!(rt; push_all(&rt, &mut tx, 40), 40);
-    come(&rt, &mut rx, 0, 32);
+    assert_eq!(rt; push_all(&rt, &mut tx, 80), 80);
+    come(&rt, &mut rx, 0, 64);
     assert_eq!(rt; next(&mut rx), None);
     tx.flush(&rt);
     tx.flush(&rt);
-    come(&rt, &mut rx, 32, 40);
+    come(&rt, &mut rx, 64, 80);
     assert_eq!(rt; next(&mut rx), None);
 }
 
-/// The queue has room for 64 batches of 16 flits, and the sender for one more.
+/// The queue has room for 64 batches of 32 flits, and the sender for one more.
 #[test]
 fn a_full_bundle(rt: HostRuntime) {
     let (mut tx, mut rx) = ends_of(&rt, rt.alloc());
-    assert_eq!(rt; push_all(&rt, &mut tx, 2000), 1040);
-    assert_eq!(rt; push(&rt, &mut tx, 2, 1040), Err(only(2, 1040)));
+    assert_eq!(rt; push_all(&rt, &mut tx, 3000), 2080);
+    assert_eq!(rt; push(&rt, &mut tx, 2, 2080), Err(only(2, 2080)));
     tx.flush(&rt);
-    come(&rt, &mut rx, 0, 1024);
+    come(&rt, &mut rx, 0, 2048);
     assert_eq!(rt; next(&mut rx), None);
     tx.flush(&rt);
-    come(&rt, &mut rx, 1024, 1040);
+    come(&rt, &mut rx, 2048, 2080);
+}
+
+/// Behind a full batch that was taken the next comes to hand. Behind one that was not full none does, though one stands
+/// in the queue: it comes where it is asked for.
+#[test]
+fn a_batch_behind_a_full_one(rt: HostRuntime) {
+    let (mut tx, mut rx) = ends_of(&rt, rt.alloc());
+    assert_eq!(rt; push_all(&rt, &mut tx, 34), 34);
+    tx.flush(&rt);
+    assert_eq!(rt; push_all(&rt, &mut tx, 1), 1);
+    tx.flush(&rt);
+    rx.fetch_behind_full();
+    assert_eq!(rt; rx.front(), None);
+    come(&rt, &mut rx, 0, 32);
+    assert_eq!(rt; rx.front(), None);
+    rx.fetch_behind_full();
+    assert_eq!(rt; rx.front(), Some(carried(32)));
+    come(&rt, &mut rx, 32, 34);
+    rx.fetch_behind_full();
+    assert_eq!(rt; rx.front(), None);
+    rx.fetch();
+    assert_eq!(rt; rx.front(), Some(carried(0)));
 }
 
 /// Some flits at hand, some on the queue and some in the sender's batch.
 #[test]
 fn flits_left_at_the_reunion(rt: HostRuntime) {
     let (mut tx, mut rx) = ends_of(&rt, rt.alloc());
-    assert_eq!(rt; push_all(&rt, &mut tx, 35), 35);
+    assert_eq!(rt; push_all(&rt, &mut tx, 67), 67);
     come(&rt, &mut rx, 0, 2);
     let mut ends = reunite(tx, rx);
-    are_left(&rt, &mut ends, 2, 35);
+    are_left(&rt, &mut ends, 2, 67);
 }
 
 /// Pushes and flushes packets of one flit in turns of 70, as long as there is room; how many.

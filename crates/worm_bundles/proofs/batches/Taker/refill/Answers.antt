@@ -1,11 +1,11 @@
-use Rattle.std.proofs.Common.{◌≡◌, ap, rules, subst, sym, List}
+use Rattle.std.proofs.Common.{◌≡◌, ap, rules, subst, sym, List, []}
 use Rattle.crossbeam_queue.specs.Passes.{view}
 use Rattle.std.specs.Arc.{arc_value}
 use Rattle.worm_bundles.specs.Batches.{items_of, joined, before, IsBatch, AreBatches}
 use Rattle.worm_bundles.specs.Roles.{IsTaker}
-use Rattle.worm_bundles.proofs.Batched.{is_none, batches_front, fetches}
+use Rattle.worm_bundles.proofs.Batched.{batches_front, fetches}
 use Rattle.worm_links.proofs.Histories.{takes}
-use Rattle.worm_bundles.proofs.batches.Taker.fetch.Goals as goal
+use Rattle.worm_bundles.proofs.batches.Taker.refill.Goals as goal
 
 pub try_pop_as-requires-clause-rule : goal.try_pop_as-requires-clause-rule
 try_pop_as-requires-clause-rule g c =
@@ -21,7 +21,7 @@ Fetched g c =
 
 fetched : (g : _) (c : goal.After-self-1 g) → Fetched g c
 fetched g c =
-    let none = is_none c.self.inside.hand.ahead (search rules) in
+    let none : c.self.inside.hand.ahead ≡ [] = search rules in
     fetches g.H.Carriage.IsHistory (arc_value c.self.inside.line) c.self.inside.pass _ c.in-Some.batch
     c.try_pop_as.new.pass none c.self.invariant c.in-Some.ensures.queue c.in-Some.ensures.rule
 
@@ -30,6 +30,6 @@ invariant_of-self g c =
     subst (λ (l : List g.row.X.Denot). IsTaker g.H.Carriage.IsHistory (arc_value c.self.inside.line)
     c.try_pop_as.new.pass l) (sym c.of-self-inside.ensures.ahead) (fetched g c).0
 
-pub returns-in-Some-clause-others : goal.returns-in-Some-clause-others
-returns-in-Some-clause-others g c =
+pub returns-in-Some : goal.returns-in-Some
+returns-in-Some g c =
     let taken = (fetched g c).1 in let link = ap (λ v. v.link) c.in-Some.ensures.rule.0 in search rules
