@@ -1,9 +1,10 @@
 //! How far each worker is, so that none runs far ahead of those beside it.
 //!
 //! While the workers beside it stand still a worker's turns bring little: nothing comes in, and what goes out runs out
-//! of credits. So before each turn it waits until they have ended the turn before. It waits for a while and no longer,
-//! since the other may wait for it in its gate, or have no processor; and where that was in vain it waits for that one
-//! again only once it has got on. Nothing that is proved rests on this.
+//! of credits. So before each turn it waits until they have ended the turn before the last: with that turn's room two
+//! need not end theirs at one moment. It waits for a while and no longer, since the other may wait for it in its gate, or
+//! have no processor; and where that was in vain it waits for that one again only once it has got on. Nothing that is
+//! proved rests on this.
 
 use std::alloc::{AllocError, Global};
 use std::hint::spin_loop;
@@ -15,6 +16,9 @@ const QUICK_LOOKS: u32 = 1_000;
 
 /// How often it looks in all: behind the first ones other threads may run before each further one.
 const LOOKS: u32 = 20_000;
+
+/// How many turns a worker may have ended more than one beside it, as it begins its next.
+const AHEAD: u64 = 1;
 
 /// How many turns a worker has ended. It fills two cache lines, so that no two workers write one line, nor one of the
 /// pair that a processor reads together.
@@ -142,8 +146,9 @@ impl<'a> Beside<'a> {
         }
     }
 
-    /// Waits for a while until both have ended so many turns.
-    pub(crate) fn wait(&mut self, turns: u64) {
+    /// Before the turn of this number, waits for a while until neither is more than [`AHEAD`] turns behind.
+    pub(crate) fn wait(&mut self, turn: u64) {
+        let turns = turn.saturating_sub(AHEAD);
         self.next.wait(self.pace, turns);
         self.previous.wait(self.pace, turns);
     }

@@ -80,6 +80,15 @@ impl Outlet {
         tx.push(rt, node, flit).is_ok()
     }
 
+    /// Looks for credits that came back. A turn does so once; behind a full batch of them `receive` looks again.
+    pub fn fetch(&mut self)
+        ensures { self.new ≡ self.old }
+    {
+        if let Some((_tx, back)) = &mut self.ends {
+            back.fetch();
+        }
+    }
+
     /// Takes the next credit that came back, where its link, out of this port of one of the region's nodes, has none on
     /// its way. None where none came, or one waits.
     pub fn receive(&mut self, region: &Region, port: u8) -> Option<Returned>
@@ -89,7 +98,7 @@ impl Outlet {
         ensures awaited { IfSome result (λ r. AwaitsCredit region.now r.node port) }
     {
         let (_tx, back) = self.ends.as_mut()?;
-        back.fetch();
+        back.fetch_behind_full();
         let next = back.front()?;
         if !awaits_credit(region, next.node, port) {
             return None;
@@ -126,6 +135,15 @@ impl Inlet {
         give.push(rt, node, vc).is_ok()
     }
 
+    /// Looks for flits that came. A turn does so once; behind a full batch of them `receive` looks again.
+    pub fn fetch(&mut self)
+        ensures { self.new ≡ self.old }
+    {
+        if let Some((rx, _give)) = &mut self.ends {
+            rx.fetch();
+        }
+    }
+
     /// Takes the next flit that came, where its link, out of this port of another worker's node, has none on it. None
     /// where none came, or one waits.
     pub fn receive(&mut self, region: &Region, out: u8) -> Option<Carried>
@@ -135,7 +153,7 @@ impl Inlet {
         ensures awaited { IfSome result (λ c. AwaitsFlit region.now c.node out) }
     {
         let (rx, _give) = self.ends.as_mut()?;
-        rx.fetch();
+        rx.fetch_behind_full();
         let next = rx.front()?;
         if !awaits_flit(region, next.node, out) {
             return None;
@@ -219,6 +237,18 @@ impl Side {
         let outlet = self.leaving.get_mut(usize::from(port))?;
         let returned = outlet.receive(region, port)?;
         Some(returned)
+    }
+
+    /// Looks for what came by all ports.
+    pub fn fetch(&mut self)
+        ensures { self.new ≡ self.old }
+    {
+        for port in 0..self.entering.len() {
+            self.entering[port].fetch();
+        }
+        for port in 0..self.leaving.len() {
+            self.leaving[port].fetch();
+        }
     }
 
     /// Lets out what was given and sent by all ports.

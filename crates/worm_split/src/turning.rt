@@ -335,12 +335,20 @@ impl Part {
     {
         let due = script.due(turn);
         have_words(due.entries());
+        self.fetch();
         self.receive_flits();
         self.receive_credits();
         self.region.recall();
         let done = self.node_turns(rt, &due);
         self.flush(rt);
         done
+    }
+
+    /// Looks for what came from other workers.
+    fn fetch(&mut self)
+        ensures { self.new ≡ self.old }
+    {
+        self.side.fetch();
     }
 
     /// Lets out what it sent and gave to other workers.

@@ -6,7 +6,7 @@ use Rattle.worm_region.specs.declared.fault.StepFault.{StepFault}
 use Rattle.worm_script.specs.declared.script.Entry.{Entry}
 use Rattle.worm_split.specs.Effects.{HaveWords}
 use Rattle.worm_split.specs.PartState.{PartState}
-use Rattle.worm_split.specs.PartTurns.{NodeTurns}
+use Rattle.worm_split.specs.PartTurns.{NodeTurns, ReceivesFlits}
 use Rattle.worm_split.proofs.AcrossLinks.{OnLinks, credits_on_links, flits_on_links, links_on}
 use Rattle.worm_split.proofs.Effects.{turn-refused, turn-sinks, turn-sources}
 use Rattle.worm_split.proofs.part.Part.turn.Given as given
@@ -31,9 +31,14 @@ module _ (g : given.Over) (c : goal.After-flush g) where
   abbrev came : PartState
   came = c.receive_credits.new.self
 
+  flits_came : ReceivesFlits old None c.receive_flits.new.self
+  flits_came =
+      subst (λ (p : PartState). ReceivesFlits p None c.receive_flits.new.self) c.fetch.ensures
+      c.receive_flits.ensures.came
+
   received : OnLinks old.net None came.net
   received = links_on old.net c.receive_flits.new.self.net came.net None
-      (flits_on_links old c.receive_flits.new.self None c.receive_flits.ensures.came)
+      (flits_on_links old c.receive_flits.new.self None flits_came)
       (credits_on_links c.receive_flits.new.self came None c.receive_credits.ensures.came)
 
   framed : IsFramed came.net
@@ -48,7 +53,7 @@ module _ (g : given.Over) (c : goal.After-flush g) where
 pub returns-clause-exact : goal.returns-clause-exact
 returns-clause-exact g c = inr (
   c.receive_flits.new.self,
-  c.receive_flits.ensures.came,
+  flits_came g c,
   inr (c.receive_credits.new.self, c.receive_credits.ensures.came, turned g c),
 )
 
