@@ -23,7 +23,7 @@ use Rattle.worm_region.specs.State.{with_node, with_router}
 use Rattle.worm_region.specs.Workable.{IsWorkable}
 use Rattle.worm_region.specs.Moves.{IsReady, after_ready, after_sending, delivered_node, link_out}
 use Rattle.worm_region.specs.Replies.{Replies}
-use Rattle.worm_region.specs.Turns.{MayAllSend}
+use Rattle.worm_region.specs.Turns.{MayAllSend, OthersMaySend}
 use Rattle.worm_region.specs.declared.node.Node.{Node}
 use Rattle.worm_region.specs.declared.step.Moved.{Moved}
 use Rattle.worm_region.specs.declared.fault.StepFault.{StepFault}
@@ -148,8 +148,7 @@ still_ready s x q c p v (Some d) net here away is ready =
     (left_still s x q c p v d net here away is ready)
 
 pub others_ready : (s new : NetState) (x q c : ℕ) (answer : Result Moved StepFault) → IsWorkable s
-    → Replies s (Send x q c) answer new → (p v : ℕ) → (p ≡ q → v ≡ c → ⊥) → IsReady (router_at s x) p v
-    → IsReady (router_at new x) p v
+    → Replies s (Send x q c) answer new → OthersMaySend s x q c new
 others_ready s new x q c answer net replies p v away ready =
     by_made (λ (t : NetState). IsReady (router_at t x) p v) s new (Send x q c) answer replies ready
     (λ done.
@@ -158,8 +157,7 @@ others_ready s new x q c answer net replies p v away ready =
 
 -- and all that are left of a set may, once its first has sent
 pub left_ready : (s new : NetState) (x left rest q c : ℕ) → MayAllSend s x left → IsFirst left rest q c
-    → ((p v : ℕ) → (p ≡ q → v ≡ c → ⊥) → IsReady (router_at s x) p v → IsReady (router_at new x) p v)
-    → MayAllSend new x rest
+    → OthersMaySend s x q c new → MayAllSend new x rest
 left_ready s new x left rest q c may first others = λ p v p_in v_in is.
     let away : p ≡ q → v ≡ c → ⊥ = λ e f.
     true≢false (sym is ∙ ap (λ n. has rest n v) e ∙ ap (λ n. has rest q n) f ∙ first.taken.here) in

@@ -140,6 +140,11 @@ AreThere s x set = (p v : ℕ) → p < 7 → v < 8 → has set p v ≡ true → 
 abbrev pub MayAllSend : NetState → ℕ → ℕ → Type 0
 MayAllSend s x set = (p v : ℕ) → p < 7 → v < 8 → has set p v ≡ true → IsReady (router_at s x) p v
 
+-- what may leave any other channel of the node may leave it still
+abbrev pub OthersMaySend : NetState → ℕ → ℕ → ℕ → NetState → Type 0
+OthersMaySend old x p v new =
+    (q c : ℕ) → (q ≡ p → c ≡ v → ⊥) → IsReady (router_at old x) q c → IsReady (router_at new x) q c
+
 -- one pass of the switch allocator, and then the Sends that it granted
 abbrev pub SendsGrantedBy : (Step → Passage) → ℕ → Passage
 SendsGrantedBy T x old fault new =

@@ -12,13 +12,14 @@ ghost use Rattle.worm_region.specs.State.{IsNet, shape, router_at, texts_of, wit
 ghost use Rattle.worm_region.specs.Owned.{sole};
 ghost use Rattle.worm_wires.specs.Wiring.{port_links};
 ghost use Rattle.worm_region.specs.Workable.{EndsWithin, IsWorkable, owned};
-ghost use Rattle.worm_region.specs.Turns.{AreThere, Chooses, ComesInBy, MayAllSend, NodePassesBy, ReachesAt};
+ghost use Rattle.worm_region.specs.Turns.{AreThere, Chooses, ComesInBy, MayAllSend, NodePassesBy, OthersMaySend};
+ghost use Rattle.worm_region.specs.Turns.{ReachesAt};
 ghost use Rattle.worm_mesh.specs.Address.{node_count, neighbour_of};
 ghost use Rattle.worm_router.specs.Router.{input_at, leaving};
 ghost use Rattle.worm_router.specs.Busy.{IsSetOf, lacks_route, owes};
 ghost use Rattle.worm_router.specs.Rest.{IsAtRest};
 ghost use Rattle.worm_router.specs.Allocation.{after_allocate};
-ghost use Rattle.worm_region.specs.Moves.{AreLinked, Covers, IsReady, NoCredit, NoFeed, NoFlit};
+ghost use Rattle.worm_region.specs.Moves.{AreLinked, Covers, NoCredit, NoFeed, NoFlit};
 
 mod edges;
 mod parts;
@@ -332,8 +333,7 @@ impl Region {
         requires within { IfSome (leaving (router_at self.old node) port vc)
             (λ out. EndsWithin (shape self.old) (owned self.old) node out.0) }
         ensures sent { Replies self.old (Event.Send node port vc) result self.new }
-        ensures others { (p v : ℕ) → (p ≡ port → v ≡ vc → ⊥) → IsReady (router_at self.old node) p v →
-            IsReady (router_at self.new node) p v }
+        ensures others { OthersMaySend self.old node port vc self.new }
     {
         self.fabric.send_next(node, port, vc)
     }

@@ -1,6 +1,6 @@
 -- A worker's own nodes, by rising number: between two that stand next to one another none is its own.
-use Rattle.std.proofs.Common.{◌≡◌, ℕ, ◌+◌, ◌-◌, ◌*◌, ◌<◌, ◌≤◌, ◌%◌, ◌/◌, zero, suc, Bool, false, List, []}
-use Rattle.std.proofs.Common.{◌∷◌, ◌++◌, inl, inr, refl, arith, sym, ap, subst, ◌∙◌}
+use Rattle.std.proofs.Common.{◌≡◌, ℕ, ◌+◌, ◌<◌, ◌≤◌, ◌%◌, ◌/◌, zero, suc, false, List, []}
+use Rattle.std.proofs.Common.{◌∷◌, ◌++◌, inl, inr, refl, arith, sym, ap, ◌∙◌}
 use Rattle.std.proofs.Math.Nat.{div-add-mod, mod-eq_of_lt, mul-le-mul_left}
 use Rattle.std.proofs.lemmas.Bool.{cases_lt, ne_eqb}
 use Rattle.std.proofs.lemmas.List.{append-nil}

@@ -7,8 +7,7 @@ ghost use Rattle.worm_mesh.specs.Address.{node_count};
 ghost use Rattle.worm_region.specs.Replies.{Attempts};
 ghost use Rattle.worm_script.specs.Script.{due};
 ghost use Rattle.worm_region.specs.Prepared.{Prepares};
-ghost use Rattle.worm_region.specs.Moves.{IsReady};
-ghost use Rattle.worm_region.specs.Turns.{AreGrants, AreThere, AsksSourceBy, MayAllSend};
+ghost use Rattle.worm_region.specs.Turns.{AreGrants, AreThere, AsksSourceBy, MayAllSend, OthersMaySend};
 ghost use Rattle.worm_region.specs.Workable.{owned};
 ghost use Rattle.worm_split.specs.Effects.{HasWords, HaveWords, IsRefused, SinksTakeOne, SourcesTake};
 ghost use Rattle.worm_split.specs.PartState.{IsSamePart};
@@ -139,8 +138,7 @@ impl Part {
         requires ready { leaving (router_at self.old.net node) port vc ≡ Some (out, flit) }
         requires leaves { LeavesBy self.old out }
         ensures sends { SendsAcross node port vc self.old self.new }
-        ensures others { (p v : ℕ) → (p ≡ port → v ≡ vc → ⊥) → IsReady (router_at self.old.net node) p v →
-            IsReady (router_at self.new.net node) p v }
+        ensures others { OthersMaySend self.old.net node port vc self.new.net }
         ensures same { IsSamePart self.old self.new }
     {
         self.region.recall();
@@ -156,8 +154,7 @@ impl Part {
         requires ready { IsSome (leaving (router_at self.old.net node) port vc) }
         requires stays { StaysWithin self.old (leaving (router_at self.old.net node) port vc) }
         ensures sends { Within (Attempts (Event.Send node port vc)) self.old (result_err result) self.new }
-        ensures others { (p v : ℕ) → (p ≡ port → v ≡ vc → ⊥) → IsReady (router_at self.old.net node) p v →
-            IsReady (router_at self.new.net node) p v }
+        ensures others { OthersMaySend self.old.net node port vc self.new.net }
         ensures same { IsSamePart self.old self.new }
     {
         self.region.recall();
@@ -171,8 +168,7 @@ impl Part {
         requires there { IsThere (shape self.old.net) (Event.Send node port vc) }
         requires ready { IsSome (leaving (router_at self.old.net node) port vc) }
         ensures sends { Sends node port vc self.old (result_err result) self.new }
-        ensures others { (p v : ℕ) → (p ≡ port → v ≡ vc → ⊥) → IsReady (router_at self.old.net node) p v →
-            IsReady (router_at self.new.net node) p v }
+        ensures others { OthersMaySend self.old.net node port vc self.new.net }
         ensures same { IsSamePart self.old self.new }
     {
         let (out, flit) = self.region.next_out(node, port, vc);

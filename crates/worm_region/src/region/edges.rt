@@ -1,11 +1,12 @@
 //! What comes into a part of a network and goes out of it, over the links that it shares with other workers
 //! (Dally and Towles, chapter 13).
 
-ghost use Rattle.std.specs.Prelude.{◌≡◌, ◌<◌, ◌↔◌, [], false, IsSome, Some, sum, ℕ};
+ghost use Rattle.std.specs.Prelude.{◌≡◌, ◌<◌, ◌↔◌, [], false, IsSome, Some, sum};
 ghost use Rattle.worm_theory.specs.Steps.{IsThere, Step as Event};
 ghost use Rattle.worm_region.specs.Edges.{Arrives, ComesBack, LetsGive, LetsOut};
-ghost use Rattle.worm_region.specs.Moves.{IsReady, link_into, link_out};
+ghost use Rattle.worm_region.specs.Moves.{link_into, link_out};
 ghost use Rattle.worm_region.specs.State.{link_at, router_at, shape};
+ghost use Rattle.worm_region.specs.Turns.{OthersMaySend};
 ghost use Rattle.worm_region.specs.Workable.{EndsElsewhere, owned};
 ghost use Rattle.worm_mesh.specs.Address.{neighbour_of, node_count};
 ghost use Rattle.worm_router.specs.Router.{input_at, leaving};
@@ -32,8 +33,7 @@ impl Region {
         requires ready { leaving (router_at self.old node) port vc ≡ Some (out, flit) }
         requires crosses { EndsElsewhere (shape self.old) (owned self.old) node out }
         ensures left { LetsOut self.old node port vc self.new }
-        ensures others { (p v : ℕ) → (p ≡ port → v ≡ vc → ⊥) → IsReady (router_at self.old node) p v →
-            IsReady (router_at self.new node) p v }
+        ensures others { OthersMaySend self.old node port vc self.new }
     {
         self.fabric.router_mut(node).let_out(port, vc, out, flit);
     }

@@ -1,8 +1,8 @@
-use Rattle.std.proofs.Common.{◌≡◌, ℕ, Some, true, sym, subst}
+use Rattle.std.proofs.Common.{◌≡◌, Some, true, sym, subst}
 use Rattle.worm_router.specs.Router.{leaving}
 use Rattle.worm_theory.specs.Steps.{Send, IsThere}
-use Rattle.worm_region.specs.Moves.{IsReady}
 use Rattle.worm_region.specs.State.{router_at, shape}
+use Rattle.worm_region.specs.Turns.{OthersMaySend}
 use Rattle.worm_region.specs.Workable.{owned}
 use Rattle.worm_region.specs.declared.own.Own.{Own}
 use Rattle.worm_split.specs.Apart.{IsKept}
@@ -53,5 +53,5 @@ returns-then-send-clause-sends g c =
 
 pub returns-then-send-clause-others : goal.returns-then-send-clause-others
 returns-then-send-clause-others g c =
-    subst (λ (q : PartState). (p v : ℕ) → (p ≡ c.args.port → v ≡ c.args.vc → ⊥) → IsReady (router_at q.net c.args.node) p v
-    → IsReady (router_at c.let_out.new.self c.args.node) p v) c.self.view_is c.let_out.ensures.others
+    subst (λ (q : PartState). OthersMaySend q.net c.args.node c.args.port c.args.vc c.let_out.new.self) c.self.view_is
+    c.let_out.ensures.others

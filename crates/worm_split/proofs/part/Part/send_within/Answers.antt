@@ -1,7 +1,7 @@
-use Rattle.std.proofs.Common.{◌≡◌, ℕ, true, sym, subst, ◌∙◌}
+use Rattle.std.proofs.Common.{◌≡◌, true, sym, subst, ◌∙◌}
 use Rattle.worm_router.specs.Router.{leaving}
-use Rattle.worm_region.specs.Moves.{IsReady}
 use Rattle.worm_region.specs.State.{router_at}
+use Rattle.worm_region.specs.Turns.{OthersMaySend}
 use Rattle.worm_region.specs.Workable.{owned}
 use Rattle.worm_region.specs.declared.own.Own.{Own}
 use Rattle.worm_split.specs.Apart.{IsKept}
@@ -36,5 +36,5 @@ invariant_of-self c =
 
 pub returns-clause-others : goal.returns-clause-others
 returns-clause-others c =
-    subst (λ (q : PartState). (p v : ℕ) → (p ≡ c.args.port → v ≡ c.args.vc → ⊥) → IsReady (router_at q.net c.args.node) p v
-    → IsReady (router_at c.send_next.new.self c.args.node) p v) c.self.view_is c.send_next.ensures.others
+    subst (λ (q : PartState). OthersMaySend q.net c.args.node c.args.port c.args.vc c.send_next.new.self) c.self.view_is
+    c.send_next.ensures.others
