@@ -6,15 +6,13 @@ use Rattle.std.proofs.Math.ListN.{length-set}
 use Rattle.std.proofs.lemmas.Bool.{cases_eq, cases_lt}
 use Rattle.std.proofs.lemmas.List.{get_or_read, get_or-set_other, get_or-set_same, map-append}
 use Rattle.std.proofs.lemmas.List.Elements.{filter-append}
-use Rattle.worm_flit.specs.declared.Flit.{Flit}
 use Rattle.worm_mesh.specs.Links.{IsNumbering}
 use Rattle.worm_theory.proofs.Places.{number_cases}
 use Rattle.worm_bundles.specs.declared.Carried.{Carried}
 use Rattle.worm_bundles.specs.declared.Returned.{Returned}
-use Rattle.worm_bundles.specs.Bundles.{TxView, RxView, EndsView, CreditTxView, CreditRxView, CreditEndsView}
 use Rattle.worm_wires.specs.Links.{LinkView, blank_link}
 use Rattle.worm_split.specs.declared.joining.Span.{Span}
-use Rattle.worm_split.specs.Emptying.{ArePut, CreditsPut, FlitsPut, IsOver, link_of_number, number_over}
+use Rattle.worm_split.specs.Emptying.{ArePut, IsOver, link_of_number, number_over}
 use Rattle.worm_split.specs.Emptying.{values_at}
 
 module _ {X V U : Type 0} (node_of : X → ℕ) (value_of : X → V) (list_of : LinkView → List V)
@@ -44,7 +42,14 @@ module _ {X V U : Type 0} (node_of : X → ℕ) (value_of : X → V) (list_of : 
       values_more y items c ∙ (ap (λ (l : List V). values y items ++ l) (no_value y c other)
       ∙ append-nil (values y items))
 
-  pub nothing_put : (links : List LinkView) → Put [] links links
+  -- so far, of what was sent and of what was taken before
+  pub record SoFar (sent taken now_sent now_taken : List X) (old now : List LinkView) : Type 0 where
+    pub gone : List X
+    pub same_sent : now_sent ≡ sent
+    pub took : now_taken ≡ taken ++ gone
+    pub put : Put gone old now
+
+  nothing_put : (links : List LinkView) → Put [] links links
   nothing_put links = record {
     same_length = refl;
     behind = λ y over room. sym (append-nil (list_of (link_of_number links (number_over span y))));
@@ -53,8 +58,17 @@ module _ {X V U : Type 0} (node_of : X → ℕ) (value_of : X → V) (list_of : 
     rooms = λ k. refl;
   }
 
+  pub begun : (sent taken now_sent now_taken : List X) (links : List LinkView) → now_sent ≡ sent → now_taken ≡ taken
+      → SoFar sent taken now_sent now_taken links links
+  begun sent taken now_sent now_taken links same_sent same_taken = record {
+    gone = [];
+    same_sent = same_sent;
+    took = same_taken ∙ sym (append-nil taken);
+    put = nothing_put links;
+  }
+
   -- an item that is for none of the links
-  pub passed : (items : List X) (c : X) (old now : List LinkView) → Put items old now → (IsOver span (node_of c) → ⊥)
+  passed : (items : List X) (c : X) (old now : List LinkView) → Put items old now → (IsOver span (node_of c) → ⊥)
       → Put (items ++ c ∷ []) old now
   passed items c old now so_far none = record {
     same_length = so_far.same_length;
@@ -123,7 +137,7 @@ module _ {X V U : Type 0} (node_of : X → ℕ) (value_of : X → V) (list_of : 
           ap list_of (away m elsewhere) ∙ (so_far.behind y y_over (rw same at y_room)
           ∙ ap (λ (l : List V). list_of was ++ l) (sym same))
 
-    pub one_more : Put (items ++ c ∷ []) old (slice_set now k new_link)
+    one_more : Put (items ++ c ∷ []) old (slice_set now k new_link)
     one_more =
         record {
           same_length = length-set now k new_link ∙ so_far.same_length;
@@ -143,100 +157,44 @@ module _ {X V U : Type 0} (node_of : X → ℕ) (value_of : X → V) (list_of : 
           ];
         }
 
--- so far, of what was sent and of what was taken before
-pub record FlitsSoFar (span : Span) (sent taken now_sent now_taken : List Carried) (old now : List LinkView)
-    : Type 0 where
-  pub gone : List Carried
-  pub same_sent : now_sent ≡ sent
-  pub took : now_taken ≡ taken ++ gone
-  pub put : FlitsPut span gone old now
+  -- with one more taken
+  module _ (sent taken now_sent now_taken after_sent after_taken : List X) (next : X) (old now : List LinkView)
+      (same_sent : after_sent ≡ now_sent) (popped : after_taken ≡ now_taken ++ next ∷ [])
+      (so_far : SoFar sent taken now_sent now_taken old now) where
+    further : (after : List LinkView) → Put (so_far.gone ++ next ∷ []) old after
+        → SoFar sent taken after_sent after_taken old after
+    further after put = record {
+      gone = so_far.gone ++ next ∷ [];
+      same_sent = same_sent ∙ so_far.same_sent;
+      took = popped ∙ (ap (λ (l : List X). l ++ next ∷ []) so_far.took ∙ append_assoc taken so_far.gone (next ∷ []));
+      put = put;
+    }
 
-pub record CreditsSoFar (span : Span) (sent taken now_sent now_taken : List Returned) (old now : List LinkView)
-    : Type 0 where
-  pub gone : List Returned
-  pub same_sent : now_sent ≡ sent
-  pub took : now_taken ≡ taken ++ gone
-  pub put : CreditsPut span gone old now
+    pub further_past : (IsOver span (node_of next) → ⊥) → SoFar sent taken after_sent after_taken old now
+    further_past none = further now (passed so_far.gone next old now so_far.put none)
 
--- at first, and with one more taken
+    -- it is put behind its link's list, whose other list and room stay
+    pub further_onto : (put_on : LinkView → List V → LinkView)
+        → ((l : LinkView) (vs : List V) → (list_of (put_on l vs) ≡ vs) × (other_of (put_on l vs) ≡ other_of l)
+        × ((put_on l vs).room ≡ l.room))
+        → (k : ℕ) (link new_link : LinkView) → IsNumbering span.mesh → IsOver span (node_of next)
+        → k ≡ number_over span (node_of next) → k < length now → link ≡ slice_index_or now k link
+        → (length (list_of link) < link.room → new_link ≡ put_on link (list_of link ++ value_of next ∷ []))
+        → (link.room ≤ length (list_of link) → new_link ≡ link)
+        → SoFar sent taken after_sent after_taken old (slice_set now k new_link)
+    further_onto put_on puts k link new_link numbering over k_is there link_is fits full =
+        let put = puts link (list_of link ++ value_of next ∷ []) in
+        let stays : (other_of new_link ≡ other_of link) × (new_link.room ≡ link.room) =
+        elim (cases_lt (length (list_of link)) link.room) [
+          | inl lt ↦ (ap other_of (fits lt) ∙ put.1, ap (λ (l : LinkView). l.room) (fits lt) ∙ put.2)
+          | inr ge ↦ (ap other_of (full ge), ap (λ (l : LinkView). l.room) (full ge))
+        ] in
+        further (slice_set now k new_link) (one_more so_far.gone next old now k link new_link numbering so_far.put over
+        k_is there link_is (λ lt. ap list_of (fits lt) ∙ put.0) stays.0 stays.1)
 
-pub flits_begun : (span : Span) (tx : TxView) (rx : RxView) (ends : EndsView) (links : List LinkView)
-    → ends ≡ record {
-      bundle = tx.bundle;
-      pasts = tx.pasts;
-      queue = rx.queue;
-      sent = tx.sent;
-      taken = rx.taken;
-    } → FlitsSoFar span tx.sent rx.taken ends.sent ends.taken links links
-flits_begun span tx rx ends links made = record {
-  gone = [];
-  same_sent = ap (λ (v : EndsView). v.sent) made;
-  took = ap (λ (v : EndsView). v.taken) made ∙ sym (append-nil rx.taken);
-  put = nothing_put (λ (c : Carried). c.node) (λ (c : Carried). c.flit) (λ (l : LinkView). l.flits)
-      (λ (l : LinkView). l.credits) span links;
-}
+-- of flits, and of credits
+abbrev pub FlitsSoFar : Span → (sent taken now_sent now_taken : List Carried) → (old now : List LinkView) → Type 0
+FlitsSoFar = SoFar (λ c. c.node) (λ c. c.flit) (λ l. l.flits) (λ l. l.credits)
 
-pub flits_further : (span : Span) (sent taken : List Carried) (ends after_ends : EndsView)
-    (old now after : List LinkView) (next : Carried) → after_ends ≡ record ends { taken = ends.taken ++ next ∷ [] }
-    → (so_far : FlitsSoFar span sent taken ends.sent ends.taken old now)
-    → FlitsPut span (so_far.gone ++ next ∷ []) old after
-    → FlitsSoFar span sent taken after_ends.sent after_ends.taken old after
-flits_further span sent taken ends after_ends old now after next popped so_far put = record {
-  gone = so_far.gone ++ next ∷ [];
-  same_sent = ap (λ (v : EndsView). v.sent) popped ∙ so_far.same_sent;
-  took = ap (λ (v : EndsView). v.taken) popped ∙ (ap (λ (l : List Carried). l ++ next ∷ []) so_far.took
-      ∙ append_assoc taken so_far.gone (next ∷ []));
-  put = put;
-}
-
-pub credits_begun : (span : Span) (tx : CreditTxView) (rx : CreditRxView) (ends : CreditEndsView)
-    (links : List LinkView)
-    → ends ≡ record { bundle = tx.bundle; queue = rx.queue; sent = tx.sent; taken = rx.taken }
-    → CreditsSoFar span tx.sent rx.taken ends.sent ends.taken links links
-credits_begun span tx rx ends links made = record {
-  gone = [];
-  same_sent = ap (λ (v : CreditEndsView). v.sent) made;
-  took = ap (λ (v : CreditEndsView). v.taken) made ∙ sym (append-nil rx.taken);
-  put = nothing_put (λ (c : Returned). c.node) (λ (c : Returned). c.vc) (λ (l : LinkView). l.credits)
-      (λ (l : LinkView). l.flits) span links;
-}
-
-pub credits_further : (span : Span) (sent taken : List Returned) (ends after_ends : CreditEndsView)
-    (old now after : List LinkView) (next : Returned) → after_ends ≡ record ends { taken = ends.taken ++ next ∷ [] }
-    → (so_far : CreditsSoFar span sent taken ends.sent ends.taken old now)
-    → CreditsPut span (so_far.gone ++ next ∷ []) old after
-    → CreditsSoFar span sent taken after_ends.sent after_ends.taken old after
-credits_further span sent taken ends after_ends old now after next popped so_far put = record {
-  gone = so_far.gone ++ next ∷ [];
-  same_sent = ap (λ (v : CreditEndsView). v.sent) popped ∙ so_far.same_sent;
-  took = ap (λ (v : CreditEndsView). v.taken) popped ∙ (ap (λ (l : List Returned). l ++ next ∷ []) so_far.took
-      ∙ append_assoc taken so_far.gone (next ∷ []));
-  put = put;
-}
-
--- a flit that is put behind a link's leaves its credits and its room as they are, and a credit its flits
-pub flit_put : (link after : LinkView) (f : Flit)
-    → (length link.flits < link.room → after ≡ record link { flits = link.flits ++ f ∷ [] })
-    → (link.room ≤ length link.flits → after ≡ link)
-    → (length link.flits < link.room → after.flits ≡ link.flits ++ f ∷ []) × (after.credits ≡ link.credits)
-    × (after.room ≡ link.room)
-flit_put link after f fits full =
-    let more : length link.flits < link.room → after.flits ≡ link.flits ++ f ∷ [] = λ lt.
-    ap (λ (l : LinkView). l.flits) (fits lt) in
-    elim (cases_lt (length link.flits) link.room) [
-      | inl lt ↦ let e = fits lt in (more, ap (λ (l : LinkView). l.credits) e, ap (λ (l : LinkView). l.room) e)
-      | inr ge ↦ let e = full ge in (more, ap (λ (l : LinkView). l.credits) e, ap (λ (l : LinkView). l.room) e)
-    ]
-
-pub credit_put : (link after : LinkView) (vc : ℕ)
-    → (length link.credits < link.room → after ≡ record link { credits = link.credits ++ vc ∷ [] })
-    → (link.room ≤ length link.credits → after ≡ link)
-    → (length link.credits < link.room → after.credits ≡ link.credits ++ vc ∷ []) × (after.flits ≡ link.flits)
-    × (after.room ≡ link.room)
-credit_put link after vc fits full =
-    let more : length link.credits < link.room → after.credits ≡ link.credits ++ vc ∷ [] = λ lt.
-    ap (λ (l : LinkView). l.credits) (fits lt) in
-    elim (cases_lt (length link.credits) link.room) [
-      | inl lt ↦ let e = fits lt in (more, ap (λ (l : LinkView). l.flits) e, ap (λ (l : LinkView). l.room) e)
-      | inr ge ↦ let e = full ge in (more, ap (λ (l : LinkView). l.flits) e, ap (λ (l : LinkView). l.room) e)
-    ]
+abbrev pub CreditsSoFar : Span → (sent taken now_sent now_taken : List Returned) → (old now : List LinkView) → Type 0
+CreditsSoFar = SoFar (λ c. c.node) (λ c. c.vc) (λ l. l.credits) (λ l. l.flits)

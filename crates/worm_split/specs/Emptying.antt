@@ -42,22 +42,17 @@ module _ {X V U : Type 0} (node_of : X → ℕ) (value_of : X → V) (list_of : 
     pub other_lists : (k : ℕ) → other_of (link_of_number new k) ≡ other_of (link_of_number old k)
     pub rooms : (k : ℕ) → (link_of_number new k).room ≡ (link_of_number old k).room
 
-abbrev pub FlitsPut : Span → List Carried → List LinkView → List LinkView → Type 0
-FlitsPut = ArePut (λ c. c.node) (λ c. c.flit) (λ l. l.flits) (λ l. l.credits)
+  -- what was sent and not taken was put onto the links
+  pub record AreEmptiedOnto (span : Span) (sent taken : List X) (old new : List LinkView) : Type 0 where
+    pub left : List X
+    pub in_queue : sent ≡ taken ++ left
+    pub put : ArePut span left old new
 
-abbrev pub CreditsPut : Span → List Returned → List LinkView → List LinkView → Type 0
-CreditsPut = ArePut (λ c. c.node) (λ c. c.vc) (λ l. l.credits) (λ l. l.flits)
+abbrev pub FlitsEmptied : Span → (sent taken : List Carried) → (old new : List LinkView) → Type 0
+FlitsEmptied = AreEmptiedOnto (λ c. c.node) (λ c. c.flit) (λ l. l.flits) (λ l. l.credits)
 
--- what was sent and not taken was put onto the links
-pub record FlitsEmptied (span : Span) (sent taken : List Carried) (old new : List LinkView) : Type 0 where
-  pub left : List Carried
-  pub in_queue : sent ≡ taken ++ left
-  pub put : FlitsPut span left old new
-
-pub record CreditsEmptied (span : Span) (sent taken : List Returned) (old new : List LinkView) : Type 0 where
-  pub left : List Returned
-  pub in_queue : sent ≡ taken ++ left
-  pub put : CreditsPut span left old new
+abbrev pub CreditsEmptied : Span → (sent taken : List Returned) → (old new : List LinkView) → Type 0
+CreditsEmptied = AreEmptiedOnto (λ c. c.node) (λ c. c.vc) (λ l. l.credits) (λ l. l.flits)
 
 -- the two ends are of one bundle's queues
 abbrev pub AreBundle : OutletView → InletView → Type 0
