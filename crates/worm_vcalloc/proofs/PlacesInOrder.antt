@@ -12,7 +12,8 @@ use Rattle.worm_vcalloc.specs.Places.{line_of, arbiter_at}
 use Rattle.worm_flit.proofs.BitTests.{bit_set, bit_unset}
 use Rattle.worm_vcalloc.proofs.Lines.{shifted_low, shifted_high, at_line, line_of_place, line_within, line_port}
 use Rattle.worm_vcalloc.proofs.SetMembers.{has-zero}
-use Rattle.worm_vcalloc.proofs.Winner.{asked_ahead, asked_behind, asked_round, first_is_winner, winner_is_first, winner_none}
+use Rattle.worm_vcalloc.proofs.Winner.{asked_ahead, asked_behind, asked_round, first_is_winner, winner_none}
+use Rattle.worm_vcalloc.proofs.Winner.{winner_is_first}
 use Rattle.worm_vcalloc.proofs.Winner.{winner_ahead, winner_from_low}
 
 -- a lower port has the lower lines
