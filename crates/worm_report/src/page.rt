@@ -10,7 +10,7 @@ use std::alloc::Global;
 use std::marker::Model;
 
 /// A page with so many bytes is full.
-const FULL: usize = 8192;
+const FULL: usize = 32768;
 
 /// Lines that the writer has yet to be given.
 #[derive(Drop)]
@@ -50,7 +50,7 @@ impl Page {
 
     /// Whether it is to be written before the next line.
     pub fn is_full(&self) -> bool
-        ensures { result ≡ nat_le 8192 (length self.now) }
+        ensures { result ≡ nat_le 32768 (length self.now) }
     {
         self.bytes.len() >= FULL
     }

@@ -6,6 +6,7 @@ use Rattle.std.proofs.lemmas.Nat.{div-mul-add, mod-mul-add, mul-le}
 use Rattle.std.proofs.lemmas.Nat.Bits.{bit_at_cat_low}
 use Rattle.std.proofs.lemmas.Nat.Bits.{bit_at_cat_high, bit_at-zero}
 use Rattle.std.proofs.Math.Nat.{div-lt_iff_lt-mul, mod-lt}
+use Rattle.worm_vcalloc.specs.Places.{line_of}
 
 -- the bits of a row that is shifted
 pub shifted_low : (row n i : ℕ) → i < n → bit_at (row * 2 ^ n) i ≡ 0
@@ -33,3 +34,10 @@ line_within ports channels port vc lp lv =
 pub line_port : (ports channels line : ℕ) → 0 < channels → line < ports * channels
     → (line / channels < ports) × (line % channels < channels)
 line_port ports channels line some l = ((div-lt_iff_lt-mul some).1 l, mod-lt line some)
+
+-- the line of a place that is named by port and channel
+pub line_of_place : (channels port vc : ℕ) → vc < 8 → line_of channels (8 * port + vc) ≡ port * channels + vc
+line_of_place channels port vc within =
+    let p : (8 * port + vc) / 8 ≡ port = omega arith in
+    let v : (8 * port + vc) % 8 ≡ vc = omega arith in
+    ap (λ k. k * channels + (8 * port + vc) % 8) p ∙ ap (λ k. port * channels + k) v

@@ -8,7 +8,7 @@ use Rattle.std.specs.List.{range_with_len}
 use Rattle.worm_vcalloc.specs.declared.request.VcRequest.{VcRequest}
 use Rattle.worm_vcalloc.specs.Arbiter.{ArbiterState, winner, after_pick, no_arbiter}
 use Rattle.worm_vcalloc.specs.ChannelSet.{IsFirstFrom}
-use Rattle.worm_vcalloc.specs.Places.{arbiters_at, IsPlaced, IsPlaceAfter}
+use Rattle.worm_vcalloc.specs.Places.{arbiters_at, IsPlaced}
 use Rattle.worm_vcalloc.specs.Table.{cell, with_cell}
 use Rattle.worm_vcalloc.specs.VcAlloc.{VcAllocState, VcPass, with_grant, is_requester, vc_winner, offered}
 use Rattle.worm_vcalloc.specs.VcAlloc.{vc_step, port_pass}
@@ -129,21 +129,21 @@ offered_in_vain waiting pass out channel nobody =
 
 -- one whose requesters are a set, of which one is the first from the place of its arbiter
 pub offered_first : (waiting : List (List (Option VcRequest))) (grants : List (List (Option ℕ)))
-    (ports channels : ℕ) (places : List (List ℕ)) (out channel asking d port vc next : ℕ)
+    (ports channels : ℕ) (places : List (List ℕ)) (out channel asking d port vc : ℕ)
     → IsPlaced ports channels places → out < ports → channel < channels
     → AreAsking waiting grants ports channels out channel asking
-    → IsFirstFrom asking (cell places out channel d) port vc → IsPlaceAfter ports channels port vc next
+    → IsFirstFrom asking (cell places out channel d + 1) port vc
     → record {
       alloc = record {
         ports = ports;
         channels = channels;
-        arbiters = arbiters_at ports channels (with_cell places out channel next);
+        arbiters = arbiters_at ports channels (with_cell places out channel (8 * port + vc));
       };
       grants = with_cell grants port vc (Some channel);
     }
     ≡ offered waiting (pass_at ports channels places grants) out channel
 unfolding offered
-offered_first waiting grants ports channels places out channel asking d port vc next h lo lc a f after =
+offered_first waiting grants ports channels places out channel asking d port vc h lo lc a f =
     let few = h.few_ports in
     let few' = h.few_channels in
     let old = cell_at ports channels places out channel h (omega arith) (omega arith) in
@@ -152,7 +152,7 @@ offered_first waiting grants ports channels places out channel asking d port vc 
     let won : Some (port * channels + vc) ≡ vc_winner waiting (pass_at ports channels places grants) out channel =
     first_wins ports channels (cell places out channel 0) asking port vc (is_requester waiting grants out channel)
     few h.some_channel few' start.port_in start.channel_in place.0 place.1 a.requesters
-    (subst (λ s. IsFirstFrom asking s port vc)
+    (subst (λ s. IsFirstFrom asking (s + 1) port vc)
     (sym (get_or_default (slice_index_or places out []) channel 0 d
     (omega (arith, h.shape.columns out (omega arith)))))
     f)
@@ -161,9 +161,9 @@ offered_first waiting grants ports channels places out channel asking d port vc 
     ap (λ arbiters. record {
       alloc = record { ports = ports; channels = channels; arbiters = arbiters };
       grants = with_cell grants port vc (Some channel);
-    }) (arbiters_at_moved ports channels places out channel next
+    }) (arbiters_at_moved ports channels places out channel (8 * port + vc)
     ∙ ap (with_cell (arbiters_at ports channels places) out channel)
-    (arbiter_after ports channels (cell places out channel 0) port vc next after
+    (arbiter_after ports channels (cell places out channel 0) port vc (omega (arith, f.channel_in))
     ∙ ap (λ b. after_pick b (Some (port * channels + vc))) (sym old)))
     ∙ ap (λ granted. record {
       alloc = record {

@@ -5,14 +5,15 @@ use Rattle.std.specs.Int.{bit_at, trailing_zeros, w64}
 use Rattle.std.proofs.lemmas.Bool.{cases_eq, cases_lt}
 use Rattle.std.proofs.lemmas.Nat.{mul-le, shr-shr}
 use Rattle.std.proofs.lemmas.Nat.Bits.{bit_at-trailing_zeros, bit_at_above}
-use Rattle.std.proofs.Math.Nat.{div-mul-le_self, mod-eq_of_lt, mod_self}
+use Rattle.std.proofs.Math.Nat.{div-mul-le_self, mod-lt}
 use Rattle.worm_vcalloc.specs.Arbiter.{ArbiterState, winner, line_requests, IsFirstRequester, asked_before}
 use Rattle.worm_vcalloc.specs.ChannelSet.{has, IsFirstFrom}
-use Rattle.worm_vcalloc.specs.Places.{line_of, arbiter_at, IsPlaceAfter}
+use Rattle.worm_vcalloc.specs.Places.{line_of, arbiter_at}
 use Rattle.worm_flit.proofs.BitTests.{bit_set, bit_unset}
-use Rattle.worm_vcalloc.proofs.Lines.{shifted_low, shifted_high, at_line, line_within, line_port}
+use Rattle.worm_vcalloc.proofs.Lines.{shifted_low, shifted_high, at_line, line_of_place, line_within, line_port}
 use Rattle.worm_vcalloc.proofs.SetMembers.{has-zero}
-use Rattle.worm_vcalloc.proofs.Winner.{asked_ahead, asked_behind, first_is_winner, winner_is_first, winner_none}
+use Rattle.worm_vcalloc.proofs.Winner.{asked_ahead, asked_behind, asked_round, first_is_winner, winner_none}
+use Rattle.worm_vcalloc.proofs.Winner.{winner_is_first}
 use Rattle.worm_vcalloc.proofs.Winner.{winner_ahead, winner_from_low}
 
 -- a lower port has the lower lines
@@ -35,105 +36,65 @@ lines_keep channels x y lx upto = elim (cases_eq x y) [
   | inr other ↦ let line = lines_rise channels x y lx (omega arith) in omega arith
 ]
 
--- the line of a place that is named by port and channel
-pub line_of_place : (channels port vc : ℕ) → vc < 8 → line_of channels (8 * port + vc) ≡ port * channels + vc
-line_of_place channels port vc within =
-    let p : (8 * port + vc) / 8 ≡ port = omega arith in
-    let v : (8 * port + vc) % 8 ≡ vc = omega arith in
-    ap (λ k. k * channels + (8 * port + vc) % 8) p ∙ ap (λ k. port * channels + k) v
-
--- ---- the place that is asked next
-
-pub next_channel : (ports channels port vc : ℕ) → port < ports → channels ≤ 8 → vc + 1 < channels
-    → IsPlaceAfter ports channels port vc (8 * port + vc + 1)
-next_channel ports channels port vc lp few lv = record {
-  here = record { port_in = omega arith; channel_in = omega arith };
-  line =
-      let inside : port * channels + (vc + 1) < ports * channels =
-      line_within ports channels port (vc + 1) lp lv in
-      let line = line_of_place channels port (vc + 1) (omega arith) in
-      let same : 8 * port + vc + 1 ≡ 8 * port + (vc + 1) = omega arith in
-      let small : port * channels + vc + 1 < ports * channels = omega arith in
-      ap (line_of channels) same ∙ line ∙ (let sums : port * channels + (vc + 1) ≡ port * channels + vc + 1 =
-      omega arith in sums) ∙ sym (mod-eq_of_lt small);
-}
-
-pub next_port : (ports channels port vc : ℕ) → port + 1 < ports → vc < channels → channels ≤ vc + 1
-    → IsPlaceAfter ports channels port vc (8 * (port + 1))
-next_port ports channels port vc lp lv last = record {
-  here = record { port_in = omega arith; channel_in = omega arith };
-  line =
-      let inside : (port + 1) * channels + 0 < ports * channels =
-      line_within ports channels (port + 1) 0 lp (omega arith) in
-      let line = line_of_place channels (port + 1) 0 (omega arith) in
-      let same : 8 * (port + 1) ≡ 8 * (port + 1) + 0 = omega arith in
-      let row : (port + 1) * channels ≡ port * channels + channels = omega arith in
-      let sums : (port + 1) * channels + 0 ≡ port * channels + vc + 1 = omega arith in
-      let small : port * channels + vc + 1 < ports * channels = omega arith in
-      ap (line_of channels) same ∙ line ∙ sums ∙ sym (mod-eq_of_lt small);
-}
-
-pub first_again : (ports channels port vc : ℕ) → ports ≡ port + 1 → vc < channels → channels ≤ vc + 1
-    → IsPlaceAfter ports channels port vc 0
-first_again ports channels port vc top lv last = record {
-  here = record { port_in = omega arith; channel_in = omega arith };
-  line =
-      let row : (port + 1) * channels ≡ port * channels + channels = omega arith in
-      let whole : ports * channels ≡ (port + 1) * channels = ap (λ p. p * channels) top in
-      let sums : port * channels + vc + 1 ≡ ports * channels = omega arith in
-      let none : line_of channels 0 ≡ 0 = omega arith in
-      none ∙ sym (ap (λ n. n % (ports * channels)) sums ∙ mod_self (ports * channels));
-}
-
 -- ---- the one that is asked first
+
+-- the arbiter whose pointer stands behind the line of a place, be it behind the last
+abbrev pub behind_line : ℕ → ℕ → ℕ → ArbiterState
+behind_line ports channels place = record { width = ports * channels; pointer = line_of channels place + 1 }
 
 -- what is asked no later among the places is asked no later among the lines
 asked_alike : (ports channels place x y : ℕ) → place % 8 < channels → x % 8 < channels → y % 8 < channels
     → x < 56 → y < 56 → line_of channels x < ports * channels → line_of channels place < ports * channels
-    → asked_before (record { width = 56; pointer = place }) x ≤ asked_before (record { width = 56; pointer = place }) y
-    → asked_before (arbiter_at ports channels place) (line_of channels x)
-    ≤ asked_before (arbiter_at ports channels place) (line_of channels y)
+    → asked_before (record { width = 56; pointer = place + 1 }) x
+    ≤ asked_before (record { width = 56; pointer = place + 1 }) y
+    → asked_before (behind_line ports channels place) (line_of channels x)
+    ≤ asked_before (behind_line ports channels place) (line_of channels y)
 asked_alike ports channels place x y lp lx ly hx hy inside start before =
-    elim (cases_lt x place) [
+    elim (cases_lt x (place + 1)) [
       | inl x_behind ↦
           let x_at = asked_behind places x x_behind in
-          let x_line = asked_behind lines (line_of channels x) (lines_rise channels x place lx x_behind) in
-          elim (cases_lt y place) [
+          let x_kept = lines_keep channels x place lx (omega arith) in
+          let x_line = asked_behind lines (line_of channels x) (omega (arith, x_kept)) in
+          elim (cases_lt y (place + 1)) [
             | inl y_behind ↦
                 let y_at = asked_behind places y y_behind in
-                let y_line = asked_behind lines (line_of channels y) (lines_rise channels y place ly y_behind) in
+                let y_kept = lines_keep channels y place ly (omega arith) in
+                let y_line = asked_behind lines (line_of channels y) (omega (arith, y_kept)) in
                 let order = lines_keep channels x y lx (omega arith) in
                 omega arith
             | inr y_ahead ↦ let y_at = asked_ahead places y y_ahead in absurd (omega arith)
           ]
       | inr x_ahead ↦
           let x_at = asked_ahead places x x_ahead in
-          let x_line = asked_ahead lines (line_of channels x) (lines_keep channels place x lp x_ahead) in
-          elim (cases_lt y place) [
+          let x_risen = lines_rise channels place x lp (omega arith) in
+          let x_line = asked_ahead lines (line_of channels x) (omega (arith, x_risen)) in
+          elim (cases_lt y (place + 1)) [
             | inl y_behind ↦
-                let y_line = asked_behind lines (line_of channels y) (lines_rise channels y place ly y_behind) in
+                let y_kept = lines_keep channels y place ly (omega arith) in
+                let y_line = asked_behind lines (line_of channels y) (omega (arith, y_kept)) in
                 omega arith
             | inr y_ahead ↦
                 let y_at = asked_ahead places y y_ahead in
-                let y_line = asked_ahead lines (line_of channels y) (lines_keep channels place y lp y_ahead) in
+                let y_risen = lines_rise channels place y lp (omega arith) in
+                let y_line = asked_ahead lines (line_of channels y) (omega (arith, y_risen)) in
                 let order = lines_keep channels x y lx (omega arith) in
                 omega arith
           ]
     ] where
       places : ArbiterState
-      places = record { width = 56; pointer = place }
+      places = record { width = 56; pointer = place + 1 }
 
       lines : ArbiterState
-      lines = arbiter_at ports channels place
+      lines = behind_line ports channels place
 
 -- the first of a set of input channels wins among their lines
 pub first_wins : (ports channels place set port vc : ℕ) (asks : ℕ → ℕ → Bool) → ports ≤ 7 → 0 < channels
     → channels ≤ 8 → place / 8 < ports → place % 8 < channels → port < ports → vc < channels
-    → ((p v : ℕ) → p < ports → v < channels → has set p v ≡ asks p v) → IsFirstFrom set place port vc
+    → ((p v : ℕ) → p < ports → v < channels → has set p v ≡ asks p v) → IsFirstFrom set (place + 1) port vc
     → Some (port * channels + vc)
     ≡ winner (arbiter_at ports channels place) (λ line. asks (line / channels) (line % channels))
 first_wins ports channels place set port vc asks few some few' lp lp' l l' same f =
-    sym (first_is_winner (arbiter_at ports channels place) _ (port * channels + vc) (omega (arith, start)) (record {
+    sym (first_is_winner (arbiter_at ports channels place) _ (port * channels + vc) (omega (arith, pointed)) (record {
       within = inside;
       requests = at_line asks port channels vc l' ∙ sym (same port vc l l') ∙ f.first.requests;
       first = λ line below asked.
@@ -149,7 +110,11 @@ first_wins ports channels place set port vc asks few some few' lp lp' l l' same 
           (omega arith) (omega (arith, spot.1)) (omega arith) (omega (arith, spot.0, spot.1))
           (omega (arith, mine, inside))
           start order in
-          rw (mine, other, there) at alike;
+          let later = rw (mine, other, there) at alike in
+          rw (
+            asked_round (ports * channels) (line_of channels place) (port * channels + vc) start inside,
+            asked_round (ports * channels) (line_of channels place) line start below,
+          ) later;
     }))
   where
     inside : port * channels + vc < ports * channels
@@ -158,12 +123,17 @@ first_wins ports channels place set port vc asks few some few' lp lp' l l' same 
     start : line_of channels place < ports * channels
     start = line_within ports channels (place / 8) (place % 8) lp lp'
 
+    pointed : (line_of channels place + 1) % (ports * channels) < ports * channels
+    pointed = mod-lt (line_of channels place + 1) (omega (arith, start))
+
 -- where the set is empty nobody wins
 pub none_wins : (ports channels place set : ℕ) (asks : ℕ → ℕ → Bool) → 0 < channels → place / 8 < ports
     → place % 8 < channels → ((p v : ℕ) → p < ports → v < channels → has set p v ≡ asks p v) → set ≡ 0
     → None ≡ winner (arbiter_at ports channels place) (λ line. asks (line / channels) (line % channels))
 none_wins ports channels place set asks some lp lp' same empty =
     let start = line_within ports channels (place / 8) (place % 8) lp lp' in
+    let pointed : (line_of channels place + 1) % (ports * channels) < ports * channels =
+    mod-lt (line_of channels place + 1) (omega arith) in
     sym (winner_none (arbiter_at ports channels place) _ (omega arith) (λ line below.
     let spot = line_port ports channels line some below in
     sym (same (line / channels) (line % channels) spot.0 spot.1)
@@ -171,7 +141,7 @@ none_wins ports channels place set asks some lp lp' same empty =
 
 -- ---- as the code finds it
 
-first_at : (bits place k : ℕ) → place < 56 → k < 56
+first_at : (bits place k : ℕ) → place ≤ 56 → k < 56
     → winner (record { width = 56; pointer = place }) (line_requests bits) ≡ Some k
     → IsFirstFrom bits place (k / 8) (k % 8)
 first_at bits place k start inside won = record {
@@ -200,7 +170,7 @@ from_place_high bits place i fits above =
     ap (λ n. bit_at n i) (from_place_is bits place fits) ∙ shifted_high (bits / 2 ^ place) place i above
     ∙ ap (λ n. n % 2) (shr-shr bits place (i - place)) ∙ ap (bit_at bits) whole
 
-pub first_ahead : (bits place : ℕ) → bits < 2 ^ 56 → place < 56 → 0 < from_place bits place
+pub first_ahead : (bits place : ℕ) → bits < 2 ^ 56 → place ≤ 56 → 0 < from_place bits place
     → IsFirstFrom bits place (trailing_zeros w64 (from_place bits place) / 8)
     (trailing_zeros w64 (from_place bits place) % 8)
 first_ahead bits place fits start some =
@@ -235,7 +205,7 @@ zero_of_shift n place e = elim (cases_eq n 0) [
   | inr some ↦ let more = mul-le 1 1 n (2 ^ place) (omega arith) (pow_pos place) in absurd (omega arith)
 ]
 
-pub first_behind : (bits place : ℕ) → bits < 2 ^ 56 → place < 56 → 0 < bits → from_place bits place ≡ 0
+pub first_behind : (bits place : ℕ) → bits < 2 ^ 56 → place ≤ 56 → 0 < bits → from_place bits place ≡ 0
     → IsFirstFrom bits place (trailing_zeros w64 bits / 8) (trailing_zeros w64 bits % 8)
 first_behind bits place fits start some none =
     let gone : bits / 2 ^ place * 2 ^ place ≡ 0 = sym (from_place_is bits place fits) ∙ none in

@@ -1,15 +1,16 @@
--- The arbiters of an allocator, by the places that they ask first.
+-- The arbiters of an allocator, by the places that they ask last.
 use Rattle.std.proofs.Common.{◌≡◌, ℕ, ◌+◌, ◌*◌, ◌/◌, ◌%◌, ◌<◌, List, [], map, slice_index_or}
 use Rattle.std.proofs.Common.{slice_set, Some, sym, ap, ◌∙◌, subst, arith}
 use Rattle.std.specs.List.{All}
 use Rattle.std.proofs.Math.ListN as listn
+use Rattle.std.proofs.Math.Nat.{mod-lt}
 use Rattle.std.proofs.lemmas.List.{get_or-map, map-set}
 use Rattle.std.proofs.lemmas.List.Elements.{All-get_or, All-set}
-use Rattle.worm_vcalloc.specs.Arbiter.{ArbiterState, after_pick, no_arbiter}
-use Rattle.worm_vcalloc.specs.Places.{arbiter_at, arbiters_at, IsPlace, IsPlaced, IsPlaceAfter}
+use Rattle.worm_vcalloc.specs.Arbiter.{ArbiterState, after_pick, asking_last, no_arbiter}
+use Rattle.worm_vcalloc.specs.Places.{arbiter_at, arbiters_at, line_of, IsPlace, IsPlaced}
 use Rattle.worm_vcalloc.specs.Table.{cell, with_cell}
 use Rattle.worm_vcalloc.proofs.ArbitersStay.{IsVcAlloc}
-use Rattle.worm_vcalloc.proofs.Lines.{line_within}
+use Rattle.worm_vcalloc.proofs.Lines.{line_of_place, line_within}
 use Rattle.worm_vcalloc.proofs.TableCells.{IsTable-with_cell}
 
 -- a row of them
@@ -48,7 +49,9 @@ IsVcAlloc-placed ports channels places h = record {
   pointer = λ i j li lj.
       let here = place_in ports channels places i j h li lj in
       subst (λ (a : ArbiterState). a.pointer < ports * channels) (sym (cell_at ports channels places i j h li lj))
-      (line_within ports channels (cell places i j 0 / 8) (cell places i j 0 % 8) here.port_in here.channel_in);
+      (let line = line_within ports channels (cell places i j 0 / 8) (cell places i j 0 % 8) here.port_in
+      here.channel_in in
+      mod-lt (line_of channels (cell places i j 0) + 1) (omega arith));
 }
 
 -- ---- one arbiter picks
@@ -78,8 +81,9 @@ arbiters_at_moved ports channels places out channel next =
     ∙ ap (λ (row : List ArbiterState). slice_set row channel (arbiter_at ports channels next))
     (sym (row_at ports channels places out)))
 
--- the arbiter at the place after stands one past the winner
-pub arbiter_after : (ports channels place port vc next : ℕ) → IsPlaceAfter ports channels port vc next
-    → arbiter_at ports channels next ≡ after_pick (arbiter_at ports channels place) (Some (port * channels + vc))
-arbiter_after ports channels place port vc next after =
-    ap (λ line. record { width = ports * channels; pointer = line }) after.line
+-- the arbiter that asks the winner last stands one past it
+pub arbiter_after : (ports channels place port vc : ℕ) → vc < 8
+    → arbiter_at ports channels (8 * port + vc)
+    ≡ after_pick (arbiter_at ports channels place) (Some (port * channels + vc))
+arbiter_after ports channels place port vc within =
+    ap (asking_last (ports * channels)) (line_of_place channels port vc within)

@@ -8,7 +8,8 @@ use std::marker::Model;
 ///
 /// The first requester at its pointer or after it, cyclically, wins; the pointer then stands one
 /// past the winner. Without a requester it stays. The lines are bits of one word, so a choice is
-/// a shift and a count of zeros.
+/// a shift and a count of zeros. Kept is the line before the pointer, which was chosen last, if any
+/// was: so the pointer moves without a look whether it is at the end.
 ///
 /// ```text
 /// let mut arbiter = Arbiter::new(3);
@@ -19,18 +20,25 @@ use std::marker::Model;
 pub struct Arbiter {
     /// The number of lines.
     width: u8,
-    /// The line that is asked first.
-    pointer: u8,
+    /// The line that is asked last.
+    last: u8,
 }
 
 impl Model for Arbiter {
+    ghost use Rattle.std.proofs.Common.{refl};
+    ghost use Rattle.std.specs.Prelude.{◌<◌, ◌≤◌};
+    ghost use Rattle.worm_vcalloc.specs.Arbiter.{ArbiterState, asking_last, last_of};
+    ghost use Rattle.worm_vcalloc.specs.Places.{last_again};
+
     ghost Value = { ArbiterState };
 
-    ghost view = { λ a. record { width = a.width; pointer = a.pointer } };
+    ghost view = { λ a. asking_last a.width a.last };
 
-    ghost invariant = { λ a. (a.pointer < a.width) × (a.width ≤ 64) };
+    ghost invariant = { λ a. (a.last < a.width) × (a.width ≤ 64) };
 
-    ghost inverse = { λ v. record { width = v.width; pointer = v.pointer } };
+    ghost inverse = { λ v. record { width = v.width; last = last_of v } };
+
+    ghost inverse_ok = { λ a h. Prim.rw (last_again a.width a.last h.0) refl };
 }
 
 impl Arbiter {
@@ -40,14 +48,18 @@ impl Arbiter {
         requires few { width ≤ 64 }
         ensures { result ≡ record { width = width; pointer = 0 } }
     {
-        Arbiter { width, pointer: 0 }
+        Arbiter {
+            width,
+            last: width - 1,
+        }
     }
 
     /// The line that is asked first.
     pub fn pointer(&self) -> u8
         ensures { result ≡ self.now.pointer }
     {
-        self.pointer
+        let next = self.last + 1;
+        if next < self.width { next } else { 0 }
     }
 
     /// The line that `pick` would choose among `requests`, where bit i stands for line i.
@@ -58,9 +70,9 @@ impl Arbiter {
             (IsFirstRequester self.now (line_requests requests)) }
         ensures within { IfSome result (λ line. line < self.now.width) }
     {
-        let ahead = requests >> self.pointer;
+        let ahead = requests >> self.last >> 1;
         if ahead != 0 {
-            return Some(self.pointer + ahead.trailing_zeros() as u8);
+            return Some(self.last + 1 + ahead.trailing_zeros() as u8);
         }
         if requests == 0 {
             return None;
@@ -73,9 +85,7 @@ impl Arbiter {
         requires { line < self.old.width }
         ensures { self.new ≡ after_pick self.old (Some line) }
     {
-        let width = self.width;
-        let next = line + 1;
-        self.pointer = if next < width { next } else { 0 };
+        self.last = line;
     }
 
     /// Chooses the first of `requests` at the pointer or after it, and moves the pointer past it.

@@ -98,7 +98,7 @@ impl ChannelSet {
     /// The first channel at a place or after it, else the first of all, by port and channel, where a channel stands at
     /// the place `8 * port + channel`; None where the set is empty.
     pub(crate) fn first_from(&self, place: u8) -> Option<(u8, u8)>
-        requires { place < 56 }
+        requires { place ≤ 56 }
         ensures { MatchOption result (self.now ≡ 0) (λ found. IsFirstFrom self.now place found.0 found.1) }
     {
         if self.bits == 0 {

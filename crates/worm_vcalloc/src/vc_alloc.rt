@@ -1,6 +1,5 @@
 ghost use Rattle.std.specs.Prelude.{◌≡◌, ◌*◌, ◌<◌, ◌≤◌, None, List, Option, replicate};
 ghost use Rattle.worm_vcalloc.specs.Asked.{IsFiled};
-ghost use Rattle.worm_vcalloc.specs.Places.{IsPlaceAfter};
 ghost use Rattle.worm_vcalloc.specs.VcAlloc.{VcAllocState, IsChannelMatching, offered, port_pass, vc_pass};
 ghost use Rattle.worm_vcalloc.specs.declared.request.VcRequest.{VcRequest};
 
@@ -19,8 +18,9 @@ pub type VcGrants = ChannelMap;
 /// chapter 19).
 ///
 /// Each output channel has an arbiter over the input channels, line `port * channels + vc`. It is kept by the place of
-/// the input channel that it asks first, `8 * port + vc`, as a set of channels keeps its bits, so that it chooses from
-/// a set without a look at lines. Lines and places have the same order.
+/// the input channel that it asks last, `8 * port + vc`, as a set of channels keeps its bits, so that it chooses from a
+/// set without a look at lines, and is kept anew without a look which place is next. Lines and places have the same
+/// order.
 ///
 /// ```text
 /// let mut alloc = VcAlloc::new(5, 2);
@@ -32,7 +32,8 @@ pub struct VcAlloc {
     ports: u8,
     /// The channels of a port, 1 to 8.
     channels: u8,
-    /// The place of the input channel that is asked first, for each output channel, by port and channel.
+    /// The place of the input channel that is asked last, for each output channel, by port and channel: the one that
+    /// was granted it last, if any was.
     places: [[u8; 8]; 7],
 }
 
@@ -77,7 +78,7 @@ impl VcAlloc {
         VcAlloc {
             ports,
             channels,
-            places: [[0; 8]; 7],
+            places: [[8 * (ports - 1) + (channels - 1); 8]; 7],
         }
     }
 
@@ -136,30 +137,12 @@ impl VcAlloc {
         ensures ports { self.new.ports ≡ self.old.ports }
         ensures channels { self.new.channels ≡ self.old.channels }
     {
-        let place = self.places[out as usize][channel as usize];
+        let last = self.places[out as usize][channel as usize];
         let asking = asked.asking(out, channel).difference(&grants.keys());
-        if let Some((port, vc)) = asking.first_from(place) {
-            let next = place_after(self.ports, self.channels, port, vc);
+        if let Some((port, vc)) = asking.first_from(last + 1) {
             let row = &mut self.places[out as usize];
-            row[channel as usize] = next;
+            row[channel as usize] = 8 * port + vc;
             grants.set(port, vc, Some(channel));
         }
     }
-}
-
-/// The place of the input channel that is asked next after this one: that of the channel above it, or of the first of
-/// the port above, or of the first of all.
-fn place_after(ports: u8, channels: u8, port: u8, vc: u8) -> u8
-    requires few_ports { ports ≤ 7 }
-    requires few_channels { channels ≤ 8 }
-    requires port { port < ports }
-    requires vc { vc < channels }
-    ensures { IsPlaceAfter ports channels port vc result }
-{
-    let next = if vc + 1 < channels {
-        8 * port + vc + 1
-    } else {
-        8 * (port + 1)
-    };
-    if next < 8 * ports { next } else { 0 }
 }

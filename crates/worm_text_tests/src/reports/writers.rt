@@ -124,10 +124,10 @@ impl Write for Pages {
     }
 }
 
-/// A network in which 500 packets of one flit wait at their source.
+/// A network in which 1,700 packets of one flit wait at their source.
 fn many_wait<R: Abort + AllocGlobal + Copy>(rt: R) -> Ground<R> {
     let mut ground = Ground::new(rt, &two_nodes(&[]));
-    for word in 0..500 {
+    for word in 0..1700 {
         ground.asks(&Asked::Packet(lane(0, 1, 0), &[word]));
     }
     ground
@@ -141,10 +141,10 @@ fn waiting_line(alloc: Global, packet: u32) -> Result<String, Fail> {
 /// The report of this network.
 fn many_text(alloc: Global) -> Result<Vec<u8>, Fail> {
     let mut text = Vec::from_slice(alloc, b"wormreport 1\nturns 0 workers 1 drain 0\n")?;
-    for packet in 0..500 {
+    for packet in 0..1700 {
         text.extend_from_slice(waiting_line(alloc, packet)?.as_bytes())?;
     }
-    text.extend_from_slice(b"not offered 0\ntotal injected 500 delivered 0 underway 500\n")?;
+    text.extend_from_slice(b"not offered 0\ntotal injected 1700 delivered 0 underway 1700\n")?;
     Ok(text)
 }
 
@@ -181,7 +181,7 @@ fn goes_out_in_three<R: Abort + AllocGlobal + Copy>(rt: R, text: &[u8]) {
 
 /// This is the first page of the text alone.
 fn is_first_page(rt: &impl Abort, text: &[u8], page: &[u8]) {
-    assert!(rt; 8192 <= page.len() && page.len() <= 8448);
+    assert!(rt; 32_768 <= page.len() && page.len() <= 33_024);
     assert!(rt; text.starts_with(page));
 }
 
@@ -193,7 +193,7 @@ fn breaks_off_in_the_second<R: Abort + AllocGlobal + Copy>(rt: R, text: &[u8]) {
     is_first_page(&rt, text, begun.gone.as_slice());
 }
 
-/// A report of 23 kB goes out in three calls; a writer that fails in the second has the first page alone, and is not
+/// A report of 80 kB goes out in three calls; a writer that fails in the second has the first page alone, and is not
 /// asked again.
 #[test]
 fn a_long_report_goes_out_page_by_page(rt: HostRuntime) -> Result<(), Fail> {
