@@ -49,4 +49,7 @@ invariant_of-self c =
     let place = asks.within c.in-Some.port c.in-Some.vc first.port_in first.channel_in first.first.requests in
     IsPlaced-moved c.self.inside.ports c.self.inside.channels c.self.inside.places c.args.out c.args.channel
     (8 * c.in-Some.port + c.in-Some.vc) c.self.invariant (omega (arith, out_in, c.self.invariant.few_ports))
-    (record { port_in = omega (arith, first.channel_in, place.0); channel_in = omega (arith, first.channel_in, place.1) })
+    (record {
+      port_in = omega (arith, first.channel_in, place.0);
+      channel_in = omega (arith, first.channel_in, place.1);
+    })
