@@ -1,6 +1,6 @@
 //! What a worker has by port: its ends of the bundles that its nodes share with other workers'.
 
-ghost use Rattle.std.specs.Prelude.{◌≡◌, ◌<◌, IfNone, IfSome, IsTrue, true};
+ghost use Rattle.std.specs.Prelude.{◌≡◌, ◌<◌, IfNone, IfSome, IsTrue, false, true};
 ghost use Rattle.worm_split.specs.Crossings.{AwaitsCredit, AwaitsFlit, CreditGiven, CreditTaken, FlitSent, FlitTaken};
 ghost use Rattle.worm_split.specs.Crossings.{CreditGivenBy, CreditTakenBy, FlitSentBy, FlitTakenBy, MayGive, MaySend};
 ghost use Rattle.worm_split.specs.Sides.{inlet_at, is_from, is_over, outlet_at};
@@ -267,7 +267,8 @@ impl Side {
 /// Whether the link out of this port awaits a flit: it leads to one of the region's own nodes, and no flit is on it.
 fn awaits_flit(region: &Region, node: u8, out: u8) -> bool
     requires { 0 < region.now.own.workers }
-    ensures { IsTrue result → AwaitsFlit region.now node out }
+    ensures yes { IsTrue result → AwaitsFlit region.now node out }
+    ensures no { result ≡ false → AwaitsFlit region.now node out → ⊥ }
 {
     region.recall();
     let Some(links) = region.links_at(node, out) else {
@@ -283,7 +284,8 @@ fn awaits_flit(region: &Region, node: u8, out: u8) -> bool
 /// its way back over it.
 fn awaits_credit(region: &Region, node: u8, out: u8) -> bool
     requires { 0 < region.now.own.workers }
-    ensures { IsTrue result → AwaitsCredit region.now node out }
+    ensures yes { IsTrue result → AwaitsCredit region.now node out }
+    ensures no { result ≡ false → AwaitsCredit region.now node out → ⊥ }
 {
     region.recall();
     let Some(links) = region.links_at(node, out) else {

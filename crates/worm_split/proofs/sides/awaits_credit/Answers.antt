@@ -18,9 +18,9 @@ has_credits-requires-clause-node c = beyond_in (port (goal.at.has_credits-requir
 pub has_credits-requires-clause-linked : goal.has_credits-requires-clause-linked
 has_credits-requires-clause-linked c = back_is_some (port (goal.at.has_credits-requires-clause-linked c).In-Some)
 
-pub returns : goal.returns
-returns c = λ none.
-    let has = port (goal.at.returns c).In-Some in
+pub returns-clause-yes : goal.returns-clause-yes
+returns-clause-yes c = λ none.
+    let has = port (goal.at.returns-clause-yes c).In-Some in
     let s = c.args.region.now in
     let owner = sym c.own.ensures in
     let empty : c.has_credits.result ≡ false = elim (bool_cases c.has_credits.result) [
