@@ -2,9 +2,9 @@
 //!
 //! While the workers beside it stand still a worker's turns bring little: nothing comes in, and what goes out runs out
 //! of credits. So before each turn it waits until they have ended the turn before the last: with that turn's room two
-//! need not end theirs at one moment. It waits for a while and no longer, since the other may wait for it in its gate, or
-//! have no processor; and where that was in vain it waits for that one again only once it has got on. Nothing that is
-//! proved rests on this.
+//! need not end theirs at one moment. It waits for a while and no longer, since the other may wait for it in its gate,
+//! or have no processor; and where that was in vain it waits for that one again only once it has got on. Nothing that
+//! is proved rests on this.
 
 use std::alloc::{AllocError, Global};
 use std::hint::spin_loop;

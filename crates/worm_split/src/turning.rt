@@ -161,8 +161,8 @@ impl Part {
         tried(self.region.send_next(node, port, vc))
     }
 
-    /// Lets a granted channel send, over a link to another worker or within the part; what may leave any other channel of
-    /// the node may leave it still. `NoMemory` where its flit is for the sink and there is none for it there.
+    /// Lets a granted channel send, over a link to another worker or within the part; what may leave any other channel
+    /// of the node may leave it still. `NoMemory` where its flit is for the sink and there is none for it there.
     fn send<R: Wait>(&mut self, rt: &R, node: u8, port: u8, vc: u8) -> Result<(), StepFault>
         requires own { owned self.old.net node ≡ true }
         requires there { IsThere (shape self.old.net) (Event.Send node port vc) }

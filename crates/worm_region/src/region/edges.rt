@@ -15,8 +15,8 @@ use super::Region;
 use worm_flit::Flit;
 
 impl Region {
-    /// By which port the front flit of a channel that may send leaves, and as which flit. Whoever was granted the switch
-    /// may send, and is not asked again.
+    /// By which port the front flit of a channel that may send leaves, and as which flit. Whoever was granted the
+    /// switch may send, and is not asked again.
     #[inline(always)]
     pub fn next_out(&self, node: u8, port: u8, vc: u8) -> (u8, Flit)
         requires there { IsThere (shape self.now) (Event.Send node port vc) }

@@ -55,7 +55,8 @@ one_turned g c fault turned =
     let n = c.loop-node.node in
     let own : owned a.net n ≡ true = eq-eqb (n % a.net.own.workers) a.net.own.worker c.loop-node.invariant.mine in
     let one : filter (owned a.net) (n ∷ []) ≡ n ∷ [] = rw own refl in
-    subst (λ (ns : List ℕ). EachOf (NodeTurn c.args.entries.now) ns c.loop-node.self fault c.node_turn.new.self) (sym one)
+    subst (λ (ns : List ℕ). EachOf (NodeTurn c.args.entries.now) ns c.loop-node.self fault c.node_turn.new.self)
+    (sym one)
     (of_one (NodeTurn c.args.entries.now) n c.loop-node.self c.node_turn.new.self fault turned)
 
 pub loop-node-preserved : goal.loop-node-preserved
