@@ -406,14 +406,14 @@ impl Network {
 
 impl Node {
     fn new(ports: usize, classes: usize, depth: u8) -> Node {
-        let channels = (0..ports).fold(0, |set, port| set | ((1 << classes) - 1) << (8 * port));
+        let places = (0..ports).fold(0, |set, port| set | ((1 << classes) - 1) << (8 * port));
         Node {
             occupied: 0,
             waiting: 0,
             active: 0,
             ready: 0,
             owing: 0,
-            free: channels,
+            free: places,
             asked: 0,
             flits_in: 0,
             credits_in: 0,

@@ -23,12 +23,12 @@ crosses_pair x even =
     subst (λ (y : ℕ × ℕ). (nat_le y.0 y.0 && nat_lt y.0 y.1) && (x / 2 == x / 2) ≡ true)
     (λ i. (sym even i, sym next i)) (eq-eqb (x / 2) (x / 2) refl)
 
-pub may_cross_pair : (bundle : BundleCfg) (f : Flit) (channels node packet index : ℕ) (kind : Kind)
-    → bundle ≡ pairs_bundle channels bundle.depth → f ≡ trial_flit node packet index kind → node % 2 ≡ 0
-    → node + 1 < 256 → 0 < channels → MayCross (link_of bundle node) f
-may_cross_pair bundle f channels node packet index kind is it even below more =
+pub may_cross_pair : (bundle : BundleCfg) (f : Flit) (vcs node packet index : ℕ) (kind : Kind)
+    → bundle ≡ pairs_bundle vcs bundle.depth → f ≡ trial_flit node packet index kind → node % 2 ≡ 0
+    → node + 1 < 256 → 0 < vcs → MayCross (link_of bundle node) f
+may_cross_pair bundle f vcs node packet index kind is it even below more =
     let g = trial_flit node packet index kind in
-    let one : MayCross (link_of (pairs_bundle channels bundle.depth) node) g = record {
+    let one : MayCross (link_of (pairs_bundle vcs bundle.depth) node) g = record {
       channel = more;
       owned = refl;
       source = omega (arith, below);
@@ -44,10 +44,10 @@ may_begin (Some g) node packet clear =
     subst (λ b. MatchBool b (Opens f) ((true ≡ false) × (f.lane ≡ g.lane) × (f.packet ≡ g.packet) ×
     (f.index ≡ g.index + 1))) (sym clear) (refl, refl)
 
-pub goes_on : (channels : ℕ) (tx : TxView) (f : Flit) (node packet : ℕ) → f ≡ pair_flit node packet
-    → IsReady channels tx → IsBundleHistory (bundled tx.bundle tx.pasts) tx.sent
+pub goes_on : (vcs : ℕ) (tx : TxView) (f : Flit) (node packet : ℕ) → f ≡ pair_flit node packet
+    → IsReady vcs tx → IsBundleHistory (bundled tx.bundle tx.pasts) tx.sent
     → Continues (on_channel f.vc (past_at tx.pasts node ++ on_node node tx.sent)) f
-goes_on channels tx f node packet it ready history =
+goes_on vcs tx f node packet it ready history =
     let before = past_at tx.pasts node ++ on_node node tx.sent in
     subst (λ (f : Flit). Continues (on_channel f.vc before) f) (sym it)
     (continues_latest _ (pair_flit node packet) ((history node).worms 0)
@@ -61,11 +61,11 @@ begun_worms (suc node) c = tt
 abbrev pub with_flit : TxView → ℕ → Flit → TxView
 with_flit tx node f = record tx { sent = tx.sent ++ record { node = node; flit = f } ∷ [] }
 
-pub stays_ready : (channels : ℕ) (tx now : TxView) (f : Flit) (node packet : ℕ) → f ≡ pair_flit node packet
-    → IsReady channels tx → now ≡ with_flit tx node f → IsReady channels now
-stays_ready channels tx now f node packet it ready is =
-    subst (IsReady channels) (sym is)
-    (subst (λ (f : Flit). IsReady channels (with_flit tx node f)) (sym it)
+pub stays_ready : (vcs : ℕ) (tx now : TxView) (f : Flit) (node packet : ℕ) → f ≡ pair_flit node packet
+    → IsReady vcs tx → now ≡ with_flit tx node f → IsReady vcs now
+stays_ready vcs tx now f node packet it ready is =
+    subst (IsReady vcs) (sym is)
+    (subst (λ (f : Flit). IsReady vcs (with_flit tx node f)) (sym it)
     (record { bundle = ready.bundle; clear = λ y c. by_node y c (y == node) refl }))
   where
     g : Flit

@@ -17,7 +17,7 @@ link_of bundle node =
       mesh = bundle.mesh;
       node = node;
       port = bundle.port;
-      channels = bundle.channels;
+      vcs = bundle.vcs;
       depth = bundle.depth;
       owners = bundle.owners;
     }
@@ -40,14 +40,14 @@ IsBundleHistory bundle carried = (node : ℕ)
 
 -- each credit is for a channel of the links
 abbrev pub IsReturnHistory : Opened → List Returned → Type 0
-IsReturnHistory bundle returned = All (λ r. r.vc < bundle.cfg.channels) returned
+IsReturnHistory bundle returned = All (λ r. r.vc < bundle.cfg.vcs) returned
 
 abbrev pub no_bundle : Opened
-no_bundle = bundled record { mesh = []; port = 0; channels = 0; depth = 0; owners = replicate 8 0 } []
+no_bundle = bundled record { mesh = []; port = 0; vcs = 0; depth = 0; owners = replicate 8 0 } []
 
 -- the places of a link's far buffers
 abbrev pub bundle_capacity : BundleCfg → ℕ
-bundle_capacity bundle = bundle.channels * bundle.depth
+bundle_capacity bundle = bundle.vcs * bundle.depth
 
 -- of the sender's end: the bundle and its links' pasts, the queue, and all that was sent
 pub record TxView : Type 0 where

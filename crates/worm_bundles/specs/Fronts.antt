@@ -27,4 +27,4 @@ bundle_front bundle xs ys h node =
 pub returns_front : (bundle : Opened) (xs ys : List Returned) → IsReturnHistory bundle (xs ++ ys) →
     IsReturnHistory bundle xs
 returns_front bundle xs ys h =
-    All-front (λ (r : Returned). r.vc < bundle.cfg.channels) xs ys h
+    All-front (λ (r : Returned). r.vc < bundle.cfg.vcs) xs ys h

@@ -10,11 +10,11 @@ use Rattle.worm_bundles.specs.declared.BundleCfg.{BundleCfg}
 use Rattle.worm_bundles.specs.Bundles.{on_node, past_at, TxView}
 
 abbrev pub pairs_bundle : ℕ → ℕ → BundleCfg
-pairs_bundle channels depth =
+pairs_bundle vcs depth =
     record {
       mesh = 2 ∷ 8 ∷ 16 ∷ [];
       port = 1;
-      channels = channels;
+      vcs = vcs;
       depth = depth;
       owners = 0 ∷ 0 ∷ 0 ∷ 0 ∷ 0 ∷ 0 ∷ 0 ∷ 0 ∷ [];
     }
@@ -45,6 +45,6 @@ IsClear None = Unit {0}
 IsClear (Some f) = closes f.kind ≡ true
 
 -- the bundle of so many channels, on none of which a packet is open
-pub record IsReady (channels : ℕ) (tx : TxView) : Type 0 where
-  pub bundle : tx.bundle ≡ pairs_bundle channels tx.bundle.depth
+pub record IsReady (vcs : ℕ) (tx : TxView) : Type 0 where
+  pub bundle : tx.bundle ≡ pairs_bundle vcs tx.bundle.depth
   pub clear : (node c : ℕ) → IsClear (latest_on c (past_at tx.pasts node ++ on_node node tx.sent))

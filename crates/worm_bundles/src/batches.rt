@@ -190,12 +190,12 @@ fn divide<X, const N: usize, H: Carriage<X>, B: Naming>(
 
 // How many batches a queue has room for: as many as a link's buffers have places, and not too few for a turn's.
 fn room_for(cfg: BundleCfg) -> usize
-    requires channels { (0 < cfg.channels) × (cfg.channels ≤ 8) }
+    requires vcs { (0 < cfg.vcs) × (cfg.vcs ≤ 8) }
     requires depth { (0 < cfg.depth) × (cfg.depth ≤ 17) }
     ensures some { 0 < result }
     ensures enough { bundle_capacity cfg ≤ result }
 {
-    let places = usize::from(cfg.channels) * usize::from(cfg.depth);
+    let places = usize::from(cfg.vcs) * usize::from(cfg.depth);
     places.max(64)
 }
 
@@ -204,7 +204,7 @@ pub fn batches<X: Copy + Default, const N: usize, H: Carriage<X>, B: Naming>(
     alloc: Global,
     cfg: BundleCfg,
 ) -> Result<(Sender<X, N, H>, Taker<X, N, H>), LinkFault>
-    requires channels { (0 < cfg.channels) × (cfg.channels ≤ 8) }
+    requires vcs { (0 < cfg.vcs) × (cfg.vcs ≤ 8) }
     requires depth { (0 < cfg.depth) × (cfg.depth ≤ 17) }
     requires bundle { B.bundle.cfg ≡ cfg }
     requires unnamed { H.IsHistory no_bundle [] }

@@ -111,7 +111,7 @@ impl Model for CreditEnds {
 
 // The ends of a new queue, over the bundle that `B` names.
 fn open<B: Naming>(alloc: Global, cfg: BundleCfg) -> Result<(CreditTx, CreditRx), LinkFault>
-    requires channels { (0 < cfg.channels) × (cfg.channels ≤ 8) }
+    requires vcs { (0 < cfg.vcs) × (cfg.vcs ≤ 8) }
     requires depth { (0 < cfg.depth) × (cfg.depth ≤ 17) }
     requires bundle { B.bundle.cfg ≡ cfg }
     ensures bundle { IfOk result (λ ends. (ends.0.bundle ≡ cfg) × (ends.1.bundle ≡ cfg)) }
@@ -127,7 +127,7 @@ fn open<B: Naming>(alloc: Global, cfg: BundleCfg) -> Result<(CreditTx, CreditRx)
 ///
 /// There are 1 to 8 channels and 1 to 17 places of depth. `NoMemory` where memory is refused.
 pub fn credit_bundle(alloc: Global, cfg: BundleCfg) -> Result<(CreditTx, CreditRx), LinkFault>
-    requires channels { (0 < cfg.channels) × (cfg.channels ≤ 8) }
+    requires vcs { (0 < cfg.vcs) × (cfg.vcs ≤ 8) }
     requires depth { (0 < cfg.depth) × (cfg.depth ≤ 17) }
     ensures bundle { IfOk result (λ ends. (ends.0.bundle ≡ cfg) × (ends.1.bundle ≡ cfg)) }
     ensures empty { IfOk result (λ ends. (ends.0.sent ≡ []) × (ends.1.taken ≡ []) × (ends.1.ahead ≡ [])) }
@@ -148,7 +148,7 @@ impl CreditTx {
     /// flushed. `Err` gives the channel back and changes nothing: the batch and the queue are full, so at least
     /// channels times depth credits were sent.
     pub fn push<R: Wait>(&mut self, rt: &R, node: u8, vc: u8) -> Result<(), u8>
-        requires { vc < self.old.bundle.channels }
+        requires { vc < self.old.bundle.vcs }
         ensures sent { IfOk result (λ _. self.new
             ≡ record self.old { sent = self.old.sent ++ record { node = node; vc = vc } ∷ [] }) }
         ensures back { IfErr result (λ back. (back ≡ vc) × (self.new ≡ self.old)) }
@@ -209,7 +209,7 @@ impl CreditRx {
         requires { 0 < length self.old.ahead }
         ensures ahead { self.old.ahead ≡ result ∷ self.new.ahead }
         ensures taken { self.new ≡ record self.old { taken = self.old.taken ++ result ∷ []; ahead = self.new.ahead } }
-        ensures channel { result.vc < self.old.bundle.channels }
+        ensures channel { result.vc < self.old.bundle.vcs }
     {
         let returned = self.end.take();
         self.end.history();
@@ -242,7 +242,7 @@ impl CreditEnds {
         ensures none { IfNone result ((self.new ≡ self.old) × (self.old.taken ≡ self.old.sent)) }
         ensures taken { IfSome result (λ next. self.new ≡ record self.old { taken = self.old.taken ++ next ∷ [] }) }
         ensures sent { IfSome result (λ next. (rest : List _) × (self.old.sent ≡ self.new.taken ++ rest)) }
-        ensures channel { IfSome result (λ next. next.vc < self.old.bundle.channels) }
+        ensures channel { IfSome result (λ next. next.vc < self.old.bundle.vcs) }
     {
         let next = self.ends.pop_rest(rt)?;
         self.ends.history();

@@ -136,7 +136,7 @@ impl Opening for Brand {
 
 // The ends of a new queue, over the bundle that `B` names.
 fn open<B: Naming>(alloc: Global, cfg: BundleCfg) -> Result<(FlitTx, FlitRx), LinkFault>
-    requires channels { (0 < cfg.channels) × (cfg.channels ≤ 8) }
+    requires vcs { (0 < cfg.vcs) × (cfg.vcs ≤ 8) }
     requires depth { (0 < cfg.depth) × (cfg.depth ≤ 17) }
     requires bundle { B.bundle.cfg ≡ cfg }
     requires pasts { (node : ℕ) → AreWorms (past_at B.bundle.pasts node) }
@@ -154,7 +154,7 @@ fn open<B: Naming>(alloc: Global, cfg: BundleCfg) -> Result<(FlitTx, FlitRx), Li
 ///
 /// There are 1 to 8 channels and 1 to 17 places of depth. `NoMemory` where memory is refused.
 pub fn bundle(alloc: Global, cfg: BundleCfg) -> Result<(FlitTx, FlitRx), LinkFault>
-    requires channels { (0 < cfg.channels) × (cfg.channels ≤ 8) }
+    requires vcs { (0 < cfg.vcs) × (cfg.vcs ≤ 8) }
     requires depth { (0 < cfg.depth) × (cfg.depth ≤ 17) }
     ensures bundle { IfOk result (λ ends. (ends.0.bundle ≡ cfg) × (ends.1.bundle ≡ cfg)) }
     ensures pasts { IfOk result (λ ends. (ends.0.pasts ≡ []) × (ends.1.pasts ≡ [])) }
@@ -173,7 +173,7 @@ pub fn bundle_after<B: Opening>(
     alloc: Global,
     cfg: BundleCfg,
 ) -> Result<(FlitTx, FlitRx), LinkFault>
-    requires channels { (0 < cfg.channels) × (cfg.channels ≤ 8) }
+    requires vcs { (0 < cfg.vcs) × (cfg.vcs ≤ 8) }
     requires depth { (0 < cfg.depth) × (cfg.depth ≤ 17) }
     requires pasts { (node : ℕ) → AreWorms (past_at B.pasts node) }
     ensures bundle { IfOk result (λ ends. (ends.0.bundle ≡ cfg) × (ends.1.bundle ≡ cfg)) }

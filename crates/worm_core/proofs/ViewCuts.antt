@@ -204,8 +204,8 @@ module _ (s : NetState) (lane : Lane) where
   abbrev unfed : List Flit
   unfed = drop (queue_of s lane.src lane.class).fed (queue_of s lane.src lane.class).injected
 
-  abbrev channels : List ℕ
-  channels = channels_of s.channels lane.class
+  abbrev range : List ℕ
+  range = channels_of s.channels lane.class
 
   -- packet by packet
   module _ (k : ℕ) (there : lane.class < length s.channels) where
@@ -218,14 +218,14 @@ module _ (s : NetState) (lane : Lane) where
     packet_place AtSource = read_place lane read refl (packet-append lane k) (packet_absorbs lane k) Source unfed
     packet_place (AtBuffer x p) =
         read_channels lane read refl (packet-append lane k) (packet_absorbs lane k) (λ v. Buffer x p v)
-        (buffers x p) channels ∙
+        (buffers x p) range ∙
         sym (joined_class s.channels lane.class there (λ v. packet_held lane k (buffers x p v)))
     packet_place (AtLink x o) =
         let along = read_channels lane read refl (packet-append lane k) (packet_absorbs lane k) (λ v. Link x o v)
-        (λ v. on_channel v (line x o)) channels in
+        (λ v. on_channel v (line x o)) range in
         elim (bool_cases (o == 2 * length s.mesh)) [
-          | inl at ↦ rw at (along ∙ (ap (λ fs. flat_map (λ v. packet_held lane k (on_channel v fs)) channels)
-              (no_line s x o at) ∙ none_each (λ (v : ℕ). packet_held lane k (on_channel v [])) channels
+          | inl at ↦ rw at (along ∙ (ap (λ fs. flat_map (λ v. packet_held lane k (on_channel v fs)) range)
+              (no_line s x o at) ∙ none_each (λ (v : ℕ). packet_held lane k (on_channel v [])) range
               (λ v. refl)))
           | inr off ↦ rw off (along ∙ sym (joined_class s.channels lane.class there
               (λ v. packet_held lane k (on_channel v (line x o)))))
@@ -273,7 +273,7 @@ module _ (s : NetState) (lane : Lane) where
               skipped ∙ (rest ∙ sym passed)
         ]
 
-    single : (f : ℕ → List Flit) → flat_map f channels ≡ f c
+    single : (f : ℕ → List Flit) → flat_map f range ≡ f c
     single f = ap (λ (n : ℕ). flat_map f (range_with_len c n)) one ∙ append-nil (f c)
 
     lane_place : (spot : Spot) → held lane (flits (held_at s lane spot))
@@ -282,10 +282,10 @@ module _ (s : NetState) (lane : Lane) where
     lane_place AtSource = read_place lane (held lane) refl (held-append lane) (held_absorbs lane) Source unfed
     lane_place (AtBuffer x p) =
         read_channels lane (held lane) refl (held-append lane) (held_absorbs lane) (λ v. Buffer x p v)
-        (buffers x p) channels ∙ single (λ v. held lane (buffers x p v))
+        (buffers x p) range ∙ single (λ v. held lane (buffers x p v))
     lane_place (AtLink x o) =
         let along = read_channels lane (held lane) refl (held-append lane) (held_absorbs lane) (λ v. Link x o v)
-        (λ v. on_channel v (line x o)) channels ∙ single (λ v. held lane (on_channel v (line x o))) in
+        (λ v. on_channel v (line x o)) range ∙ single (λ v. held lane (on_channel v (line x o))) in
         elim (bool_cases (o == 2 * length s.mesh)) [
           | inl at ↦ rw at (along ∙ ap (λ fs. held lane (on_channel c fs)) (no_line s x o at))
           | inr off ↦ rw off (along ∙ one_line x o (line x o) (rw off at (net.sound.leaving x o)))

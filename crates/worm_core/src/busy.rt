@@ -154,28 +154,28 @@ impl LaneSet {
     }
 
     /// Puts in the lanes of what the channels of an input port hold.
-    fn mark_port(&mut self, router: &Router, port: u8, channels: u8)
+    fn mark_port(&mut self, router: &Router, port: u8, vcs: u8)
         requires port { port ≤ terminal router.now }
-        requires channels { channels ≡ width router.now }
+        requires vcs { vcs ≡ width router.now }
         ensures kept { KeepsMarks self.old self.new }
         ensures marked { (v : ℕ) → v < width router.now → AllMarked self.new (input_at router.now port v).buffer }
     {
-        for vc in 0..channels {
+        for vc in 0..vcs {
             self.mark_channel(router, port, vc);
         }
     }
 
     /// Puts in the lanes of what all input channels hold.
-    fn mark_router(&mut self, router: &Router, last: u8, channels: u8)
+    fn mark_router(&mut self, router: &Router, last: u8, vcs: u8)
         requires last { last ≡ terminal router.now }
         requires few { last ≤ 6 }
-        requires channels { channels ≡ width router.now }
+        requires vcs { vcs ≡ width router.now }
         ensures kept { KeepsMarks self.old self.new }
         ensures marked { (p : ℕ) (v : ℕ) → p ≤ terminal router.now → v < width router.now
             → AllMarked self.new (input_at router.now p v).buffer }
     {
         for port in 0..last + 1 {
-            self.mark_port(router, port, channels);
+            self.mark_port(router, port, vcs);
         }
     }
 
@@ -220,7 +220,7 @@ fn mark_nodes(fabric: &Fabric, set: &mut LaneSet)
     for node in 0..fabric.nodes() {
         let here = fabric.node(node as u8);
         set.mark_source(&here.source, fabric.classes());
-        set.mark_router(&here.router, fabric.terminal(), fabric.channels());
+        set.mark_router(&here.router, fabric.terminal(), fabric.vcs());
     }
 }
 

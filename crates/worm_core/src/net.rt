@@ -159,10 +159,10 @@ impl Net {
     }
 
     /// The number of channels of a port.
-    pub(crate) fn channels(&self) -> u8
+    pub(crate) fn vcs(&self) -> u8
         ensures { result ≡ sum self.now.channels }
     {
-        self.region.fabric().channels()
+        self.region.fabric().vcs()
     }
 
     /// One step.

@@ -138,8 +138,8 @@ fn put_buffers(
         ++ flat_map (buffer_held fabric.now lane node port) (channels_of fabric.now.channels lane.class)) }
 {
     let router = &fabric.node(node).router;
-    let channels = fabric.channels_of(lane.class);
-    for vc in channels.start..channels.end {
+    let range = fabric.channels_of(lane.class);
+    for vc in range.start..range.end {
         put_channel(held, lane, router, node, port, vc)?;
     }
     Ok(())
@@ -159,8 +159,8 @@ fn put_lines(
     ensures { OnOk result (held.new.items ≡ held.old.items
         ++ flat_map (link_held fabric.now lane node port) (channels_of fabric.now.channels lane.class)) }
 {
-    let channels = fabric.channels_of(lane.class);
-    for vc in channels.start..channels.end {
+    let range = fabric.channels_of(lane.class);
+    for vc in range.start..range.end {
         put_line(fabric, held, lane, node, port, vc)?;
     }
     Ok(())

@@ -160,11 +160,11 @@ impl<R: Abort + AllocGlobal + Copy> Ground<R> {
     }
 
     /// The lists have so many nodes, this terminal port, and so many channels of a port.
-    fn has_lists(&self, nodes: u16, terminal: u8, channels: u8) {
+    fn has_lists(&self, nodes: u16, terminal: u8, vcs: u8) {
         let fabric = self.region.fabric();
         are_equal(&self.rt, fabric.nodes(), nodes);
         are_equal(&self.rt, fabric.terminal(), terminal);
-        are_equal(&self.rt, fabric.channels(), channels);
+        are_equal(&self.rt, fabric.vcs(), vcs);
     }
 
     /// The way on from the node to the other: the port out of it, the next node and the port into that.
@@ -194,9 +194,9 @@ impl<R: Abort + AllocGlobal + Copy> Ground<R> {
     fn has_channels(&self, class: u8, first: u8, end: u8) {
         let fabric = self.region.fabric();
         assert!(self.rt; class < fabric.classes());
-        let channels = fabric.channels_of(class);
-        are_equal(&self.rt, channels.start, first);
-        are_equal(&self.rt, channels.end, end);
+        let range = fabric.channels_of(class);
+        are_equal(&self.rt, range.start, first);
+        are_equal(&self.rt, range.end, end);
     }
 
     /// The lane's source is offered a packet of these words, and accepts it.

@@ -10,7 +10,7 @@ use Rattle.worm_links.specs.declared.LinkCfg.{LinkCfg}
 -- the flit's channel is one of the link's and owned by its class, and its route, from a node of the mesh to a node of
 -- the mesh, crosses the link
 pub record MayCross (link : LinkCfg) (f : Flit) : Type 0 where
-  pub channel : f.vc < link.channels
+  pub channel : f.vc < link.vcs
   pub owned : slice_get link.owners f.vc ≡ Some f.lane.class
   pub source : f.lane.src < node_count link.mesh
   pub destination : f.lane.dst < node_count link.mesh

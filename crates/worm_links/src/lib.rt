@@ -30,7 +30,7 @@ pub struct LinkCfg {
     /// The port of that node: `2d` on the minus side of dimension `d`, `2d + 1` on its plus side.
     pub port: u8,
     /// How many virtual channels it has: 1 to 8.
-    pub channels: u8,
+    pub vcs: u8,
     /// How many flits a channel's buffer at its far end holds: 1 to 17.
     pub depth: u8,
     /// The class that owns each channel; those past the last channel say nothing.

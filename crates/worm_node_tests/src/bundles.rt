@@ -11,13 +11,13 @@ use std::process::Abort;
 use worm_bundles::BundleCfg;
 
 /// The bundle with so many channels, and room for so many flits on each.
-fn pairs(rt: &impl Abort, channels: u8, depth: u8) -> BundleCfg
-    ensures { result ≡ pairs_bundle channels depth }
+fn pairs(rt: &impl Abort, vcs: u8, depth: u8) -> BundleCfg
+    ensures { result ≡ pairs_bundle vcs depth }
 {
     BundleCfg {
         mesh: mesh_of(rt, &[2, 8, 16]),
         port: 1,
-        channels,
+        vcs,
         depth,
         owners: [0; 8],
     }

@@ -147,18 +147,18 @@ fn channels_of(rt: &impl Abort, counts: &[u8]) -> ClassChannels {
 }
 
 /// The class owns so many channels, from this one on.
-fn has_class(rt: &impl Abort, channels: &ClassChannels, class: u8, first: u8, count: u8) {
-    assert!(rt; class < channels.classes());
+fn has_class(rt: &impl Abort, classes: &ClassChannels, class: u8, first: u8, count: u8) {
+    assert!(rt; class < classes.classes());
     assert_eq!(rt;
-        (channels.first(class), channels.count(class)),
+        (classes.first(class), classes.count(class)),
         (first, count)
     );
 }
 
 /// The channel is the class's.
-fn is_owned(rt: &impl Abort, channels: &ClassChannels, channel: u8, class: u8) {
-    assert!(rt; channel < channels.total());
-    assert_eq!(rt; channels.owner(channel), class);
+fn is_owned(rt: &impl Abort, classes: &ClassChannels, channel: u8, class: u8) {
+    assert!(rt; channel < classes.total());
+    assert_eq!(rt; classes.owner(channel), class);
 }
 
 #[test]
@@ -168,13 +168,13 @@ fn classes_own_channels(rt: HostRuntime) {
     are_no_channels(&rt, &[5, 4]);
     are_no_channels(&rt, &[1, 1, 1, 1, 1]);
     are_no_channels(&rt, &[]);
-    let channels = channels_of(&rt, &[5, 3]);
-    assert_eq!(rt; (channels.classes(), channels.total()), (2, 8));
-    has_class(&rt, &channels, 0, 0, 5);
-    has_class(&rt, &channels, 1, 5, 3);
-    is_owned(&rt, &channels, 4, 0);
-    is_owned(&rt, &channels, 5, 1);
-    assert!(rt; channels.owns(1, 7) && !channels.owns(0, 7) && !channels.owns(2, 7));
+    let classes = channels_of(&rt, &[5, 3]);
+    assert_eq!(rt; (classes.classes(), classes.total()), (2, 8));
+    has_class(&rt, &classes, 0, 0, 5);
+    has_class(&rt, &classes, 1, 5, 3);
+    is_owned(&rt, &classes, 4, 0);
+    is_owned(&rt, &classes, 5, 1);
+    assert!(rt; classes.owns(1, 7) && !classes.owns(0, 7) && !classes.owns(2, 7));
 }
 
 /// Each number comes into the set, or goes out of it where it is false.

@@ -7,9 +7,9 @@ use std::process::Abort;
 use worm_swalloc::{Ready, ReadyOuts, SwAlloc, SwGrant, SwGrants};
 
 /// These input channels, each by port and channel, would send to these output ports.
-fn ready_of(rt: &impl Abort, channels: &[(u8, u8, u8)]) -> ReadyOuts {
+fn ready_of(rt: &impl Abort, senders: &[(u8, u8, u8)]) -> ReadyOuts {
     let mut ready = ReadyOuts::new();
-    for (port, vc, out) in channels {
+    for (port, vc, out) in senders {
         assert!(rt; *port < 7 && *vc < 8);
         ready.set(*port, *vc, Some(*out));
     }

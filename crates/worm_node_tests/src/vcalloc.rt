@@ -135,10 +135,10 @@ fn asks(out: u8, allowed: u8) -> VcRequest {
 }
 
 /// These channels of the output port are free, and no others.
-fn free_of(rt: &impl Abort, out: u8, channels: &[u8]) -> FreeChannels {
+fn free_of(rt: &impl Abort, out: u8, numbers: &[u8]) -> FreeChannels {
     let mut free = [[false; 8]; 7];
     assert!(rt; out < 7);
-    for channel in channels {
+    for channel in numbers {
         assert!(rt; *channel < 8);
         free[usize::from(out)][usize::from(*channel)] = true;
     }
@@ -188,9 +188,9 @@ fn a_granted_channel_gets_no_second(rt: HostRuntime) {
 }
 
 /// Of those that wait, a fresh allocator finds these for the free channels of the output port, and no others.
-fn finds(rt: &impl Abort, waiting: &VcRequests, out: u8, channels: &[u8], found: &[(u8, u8)]) {
+fn finds(rt: &impl Abort, waiting: &VcRequests, out: u8, numbers: &[u8], found: &[(u8, u8)]) {
     let mut alloc = VcAlloc::new(7, 8);
-    let grants = alloc.grant(waiting, &free_of(rt, out, channels));
+    let grants = alloc.grant(waiting, &free_of(rt, out, numbers));
     has_channels(rt, grants.keys(), found);
 }
 

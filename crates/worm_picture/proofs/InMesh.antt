@@ -34,7 +34,7 @@ buffer_port mesh node port h =
           absurd (let no : true ≡ false = sym h ∙ no in cc)
     ]
 
-at_link : (s : Shape) (node port vc : ℕ) → AreLarge s.mesh → vc < s.channels → (to : Option ℕ)
+at_link : (s : Shape) (node port vc : ℕ) → AreLarge s.mesh → vc < s.vcs → (to : Option ℕ)
     → neighbour_of s.mesh node port ≡ to
     → IfSome (option_map (λ to. spot_at true to (opposite_of port) vc) to) (HasSpot s)
 at_link s node port vc large channel None e = tt

@@ -230,10 +230,10 @@ pub one_node : {E : Type 0} (r : Result (Unit {0}) E) (a b c d : Svg) (v : NodeV
     → stations ≡ v.stations.items → Adds a b []
     → Adds b c (map flit_name (flat_map station_flits stations)) → OnOk r (Adds c d [])
     → OnOk r (Adds a d (map flit_name (view_flits v)))
-one_node r a b c d v stations e opened channels closed =
+one_node r a b c d v stations e opened added closed =
     let us = map flit_name (flat_map station_flits stations) in
     subst (λ l. OnOk r (Adds a d l)) (append-nil us ∙ ap (λ l. map flit_name (flat_map station_flits l)) e)
-    (adds_then r a c d us [] (adds_both a b c [] us opened channels) closed)
+    (adds_then r a c d us [] (adds_both a b c [] us opened added) closed)
 
 -- ---- the whole
 

@@ -15,12 +15,12 @@ range_more n =
     sym (map-id (range_with_len 0 (n + 1))) ∙ map-range_with_len_more (λ (k : ℕ). k) 0 n n sum
     ∙ ap (λ l. l ++ n ∷ []) (map-id (range_with_len 0 n))
 
-pub one_port_more : (node n channels : ℕ) (spots more new : List Spot) → new ≡ spots ++ more
-    → spots ≡ spots_in node n channels → more ≡ spots_at node channels n
-    → new ≡ spots_in node (n + 1) channels
-one_port_more node n channels spots more new joined old added =
-    joined ∙ rw (old, added) (flat_map_more (spots_at node channels) [] (range_with_len 0 n) n)
-    ∙ ap (flat_map (spots_at node channels)) (sym (range_more n))
+pub one_port_more : (node n vcs : ℕ) (spots more new : List Spot) → new ≡ spots ++ more
+    → spots ≡ spots_in node n vcs → more ≡ spots_at node vcs n
+    → new ≡ spots_in node (n + 1) vcs
+one_port_more node n vcs spots more new joined old added =
+    joined ∙ rw (old, added) (flat_map_more (spots_at node vcs) [] (range_with_len 0 n) n)
+    ∙ ap (flat_map (spots_at node vcs)) (sym (range_more n))
 
 pub one_station_more : (i : ℕ) (d : Spot) (spots : List Spot) (stations new : List Station) (s : Station)
     → new ≡ stations ++ s ∷ [] → map (λ s. s.spot) stations ≡ take i spots

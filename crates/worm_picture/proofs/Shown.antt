@@ -155,28 +155,28 @@ flat_map_map h f (a ∷ places) = ap (λ l. h (f a) ++ l) (flat_map_map h f plac
 -- the channels of a port
 one_port : (s : Shape) (node p : ℕ) (flits : List Flit) → All (λ f. (node_of f == node) ≡ true) flits
     → All (λ f. HasSpot s f.spot) flits
-    → IsPermutation (of_port p flits) (flat_map (there flits) (spots_at node s.channels p))
+    → IsPermutation (of_port p flits) (flat_map (there flits) (spots_at node s.vcs p))
 one_port s node p flits at has =
     subst (λ l. IsPermutation (of_port p flits) l)
-    (sym (flat_map_map (there flits) (spot_at false node p) (range_with_len 0 s.channels)))
+    (sym (flat_map_map (there flits) (spot_at false node p) (range_with_len 0 s.vcs)))
     (IsPermutation-trans _ _ _
-    (taken_apart channel_of s.channels 0 (of_port p flits)
-    (All-filter (λ f. port_of f == p) (λ f. (0 ≤ channel_of f) × (channel_of f < 0 + s.channels)) flits
+    (taken_apart channel_of s.vcs 0 (of_port p flits)
+    (All-filter (λ f. port_of f == p) (λ f. (0 ≤ channel_of f) × (channel_of f < 0 + s.vcs)) flits
     (λ k d lt. let small = (has k d lt).channel in (omega arith, omega arith))))
     (shuffled_pieces (λ c. of_channel c (of_port p flits)) (λ c. there flits (spot_at false node p c))
-    (λ c. one_channel node p c flits at) (range_with_len 0 s.channels)))
+    (λ c. one_channel node p c flits at) (range_with_len 0 s.vcs)))
 
 -- those of all its ports
 all_ports : (s : Shape) (node : ℕ) (flits : List Flit) → All (λ f. (node_of f == node) ≡ true) flits
     → All (λ f. HasSpot s f.spot) flits
-    → IsPermutation flits (flat_map (there flits) (spots_in node (2 * length s.mesh + 1) s.channels))
+    → IsPermutation flits (flat_map (there flits) (spots_in node (2 * length s.mesh + 1) s.vcs))
 all_ports s node flits at has =
     let ports = 2 * length s.mesh + 1 in
     subst (λ l. IsPermutation flits l) (sym
-    (flat_map_pieces (there flits) (spots_at node s.channels) (range_with_len 0 ports)))
+    (flat_map_pieces (there flits) (spots_at node s.vcs) (range_with_len 0 ports)))
     (IsPermutation-trans _ _ _
     (taken_apart port_of ports 0 flits (λ k d lt. let small = (has k d lt).port in (omega arith, omega arith)))
-    (shuffled_pieces (λ p. of_port p flits) (λ p. flat_map (there flits) (spots_at node s.channels p))
+    (shuffled_pieces (λ p. of_port p flits) (λ p. flat_map (there flits) (spots_at node s.vcs p))
     (λ p. one_port s node p flits at has) (range_with_len 0 ports)))
 
 -- ---- all nodes

@@ -15,11 +15,11 @@ use Rattle.worm_picture.specs.declared.views.NodeView.{NodeView}
 
 -- the channels of a port
 abbrev pub spots_at : ℕ → ℕ → ℕ → List Spot
-spots_at node channels port = map (λ vc. spot_at false node port vc) (range_with_len 0 channels)
+spots_at node vcs port = map (λ vc. spot_at false node port vc) (range_with_len 0 vcs)
 
 -- those of a node's ports, port by port
 abbrev pub spots_in : ℕ → ℕ → ℕ → List Spot
-spots_in node ports channels = flat_map (spots_at node channels) (range_with_len 0 ports)
+spots_in node ports vcs = flat_map (spots_at node vcs) (range_with_len 0 ports)
 
 -- a channel holds those of these flits that are in its buffer, and those that are on the link to it, the front first
 pub record IsStation (tails : PacketId → ℕ) (flits : List Flit) (s : Station) : Type 0 where
@@ -37,7 +37,7 @@ arrives_at node _ = false
 -- all channels of a node, each with those of these flits that are there; how many wait in its source, and how many
 -- arrived
 pub record IsView (s : Shape) (rows : List Row) (tails : PacketId → ℕ) (flits : List Flit) (v : NodeView) : Type 0 where
-  pub spots : map (λ station. station.spot) v.stations.items ≡ spots_in v.node (2 * length s.mesh + 1) s.channels
+  pub spots : map (λ station. station.spot) v.stations.items ≡ spots_in v.node (2 * length s.mesh + 1) s.vcs
   pub stations : All (IsStation tails (flits_at v.node flits)) v.stations.items
   pub waiting : v.waiting ≡ length (filter (waits_at v.node) rows)
   pub arrived : v.arrived ≡ length (filter (arrives_at v.node) rows)
@@ -62,4 +62,4 @@ shown views = flat_map view_flits views
 pub record HasSpot (s : Shape) (spot : Spot) : Type 0 where
   pub node : spot.node < node_count s.mesh
   pub port : spot.port < 2 * length s.mesh + 1
-  pub channel : spot.vc < s.channels
+  pub channel : spot.vc < s.vcs

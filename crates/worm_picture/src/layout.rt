@@ -50,9 +50,9 @@ ghost use Rattle.std.specs.Prelude.{◌≤◌, ◌+◌, ◌*◌};
 
 impl Layout {
     /// The sizes at so many channels, and buffers of this depth.
-    pub fn new(depth: u8, channels: u8) -> Layout {
+    pub fn new(depth: u8, vcs: u8) -> Layout {
         let long = SLOT * u32::from(depth);
-        let wide = SLOT * u32::from(channels);
+        let wide = SLOT * u32::from(vcs);
         let core = wide + 4;
         let half = core + long.max(wide) + MARGIN;
         Layout {

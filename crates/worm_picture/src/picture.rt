@@ -143,7 +143,7 @@ impl<'a> Scene<'a> {
             .filter(|port| *port <= 2 * self.shape.mesh.dims() && self.has_input(view.node, *port))
             .count();
         let room = ports
-            .saturating_mul(usize::from(self.shape.channels))
+            .saturating_mul(usize::from(self.shape.vcs))
             .saturating_mul(usize::from(self.depth));
         let held = view.held();
         if held == 0 {
@@ -415,7 +415,7 @@ pub fn picture(
         depth,
         rows,
         packets,
-        layout: Layout::new(depth, shape.channels),
+        layout: Layout::new(depth, shape.vcs),
         head: 0,
     };
     let (mesh_width, mesh_height) = scene.size();

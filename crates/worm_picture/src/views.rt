@@ -48,10 +48,10 @@ impl NodeView {
 }
 
 /// The channels of a port.
-fn spots_at(alloc: Global, node: u8, port: u8, channels: u8) -> Result<Vec<Spot>, AllocError>
-    ensures { IfOk result (λ spots. spots.items ≡ spec.spots_at node channels port) }
+fn spots_at(alloc: Global, node: u8, port: u8, vcs: u8) -> Result<Vec<Spot>, AllocError>
+    ensures { IfOk result (λ spots. spots.items ≡ spec.spots_at node vcs port) }
 {
-    (0..channels)
+    (0..vcs)
         .map(|vc| Spot {
             node,
             port,
@@ -62,12 +62,12 @@ fn spots_at(alloc: Global, node: u8, port: u8, channels: u8) -> Result<Vec<Spot>
 }
 
 /// The channels of a node's ports, port by port.
-fn spots_in(alloc: Global, node: u8, ports: u8, channels: u8) -> Result<Vec<Spot>, AllocError>
-    ensures { IfOk result (λ spots. spots.items ≡ spec.spots_in node ports channels) }
+fn spots_in(alloc: Global, node: u8, ports: u8, vcs: u8) -> Result<Vec<Spot>, AllocError>
+    ensures { IfOk result (λ spots. spots.items ≡ spec.spots_in node ports vcs) }
 {
     let mut spots = Vec::new(alloc);
     for port in 0..ports {
-        let more = spots_at(alloc, node, port, channels)?;
+        let more = spots_at(alloc, node, port, vcs)?;
         spots.extend_from_slice(more.as_slice())?;
     }
     Ok(spots)
@@ -125,7 +125,7 @@ fn view(
 {
     let here = flits_at(alloc, flits, node)?;
     let ports = 2 * shape.mesh.dims() + 1;
-    let spots = spots_in(alloc, node, ports, shape.channels)?;
+    let spots = spots_in(alloc, node, ports, shape.vcs)?;
     Ok(NodeView {
         node,
         stations: stations(alloc, here.as_slice(), packets, spots.as_slice())?,

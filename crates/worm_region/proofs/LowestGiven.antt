@@ -90,7 +90,7 @@ router_size s x net there =
 -- what a set has of a port is what owes a credit there
 pub record OwesAt (owing : ℕ) (s : NetState) (x p : ℕ) : Type 0 where
   pub owed : (v : ℕ) → v < sum s.channels → has owing p v ≡ can_give s x p v
-  pub channels : (v : ℕ) → v < 8 → has owing p v ≡ true → v < sum s.channels
+  pub within : (v : ℕ) → v < 8 → has owing p v ≡ true → v < sum s.channels
 
 -- the lowest channel that the set has of a port owes a credit, as no lower one does
 pub record IsNext (s : NetState) (x p v : ℕ) : Type 0 where
@@ -105,7 +105,7 @@ module _ (owing : ℕ) (s : NetState) (x p : ℕ) (sound : IsWorkable s) (there 
       let few = sound.framed.radices.few_dims in
       record {
         owed = λ v v_in. set.inside p v (omega (arith, size.0)) (omega (arith, size.1));
-        channels = λ v v_few some. omega (arith, size.1, (set.outside p v (omega arith) v_few some).1);
+        within = λ v v_few some. omega (arith, size.1, (set.outside p v (omega arith) v_few some).1);
       }
 
   -- a port with a channel that owes has a link, so it is below the terminal
@@ -121,7 +121,7 @@ module _ (owing : ℕ) (s : NetState) (x p : ℕ) (sound : IsWorkable s) (there 
 
   pub lowest_next : (v : ℕ) → OwesAt owing s x p → IsLowest owing p v → IsNext s x p v
   lowest_next v at lowest =
-      let v_in = at.channels v lowest.channel_in lowest.is_in in
+      let v_in = at.within v lowest.channel_in lowest.is_in in
       let wide = (router_size s x sound there).1 in
       let owes = owing_some (input_at (router_at s x) p v).owed (sym (at.owed v v_in) ∙ lowest.is_in) in
       record {
@@ -152,8 +152,8 @@ module _ (owing : ℕ) (s : NetState) (x p : ℕ) (sound : IsWorkable s) (there 
         owed = λ v v_in.
             kept v (omega arith) ∙ at.owed v (omega arith)
             ∙ ap (λ (n : ℕ). nat_lt 0 n) (sym (others v (omega arith)).owed);
-        channels = λ v v_few some.
-            let before_in = at.channels v v_few (sym (kept v v_few) ∙ some) in omega arith;
+        within = λ v v_few some.
+            let before_in = at.within v v_few (sym (kept v v_few) ∙ some) in omega arith;
       }
 
 -- a walk over the mesh ports of a node, at those of which that have a channel in a set, which are those that owe

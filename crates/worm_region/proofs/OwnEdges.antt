@@ -120,14 +120,14 @@ module _ (s : Shape) (mesh : IsMesh s) {own : ℕ → Bool} (net : Network) (wor
     unfed = works.unfed;
   }
 
-  pub back_works : (x o c : ℕ) → c < s.channels → AreElsewhere s own x o →
+  pub back_works : (x o c : ℕ) → c < s.vcs → AreElsewhere s own x o →
       Works s own (record net { credit_list = put2 net.credit_list x o (net.credit_list x o ++ c ∷ []) })
   back_works x o c c_in crosses = record {
     records = works.records;
     buffered = works.buffered;
     out = works.out;
     entries = λ x2 o2. elim (place_cases x2 o2 x o) [
-      | inl here ↦ rw here.0 (All-push (λ (d : ℕ). d < s.channels) (net.credit_list x o) c (works.entries x o) c_in)
+      | inl here ↦ rw here.0 (All-push (λ (d : ℕ). d < s.vcs) (net.credit_list x o) c (works.entries x o) c_in)
       | inr away ↦ rw away.0 (works.entries x2 o2)
     ];
     few = works.few;

@@ -36,7 +36,7 @@ port_below s x p framed port =
 
 -- a place of the theory is a place of the router
 pub net_place : (s : NetState) (x p v : ℕ) → IsFramed s → x < (shape s).nodes → IsPort (shape s) x p →
-    v < (shape s).channels → IsNetPlace s x p v
+    v < (shape s).vcs → IsNetPlace s x p v
 unfolding net_shape
 net_place s x p v framed x_in port v_in =
     let all = framed.all_nodes in

@@ -108,7 +108,7 @@ module _ (s : Shape) (mesh : IsMesh s) {own : ℕ → Bool} (net : Network) (wor
         unfed = works.unfed;
       }
 
-  grant_works : (x p v c : ℕ) (r : InRecord) → x < s.nodes → c < s.channels → net.in_record x p v ≡ r →
+  grant_works : (x p v c : ℕ) (r : InRecord) → x < s.nodes → c < s.vcs → net.in_record x p v ≡ r →
       IsWaitingAt r (λ o. net.holder x o c ≡ None) → Works s own (granted net x p v c r)
   grant_works x p v c Idle x_in c_in e free = works
   grant_works x p v c (Active o d) x_in c_in e free = works
@@ -234,7 +234,7 @@ module _ (s : Shape) (mesh : IsMesh s) {own : ℕ → Bool} (net : Network) (wor
   take_works x p None e = works
   take_works x p (Some y) e = take_from x p y (net.out y (s.opposite p)) e refl
 
-  give_works : (x p v : ℕ) (end : Option ℕ) → s.neighbour x p ≡ end → v < s.channels → 0 < net.owed x p v →
+  give_works : (x p v : ℕ) (end : Option ℕ) → s.neighbour x p ≡ end → v < s.vcs → 0 < net.owed x p v →
       Works s own (gave s net x p v end)
   give_works x p v None e v_in owed = works
   give_works x p v (Some y) e v_in owed = record {

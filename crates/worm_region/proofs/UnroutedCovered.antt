@@ -53,7 +53,7 @@ route_elsewhere a b x q c answer net replies p v away =
 pub record Routed (x : ℕ) (a b : NetState) (port vc : ℕ) : Type 0 where
   pub mid : NetState
   pub ports : Does (Each (RoutesPortBy Attempts x) (range_with_len 0 port)) a None mid
-  pub channels : Does (Each (λ c. Attempts (Route x port c)) (range_with_len 0 vc)) mid None b
+  pub row : Does (Each (λ c. Attempts (Route x port c)) (range_with_len 0 vc)) mid None b
 
 -- all places below one are done, eight to a port, of which the last may be no channels
 pub record Passed (x : ℕ) (a b : NetState) (n : ℕ) : Type 0 where
@@ -91,11 +91,11 @@ module _ (x : ℕ) (a : NetState) where
         let now : sum a.channels - (sum a.channels - v) ≡ v = omega arith in
         let then : v + 1 ≡ sum a.channels - (sum a.channels - suc v) = omega arith in
         let done = subst (λ (n : ℕ). Does (Each (λ i. Attempts (Route x p i)) (range_with_len 0 n)) routed.mid None b)
-        now routed.channels in
+        now routed.row in
         subst (λ (n : ℕ). Routed x a c p n) then (record {
           mid = routed.mid;
           ports = routed.ports;
-          channels = loop_more (λ i. Attempts (Route x p i)) v routed.mid b c None done (step within);
+          row = loop_more (λ i. Attempts (Route x p i)) v routed.mid b c None done (step within);
         })
     | inr past ↦
         let same : sum a.channels - (sum a.channels - v) ≡ sum a.channels - (sum a.channels - suc v) = omega arith in
@@ -112,8 +112,8 @@ module _ (x : ℕ) (a : NetState) where
         ports =
             loop_more (RoutesPortBy Attempts x) p a routed.mid b None routed.ports
             (does_ranged (λ s. map (Route x p) (all_channels s)) (Route x p) (sum routed.mid.channels) n routed.mid b
-            refl same routed.channels);
-        channels = does_nothing b;
+            refl same routed.row);
+        row = does_nothing b;
       }
 
   place_done : (b c : NetState) (n : ℕ) → sum a.channels ≤ 8 → Passed x a b n
@@ -146,7 +146,7 @@ module _ (x : ℕ) (a : NetState) where
             let none : 0 ≡ sum a.channels - (sum a.channels - v) = omega arith in
             let first : 0 ≡ p = omega arith in
             subst (λ (n : ℕ). Routed x a a p n) none (subst (λ (p : ℕ). Routed x a a p 0) first
-            (record { mid = a; ports = does_nothing a; channels = does_nothing a }));
+            (record { mid = a; ports = does_nothing a; row = does_nothing a }));
       })
       (λ n past p v is p_few v_few. false_from_ne_true (has set p v)
       (λ on. let place = unrouted.outside p v p_few v_few on in omega (arith, size.0, place.0)))
@@ -224,7 +224,7 @@ module _ (x : ℕ) (a : NetState) where
         let routed = passed.to (2 * length a.mesh + 1) 0 (omega arith) (omega arith) in
         let zero_is : sum a.channels - (sum a.channels - 0) ≡ 0 = omega arith in
         let same = subst (λ (n : ℕ). Does (Each (λ i. Attempts (Route x (2 * length a.mesh + 1) i))
-        (range_with_len 0 n)) routed.mid None b) zero_is routed.channels in
+        (range_with_len 0 n)) routed.mid None b) zero_is routed.row in
         does_for all_ports (RoutesPortBy Attempts x) (2 * length a.mesh + 1) (2 * length a.mesh + 1) a b None refl
         refl (subst (λ (s : NetState). Does (Each (RoutesPortBy Attempts x) (range_with_len 0 (2 * length a.mesh + 1)))
         a None s) (sym same.exact.1) routed.ports)

@@ -17,7 +17,7 @@ use Rattle.worm_region.specs.State.{NetState, IsFramed, shape, network_of}
 abbrev pub LeadsOn : Shape → Network → ℕ → ℕ → ℕ → InRecord → Type 0
 LeadsOn s net x p v Idle = Unit {0}
 LeadsOn s net x p v (Waiting o) = IsPort s x o
-LeadsOn s net x p v (Active o c) = IsPort s x o × (c < s.channels) × (net.holder x o c ≡ Some (p, v))
+LeadsOn s net x p v (Active o c) = IsPort s x o × (c < s.vcs) × (net.holder x o c ≡ Some (p, v))
 
 -- a flit in a buffer: its destination is there, and so is the port
 pub record IsKept (s : Shape) (x p : ℕ) (f : Flit) : Type 0 where
@@ -27,7 +27,7 @@ pub record IsKept (s : Shape) (x p : ℕ) (f : Flit) : Type 0 where
 -- a flit that left a buffer: its destination and its channel are there
 pub record IsSent (s : Shape) (f : Flit) : Type 0 where
   pub goal : f.lane.dst < s.nodes
-  pub channel : f.vc < s.channels
+  pub channel : f.vc < s.vcs
 
 -- a flit that a source has yet to feed
 abbrev pub IsBound : Shape → Flit → Type 0
@@ -37,13 +37,13 @@ IsBound s f = f.lane.dst < s.nodes
 -- on the link or in the buffer, a credit owed or a credit on its way back. Of a link of which one end is elsewhere
 -- nothing is said.
 abbrev pub OwnCreditsAdd : Shape → (ℕ → Bool) → Network → Type 0
-OwnCreditsAdd s own net = (y o x v : ℕ) → v < s.channels → s.neighbour y o ≡ Some x → own y ≡ true → own x ≡ true →
+OwnCreditsAdd s own net = (y o x v : ℕ) → v < s.vcs → s.neighbour y o ≡ Some x → own y ≡ true → own x ≡ true →
     net.credits y o v + length (on_channel v (net.out y o)) + length (net.buffer x (s.opposite o) v)
     + net.owed x (s.opposite o) v + count_by (λ c. v == c) (net.credit_list y o) ≡ s.depth
 
 -- an output channel of a link has no more credits than its buffer has places
 abbrev pub CreditsFit : Shape → Network → Type 0
-CreditsFit s net = (x o y c : ℕ) → s.neighbour x o ≡ Some y → c < s.channels → net.credits x o c ≤ s.depth
+CreditsFit s net = (x o y c : ℕ) → s.neighbour x o ≡ Some y → c < s.vcs → net.credits x o c ≤ s.depth
 
 -- a port's links, if it has any, have both ends among the nodes that are owned
 abbrev pub EndsWithin : Shape → (ℕ → Bool) → ℕ → ℕ → Type 0

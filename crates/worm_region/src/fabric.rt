@@ -229,7 +229,7 @@ impl Fabric {
     }
 
     /// The number of channels of a port.
-    pub fn channels(&self) -> u8
+    pub fn vcs(&self) -> u8
         ensures { result ≡ sum self.now.channels }
     {
         self.classes.total()

@@ -295,7 +295,7 @@ impl Region {
     fn grant(&mut self, node: u8, port: u8, vc: u8, out_vc: u8) -> Result<Moved, StepFault>
         ensures { Replies self.old (Event.Grant node port vc out_vc) result self.new }
     {
-        if !self.fabric.has_place(node, port, vc) || out_vc >= self.fabric.channels() {
+        if !self.fabric.has_place(node, port, vc) || out_vc >= self.fabric.vcs() {
             return Err(StepFault::NoSuchPlace);
         }
         Ok(moved(self.fabric.router_mut(node).grant(port, vc, out_vc)))
@@ -359,7 +359,7 @@ impl Region {
         requires { self.old.own ≡ sole }
         ensures { Replies self.old (Event.GiveCredit node port vc) result self.new }
     {
-        if !self.fabric.has_link(node, port) || vc >= self.fabric.channels() {
+        if !self.fabric.has_link(node, port) || vc >= self.fabric.vcs() {
             return Err(StepFault::NoSuchPlace);
         }
         if self.fabric.node(node).router.owed_count(port, vc) == 0 {

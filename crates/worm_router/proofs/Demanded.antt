@@ -143,12 +143,12 @@ module _ (r : RouterState) (out vc o : ℕ) (had u : OutRecord) (output : IsOutp
 
 -- ---- a new router
 
-pub demand_fresh : (r : RouterState) (count ports channels : ℕ) (d : DemandView)
+pub demand_fresh : (r : RouterState) (count ports vcs : ℕ) (d : DemandView)
     → r.inputs ≡ replicate count (fresh_channel r.depth) → r.outputs ≡ replicate count (free_output r.depth)
-    → ports ≡ terminal r + 1 → channels ≡ width r
-    → d.requests ≡ replicate 7 (replicate 8 None) → PutsRows false (λ port channel. true) channels ports d.free
+    → ports ≡ terminal r + 1 → vcs ≡ width r
+    → d.requests ≡ replicate 7 (replicate 8 None) → PutsRows false (λ port channel. true) vcs ports d.free
     → IsDemandOf r d
-demand_fresh r count ports channels d inputs outputs all all' none free = record {
+demand_fresh r count ports vcs d inputs outputs all all' none free = record {
   requests = none ∙ same_tables None (replicate 7 (replicate 8 None)) (requests r) (IsTable-replicate None)
       (IsTable-table (within r None (request_at r))) (λ p v p_in v_in.
       cell-replicate 7 8 p v None ∙ sym (cell_has (λ q. q ≡ None) r None (request_at r) p v refl (λ place.

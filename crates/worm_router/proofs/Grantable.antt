@@ -53,7 +53,7 @@ pub record IsGrantable (r : RouterState) (grants : List (List (Option ℕ))) : T
 pub grantable : (r : RouterState) (sets : BusyChannels) (asked : DemandView) (masks routes : List ℕ)
     (waiting : List (List (Option VcRequest))) (free : List (List Bool)) (grants : List (List (Option ℕ)))
     → IsKept r sets asked masks routes → waiting ≡ asked.requests → free ≡ asked.free
-    → IsChannelMatching r.channel_alloc.ports r.channel_alloc.channels waiting free grants → IsGrantable r grants
+    → IsChannelMatching r.channel_alloc.ports r.channel_alloc.vcs waiting free grants → IsGrantable r grants
 grantable r sets asked masks routes waiting free grants kept is is' matching = record {
   few_ports = kept.busy.few_ports;
   few = kept.busy.few_channels;
@@ -62,8 +62,8 @@ grantable r sets asked masks routes waiting free grants kept is is' matching = r
   matching =
       subst (λ t. IsChannelMatching (terminal r + 1) (width r) (requests r) t grants) (is' ∙ kept.demand.free)
       (subst (λ t. IsChannelMatching (terminal r + 1) (width r) t free grants) (is ∙ kept.demand.requests)
-      (subst (λ n. IsChannelMatching (terminal r + 1) n waiting free grants) kept.router.allocators.channel_channels
-      (subst (λ n. IsChannelMatching n r.channel_alloc.channels waiting free grants)
+      (subst (λ n. IsChannelMatching (terminal r + 1) n waiting free grants) kept.router.allocators.channel_vcs
+      (subst (λ n. IsChannelMatching n r.channel_alloc.vcs waiting free grants)
       kept.router.allocators.channel_ports matching)));
 }
 

@@ -443,7 +443,7 @@ pub passed_by : (r s new : RouterState) (sets : BusyChannels) (asked : DemandVie
     → r ≡ s → IsKept r sets asked masks routes → waiting ≡ asked.requests → free ≡ asked.free
     → record { alloc = a; grants = grants }
     ≡ vc_pass waiting free (record { alloc = r.channel_alloc; grants = replicate 7 (replicate 8 None) })
-    → IsChannelMatching r.channel_alloc.ports r.channel_alloc.channels waiting free grants
+    → IsChannelMatching r.channel_alloc.ports r.channel_alloc.vcs waiting free grants
     → AreWritten (record r { channel_alloc = a }) new grants left → left ≡ 0 → IsPassed s new grants
 passed_by r s new sets asked masks routes waiting free a grants left same kept is is' pass matching so none =
     let given = grantable r sets asked masks routes waiting free grants kept is is' matching in

@@ -32,8 +32,8 @@ offered_to_none : (waiting : List (List (Option VcRequest))) (pass : VcPass) (ou
     → ((p v : ℕ) → may_use (cell waiting p v None) out channel ≡ false) → offered waiting pass out channel ≡ pass
 offered_to_none waiting pass out channel none =
     offered_in_vain waiting pass out channel (no_winner (cell pass.alloc.arbiters out channel no_arbiter) _ (λ line.
-    ap (λ (b : Bool). b && is_none (cell pass.grants (line / pass.alloc.channels) (line % pass.alloc.channels) None))
-    (none (line / pass.alloc.channels) (line % pass.alloc.channels))))
+    ap (λ (b : Bool). b && is_none (cell pass.grants (line / pass.alloc.vcs) (line % pass.alloc.vcs) None))
+    (none (line / pass.alloc.vcs) (line % pass.alloc.vcs))))
 
 step_same : (waiting : List (List (Option VcRequest))) (free : List (List Bool)) → GrantsNothing waiting free
     → (pass : VcPass) (out channel : ℕ) → vc_step waiting free out pass channel ≡ pass
@@ -47,7 +47,7 @@ port_same : (waiting : List (List (Option VcRequest))) (free : List (List Bool))
     → (pass : VcPass) (out : ℕ) → port_pass waiting free pass out ≡ pass
 unfolding port_pass
 port_same waiting free nobody pass out =
-    fold_same (vc_step waiting free out) pass (range_with_len 0 pass.alloc.channels)
+    fold_same (vc_step waiting free out) pass (range_with_len 0 pass.alloc.vcs)
     (step_same waiting free nobody pass out)
 
 pass_same : (waiting : List (List (Option VcRequest))) (free : List (List Bool)) → GrantsNothing waiting free
@@ -87,9 +87,9 @@ idle_allocate r nobody =
     ap (λ (p : VcPass). with_grants p.grants (record r { channel_alloc = p.alloc })) (idle_pass r nobody)
     ∙ ungranted no_grants none_granted r
 
-idle_matching : (ports channels : ℕ) (waiting : List (List (Option VcRequest))) (free : List (List Bool))
-    → GrantsNothing waiting free → IsChannelMatching ports channels waiting free no_grants
-idle_matching ports channels waiting free nobody = record {
+idle_matching : (ports vcs : ℕ) (waiting : List (List (Option VcRequest))) (free : List (List Bool))
+    → GrantsNothing waiting free → IsChannelMatching ports vcs waiting free no_grants
+idle_matching ports vcs waiting free nobody = record {
   requested = λ port vc channel is. let no : None ≡ Some channel = sym (none_granted port vc) ∙ is in absurd (cc);
   once = λ port vc port' vc' out channel one two. let no : None ≡ Some channel =
       sym (none_granted port vc) ∙ one.granted in absurd (cc);

@@ -43,11 +43,11 @@ module _ {s : RouterState} (r : RouterState) {occupied waiting active : ℕ} (sa
   unrouted_set over left first then = record {
     inside = λ p v p_in v_in.
         let ports = subst (λ (r : RouterState). terminal r ≤ 6) same few_ports in
-        let channels = subst (λ (r : RouterState). width r ≤ 8) same few_channels in
+        let vcs = subst (λ (r : RouterState). width r ≤ 8) same few_channels in
         let flit = has_flit.inside p v p_in v_in in
         let waits_here = waits_in.inside p v p_in v_in in
         let holds_here = holds_in.inside p v p_in v_in in
-        is_left p v (omega (arith, p_in, ports)) (omega (arith, v_in, channels))
+        is_left p v (omega (arith, p_in, ports)) (omega (arith, v_in, vcs))
         ∙ (λ t. ((flit t) && not (waits_here t)) && not (holds_here t))
         ∙ idle_left (input_at r p v).state (is_occupied (input_at r p v));
     outside = λ p v p_few v_few on. has_flit.outside p v p_few v_few

@@ -89,19 +89,19 @@ with_output r out vc o = record r { outputs = slice_set r.outputs (line r out vc
 
 -- allocators whose pointers stand at the first line
 abbrev pub fresh_vc_alloc : ℕ → ℕ → VcAllocState
-fresh_vc_alloc ports channels =
+fresh_vc_alloc ports vcs =
     record {
       ports = ports;
-      channels = channels;
-      arbiters = replicate 7 (replicate 8 (record { width = ports * channels; pointer = 0 }));
+      vcs = vcs;
+      arbiters = replicate 7 (replicate 8 (record { width = ports * vcs; pointer = 0 }));
     }
 
 abbrev pub fresh_sw_alloc : ℕ → ℕ → SwAllocState
-fresh_sw_alloc ports channels =
+fresh_sw_alloc ports vcs =
     record {
       ports = ports;
-      channels = channels;
-      inputs = replicate 7 (record { width = channels; pointer = 0 });
+      vcs = vcs;
+      inputs = replicate 7 (record { width = vcs; pointer = 0 });
       outputs = replicate 7 (record { width = ports; pointer = 0 });
     }
 
@@ -264,12 +264,12 @@ pub record HasLists (mesh : List ℕ) (node : ℕ) (channels : List ℕ) (depth 
       → (slice_index_or outputs (2 * length mesh * sum channels + vc) (free_output depth)).credits ≡ depth
 
 -- the allocators are for so many ports and channels
-pub record HasAllocators (ports channels : ℕ) (channel_alloc : VcAllocState)
+pub record HasAllocators (ports vcs : ℕ) (channel_alloc : VcAllocState)
     (switch_alloc : SwAllocState) : Type 0 where
   pub channel_ports : channel_alloc.ports ≡ ports
-  pub channel_channels : channel_alloc.channels ≡ channels
+  pub channel_vcs : channel_alloc.vcs ≡ vcs
   pub switch_ports : switch_alloc.ports ≡ ports
-  pub switch_channels : switch_alloc.channels ≡ channels
+  pub switch_vcs : switch_alloc.vcs ≡ vcs
 
 pub record IsRouter (r : RouterState) : Type 0 where
   pub lists : HasLists r.mesh r.node r.channels r.depth r.inputs r.outputs

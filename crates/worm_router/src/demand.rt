@@ -32,41 +32,41 @@ impl Model for Demand {
 }
 
 /// Marks the channels of an output port as free.
-fn free_port(free: &mut FreeChannels, port: u8, channels: u8)
+fn free_port(free: &mut FreeChannels, port: u8, vcs: u8)
     requires port { port < 7 }
-    requires channels { channels ≤ 8 }
+    requires vcs { vcs ≤ 8 }
     requires shape { IsTable free.old }
-    ensures { PutsRow false (λ channel. true) channels port free.old free.new }
+    ensures { PutsRow false (λ channel. true) vcs port free.old free.new }
 {
-    for channel in 0..channels {
+    for channel in 0..vcs {
         free[usize::from(port)][usize::from(channel)] = true;
     }
 }
 
 /// The channels of so many ports, all free.
-fn all_free(ports: u8, channels: u8) -> FreeChannels
+fn all_free(ports: u8, vcs: u8) -> FreeChannels
     requires ports { ports ≤ 7 }
-    requires channels { channels ≤ 8 }
-    ensures { PutsRows false (λ port channel. true) channels ports result }
+    requires vcs { vcs ≤ 8 }
+    ensures { PutsRows false (λ port channel. true) vcs ports result }
 {
     let mut free = [[false; 8]; 7];
     for port in 0..ports {
-        free_port(&mut free, port, channels);
+        free_port(&mut free, port, vcs);
     }
     free
 }
 
 impl Demand {
     /// No request, and all channels of so many ports free.
-    pub fn new(ports: u8, channels: u8) -> Demand
+    pub fn new(ports: u8, vcs: u8) -> Demand
         requires ports { ports ≤ 7 }
-        requires channels { channels ≤ 8 }
+        requires vcs { vcs ≤ 8 }
         ensures requests { result.requests ≡ replicate 7 (replicate 8 None) }
-        ensures free { PutsRows false (λ port channel. true) channels ports result.free }
+        ensures free { PutsRows false (λ port channel. true) vcs ports result.free }
     {
         Demand {
             requests: VcRequests::new(),
-            free: all_free(ports, channels),
+            free: all_free(ports, vcs),
             grants_nothing: true,
         }
     }

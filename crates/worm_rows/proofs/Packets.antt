@@ -81,7 +81,7 @@ buffer_takes s fields place e =
     let a = took_below (node_count s.mesh) fields _ place e in
     let b = took_below 256 a.rest _ place a.next in
     let t = took_test (has_buffer s.mesh a.n b.n) Range (b.n, b.rest) _ place b.next in
-    let c = took_below s.channels b.rest _ place t.1 in
+    let c = took_below s.vcs b.rest _ place t.1 in
     let o = took_all c.rest _ place c.next in
     let f = spot_chain fields a.rest b.rest c.rest a.n b.n c.n a.fields-are b.fields-are c.fields-are o.0 in
     subst (λ (q : Place). (codes "buffer" ∷ fields ≡ place_fields q) × HasPlace s q)
@@ -97,7 +97,7 @@ link_takes s fields place e =
     let a = took_below (node_count s.mesh) fields _ place e in
     let b = took_below 256 a.rest _ place a.next in
     let t = took_test (has_neighbour s.mesh a.n b.n) Range (b.n, b.rest) _ place b.next in
-    let c = took_below s.channels b.rest _ place t.1 in
+    let c = took_below s.vcs b.rest _ place t.1 in
     let o = took_all c.rest _ place c.next in
     let f = spot_chain fields a.rest b.rest c.rest a.n b.n c.n a.fields-are b.fields-are c.fields-are o.0 in
     subst (λ (q : Place). (codes "link" ∷ fields ≡ place_fields q) × HasPlace s q)
@@ -130,12 +130,12 @@ buffer_again : (s : Shape) (node port vc : ℕ) → HasPlace s (Buffer node port
 unfolding buffer_at
 buffer_again s node port vc h =
     let nodes : node_count s.mesh ≤ 4294967296 = omega (arith, s.few_nodes) in
-    let channels : s.channels ≤ 4294967296 = omega (arith, s.few_channels) in
+    let vcs : s.vcs ≤ 4294967296 = omega (arith, s.few_channels) in
     rw (
       below_again (node_count s.mesh) node (decimal port ∷ decimal vc ∷ []) h.0.in_mesh nodes,
       below_again 256 port (decimal vc ∷ []) h.0.small (lit≤ tt),
       h.1,
-      below_again s.channels vc [] h.0.channel channels,
+      below_again s.vcs vc [] h.0.channel vcs,
     ) refl
 
 link_again : (s : Shape) (node port vc : ℕ) → HasPlace s (Link node port vc)
@@ -143,12 +143,12 @@ link_again : (s : Shape) (node port vc : ℕ) → HasPlace s (Link node port vc)
 unfolding link_at
 link_again s node port vc h =
     let nodes : node_count s.mesh ≤ 4294967296 = omega (arith, s.few_nodes) in
-    let channels : s.channels ≤ 4294967296 = omega (arith, s.few_channels) in
+    let vcs : s.vcs ≤ 4294967296 = omega (arith, s.few_channels) in
     rw (
       below_again (node_count s.mesh) node (decimal port ∷ decimal vc ∷ []) h.0.in_mesh nodes,
       below_again 256 port (decimal vc ∷ []) h.0.small (lit≤ tt),
       h.1,
-      below_again s.channels vc [] h.0.channel channels,
+      below_again s.vcs vc [] h.0.channel vcs,
     ) refl
 
 pub place_again : (s : Shape) (place : Place) → HasPlace s place → place_at s (place_fields place) ≡ fine place

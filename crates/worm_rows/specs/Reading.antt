@@ -56,7 +56,7 @@ buffer_at s fields = do
   node ← below_at (node_count s.mesh) fields
   port ← below_at 256 node.1
   _ ← checked (has_buffer s.mesh node.0 port.0) Range port
-  vc ← below_at s.channels port.1
+  vc ← below_at s.vcs port.1
   _ ← no_more vc.1
   Ok (Buffer node.0 port.0 vc.0)
 
@@ -65,7 +65,7 @@ link_at s fields = do
   node ← below_at (node_count s.mesh) fields
   port ← below_at 256 node.1
   _ ← checked (has_neighbour s.mesh node.0 port.0) Range port
-  vc ← below_at s.channels port.1
+  vc ← below_at s.vcs port.1
   _ ← no_more vc.1
   Ok (Link node.0 port.0 vc.0)
 

@@ -36,7 +36,7 @@ has_buffer mesh node port = (port == 2 * length mesh) || has_neighbour mesh node
 pub record IsSpot (s : Shape) (node port vc : ℕ) : Type 0 where
   pub in_mesh : node < node_count s.mesh
   pub small : port < 256
-  pub channel : vc < s.channels
+  pub channel : vc < s.vcs
 
 -- a place that the network has
 abbrev pub HasPlace : Shape → Place → Type 0

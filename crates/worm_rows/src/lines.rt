@@ -62,7 +62,7 @@ fn buffer(shape: &Shape, fields: &mut Fields<'_>) -> Result<Place, Why>
     if !has_buffer(shape, node, port) {
         return Err(Why::Range);
     }
-    let vc = below(fields, u32::from(shape.channels))? as u8;
+    let vc = below(fields, u32::from(shape.vcs))? as u8;
     fields.end()?;
     Ok(Place::Buffer { node, port, vc })
 }
@@ -77,7 +77,7 @@ fn link(shape: &Shape, fields: &mut Fields<'_>) -> Result<Place, Why>
     if !has_link(shape, node, port) {
         return Err(Why::Range);
     }
-    let vc = below(fields, u32::from(shape.channels))? as u8;
+    let vc = below(fields, u32::from(shape.vcs))? as u8;
     fields.end()?;
     Ok(Place::Link { node, port, vc })
 }

@@ -14,10 +14,10 @@ pub struct Shape {
     /// The classes, 1 to 4.
     pub classes: u8,
     /// The channels of all classes on every link, 1 to 8.
-    pub channels: u8,
+    pub vcs: u8,
     pub ghost few_nodes: { node_count mesh ≤ 256 },
     pub ghost few_classes: { classes ≤ 4 },
-    pub ghost few_channels: { channels ≤ 8 },
+    pub ghost few_channels: { vcs ≤ 8 },
 }
 
 /// How many channels all classes own.
@@ -38,7 +38,7 @@ impl Shape {
         requires { (f : Format) × Keeps f (view config.now) }
         ensures mesh { result.mesh ≡ config.now.radices.items }
         ensures classes { result.classes ≡ length config.now.classes.items }
-        ensures channels { result.channels ≡ sum config.now.channels.items }
+        ensures vcs { result.vcs ≡ sum config.now.channels.items }
     {
         let mesh = match Mesh::new(config.radices.as_slice()) {
             Ok(mesh) => mesh,
@@ -48,7 +48,7 @@ impl Shape {
         Shape {
             mesh,
             classes: config.classes.len() as u8,
-            channels: total(config.channels.as_slice()),
+            vcs: total(config.channels.as_slice()),
         }
     }
 }

@@ -7,7 +7,7 @@ use worm_core::{Act, Config, Entry, Name};
 use worm_flit::{Lane, Packet};
 
 /// A configuration with these radices and depth, and one class of so many channels.
-pub fn config(radices: &[u8], depth: u8, channels: u8) -> Config {
+pub fn config(radices: &[u8], depth: u8, vcs: u8) -> Config {
     let mut config = Config {
         radices: ArrayVec::new(),
         depth,
@@ -17,7 +17,7 @@ pub fn config(radices: &[u8], depth: u8, channels: u8) -> Config {
     for radix in radices {
         let _ = config.radices.try_push(*radix);
     }
-    let _ = config.channels.try_push(channels);
+    let _ = config.channels.try_push(vcs);
     let _ = config.classes.try_push(Name::new());
     config
 }

@@ -65,8 +65,8 @@ impl<R: Abort + AllocGlobal + Copy> Trial<R> {
     }
 
     /// A network with these radices and depth, and one class of so many channels, with a script of no entry.
-    pub fn new(rt: R, radices: &[u8], depth: u8, channels: u8) -> Trial<R> {
-        let made = Net::new(rt.alloc(), &config(radices, depth, channels));
+    pub fn new(rt: R, radices: &[u8], depth: u8, vcs: u8) -> Trial<R> {
+        let made = Net::new(rt.alloc(), &config(radices, depth, vcs));
         Trial::of(rt, made.expect(&rt, "a network"))
     }
 

@@ -58,7 +58,7 @@ none_elsewhere ks counts depth net lane mesh there sound =
       links = links;
       sinks = sinks;
       sources = sources;
-      channels = channels;
+      buffer_channels = buffer_channels;
       link_channels = link_channels;
     }
   where
@@ -112,8 +112,9 @@ none_elsewhere ks counts depth net lane mesh there sound =
         (λ f h own. off (sym (ap (λ (m : Lane). m.src) own ∙ h.own))
         (sym (ap (λ (m : Lane). m.class) own ∙ h.own_class)))
 
-    channels : (x p v : ℕ) → (Owns (shape_of ks counts depth) lane.class v → ⊥) → held lane (net.buffer x p v) ≡ []
-    channels x p v off = none_held lane (InBuffer (shape_of ks counts depth) x p v) (net.buffer x p v)
+    buffer_channels : (x p v : ℕ) → (Owns (shape_of ks counts depth) lane.class v → ⊥)
+        → held lane (net.buffer x p v) ≡ []
+    buffer_channels x p v off = none_held lane (InBuffer (shape_of ks counts depth) x p v) (net.buffer x p v)
         (sound.buffered x p v)
         (λ f h own. off (subst (λ m. Owns (shape_of ks counts depth) m.class v) (sym own) h.1.owned))
 

@@ -77,7 +77,7 @@ pub record NoneElsewhere (ks : List ℕ) (s : Shape) (net : Network) (lane : Lan
       → held lane (net.out x o) ≡ []
   pub sinks : (x : ℕ) → x ≢ lane.dst → held lane (net.out x s.terminal) ≡ []
   pub sources : (x class : ℕ) → (x ≡ lane.src → class ≡ lane.class → ⊥) → held lane (net.unfed x class) ≡ []
-  pub channels : (x p v : ℕ) → (Owns s lane.class v → ⊥) → held lane (net.buffer x p v) ≡ []
+  pub buffer_channels : (x p v : ℕ) → (Owns s lane.class v → ⊥) → held lane (net.buffer x p v) ≡ []
   pub link_channels : (x o v : ℕ) → (Owns s lane.class v → ⊥) → held lane (on_channel v (net.out x o)) ≡ []
 
 abbrev pub LanesAreNowhereElse : List ℕ → Shape → Network → Type 0

@@ -10,7 +10,7 @@ abbrev pub shape_of : List ℕ → List ℕ → ℕ → Shape
 shape_of ks counts depth = record {
   nodes = node_count ks;
   classes = length counts;
-  channels = sum counts;
+  vcs = sum counts;
   depth = depth;
   terminal = 2 * length ks;
   neighbour = neighbour_of ks;

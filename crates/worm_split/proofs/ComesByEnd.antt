@@ -61,7 +61,7 @@ pub record IsReturned (out : OutletView) (r : Returned) (new : OutletView) : Typ
   pub back : CreditsIn
   pub is : out ≡ Over tx back
   pub new_is : new ≡ Over tx (record back { taken = back.taken ++ r ∷ [] })
-  pub channel : r.vc < back.bundle.channels
+  pub channel : r.vc < back.bundle.vcs
 
 pub credit_taken_by : (out new : OutletView) (r : Returned) → CreditTaken out r new → IsReturned out r new
 credit_taken_by Within new r h = absurd h
@@ -111,9 +111,9 @@ module _ (p : PartState) (part : IsPart p) (framed : IsFramed p.net) (q : ℕ) (
 
   pub flit_channel : c.flit.vc < sum p.net.channels
   flit_channel =
-      let channels : by.rx.bundle.channels ≡ sum p.net.channels =
+      let vcs : by.rx.bundle.vcs ≡ sum p.net.channels =
       facts.link.same_channels ∙ ap (λ (counts : List ℕ). sum counts) (sym part.config.channels) in
-      subst (λ (n : ℕ). c.flit.vc < n) channels by.crossing.channel
+      subst (λ (n : ℕ). c.flit.vc < n) vcs by.crossing.channel
 
   pub flit_goal : c.flit.lane.dst < node_count p.net.mesh
   flit_goal =
@@ -193,10 +193,10 @@ module _ (p : PartState) (part : IsPart p) (o : ℕ) (r : Returned) (new : Outle
 
   pub credit_channel : r.vc < sum p.net.channels
   credit_channel =
-      let channels : came.back.bundle.channels ≡ sum p.net.channels =
-      ap (λ (l : LinkCfg). l.channels) out_facts.line
+      let vcs : came.back.bundle.vcs ≡ sum p.net.channels =
+      ap (λ (l : LinkCfg). l.vcs) out_facts.line
       ∙ (out_facts.link.same_channels ∙ ap (λ (counts : List ℕ). sum counts) (sym part.config.channels)) in
-      subst (λ (n : ℕ). r.vc < n) channels came.channel
+      subst (λ (n : ℕ). r.vc < n) vcs came.channel
 
   out_puts : PutsEnd p x o out_new (put_outlet p.side o new)
   out_puts =

@@ -285,11 +285,11 @@ module _ {p : PartState} {x q v y : ℕ} (giving : IsGiving p x q v y) where
   pub may_give : MayGive (inlet_at p.side q) v
   may_give =
       let line = entering_facts.line in
-      let channels : from.give.bundle.channels ≡ sum p.net.channels =
-      ap (λ (l : LinkCfg). l.channels) line
+      let vcs : from.give.bundle.vcs ≡ sum p.net.channels =
+      ap (λ (l : LinkCfg). l.vcs) line
       ∙ (entering_facts.link.same_channels
       ∙ ap (λ (counts : List ℕ). sum counts) (sym giving.part.config.channels)) in
-      subst (λ (i : InletView). MayGive i v) (sym from.is) (subst (λ (n : ℕ). v < n) (sym channels) giving.channel)
+      subst (λ (i : InletView). MayGive i v) (sym from.is) (subst (λ (n : ℕ). v < n) (sym vcs) giving.channel)
 
   -- it was given
   pub gave_it : (new : SideView) (net : NetState) → CreditGivenBy p.side q y v true new → LetsGive p.net x q v net

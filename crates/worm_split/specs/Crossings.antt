@@ -41,7 +41,7 @@ FlitTaken (From rx give) c new =
 abbrev pub CreditTaken : OutletView → Returned → OutletView → Type 0
 CreditTaken Within r new = ⊥
 CreditTaken (Over tx back) r new =
-    (new ≡ Over tx (record back { taken = back.taken ++ r ∷ [] })) × (r.vc < back.bundle.channels)
+    (new ≡ Over tx (record back { taken = back.taken ++ r ∷ [] })) × (r.vc < back.bundle.vcs)
 
 -- the flit may be sent over the link that leaves the node: it continues what was sent on its channel, and may cross
 abbrev pub MaySend : OutletView → ℕ → Flit → Type 0
@@ -60,7 +60,7 @@ FlitSent (Over tx back) y f false new = (new ≡ Over tx back) × (bundle_capaci
 -- the credit may be given over the link that leaves the node
 abbrev pub MayGive : InletView → ℕ → Type 0
 MayGive Inside v = Unit {0}
-MayGive (From rx give) v = v < give.bundle.channels
+MayGive (From rx give) v = v < give.bundle.vcs
 
 -- It was given; or it was not, and as many credits were given as a link's buffers hold flits.
 abbrev pub CreditGiven : InletView → ℕ → ℕ → Bool → InletView → Type 0

@@ -53,7 +53,7 @@ pub record IsLinkOf (mesh channels : List ℕ) (y o : ℕ) (link : LinkCfg) : Ty
   pub same_mesh : link.mesh ≡ mesh
   pub same_node : link.node ≡ y
   pub same_port : link.port ≡ o
-  pub same_channels : link.channels ≡ sum channels
+  pub same_channels : link.vcs ≡ sum channels
   pub owners : (v : ℕ) → v < sum channels → slice_get link.owners v ≡ Some (owner_of channels v)
 
 -- what was sent by the end, or else what the worker's own list has; the same of the credits that were given

@@ -146,7 +146,7 @@ line_by mesh workers sides y o = line_to workers sides y o (neighbour_of mesh y 
 pub record IsBundleOf (s : NetState) (o : ℕ) (bundle : BundleCfg) : Type 0 where
   pub same_mesh : bundle.mesh ≡ s.mesh
   pub same_port : bundle.port ≡ o
-  pub same_channels : bundle.channels ≡ sum s.channels
+  pub same_channels : bundle.vcs ≡ sum s.channels
   pub same_depth : bundle.depth ≡ s.depth
   pub owners : (v : ℕ) → v < sum s.channels → slice_get bundle.owners v ≡ Some (owner_of s.channels v)
 

@@ -232,7 +232,7 @@ fn make_sides(
     let cfg = BundleCfg {
         mesh: *mesh,
         port: 0,
-        channels: classes.total(),
+        vcs: classes.total(),
         depth: config.depth,
         owners: owners_of(&classes),
     };

@@ -256,7 +256,7 @@ chosen_pass s requests n now grants b few within wide low none = record {
 -- the output ports that nobody asks for are passed over
 chosen_to : (s : SwAllocState) (requests : List (Option SwGrant)) (askers n k : ℕ) (now : SwAllocState)
     (grants : List (Option SwGrant))
-    → IsSwAlloc s.ports s.channels s.inputs s.outputs → s.ports ≤ length s.outputs → AreAskers requests askers
+    → IsSwAlloc s.ports s.vcs s.inputs s.outputs → s.ports ≤ length s.outputs → AreAskers requests askers
     → n + k ≤ s.ports
     → ((o p : ℕ) → n ≤ o → o < n + k → p < 8 → has askers o p ≡ false)
     → ChosenBelow s requests n now grants → ChosenBelow s requests (n + k) now grants
@@ -291,7 +291,7 @@ choosing_start s requests grants askers few long e =
 
 -- the chosen input port is one of the router's that asks for the output port
 pub chosen_asks : (s : SwAllocState) (requests : List (Option SwGrant)) (out lines : ℕ) (d : ArbiterState) (port : ℕ)
-    → IsSwAlloc s.ports s.channels s.inputs s.outputs → out < s.ports → out < length s.outputs
+    → IsSwAlloc s.ports s.vcs s.inputs s.outputs → out < s.ports → out < length s.outputs
     → ((line : ℕ) → line < s.ports → line_requests lines line ≡ is_for (slice_index_or requests line None) out)
     → Some port ≡ winner (slice_index_or s.outputs out d) (line_requests lines)
     → (port < s.ports) × (is_for (slice_index_or requests port None) out ≡ true)
@@ -307,7 +307,7 @@ chosen_asks s requests out lines d port r lo within same won =
 -- the next output port has chosen
 pub choosing_more : (s : SwAllocState) (requests : List (Option SwGrant)) (askers left left' out : ℕ)
     (now next : SwAllocState) (grants grants' : List (Option SwGrant))
-    → IsSwAlloc s.ports s.channels s.inputs s.outputs → s.ports ≤ length s.inputs → s.ports ≤ length s.outputs
+    → IsSwAlloc s.ports s.vcs s.inputs s.outputs → s.ports ≤ length s.inputs → s.ports ≤ length s.outputs
     → AreAskers requests askers
     → ChoosingBelow s requests askers left now grants → IsFirstPort left left' out → out < s.ports
     → grants' ≡ with_choice grants requests (chosen now requests out)
@@ -335,7 +335,7 @@ choosing_more s requests askers left left' out now next grants grants' r long lo
 -- as far as the last output port
 choosing_end : (s : SwAllocState) (requests : List (Option SwGrant)) (askers n : ℕ) (now : SwAllocState)
     (grants : List (Option SwGrant))
-    → IsSwAlloc s.ports s.channels s.inputs s.outputs → s.ports ≤ length s.outputs → AreAskers requests askers
+    → IsSwAlloc s.ports s.vcs s.inputs s.outputs → s.ports ≤ length s.outputs → AreAskers requests askers
     → n ≤ s.ports
     → ((o p : ℕ) → n ≤ o → o < s.ports → p < 8 → has askers o p ≡ false)
     → ChosenBelow s requests n now grants → ChosenBelow s requests s.ports now grants
@@ -348,7 +348,7 @@ choosing_end s requests askers n now grants r long are few none b =
 -- all have chosen
 pub choosing_all : (s : SwAllocState) (requests : List (Option SwGrant)) (askers left : ℕ) (now : SwAllocState)
     (grants : List (Option SwGrant))
-    → IsSwAlloc s.ports s.channels s.inputs s.outputs → s.ports ≤ length s.outputs → AreAskers requests askers
+    → IsSwAlloc s.ports s.vcs s.inputs s.outputs → s.ports ≤ length s.outputs → AreAskers requests askers
     → ChoosingBelow s requests askers left now grants → left ≡ 0 → ChosenBelow s requests s.ports now grants
 choosing_all s requests askers left now grants r long are b e =
     choosing_end s requests askers b.next now grants r long are b.walked.few

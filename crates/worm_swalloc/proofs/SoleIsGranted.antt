@@ -16,7 +16,7 @@ use Rattle.worm_swalloc.proofs.ChoicesByPort.{ChosenBelow, chosen_none, chosen_m
 -- what the ports name
 
 module _ (s : SwAllocState) (ready : List (List (Option ℕ))) (port : ℕ) (request : Option SwGrant)
-    (r : IsSwAlloc s.ports s.channels s.inputs s.outputs) (within : port < s.ports) (sole : IsSolePort ready port)
+    (r : IsSwAlloc s.ports s.vcs s.inputs s.outputs) (within : port < s.ports) (sole : IsSolePort ready port)
     (e : request ≡ named s ready port) where
   others : (i : ℕ) → i < s.ports → ((i ≡ port) → ⊥) → named s ready i ≡ slice_index_or (replicate 7 None) i None
   others i l other =
@@ -36,10 +36,10 @@ module _ (s : SwAllocState) (ready : List (List (Option ℕ))) (port : ℕ) (req
       (λ i l l'. others i l' (λ same. omega arith))
 
   -- a channel of the router
-  pub sole_within : IfSome request (λ g. g.vc < s.channels)
+  pub sole_within : IfSome request (λ g. g.vc < s.vcs)
   sole_within =
       let few = r.few_ports in
-      subst (λ (o : Option SwGrant). IfSome o (λ g. g.vc < s.channels)) (sole_here port request (omega arith))
+      subst (λ (o : Option SwGrant). IfSome o (λ g. g.vc < s.vcs)) (sole_here port request (omega arith))
       (named_within s ready (sole_named port request) r sole_is_all port)
 
 -- nobody asks for an output port but the sole one
@@ -53,7 +53,7 @@ quiet port p out o within none = elim (cases_eq p port) [
 
 -- output ports that nobody asks for are passed over
 quiet_to : (s : SwAllocState) (requests : List (Option SwGrant)) (n k : ℕ) (now : SwAllocState)
-    (grants : List (Option SwGrant)) → IsSwAlloc s.ports s.channels s.inputs s.outputs → s.ports ≤ length s.outputs
+    (grants : List (Option SwGrant)) → IsSwAlloc s.ports s.vcs s.inputs s.outputs → s.ports ≤ length s.outputs
     → n + k ≤ s.ports
     → ((o p : ℕ) → n ≤ o → o < n + k → is_for (slice_index_or requests p None) o ≡ false)
     → ChosenBelow s requests n now grants → ChosenBelow s requests (n + k) now grants
@@ -73,7 +73,7 @@ quiet_to s requests n (suc k) now grants r long within none b =
     (λ port l. none (n + k) port (omega arith) (omega arith))))
 
 quiet_on : (s : SwAllocState) (requests : List (Option SwGrant)) (n m : ℕ) (now : SwAllocState)
-    (grants : List (Option SwGrant)) → IsSwAlloc s.ports s.channels s.inputs s.outputs → s.ports ≤ length s.outputs
+    (grants : List (Option SwGrant)) → IsSwAlloc s.ports s.vcs s.inputs s.outputs → s.ports ≤ length s.outputs
     → n ≤ m → m ≤ s.ports
     → ((o p : ℕ) → n ≤ o → o < m → is_for (slice_index_or requests p None) o ≡ false)
     → ChosenBelow s requests n now grants → ChosenBelow s requests m now grants
@@ -91,7 +91,7 @@ asks_past request g ports out e past within = ap (λ o. is_for o out) e ∙ ne_e
 
 -- no output port chooses where the sole request is for none of the router's
 pub sole_none : (s : SwAllocState) (port : ℕ) (o : Option SwGrant) (grants : List (Option SwGrant))
-    → IsSwAlloc s.ports s.channels s.inputs s.outputs → s.ports ≤ length s.inputs → s.ports ≤ length s.outputs
+    → IsSwAlloc s.ports s.vcs s.inputs s.outputs → s.ports ≤ length s.inputs → s.ports ≤ length s.outputs
     → port < s.ports
     → ((out : ℕ) → out < s.ports → is_for o out ≡ false) → grants ≡ replicate 7 None
     → ChosenBelow s (sole_named port o) s.ports s grants
@@ -102,7 +102,7 @@ sole_none s port o grants r long long' within none e =
     (chosen_none s (sole_named port o) grants few long e)
 
 -- the output port that it is for chooses the sole one
-sole_chosen : (s : SwAllocState) (port : ℕ) (g : SwGrant) → IsSwAlloc s.ports s.channels s.inputs s.outputs
+sole_chosen : (s : SwAllocState) (port : ℕ) (g : SwGrant) → IsSwAlloc s.ports s.vcs s.inputs s.outputs
     → port < s.ports → g.out < s.ports → (w : Option ℕ) → chosen s (sole_named port (Some g)) g.out ≡ w → w ≡ Some port
 sole_chosen s port g r within out_in w e =
     let few = r.few_ports in
@@ -130,7 +130,7 @@ sole_chosen s port g r within out_in w e =
 
 -- and the sole request is granted
 pub sole_granted : (s next : SwAllocState) (port : ℕ) (g : SwGrant) (grants grants' : List (Option SwGrant))
-    → IsSwAlloc s.ports s.channels s.inputs s.outputs → s.ports ≤ length s.inputs → s.ports ≤ length s.outputs
+    → IsSwAlloc s.ports s.vcs s.inputs s.outputs → s.ports ≤ length s.inputs → s.ports ≤ length s.outputs
     → port < s.ports → g.out < s.ports
     → grants ≡ replicate 7 None → grants' ≡ slice_set grants port (Some g)
     → next ≡ record s {

@@ -37,19 +37,19 @@ winner_of_lines a width lines asks wide low same =
 
 -- the channel that an input arbiter names, from the lines that the code gathers
 pub named_is : (s : SwAllocState) (ready : List (List (Option ℕ))) (port lines : ℕ) (d : ArbiterState) (w : Option ℕ)
-    → IsSwAlloc s.ports s.channels s.inputs s.outputs → port < s.ports → port < length s.inputs
-    → ((line : ℕ) → line < s.channels → line_requests lines line ≡ is_some (cell ready port line None))
+    → IsSwAlloc s.ports s.vcs s.inputs s.outputs → port < s.ports → port < length s.inputs
+    → ((line : ℕ) → line < s.vcs → line_requests lines line ≡ is_some (cell ready port line None))
     → w ≡ winner (slice_index_or s.inputs port d) (line_requests lines) → w ≡ named_channel s ready port
 named_is s ready port lines d w r lp within same e =
     let few = r.few_ports in
     e ∙ ap (λ a. winner a (line_requests lines)) (get_or_default s.inputs port d no_arbiter within)
-    ∙ winner_of_lines (slice_index_or s.inputs port no_arbiter) s.channels lines
+    ∙ winner_of_lines (slice_index_or s.inputs port no_arbiter) s.vcs lines
     (λ vc. is_some (cell ready port vc None)) (r.input_width port (omega arith))
     (r.input_pointer port (omega arith)) same
 
 -- the input port that an output arbiter chooses, likewise
 pub chosen_is : (s : SwAllocState) (requests : List (Option SwGrant)) (out lines : ℕ) (d : ArbiterState) (w : Option ℕ)
-    → IsSwAlloc s.ports s.channels s.inputs s.outputs → out < s.ports → out < length s.outputs
+    → IsSwAlloc s.ports s.vcs s.inputs s.outputs → out < s.ports → out < length s.outputs
     → ((line : ℕ) → line < s.ports → line_requests lines line ≡ is_for (slice_index_or requests line None) out)
     → w ≡ winner (slice_index_or s.outputs out d) (line_requests lines) → w ≡ chosen s requests out
 chosen_is s requests out lines d w r lo within same e =
@@ -69,7 +69,7 @@ moved_is arbiters i d new w w' within same e =
 
 -- what one choice leaves of the grants and of the allocator
 pub choice_is : (s : SwAllocState) (requests grants : List (Option SwGrant)) (out lines : ℕ) (d new : ArbiterState)
-    (w : Option ℕ) → IsSwAlloc s.ports s.channels s.inputs s.outputs → out < s.ports → out < length s.outputs
+    (w : Option ℕ) → IsSwAlloc s.ports s.vcs s.inputs s.outputs → out < s.ports → out < length s.outputs
     → ((line : ℕ) → line < s.ports → line_requests lines line ≡ is_for (slice_index_or requests line None) out)
     → w ≡ winner (slice_index_or s.outputs out d) (line_requests lines)
     → new ≡ after_pick (slice_index_or s.outputs out d) w
@@ -97,7 +97,7 @@ choice_is s requests grants out lines d new w r lo within same won moved =
 
 -- where no channel of an input port is ready, it names none
 pub named_unready : (s : SwAllocState) (ready : List (List (Option ℕ))) (port : ℕ)
-    → IsSwAlloc s.ports s.channels s.inputs s.outputs → port < s.ports
+    → IsSwAlloc s.ports s.vcs s.inputs s.outputs → port < s.ports
     → ((v : ℕ) → v < 8 → cell ready port v None ≡ None) → named s ready port ≡ None
 named_unready s ready port r lp none =
     let few = r.few_ports in
@@ -117,7 +117,7 @@ pub record AskedBelow (s : SwAllocState) (ready : List (List (Option ℕ))) (key
 
 -- the requests as far as the next port that has a ready channel
 asked_to : (s : SwAllocState) (ready : List (List (Option ℕ))) (keys left n m : ℕ)
-    → IsSwAlloc s.ports s.channels s.inputs s.outputs → n ≤ m → m ≤ s.ports
+    → IsSwAlloc s.ports s.vcs s.inputs s.outputs → n ≤ m → m ≤ s.ports
     → ((p v : ℕ) → p < 7 → v < 8 → has keys p v ≡ is_some (cell ready p v None))
     → ((p v : ℕ) → n ≤ p → p < m → v < 8 → has keys p v ≡ false)
     → with_front n (named s ready) (replicate 7 None) ≡ with_front m (named s ready) (replicate 7 None)
@@ -151,7 +151,7 @@ not_asked s ready keys left left' port requests b f =
 -- the next port has been asked
 pub asked_more : (s : SwAllocState) (ready : List (List (Option ℕ))) (keys left left' port : ℕ)
     (requests requests' : List (Option SwGrant))
-    → IsSwAlloc s.ports s.channels s.inputs s.outputs
+    → IsSwAlloc s.ports s.vcs s.inputs s.outputs
     → ((p v : ℕ) → p < 7 → v < 8 → has keys p v ≡ is_some (cell ready p v None))
     → AskedBelow s ready keys left requests → IsFirstPort left left' port → port < s.ports
     → requests' ≡ slice_set requests port (named s ready port)
@@ -171,7 +171,7 @@ asked_more s ready keys left left' port requests requests' r keyed b f within e 
 
 -- all have been asked
 pub asked_all : (s : SwAllocState) (ready : List (List (Option ℕ))) (keys left : ℕ) (requests : List (Option SwGrant))
-    → IsSwAlloc s.ports s.channels s.inputs s.outputs
+    → IsSwAlloc s.ports s.vcs s.inputs s.outputs
     → ((p v : ℕ) → p < 7 → v < 8 → has keys p v ≡ is_some (cell ready p v None))
     → AskedBelow s ready keys left requests → left ≡ 0 → requests ≡ all_named s ready
 asked_all s ready keys left requests r keyed b e =
@@ -235,7 +235,7 @@ grant_within s requests port g e =
     ]
 
 -- the grants of a pass are a matching
-pub matching : (s : SwAllocState) (ready : List (List (Option ℕ))) → IsSwAlloc s.ports s.channels s.inputs s.outputs
+pub matching : (s : SwAllocState) (ready : List (List (Option ℕ))) → IsSwAlloc s.ports s.vcs s.inputs s.outputs
     → IsSwitchMatching s ready (sw_grants s ready)
 matching s ready r = record {
   requested = λ port g e.
@@ -245,9 +245,9 @@ matching s ready r = record {
       let is_named : named s ready port ≡ Some g =
       sym (slice_index_or-with_front_below s.ports port (named s ready) (replicate 7 None) None w.0) ∙ p.0 in
       let q = request_parts (slice_index_or ready port []) (named_channel s ready port) g is_named in
-      let wide : (slice_index_or s.inputs port no_arbiter).width ≡ s.channels =
+      let wide : (slice_index_or s.inputs port no_arbiter).width ≡ s.vcs =
       r.input_width port (omega (arith, w.0)) in
-      let low : (slice_index_or s.inputs port no_arbiter).pointer < s.channels =
+      let low : (slice_index_or s.inputs port no_arbiter).pointer < s.vcs =
       r.input_pointer port (omega (arith, w.0)) in
       let v = winner_requests (slice_index_or s.inputs port no_arbiter) (λ vc. is_some (cell ready port vc None)) g.vc
       (omega arith) q.0 in
@@ -307,12 +307,12 @@ matching s ready r = record {
 
 -- a named channel is one of the port's
 pub named_within : (s : SwAllocState) (ready : List (List (Option ℕ))) (requests : List (Option SwGrant))
-    → IsSwAlloc s.ports s.channels s.inputs s.outputs
-    → requests ≡ all_named s ready → AreChannelsBelow s.channels requests
+    → IsSwAlloc s.ports s.vcs s.inputs s.outputs
+    → requests ≡ all_named s ready → AreChannelsBelow s.vcs requests
 named_within s ready requests r e port =
-    subst (λ o. IfSome o (λ g. g.vc < s.channels)) (ap (λ xs. slice_index_or xs port None) (sym e))
+    subst (λ o. IfSome o (λ g. g.vc < s.vcs)) (ap (λ xs. slice_index_or xs port None) (sym e))
     (go (slice_index_or (all_named s ready) port None) refl) where
-      go : (o : Option SwGrant) → slice_index_or (all_named s ready) port None ≡ o → IfSome o (λ g. g.vc < s.channels)
+      go : (o : Option SwGrant) → slice_index_or (all_named s ready) port None ≡ o → IfSome o (λ g. g.vc < s.vcs)
       go None n = tt
       go (Some g) n = elim (cases_lt port s.ports) [
         | inl below ↦
@@ -320,9 +320,9 @@ named_within s ready requests r e port =
             let is_named : named s ready port ≡ Some g =
             sym (slice_index_or-with_front_below s.ports port (named s ready) (replicate 7 None) None below) ∙ n in
             let q = request_parts (slice_index_or ready port []) (named_channel s ready port) g is_named in
-            let wide : (slice_index_or s.inputs port no_arbiter).width ≡ s.channels =
+            let wide : (slice_index_or s.inputs port no_arbiter).width ≡ s.vcs =
             r.input_width port (omega arith) in
-            let low : (slice_index_or s.inputs port no_arbiter).pointer < s.channels =
+            let low : (slice_index_or s.inputs port no_arbiter).pointer < s.vcs =
             r.input_pointer port (omega arith) in
             let v = winner_requests (slice_index_or s.inputs port no_arbiter)
             (λ vc. is_some (cell ready port vc None)) g.vc
@@ -373,7 +373,7 @@ pass_is s now ready requests grants long are_named are_granted e =
 
 -- ---- where nothing is ready
 
-all_named_none : (s : SwAllocState) (ready : List (List (Option ℕ))) → IsSwAlloc s.ports s.channels s.inputs s.outputs
+all_named_none : (s : SwAllocState) (ready : List (List (Option ℕ))) → IsSwAlloc s.ports s.vcs s.inputs s.outputs
     → ((p v : ℕ) → p < 7 → v < 8 → cell ready p v None ≡ None)
     → all_named s ready ≡ replicate 7 None
 all_named_none s ready r none =
@@ -383,7 +383,7 @@ all_named_none s ready r none =
 
 -- nothing is granted
 pub sw_grants_none : (s : SwAllocState) (ready : List (List (Option ℕ)))
-    → IsSwAlloc s.ports s.channels s.inputs s.outputs → ((p v : ℕ) → p < 7 → v < 8 → cell ready p v None ≡ None)
+    → IsSwAlloc s.ports s.vcs s.inputs s.outputs → ((p v : ℕ) → p < 7 → v < 8 → cell ready p v None ≡ None)
     → sw_grants s ready ≡ replicate 7 None
 sw_grants_none s ready r none =
     with_front_kept s.ports (granted s (all_named s ready) s.ports) (replicate 7 None) None r.few_ports
@@ -393,7 +393,7 @@ sw_grants_none s ready r none =
 
 -- no arbiter moves
 pub sw_after_none : (s : SwAllocState) (ready : List (List (Option ℕ)))
-    → IsSwAlloc s.ports s.channels s.inputs s.outputs → s.ports ≤ length s.inputs → s.ports ≤ length s.outputs
+    → IsSwAlloc s.ports s.vcs s.inputs s.outputs → s.ports ≤ length s.inputs → s.ports ≤ length s.outputs
     → ((p v : ℕ) → p < 7 → v < 8 → cell ready p v None ≡ None)
     → sw_after s ready ≡ s
 sw_after_none s ready r long long' none =

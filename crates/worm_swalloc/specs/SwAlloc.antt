@@ -11,18 +11,18 @@ use Rattle.worm_swalloc.specs.declared.grant.SwGrant.{SwGrant}
 -- an allocator: an arbiter for each input port and for each output port
 pub record SwAllocState : Type 0 where
   pub ports : ℕ
-  pub channels : ℕ
+  pub vcs : ℕ
   pub inputs : List ArbiterState
   pub outputs : List ArbiterState
 
 -- between passes: each input arbiter has a line for each channel, each output arbiter one for each input port
-pub record IsSwAlloc (ports channels : ℕ) (inputs outputs : List ArbiterState) : Type 0 where
+pub record IsSwAlloc (ports vcs : ℕ) (inputs outputs : List ArbiterState) : Type 0 where
   pub some_port : 0 < ports
   pub few_ports : ports ≤ 7
-  pub some_channel : 0 < channels
-  pub few_channels : channels ≤ 8
-  pub input_width : (i : ℕ) → i < 7 → (slice_index_or inputs i no_arbiter).width ≡ channels
-  pub input_pointer : (i : ℕ) → i < 7 → (slice_index_or inputs i no_arbiter).pointer < channels
+  pub some_channel : 0 < vcs
+  pub few_channels : vcs ≤ 8
+  pub input_width : (i : ℕ) → i < 7 → (slice_index_or inputs i no_arbiter).width ≡ vcs
+  pub input_pointer : (i : ℕ) → i < 7 → (slice_index_or inputs i no_arbiter).pointer < vcs
   pub output_width : (i : ℕ) → i < 7 → (slice_index_or outputs i no_arbiter).width ≡ ports
   pub output_pointer : (i : ℕ) → i < 7 → (slice_index_or outputs i no_arbiter).pointer < ports
 
@@ -114,8 +114,8 @@ abbrev pub granted_of : List (Option SwGrant) → ℕ → List (Option SwGrant)
 granted_of requests set = with_front 7 (granted_at requests set) (replicate 7 None)
 
 -- the channels that are granted, as a set
-pub record AreGranted (grants : List (Option SwGrant)) (channels : ℕ) : Type 0 where
-  pub each : (port vc : ℕ) → port < 7 → vc < 8 → has channels port vc ≡ is_of (slice_index_or grants port None) vc
+pub record AreGranted (grants : List (Option SwGrant)) (set : ℕ) : Type 0 where
+  pub each : (port vc : ℕ) → port < 7 → vc < 8 → has set port vc ≡ is_of (slice_index_or grants port None) vc
   -- and none is left out
   pub few : AreChannelsBelow 8 grants
 
@@ -159,7 +159,7 @@ pub record IsSwitchMatching (s : SwAllocState) (ready : List (List (Option ℕ))
     (grants : List (Option SwGrant)) : Type 0 where
   -- each grant is a ready channel with its output port
   pub requested : (port : ℕ) (g : SwGrant) → slice_index_or grants port None ≡ Some g
-      → (cell ready port g.vc None ≡ Some g.out) × (port < s.ports) × (g.vc < s.channels) × (g.out < s.ports)
+      → (cell ready port g.vc None ≡ Some g.out) × (port < s.ports) × (g.vc < s.vcs) × (g.out < s.ports)
   -- no output port is granted twice
   pub once : (port port' : ℕ) (g g' : SwGrant) → slice_index_or grants port None ≡ Some g
       → slice_index_or grants port' None ≡ Some g' → g.out ≡ g'.out → port ≡ port'

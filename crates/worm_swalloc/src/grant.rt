@@ -58,7 +58,7 @@ impl SwGrants {
 
     /// Of these requests, one an input port, those whose channels are in the set.
     pub(crate) fn among(requests: [Option<SwGrant>; 7], granted: ChannelSet) -> SwGrants
-        requires channels { AreChannelsBelow 8 requests }
+        requires below { AreChannelsBelow 8 requests }
         requires requested { AreRequested requests granted }
         ensures { result ≡ granted_of requests granted }
     {

@@ -27,7 +27,7 @@ pub struct SwAlloc {
     /// The ports of the router, 1 to 7.
     ports: u8,
     /// The channels of a port, 1 to 8.
-    channels: u8,
+    vcs: u8,
     /// The arbiter of each input port, a line for each of its channels.
     inputs: [Arbiter; 7],
     /// The arbiter of each output port, a line for each input port.
@@ -37,32 +37,32 @@ pub struct SwAlloc {
 impl Model for SwAlloc {
     ghost Value = { SwAllocState };
 
-    ghost view = { λ a. record { ports = a.ports; channels = a.channels; inputs = a.inputs; outputs = a.outputs } };
+    ghost view = { λ a. record { ports = a.ports; vcs = a.vcs; inputs = a.inputs; outputs = a.outputs } };
 
-    ghost invariant = { λ a. IsSwAlloc a.ports a.channels a.inputs a.outputs };
+    ghost invariant = { λ a. IsSwAlloc a.ports a.vcs a.inputs a.outputs };
 
-    ghost inverse = { λ v. record { ports = v.ports; channels = v.channels; inputs = v.inputs; outputs = v.outputs } };
+    ghost inverse = { λ v. record { ports = v.ports; vcs = v.vcs; inputs = v.inputs; outputs = v.outputs } };
 }
 
 impl SwAlloc {
     /// An allocator for a router of so many ports, 1 to 7, and channels a port, 1 to 8. Its
     /// pointers stand at the first line.
-    pub fn new(ports: u8, channels: u8) -> Self
+    pub fn new(ports: u8, vcs: u8) -> Self
         requires some_port { 0 < ports }
         requires few_ports { ports ≤ 7 }
-        requires some_channel { 0 < channels }
-        requires few_channels { channels ≤ 8 }
+        requires some_channel { 0 < vcs }
+        requires few_channels { vcs ≤ 8 }
         ensures { result ≡ record {
           ports = ports;
-          channels = channels;
-          inputs = replicate 7 (record { width = channels; pointer = 0 });
+          vcs = vcs;
+          inputs = replicate 7 (record { width = vcs; pointer = 0 });
           outputs = replicate 7 (record { width = ports; pointer = 0 });
         } }
     {
         SwAlloc {
             ports,
-            channels,
-            inputs: [Arbiter::new(channels); 7],
+            vcs,
+            inputs: [Arbiter::new(vcs); 7],
             outputs: [Arbiter::new(ports); 7],
         }
     }
@@ -107,7 +107,7 @@ impl SwAlloc {
     fn gather(&self, ready: &Ready<'_>, asked: &mut Named)
         requires { asked.old ≡ replicate 7 None }
         ensures named { asked.new ≡ all_named self.now ready.now }
-        ensures ready { IsSwAlloc self.now.ports self.now.channels self.now.inputs self.now.outputs }
+        ensures ready { IsSwAlloc self.now.ports self.now.vcs self.now.inputs self.now.outputs }
     {
         let ports = self.ports;
         let mut left = ready.keys();
@@ -135,7 +135,7 @@ impl SwAlloc {
         requires { port < self.now.ports }
         ensures { result ≡ named self.now ready.now port }
     {
-        let lines = ready_lines(ready, port, self.channels);
+        let lines = ready_lines(ready, port, self.vcs);
         let vc = self.inputs[port as usize].peek(lines)?;
         let out = ready.out_port(port, vc);
         Some(SwGrant { vc, out })
@@ -145,7 +145,7 @@ impl SwAlloc {
     /// ask for it. It moves, and so does that of the chosen input port, past the channel that it named. Tells the
     /// channels that are granted.
     fn grant_named(&mut self, named: &Named) -> ChannelSet
-        requires { AreChannelsBelow self.old.channels named.now }
+        requires { AreChannelsBelow self.old.vcs named.now }
         ensures requested { AreRequested named.now result }
         ensures grants { granted_of named.now result
             ≡ with_front self.old.ports (granted self.old named.now self.old.ports) (replicate 7 None) }
@@ -170,7 +170,7 @@ impl SwAlloc {
     /// granted.
     fn grant_sole(&mut self, port: u8, request: Option<SwGrant>) -> SwGrants
         requires port { port < self.old.ports }
-        requires channel { IfSome request (λ g. g.vc < self.old.channels) }
+        requires channel { IfSome request (λ g. g.vc < self.old.vcs) }
         ensures grants { result ≡ with_front self.old.ports (granted self.old (sole_named port request) self.old.ports)
             (replicate 7 None) }
         ensures after { self.new ≡ record self.old {
@@ -193,7 +193,7 @@ impl SwAlloc {
     /// The arbiter of one output port chooses, and that of the chosen input port moves.
     fn choose_for(&mut self, out: u8, lines: u64, named: &Named, granted: &mut ChannelSet)
         requires out { out < self.old.ports }
-        requires channels { AreChannelsBelow self.old.channels named.now }
+        requires below { AreChannelsBelow self.old.vcs named.now }
         requires few { lines < 2 ^ self.old.ports }
         requires lines { (line : ℕ) → line < self.old.ports
             → line_requests lines line ≡ is_for (slice_index_or named.now line None) out }
@@ -218,7 +218,7 @@ impl SwAlloc {
     /// An input port is granted the channel that it named, and its arbiter moves past it.
     fn commit(&mut self, port: u8, vc: u8, granted: &mut ChannelSet)
         requires port { port < self.old.ports }
-        requires channel { vc < self.old.channels }
+        requires channel { vc < self.old.vcs }
         ensures granted { IsPut granted.old granted.new port vc true }
         ensures after { self.new ≡ record self.old {
           inputs = slice_set self.old.inputs port
@@ -231,11 +231,11 @@ impl SwAlloc {
 }
 
 /// The lines of the ready channels of an input port.
-fn ready_lines(ready: &Ready<'_>, port: u8, channels: u8) -> u64
+fn ready_lines(ready: &Ready<'_>, port: u8, vcs: u8) -> u64
     requires port { port < 7 }
-    requires channels { channels ≤ 8 }
-    ensures few { result < 2 ^ channels }
-    ensures lines { (line : ℕ) → line < channels → line_requests result line ≡ is_some (cell ready.now port line None) }
+    requires vcs { vcs ≤ 8 }
+    ensures few { result < 2 ^ vcs }
+    ensures lines { (line : ℕ) → line < vcs → line_requests result line ≡ is_some (cell ready.now port line None) }
 {
-    ready.keys().row(port, channels)
+    ready.keys().row(port, vcs)
 }

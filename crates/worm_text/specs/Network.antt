@@ -39,8 +39,8 @@ header_line Two = codes "wormnet 2"
 
 -- the line of a class of so many channels
 abbrev pub class_line : Format → List ℕ → ℕ → List ℕ
-class_line One name channels = line (codes "class" ∷ name ∷ [])
-class_line Two name channels = line (codes "class" ∷ name ∷ codes "channels" ∷ decimal channels ∷ [])
+class_line One name count = line (codes "class" ∷ name ∷ [])
+class_line Two name count = line (codes "class" ∷ name ∷ codes "channels" ∷ decimal count ∷ [])
 
 abbrev pub class_lines : Format → List (List ℕ) → List ℕ → List (List ℕ)
 class_lines f (name ∷ names) (m ∷ ms) = class_line f name m ∷ class_lines f names ms

@@ -113,7 +113,7 @@ channels_at Two taken fields = do
   checked (nat_le (sum taken + m.0) 8) Range m
 
 abbrev pub with_class : Network → List ℕ → ℕ → Network
-with_class n name channels = record n { classes = n.classes ++ name ∷ []; channels = n.channels ++ channels ∷ [] }
+with_class n name count = record n { classes = n.classes ++ name ∷ []; channels = n.channels ++ count ∷ [] }
 
 -- a class, of which there are at most four
 unfoldable pub one_class : Format → Network → List (List ℕ) → Result Stage Why

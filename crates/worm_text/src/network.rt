@@ -255,7 +255,7 @@ fn total(channels: &[u8]) -> u32
 
 /// How many channels the class owns. `Range` where all classes own more than 8 then.
 #[tactic(auto, unfolding(crate::specs::Stages::channels_at))]
-fn channels(format: Format, taken: &[u8], fields: &mut Fields<'_>) -> Result<u8, Why>
+fn channel_count(format: Format, taken: &[u8], fields: &mut Fields<'_>) -> Result<u8, Why>
     requires { length taken.now ≤ 4 }
     ensures { Reads (λ x. x) result fields.new (channels_at format taken.now fields.old) }
 {
@@ -263,11 +263,11 @@ fn channels(format: Format, taken: &[u8], fields: &mut Fields<'_>) -> Result<u8,
         Format::One => Ok(1),
         Format::Two => {
             fields.word(b"channels")?;
-            let channels = fields.number(1, 8)?;
-            if total(taken) > 8 - channels {
+            let count = fields.number(1, 8)?;
+            if total(taken) > 8 - count {
                 return Err(Why::Range);
             }
-            Ok(channels as u8)
+            Ok(count as u8)
         }
     }
 }
@@ -282,10 +282,10 @@ fn one_class(format: Format, mut config: Config, fields: &mut Fields<'_>) -> Res
         return Err(Why::TooMany);
     }
     let name = new_name(fields, config.classes.as_slice())?;
-    let channels = channels(format, config.channels.as_slice(), fields)?;
+    let count = channel_count(format, config.channels.as_slice(), fields)?;
     fields.end()?;
     config.classes.push(name);
-    config.channels.push(channels);
+    config.channels.push(count);
     Ok(Stage::Class { format, config })
 }
 

@@ -22,7 +22,7 @@ use Rattle.worm_theory.proofs.Runs.{nowhere}
 
 -- what a link holds of the packet, all its channels joined in rising order
 abbrev pub channel_line : Shape → Network → Lane → ℕ → ℕ → ℕ → List Flit
-channel_line s net lane k x o = joined s.channels (λ v. packet_held lane k (on_channel v (net.out x o)))
+channel_line s net lane k x o = joined s.vcs (λ v. packet_held lane k (on_channel v (net.out x o)))
 
 -- A channel has flits of a packet only where the packet's class owns it.
 module _ (s : Shape) (lane : Lane) (k : ℕ) where
@@ -54,9 +54,9 @@ module _ (s : Shape) (lane : Lane) (k : ℕ) where
       ]
 
   joined_by_class : (lists : ℕ → List Flit) → ((v : ℕ) → (s.owner v ≡ lane.class → ⊥) → lists v ≡ [])
-      → joined s.channels lists ≡ class_joined s lane.class lists
+      → joined s.vcs lists ≡ class_joined s lane.class lists
   joined_by_class lists none =
-      joined-same s.channels lists (λ v. cond (s.owner v == lane.class) (lists v) []) (λ v _.
+      joined-same s.vcs lists (λ v. cond (s.owner v == lane.class) (lists v) []) (λ v _.
       elim (number_cases (s.owner v) lane.class) [ inl own ↦ rw own.0 refl | inr other ↦ rw other.0 (none v other.1) ])
 
   -- so the channels of the class have all of it
@@ -84,12 +84,12 @@ module _ (s : Shape) (mesh : IsMesh s) (lane : Lane) (there : HasLane s lane) (k
       )
       (hold.cut lane k there)
 
-  pub in_range : (x o : ℕ) → All (λ f. f.vc < s.channels) (net.out x o)
+  pub in_range : (x o : ℕ) → All (λ f. f.vc < s.vcs) (net.out x o)
   in_range x o = each (net.out x o) (sound.leaving x o)
     where
-      each : (fs : List Flit) → All (Leaves s x o) fs → All (λ f. f.vc < s.channels) fs
-      each [] h = All-nil (λ (f : Flit). f.vc < s.channels)
-      each (f ∷ fs) h = All-cons (λ (g : Flit). g.vc < s.channels) f fs (All-head (Leaves s x o) f fs h).owned.0
+      each : (fs : List Flit) → All (Leaves s x o) fs → All (λ f. f.vc < s.vcs) fs
+      each [] h = All-nil (λ (f : Flit). f.vc < s.vcs)
+      each (f ∷ fs) h = All-cons (λ (g : Flit). g.vc < s.vcs) f fs (All-head (Leaves s x o) f fs h).owned.0
           (each fs (All-tail (Leaves s x o) f fs h))
 
   module _ (y q x : ℕ) (at : Enters s lane y q) (linked : s.neighbour y (s.next_port y lane.dst) ≡ Some x) where
@@ -131,14 +131,14 @@ module _ (s : Shape) (mesh : IsMesh s) (lane : Lane) (there : HasLane s lane) (k
               (indexed s mesh lane there k net sound cut_ahead hold.one hold.within_past),
         )
 
-    room : (rest : List Flit) (v w : ℕ) → v < s.channels → w < s.channels → (v ≡ w → ⊥)
+    room : (rest : List Flit) (v w : ℕ) → v < s.vcs → w < s.vcs → (v ≡ w → ⊥)
         → zeros (packet_held lane k (coming v)) + zeros (packet_held lane k (coming w)) ≤ zeros (tail rest)
     room rest v w v_there w_there apart =
         let store = packet_store s net lane k x p in
         let line = packet_line net lane k y o in
         let whole = zeros-append store (line ++ rest) in
         let whole2 = zeros-append line rest in
-        let stored = joined-two s.channels v w (λ u. packet_held lane k (net.buffer x p u)) v_there w_there apart in
+        let stored = joined-two s.vcs v w (λ u. packet_held lane k (net.buffer x p u)) v_there w_there apart in
         let on_link = zeros-two lane k v w (net.out y o) apart in
         let part_v = ap zeros (packet-append lane k (net.buffer x p v) (on_channel v (net.out y o)))
         ∙ zeros-append (packet_held lane k (net.buffer x p v)) (packet_held lane k (on_channel v (net.out y o))) in
@@ -147,7 +147,7 @@ module _ (s : Shape) (mesh : IsMesh s) (lane : Lane) (there : HasLane s lane) (k
         omega arith
 
     -- no two channels of a link have flits of the packet, in their buffers or coming
-    pub link_both : (v w : ℕ) → v < s.channels → w < s.channels → (v ≡ w → ⊥)
+    pub link_both : (v w : ℕ) → v < s.vcs → w < s.vcs → (v ≡ w → ⊥)
         → 0 < length (packet_held lane k (coming v)) → 0 < length (packet_held lane k (coming w)) → ⊥
     link_both v w v_there w_there apart =
         never_both lane k before (tail numbered.0) numbered.1 (coming v) (coming w) (worm_after (net.last_out x p v))
@@ -158,7 +158,7 @@ module _ (s : Shape) (mesh : IsMesh s) (lane : Lane) (there : HasLane s lane) (k
         (λ g g2 e e2 l n l2 n2. apart (hold.one x p v p w g g2 e e2 (sym l ∙ l2) (sym n ∙ n2)).1)
 
     -- nor has one, where another is within the packet
-    pub link_within : (v w : ℕ) → v < s.channels → w < s.channels → (v ≡ w → ⊥)
+    pub link_within : (v w : ℕ) → v < s.vcs → w < s.vcs → (v ≡ w → ⊥)
         → IsOn lane k (worm_after (net.last_out x p v)) → 0 < length (packet_held lane k (coming w)) → ⊥
     link_within v w v_there w_there apart on =
         let both = room numbered.0 v w v_there w_there apart in
@@ -186,7 +186,7 @@ module _ (s : Shape) (mesh : IsMesh s) (lane : Lane) (there : HasLane s lane) (k
     pub link_lines : packet_line net lane k y (s.next_port y lane.dst)
         ≡ channel_line s net lane k y (s.next_port y lane.dst)
     link_lines =
-        joined_line lane k s.channels (net.out y o) (in_range y o)
+        joined_line lane k s.vcs (net.out y o) (in_range y o)
         (λ v w l m apart some. none_of (packet_held lane k (on_channel w (net.out y o)))
         (λ some2. link_both v w l m apart (more v some) (more w some2)))
 

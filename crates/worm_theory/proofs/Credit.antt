@@ -42,16 +42,16 @@ module _ (s : Shape) (mesh : IsMesh s) (net : Network) (x p y v : ℕ) (linked :
             rw (away.0, there) h
       ]
 
-  pub give_entries : v < s.channels → CreditsAreChannels s net
+  pub give_entries : v < s.vcs → CreditsAreChannels s net
       → CreditsAreChannels s (gave_to net x p v y (s.opposite p))
   give_entries there_v sound y2 o2 =
       elim (place_cases y2 o2 y (s.opposite p)) [
-        | inl here ↦ rw here.0 (All-push (λ c. c < s.channels) (net.credit_list y (s.opposite p)) v
+        | inl here ↦ rw here.0 (All-push (λ c. c < s.vcs) (net.credit_list y (s.opposite p)) v
             (sound y (s.opposite p)) there_v)
         | inr away ↦ rw away.0 (sound y2 o2)
       ]
 
-  pub give_sound : v < s.channels → 0 < net.owed x p v → Sound s net → Sound s (gave_to net x p v y (s.opposite p))
+  pub give_sound : v < s.vcs → 0 < net.owed x p v → Sound s net → Sound s (gave_to net x p v y (s.opposite p))
   give_sound there_v owed sound = record {
     links = sound.links;
     sources = sound.sources;
@@ -92,7 +92,7 @@ module _ (s : Shape) (net : Network) (x o c : ℕ) (rest : List ℕ) (front : ne
   pub get_entries : CreditsAreChannels s net → CreditsAreChannels s (got net x o (c ∷ rest))
   get_entries sound y2 o2 =
       elim (place_cases y2 o2 x o) [
-        | inl here ↦ rw here.0 (All-tail (λ d. d < s.channels) c rest (rw front at (sound x o)))
+        | inl here ↦ rw here.0 (All-tail (λ d. d < s.vcs) c rest (rw front at (sound x o)))
         | inr away ↦ rw away.0 (sound y2 o2)
       ]
 

@@ -35,7 +35,7 @@ empty_sound s = record {
   holders = λ x o c p v. (λ e. cc, λ e. cc);
   fits = λ x p v. omega arith;
   credits = λ y o x v there n. omega arith;
-  entries = λ y o. All-nil (λ c. c < s.channels);
+  entries = λ y o. All-nil (λ c. c < s.vcs);
   buffered = λ x p v. All-nil (InBuffer s x p v);
   passed = λ x p v. tt;
   leaving = λ x o. All-nil (Leaves s x o);
@@ -82,7 +82,7 @@ module _ (s : Shape) (mesh : IsMesh s) (net : Network) (sound : Sound s net) whe
   take_keeps x p None e h = absurd h
   take_keeps x p (Some y) e h = take_on x p y (net.out y (s.opposite p)) e refl h
 
-  pub give_keeps : (x p v : ℕ) (end : Option ℕ) → s.neighbour x p ≡ end → v < s.channels → 0 < net.owed x p v
+  pub give_keeps : (x p v : ℕ) (end : Option ℕ) → s.neighbour x p ≡ end → v < s.vcs → 0 < net.owed x p v
       → Sound s (gave s net x p v end)
   give_keeps x p v None e there owed = sound
   give_keeps x p v (Some y) e there owed = give_sound s mesh net x p y v e there owed sound

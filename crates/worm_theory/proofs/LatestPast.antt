@@ -114,13 +114,13 @@ module _ (s : Shape) (mesh : IsMesh s) (lane : Lane) (there : HasLane s lane) (k
             let some : 0 < length (packet_held lane k (on_channel c (net.out lane.dst s.terminal))) =
             subst (λ fs. 0 < length (packet_held lane k (on_channel by.0 fs))) sink
             (latest-some (packet_held lane k (on_channel c (net.out x o))) g last) in
-            let others : (u : ℕ) → u < s.channels → (u ≡ by.0 → ⊥)
+            let others : (u : ℕ) → u < s.vcs → (u ≡ by.0 → ⊥)
             → packet_held lane k (on_channel u (net.out x (s.next_port x lane.dst))) ≡ [] =
             λ u _ apart. none_of (packet_held lane k (on_channel u (net.out x o)))
             (λ some2. sink_both s mesh lane there k net sound hold c u
             (λ q. apart (sym q)) some (subst (λ fs. 0 < length (packet_held lane k (on_channel u fs))) sink
             some2)) in
-            ap latest (all_on lane k s.channels c (net.out x o)
+            ap latest (all_on lane k s.vcs c (net.out x o)
             (in_range s mesh lane there k net sound hold x o) others) ∙ last
       ]
   latest_past (suc n) x p v g at e w l m =
@@ -142,7 +142,7 @@ module _ (s : Shape) (mesh : IsMesh s) (lane : Lane) (there : HasLane s lane) (k
             let onward = latest_past n y q c g next on.3 none.1 l m in
             let nothing : packet_held lane k (net.buffer on.0 q by.0 ++ on_channel by.0 (net.out x o)) ≡ [] =
             ap (λ fs. packet_held lane k fs) none.0 in
-            let empty : (u : ℕ) → u < s.channels
+            let empty : (u : ℕ) → u < s.vcs
             → 0 < length (packet_held lane k (net.buffer on.0 q u ++ on_channel u (net.out x o))) → ⊥ =
             λ u u_there some. elim (number_cases by.0 u) [
               | inl same ↦ let here : 0 < length
@@ -153,29 +153,29 @@ module _ (s : Shape) (mesh : IsMesh s) (lane : Lane) (there : HasLane s lane) (k
                   apart.1 (g, none.1, l, m) some
             ] in
             let store_none : store on.0 q ≡ [] =
-            joined-none s.channels (λ u. packet_held lane k (net.buffer on.0 q u))
+            joined-none s.vcs (λ u. packet_held lane k (net.buffer on.0 q u))
             (λ u u_there. none_of (packet_held lane k (net.buffer on.0 q u))
             (λ some. empty u u_there (stored_more s mesh lane there k net sound hold x p on.0 at linked u
             some))) in
             let line_none : line x o ≡ [] = none_of (line x o)
-            (λ some. let first = first_channel lane k s.channels (net.out x o)
+            (λ some. let first = first_channel lane k s.vcs (net.out x o)
             (in_range s mesh lane there k net sound hold x o) some in
             empty first.0 first.1 (more s mesh lane there k net sound hold x p on.0 at linked first.0 first.2)) in
             rw (whole, store_none, line_none, append-nil before, append-nil before) onward
         | inr last ↦
             let some = latest-some (packet_held lane k (net.buffer on.0 q by.0 ++ on_channel by.0 (net.out x o))) g
             last in
-            let others : (u : ℕ) → u < s.channels → (u ≡ by.0 → ⊥)
+            let others : (u : ℕ) → u < s.vcs → (u ≡ by.0 → ⊥)
             → 0 < length (packet_held lane k (net.buffer on.0 q u ++ on_channel u (net.out x o))) → ⊥ =
             λ u u_there apart. link_both s mesh lane there k net sound hold x p on.0 at linked by.0 u c_there u_there
             (λ d. apart (sym d)) some in
             let store_one : store on.0 q ≡ packet_held lane k (net.buffer on.0 q by.0) =
-            joined-one s.channels c (λ u. packet_held lane k (net.buffer on.0 q u)) c_there
+            joined-one s.vcs c (λ u. packet_held lane k (net.buffer on.0 q u)) c_there
             (λ u u_there apart. none_of (packet_held lane k (net.buffer on.0 q u))
             (λ more_u. others u u_there apart
             (stored_more s mesh lane there k net sound hold x p on.0 at linked u more_u))) in
             let line_one : line x o ≡ packet_held lane k (on_channel by.0 (net.out x o)) =
-            all_on lane k s.channels c (net.out x o) (in_range s mesh lane there k net sound hold x o)
+            all_on lane k s.vcs c (net.out x o) (in_range s mesh lane there k net sound hold x o)
             (λ u u_there apart. none_of (packet_held lane k (on_channel u (net.out x o)))
             (λ more_u. others u u_there apart
             (more s mesh lane there k net sound hold x p on.0 at linked u more_u))) in

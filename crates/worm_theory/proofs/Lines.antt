@@ -7,10 +7,10 @@ use Rattle.worm_theory.proofs.Places.{number_cases, place_cases, same-false}
 
 -- port 1 of node 0 and port 0 of node 1 lead to the other node, and port 2 is the terminal
 abbrev pub line : ℕ → ℕ → Shape
-line channels depth = record {
+line vcs depth = record {
   nodes = 2;
   classes = 1;
-  channels = channels;
+  vcs = vcs;
   depth = depth;
   terminal = 2;
   neighbour = λ x p. cond (same x p 0 1) (Some 1) (cond (same x p 1 0) (Some 0) None);
@@ -21,9 +21,9 @@ line channels depth = record {
   first = λ k. 0;
 }
 
-module _ (channels depth : ℕ) where
+module _ (vcs depth : ℕ) where
   abbrev own : Shape
-  own = line channels depth
+  own = line vcs depth
 
   both_ways : (x p y : ℕ) → own.neighbour x p ≡ Some y
       → (own.neighbour y (own.opposite p) ≡ Some x) × (own.opposite (own.opposite p) ≡ p)
@@ -59,7 +59,7 @@ module _ (channels depth : ℕ) where
         | inr a ↦ let more = rw a.0 at e in absurd (omega arith)
       ]
 
-  pub line_is_mesh : 0 < channels → IsMesh (line channels depth)
+  pub line_is_mesh : 0 < vcs → IsMesh (line vcs depth)
   line_is_mesh some = record {
     link_back = λ x p y e. (both_ways x p y e).0;
     opposite_twice = λ x p y e. (both_ways x p y e).1;

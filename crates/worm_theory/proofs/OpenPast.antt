@@ -144,7 +144,7 @@ module _ (s : Shape) (mesh : IsMesh s) (lane : Lane) (there : HasLane s lane) (k
       let o = s.next_port x lane.dst in
       let ended = mesh.arrives x lane.dst (enters_node s mesh lane there at) there.destination e in
       let port : s.next_port x lane.dst ≡ s.terminal = ended.1 in
-      let first = first_channel lane k s.channels (net.out x o)
+      let first = first_channel lane k s.vcs (net.out x o)
       (in_range s mesh lane there k net sound hold x o) some in
       let runs : Runs Between (on_channel first.0 (net.out x (s.next_port x lane.dst)))
       (upstream net x (s.next_port x lane.dst) first.0) =
@@ -168,7 +168,7 @@ module _ (s : Shape) (mesh : IsMesh s) (lane : Lane) (there : HasLane s lane) (k
       let unclosed_first = none-left (before ++ store on.0 q) (line x o) unclosed_all in
       let unclosed_line = none-right (before ++ store on.0 q) (line x o) unclosed_all in
       let unclosed_store = none-right before (store on.0 q) unclosed_first in
-      let onward : (c : ℕ) → c < s.channels
+      let onward : (c : ℕ) → c < s.vcs
       → IsOn lane k (worm_after (net.last_out on.0 q c))
       ⊎ (0 < length (packet_held lane k (net.buffer on.0 q c ++ on_channel c (net.out x o))))
       → (v : ℕ) × IsWithin s net lane k x p v =
@@ -177,7 +177,7 @@ module _ (s : Shape) (mesh : IsMesh s) (lane : Lane) (there : HasLane s lane) (k
       (upstream net x o c) (sound.links x o on.0 c linked)
       (subst NoneCloses (sym (packet-append lane k (net.buffer on.0 q c) (on_channel c (net.out x o))))
       (none-append (packet_held lane k (net.buffer on.0 q c)) (packet_held lane k (on_channel c (net.out x o)))
-      (none-joined s.channels c (λ v. packet_held lane k (net.buffer on.0 q v)) c_there unclosed_store)
+      (none-joined s.vcs c (λ v. packet_held lane k (net.buffer on.0 q v)) c_there unclosed_store)
       (none-on lane k c (net.out x o) unclosed_line)))
       start) in
       let order : (0 < length before) ⊎ ((0 < length (store on.0 q)) ⊎ (0 < length (line x o))) = grind arith in
@@ -187,14 +187,14 @@ module _ (s : Shape) (mesh : IsMesh s) (lane : Lane) (there : HasLane s lane) (k
             onward r.0 r.1.owned.0 (inl (r.1.flit, r.1.last, r.1.own_lane, r.1.own_packet))
         | inr near ↦ elim near [
           | inl stored ↦
-              let r = some-joined s.channels (λ v. packet_held lane k (net.buffer on.0 q v)) stored in
+              let r = some-joined s.vcs (λ v. packet_held lane k (net.buffer on.0 q v)) stored in
               let positive = r.2 in
               let sum = ap length (packet-append lane k (net.buffer on.0 q r.0) (on_channel r.0 (net.out x o)))
               ∙ length-append (packet_held lane k (net.buffer on.0 q r.0))
               (packet_held lane k (on_channel r.0 (net.out x o))) in
               onward r.0 r.1 (inr (omega arith))
           | inr linked_some ↦
-              let r = first_channel lane k s.channels (net.out x o)
+              let r = first_channel lane k s.vcs (net.out x o)
               (in_range s mesh lane there k net sound hold x o) linked_some in
               let positive = r.2 in
               let sum = ap length (packet-append lane k (net.buffer on.0 q r.0) (on_channel r.0 (net.out x o)))

@@ -249,12 +249,12 @@ module _ (s : Shape) (mesh : IsMesh s) where
 
   nothing_ahead : (lane : Lane) (there : HasLane s lane) (k n x p : ℕ) → x < s.nodes → s.hops x lane.dst ≡ n
       → ahead s mesh lane there (packet_store s (empty s) lane k) (packet_line (empty s) lane k) n x p ≡ []
-  nothing_ahead lane there k zero x p in_mesh e = nothing_stored s.channels
+  nothing_ahead lane there k zero x p in_mesh e = nothing_stored s.vcs
   nothing_ahead lane there k (suc n) x p in_mesh e =
       let on = mesh.goes_on x lane.dst n in_mesh there.destination e in
       let linked = on.1 in
       let rest = nothing_ahead lane there k n on.0 (s.opposite (s.next_port x lane.dst)) on.2 on.3 in
-      rw (linked, rest) (nothing_stored s.channels)
+      rw (linked, rest) (nothing_stored s.vcs)
 
   pub empty_packets : PacketsHold s (empty s)
   empty_packets = record {

@@ -36,7 +36,7 @@ module _ (s : Shape) (mesh : IsMesh s) (lane : Lane) (there : HasLane s lane) (k
 
     take_quiet : is_of_packet lane k f ≡ false → (z : ℕ) → TookSame z
     take_quiet off z = (
-      λ q. joined-same s.channels (λ u. packet_held lane k (took.buffer z q u))
+      λ q. joined-same s.vcs (λ u. packet_held lane k (took.buffer z q u))
           (λ u. packet_held lane k (net.buffer z q u)) (λ u _.
           elim (place3_cases z q u x p f.vc) [
             | inl here ↦ rw (
@@ -60,7 +60,7 @@ module _ (s : Shape) (mesh : IsMesh s) (lane : Lane) (there : HasLane s lane) (k
 
     take_away : (z : ℕ) → (z ≡ x → ⊥) → (z ≡ y → ⊥) → TookSame z
     take_away z not_x not_y = (
-      λ q. joined-same s.channels (λ u. packet_held lane k (took.buffer z q u))
+      λ q. joined-same s.vcs (λ u. packet_held lane k (took.buffer z q u))
           (λ u. packet_held lane k (net.buffer z q u)) (λ u _. rw (same3-false z q u x p f.vc not_x)),
       λ e. rw (same-false z e y (s.opposite p) (λ a _. not_y a)),
     )
@@ -90,7 +90,7 @@ module _ (s : Shape) (mesh : IsMesh s) (lane : Lane) (there : HasLane s lane) (k
       take_owned : Owns s lane.class f.vc
       take_owned = subst (λ l. Owns s l.class f.vc) (sym own) leaves.owned
 
-      pub take_others : (w : ℕ) → w < s.channels → (w ≡ f.vc → ⊥) → packet_held lane k (net.buffer x p w) ≡ []
+      pub take_others : (w : ℕ) → w < s.vcs → (w ≡ f.vc → ⊥) → packet_held lane k (net.buffer x p w) ≡ []
       take_others w w_there other =
           let coming : packet_held lane k (on_channel f.vc (net.out y (s.opposite p)))
           ≡ bare f ∷ packet_held lane k (on_channel f.vc rest) =
@@ -107,8 +107,8 @@ module _ (s : Shape) (mesh : IsMesh s) (lane : Lane) (there : HasLane s lane) (k
 
       store_more : packet_store s took lane k x p ≡ packet_store s net lane k x p ++ packet_one lane k f
       store_more =
-          let was = joined-one s.channels f.vc (λ u. packet_held lane k (net.buffer x p u)) take_owned.0 take_others in
-          joined-one s.channels f.vc (λ u. packet_held lane k (took.buffer x p u)) take_owned.0 (λ w w_there other.
+          let was = joined-one s.vcs f.vc (λ u. packet_held lane k (net.buffer x p u)) take_owned.0 take_others in
+          joined-one s.vcs f.vc (λ u. packet_held lane k (took.buffer x p u)) take_owned.0 (λ w w_there other.
           elim (place3_cases x p w x p f.vc) [
             | inl here ↦ absurd (other here.3)
             | inr away ↦ rw away.0 (take_others w w_there other)
@@ -141,7 +141,7 @@ module _ (s : Shape) (mesh : IsMesh s) (lane : Lane) (there : HasLane s lane) (k
       take_line_y = rw (same-true y (s.opposite p) y (s.opposite p) refl refl, front, packet-cons lane k f rest)
 
       take_store_y : (q : ℕ) → packet_store s took lane k y q ≡ packet_store s net lane k y q
-      take_store_y q = joined-same s.channels (λ u. packet_held lane k (took.buffer y q u))
+      take_store_y q = joined-same s.vcs (λ u. packet_held lane k (took.buffer y q u))
           (λ u. packet_held lane k (net.buffer y q u)) (λ u _. rw (same3-false y q u x p f.vc (λ e. apart (sym e))))
 
       take_past_y : past s mesh lane there (packet_store s took lane k) (packet_line took lane k) (s.hops y lane.dst) y
@@ -229,7 +229,7 @@ module _ (s : Shape) (mesh : IsMesh s) (lane : Lane) (there : HasLane s lane) (k
 
     feed_quiet : is_of_packet lane k f ≡ false → (z : ℕ) → GivenSame z
     feed_quiet off z = (
-      λ q. joined-same s.channels (λ u. packet_held lane k (given.buffer z q u))
+      λ q. joined-same s.vcs (λ u. packet_held lane k (given.buffer z q u))
           (λ u. packet_held lane k (net.buffer z q u)) (λ u _.
           elim (place3_cases z q u x s.terminal (s.first c)) [
             | inl here ↦ rw (
@@ -249,7 +249,7 @@ module _ (s : Shape) (mesh : IsMesh s) (lane : Lane) (there : HasLane s lane) (k
 
     feed_away : (z : ℕ) → (z ≡ x → ⊥) → GivenSame z
     feed_away z other = (
-      λ q. joined-same s.channels (λ u. packet_held lane k (given.buffer z q u))
+      λ q. joined-same s.vcs (λ u. packet_held lane k (given.buffer z q u))
           (λ u. packet_held lane k (net.buffer z q u)) (λ u _. rw (same3-false z q u x s.terminal (s.first c) other)),
       λ e. refl,
     )
@@ -275,7 +275,7 @@ module _ (s : Shape) (mesh : IsMesh s) (lane : Lane) (there : HasLane s lane) (k
           let test_first : (s.first (s.owner (s.first c)) == s.first c) ≡ true = grind arith in
           rw (test_first, owner) unfed_here
 
-      pub feed_others : (w : ℕ) → w < s.channels → (w ≡ s.first c → ⊥)
+      pub feed_others : (w : ℕ) → w < s.vcs → (w ≡ s.first c → ⊥)
           → packet_held lane k (net.buffer lane.src s.terminal w) ≡ []
       feed_others w w_there other =
           let coming : packet_held lane k (unfed_on s net lane.src (s.first c)) ≡ bare f ∷ packet_held lane k rest =
@@ -291,9 +291,9 @@ module _ (s : Shape) (mesh : IsMesh s) (lane : Lane) (there : HasLane s lane) (k
       feed_store : packet_store s given lane k lane.src s.terminal ≡ packet_store s net lane k lane.src s.terminal
           ++ packet_one lane k f
       feed_store =
-          let was = joined-one s.channels (s.first c)
+          let was = joined-one s.vcs (s.first c)
           (λ u. packet_held lane k (net.buffer lane.src s.terminal u)) feed_owned.0 feed_others in
-          joined-one s.channels (s.first c) (λ u. packet_held lane k (given.buffer lane.src s.terminal u)) feed_owned.0
+          joined-one s.vcs (s.first c) (λ u. packet_held lane k (given.buffer lane.src s.terminal u)) feed_owned.0
           (λ w w_there other.
           elim (place3_cases lane.src s.terminal w x s.terminal (s.first c)) [
             | inl here ↦ absurd (other here.3)

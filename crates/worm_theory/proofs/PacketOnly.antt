@@ -36,7 +36,7 @@ module _ (s : Shape) (mesh : IsMesh s) (lane : Lane) (there : HasLane s lane) (k
         rw (cut, ← all) history
 
     pub link_only : (y q x : ℕ) → Enters s lane y q → s.neighbour y (s.next_port y lane.dst) ≡ Some x → (v w : ℕ)
-        → v < s.channels → w < s.channels → (v ≡ w → ⊥) → (a : Flit) (as' : List Flit) →
+        → v < s.vcs → w < s.vcs → (v ≡ w → ⊥) → (a : Flit) (as' : List Flit) →
         packet_held lane k (net.buffer x (s.opposite (s.next_port y lane.dst)) v
         ++ on_channel v (net.out y (s.next_port y lane.dst))) ≡ a ∷ as'
         → packet_held lane k (net.buffer x (s.opposite (s.next_port y lane.dst)) w) ≡ []
@@ -56,7 +56,7 @@ module _ (s : Shape) (mesh : IsMesh s) (lane : Lane) (there : HasLane s lane) (k
         ∙ append_assoc before (stores x p) ((line ++ split.0) ++ hu)
         ∙ ap (λ fs. before ++ (stores x p ++ fs)) (append_assoc line split.0 hu) in
         let numbered = subst (λ fs. IsIndexed 0 fs) order indexed in
-        only_channel lane k before (stores x p) line (split.0 ++ hu) numbered s.channels
+        only_channel lane k before (stores x p) line (split.0 ++ hu) numbered s.vcs
         (λ u. net.buffer x p u) refl v w v_there w_there apart
         (on_channel v (net.out y (s.next_port y lane.dst))) (on_channel w (net.out y (s.next_port y lane.dst)))
         (worm_after (net.last_out x p v)) (worm_after (net.last_out x p w))
@@ -66,7 +66,7 @@ module _ (s : Shape) (mesh : IsMesh s) (lane : Lane) (there : HasLane s lane) (k
         (λ g e l n. within lane k there x p v g entered e l n) (λ g e l n. within lane k there x p w g entered e l n)
         (λ g g2 e e2 l n l2 n2. apart (one x p v p w g g2 e e2 (sym l ∙ l2) (sym n ∙ n2)).1) a as' has
 
-    pub source_only : (v w : ℕ) → s.owner v ≡ lane.class → v < s.channels → w < s.channels → (v ≡ w → ⊥)
+    pub source_only : (v w : ℕ) → s.owner v ≡ lane.class → v < s.vcs → w < s.vcs → (v ≡ w → ⊥)
         → (a : Flit) (as' : List Flit) →
         packet_held lane k (net.buffer lane.src s.terminal v ++ unfed_on s net lane.src v) ≡ a ∷ as'
         → packet_held lane k (net.buffer lane.src s.terminal w) ≡ []
@@ -85,7 +85,7 @@ module _ (s : Shape) (mesh : IsMesh s) (lane : Lane) (there : HasLane s lane) (k
           | inl first ↦ rw (first.0, owned) (omega arith)
           | inr later ↦ rw later.0 (omega arith)
         ] in
-        only_channel lane k before (stores lane.src s.terminal) hu [] numbered s.channels
+        only_channel lane k before (stores lane.src s.terminal) hu [] numbered s.vcs
         (λ u. net.buffer lane.src s.terminal u) refl v w v_there w_there apart
         (unfed_on s net lane.src v) (unfed_on s net lane.src w) (worm_after (net.last_out lane.src s.terminal v))
         (worm_after (net.last_out lane.src s.terminal w)) Between Between
@@ -95,7 +95,7 @@ module _ (s : Shape) (mesh : IsMesh s) (lane : Lane) (there : HasLane s lane) (k
         (λ g g2 e e2 l n l2 n2. apart (one lane.src s.terminal v s.terminal w g g2 e e2 (sym l ∙ l2) (sym n ∙ n2)).1) a
         as' has
 
-    pub stored_only : {x p : ℕ} → Enters s lane x p → (v w : ℕ) → Owns s lane.class v → w < s.channels → (v ≡ w → ⊥)
+    pub stored_only : {x p : ℕ} → Enters s lane x p → (v w : ℕ) → Owns s lane.class v → w < s.vcs → (v ≡ w → ⊥)
         → (a : Flit) (as' : List Flit) → packet_held lane k (net.buffer x p v) ≡ a ∷ as'
         → packet_held lane k (net.buffer x p w) ≡ []
     stored_only at_source v w owned w_there apart a as' has =
@@ -110,7 +110,7 @@ module _ (s : Shape) (mesh : IsMesh s) (lane : Lane) (there : HasLane s lane) (k
         ∙ ap (λ fs. fs ++ packet_held lane k (on_channel v (net.out y (s.next_port y lane.dst)))) has)
 
     -- of a packet whose first flit is stored at a node nothing is past that node
-    pub stored_first : {x p : ℕ} → Enters s lane x p → (v : ℕ) → v < s.channels → (a : Flit) (as' : List Flit)
+    pub stored_first : {x p : ℕ} → Enters s lane x p → (v : ℕ) → v < s.vcs → (a : Flit) (as' : List Flit)
         → packet_held lane k (net.buffer x p v) ≡ a ∷ as' → a.index ≡ 0
         → 0 < length (past s mesh lane there stores lines (s.hops x lane.dst) x) → ⊥
     stored_first {x} {p} at v v_there a as' has opens some =
@@ -125,6 +125,6 @@ module _ (s : Shape) (mesh : IsMesh s) (lane : Lane) (there : HasLane s lane) (k
         let numbered = subst (λ fs. IsIndexed 0 fs) order indexed in
         let none = zeros-after before (stores x p ++ (split.0 ++ hu)) numbered some in
         let sum = zeros-append (stores x p) (split.0 ++ hu) in
-        let least = joined-at s.channels v (λ u. packet_held lane k (net.buffer x p u)) v_there in
+        let least = joined-at s.vcs v (λ u. packet_held lane k (net.buffer x p u)) v_there in
         let positive : 0 < zeros (packet_held lane k (net.buffer x p v)) = rw has (zeros-first a as' opens) in
         omega arith

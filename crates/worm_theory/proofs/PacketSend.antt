@@ -30,7 +30,7 @@ module _ (s : Shape) (mesh : IsMesh s) (lane : Lane) (there : HasLane s lane) (k
 
   quiet : is_of_packet lane k f ≡ false → (z : ℕ) → Same z
   quiet off z = (
-    λ q. joined-same s.channels (λ u. packet_held lane k (new.buffer z q u))
+    λ q. joined-same s.vcs (λ u. packet_held lane k (new.buffer z q u))
         (λ u. packet_held lane k (net.buffer z q u)) (λ u _.
         elim (place3_cases z q u x p v) [
           | inl here ↦
@@ -46,7 +46,7 @@ module _ (s : Shape) (mesh : IsMesh s) (lane : Lane) (there : HasLane s lane) (k
 
   elsewhere : (z : ℕ) → (z ≡ x → ⊥) → Same z
   elsewhere z other = (
-    λ q. joined-same s.channels (λ u. packet_held lane k (new.buffer z q u))
+    λ q. joined-same s.vcs (λ u. packet_held lane k (new.buffer z q u))
         (λ u. packet_held lane k (net.buffer z q u)) (λ u _. rw (same3-false z q u x p v other)),
     λ e. rw (same-false z e x o (λ a _. other a)),
   )
@@ -68,16 +68,16 @@ module _ (s : Shape) (mesh : IsMesh s) (lane : Lane) (there : HasLane s lane) (k
     holds : packet_held lane k (net.buffer x p v) ≡ bare f ∷ packet_held lane k rest
     holds = rw (front, packet-cons lane k f rest, test)
 
-    others : (w : ℕ) → w < s.channels → (w ≡ v → ⊥) → packet_held lane k (net.buffer x p w) ≡ []
+    others : (w : ℕ) → w < s.vcs → (w ≡ v → ⊥) → packet_held lane k (net.buffer x p w) ≡ []
     others w w_there apart = stored_only s mesh lane there k net sound cut one within entered v w owned w_there
         (λ e. apart (sym e)) (bare f) (packet_held lane k rest) holds
 
     store_was : packet_store s net lane k x p ≡ bare f ∷ packet_held lane k rest
-    store_was = joined-one s.channels v (λ u. packet_held lane k (net.buffer x p u)) owned.0 others ∙ holds
+    store_was = joined-one s.vcs v (λ u. packet_held lane k (net.buffer x p u)) owned.0 others ∙ holds
 
     store_now : packet_store s new lane k x p ≡ packet_held lane k rest
     store_now =
-        joined-one s.channels v (λ u. packet_held lane k (new.buffer x p u)) owned.0 (λ w w_there apart.
+        joined-one s.vcs v (λ u. packet_held lane k (new.buffer x p u)) owned.0 (λ w w_there apart.
         elim (place3_cases x p w x p v) [
           | inl here ↦ absurd (apart here.3)
           | inr away ↦ rw away.0 (others w w_there apart)

@@ -10,7 +10,7 @@ use Rattle.worm_theory.specs.PacketCut.{packet_held, joined}
 
 -- lists joined over the channels of a class, in rising order
 abbrev pub class_joined : Shape → ℕ → (ℕ → List Flit) → List Flit
-class_joined s class lists = joined s.channels (λ v. cond (s.owner v == class) (lists v) [])
+class_joined s class lists = joined s.vcs (λ v. cond (s.owner v == class) (lists v) [])
 
 -- what the buffers at a port hold of the packet, its class's channels joined in rising order
 abbrev pub class_store : Shape → Network → Lane → ℕ → ℕ → ℕ → List Flit

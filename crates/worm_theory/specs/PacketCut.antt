@@ -31,7 +31,7 @@ joined (suc n) lists = joined n lists ++ lists n
 
 -- what the buffers at a port, and a link or a sink, hold of the packet
 abbrev pub packet_store : Shape → Network → Lane → ℕ → ℕ → ℕ → List Flit
-packet_store s net lane k x p = joined s.channels (λ v. packet_held lane k (net.buffer x p v))
+packet_store s net lane k x p = joined s.vcs (λ v. packet_held lane k (net.buffer x p v))
 
 abbrev pub packet_line : Network → Lane → ℕ → ℕ → ℕ → List Flit
 packet_line net lane k x o = packet_held lane k (net.out x o)

@@ -6,7 +6,7 @@ use Rattle.worm_flit.specs.declared.Lane.{Lane}
 pub record Shape : Type 0 where
   pub nodes : ℕ
   pub classes : ℕ
-  pub channels : ℕ
+  pub vcs : ℕ
   -- how many flits a buffer holds
   pub depth : ℕ
   -- the terminal port
@@ -25,7 +25,7 @@ pub record Shape : Type 0 where
 
 -- the channel is there, and the class owns it
 abbrev pub Owns : Shape → ℕ → ℕ → Type 0
-Owns s class c = (c < s.channels) × (s.owner c ≡ class)
+Owns s class c = (c < s.vcs) × (s.owner c ≡ class)
 
 -- the class owns this channel alone
 abbrev pub OwnsAlone : Shape → ℕ → ℕ → Type 0

@@ -56,13 +56,13 @@ BuffersFit s net = (x p v : ℕ) → length (net.buffer x p v) ≤ s.depth
 -- Per link and channel: each place of the downstream buffer is a credit upstream, a flit on the link or in the buffer,
 -- a credit owed or a credit on its way back.
 abbrev pub CreditsAdd : Shape → Network → Type 0
-CreditsAdd s net = (y o x v : ℕ) → v < s.channels → s.neighbour y o ≡ Some x →
+CreditsAdd s net = (y o x v : ℕ) → v < s.vcs → s.neighbour y o ≡ Some x →
     net.credits y o v + length (on_channel v (net.out y o)) + length (net.buffer x (s.opposite o) v) + net.owed x
     (s.opposite o) v + count_by (λ c. v == c) (net.credit_list y o) ≡ s.depth
 
 -- each credit on its way is a channel's
 abbrev pub CreditsAreChannels : Shape → Network → Type 0
-CreditsAreChannels s net = (y o : ℕ) → All (λ c. c < s.channels) (net.credit_list y o)
+CreditsAreChannels s net = (y o : ℕ) → All (λ c. c < s.vcs) (net.credit_list y o)
 
 -- the flit's route enters the node by this port, and its class owns the channel
 pub record Passes (s : Shape) (x p v : ℕ) (f : Flit) : Type 0 where
@@ -138,7 +138,7 @@ pub record Sound (s : Shape) (net : Network) : Type 0 where
 
 -- a buffer and its channel's flits on the link together do not exceed the depth
 abbrev pub LinksFit : Shape → Network → Type 0
-LinksFit s net = (y o x v : ℕ) → v < s.channels → s.neighbour y o ≡ Some x
+LinksFit s net = (y o x v : ℕ) → v < s.vcs → s.neighbour y o ≡ Some x
     → length (net.buffer x (s.opposite o) v) + length (on_channel v (net.out y o)) ≤ s.depth
 
 -- only lanes whose class owns one channel are closed

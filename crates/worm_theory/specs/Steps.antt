@@ -78,11 +78,11 @@ abbrev pub IsThere : Shape → Step → Type 0
 IsThere s (Offer x lane words) = x < s.nodes
 IsThere s (CloseLane x lane) = x < s.nodes
 IsThere s (Feed x k) = (x < s.nodes) × (k < s.classes)
-IsThere s (Route x p v) = (x < s.nodes) × IsPort s x p × (v < s.channels)
-IsThere s (Grant x p v c) = (x < s.nodes) × IsPort s x p × (v < s.channels) × (c < s.channels)
-IsThere s (Send x p v) = (x < s.nodes) × IsPort s x p × (v < s.channels)
+IsThere s (Route x p v) = (x < s.nodes) × IsPort s x p × (v < s.vcs)
+IsThere s (Grant x p v c) = (x < s.nodes) × IsPort s x p × (v < s.vcs) × (c < s.vcs)
+IsThere s (Send x p v) = (x < s.nodes) × IsPort s x p × (v < s.vcs)
 IsThere s (Take x p) = (x < s.nodes) × IsSome (s.neighbour x p)
-IsThere s (GiveCredit x p v) = (x < s.nodes) × IsSome (s.neighbour x p) × (v < s.channels)
+IsThere s (GiveCredit x p v) = (x < s.nodes) × IsSome (s.neighbour x p) × (v < s.vcs)
 IsThere s (TakeCredit x o) = (x < s.nodes) × IsSome (s.neighbour x o)
 
 -- A flit may be sent from this buffer by channel c of port o: there is one; a link has a credit left; and the port by

@@ -70,7 +70,7 @@ pub fn lanes_stay_cut()
 pub fn packets_stay_cut()
     ensures step { (s : Shape) → IsMesh s → EachStepKeeps s (λ net. Sound s net × PacketsHold s net) }
     ensures steps { (s : Shape) → IsMesh s → AnyStepsKeep s (λ net. Sound s net × PacketsHold s net) }
-    ensures channels { (s : Shape) (net : Network) → IsMesh s → Sound s net → PacketsHold s net → ChannelsCut s net }
+    ensures cut { (s : Shape) (net : Network) → IsMesh s → Sound s net → PacketsHold s net → ChannelsCut s net }
     ensures whole { (s : Shape) (net : Network) → Sound s net → PacketsWhole net }
 {}
 

@@ -6,13 +6,13 @@ use Rattle.worm_vcalloc.proofs.TableCells.{cell-with_cell_keeps}
 
 -- an allocator between passes: one to seven ports, one to eight channels, and each arbiter has a line for each input
 -- channel
-pub record IsVcAlloc (ports channels : ℕ) (arbiters : List (List ArbiterState)) : Type 0 where
+pub record IsVcAlloc (ports vcs : ℕ) (arbiters : List (List ArbiterState)) : Type 0 where
   pub some_port : 0 < ports
   pub few_ports : ports ≤ 7
-  pub some_channel : 0 < channels
-  pub few_channels : channels ≤ 8
-  pub width : (i j : ℕ) → i < 7 → j < 8 → (cell arbiters i j no_arbiter).width ≡ ports * channels
-  pub pointer : (i j : ℕ) → i < 7 → j < 8 → (cell arbiters i j no_arbiter).pointer < ports * channels
+  pub some_channel : 0 < vcs
+  pub few_channels : vcs ≤ 8
+  pub width : (i j : ℕ) → i < 7 → j < 8 → (cell arbiters i j no_arbiter).width ≡ ports * vcs
+  pub pointer : (i j : ℕ) → i < 7 → j < 8 → (cell arbiters i j no_arbiter).pointer < ports * vcs
 
 -- an arbiter of so many lines
 pub record HasWidth (width : ℕ) (a : ArbiterState) : Type 0 where
@@ -28,11 +28,11 @@ HasWidth-after_pick width a (Some line) h = record {
 }
 
 -- an allocator is one still where an arbiter of it has picked
-pub IsVcAlloc-picked : (ports channels : ℕ) (arbiters : List (List ArbiterState)) (out channel : ℕ)
-    (old new : ArbiterState) (line : Option ℕ) → IsVcAlloc ports channels arbiters → out < ports
-    → channel < channels → cell arbiters out channel no_arbiter ≡ old → new ≡ after_pick old line
-    → IsVcAlloc ports channels (with_cell arbiters out channel new)
-IsVcAlloc-picked ports channels arbiters out channel old new line v lo lc here moved = record {
+pub IsVcAlloc-picked : (ports vcs : ℕ) (arbiters : List (List ArbiterState)) (out channel : ℕ)
+    (old new : ArbiterState) (line : Option ℕ) → IsVcAlloc ports vcs arbiters → out < ports
+    → channel < vcs → cell arbiters out channel no_arbiter ≡ old → new ≡ after_pick old line
+    → IsVcAlloc ports vcs (with_cell arbiters out channel new)
+IsVcAlloc-picked ports vcs arbiters out channel old new line v lo lc here moved = record {
   some_port = v.some_port;
   few_ports = v.few_ports;
   some_channel = v.some_channel;
@@ -40,13 +40,13 @@ IsVcAlloc-picked ports channels arbiters out channel old new line v lo lc here m
   width = λ i j li lj. (all i j li lj).wide;
   pointer = λ i j li lj. (all i j li lj).within;
 } where
-  ready : (i j : ℕ) → i < 7 → j < 8 → HasWidth (ports * channels) (cell arbiters i j no_arbiter)
+  ready : (i j : ℕ) → i < 7 → j < 8 → HasWidth (ports * vcs) (cell arbiters i j no_arbiter)
   ready i j li lj = record { wide = v.width i j li lj; within = v.pointer i j li lj }
 
   all : (i j : ℕ) → i < 7 → j < 8
-      → HasWidth (ports * channels) (cell (with_cell arbiters out channel new) i j no_arbiter)
+      → HasWidth (ports * vcs) (cell (with_cell arbiters out channel new) i j no_arbiter)
   all i j li lj =
-      cell-with_cell_keeps (HasWidth (ports * channels)) arbiters out channel i j new no_arbiter
-      (rw (moved, ← here) (HasWidth-after_pick (ports * channels) _ line
+      cell-with_cell_keeps (HasWidth (ports * vcs)) arbiters out channel i j new no_arbiter
+      (rw (moved, ← here) (HasWidth-after_pick (ports * vcs) _ line
       (ready out channel (omega (arith, v.few_ports)) (omega (arith, v.few_channels)))))
       (ready i j li lj)

@@ -17,38 +17,38 @@ use Rattle.worm_vcalloc.proofs.RequestersHeard.{heard_for}
 
 -- ---- an allocator stays one
 
-IsVcAlloc-offered : (waiting : List (List (Option VcRequest))) (pass : VcPass) (ports channels out channel : ℕ)
-    → IsVcAlloc ports channels pass.alloc.arbiters → out < ports → channel < channels
-    → IsVcAlloc ports channels (offered waiting pass out channel).alloc.arbiters
+IsVcAlloc-offered : (waiting : List (List (Option VcRequest))) (pass : VcPass) (ports vcs out channel : ℕ)
+    → IsVcAlloc ports vcs pass.alloc.arbiters → out < ports → channel < vcs
+    → IsVcAlloc ports vcs (offered waiting pass out channel).alloc.arbiters
 unfolding offered
-IsVcAlloc-offered waiting pass ports channels out channel r lo lc =
-    IsVcAlloc-picked ports channels pass.alloc.arbiters out channel _ _ (vc_winner waiting pass out channel) r lo lc
+IsVcAlloc-offered waiting pass ports vcs out channel r lo lc =
+    IsVcAlloc-picked ports vcs pass.alloc.arbiters out channel _ _ (vc_winner waiting pass out channel) r lo lc
     refl refl
 
 IsVcAlloc-steps : (waiting : List (List (Option VcRequest))) (free : List (List Bool)) (pass : VcPass)
-    (ports channels out n : ℕ) → IsVcAlloc ports channels pass.alloc.arbiters → out < ports → n ≤ channels
-    → IsVcAlloc ports channels (fold (vc_step waiting free out) pass (range_with_len 0 n)).alloc.arbiters
-IsVcAlloc-steps waiting free pass ports channels out zero r lo ln = r
-IsVcAlloc-steps waiting free pass ports channels out (suc n) r lo ln =
+    (ports vcs out n : ℕ) → IsVcAlloc ports vcs pass.alloc.arbiters → out < ports → n ≤ vcs
+    → IsVcAlloc ports vcs (fold (vc_step waiting free out) pass (range_with_len 0 n)).alloc.arbiters
+IsVcAlloc-steps waiting free pass ports vcs out zero r lo ln = r
+IsVcAlloc-steps waiting free pass ports vcs out (suc n) r lo ln =
     let before : VcPass = fold (vc_step waiting free out) pass (range_with_len 0 n) in
-    let still = IsVcAlloc-steps waiting free pass ports channels out n r lo (omega arith) in
-    subst (λ (p : VcPass). IsVcAlloc ports channels p.alloc.arbiters)
+    let still = IsVcAlloc-steps waiting free pass ports vcs out n r lo (omega arith) in
+    subst (λ (p : VcPass). IsVcAlloc ports vcs p.alloc.arbiters)
     (sym (fold-range_next (vc_step waiting free out) pass n))
     (elim (cases_Bool (cell free out n false)) [
       | inl is_free ↦
-          subst (λ b. IsVcAlloc ports channels (cond b (offered waiting before out n) before).alloc.arbiters)
-          (sym is_free) (IsVcAlloc-offered waiting before ports channels out n still lo ln)
+          subst (λ b. IsVcAlloc ports vcs (cond b (offered waiting before out n) before).alloc.arbiters)
+          (sym is_free) (IsVcAlloc-offered waiting before ports vcs out n still lo ln)
       | inr is_held ↦
-          subst (λ b. IsVcAlloc ports channels (cond b (offered waiting before out n) before).alloc.arbiters)
+          subst (λ b. IsVcAlloc ports vcs (cond b (offered waiting before out n) before).alloc.arbiters)
           (sym is_held) still
     ])
 
 IsVcAlloc-port_pass : (waiting : List (List (Option VcRequest))) (free : List (List Bool)) (pass : VcPass) (out : ℕ)
-    → IsVcAlloc pass.alloc.ports pass.alloc.channels pass.alloc.arbiters → out < pass.alloc.ports
-    → IsVcAlloc pass.alloc.ports pass.alloc.channels (port_pass waiting free pass out).alloc.arbiters
+    → IsVcAlloc pass.alloc.ports pass.alloc.vcs pass.alloc.arbiters → out < pass.alloc.ports
+    → IsVcAlloc pass.alloc.ports pass.alloc.vcs (port_pass waiting free pass out).alloc.arbiters
 unfolding port_pass
 IsVcAlloc-port_pass waiting free pass out r lo =
-    IsVcAlloc-steps waiting free pass pass.alloc.ports pass.alloc.channels out pass.alloc.channels r lo (omega arith)
+    IsVcAlloc-steps waiting free pass pass.alloc.ports pass.alloc.vcs out pass.alloc.vcs r lo (omega arith)
 
 -- ---- the loop over the output ports that are asked for
 
@@ -58,33 +58,33 @@ pub record IsPassed (waiting : List (List (Option VcRequest))) (free : List (Lis
   pub next : ℕ
   pub few : next ≤ start.alloc.ports
   pub reached : Reached start.alloc here (fold (port_pass waiting free) start (range_with_len 0 next))
-  pub ready : IsVcAlloc here.alloc.ports here.alloc.channels here.alloc.arbiters
+  pub ready : IsVcAlloc here.alloc.ports here.alloc.vcs here.alloc.arbiters
   pub gone : (out : ℕ) → out < next → small.has left out ≡ false
-  pub kept : (out p v : ℕ) → next ≤ out → out < start.alloc.ports → p < start.alloc.ports → v < start.alloc.channels
+  pub kept : (out p v : ℕ) → next ≤ out → out < start.alloc.ports → p < start.alloc.ports → v < start.alloc.vcs
       → is_for (cell waiting p v None) out ≡ true → small.has left out ≡ true
   pub within : (out : ℕ) → out < 8 → small.has left out ≡ true → out < start.alloc.ports
 
 pub passed_start : (waiting : List (List (Option VcRequest))) (free : List (List Bool)) (start : VcPass)
-    (files : Asked) → IsVcAlloc start.alloc.ports start.alloc.channels start.alloc.arbiters
-    → IsFiled waiting start.alloc.ports start.alloc.channels files → IsPassed waiting free start start files.ports
+    (files : Asked) → IsVcAlloc start.alloc.ports start.alloc.vcs start.alloc.arbiters
+    → IsFiled waiting start.alloc.ports start.alloc.vcs files → IsPassed waiting free start start files.ports
 passed_start waiting free start files r filed = record {
   next = 0;
   few = omega arith;
-  reached = record { is = refl; ports = refl; channels = refl };
+  reached = record { is = refl; ports = refl; vcs = refl };
   ready = r;
   gone = λ out below. absurd (omega arith);
   kept = λ out p v _ lo lp lv asks.
       let few = r.few_ports in
       let few' = r.few_channels in
       filed.asked out p v (omega arith) (omega arith) (omega arith)
-      (heard_for waiting start.alloc.ports start.alloc.channels p v out lp lv lo asks);
+      (heard_for waiting start.alloc.ports start.alloc.vcs p v out lp lv lo asks);
   within = filed.within;
 }
 
 -- output ports that nobody asks for are passed over
 over_unasked : (waiting : List (List (Option VcRequest))) (free : List (List Bool)) (start here : VcPass) (from to : ℕ)
-    → IsVcAlloc here.alloc.ports here.alloc.channels here.alloc.arbiters → from ≤ to → to ≤ here.alloc.ports
-    → ((out p v : ℕ) → from ≤ out → out < to → p < here.alloc.ports → v < here.alloc.channels
+    → IsVcAlloc here.alloc.ports here.alloc.vcs here.alloc.arbiters → from ≤ to → to ≤ here.alloc.ports
+    → ((out p v : ℕ) → from ≤ out → out < to → p < here.alloc.ports → v < here.alloc.vcs
     → is_for (cell waiting p v None) out ≡ false)
     → here ≡ fold (port_pass waiting free) start (range_with_len 0 from)
     → here ≡ fold (port_pass waiting free) start (range_with_len 0 to)
@@ -110,19 +110,19 @@ passed_to waiting free start here left to b ahead few off = record {
       over_unasked waiting free start here b.next to b.ready ahead (omega (arith, b.reached.ports))
       (λ out p v from below lp lv. elim (cases_Bool (is_for (cell waiting p v None) out)) [
         | inl asks ↦ absurd (true≢false (sym (b.kept out p v from (omega arith) (omega (arith, b.reached.ports))
-            (omega (arith, b.reached.channels)) asks) ∙ off out from below))
+            (omega (arith, b.reached.vcs)) asks) ∙ off out from below))
         | inr quiet ↦ quiet
       ])
       b.reached.is;
   ports = b.reached.ports;
-  channels = b.reached.channels;
+  vcs = b.reached.vcs;
 }
 
 -- the next output port that is asked for
 pub passed_more : (waiting : List (List (Option VcRequest))) (free : List (List Bool)) (start here there : VcPass)
     (left left' out : ℕ) → IsPassed waiting free start here left → small.IsFirst left left' out
     → out < start.alloc.ports → there ≡ port_pass waiting free here out → there.alloc.ports ≡ here.alloc.ports
-    → there.alloc.channels ≡ here.alloc.channels → IsPassed waiting free start there left'
+    → there.alloc.vcs ≡ here.alloc.vcs → IsPassed waiting free start there left'
 passed_more waiting free start here there left left' out b f lo is same_ports same_channels = record {
   next = out + 1;
   few = omega arith;
@@ -131,7 +131,7 @@ passed_more waiting free start here there left left' out b f lo is same_ports sa
       is same_ports same_channels;
   ready =
       rw (same_ports, same_channels)
-      (subst (λ (p : VcPass). IsVcAlloc here.alloc.ports here.alloc.channels p.alloc.arbiters) (sym is)
+      (subst (λ (p : VcPass). IsVcAlloc here.alloc.ports here.alloc.vcs p.alloc.arbiters) (sym is)
       (IsVcAlloc-port_pass waiting free here out b.ready (omega (arith, b.reached.ports))));
   gone = λ k below. elim (cases_eq k out) [
     | inl same ↦ ap (small.has left') same ∙ f.taken.here

@@ -24,20 +24,20 @@ at_line f row width column within =
     ∙ ap (λ j. f row j) (mod-mul-add row width column within)
 
 -- a line of the arbiters stands for an input channel
-pub line_within : (ports channels port vc : ℕ) → port < ports → vc < channels → port * channels + vc < ports * channels
-line_within ports channels port vc lp lv =
-    let most : suc port * channels ≤ ports * channels = mul-le (suc port) channels ports channels lp (omega arith) in
-    let next : suc port * channels ≡ port * channels + channels = omega arith in
+pub line_within : (ports vcs port vc : ℕ) → port < ports → vc < vcs → port * vcs + vc < ports * vcs
+line_within ports vcs port vc lp lv =
+    let most : suc port * vcs ≤ ports * vcs = mul-le (suc port) vcs ports vcs lp (omega arith) in
+    let next : suc port * vcs ≡ port * vcs + vcs = omega arith in
     omega arith
 
 -- and each line for one
-pub line_port : (ports channels line : ℕ) → 0 < channels → line < ports * channels
-    → (line / channels < ports) × (line % channels < channels)
-line_port ports channels line some l = ((div-lt_iff_lt-mul some).1 l, mod-lt line some)
+pub line_port : (ports vcs line : ℕ) → 0 < vcs → line < ports * vcs
+    → (line / vcs < ports) × (line % vcs < vcs)
+line_port ports vcs line some l = ((div-lt_iff_lt-mul some).1 l, mod-lt line some)
 
 -- the line of a place that is named by port and channel
-pub line_of_place : (channels port vc : ℕ) → vc < 8 → line_of channels (8 * port + vc) ≡ port * channels + vc
-line_of_place channels port vc within =
+pub line_of_place : (vcs port vc : ℕ) → vc < 8 → line_of vcs (8 * port + vc) ≡ port * vcs + vc
+line_of_place vcs port vc within =
     let p : (8 * port + vc) / 8 ≡ port = omega arith in
     let v : (8 * port + vc) % 8 ≡ vc = omega arith in
-    ap (λ k. k * channels + (8 * port + vc) % 8) p ∙ ap (λ k. port * channels + k) v
+    ap (λ k. k * vcs + (8 * port + vc) % 8) p ∙ ap (λ k. port * vcs + k) v

@@ -41,7 +41,7 @@ fold-range_more step x n = rw add-one (fold-range_suc step x 0 n
 pub record Reached (first : VcAllocState) (here there : VcPass) : Type 0 where
   pub is : here ≡ there
   pub ports : here.alloc.ports ≡ first.ports
-  pub channels : here.alloc.channels ≡ first.channels
+  pub vcs : here.alloc.vcs ≡ first.vcs
 
 -- the loop over channels: a free channel is offered
 pub channel_offered : (waiting : List (List (Option VcRequest))) (free : List (List Bool)) (first : VcAllocState)
@@ -50,7 +50,7 @@ pub channel_offered : (waiting : List (List (Option VcRequest))) (free : List (L
     → cell free out channel false ≡ true
     → there ≡ offered waiting here out channel
     → there.alloc.ports ≡ here.alloc.ports
-    → there.alloc.channels ≡ here.alloc.channels
+    → there.alloc.vcs ≡ here.alloc.vcs
     → Reached first there (fold (vc_step waiting free out) start (range_with_len 0 (channel + 1)))
 channel_offered waiting free first start here there out channel r is_free is same_ports same_channels = record {
   is = is ∙ ap (λ p. offered waiting p out channel) r.is
@@ -59,7 +59,7 @@ channel_offered waiting free first start here there out channel r is_free is sam
       (fold (vc_step waiting free out) start (range_with_len 0 channel))) is_free)
       ∙ sym (fold-range_more (vc_step waiting free out) start channel);
   ports = same_ports ∙ r.ports;
-  channels = same_channels ∙ r.channels;
+  vcs = same_channels ∙ r.vcs;
 }
 
 -- the loop over channels: a held channel is passed over
@@ -76,7 +76,7 @@ channel_passed waiting free first start here there out channel r is_held is = re
       (fold (vc_step waiting free out) start (range_with_len 0 channel))) is_held)
       ∙ sym (fold-range_more (vc_step waiting free out) start channel);
   ports = ap (λ p. p.alloc.ports) is ∙ r.ports;
-  channels = ap (λ p. p.alloc.channels) is ∙ r.channels;
+  vcs = ap (λ p. p.alloc.vcs) is ∙ r.vcs;
 }
 
 -- the loop over ports
@@ -85,20 +85,20 @@ pub port_passed : (waiting : List (List (Option VcRequest))) (free : List (List 
     → Reached first here (fold (port_pass waiting free) start (range_with_len 0 out))
     → there ≡ port_pass waiting free here out
     → there.alloc.ports ≡ here.alloc.ports
-    → there.alloc.channels ≡ here.alloc.channels
+    → there.alloc.vcs ≡ here.alloc.vcs
     → Reached first there (fold (port_pass waiting free) start (range_with_len 0 (out + 1)))
 port_passed waiting free first start here there out r is same_ports same_channels = record {
   is = is ∙ ap (λ p. port_pass waiting free p out) r.is ∙ sym (fold-range_more (port_pass waiting free) start out);
   ports = same_ports ∙ r.ports;
-  channels = same_channels ∙ r.channels;
+  vcs = same_channels ∙ r.vcs;
 }
 
 -- ---- what an offer leaves
 
 -- a pass of an allocator that is kept by places
 abbrev pub pass_at : ℕ → ℕ → List (List ℕ) → List (List (Option ℕ)) → VcPass
-pass_at ports channels places grants = record {
-  alloc = record { ports = ports; channels = channels; arbiters = arbiters_at ports channels places };
+pass_at ports vcs places grants = record {
+  alloc = record { ports = ports; vcs = vcs; arbiters = arbiters_at ports vcs places };
   grants = grants;
 }
 
@@ -111,17 +111,17 @@ offered_in_vain waiting pass out channel nobody =
     (λ line. record {
       alloc = record {
         ports = pass.alloc.ports;
-        channels = pass.alloc.channels;
+        vcs = pass.alloc.vcs;
         arbiters = with_cell pass.alloc.arbiters out channel
             (after_pick (cell pass.alloc.arbiters out channel no_arbiter) line);
       };
-      grants = with_grant pass.alloc.channels pass.grants channel line;
+      grants = with_grant pass.alloc.vcs pass.grants channel line;
     })
     nobody
     ∙ ap (λ arbiters. record {
       alloc = record {
         ports = pass.alloc.ports;
-        channels = pass.alloc.channels;
+        vcs = pass.alloc.vcs;
         arbiters = arbiters;
       };
       grants = pass.grants;
@@ -129,115 +129,115 @@ offered_in_vain waiting pass out channel nobody =
 
 -- one whose requesters are a set, of which one is the first from the place of its arbiter
 pub offered_first : (waiting : List (List (Option VcRequest))) (grants : List (List (Option ℕ)))
-    (ports channels : ℕ) (places : List (List ℕ)) (out channel asking d port vc : ℕ)
-    → IsPlaced ports channels places → out < ports → channel < channels
-    → AreAsking waiting grants ports channels out channel asking
+    (ports vcs : ℕ) (places : List (List ℕ)) (out channel asking d port vc : ℕ)
+    → IsPlaced ports vcs places → out < ports → channel < vcs
+    → AreAsking waiting grants ports vcs out channel asking
     → IsFirstFrom asking (cell places out channel d + 1) port vc
     → record {
       alloc = record {
         ports = ports;
-        channels = channels;
-        arbiters = arbiters_at ports channels (with_cell places out channel (8 * port + vc));
+        vcs = vcs;
+        arbiters = arbiters_at ports vcs (with_cell places out channel (8 * port + vc));
       };
       grants = with_cell grants port vc (Some channel);
     }
-    ≡ offered waiting (pass_at ports channels places grants) out channel
+    ≡ offered waiting (pass_at ports vcs places grants) out channel
 unfolding offered
-offered_first waiting grants ports channels places out channel asking d port vc h lo lc a f =
+offered_first waiting grants ports vcs places out channel asking d port vc h lo lc a f =
     let few = h.few_ports in
     let few' = h.few_channels in
-    let old = cell_at ports channels places out channel h (omega arith) (omega arith) in
-    let start = place_in ports channels places out channel h (omega arith) (omega arith) in
+    let old = cell_at ports vcs places out channel h (omega arith) (omega arith) in
+    let start = place_in ports vcs places out channel h (omega arith) (omega arith) in
     let place = a.within port vc f.port_in f.channel_in f.first.requests in
-    let won : Some (port * channels + vc) ≡ vc_winner waiting (pass_at ports channels places grants) out channel =
-    first_wins ports channels (cell places out channel 0) asking port vc (is_requester waiting grants out channel)
+    let won : Some (port * vcs + vc) ≡ vc_winner waiting (pass_at ports vcs places grants) out channel =
+    first_wins ports vcs (cell places out channel 0) asking port vc (is_requester waiting grants out channel)
     few h.some_channel few' start.port_in start.channel_in place.0 place.1 a.requesters
     (subst (λ s. IsFirstFrom asking (s + 1) port vc)
     (sym (get_or_default (slice_index_or places out []) channel 0 d
     (omega (arith, h.shape.columns out (omega arith)))))
     f)
-    ∙ ap (λ b. winner b (λ line. is_requester waiting grants out channel (line / channels) (line % channels)))
+    ∙ ap (λ b. winner b (λ line. is_requester waiting grants out channel (line / vcs) (line % vcs)))
     (sym old) in
     ap (λ arbiters. record {
-      alloc = record { ports = ports; channels = channels; arbiters = arbiters };
+      alloc = record { ports = ports; vcs = vcs; arbiters = arbiters };
       grants = with_cell grants port vc (Some channel);
-    }) (arbiters_at_moved ports channels places out channel (8 * port + vc)
-    ∙ ap (with_cell (arbiters_at ports channels places) out channel)
-    (arbiter_after ports channels (cell places out channel 0) port vc (omega (arith, f.channel_in))
-    ∙ ap (λ b. after_pick b (Some (port * channels + vc))) (sym old)))
+    }) (arbiters_at_moved ports vcs places out channel (8 * port + vc)
+    ∙ ap (with_cell (arbiters_at ports vcs places) out channel)
+    (arbiter_after ports vcs (cell places out channel 0) port vc (omega (arith, f.channel_in))
+    ∙ ap (λ b. after_pick b (Some (port * vcs + vc))) (sym old)))
     ∙ ap (λ granted. record {
       alloc = record {
         ports = ports;
-        channels = channels;
-        arbiters = with_cell (arbiters_at ports channels places) out channel
-            (after_pick (cell (arbiters_at ports channels places) out channel no_arbiter)
-            (Some (port * channels + vc)));
+        vcs = vcs;
+        arbiters = with_cell (arbiters_at ports vcs places) out channel
+            (after_pick (cell (arbiters_at ports vcs places) out channel no_arbiter)
+            (Some (port * vcs + vc)));
       };
       grants = granted;
-    }) (sym (at_line (λ p v. with_cell grants p v (Some channel)) port channels vc place.1))
+    }) (sym (at_line (λ p v. with_cell grants p v (Some channel)) port vcs vc place.1))
     ∙ ap (λ line. record {
       alloc = record {
         ports = ports;
-        channels = channels;
-        arbiters = with_cell (arbiters_at ports channels places) out channel
-            (after_pick (cell (arbiters_at ports channels places) out channel no_arbiter) line);
+        vcs = vcs;
+        arbiters = with_cell (arbiters_at ports vcs places) out channel
+            (after_pick (cell (arbiters_at ports vcs places) out channel no_arbiter) line);
       };
-      grants = with_grant channels grants channel line;
+      grants = with_grant vcs grants channel line;
     }) won
 
 -- one whose requesters are the empty set
 pub offered_none : (waiting : List (List (Option VcRequest))) (grants : List (List (Option ℕ)))
-    (ports channels : ℕ) (places : List (List ℕ)) (out channel asking : ℕ)
-    → IsPlaced ports channels places → out < ports → channel < channels
-    → AreAsking waiting grants ports channels out channel asking → asking ≡ 0
-    → pass_at ports channels places grants ≡ offered waiting (pass_at ports channels places grants) out channel
-offered_none waiting grants ports channels places out channel asking h lo lc a empty =
+    (ports vcs : ℕ) (places : List (List ℕ)) (out channel asking : ℕ)
+    → IsPlaced ports vcs places → out < ports → channel < vcs
+    → AreAsking waiting grants ports vcs out channel asking → asking ≡ 0
+    → pass_at ports vcs places grants ≡ offered waiting (pass_at ports vcs places grants) out channel
+offered_none waiting grants ports vcs places out channel asking h lo lc a empty =
     let few = h.few_ports in
     let few' = h.few_channels in
-    let start = place_in ports channels places out channel h (omega arith) (omega arith) in
-    sym (offered_in_vain waiting (pass_at ports channels places grants) out channel
-    (sym (none_wins ports channels (cell places out channel 0) asking (is_requester waiting grants out channel)
+    let start = place_in ports vcs places out channel h (omega arith) (omega arith) in
+    sym (offered_in_vain waiting (pass_at ports vcs places grants) out channel
+    (sym (none_wins ports vcs (cell places out channel 0) asking (is_requester waiting grants out channel)
     h.some_channel start.port_in start.channel_in a.requesters empty
-    ∙ ap (λ b. winner b (λ line. is_requester waiting grants out channel (line / channels) (line % channels)))
-    (sym (cell_at ports channels places out channel h (omega arith) (omega arith))))))
+    ∙ ap (λ b. winner b (λ line. is_requester waiting grants out channel (line / vcs) (line % vcs)))
+    (sym (cell_at ports vcs places out channel h (omega arith) (omega arith))))))
 
 -- one that nobody asks for
 offered_unasked : (waiting : List (List (Option VcRequest))) (pass : VcPass) (out channel : ℕ)
-    → IsVcAlloc pass.alloc.ports pass.alloc.channels pass.alloc.arbiters
-    → out < pass.alloc.ports → channel < pass.alloc.channels
-    → ((p v : ℕ) → p < pass.alloc.ports → v < pass.alloc.channels → is_for (cell waiting p v None) out ≡ false)
+    → IsVcAlloc pass.alloc.ports pass.alloc.vcs pass.alloc.arbiters
+    → out < pass.alloc.ports → channel < pass.alloc.vcs
+    → ((p v : ℕ) → p < pass.alloc.ports → v < pass.alloc.vcs → is_for (cell waiting p v None) out ≡ false)
     → offered waiting pass out channel ≡ pass
 offered_unasked waiting pass out channel r lo lc none =
     let few = r.few_ports in
     let few' = r.few_channels in
     let a : ArbiterState = cell pass.alloc.arbiters out channel no_arbiter in
-    let wide : a.width ≡ pass.alloc.ports * pass.alloc.channels = r.width out channel (omega arith) (omega arith) in
-    let low : a.pointer < pass.alloc.ports * pass.alloc.channels = r.pointer out channel (omega arith) (omega arith) in
+    let wide : a.width ≡ pass.alloc.ports * pass.alloc.vcs = r.width out channel (omega arith) (omega arith) in
+    let low : a.pointer < pass.alloc.ports * pass.alloc.vcs = r.pointer out channel (omega arith) (omega arith) in
     offered_in_vain waiting pass out channel
     (winner_none a _ (omega arith)
     (λ line l.
-    let place = line_port pass.alloc.ports pass.alloc.channels line r.some_channel (omega arith) in
+    let place = line_port pass.alloc.ports pass.alloc.vcs line r.some_channel (omega arith) in
     ap
-    (λ b. (b && allows (cell waiting (line / pass.alloc.channels) (line % pass.alloc.channels) None) channel) && is_none
-    (cell pass.grants (line / pass.alloc.channels) (line % pass.alloc.channels) None))
-    (none (line / pass.alloc.channels) (line % pass.alloc.channels) place.0 place.1)))
+    (λ b. (b && allows (cell waiting (line / pass.alloc.vcs) (line % pass.alloc.vcs) None) channel) && is_none
+    (cell pass.grants (line / pass.alloc.vcs) (line % pass.alloc.vcs) None))
+    (none (line / pass.alloc.vcs) (line % pass.alloc.vcs) place.0 place.1)))
 
 -- an output port that nobody asks for is passed over
 pub port_pass_unasked : (waiting : List (List (Option VcRequest))) (free : List (List Bool)) (pass : VcPass) (out : ℕ)
-    → IsVcAlloc pass.alloc.ports pass.alloc.channels pass.alloc.arbiters
+    → IsVcAlloc pass.alloc.ports pass.alloc.vcs pass.alloc.arbiters
     → out < pass.alloc.ports
-    → ((p v : ℕ) → p < pass.alloc.ports → v < pass.alloc.channels → is_for (cell waiting p v None) out ≡ false)
+    → ((p v : ℕ) → p < pass.alloc.ports → v < pass.alloc.vcs → is_for (cell waiting p v None) out ≡ false)
     → port_pass waiting free pass out ≡ pass
 unfolding port_pass
-port_pass_unasked waiting free pass out r lo none = go pass.alloc.channels (omega arith) where
-  step : (channel : ℕ) → channel < pass.alloc.channels → vc_step waiting free out pass channel ≡ pass
+port_pass_unasked waiting free pass out r lo none = go pass.alloc.vcs (omega arith) where
+  step : (channel : ℕ) → channel < pass.alloc.vcs → vc_step waiting free out pass channel ≡ pass
   step channel lc = elim (cases_Bool (cell free out channel false)) [
     | inl is_free ↦ ap (λ b. cond b (offered waiting pass out channel) pass) is_free
         ∙ offered_unasked waiting pass out channel r lo lc none
     | inr is_held ↦ ap (λ b. cond b (offered waiting pass out channel) pass) is_held
   ]
 
-  go : (n : ℕ) → n ≤ pass.alloc.channels → fold (vc_step waiting free out) pass (range_with_len 0 n) ≡ pass
+  go : (n : ℕ) → n ≤ pass.alloc.vcs → fold (vc_step waiting free out) pass (range_with_len 0 n) ≡ pass
   go zero few = refl
   go (suc n) few = fold-range_next (vc_step waiting free out) pass n
       ∙ ap (λ p. vc_step waiting free out p n) (go n (omega arith)) ∙ step n (omega arith)

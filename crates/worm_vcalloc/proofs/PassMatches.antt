@@ -29,44 +29,44 @@ may_use_out r out channel out' channel' a b = one r (and_parts _ _ a).0 (and_par
   one (Some r) e e' = sym (eqb-true r.out out e) ∙ eqb-true r.out out' e'
 
 -- a pass that has come to the output channel that is number n
-pub record IsMatchingBelow (ports channels : ℕ) (waiting : List (List (Option VcRequest))) (free : List (List Bool))
+pub record IsMatchingBelow (ports vcs : ℕ) (waiting : List (List (Option VcRequest))) (free : List (List Bool))
     (n : ℕ) (pass : VcPass) : Type 0 where
   pub ports_stay : pass.alloc.ports ≡ ports
-  pub channels_stay : pass.alloc.channels ≡ channels
-  pub ready : (i j : ℕ) → i < ports → j < channels
-      → HasWidth (ports * channels) (cell pass.alloc.arbiters i j no_arbiter)
+  pub channels_stay : pass.alloc.vcs ≡ vcs
+  pub ready : (i j : ℕ) → i < ports → j < vcs
+      → HasWidth (ports * vcs) (cell pass.alloc.arbiters i j no_arbiter)
   pub table : IsTable pass.grants
   pub requested : (port vc channel : ℕ) → cell pass.grants port vc None ≡ Some channel
       → (out : ℕ) × HasWon waiting pass.grants port vc out channel × IsTrue (cell free out channel false)
-      × (port < ports) × (vc < channels) × (out < ports) × (channel < channels) × (out * channels + channel < n)
+      × (port < ports) × (vc < vcs) × (out < ports) × (channel < vcs) × (out * vcs + channel < n)
   pub once : (port vc port' vc' out channel : ℕ) → HasWon waiting pass.grants port vc out channel
       → HasWon waiting pass.grants port' vc' out channel → (port ≡ port') × (vc ≡ vc')
-  pub complete : (out channel port vc : ℕ) → channel < channels → out * channels + channel < n → port < ports
-      → vc < channels
+  pub complete : (out channel port vc : ℕ) → channel < vcs → out * vcs + channel < n → port < ports
+      → vc < vcs
       → IsTrue (cell free out channel false) → IsTrue (may_use (cell waiting port vc None) out channel)
       → cell pass.grants port vc None ≡ None
       → (port' : ℕ) × (vc' : ℕ) × HasWon waiting pass.grants port' vc' out channel
 
 -- the number of an output channel tells its port and channel
-same_number : (channels out channel out' channel' : ℕ) → channel < channels → channel' < channels
-    → out * channels + channel ≡ out' * channels + channel' → (out ≡ out') × (channel ≡ channel')
-same_number channels out channel out' channel' l l' e = (
-  sym (div-mul-add out channels channel l) ∙ ap (λ n. n / channels) e ∙ div-mul-add out' channels channel' l',
-  sym (mod-mul-add out channels channel l) ∙ ap (λ n. n % channels) e ∙ mod-mul-add out' channels channel' l',
+same_number : (vcs out channel out' channel' : ℕ) → channel < vcs → channel' < vcs
+    → out * vcs + channel ≡ out' * vcs + channel' → (out ≡ out') × (channel ≡ channel')
+same_number vcs out channel out' channel' l l' e = (
+  sym (div-mul-add out vcs channel l) ∙ ap (λ n. n / vcs) e ∙ div-mul-add out' vcs channel' l',
+  sym (mod-mul-add out vcs channel l) ∙ ap (λ n. n % vcs) e ∙ mod-mul-add out' vcs channel' l',
 )
 
 -- the step at a channel that is not free, or that nobody asks for, adds no grant
-nobody_wins : (ports channels : ℕ) (waiting : List (List (Option VcRequest))) (free : List (List Bool))
+nobody_wins : (ports vcs : ℕ) (waiting : List (List (Option VcRequest))) (free : List (List Bool))
     (pass pass' : VcPass) (out channel : ℕ)
-    → IsMatchingBelow ports channels waiting free (out * channels + channel) pass
-    → channel < channels
+    → IsMatchingBelow ports vcs waiting free (out * vcs + channel) pass
+    → channel < vcs
     → pass'.grants ≡ pass.grants
-    → pass'.alloc.ports ≡ ports → pass'.alloc.channels ≡ channels
-    → ((i j : ℕ) → i < ports → j < channels → HasWidth (ports * channels) (cell pass'.alloc.arbiters i j no_arbiter))
-    → ((port vc : ℕ) → port < ports → vc < channels → IsTrue (cell free out channel false)
+    → pass'.alloc.ports ≡ ports → pass'.alloc.vcs ≡ vcs
+    → ((i j : ℕ) → i < ports → j < vcs → HasWidth (ports * vcs) (cell pass'.alloc.arbiters i j no_arbiter))
+    → ((port vc : ℕ) → port < ports → vc < vcs → IsTrue (cell free out channel false)
     → IsTrue (may_use (cell waiting port vc None) out channel) → cell pass.grants port vc None ≡ None → ⊥)
-    → IsMatchingBelow ports channels waiting free (out * channels + channel + 1) pass'
-nobody_wins ports channels waiting free pass pass' out channel m lc same ps cs ready nobody = record {
+    → IsMatchingBelow ports vcs waiting free (out * vcs + channel + 1) pass'
+nobody_wins ports vcs waiting free pass pass' out channel m lc same ps cs ready nobody = record {
   ports_stay = ps;
   channels_stay = cs;
   ready = ready;
@@ -76,9 +76,9 @@ nobody_wins ports channels waiting free pass pass' out channel m lc same ps cs r
       (r.0, record { requested = r.1.requested; granted = g }, r.2, r.3, r.4, r.5, r.6, omega arith);
   once = λ p v p' v' o c w w'. m.once p v p' v' o c (before o c p v w) (before o c p' v' w');
   complete = λ o c p v lc' below lp lv f u none.
-      elim (cases_eq (o * channels + c) (out * channels + channel)) [
+      elim (cases_eq (o * vcs + c) (out * vcs + channel)) [
         | inl here ↦
-            let e = same_number channels o c out channel lc' lc here in
+            let e = same_number vcs o c out channel lc' lc here in
             let f' : IsTrue (cell free out channel false) =
             ap (λ k. cell free k channel false) (sym e.0) ∙ ap (λ k. cell free o k false) (sym e.1) ∙ f in
             let u' : IsTrue (may_use (cell waiting p v None) out channel) =
@@ -94,17 +94,17 @@ nobody_wins ports channels waiting free pass pass' out channel m lc same ps cs r
   before o c p v w = record { requested = w.requested; granted = ap (λ t. cell t p v None) (sym same) ∙ w.granted }
 
 -- the step at a channel whose winner is the input channel (port, vc)
-somebody_wins : (ports channels : ℕ) (waiting : List (List (Option VcRequest))) (free : List (List Bool))
+somebody_wins : (ports vcs : ℕ) (waiting : List (List (Option VcRequest))) (free : List (List Bool))
     (pass pass' : VcPass) (out channel port vc : ℕ)
-    → IsMatchingBelow ports channels waiting free (out * channels + channel) pass
-    → ports ≤ 7 → channels ≤ 8 → out < ports → channel < channels → port < ports → vc < channels
+    → IsMatchingBelow ports vcs waiting free (out * vcs + channel) pass
+    → ports ≤ 7 → vcs ≤ 8 → out < ports → channel < vcs → port < ports → vc < vcs
     → pass'.grants ≡ with_cell pass.grants port vc (Some channel)
-    → pass'.alloc.ports ≡ ports → pass'.alloc.channels ≡ channels
-    → ((i j : ℕ) → i < ports → j < channels → HasWidth (ports * channels) (cell pass'.alloc.arbiters i j no_arbiter))
+    → pass'.alloc.ports ≡ ports → pass'.alloc.vcs ≡ vcs
+    → ((i j : ℕ) → i < ports → j < vcs → HasWidth (ports * vcs) (cell pass'.alloc.arbiters i j no_arbiter))
     → IsTrue (cell free out channel false) → IsTrue (may_use (cell waiting port vc None) out channel)
     → cell pass.grants port vc None ≡ None
-    → IsMatchingBelow ports channels waiting free (out * channels + channel + 1) pass'
-somebody_wins ports channels waiting free pass pass' out channel port vc m few_ports few_channels lo lc lp lv is ps cs
+    → IsMatchingBelow ports vcs waiting free (out * vcs + channel + 1) pass'
+somebody_wins ports vcs waiting free pass pass' out channel port vc m few_ports few_channels lo lc lp lv is ps cs
     ready is_free asked ungranted = record {
       ports_stay = ps;
       channels_stay = cs;
@@ -126,7 +126,7 @@ somebody_wins ports channels waiting free pass pass' out channel port vc m few_p
               omega (arith, here.1),
               lo,
               omega arith,
-              let b : out * channels + c ≡ out * channels + channel = ap (λ k. out * channels + k) e in omega arith,
+              let b : out * vcs + c ≡ out * vcs + channel = ap (λ k. out * vcs + k) e in omega arith,
             )
         | inr apart ↦
             let r = m.requested p v c (sym (elsewhere p v apart) ∙ g) in
@@ -147,9 +147,9 @@ somebody_wins ports channels waiting free pass pass' out channel port vc m few_p
         ]
       ];
       complete = λ o c p v lc' below lp' lv' f u none.
-          elim (cases_eq (o * channels + c) (out * channels + channel)) [
+          elim (cases_eq (o * vcs + c) (out * vcs + channel)) [
             | inl here ↦
-                let e = same_number channels o c out channel lc' lc here in (
+                let e = same_number vcs o c out channel lc' lc here in (
                   port,
                   vc,
                   record {
@@ -204,8 +204,8 @@ somebody_wins ports channels waiting free pass pass' out channel port vc m few_p
           ∙ ap (λ k. may_use (cell waiting port k None) o c) here.1) ∙ w.requested) asked in
           let r = m.requested p' v' c (sym (elsewhere p' v' apart') ∙ w'.granted) in
           let eo' : r.0 ≡ o = may_use_out (cell waiting p' v' None) r.0 c o c r.1.requested w'.requested in
-          let number : r.0 * channels + c ≡ out * channels + channel =
-          ap (λ k. k * channels + c) (eo' ∙ eo) ∙ ap (λ k. out * channels + k) ec in
+          let number : r.0 * vcs + c ≡ out * vcs + channel =
+          ap (λ k. k * vcs + c) (eo' ∙ eo) ∙ ap (λ k. out * vcs + k) ec in
           omega (arith, r.7)
 
 none_from_is_none : (o : Option ℕ) → is_none o ≡ true → o ≡ None
@@ -213,25 +213,25 @@ none_from_is_none None e = refl
 none_from_is_none (Some x) e = absurd (cc)
 
 -- what a pass keeps of its arbiters where a free output channel is offered
-record OfferKeeps (ports channels : ℕ) (waiting : List (List (Option VcRequest))) (pass : VcPass)
+record OfferKeeps (ports vcs : ℕ) (waiting : List (List (Option VcRequest))) (pass : VcPass)
     (out channel : ℕ) : Type 0 where
   keeps_ports : (offered waiting pass out channel).alloc.ports ≡ ports
-  keeps_channels : (offered waiting pass out channel).alloc.channels ≡ channels
-  keeps_ready : (i j : ℕ) → i < ports → j < channels
-      → HasWidth (ports * channels) (cell (offered waiting pass out channel).alloc.arbiters i j no_arbiter)
+  keeps_channels : (offered waiting pass out channel).alloc.vcs ≡ vcs
+  keeps_ready : (i j : ℕ) → i < ports → j < vcs
+      → HasWidth (ports * vcs) (cell (offered waiting pass out channel).alloc.arbiters i j no_arbiter)
 
-offer_keeps : (ports channels : ℕ) (waiting : List (List (Option VcRequest))) (free : List (List Bool)) (pass : VcPass)
+offer_keeps : (ports vcs : ℕ) (waiting : List (List (Option VcRequest))) (free : List (List Bool)) (pass : VcPass)
     (out channel : ℕ)
-    → IsMatchingBelow ports channels waiting free (out * channels + channel) pass
-    → ports ≤ 7 → channels ≤ 8 → out < ports → channel < channels
-    → OfferKeeps ports channels waiting pass out channel
+    → IsMatchingBelow ports vcs waiting free (out * vcs + channel) pass
+    → ports ≤ 7 → vcs ≤ 8 → out < ports → channel < vcs
+    → OfferKeeps ports vcs waiting pass out channel
 unfolding offered
-offer_keeps ports channels waiting free pass out channel m few_ports few_channels lo lc = record {
+offer_keeps ports vcs waiting free pass out channel m few_ports few_channels lo lc = record {
   keeps_ports = m.ports_stay;
   keeps_channels = m.channels_stay;
   keeps_ready = λ i j li lj.
-      cell-with_cell_keeps (HasWidth (ports * channels)) pass.alloc.arbiters out channel i j _ no_arbiter
-      (HasWidth-after_pick (ports * channels) (cell pass.alloc.arbiters out channel no_arbiter)
+      cell-with_cell_keeps (HasWidth (ports * vcs)) pass.alloc.arbiters out channel i j _ no_arbiter
+      (HasWidth-after_pick (ports * vcs) (cell pass.alloc.arbiters out channel no_arbiter)
       (vc_winner waiting pass out channel) (m.ready out channel lo lc))
       (m.ready i j li lj);
 }
@@ -239,132 +239,132 @@ offer_keeps ports channels waiting free pass out channel m few_ports few_channel
 -- the grants that an offer leaves, by its winner
 offered_grants : (waiting : List (List (Option VcRequest))) (pass : VcPass) (out channel : ℕ) (line : Option ℕ)
     → vc_winner waiting pass out channel ≡ line
-    → (offered waiting pass out channel).grants ≡ with_grant pass.alloc.channels pass.grants channel line
+    → (offered waiting pass out channel).grants ≡ with_grant pass.alloc.vcs pass.grants channel line
 unfolding offered
-offered_grants waiting pass out channel line e = ap (with_grant pass.alloc.channels pass.grants channel) e
+offered_grants waiting pass out channel line e = ap (with_grant pass.alloc.vcs pass.grants channel) e
 
 -- a free output channel is offered
-matching_offered : (ports channels : ℕ) (waiting : List (List (Option VcRequest))) (free : List (List Bool))
+matching_offered : (ports vcs : ℕ) (waiting : List (List (Option VcRequest))) (free : List (List Bool))
     (pass : VcPass) (out channel : ℕ)
-    → IsMatchingBelow ports channels waiting free (out * channels + channel) pass
-    → ports ≤ 7 → channels ≤ 8 → out < ports → channel < channels
+    → IsMatchingBelow ports vcs waiting free (out * vcs + channel) pass
+    → ports ≤ 7 → vcs ≤ 8 → out < ports → channel < vcs
     → IsTrue (cell free out channel false)
     → (line : Option ℕ) → vc_winner waiting pass out channel ≡ line
-    → IsMatchingBelow ports channels waiting free (out * channels + channel + 1) (offered waiting pass out channel)
-matching_offered ports channels waiting free pass out channel m few_ports few_channels lo lc is_free None e =
-    let k = offer_keeps ports channels waiting free pass out channel m few_ports few_channels lo lc in
+    → IsMatchingBelow ports vcs waiting free (out * vcs + channel + 1) (offered waiting pass out channel)
+matching_offered ports vcs waiting free pass out channel m few_ports few_channels lo lc is_free None e =
+    let k = offer_keeps ports vcs waiting free pass out channel m few_ports few_channels lo lc in
     let a : ArbiterState = cell pass.alloc.arbiters out channel no_arbiter in
     let h = m.ready out channel lo lc in
-    let wide : a.width ≡ ports * channels = h.wide in
-    let low : a.pointer < ports * channels = h.within in
-    let stay : pass.alloc.channels ≡ channels = m.channels_stay in
-    nobody_wins ports channels waiting free pass (offered waiting pass out channel) out channel m lc
+    let wide : a.width ≡ ports * vcs = h.wide in
+    let low : a.pointer < ports * vcs = h.within in
+    let stay : pass.alloc.vcs ≡ vcs = m.channels_stay in
+    nobody_wins ports vcs waiting free pass (offered waiting pass out channel) out channel m lc
     (offered_grants waiting pass out channel None e) k.keeps_ports k.keeps_channels k.keeps_ready
     (λ p v lp lv f u none.
-    let number : p * pass.alloc.channels + v ≡ p * channels + v = ap (λ n. p * n + v) stay in
-    let in_lines = line_within ports channels p v lp lv in
+    let number : p * pass.alloc.vcs + v ≡ p * vcs + v = ap (λ n. p * n + v) stay in
+    let in_lines = line_within ports vcs p v lp lv in
     let asked = winner_none_requests a (λ line. is_requester waiting pass.grants out channel
-    (line / pass.alloc.channels) (line % pass.alloc.channels)) (omega arith) e (p * pass.alloc.channels + v)
+    (line / pass.alloc.vcs) (line % pass.alloc.vcs)) (omega arith) e (p * pass.alloc.vcs + v)
     (omega arith) in
-    let here = at_line (is_requester waiting pass.grants out channel) p pass.alloc.channels v (omega arith) in
+    let here = at_line (is_requester waiting pass.grants out channel) p pass.alloc.vcs v (omega arith) in
     true≢false (sym (and_from _ _ u (ap is_none none)) ∙ sym here ∙ asked))
-matching_offered ports channels waiting free pass out channel m few_ports few_channels lo lc is_free (Some line) e =
-    let k = offer_keeps ports channels waiting free pass out channel m few_ports few_channels lo lc in
+matching_offered ports vcs waiting free pass out channel m few_ports few_channels lo lc is_free (Some line) e =
+    let k = offer_keeps ports vcs waiting free pass out channel m few_ports few_channels lo lc in
     let a : ArbiterState = cell pass.alloc.arbiters out channel no_arbiter in
     let h = m.ready out channel lo lc in
-    let wide : a.width ≡ ports * channels = h.wide in
-    let low : a.pointer < ports * channels = h.within in
-    let stay : pass.alloc.channels ≡ channels = m.channels_stay in
-    let lines : ports * pass.alloc.channels ≡ ports * channels = ap (λ n. ports * n) stay in
-    let won = winner_requests a (λ line. is_requester waiting pass.grants out channel (line / pass.alloc.channels)
-    (line % pass.alloc.channels)) line (omega arith) e in
-    let place = line_port ports pass.alloc.channels line (omega arith) (omega (arith, won.0)) in
+    let wide : a.width ≡ ports * vcs = h.wide in
+    let low : a.pointer < ports * vcs = h.within in
+    let stay : pass.alloc.vcs ≡ vcs = m.channels_stay in
+    let lines : ports * pass.alloc.vcs ≡ ports * vcs = ap (λ n. ports * n) stay in
+    let won = winner_requests a (λ line. is_requester waiting pass.grants out channel (line / pass.alloc.vcs)
+    (line % pass.alloc.vcs)) line (omega arith) e in
+    let place = line_port ports pass.alloc.vcs line (omega arith) (omega (arith, won.0)) in
     let parts = and_parts _ _ won.1 in
-    somebody_wins ports channels waiting free pass (offered waiting pass out channel) out channel
-    (line / pass.alloc.channels) (line % pass.alloc.channels) m few_ports few_channels lo lc
+    somebody_wins ports vcs waiting free pass (offered waiting pass out channel) out channel
+    (line / pass.alloc.vcs) (line % pass.alloc.vcs) m few_ports few_channels lo lc
     place.0 (omega (arith, place.1))
     (offered_grants waiting pass out channel (Some line) e) k.keeps_ports k.keeps_channels k.keeps_ready
     is_free parts.0 (none_from_is_none _ parts.1)
 
 -- ---- the whole pass
 
-matching_step : (ports channels : ℕ) (waiting : List (List (Option VcRequest))) (free : List (List Bool))
+matching_step : (ports vcs : ℕ) (waiting : List (List (Option VcRequest))) (free : List (List Bool))
     (pass : VcPass) (out channel : ℕ)
-    → IsMatchingBelow ports channels waiting free (out * channels + channel) pass
-    → ports ≤ 7 → channels ≤ 8 → out < ports → channel < channels
-    → IsMatchingBelow ports channels waiting free (out * channels + channel + 1) (vc_step waiting free out pass channel)
-matching_step ports channels waiting free pass out channel m few_ports few_channels lo lc =
+    → IsMatchingBelow ports vcs waiting free (out * vcs + channel) pass
+    → ports ≤ 7 → vcs ≤ 8 → out < ports → channel < vcs
+    → IsMatchingBelow ports vcs waiting free (out * vcs + channel + 1) (vc_step waiting free out pass channel)
+matching_step ports vcs waiting free pass out channel m few_ports few_channels lo lc =
     elim (cases_Bool (cell free out channel false)) [
       | inl is_free ↦
           let step : vc_step waiting free out pass channel ≡ offered waiting pass out channel =
           ap (λ b. cond b (offered waiting pass out channel) pass) is_free in
-          subst (IsMatchingBelow ports channels waiting free (out * channels + channel + 1)) (sym step)
-          (matching_offered ports channels waiting free pass out channel m few_ports few_channels lo lc is_free
+          subst (IsMatchingBelow ports vcs waiting free (out * vcs + channel + 1)) (sym step)
+          (matching_offered ports vcs waiting free pass out channel m few_ports few_channels lo lc is_free
           (vc_winner waiting pass out channel) refl)
       | inr is_held ↦
           let step : vc_step waiting free out pass channel ≡ pass =
           ap (λ b. cond b (offered waiting pass out channel) pass) is_held in
-          subst (IsMatchingBelow ports channels waiting free (out * channels + channel + 1)) (sym step)
-          (nobody_wins ports channels waiting free pass pass out channel m lc refl m.ports_stay m.channels_stay m.ready
+          subst (IsMatchingBelow ports vcs waiting free (out * vcs + channel + 1)) (sym step)
+          (nobody_wins ports vcs waiting free pass pass out channel m lc refl m.ports_stay m.channels_stay m.ready
           (λ p v lp lv f u none. true≢false (sym f ∙ is_held)))
     ]
 
 -- the first channels of one port
-matching_channels : (ports channels : ℕ) (waiting : List (List (Option VcRequest))) (free : List (List Bool))
+matching_channels : (ports vcs : ℕ) (waiting : List (List (Option VcRequest))) (free : List (List Bool))
     (pass : VcPass) (out n : ℕ)
-    → IsMatchingBelow ports channels waiting free (out * channels) pass
-    → ports ≤ 7 → channels ≤ 8 → out < ports → n ≤ channels
-    → IsMatchingBelow ports channels waiting free (out * channels + n)
+    → IsMatchingBelow ports vcs waiting free (out * vcs) pass
+    → ports ≤ 7 → vcs ≤ 8 → out < ports → n ≤ vcs
+    → IsMatchingBelow ports vcs waiting free (out * vcs + n)
     (fold (vc_step waiting free out) pass (range_with_len 0 n))
-matching_channels ports channels waiting free pass out zero m few_ports few_channels lo ln =
-    let e : out * channels + 0 ≡ out * channels = omega arith in
-    subst (λ k. IsMatchingBelow ports channels waiting free k pass) (sym e) m
-matching_channels ports channels waiting free pass out (suc n) m few_ports few_channels lo ln =
-    let r = matching_channels ports channels waiting free pass out n m few_ports few_channels lo (omega arith) in
-    let s = matching_step ports channels waiting free
+matching_channels ports vcs waiting free pass out zero m few_ports few_channels lo ln =
+    let e : out * vcs + 0 ≡ out * vcs = omega arith in
+    subst (λ k. IsMatchingBelow ports vcs waiting free k pass) (sym e) m
+matching_channels ports vcs waiting free pass out (suc n) m few_ports few_channels lo ln =
+    let r = matching_channels ports vcs waiting free pass out n m few_ports few_channels lo (omega arith) in
+    let s = matching_step ports vcs waiting free
     (fold (vc_step waiting free out) pass (range_with_len 0 n)) out n r few_ports few_channels lo ln in
-    let e : out * channels + n + 1 ≡ out * channels + suc n = omega arith in
-    subst (IsMatchingBelow ports channels waiting free (out * channels + suc n))
+    let e : out * vcs + n + 1 ≡ out * vcs + suc n = omega arith in
+    subst (IsMatchingBelow ports vcs waiting free (out * vcs + suc n))
     (sym (fold-range_next (vc_step waiting free out) pass n))
-    (subst (λ k. IsMatchingBelow ports channels waiting free k
+    (subst (λ k. IsMatchingBelow ports vcs waiting free k
     (vc_step waiting free out (fold (vc_step waiting free out) pass (range_with_len 0 n)) n)) e s)
 
-matching_port : (ports channels : ℕ) (waiting : List (List (Option VcRequest))) (free : List (List Bool))
+matching_port : (ports vcs : ℕ) (waiting : List (List (Option VcRequest))) (free : List (List Bool))
     (pass : VcPass) (out : ℕ)
-    → IsMatchingBelow ports channels waiting free (out * channels) pass
-    → ports ≤ 7 → channels ≤ 8 → out < ports
-    → IsMatchingBelow ports channels waiting free (suc out * channels) (port_pass waiting free pass out)
+    → IsMatchingBelow ports vcs waiting free (out * vcs) pass
+    → ports ≤ 7 → vcs ≤ 8 → out < ports
+    → IsMatchingBelow ports vcs waiting free (suc out * vcs) (port_pass waiting free pass out)
 unfolding port_pass
-matching_port ports channels waiting free pass out m few_ports few_channels lo =
-    let stay : pass.alloc.channels ≡ channels = m.channels_stay in
-    let r = matching_channels ports channels waiting free pass out channels m few_ports few_channels lo (omega arith) in
-    let e : out * channels + channels ≡ suc out * channels = omega arith in
-    subst (λ n. IsMatchingBelow ports channels waiting free (suc out * channels)
+matching_port ports vcs waiting free pass out m few_ports few_channels lo =
+    let stay : pass.alloc.vcs ≡ vcs = m.channels_stay in
+    let r = matching_channels ports vcs waiting free pass out vcs m few_ports few_channels lo (omega arith) in
+    let e : out * vcs + vcs ≡ suc out * vcs = omega arith in
+    subst (λ n. IsMatchingBelow ports vcs waiting free (suc out * vcs)
     (fold (vc_step waiting free out) pass (range_with_len 0 n))) (sym stay)
-    (subst (λ k. IsMatchingBelow ports channels waiting free k
-    (fold (vc_step waiting free out) pass (range_with_len 0 channels))) e r)
+    (subst (λ k. IsMatchingBelow ports vcs waiting free k
+    (fold (vc_step waiting free out) pass (range_with_len 0 vcs))) e r)
 
 -- the first ports
-matching_ports : (ports channels : ℕ) (waiting : List (List (Option VcRequest))) (free : List (List Bool))
+matching_ports : (ports vcs : ℕ) (waiting : List (List (Option VcRequest))) (free : List (List Bool))
     (pass : VcPass) (n : ℕ)
-    → IsMatchingBelow ports channels waiting free 0 pass
-    → ports ≤ 7 → channels ≤ 8 → n ≤ ports
-    → IsMatchingBelow ports channels waiting free (n * channels)
+    → IsMatchingBelow ports vcs waiting free 0 pass
+    → ports ≤ 7 → vcs ≤ 8 → n ≤ ports
+    → IsMatchingBelow ports vcs waiting free (n * vcs)
     (fold (port_pass waiting free) pass (range_with_len 0 n))
-matching_ports ports channels waiting free pass zero m few_ports few_channels ln =
-    let e : 0 * channels ≡ 0 = omega arith in
-    subst (λ k. IsMatchingBelow ports channels waiting free k pass) (sym e) m
-matching_ports ports channels waiting free pass (suc n) m few_ports few_channels ln =
-    let r = matching_ports ports channels waiting free pass n m few_ports few_channels (omega arith) in
-    subst (IsMatchingBelow ports channels waiting free (suc n * channels))
+matching_ports ports vcs waiting free pass zero m few_ports few_channels ln =
+    let e : 0 * vcs ≡ 0 = omega arith in
+    subst (λ k. IsMatchingBelow ports vcs waiting free k pass) (sym e) m
+matching_ports ports vcs waiting free pass (suc n) m few_ports few_channels ln =
+    let r = matching_ports ports vcs waiting free pass n m few_ports few_channels (omega arith) in
+    subst (IsMatchingBelow ports vcs waiting free (suc n * vcs))
     (sym (fold-range_next (port_pass waiting free) pass n))
-    (matching_port ports channels waiting free
+    (matching_port ports vcs waiting free
     (fold (port_pass waiting free) pass (range_with_len 0 n)) n r few_ports few_channels ln)
 
 -- before a pass
 matching_start : (waiting : List (List (Option VcRequest))) (free : List (List Bool)) (s : VcAllocState)
-    → IsVcAlloc s.ports s.channels s.arbiters
-    → IsMatchingBelow s.ports s.channels waiting free 0 (record { alloc = s; grants = replicate 7 (replicate 8 None) })
+    → IsVcAlloc s.ports s.vcs s.arbiters
+    → IsMatchingBelow s.ports s.vcs waiting free 0 (record { alloc = s; grants = replicate 7 (replicate 8 None) })
 matching_start waiting free s ready = record {
   ports_stay = refl;
   channels_stay = refl;
@@ -381,27 +381,27 @@ matching_start waiting free s ready = record {
 
 -- the grants of a whole pass are a matching
 pub matching_pass : (waiting : List (List (Option VcRequest))) (free : List (List Bool)) (s : VcAllocState)
-    → IsVcAlloc s.ports s.channels s.arbiters
-    → IsChannelMatching s.ports s.channels waiting free
+    → IsVcAlloc s.ports s.vcs s.arbiters
+    → IsChannelMatching s.ports s.vcs waiting free
     (vc_pass waiting free (record { alloc = s; grants = replicate 7 (replicate 8 None) })).grants
 unfolding vc_pass
 matching_pass waiting free s ready =
-    let m = matching_ports s.ports s.channels waiting free
+    let m = matching_ports s.ports s.vcs waiting free
     (record { alloc = s; grants = replicate 7 (replicate 8 None) }) s.ports
     (matching_start waiting free s ready) ready.few_ports ready.few_channels (omega arith) in
     record {
       requested = λ p v c g. let r = m.requested p v c g in (r.0, r.1, r.2, r.3, r.4, r.5, r.6);
       once = m.once;
       complete = λ o c p v lo lc lp lv f u none. m.complete o c p v lc
-          (line_within s.ports s.channels o c lo lc) lp lv f u none;
+          (line_within s.ports s.vcs o c lo lc) lp lv f u none;
     }
 
 -- and so are grants that are those of a pass
 pub matching_of : (waiting : List (List (Option VcRequest))) (free : List (List Bool)) (s new : VcAllocState)
-    (grants : List (List (Option ℕ))) → IsVcAlloc s.ports s.channels s.arbiters
+    (grants : List (List (Option ℕ))) → IsVcAlloc s.ports s.vcs s.arbiters
     → record { alloc = new; grants = grants }
     ≡ vc_pass waiting free (record { alloc = s; grants = replicate 7 (replicate 8 None) })
-    → IsChannelMatching s.ports s.channels waiting free grants
+    → IsChannelMatching s.ports s.vcs waiting free grants
 matching_of waiting free s new grants ready e =
-    subst (IsChannelMatching s.ports s.channels waiting free) (sym (ap (λ (p : VcPass). p.grants) e))
+    subst (IsChannelMatching s.ports s.vcs waiting free) (sym (ap (λ (p : VcPass). p.grants) e))
     (matching_pass waiting free s ready)

@@ -17,67 +17,67 @@ use Rattle.worm_vcalloc.proofs.Winner.{winner_is_first}
 use Rattle.worm_vcalloc.proofs.Winner.{winner_ahead, winner_from_low}
 
 -- a lower port has the lower lines
-port_first : (channels x y : ℕ) → x % 8 < channels → x / 8 < y / 8 → line_of channels x < line_of channels y
-port_first channels x y lx below =
-    let most : suc (x / 8) * channels ≤ y / 8 * channels = mul-le (suc (x / 8)) channels (y / 8) channels below
+port_first : (vcs x y : ℕ) → x % 8 < vcs → x / 8 < y / 8 → line_of vcs x < line_of vcs y
+port_first vcs x y lx below =
+    let most : suc (x / 8) * vcs ≤ y / 8 * vcs = mul-le (suc (x / 8)) vcs (y / 8) vcs below
     (omega arith) in
-    let next : suc (x / 8) * channels ≡ x / 8 * channels + channels = omega arith in
+    let next : suc (x / 8) * vcs ≡ x / 8 * vcs + vcs = omega arith in
     omega arith
 
-pub lines_rise : (channels x y : ℕ) → x % 8 < channels → x < y → line_of channels x < line_of channels y
-lines_rise channels x y lx below = elim (cases_eq (x / 8) (y / 8)) [
-  | inl same ↦ let row = ap (λ p. p * channels) same in omega arith
-  | inr other ↦ port_first channels x y lx (omega arith)
+pub lines_rise : (vcs x y : ℕ) → x % 8 < vcs → x < y → line_of vcs x < line_of vcs y
+lines_rise vcs x y lx below = elim (cases_eq (x / 8) (y / 8)) [
+  | inl same ↦ let row = ap (λ p. p * vcs) same in omega arith
+  | inr other ↦ port_first vcs x y lx (omega arith)
 ]
 
-lines_keep : (channels x y : ℕ) → x % 8 < channels → x ≤ y → line_of channels x ≤ line_of channels y
-lines_keep channels x y lx upto = elim (cases_eq x y) [
-  | inl same ↦ let line = ap (line_of channels) same in omega arith
-  | inr other ↦ let line = lines_rise channels x y lx (omega arith) in omega arith
+lines_keep : (vcs x y : ℕ) → x % 8 < vcs → x ≤ y → line_of vcs x ≤ line_of vcs y
+lines_keep vcs x y lx upto = elim (cases_eq x y) [
+  | inl same ↦ let line = ap (line_of vcs) same in omega arith
+  | inr other ↦ let line = lines_rise vcs x y lx (omega arith) in omega arith
 ]
 
 -- ---- the one that is asked first
 
 -- the arbiter whose pointer stands behind the line of a place, be it behind the last
 abbrev pub behind_line : ℕ → ℕ → ℕ → ArbiterState
-behind_line ports channels place = record { width = ports * channels; pointer = line_of channels place + 1 }
+behind_line ports vcs place = record { width = ports * vcs; pointer = line_of vcs place + 1 }
 
 -- what is asked no later among the places is asked no later among the lines
-asked_alike : (ports channels place x y : ℕ) → place % 8 < channels → x % 8 < channels → y % 8 < channels
-    → x < 56 → y < 56 → line_of channels x < ports * channels → line_of channels place < ports * channels
+asked_alike : (ports vcs place x y : ℕ) → place % 8 < vcs → x % 8 < vcs → y % 8 < vcs
+    → x < 56 → y < 56 → line_of vcs x < ports * vcs → line_of vcs place < ports * vcs
     → asked_before (record { width = 56; pointer = place + 1 }) x
     ≤ asked_before (record { width = 56; pointer = place + 1 }) y
-    → asked_before (behind_line ports channels place) (line_of channels x)
-    ≤ asked_before (behind_line ports channels place) (line_of channels y)
-asked_alike ports channels place x y lp lx ly hx hy inside start before =
+    → asked_before (behind_line ports vcs place) (line_of vcs x)
+    ≤ asked_before (behind_line ports vcs place) (line_of vcs y)
+asked_alike ports vcs place x y lp lx ly hx hy inside start before =
     elim (cases_lt x (place + 1)) [
       | inl x_behind ↦
           let x_at = asked_behind places x x_behind in
-          let x_kept = lines_keep channels x place lx (omega arith) in
-          let x_line = asked_behind lines (line_of channels x) (omega (arith, x_kept)) in
+          let x_kept = lines_keep vcs x place lx (omega arith) in
+          let x_line = asked_behind lines (line_of vcs x) (omega (arith, x_kept)) in
           elim (cases_lt y (place + 1)) [
             | inl y_behind ↦
                 let y_at = asked_behind places y y_behind in
-                let y_kept = lines_keep channels y place ly (omega arith) in
-                let y_line = asked_behind lines (line_of channels y) (omega (arith, y_kept)) in
-                let order = lines_keep channels x y lx (omega arith) in
+                let y_kept = lines_keep vcs y place ly (omega arith) in
+                let y_line = asked_behind lines (line_of vcs y) (omega (arith, y_kept)) in
+                let order = lines_keep vcs x y lx (omega arith) in
                 omega arith
             | inr y_ahead ↦ let y_at = asked_ahead places y y_ahead in absurd (omega arith)
           ]
       | inr x_ahead ↦
           let x_at = asked_ahead places x x_ahead in
-          let x_risen = lines_rise channels place x lp (omega arith) in
-          let x_line = asked_ahead lines (line_of channels x) (omega (arith, x_risen)) in
+          let x_risen = lines_rise vcs place x lp (omega arith) in
+          let x_line = asked_ahead lines (line_of vcs x) (omega (arith, x_risen)) in
           elim (cases_lt y (place + 1)) [
             | inl y_behind ↦
-                let y_kept = lines_keep channels y place ly (omega arith) in
-                let y_line = asked_behind lines (line_of channels y) (omega (arith, y_kept)) in
+                let y_kept = lines_keep vcs y place ly (omega arith) in
+                let y_line = asked_behind lines (line_of vcs y) (omega (arith, y_kept)) in
                 omega arith
             | inr y_ahead ↦
                 let y_at = asked_ahead places y y_ahead in
-                let y_risen = lines_rise channels place y lp (omega arith) in
-                let y_line = asked_ahead lines (line_of channels y) (omega (arith, y_risen)) in
-                let order = lines_keep channels x y lx (omega arith) in
+                let y_risen = lines_rise vcs place y lp (omega arith) in
+                let y_line = asked_ahead lines (line_of vcs y) (omega (arith, y_risen)) in
+                let order = lines_keep vcs x y lx (omega arith) in
                 omega arith
           ]
     ] where
@@ -85,59 +85,59 @@ asked_alike ports channels place x y lp lx ly hx hy inside start before =
       places = record { width = 56; pointer = place + 1 }
 
       lines : ArbiterState
-      lines = behind_line ports channels place
+      lines = behind_line ports vcs place
 
 -- the first of a set of input channels wins among their lines
-pub first_wins : (ports channels place set port vc : ℕ) (asks : ℕ → ℕ → Bool) → ports ≤ 7 → 0 < channels
-    → channels ≤ 8 → place / 8 < ports → place % 8 < channels → port < ports → vc < channels
-    → ((p v : ℕ) → p < ports → v < channels → has set p v ≡ asks p v) → IsFirstFrom set (place + 1) port vc
-    → Some (port * channels + vc)
-    ≡ winner (arbiter_at ports channels place) (λ line. asks (line / channels) (line % channels))
-first_wins ports channels place set port vc asks few some few' lp lp' l l' same f =
-    sym (first_is_winner (arbiter_at ports channels place) _ (port * channels + vc) (omega (arith, pointed)) (record {
+pub first_wins : (ports vcs place set port vc : ℕ) (asks : ℕ → ℕ → Bool) → ports ≤ 7 → 0 < vcs
+    → vcs ≤ 8 → place / 8 < ports → place % 8 < vcs → port < ports → vc < vcs
+    → ((p v : ℕ) → p < ports → v < vcs → has set p v ≡ asks p v) → IsFirstFrom set (place + 1) port vc
+    → Some (port * vcs + vc)
+    ≡ winner (arbiter_at ports vcs place) (λ line. asks (line / vcs) (line % vcs))
+first_wins ports vcs place set port vc asks few some few' lp lp' l l' same f =
+    sym (first_is_winner (arbiter_at ports vcs place) _ (port * vcs + vc) (omega (arith, pointed)) (record {
       within = inside;
-      requests = at_line asks port channels vc l' ∙ sym (same port vc l l') ∙ f.first.requests;
+      requests = at_line asks port vcs vc l' ∙ sym (same port vc l l') ∙ f.first.requests;
       first = λ line below asked.
-          let spot = line_port ports channels line some below in
-          let there : line / channels * channels + line % channels ≡ line =
-          let parts : channels * (line / channels) + line % channels ≡ line = omega arith in
-          let turned = mul_comm channels (line / channels) in omega arith in
-          let mine = line_of_place channels port vc (omega arith) in
-          let other = line_of_place channels (line / channels) (line % channels) (omega (arith, spot.1)) in
-          let order = f.first.first (8 * (line / channels) + line % channels) (omega (arith, spot.0, spot.1))
-          (same (line / channels) (line % channels) spot.0 spot.1 ∙ asked) in
-          let alike = asked_alike ports channels place (8 * port + vc) (8 * (line / channels) + line % channels) lp'
+          let spot = line_port ports vcs line some below in
+          let there : line / vcs * vcs + line % vcs ≡ line =
+          let parts : vcs * (line / vcs) + line % vcs ≡ line = omega arith in
+          let turned = mul_comm vcs (line / vcs) in omega arith in
+          let mine = line_of_place vcs port vc (omega arith) in
+          let other = line_of_place vcs (line / vcs) (line % vcs) (omega (arith, spot.1)) in
+          let order = f.first.first (8 * (line / vcs) + line % vcs) (omega (arith, spot.0, spot.1))
+          (same (line / vcs) (line % vcs) spot.0 spot.1 ∙ asked) in
+          let alike = asked_alike ports vcs place (8 * port + vc) (8 * (line / vcs) + line % vcs) lp'
           (omega arith) (omega (arith, spot.1)) (omega arith) (omega (arith, spot.0, spot.1))
           (omega (arith, mine, inside))
           start order in
           let later = rw (mine, other, there) at alike in
           rw (
-            asked_round (ports * channels) (line_of channels place) (port * channels + vc) start inside,
-            asked_round (ports * channels) (line_of channels place) line start below,
+            asked_round (ports * vcs) (line_of vcs place) (port * vcs + vc) start inside,
+            asked_round (ports * vcs) (line_of vcs place) line start below,
           ) later;
     }))
   where
-    inside : port * channels + vc < ports * channels
-    inside = line_within ports channels port vc l l'
+    inside : port * vcs + vc < ports * vcs
+    inside = line_within ports vcs port vc l l'
 
-    start : line_of channels place < ports * channels
-    start = line_within ports channels (place / 8) (place % 8) lp lp'
+    start : line_of vcs place < ports * vcs
+    start = line_within ports vcs (place / 8) (place % 8) lp lp'
 
-    pointed : (line_of channels place + 1) % (ports * channels) < ports * channels
-    pointed = mod-lt (line_of channels place + 1) (omega (arith, start))
+    pointed : (line_of vcs place + 1) % (ports * vcs) < ports * vcs
+    pointed = mod-lt (line_of vcs place + 1) (omega (arith, start))
 
 -- where the set is empty nobody wins
-pub none_wins : (ports channels place set : ℕ) (asks : ℕ → ℕ → Bool) → 0 < channels → place / 8 < ports
-    → place % 8 < channels → ((p v : ℕ) → p < ports → v < channels → has set p v ≡ asks p v) → set ≡ 0
-    → None ≡ winner (arbiter_at ports channels place) (λ line. asks (line / channels) (line % channels))
-none_wins ports channels place set asks some lp lp' same empty =
-    let start = line_within ports channels (place / 8) (place % 8) lp lp' in
-    let pointed : (line_of channels place + 1) % (ports * channels) < ports * channels =
-    mod-lt (line_of channels place + 1) (omega arith) in
-    sym (winner_none (arbiter_at ports channels place) _ (omega arith) (λ line below.
-    let spot = line_port ports channels line some below in
-    sym (same (line / channels) (line % channels) spot.0 spot.1)
-    ∙ ap (λ s. has s (line / channels) (line % channels)) empty ∙ has-zero (line / channels) (line % channels)))
+pub none_wins : (ports vcs place set : ℕ) (asks : ℕ → ℕ → Bool) → 0 < vcs → place / 8 < ports
+    → place % 8 < vcs → ((p v : ℕ) → p < ports → v < vcs → has set p v ≡ asks p v) → set ≡ 0
+    → None ≡ winner (arbiter_at ports vcs place) (λ line. asks (line / vcs) (line % vcs))
+none_wins ports vcs place set asks some lp lp' same empty =
+    let start = line_within ports vcs (place / 8) (place % 8) lp lp' in
+    let pointed : (line_of vcs place + 1) % (ports * vcs) < ports * vcs =
+    mod-lt (line_of vcs place + 1) (omega arith) in
+    sym (winner_none (arbiter_at ports vcs place) _ (omega arith) (λ line below.
+    let spot = line_port ports vcs line some below in
+    sym (same (line / vcs) (line % vcs) spot.0 spot.1)
+    ∙ ap (λ s. has s (line / vcs) (line % vcs)) empty ∙ has-zero (line / vcs) (line % vcs)))
 
 -- ---- as the code finds it
 

@@ -15,12 +15,12 @@ use Rattle.worm_vcalloc.specs.VcRequest.{may_use, is_for, allows}
 -- ---- what a router hears, of its own channels
 
 -- one of its input channels may use one of its output channels where it does as heard
-pub heard_use : (requests : List (List (Option VcRequest))) (ports channels p v out channel : ℕ) → p < ports
-    → v < channels → out < ports
-    → may_use (heard requests ports channels p v) out channel ≡ may_use (cell requests p v None) out channel
-heard_use requests ports channels p v out channel lp lv lo =
-    by_test (nat_lt p ports && nat_lt v channels) (cell requests p v None)
-    (and_from (nat_lt p ports) (nat_lt v channels) (lt-ltb p ports lp) (lt-ltb v channels lv))
+pub heard_use : (requests : List (List (Option VcRequest))) (ports vcs p v out channel : ℕ) → p < ports
+    → v < vcs → out < ports
+    → may_use (heard requests ports vcs p v) out channel ≡ may_use (cell requests p v None) out channel
+heard_use requests ports vcs p v out channel lp lv lo =
+    by_test (nat_lt p ports && nat_lt v vcs) (cell requests p v None)
+    (and_from (nat_lt p ports) (nat_lt v vcs) (lt-ltb p ports lp) (lt-ltb v vcs lv))
   where
     by_test : (b : Bool) (o : Option VcRequest) → b ≡ true
         → may_use (if b && is_below o ports then o else None) out channel ≡ may_use o out channel
@@ -34,12 +34,12 @@ heard_use requests ports channels p v out channel lp lv lo =
     ]
 
 -- and asks for an output port where it does as heard
-pub heard_for : (requests : List (List (Option VcRequest))) (ports channels p v out : ℕ) → p < ports
-    → v < channels → out < ports → is_for (cell requests p v None) out ≡ true
-    → is_for (heard requests ports channels p v) out ≡ true
-heard_for requests ports channels p v out lp lv lo =
-    by_test (nat_lt p ports && nat_lt v channels) (cell requests p v None)
-    (and_from (nat_lt p ports) (nat_lt v channels) (lt-ltb p ports lp) (lt-ltb v channels lv))
+pub heard_for : (requests : List (List (Option VcRequest))) (ports vcs p v out : ℕ) → p < ports
+    → v < vcs → out < ports → is_for (cell requests p v None) out ≡ true
+    → is_for (heard requests ports vcs p v) out ≡ true
+heard_for requests ports vcs p v out lp lv lo =
+    by_test (nat_lt p ports && nat_lt v vcs) (cell requests p v None)
+    (and_from (nat_lt p ports) (nat_lt v vcs) (lt-ltb p ports lp) (lt-ltb v vcs lv))
   where
     by_test : (b : Bool) (o : Option VcRequest) → b ≡ true → is_for o out ≡ true
         → is_for (if b && is_below o ports then o else None) out ≡ true
@@ -50,13 +50,13 @@ heard_for requests ports channels p v out lp lv lo =
         ap (λ t. is_for (if t then Some r else None) out) (lt-ltb r.out ports (omega arith)) ∙ asks
 
 -- it hears no other input channel
-heard_within : (requests : List (List (Option VcRequest))) (ports channels p v out : ℕ)
-    → is_for (heard requests ports channels p v) out ≡ true → (p < ports) × (v < channels)
-heard_within requests ports channels p v out e =
-    elim (cases_Bool (nat_lt p ports && nat_lt v channels && is_below (cell requests p v None) ports)) [
+heard_within : (requests : List (List (Option VcRequest))) (ports vcs p v out : ℕ)
+    → is_for (heard requests ports vcs p v) out ≡ true → (p < ports) × (v < vcs)
+heard_within requests ports vcs p v out e =
+    elim (cases_Bool (nat_lt p ports && nat_lt v vcs && is_below (cell requests p v None) ports)) [
       | inl all ↦ let place = and_parts _ _ (and_parts _ _ all).0 in (
         ltb-true p ports place.0,
-        ltb-true v channels place.1,
+        ltb-true v vcs place.1,
       )
       | inr some ↦ absurd (true≢false (sym e ∙ ap (λ t. is_for (if t then cell requests p v None else None) out) some))
     ]
@@ -65,10 +65,10 @@ heard_within requests ports channels p v out e =
 
 -- the set holds the requesters of an output channel, and none but input channels of the router
 pub record AreAsking (waiting : List (List (Option VcRequest))) (grants : List (List (Option ℕ)))
-    (ports channels out channel asking : ℕ) : Type 0 where
-  pub requesters : (p v : ℕ) → p < ports → v < channels
+    (ports vcs out channel asking : ℕ) : Type 0 where
+  pub requesters : (p v : ℕ) → p < ports → v < vcs
       → has asking p v ≡ is_requester waiting grants out channel p v
-  pub within : (p v : ℕ) → p < 7 → v < 8 → has asking p v ≡ true → (p < ports) × (v < channels)
+  pub within : (p v : ℕ) → p < 7 → v < 8 → has asking p v ≡ true → (p < ports) × (v < vcs)
 
 none_is : (o : Option ℕ) → not (is_some o) ≡ is_none o
 none_is None = refl
@@ -76,29 +76,29 @@ none_is (Some x) = refl
 
 -- those that are filed for its port and its channel and have no grant are
 pub are_asking : (waiting : List (List (Option VcRequest))) (grants : List (List (Option ℕ)))
-    (ports channels out channel filed granted asking : ℕ) (files : Asked) → ports ≤ 7 → channels ≤ 8
-    → out < ports → channel < channels → IsFiled waiting ports channels files
+    (ports vcs out channel filed granted asking : ℕ) (files : Asked) → ports ≤ 7 → vcs ≤ 8
+    → out < ports → channel < vcs → IsFiled waiting ports vcs files
     → ((p v : ℕ) → has filed p v
     ≡ (has (slice_index_or files.by_port out 0) p v && has (slice_index_or files.by_channel channel 0) p v))
     → ((p v : ℕ) → p < 7 → v < 8 → has granted p v ≡ is_some (cell grants p v None))
     → ((p v : ℕ) → p < 7 → v < 8 → has asking p v ≡ (has filed p v && not (has granted p v)))
-    → AreAsking waiting grants ports channels out channel asking
-are_asking waiting grants ports channels out channel filed granted asking files few few' lo lc f both have rest =
+    → AreAsking waiting grants ports vcs out channel asking
+are_asking waiting grants ports vcs out channel filed granted asking files few few' lo lc f both have rest =
     record {
       requesters = λ p v lp lv.
           all p v (omega arith) (omega arith)
-          ∙ ap (λ t. t && is_none (cell grants p v None)) (heard_use waiting ports channels p v out channel lp lv lo);
+          ∙ ap (λ t. t && is_none (cell grants p v None)) (heard_use waiting ports vcs p v out channel lp lv lo);
       within = λ p v lp lv e.
-          heard_within waiting ports channels p v out
+          heard_within waiting ports vcs p v out
           (and_parts _ _ (and_parts _ _ (sym (all p v lp lv) ∙ e)).0).0;
     } where
       all : (p v : ℕ) → p < 7 → v < 8 → has asking p v
-          ≡ (may_use (heard waiting ports channels p v) out channel && is_none (cell grants p v None))
+          ≡ (may_use (heard waiting ports vcs p v) out channel && is_none (cell grants p v None))
       all p v lp lv =
           rest p v lp lv
           ∙ ap (λ t. t && not (has granted p v)) (both p v
           ∙ ap (λ t. t && has (slice_index_or files.by_channel channel 0) p v) (f.by_port out p v (omega arith) lp lv)
-          ∙ ap (λ t. is_for (heard waiting ports channels p v) out && t)
+          ∙ ap (λ t. is_for (heard waiting ports vcs p v) out && t)
           (f.by_channel channel p v (omega arith) lp lv))
-          ∙ ap (λ t. may_use (heard waiting ports channels p v) out channel && not t) (have p v lp lv)
-          ∙ ap (λ t. may_use (heard waiting ports channels p v) out channel && t) (none_is (cell grants p v None))
+          ∙ ap (λ t. may_use (heard waiting ports vcs p v) out channel && not t) (have p v lp lv)
+          ∙ ap (λ t. may_use (heard waiting ports vcs p v) out channel && t) (none_is (cell grants p v None))

@@ -323,13 +323,13 @@ lowest_of_port bits some fits =
 -- ---- rows
 
 -- the row of a port, as lines
-pub row_lines : (bits port channels channel : ℕ) → channels ≤ 8 → channel < channels
-    → line_requests (bit_and (bits / 2 ^ (8 * port)) (1 * 2 ^ channels % 2 ^ 64 - 1)) channel ≡ has bits port channel
-row_lines bits port channels channel few l =
-    let ones : 1 * 2 ^ channels % 2 ^ 64 ≡ 2 ^ channels = one_shl channels 64 (omega arith) in
+pub row_lines : (bits port vcs channel : ℕ) → vcs ≤ 8 → channel < vcs
+    → line_requests (bit_and (bits / 2 ^ (8 * port)) (1 * 2 ^ vcs % 2 ^ 64 - 1)) channel ≡ has bits port channel
+row_lines bits port vcs channel few l =
+    let ones : 1 * 2 ^ vcs % 2 ^ 64 ≡ 2 ^ vcs = one_shl vcs 64 (omega arith) in
     ap (λ m. bit_at (bit_and (bits / 2 ^ (8 * port)) (m - 1)) channel == 1) ones
-    ∙ ap (λ b. b == 1) (bit_at_and (bits / 2 ^ (8 * port)) (2 ^ channels - 1) channel)
-    ∙ ap (λ y. min (bit_at (bits / 2 ^ (8 * port)) channel) y == 1) (bit_at_ones channels channel l)
+    ∙ ap (λ b. b == 1) (bit_at_and (bits / 2 ^ (8 * port)) (2 ^ vcs - 1) channel)
+    ∙ ap (λ y. min (bit_at (bits / 2 ^ (8 * port)) channel) y == 1) (bit_at_ones vcs channel l)
     ∙ ap (λ b. b == 1) (let one = bit_at-lt (bits / 2 ^ (8 * port)) channel in
     let e : min (bit_at (bits / 2 ^ (8 * port)) channel) 1
     ≡ bit_at (bits / 2 ^ (8 * port)) channel = omega arith in e)

@@ -15,21 +15,21 @@ is_below (Some r) ports = nat_lt r.out ports
 
 -- what an input channel asks of a router, which hears only its own channels and only of its own output ports
 abbrev pub heard : List (List (Option VcRequest)) → ℕ → ℕ → ℕ → ℕ → Option VcRequest
-heard requests ports channels p v =
-    if nat_lt p ports && nat_lt v channels && is_below (cell requests p v None) ports
+heard requests ports vcs p v =
+    if nat_lt p ports && nat_lt v vcs && is_below (cell requests p v None) ports
     then cell requests p v None
     else None
 
 -- the files of a table of requests, as a router hears them
-pub record IsFiled (requests : List (List (Option VcRequest))) (ports channels : ℕ) (files : Asked) : Type 0 where
+pub record IsFiled (requests : List (List (Option VcRequest))) (ports vcs : ℕ) (files : Asked) : Type 0 where
   -- for each output port the input channels that ask for it
   pub by_port : (out p v : ℕ) → out < 7 → p < 7 → v < 8
-      → has (slice_index_or files.by_port out 0) p v ≡ is_for (heard requests ports channels p v) out
+      → has (slice_index_or files.by_port out 0) p v ≡ is_for (heard requests ports vcs p v) out
   -- for each channel the input channels that allow it
   pub by_channel : (channel p v : ℕ) → channel < 8 → p < 7 → v < 8
-      → has (slice_index_or files.by_channel channel 0) p v ≡ allows (heard requests ports channels p v) channel
+      → has (slice_index_or files.by_channel channel 0) p v ≡ allows (heard requests ports vcs p v) channel
   -- the output ports that some input channel asks for are in the set, and none but the router's
-  pub asked : (out p v : ℕ) → out < 7 → p < 7 → v < 8 → is_for (heard requests ports channels p v) out ≡ true
+  pub asked : (out p v : ℕ) → out < 7 → p < 7 → v < 8 → is_for (heard requests ports vcs p v) out ≡ true
       → small.has files.ports out ≡ true
   pub within : (out : ℕ) → out < 8 → small.has files.ports out ≡ true → out < ports
 

@@ -10,7 +10,7 @@ use Rattle.worm_vcalloc.specs.Table.{cell, with_cell}
 -- an allocator: an arbiter for each output port and channel
 pub record VcAllocState : Type 0 where
   pub ports : ℕ
-  pub channels : ℕ
+  pub vcs : ℕ
   pub arbiters : List (List ArbiterState)
 
 -- whether an input channel is a requester of (out, channel): it may use it and has no grant yet
@@ -25,14 +25,14 @@ pub record VcPass : Type 0 where
 
 -- the winner's grant
 abbrev pub with_grant : ℕ → List (List (Option ℕ)) → ℕ → Option ℕ → List (List (Option ℕ))
-with_grant channels grants channel None = grants
-with_grant channels grants channel (Some line) = with_cell grants (line / channels) (line % channels) (Some channel)
+with_grant vcs grants channel None = grants
+with_grant vcs grants channel (Some line) = with_cell grants (line / vcs) (line % vcs) (Some channel)
 
 -- the line that wins a free output channel
 abbrev pub vc_winner : List (List (Option VcRequest)) → VcPass → ℕ → ℕ → Option ℕ
 vc_winner waiting pass out channel =
     winner (cell pass.alloc.arbiters out channel no_arbiter)
-    (λ line. is_requester waiting pass.grants out channel (line / pass.alloc.channels) (line % pass.alloc.channels))
+    (λ line. is_requester waiting pass.grants out channel (line / pass.alloc.vcs) (line % pass.alloc.vcs))
 
 -- a free output channel is offered to its requesters
 unfoldable pub offered : List (List (Option VcRequest)) → VcPass → ℕ → ℕ → VcPass
@@ -42,10 +42,10 @@ offered waiting pass out channel =
     record {
       alloc = record {
         ports = pass.alloc.ports;
-        channels = pass.alloc.channels;
+        vcs = pass.alloc.vcs;
         arbiters = with_cell arbiters out channel (after_pick (cell arbiters out channel no_arbiter) line);
       };
-      grants = with_grant pass.alloc.channels pass.grants channel line;
+      grants = with_grant pass.alloc.vcs pass.grants channel line;
     }
 
 -- an output channel is offered where it is free
@@ -55,7 +55,7 @@ vc_step waiting free out pass channel =
 
 -- the channels of one output port, rising
 unfoldable pub port_pass : List (List (Option VcRequest)) → List (List Bool) → VcPass → ℕ → VcPass
-port_pass waiting free pass out = fold (vc_step waiting free out) pass (range_with_len 0 pass.alloc.channels)
+port_pass waiting free pass out = fold (vc_step waiting free out) pass (range_with_len 0 pass.alloc.vcs)
 
 -- the output ports, rising
 unfoldable pub vc_pass : List (List (Option VcRequest)) → List (List Bool) → VcPass → VcPass
@@ -68,17 +68,17 @@ pub record HasWon (waiting : List (List (Option VcRequest))) (grants : List (Lis
   pub granted : cell grants port vc None ≡ Some channel
 
 -- the grants of a pass match requests to free output channels
-pub record IsChannelMatching (ports channels : ℕ) (waiting : List (List (Option VcRequest))) (free : List (List Bool))
+pub record IsChannelMatching (ports vcs : ℕ) (waiting : List (List (Option VcRequest))) (free : List (List Bool))
     (grants : List (List (Option ℕ))) : Type 0 where
   -- each grant is a request, for a free channel of the port that is waited for
   pub requested : (port vc channel : ℕ) → cell grants port vc None ≡ Some channel
       → (out : ℕ) × HasWon waiting grants port vc out channel × IsTrue (cell free out channel false) × (port < ports)
-      × (vc < channels) × (out < ports) × (channel < channels)
+      × (vc < vcs) × (out < ports) × (channel < vcs)
   -- no output channel is granted twice
   pub once : (port vc port' vc' out channel : ℕ) → HasWon waiting grants port vc out channel
       → HasWon waiting grants port' vc' out channel → (port ≡ port') × (vc ≡ vc')
   -- a free output channel that an ungranted input channel may use has a winner
-  pub complete : (out channel port vc : ℕ) → out < ports → channel < channels → port < ports → vc < channels
+  pub complete : (out channel port vc : ℕ) → out < ports → channel < vcs → port < ports → vc < vcs
       → IsTrue (cell free out channel false) → IsTrue (may_use (cell waiting port vc None) out channel)
       → cell grants port vc None ≡ None
       → (port' : ℕ) × (vc' : ℕ) × HasWon waiting grants port' vc' out channel

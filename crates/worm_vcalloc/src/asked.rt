@@ -35,16 +35,16 @@ impl Asked {
     ///
     /// They are filed in place: filed in an array of its own and then moved in here, the words would be read 16 bytes
     /// at a time right behind stores of 8, which a processor cannot forward.
-    pub(crate) fn file(&mut self, waiting: &VcRequests, ports: u8, channels: u8)
+    pub(crate) fn file(&mut self, waiting: &VcRequests, ports: u8, vcs: u8)
         requires few_ports { ports ≤ 7 }
-        requires few_channels { channels ≤ 8 }
+        requires few_channels { vcs ≤ 8 }
         requires empty { self.old ≡ record { by_port = replicate 7 0; by_channel = replicate 8 0; ports = 0 } }
-        ensures { IsFiled waiting.now ports channels self.new }
+        ensures { IsFiled waiting.now ports vcs self.new }
     {
         let mut left = waiting.waiting();
         while let Some((port, vc)) = left.pop_first() {
             let request = waiting.request(port, vc);
-            if port < ports && vc < channels && request.out < ports {
+            if port < ports && vc < vcs && request.out < ports {
                 self.by_port[request.out as usize].put(port, vc, true);
                 self.ports.put(request.out, true);
                 let allowed = SmallSet::from_bits(request.allowed);

@@ -153,13 +153,13 @@ impl ChannelSet {
         }
     }
 
-    /// The channels of one port below `channels`, as the lines of an arbiter: bit `channel`.
-    pub fn row(&self, port: u8, channels: u8) -> u64
+    /// The channels of one port below `vcs`, as the lines of an arbiter: bit `channel`.
+    pub fn row(&self, port: u8, vcs: u8) -> u64
         requires port { port < 7 }
-        requires channels { channels ≤ 8 }
-        ensures few { result < 2 ^ channels }
-        ensures lines { (channel : ℕ) → channel < channels → line_requests result channel ≡ has self.now port channel }
+        requires vcs { vcs ≤ 8 }
+        ensures few { result < 2 ^ vcs }
+        ensures lines { (channel : ℕ) → channel < vcs → line_requests result channel ≡ has self.now port channel }
     {
-        self.bits >> (8 * port) & ((1 << channels) - 1)
+        self.bits >> (8 * port) & ((1 << vcs) - 1)
     }
 }

@@ -17,7 +17,7 @@ pub type VcGrants = ChannelMap;
 /// The allocator of output channels to the input channels that wait for one (Dally and Towles,
 /// chapter 19).
 ///
-/// Each output channel has an arbiter over the input channels, line `port * channels + vc`. It is kept by the place of
+/// Each output channel has an arbiter over the input channels, line `port * vcs + vc`. It is kept by the place of
 /// the input channel that it asks last, `8 * port + vc`, as a set of channels keeps its bits, so that it chooses from a
 /// set without a look at lines, and is kept anew without a look which place is next. Lines and places have the same
 /// order.
@@ -31,7 +31,7 @@ pub struct VcAlloc {
     /// The ports of the router, 1 to 7.
     ports: u8,
     /// The channels of a port, 1 to 8.
-    channels: u8,
+    vcs: u8,
     /// The place of the input channel that is asked last, for each output channel, by port and channel: the one that
     /// was granted it last, if any was.
     places: [[u8; 8]; 7],
@@ -46,39 +46,39 @@ impl Model for VcAlloc {
 
     ghost view = { λ a. record {
       ports = a.ports;
-      channels = a.channels;
-      arbiters = arbiters_at a.ports a.channels a.places;
+      vcs = a.vcs;
+      arbiters = arbiters_at a.ports a.vcs a.places;
     } };
 
-    ghost invariant = { λ a. IsPlaced a.ports a.channels a.places };
+    ghost invariant = { λ a. IsPlaced a.ports a.vcs a.places };
 
     ghost inverse = { λ v. record {
       ports = v.ports;
-      channels = v.channels;
-      places = places_of v.channels v.arbiters;
+      vcs = v.vcs;
+      places = places_of v.vcs v.arbiters;
     } };
 
-    ghost inverse_ok = { λ a h. Prim.rw (places_again a.ports a.channels a.places h.each) refl };
+    ghost inverse_ok = { λ a h. Prim.rw (places_again a.ports a.vcs a.places h.each) refl };
 }
 
 impl VcAlloc {
     /// An allocator for a router of so many ports, 1 to 7, and channels a port, 1 to 8. Its
     /// pointers stand at the first line.
-    pub fn new(ports: u8, channels: u8) -> Self
+    pub fn new(ports: u8, vcs: u8) -> Self
         requires some_port { 0 < ports }
         requires few_ports { ports ≤ 7 }
-        requires some_channel { 0 < channels }
-        requires few_channels { channels ≤ 8 }
+        requires some_channel { 0 < vcs }
+        requires few_channels { vcs ≤ 8 }
         ensures { result ≡ record {
           ports = ports;
-          channels = channels;
-          arbiters = replicate 7 (replicate 8 (record { width = ports * channels; pointer = 0 }));
+          vcs = vcs;
+          arbiters = replicate 7 (replicate 8 (record { width = ports * vcs; pointer = 0 }));
         } }
     {
         VcAlloc {
             ports,
-            channels,
-            places: [[8 * (ports - 1) + (channels - 1); 8]; 7],
+            vcs,
+            places: [[8 * (ports - 1) + (vcs - 1); 8]; 7],
         }
     }
 
@@ -90,13 +90,13 @@ impl VcAlloc {
           grants = result;
         } ≡ vc_pass waiting.now free.now
             (record { alloc = self.old; grants = replicate 7 (replicate 8 None) }) }
-        ensures matching { IsChannelMatching self.old.ports self.old.channels waiting.now free.now result }
+        ensures matching { IsChannelMatching self.old.ports self.old.vcs waiting.now free.now result }
         ensures ports { self.new.ports ≡ self.old.ports }
-        ensures channels { self.new.channels ≡ self.old.channels }
+        ensures vcs { self.new.vcs ≡ self.old.vcs }
     {
         let mut grants = VcGrants::new();
         let mut asked = Asked::new();
-        asked.file(waiting, self.ports, self.channels);
+        asked.file(waiting, self.ports, self.vcs);
         let mut left = asked.ports();
         while let Some(out) = left.pop_first() {
             self.grant_port(out, &asked, free, &mut grants);
@@ -108,16 +108,16 @@ impl VcAlloc {
     fn grant_port(&mut self, out: u8, asked: &Asked, free: &FreeChannels, grants: &mut VcGrants)
         requires out { out < self.old.ports }
         requires filed { (waiting : List (List (Option VcRequest)))
-            × IsFiled waiting self.old.ports self.old.channels asked.now }
+            × IsFiled waiting self.old.ports self.old.vcs asked.now }
         ensures pass { (waiting : List (List (Option VcRequest)))
-            → IsFiled waiting self.old.ports self.old.channels asked.now
+            → IsFiled waiting self.old.ports self.old.vcs asked.now
             → record { alloc = self.new; grants = grants.new }
             ≡ port_pass waiting free.now (record { alloc = self.old; grants = grants.old }) out }
         ensures ports { self.new.ports ≡ self.old.ports }
-        ensures channels { self.new.channels ≡ self.old.channels }
+        ensures vcs { self.new.vcs ≡ self.old.vcs }
     {
-        let channels = self.channels;
-        for channel in 0..channels {
+        let vcs = self.vcs;
+        for channel in 0..vcs {
             if free[out as usize][channel as usize] {
                 self.offer(out, channel, asked, grants);
             }
@@ -127,15 +127,15 @@ impl VcAlloc {
     /// Offers one free output channel to its requesters, whatever requests these are the files of.
     fn offer(&mut self, out: u8, channel: u8, asked: &Asked, grants: &mut VcGrants)
         requires out { out < self.old.ports }
-        requires channel { channel < self.old.channels }
+        requires channel { channel < self.old.vcs }
         requires filed { (waiting : List (List (Option VcRequest)))
-            × IsFiled waiting self.old.ports self.old.channels asked.now }
+            × IsFiled waiting self.old.ports self.old.vcs asked.now }
         ensures pass { (waiting : List (List (Option VcRequest)))
-            → IsFiled waiting self.old.ports self.old.channels asked.now
+            → IsFiled waiting self.old.ports self.old.vcs asked.now
             → record { alloc = self.new; grants = grants.new }
             ≡ offered waiting (record { alloc = self.old; grants = grants.old }) out channel }
         ensures ports { self.new.ports ≡ self.old.ports }
-        ensures channels { self.new.channels ≡ self.old.channels }
+        ensures vcs { self.new.vcs ≡ self.old.vcs }
     {
         let last = self.places[out as usize][channel as usize];
         let asking = asked.asking(out, channel).difference(&grants.keys());

@@ -15,7 +15,7 @@ use Rattle.worm_view.specs.declared.fault.ViewFault.TheVariants as f
 pub record IsShapeOf (n : Network) (s : Shape) : Type 0 where
   pub mesh : s.mesh ≡ n.radices
   pub classes : s.classes ≡ length n.classes
-  pub channels : s.channels ≡ sum n.channels
+  pub vcs : s.vcs ≡ sum n.channels
 
 -- The network text is accepted and says n; the report is the text of these rows, a report of a network of that shape.
 pub record IsAccepted (network report : List ℕ) (n : Network) (s : Shape) (rows : List Row) : Type 0 where

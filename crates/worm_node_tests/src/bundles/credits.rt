@@ -9,17 +9,17 @@ use std::sync::Wait;
 use worm_bundles::{CreditEnds, CreditRx, CreditTx, Returned, credit_bundle, reunite_credits};
 
 /// The ends of the credit lines of a bundle of so many channels, and room for so many flits on each.
-fn ends_of(rt: &impl Abort, alloc: Global, channels: u8, depth: u8) -> (CreditTx, CreditRx)
-    ensures channels { result.0.bundle.channels ≡ channels }
+fn ends_of(rt: &impl Abort, alloc: Global, vcs: u8, depth: u8) -> (CreditTx, CreditRx)
+    ensures vcs { result.0.bundle.vcs ≡ vcs }
     ensures queue { result.0.queue ≡ result.1.queue }
 {
-    assert!(rt; 0 < channels && channels <= 8 && 0 < depth && depth <= 17);
-    credit_bundle(alloc, pairs(rt, channels, depth)).expect(rt, "memory")
+    assert!(rt; 0 < vcs && vcs <= 8 && 0 < depth && depth <= 17);
+    credit_bundle(alloc, pairs(rt, vcs, depth)).expect(rt, "memory")
 }
 
 /// Pushes credits, for two nodes and two channels in turn. How many there was room for.
 fn push_all<R: Wait>(rt: &R, tx: &mut CreditTx, credits: u16) -> u16
-    requires { 2 ≤ tx.old.bundle.channels }
+    requires { 2 ≤ tx.old.bundle.vcs }
     ensures queue { tx.new.queue ≡ tx.old.queue }
 {
     for turn in 0..credits {

@@ -35,9 +35,9 @@ fn spaced<T: Display>(alloc: Global, fields: &[T]) -> Result<String, Fail> {
 /// The lines of the classes in format 2.
 fn second_classes(alloc: Global, config: &Config) -> Result<String, Fail> {
     let mut text = String::new(alloc);
-    for (name, channels) in config.classes.iter().zip(&config.channels) {
+    for (name, count) in config.classes.iter().zip(&config.channels) {
         let name = name.as_str();
-        write!(text, "class {name} channels {channels}\n")?;
+        write!(text, "class {name} channels {count}\n")?;
     }
     Ok(text)
 }

@@ -16,8 +16,8 @@ returns-clause-steps c = λ s mesh steps old new lead kept. (
   steps_packets s mesh steps old new lead kept.0 kept.1,
 )
 
-pub returns-clause-channels : goal.returns-clause-channels
-returns-clause-channels c = λ s net mesh sound hold lane k there. channels_cut s mesh lane there k net sound hold
+pub returns-clause-cut : goal.returns-clause-cut
+returns-clause-cut c = λ s net mesh sound hold lane k there. channels_cut s mesh lane there k net sound hold
 
 pub returns-clause-whole : goal.returns-clause-whole
 returns-clause-whole c = λ s net sound lane k. packets_whole lane k net (sound.histories lane)

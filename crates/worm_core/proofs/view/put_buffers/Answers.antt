@@ -14,7 +14,7 @@ pub put_channel-requires : goal.put_channel-requires
 put_channel-requires c =
     let s = c.args.fabric.now in
     let within : c.loop-vc.vc < sum s.channels =
-    omega (arith, class_within s.channels c.args.lane.class c.requires.class, c.channels_of-channels.ensures.end) in
+    omega (arith, class_within s.channels c.args.lane.class c.requires.class, c.channels_of-range.ensures.end) in
     let place = framed_place s c.args.node c.args.port c.loop-vc.vc c.requires.framed c.requires.node c.requires.port
     within in
     subst (λ (n : Node). IsPlace n.router c.args.port c.loop-vc.vc) (sym c.node.ensures) place.place
@@ -24,12 +24,12 @@ loop-vc-preserved c =
     let s = c.args.fabric.now in
     let lane = c.args.lane in
     let vc = c.loop-vc.vc in
-    let start = c.channels_of-channels.result.start in
+    let start = c.channels_of-range.result.start in
     let held = buffer_held s lane c.args.node c.args.port in
     let within : vc < sum s.channels = omega (
       arith,
       class_within s.channels lane.class c.requires.class,
-      c.channels_of-channels.ensures.end,
+      c.channels_of-range.ensures.end,
     ) in
     let place = framed_place s c.args.node c.args.port vc c.requires.framed c.requires.node c.requires.port within in
     let read = ap (λ (n : Node). at_place (Buffer c.args.node c.args.port vc)

@@ -12,7 +12,7 @@ pub loop-vc-preserved : goal.loop-vc-preserved
 loop-vc-preserved c =
     let s = c.args.fabric.now in
     let held = link_held s c.args.lane c.args.node c.args.port in
-    let start = c.channels_of-channels.result.start in
+    let start = c.channels_of-range.result.start in
     let vc = c.loop-vc.vc in
     let read = link_read s c.args.lane c.args.node c.args.port vc
     (link_at s (link_out s c.args.node c.args.port)) c.requires.linked refl in

@@ -3,4 +3,4 @@ use Rattle.worm_router.specs.Tables.{PutsRows}
 use Rattle.worm_router.proofs.demand.all_free.Given as goal
 
 abbrev pub invariant-loop-port : goal.invariant-loop-port
-invariant-loop-port l = PutsRows false (λ port channel. true) l.channels l.port l.free
+invariant-loop-port l = PutsRows false (λ port channel. true) l.vcs l.port l.free

@@ -14,7 +14,7 @@ returns-in-Err-2-clause-err c =
             view c.in-Ok.config,
             c.of-shape.result,
             c.in-Ok.ensures.exact,
-            record { mesh = shape.mesh; classes = classes; channels = shape.channels },
+            record { mesh = shape.mesh; classes = classes; vcs = shape.vcs },
             e,
           )
     ]

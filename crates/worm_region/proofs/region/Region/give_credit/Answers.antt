@@ -13,7 +13,7 @@ use Rattle.worm_region.proofs.region.Region.give_credit.Goals as goal
 use Rattle.worm_region.proofs.region.Region.give_credit.Goals.{After-owed_count}
 use Rattle.worm_region.proofs.region.Region.give_credit.Goals.{then-not-has_link-via-then-not-has_link}
 use Rattle.worm_region.proofs.region.Region.give_credit.Goals.{
-  then-not-has_link-via-else-not-has_link+then-vc-channels,
+  then-not-has_link-via-else-not-has_link+then-vc-vcs,
 }
 
 pub returns-then-not-has_link : goal.returns-then-not-has_link
@@ -23,8 +23,8 @@ returns-then-not-has_link c = (
       (λ there. elim c.then-not-has_link.branch [
         | then-not-has_link-via-then-not-has_link w ↦
             let found = c.has_link.ensures.1 there.1 in let missing = w.if-not-has_link.true in absurd (cc)
-        | then-not-has_link-via-else-not-has_link+then-vc-channels w ↦
-            let past = w.if-vc-channels.true in absurd (omega (arith, there.2, w.channels.ensures))
+        | then-not-has_link-via-else-not-has_link+then-vc-vcs w ↦
+            let past = w.if-vc-vcs.true in absurd (omega (arith, there.2, w.vcs.ensures))
       ]),
   refl,
 )
@@ -36,8 +36,8 @@ unfolding net_shape
 there c =
     let line = port_there c.self.inside.fabric.mesh c.args.node c.args.port
     (c.has_link.ensures.0 c.if-not-has_link.false) in
-    let few = c.if-vc-channels.false in
-    (line.0, line.1, omega (arith, c.channels.ensures))
+    let few = c.if-vc-vcs.false in
+    (line.0, line.1, omega (arith, c.vcs.ensures))
 
 -- what the channel owes
 owed : (c : goal.After-owed_count)

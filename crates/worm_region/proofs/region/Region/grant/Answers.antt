@@ -10,7 +10,7 @@ use Rattle.worm_region.proofs.GrantAgrees.{grant_answers}
 use Rattle.worm_region.proofs.ReachedBySteps.{still_workable}
 use Rattle.worm_region.proofs.region.Region.grant.Goals as goal
 use Rattle.worm_region.proofs.region.Region.grant.Goals.{After-grant, then-not-has_place-via-then-not-has_place}
-use Rattle.worm_region.proofs.region.Region.grant.Goals.{then-not-has_place-via-else-not-has_place+then-out_vc-channels}
+use Rattle.worm_region.proofs.region.Region.grant.Goals.{then-not-has_place-via-else-not-has_place+then-out_vc-vcs}
 
 pub returns-then-not-has_place : goal.returns-then-not-has_place
 unfolding net_shape
@@ -22,8 +22,8 @@ returns-then-not-has_place c = (
             let found = c.has_place.ensures.1 (there.0, there.1, there.2) in
             let missing = w.if-not-has_place.true in
             absurd (cc)
-        | then-not-has_place-via-else-not-has_place+then-out_vc-channels w ↦
-            let past = w.if-out_vc-channels.true in absurd (omega (arith, there.3, w.channels.ensures))
+        | then-not-has_place-via-else-not-has_place+then-out_vc-vcs w ↦
+            let past = w.if-out_vc-vcs.true in absurd (omega (arith, there.3, w.vcs.ensures))
       ]),
   refl,
 )
@@ -36,7 +36,7 @@ there c = let place = c.has_place.ensures.0 c.if-not-has_place.false in (
   place.0,
   place.1,
   place.2,
-  let few = c.if-out_vc-channels.false in omega (arith, c.channels.ensures),
+  let few = c.if-out_vc-vcs.false in omega (arith, c.vcs.ensures),
 )
 
 made : (c : goal.After-grant) → IsWorkable (with_router c.self.inside.fabric c.args.node c.grant.new.self)

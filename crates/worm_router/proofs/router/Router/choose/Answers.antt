@@ -20,9 +20,9 @@ invariant_of-self c = record {
     lists = c.self.invariant.router.lists;
     allocators = record {
       channel_ports = c.self.invariant.router.allocators.channel_ports;
-      channel_channels = c.self.invariant.router.allocators.channel_channels;
+      channel_vcs = c.self.invariant.router.allocators.channel_vcs;
       switch_ports = grind (arith, common_steps);
-      switch_channels = grind (arith, common_steps);
+      switch_vcs = grind (arith, common_steps);
     };
   };
   arbiters = subst HasArbiters (sym c.grant.ensures.after) (arbiters_stay _ _ c.self.invariant.arbiters);

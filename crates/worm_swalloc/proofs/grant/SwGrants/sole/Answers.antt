@@ -2,8 +2,8 @@ use Rattle.std.proofs.Common.{◌∙◌}
 use Rattle.worm_swalloc.proofs.GrantsOfSet.{sole_below, sole_requested, sole_granted_of}
 use Rattle.worm_swalloc.proofs.grant.SwGrants.sole.Goals as goal
 
-pub among-requires-clause-channels : goal.among-requires-clause-channels
-among-requires-clause-channels c = sole_below c.args.port c.args.grant c.requires.port c.requires.channel
+pub among-requires-clause-below : goal.among-requires-clause-below
+among-requires-clause-below c = sole_below c.args.port c.args.grant c.requires.port c.requires.channel
 
 pub among-requires-clause-requested : goal.among-requires-clause-requested
 among-requires-clause-requested c = sole_requested c.args.port c.args.grant c.requires.port c.requires.channel

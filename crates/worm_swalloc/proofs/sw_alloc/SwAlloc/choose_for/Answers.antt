@@ -12,7 +12,7 @@ pub returns : goal.returns
 returns c =
     let s : SwAllocState = record {
       ports = c.self.inside.ports;
-      channels = c.self.inside.channels;
+      vcs = c.self.inside.vcs;
       inputs = c.self.inside.inputs;
       outputs = c.self.inside.outputs;
     } in
@@ -25,8 +25,8 @@ returns c =
     let asked : slice_index_or c.args.named.now c.in-Some.port None ≡ Some c.in-Some-get.request =
     sym c.get.ensures ∙ c.in-Some-get.is in
     let below : AreChannelsBelow 8 c.args.named.now =
-    below_more c.self.inside.channels 8 c.args.named.now c.self.invariant.few_channels
-    (rw (← c.self.view_is) at c.requires.channels) in
+    below_more c.self.inside.vcs 8 c.args.named.now c.self.invariant.few_channels
+    (rw (← c.self.view_is) at c.requires.below) in
     let asks = chosen_asks s c.args.named.now c.args.out c.args.lines c.index-self-out.result c.in-Some.port
     c.self.invariant out_in (omega arith) lines c.in-Some.ensures.winner in
     let within : c.in-Some.port < 7 = omega (arith, asks.0) in
@@ -55,7 +55,7 @@ pub returns-in_default : goal.returns-in_default
 returns-in_default c =
     let s : SwAllocState = record {
       ports = c.self.inside.ports;
-      channels = c.self.inside.channels;
+      vcs = c.self.inside.vcs;
       inputs = c.self.inside.inputs;
       outputs = c.self.inside.outputs;
     } in
@@ -78,7 +78,7 @@ pub returns-in_default-get : goal.returns-in_default-get
 returns-in_default-get c =
     let s : SwAllocState = record {
       ports = c.self.inside.ports;
-      channels = c.self.inside.channels;
+      vcs = c.self.inside.vcs;
       inputs = c.self.inside.inputs;
       outputs = c.self.inside.outputs;
     } in

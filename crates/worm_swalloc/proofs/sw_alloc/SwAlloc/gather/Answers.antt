@@ -14,7 +14,7 @@ pub loop-port-preserved-then-port-ports : goal.loop-port-preserved-then-port-por
 loop-port-preserved-then-port-ports c =
     let s : SwAllocState = record {
       ports = c.self.inside.ports;
-      channels = c.self.inside.channels;
+      vcs = c.self.inside.vcs;
       inputs = c.self.inside.inputs;
       outputs = c.self.inside.outputs;
     } in
@@ -30,7 +30,7 @@ pub returns-clause-named : goal.returns-clause-named
 returns-clause-named c =
     let s : SwAllocState = record {
       ports = c.self.inside.ports;
-      channels = c.self.inside.channels;
+      vcs = c.self.inside.vcs;
       inputs = c.self.inside.inputs;
       outputs = c.self.inside.outputs;
     } in

@@ -19,7 +19,7 @@ pub returns-then-is_empty-clause-grants : goal.returns-then-is_empty-clause-gran
 returns-then-is_empty-clause-grants c =
     let s : SwAllocState = record {
       ports = c.self.inside.ports;
-      channels = c.self.inside.channels;
+      vcs = c.self.inside.vcs;
       inputs = c.self.inside.inputs;
       outputs = c.self.inside.outputs;
     } in
@@ -29,7 +29,7 @@ pub returns-then-is_empty-clause-after : goal.returns-then-is_empty-clause-after
 returns-then-is_empty-clause-after c =
     let s : SwAllocState = record {
       ports = c.self.inside.ports;
-      channels = c.self.inside.channels;
+      vcs = c.self.inside.vcs;
       inputs = c.self.inside.inputs;
       outputs = c.self.inside.outputs;
     } in
@@ -41,7 +41,7 @@ pub returns-then-is_empty-clause-matching : goal.returns-then-is_empty-clause-ma
 returns-then-is_empty-clause-matching c =
     let s : SwAllocState = record {
       ports = c.self.inside.ports;
-      channels = c.self.inside.channels;
+      vcs = c.self.inside.vcs;
       inputs = c.self.inside.inputs;
       outputs = c.self.inside.outputs;
     } in
@@ -52,7 +52,7 @@ returns-then-is_empty-clause-matching c =
 -- one port alone has ready channels
 
 sound : (c : goal.After-grant_sole)
-    → IsSwAlloc c.args.self.now.ports c.args.self.now.channels c.args.self.now.inputs c.args.self.now.outputs
+    → IsSwAlloc c.args.self.now.ports c.args.self.now.vcs c.args.self.now.inputs c.args.self.now.outputs
 sound c = rw (← c.self.view_is) c.self.invariant
 
 sole_named_is : (c : goal.After-grant_sole)
@@ -91,10 +91,10 @@ pub grant_named-granted-requires : goal.grant_named-granted-requires
 grant_named-granted-requires c = named_within c.args.self.now c.args.ready.now c.gather.new.asked c.gather.ensures.ready
     c.gather.ensures.named
 
-pub among-requires-clause-channels : goal.among-requires-clause-channels
-among-requires-clause-channels c =
+pub among-requires-clause-below : goal.among-requires-clause-below
+among-requires-clause-below c =
     rw c.into_requests.ensures
-    (below_more c.args.self.now.channels 8 c.gather.new.asked c.gather.ensures.ready.few_channels
+    (below_more c.args.self.now.vcs 8 c.gather.new.asked c.gather.ensures.ready.few_channels
     (named_within c.args.self.now c.args.ready.now c.gather.new.asked c.gather.ensures.ready c.gather.ensures.named))
 
 pub among-requires-clause-requested : goal.among-requires-clause-requested

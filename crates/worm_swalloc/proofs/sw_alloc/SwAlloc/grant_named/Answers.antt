@@ -8,7 +8,7 @@ pub loop-out-init : goal.loop-out-init
 loop-out-init c =
     let s : SwAllocState = record {
       ports = c.self.inside.ports;
-      channels = c.self.inside.channels;
+      vcs = c.self.inside.vcs;
       inputs = c.self.inside.inputs;
       outputs = c.self.inside.outputs;
     } in
@@ -23,7 +23,7 @@ pub loop-out-preserved-then-out-ports : goal.loop-out-preserved-then-out-ports
 loop-out-preserved-then-out-ports c =
     let s : SwAllocState = record {
       ports = c.self.inside.ports;
-      channels = c.self.inside.channels;
+      vcs = c.self.inside.vcs;
       inputs = c.self.inside.inputs;
       outputs = c.self.inside.outputs;
     } in
@@ -44,7 +44,7 @@ pub returns : goal.returns
 returns c =
     let s : SwAllocState = record {
       ports = c.self.inside.ports;
-      channels = c.self.inside.channels;
+      vcs = c.self.inside.vcs;
       inputs = c.self.inside.inputs;
       outputs = c.self.inside.outputs;
     } in

@@ -10,7 +10,7 @@ pub returns : goal.returns
 returns c =
     let s : SwAllocState = record {
       ports = c.self.inside.ports;
-      channels = c.self.inside.channels;
+      vcs = c.self.inside.vcs;
       inputs = c.self.inside.inputs;
       outputs = c.self.inside.outputs;
     } in
@@ -42,7 +42,7 @@ pub returns-in_default : goal.returns-in_default
 returns-in_default c =
     let s : SwAllocState = record {
       ports = c.self.inside.ports;
-      channels = c.self.inside.channels;
+      vcs = c.self.inside.vcs;
       inputs = c.self.inside.inputs;
       outputs = c.self.inside.outputs;
     } in
@@ -57,7 +57,7 @@ pub returns-then-grant-ports : goal.returns-then-grant-ports
 returns-then-grant-ports c =
     let s : SwAllocState = record {
       ports = c.self.inside.ports;
-      channels = c.self.inside.channels;
+      vcs = c.self.inside.vcs;
       inputs = c.self.inside.inputs;
       outputs = c.self.inside.outputs;
     } in

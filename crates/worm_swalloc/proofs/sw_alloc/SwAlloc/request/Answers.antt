@@ -8,7 +8,7 @@ pub returns-in_err-vc : goal.returns-in_err-vc
 returns-in_err-vc c =
     let s : SwAllocState = record {
       ports = c.self.inside.ports;
-      channels = c.self.inside.channels;
+      vcs = c.self.inside.vcs;
       inputs = c.self.inside.inputs;
       outputs = c.self.inside.outputs;
     } in
@@ -23,7 +23,7 @@ pub returns : goal.returns
 returns c =
     let s : SwAllocState = record {
       ports = c.self.inside.ports;
-      channels = c.self.inside.channels;
+      vcs = c.self.inside.vcs;
       inputs = c.self.inside.inputs;
       outputs = c.self.inside.outputs;
     } in

@@ -10,25 +10,25 @@ use Rattle.worm_vcalloc.proofs.vc_alloc.VcAlloc.grant.Goals as goal
 pub loop-out-init : goal.loop-out-init
 loop-out-init c =
     let start : VcPass = record { alloc = c.args.self.now; grants = c.new-grants.result } in
-    let filed : IsFiled c.args.waiting.now c.args.self.now.ports c.args.self.now.channels c.file.new.self =
+    let filed : IsFiled c.args.waiting.now c.args.self.now.ports c.args.self.now.vcs c.file.new.self =
     rw (← c.self.view_is) c.file.ensures in
     rw c.ports-left.ensures (passed_start c.args.waiting.now c.args.free.now start c.file.new.self
     (rw (← c.self.view_is)
-    (IsVcAlloc-placed c.self.inside.ports c.self.inside.channels c.self.inside.places c.self.invariant)) filed)
+    (IsVcAlloc-placed c.self.inside.ports c.self.inside.vcs c.self.inside.places c.self.invariant)) filed)
 
 pub loop-out-preserved : goal.loop-out-preserved
 loop-out-preserved c =
     let start : VcPass = record { alloc = c.args.self.now; grants = c.new-grants.result } in
     let here : VcPass = record { alloc = c.loop-out.self; grants = c.loop-out.grants } in
     let there : VcPass = record { alloc = c.grant_port.new.self; grants = c.grant_port.new.grants } in
-    let filed : IsFiled c.args.waiting.now c.args.self.now.ports c.args.self.now.channels c.file.new.self =
+    let filed : IsFiled c.args.waiting.now c.args.self.now.ports c.args.self.now.vcs c.file.new.self =
     rw (← c.self.view_is) c.file.ensures in
-    let filed_here : IsFiled c.args.waiting.now c.loop-out.self.ports c.loop-out.self.channels c.file.new.self =
-    rw (c.loop-out.invariant.reached.ports, c.loop-out.invariant.reached.channels) filed in
+    let filed_here : IsFiled c.args.waiting.now c.loop-out.self.ports c.loop-out.self.vcs c.file.new.self =
+    rw (c.loop-out.invariant.reached.ports, c.loop-out.invariant.reached.vcs) filed in
     let first = c.in-Some.ensures in
     passed_more c.args.waiting.now c.args.free.now start here there c.loop-out.left c.pop_first.new.self c.in-Some.out
     c.loop-out.invariant first (c.loop-out.invariant.within c.in-Some.out first.in_range first.was_in)
-    (c.grant_port.ensures.pass c.args.waiting.now filed_here) c.grant_port.ensures.ports c.grant_port.ensures.channels
+    (c.grant_port.ensures.pass c.args.waiting.now filed_here) c.grant_port.ensures.ports c.grant_port.ensures.vcs
 
 pub returns-clause-pass : goal.returns-clause-pass
 returns-clause-pass c =
@@ -42,9 +42,9 @@ pub returns-clause-matching : goal.returns-clause-matching
 returns-clause-matching c =
     let s : VcAllocState = record {
       ports = c.self.inside.ports;
-      channels = c.self.inside.channels;
-      arbiters = arbiters_at c.self.inside.ports c.self.inside.channels c.self.inside.places;
+      vcs = c.self.inside.vcs;
+      arbiters = arbiters_at c.self.inside.ports c.self.inside.vcs c.self.inside.places;
     } in
     rw (← c.self.view_is) (matching_of c.args.waiting.now c.args.free.now s c.loop-out.self c.loop-out.grants
-    (IsVcAlloc-placed c.self.inside.ports c.self.inside.channels c.self.inside.places c.self.invariant)
+    (IsVcAlloc-placed c.self.inside.ports c.self.inside.vcs c.self.inside.places c.self.invariant)
     (rw c.self.view_is (returns-clause-pass c)))
