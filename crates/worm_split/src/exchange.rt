@@ -1,7 +1,7 @@
 //! A network taken apart, and what is exchanged between it and a worker's own lists. Done at the split it gives the
 //! worker its part; done again at the join it puts the part back.
 
-ghost use Rattle.std.specs.Prelude.{◌≡◌, ◌<◌, length};
+ghost use Rattle.std.specs.Prelude.{◌≡◌, ◌<◌, ◌%◌, length};
 ghost use Rattle.worm_region.specs.Owned.{owned_by};
 ghost use Rattle.worm_split.specs.Apart.{ArePaired, Fits, IsExchanged};
 ghost use Rattle.worm_split.specs.Exchange.{LinksSwapped, NodesSwapped, SwapsLink, SwapsNode};
@@ -40,12 +40,24 @@ impl Model for Kept {
     ghost invariant = { λ k. Fits (taken_apart k.config k.ways.items k.nodes.items k.links.items k.sides.items) };
 }
 
+/// What is left of a number behind a division. Each item that comes is asked for its owner by it, and a division takes
+/// longest of that: where the divisor is a power of two a mask does.
+fn remainder(number: u16, divisor: u16) -> u16
+    requires { 0 < divisor }
+    ensures { result ≡ number % divisor }
+{
+    if 1 << divisor.trailing_zeros() == divisor {
+        return number & (divisor - 1);
+    }
+    number % divisor
+}
+
 /// Whether the worker owns the node.
 pub(crate) fn owns(own: Own, node: u8) -> bool
     requires { 0 < own.workers }
     ensures { result ≡ owned_by own node }
 {
-    u16::from(node) % own.workers == own.worker
+    remainder(u16::from(node), own.workers) == own.worker
 }
 
 /// Exchanges the two nodes where they are the worker's.
