@@ -13,7 +13,7 @@ use Rattle.worm_region.specs.Turns.{Passage, Stays, ◌and_then◌, Each, ForEac
 use Rattle.worm_region.specs.Turns.{TakesCredits, TakesFlits, FeedsClasses, RoutesChannels, RoutesPort, Allocates}
 use Rattle.worm_region.specs.Turns.{SendsGranted, GivesCredit, GivesCredits, Turn, Turns, Drains, RunIsDetermined}
 use Rattle.worm_region.specs.Turns.{IsDetermined, fault_of, all_nodes, all_ports, mesh_ports}
-use Rattle.worm_script.specs.declared.script.Entry.{Entry}
+use Rattle.worm_script.specs.declared.entry.Entry.{Entry}
 use Rattle.worm_region.specs.declared.step.Moved.{Moved}
 use Rattle.worm_region.specs.declared.step.Moved.TheVariants.{Done, Idle}
 use Rattle.worm_region.specs.declared.fault.StepFault.{StepFault}

@@ -27,7 +27,7 @@ use Rattle.worm_region.specs.Turns.{all_ports, mesh_ports, AsksSourceBy, ComesIn
 use Rattle.worm_region.specs.Turns.{GivesCreditsBy, NodePassesBy, NodeTurnBy, RoutesChannelsBy, RoutesPortBy}
 use Rattle.worm_region.specs.Turns.{SendsGrantedBy, TakesCreditsBy, TakesFlitsBy}
 use Rattle.worm_region.specs.declared.node.Node.{Node}
-use Rattle.worm_script.specs.declared.script.Entry.{Entry}
+use Rattle.worm_script.specs.declared.entry.Entry.{Entry}
 use Rattle.worm_region.specs.declared.step.Moved.{Moved}
 use Rattle.worm_region.specs.declared.step.Moved.TheVariants.{Done, Idle}
 use Rattle.worm_region.specs.declared.fault.StepFault.{StepFault}

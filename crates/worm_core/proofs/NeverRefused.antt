@@ -15,9 +15,9 @@ use Rattle.worm_term.specs.declared.source.LaneState.{LaneState}
 use Rattle.worm_term.specs.Source.{SourceState, IsOpen, fresh_lane, with_packet}
 use Rattle.worm_theory.proofs.Places.{bool_cases}
 use Rattle.worm_region.specs.declared.node.Node.{Node}
-use Rattle.worm_script.specs.declared.script.Act.{Act}
-use Rattle.worm_script.specs.declared.script.Act.TheVariants.{Offer, Close}
-use Rattle.worm_script.specs.declared.script.Entry.{Entry}
+use Rattle.worm_script.specs.declared.entry.Act.{Act}
+use Rattle.worm_script.specs.declared.entry.Act.TheVariants.{Offer, Close}
+use Rattle.worm_script.specs.declared.entry.Entry.{Entry}
 use Rattle.worm_region.specs.declared.step.Moved.{Moved}
 use Rattle.worm_region.specs.declared.step.Moved.TheVariants.{Done, Idle}
 use Rattle.worm_region.specs.declared.fault.StepFault.{StepFault}

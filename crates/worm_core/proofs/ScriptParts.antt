@@ -3,7 +3,7 @@ use Rattle.std.proofs.Common.{◌≡◌, ℕ, suc, ◌+◌, ◌<◌, ◌≤◌, 
 use Rattle.std.proofs.Common.{length, refl, arith, ap, sym, subst, ◌∙◌, append_assoc, length-append}
 use Rattle.std.specs.Prelude.{filter, slice_index}
 use Rattle.std.proofs.lemmas.List.{append-nil}
-use Rattle.worm_script.specs.declared.script.Entry.{Entry}
+use Rattle.worm_script.specs.declared.entry.Entry.{Entry}
 use Rattle.worm_script.specs.Script.{AreInOrder, turns_of, due}
 use Rattle.worm_core.specs.Acceptable.{AreAcceptable}
 

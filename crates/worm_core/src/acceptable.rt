@@ -1,7 +1,7 @@
 //! Scripts that no source refuses.
 
 ghost use Rattle.std.specs.Prelude.{ℕ, List};
-ghost use Rattle.worm_script.specs.declared.script.Entry.{Entry};
+ghost use Rattle.worm_script.specs.declared.entry.Entry.{Entry};
 ghost use Rattle.worm_core.specs.Acceptable.{IsAcceptableScript, IsTakenWhole};
 
 /// A run of a script on a new network is ended by nothing but want of memory, if the script's lanes are the network's,

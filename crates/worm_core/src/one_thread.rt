@@ -1,5 +1,5 @@
 ghost use Rattle.std.specs.Prelude.{ℕ, List};
-ghost use Rattle.worm_script.specs.declared.script.Entry.{Entry};
+ghost use Rattle.worm_script.specs.declared.entry.Entry.{Entry};
 ghost use Rattle.worm_region.specs.NewNet.{IsOneNetwork};
 ghost use Rattle.worm_region.specs.Turns.{IsDetermined, RunIsDetermined, Turn};
 

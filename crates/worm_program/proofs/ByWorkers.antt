@@ -8,7 +8,7 @@ use Rattle.worm_theory.proofs.Places.{bool_cases}
 use Rattle.worm_core.specs.Acceptable.{EndsForMemory, IsAcceptableScript}
 use Rattle.worm_region.specs.NewNet.{IsFresh}
 use Rattle.worm_region.specs.State.{NetState}
-use Rattle.worm_script.specs.declared.script.Entry.{Entry}
+use Rattle.worm_script.specs.declared.entry.Entry.{Entry}
 use Rattle.worm_region.specs.declared.fault.StepFault.{StepFault}
 use Rattle.worm_region.specs.declared.fault.StepFault.TheVariants.{NoMemory as NoRoom}
 use Rattle.worm_core.proofs.SourceLedgers.{quiet_drains}

@@ -9,9 +9,9 @@ use Rattle.worm_region.specs.Totals.{accepted_total}
 use Rattle.worm_region.specs.Turns.{OneThreadRun}
 use Rattle.worm_region.specs.declared.fault.StepFault.{StepFault}
 use Rattle.worm_region.specs.declared.fault.StepFault.TheVariants.{NoMemory}
-use Rattle.worm_script.specs.declared.script.Act.{Act}
-use Rattle.worm_script.specs.declared.script.Act.TheVariants.{Offer, Close}
-use Rattle.worm_script.specs.declared.script.Entry.{Entry}
+use Rattle.worm_script.specs.declared.entry.Act.{Act}
+use Rattle.worm_script.specs.declared.entry.Act.TheVariants.{Offer, Close}
+use Rattle.worm_script.specs.declared.entry.Entry.{Entry}
 use Rattle.worm_report.specs.Report.{report}
 use Rattle.worm_report.specs.Seen.{seen}
 use Rattle.worm_text.proofs.TrafficAgain.{IsNamed, reads_traffic}

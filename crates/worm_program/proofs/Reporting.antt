@@ -1,7 +1,7 @@
 -- What the program answers where a report of accepted texts was written, or a part of one.
 use Rattle.std.proofs.Common.{◌≡◌, ◌≢◌, ℕ, List, Some, None, Option, Ok, Err, inl, inr, refl, subst}
 use Rattle.std.specs.Prelude.{Result, MatchResult, IsSome}
-use Rattle.worm_script.specs.declared.script.Entry.{Entry}
+use Rattle.worm_script.specs.declared.entry.Entry.{Entry}
 use Rattle.worm_region.specs.declared.fault.StepFault.{StepFault}
 use Rattle.worm_region.specs.declared.fault.StepFault.TheVariants.{NoMemory as NoRoom}
 use Rattle.worm_core.specs.Acceptable.{EndsForMemory}

@@ -7,9 +7,9 @@ use Rattle.worm_text.proofs.Entries.{nodes_some}
 use Rattle.worm_program.proofs.Configs.{all_nodes}
 use Rattle.worm_flit.specs.declared.Lane.{Lane}
 use Rattle.worm_mesh.specs.Address.{node_count}
-use Rattle.worm_script.specs.declared.script.Act.{Act}
-use Rattle.worm_script.specs.declared.script.Act.TheVariants.{Offer, Close}
-use Rattle.worm_script.specs.declared.script.Entry.{Entry}
+use Rattle.worm_script.specs.declared.entry.Act.{Act}
+use Rattle.worm_script.specs.declared.entry.Act.TheVariants.{Offer, Close}
+use Rattle.worm_script.specs.declared.entry.Entry.{Entry}
 use Rattle.worm_core.specs.Acceptable.{closes, is_closed, IsAcceptable, AreAcceptable, IsAcceptableScript}
 use Rattle.worm_script.specs.Script.{AreInOrder}
 use Rattle.worm_text.specs.declared.format.Format.{Format}

@@ -9,7 +9,7 @@ use Rattle.worm_region.specs.Replies.{Attempts, Replies}
 use Rattle.worm_region.specs.Answers.{Grows, refusal_of}
 use Rattle.worm_region.specs.Turns.{Turn, Turns, Passage, Stays, ◌and_then◌, Each, ForEach, fault_of, Does}
 use Rattle.worm_script.specs.Script.{due}
-use Rattle.worm_script.specs.declared.script.Entry.{Entry}
+use Rattle.worm_script.specs.declared.entry.Entry.{Entry}
 use Rattle.worm_region.specs.declared.step.Moved.{Moved}
 use Rattle.worm_region.specs.declared.fault.StepFault.{StepFault}
 use Rattle.worm_region.specs.declared.fault.StepFault.TheVariants.{NoSuchPlace, Refused, NoMemory}

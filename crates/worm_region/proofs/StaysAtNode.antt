@@ -12,9 +12,9 @@ use Rattle.worm_script.specs.Script.{begun_at}
 use Rattle.worm_region.specs.Turns.{Passage, ◌and_then◌, Each, Reaches, ReachesAt, node_of, ask, AsksSourceBy}
 use Rattle.worm_region.specs.Turns.{ComesInBy, TakesCreditsBy, TakesFlitsBy, FeedsClassesBy, RoutesChannelsBy}
 use Rattle.worm_region.specs.Turns.{RoutesPortBy, all_ports, mesh_ports, all_classes, all_channels}
-use Rattle.worm_script.specs.declared.script.Act.{Act}
-use Rattle.worm_script.specs.declared.script.Act.TheVariants.{Offer as ToOffer, Close as ToClose}
-use Rattle.worm_script.specs.declared.script.Entry.{Entry}
+use Rattle.worm_script.specs.declared.entry.Act.{Act}
+use Rattle.worm_script.specs.declared.entry.Act.TheVariants.{Offer as ToOffer, Close as ToClose}
+use Rattle.worm_script.specs.declared.entry.Entry.{Entry}
 use Rattle.worm_region.specs.declared.step.Moved.{Moved}
 use Rattle.worm_region.specs.declared.step.Moved.TheVariants.{Done, Idle}
 use Rattle.worm_region.specs.declared.fault.StepFault.{StepFault}

@@ -21,7 +21,7 @@ use Rattle.worm_region.specs.Turns.{Each, Does, Passage, Reaches, ReachesAt, All
 use Rattle.worm_region.specs.Turns.{lowest_owed, ◌and_then◌, AsksSourceBy, ComesInBy, GivesCreditBy, GivesCreditsBy}
 use Rattle.worm_region.specs.Turns.{AreGrants, Chooses, NodePassesBy, SendsBy, SendsGrantedBy}
 use Rattle.worm_region.specs.Prepared.{Prepares, allocated_at}
-use Rattle.worm_script.specs.declared.script.Entry.{Entry}
+use Rattle.worm_script.specs.declared.entry.Entry.{Entry}
 use Rattle.worm_region.specs.declared.step.Moved.{Moved}
 use Rattle.worm_region.specs.declared.fault.StepFault.{StepFault}
 use Rattle.worm_theory.proofs.Places.{number_cases}

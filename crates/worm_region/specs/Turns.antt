@@ -18,9 +18,9 @@ use Rattle.worm_region.specs.Moves.{IsReady, chosen_router}
 use Rattle.worm_region.specs.Answers.{Answers}
 use Rattle.worm_script.specs.Script.{due, begun_at}
 use Rattle.worm_region.specs.Totals.{injected_total, delivered_total}
-use Rattle.worm_script.specs.declared.script.Act.{Act}
-use Rattle.worm_script.specs.declared.script.Act.TheVariants.{Offer as ToOffer, Close as ToClose}
-use Rattle.worm_script.specs.declared.script.Entry.{Entry}
+use Rattle.worm_script.specs.declared.entry.Act.{Act}
+use Rattle.worm_script.specs.declared.entry.Act.TheVariants.{Offer as ToOffer, Close as ToClose}
+use Rattle.worm_script.specs.declared.entry.Entry.{Entry}
 use Rattle.worm_region.specs.declared.step.Moved.{Moved}
 use Rattle.worm_region.specs.declared.fault.StepFault.{StepFault}
 use Rattle.worm_region.specs.declared.fault.StepFault.TheVariants.{NoSuchPlace, Refused, NoMemory}

@@ -8,7 +8,7 @@ ghost use Rattle.worm_region.specs.Replies.{Attempts, Replies};
 ghost use Rattle.worm_script.specs.Script.{begun_at};
 ghost use Rattle.worm_region.specs.Owned.{sole};
 ghost use Rattle.worm_region.specs.Workable.{IsWorkable};
-ghost use Rattle.worm_script.specs.declared.script.Entry.{Entry};
+ghost use Rattle.worm_script.specs.declared.entry.Entry.{Entry};
 ghost use Rattle.worm_router.specs.Router.{input_at, width};
 ghost use Rattle.worm_swalloc.specs.SwAlloc.{AreGranted};
 ghost use Rattle.worm_swalloc.specs.declared.grant.SwGrant.{SwGrant};

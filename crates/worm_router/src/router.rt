@@ -1,20 +1,19 @@
-ghost use Rattle.std.specs.Prelude.{◌≡◌, ◌==◌, ◌&&◌, ◌||◌, ◌+◌, ◌*◌, ◌≤◌, ◌<◌, ◌↔◌, length, IfOk, IfErr};
+ghost use Rattle.std.specs.Prelude.{◌≡◌, ◌==◌, ◌||◌, ◌+◌, ◌*◌, ◌≤◌, ◌<◌, ◌↔◌, length, IfOk, IfErr};
 ghost use Rattle.std.specs.Prelude.{OnOk, OnErr, IsOk, IsErr, IsSome, IfSome, IfNone, None, Some, ℕ, is_some, nat_lt};
-ghost use Rattle.std.specs.Prelude.{slice_get, replicate, if◌then◌else◌};
-ghost use Rattle.worm_flit.specs.Channels.{AreChannels};
+ghost use Rattle.std.specs.Prelude.{if◌then◌else◌};
+ghost use Rattle.worm_flit.specs.Channels.{AreChannels, class_bits};
 ghost use Rattle.worm_mesh.specs.Address.{node_count};
 ghost use Rattle.worm_records.specs.declared.InRecord.TheVariants.{Waiting};
 ghost use Rattle.worm_route.specs.Route.{port_of};
-ghost use Rattle.worm_router.specs.Router.{IsPlace, IsRouter, line, fresh_channel, free_output, fresh_router, input_at};
+ghost use Rattle.worm_router.specs.Router.{IsPlace, line, fresh_router, input_at};
 ghost use Rattle.worm_router.specs.Router.{output_at, terminal, width, after_accept, can_route, after_route, can_grant};
 ghost use Rattle.worm_router.specs.Router.{after_grant, after_granting, leaving, MayLeave, credit_of};
 ghost use Rattle.worm_router.specs.Router.{after_send, after_gave, after_credit};
-ghost use Rattle.worm_router.specs.Busy.{IsSetOf, AreMasks, AreRoutes, is_active, is_occupied, is_waiting};
-ghost use Rattle.worm_router.specs.Busy.{lacks_route, owes};
 
 mod allocation;
 mod fresh;
 mod full;
+mod readers;
 mod rest;
 
 use crate::busy::BusyChannels;
@@ -28,7 +27,7 @@ use worm_flit::{ClassChannels, Flit, is_closing, is_opening};
 use worm_mesh::Mesh;
 use worm_records::{InRecord, OutRecord};
 use worm_swalloc::SwAlloc;
-use worm_vcalloc::{ChannelSet, VcAlloc, VcRequest};
+use worm_vcalloc::{VcAlloc, VcRequest};
 
 /// The router of one node: its input channels and its output channels, each by rising port, then channel.
 ///
@@ -149,97 +148,6 @@ impl Router {
         if port == self.terminal() { 0 } else { 1 }
     }
 
-    /// The input channels that have a flit.
-    pub fn occupied(&self) -> ChannelSet
-        ensures { IsSetOf is_occupied self.now result }
-    {
-        self.busy.occupied
-    }
-
-    /// The input channels that wait for an output channel.
-    pub fn waiting(&self) -> ChannelSet
-        ensures { IsSetOf is_waiting self.now result }
-    {
-        self.demand.requests().waiting()
-    }
-
-    /// The input channels that hold an output channel.
-    pub fn active(&self) -> ChannelSet
-        ensures { IsSetOf is_active self.now result }
-    {
-        self.busy.outs.keys()
-    }
-
-    /// The input channels with a flit that lack a route; no other has anything to route.
-    pub fn unrouted(&self) -> ChannelSet
-        ensures { IsSetOf lacks_route self.now result }
-    {
-        let flits = &self.busy.occupied;
-        flits.difference(&self.waiting()).difference(&self.active())
-    }
-
-    /// The input channels that owe a credit.
-    pub fn owing(&self) -> ChannelSet
-        ensures { IsSetOf owes self.now result }
-    {
-        self.busy.owing
-    }
-
-    /// The flit at place `i` of an input buffer, counted from the front.
-    pub fn buffer_at(&self, port: u8, vc: u8, i: usize) -> Option<Flit>
-        requires { IsPlace self.now port vc }
-        ensures value { result ≡ slice_get (input_at self.now port vc).buffer i }
-        ensures sound { IsRouter self.now }
-    {
-        let channel = &self.inputs[self.line(port, vc)];
-        channel.flit_at(i)
-    }
-
-    /// What the input channel does with the packet at its front.
-    pub fn in_record(&self, port: u8, vc: u8) -> InRecord
-        requires { IsPlace self.now port vc }
-        ensures { result ≡ (input_at self.now port vc).state }
-    {
-        let channel = &self.inputs[self.line(port, vc)];
-        channel.state()
-    }
-
-    /// Who holds the output channel, and how many credits it has.
-    pub fn out_record(&self, port: u8, vc: u8) -> OutRecord
-        requires { IsPlace self.now port vc }
-        ensures value { result ≡ output_at self.now port vc }
-        ensures terminal { port ≡ terminal self.now → result.credits ≡ self.now.depth }
-    {
-        self.outputs[self.line(port, vc)]
-    }
-
-    /// The flit that left this input channel last, as it left.
-    pub fn last_out(&self, port: u8, vc: u8) -> Option<Flit>
-        requires { IsPlace self.now port vc }
-        ensures { result ≡ (input_at self.now port vc).last_out }
-    {
-        let channel = &self.inputs[self.line(port, vc)];
-        channel.last_out()
-    }
-
-    /// How many credits this input channel owes.
-    pub fn owed_count(&self, port: u8, vc: u8) -> u8
-        requires { IsPlace self.now port vc }
-        ensures { result ≡ (input_at self.now port vc).owed }
-    {
-        let channel = &self.inputs[self.line(port, vc)];
-        channel.owed()
-    }
-
-    /// Whether the buffer of this input channel has room for one more flit, as `accept` needs.
-    pub fn has_room(&self, port: u8, vc: u8) -> bool
-        requires { IsPlace self.now port vc }
-        ensures { result ≡ nat_lt (length (input_at self.now port vc).buffer) self.now.depth }
-    {
-        let channel = &self.inputs[self.line(port, vc)];
-        channel.has_room()
-    }
-
     /// Puts a flit that came in by the port at the end of its channel's buffer. It comes back exactly where the buffer
     /// is full; the router is then as it was.
     #[inline(always)]
@@ -279,6 +187,16 @@ impl Router {
         ensures bound { result ≤ terminal self.now }
     {
         self.routes[usize::from(dst)]
+    }
+
+    /// The channels of a class, as a bit for each.
+    fn mask(&self, class: u8) -> u8
+        ensures { result ≡ class_bits self.now.channels class }
+    {
+        match self.masks.get(usize::from(class)) {
+            Some(mask) => *mask,
+            None => 0,
+        }
     }
 
     /// Route computation: an idle channel with an opening flit at its front comes to wait for the output port that the

@@ -20,9 +20,9 @@ use Rattle.worm_region.specs.NewNet.{IsFresh}
 use Rattle.worm_script.specs.Script.{begun_at, due, lane_of}
 use Rattle.worm_region.specs.State.{NetState, fresh_node, node_at, source_at}
 use Rattle.worm_region.specs.declared.node.Node.{Node}
-use Rattle.worm_script.specs.declared.script.Act.{Act}
-use Rattle.worm_script.specs.declared.script.Act.TheVariants.{Offer, Close}
-use Rattle.worm_script.specs.declared.script.Entry.{Entry}
+use Rattle.worm_script.specs.declared.entry.Act.{Act}
+use Rattle.worm_script.specs.declared.entry.Act.TheVariants.{Offer, Close}
+use Rattle.worm_script.specs.declared.entry.Entry.{Entry}
 use Rattle.worm_region.proofs.Sources.{refuses_none}
 use Rattle.worm_split.specs.Effects.{HasAccepted, Refuses, after_act, after_entries, is_close}
 use Rattle.worm_run.specs.Runs.{RefusesItsNext, RunsTo, ending_at}

@@ -5,7 +5,7 @@ use Rattle.std.specs.Prelude.{slice_index_or}
 use Rattle.std.proofs.lemmas.List.{get_or-map, length-map}
 use Rattle.worm_region.specs.State.{NetState}
 use Rattle.worm_region.specs.declared.own.Own.{Own}
-use Rattle.worm_script.specs.declared.script.Entry.{Entry}
+use Rattle.worm_script.specs.declared.entry.Entry.{Entry}
 use Rattle.worm_split.specs.Joins.{AreParts}
 use Rattle.worm_split.specs.PartState.{PartState, IsSamePart}
 use Rattle.worm_split.specs.Splits.{IsFirstPart, IsSplitOf, no_part, part_at}

@@ -5,7 +5,7 @@ use Rattle.worm_region.specs.Replies.{Attempts}
 use Rattle.worm_region.specs.State.{NetState}
 use Rattle.worm_region.specs.Turns.{Passage, AsksSourceBy, ComesInBy, TakesCreditsBy, TakesFlitsBy, FeedsClassesBy}
 use Rattle.worm_region.specs.Turns.{RoutesPortBy, Allocates, fault_of}
-use Rattle.worm_script.specs.declared.script.Entry.{Entry}
+use Rattle.worm_script.specs.declared.entry.Entry.{Entry}
 use Rattle.worm_region.specs.declared.step.Moved.{Moved}
 use Rattle.worm_region.specs.declared.fault.StepFault.{StepFault}
 use Rattle.worm_region.specs.declared.fault.StepFault.TheVariants.{NoSuchPlace, Refused, NoMemory}

@@ -12,7 +12,7 @@ use Rattle.worm_region.specs.State.{NetState, node_at, source_at, sink_at}
 use Rattle.worm_region.specs.Workable.{owned}
 use Rattle.worm_region.specs.declared.node.Node.{Node}
 use Rattle.worm_region.specs.declared.own.Own.{Own}
-use Rattle.worm_script.specs.declared.script.Entry.{Entry}
+use Rattle.worm_script.specs.declared.entry.Entry.{Entry}
 use Rattle.worm_split.specs.Effects.{HasAccepted, Refuses}
 use Rattle.worm_split.specs.Joins.{IsJoinOf, IsLaterThan}
 use Rattle.worm_split.specs.PartState.{PartState, HasConfigOf}

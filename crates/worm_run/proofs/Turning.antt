@@ -8,7 +8,7 @@ use Rattle.worm_region.specs.State.{source_at, sink_at}
 use Rattle.worm_region.specs.Owned.{owned_by}
 use Rattle.worm_region.specs.Workable.{owned}
 use Rattle.worm_region.specs.declared.own.Own.{Own}
-use Rattle.worm_script.specs.declared.script.Entry.{Entry}
+use Rattle.worm_script.specs.declared.entry.Entry.{Entry}
 use Rattle.worm_split.specs.PartState.{PartState, IsSamePart}
 use Rattle.worm_split.specs.PartTurns.{Turn}
 use Rattle.worm_split.specs.Effects.{HasAccepted, OneMore, SourcesTake, SinksTakeOne}

@@ -1,7 +1,7 @@
 -- What the workers did, one worker more after the others.
 use Rattle.std.proofs.Common.{◌≡◌, ℕ, ◌+◌, List, [], ◌∷◌, ◌++◌, length, arith, subst, sym, ap, ◌∙◌, append-nil}
 use Rattle.std.proofs.Common.{append_assoc}
-use Rattle.worm_script.specs.declared.script.Entry.{Entry}
+use Rattle.worm_script.specs.declared.entry.Entry.{Entry}
 use Rattle.worm_split.specs.PartState.{PartState}
 use Rattle.worm_run.specs.declared.working.Worked.{Worked}
 use Rattle.worm_run.specs.Working.{AllWorked, WorkedAs, stop_of}

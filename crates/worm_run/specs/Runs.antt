@@ -6,7 +6,7 @@ use Rattle.worm_term.specs.declared.fault.OfferFault.{OfferFault}
 use Rattle.worm_term.specs.Source.{SourceState}
 use Rattle.worm_script.specs.Script.{begun_at, due}
 use Rattle.worm_region.specs.State.{NetState, source_at, sink_at}
-use Rattle.worm_script.specs.declared.script.Entry.{Entry}
+use Rattle.worm_script.specs.declared.entry.Entry.{Entry}
 use Rattle.worm_split.specs.PartState.{PartState, HasConfigOf}
 use Rattle.worm_split.specs.Effects.{HasAccepted, Refuses}
 use Rattle.worm_split.specs.Joins.{IsJoinOf}

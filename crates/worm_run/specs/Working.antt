@@ -7,7 +7,7 @@ use Rattle.worm_mesh.specs.Address.{node_count}
 use Rattle.worm_script.specs.Script.{begun_at, due}
 use Rattle.worm_region.specs.State.{source_at, sink_at}
 use Rattle.worm_region.specs.Workable.{owned}
-use Rattle.worm_script.specs.declared.script.Entry.{Entry}
+use Rattle.worm_script.specs.declared.entry.Entry.{Entry}
 use Rattle.worm_region.specs.declared.fault.StepFault.{StepFault}
 use Rattle.worm_region.specs.declared.fault.StepFault.TheVariants.{Refused, NoMemory}
 use Rattle.worm_split.specs.PartState.{PartState, IsSamePart}

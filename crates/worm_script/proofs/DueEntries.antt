@@ -8,7 +8,7 @@ use Rattle.std.proofs.lemmas.Bool.{cases_lt}
 use Rattle.std.proofs.lemmas.List.{get_or-map}
 use Rattle.std.proofs.lemmas.List.Sorted.{IsNonDecreasingBy-from_all_adjacent}
 use Rattle.worm_script.specs.Script.{AreInOrder, due}
-use Rattle.worm_script.specs.declared.script.Entry.{Entry}
+use Rattle.worm_script.specs.declared.entry.Entry.{Entry}
 
 -- the elements of number t stand from place a to before place b
 record StandsAt {X : Type 0} (n : X → ℕ) (t : ℕ) (xs : List X) (a b : ℕ) : Type 0 where

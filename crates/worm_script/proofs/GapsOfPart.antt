@@ -2,7 +2,7 @@
 use Rattle.std.proofs.Common.{◌≡◌, ℕ, ◌+◌, ◌-◌, ◌<◌, ◌≤◌, List, length, get_or, take, drop, arith, ap, subst, sym, ◌∙◌}
 use Rattle.std.proofs.lemmas.List.{drop-map, get_or-drop, get_or-take, length-drop, length-take, take-map}
 use Rattle.worm_script.specs.Script.{lane_of, sources_of, AreGaps, IsPlaceOfNext}
-use Rattle.worm_script.specs.declared.script.Entry.{Entry}
+use Rattle.worm_script.specs.declared.entry.Entry.{Entry}
 
 abbrev part : ℕ → ℕ → List ℕ → List ℕ
 part first count xs = take count (drop first xs)

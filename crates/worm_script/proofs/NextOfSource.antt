@@ -3,7 +3,7 @@ use Rattle.std.proofs.Common.{◌≡◌, ◌≢◌, ℕ, zero, suc, ◌<◌, ◌
 use Rattle.std.proofs.Common.{get_or, drop, None, Some, refl, arith, eq-eqb, add-one, ◌⊎◌}
 use Rattle.std.proofs.lemmas.List.{length-map, get_or-map}
 use Rattle.worm_script.specs.Script.{begun_at, lane_of, sources_of, IsNext, IsPlaceOfNext}
-use Rattle.worm_script.specs.declared.script.Entry.{Entry}
+use Rattle.worm_script.specs.declared.entry.Entry.{Entry}
 
 differ : (a b : ℕ) → (a ≡ b → ⊥) → (a == b) ≡ false
 differ a b away = grind arith

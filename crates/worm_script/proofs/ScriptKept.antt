@@ -6,7 +6,7 @@ use Rattle.std.proofs.Math.Seq.{get_or-append_seam}
 use Rattle.std.proofs.lemmas.Bool.{cases_lt}
 use Rattle.std.proofs.lemmas.List.{get_or-replicate, get_or_append_left, length-map, map-append}
 use Rattle.worm_script.specs.Script.{last_turn, lane_of, sources_of, turns_of, AreInOrder, AreLasts, IsScript}
-use Rattle.worm_script.specs.declared.script.Entry.{Entry}
+use Rattle.worm_script.specs.declared.entry.Entry.{Entry}
 use Rattle.worm_script.proofs.GapsLinked.{IsLinked, gaps_linked, inner_linked, lasts_linked, linked_at_end}
 use Rattle.worm_script.proofs.NextOfSource.{as_many}
 

@@ -1,8 +1,8 @@
 ghost use Rattle.std.specs.Prelude.{◌≡◌, ◌<◌, ◌==◌, ◌+◌, length, slice_index, slice_index_or};
 ghost use Rattle.worm_script.specs.Script.{AreGaps, IsNext, sources_of};
-ghost use Rattle.worm_script.specs.declared.script.Entry.{Entry};
+ghost use Rattle.worm_script.specs.declared.entry.Entry.{Entry};
 
-use crate::script::Entry;
+use crate::entry::Entry;
 use std::marker::Model;
 
 /// The entries of a turn, in order. From each the next is known that asks the same source, so that nobody looks through
@@ -18,7 +18,7 @@ pub struct Due<'a> {
 impl<'a> Model for Due<'a> {
     ghost use Rattle.std.specs.Prelude.{List};
     ghost use Rattle.worm_script.specs.Script.{AreGaps, sources_of};
-    ghost use Rattle.worm_script.specs.declared.script.Entry.{Entry};
+    ghost use Rattle.worm_script.specs.declared.entry.Entry.{Entry};
 
     ghost Value = { List Entry };
 

@@ -9,7 +9,9 @@
 #![tactic(auto)]
 
 mod due;
+mod entry;
 mod script;
 
 pub use due::Due;
-pub use script::{Act, Entry, Script, ScriptFault};
+pub use entry::{Act, Entry};
+pub use script::{Script, ScriptFault};

@@ -1,41 +1,11 @@
 ghost use Rattle.std.specs.Prelude.{◌≡◌, ◌<◌, ◌≤◌, ◌-◌, ◌↔◌, ◌++◌, ◌∷◌, [], IsTrue, OnOk, OnErr, length};
 ghost use Rattle.std.specs.Prelude.{slice_range, slice_set};
-ghost use Rattle.worm_script.specs.Script.{AreInOrder, due, lane_of, last_turn};
+ghost use Rattle.worm_script.specs.Script.{AreInOrder, due, last_turn};
 
 use crate::due::Due;
+use crate::entry::Entry;
 use std::alloc::Global;
 use std::marker::Model;
-use worm_flit::{Lane, Packet};
-
-/// What a source is asked to do.
-#[derive(Debug, Drop)]
-pub enum Act {
-    /// To accept this packet.
-    Offer(Packet),
-    /// To close this lane, after which it accepts nothing for it.
-    Close(Lane),
-}
-
-impl Act {
-    /// The lane of which it speaks.
-    pub fn lane(&self) -> Lane
-        ensures { result ≡ lane_of self.now }
-    {
-        match self {
-            Act::Offer(packet) => packet.lane(),
-            Act::Close(lane) => *lane,
-        }
-    }
-}
-
-/// One line of traffic.
-#[derive(Debug, Drop)]
-pub struct Entry {
-    /// The turn, counted from 0, in which the lane's source is asked.
-    pub turn: u32,
-    /// What it is asked.
-    pub act: Act,
-}
 
 /// Why an entry was not added.
 #[derive(Clone, Copy, Debug, PartialEq, Eq)]
@@ -59,7 +29,7 @@ pub struct Script {
 impl Model for Script {
     ghost use Rattle.std.specs.Prelude.{List};
     ghost use Rattle.worm_script.specs.Script.{IsScript};
-    ghost use Rattle.worm_script.specs.declared.script.Entry.{Entry};
+    ghost use Rattle.worm_script.specs.declared.entry.Entry.{Entry};
 
     ghost Value = { List Entry };
 

@@ -9,9 +9,9 @@ use Rattle.worm_flit.specs.Packets.{packet_flits, mark}
 use Rattle.worm_term.specs.Queue.{QueueState, empty_queue, appended, one_fed}
 use Rattle.worm_term.specs.Source.{SourceState, after_fed, queue_at, with_packet, next_number, fresh_lane}
 use Rattle.worm_term.specs.declared.source.LaneState.{LaneState}
-use Rattle.worm_script.specs.declared.script.Act.{Act}
-use Rattle.worm_script.specs.declared.script.Act.TheVariants.{Offer, Close}
-use Rattle.worm_script.specs.declared.script.Entry.{Entry}
+use Rattle.worm_script.specs.declared.entry.Act.{Act}
+use Rattle.worm_script.specs.declared.entry.Act.TheVariants.{Offer, Close}
+use Rattle.worm_script.specs.declared.entry.Entry.{Entry}
 use Rattle.worm_split.specs.Effects.{HaveTheSame, HasAccepted, after_act, after_entries}
 
 pub same_source : (s : SourceState) → HaveTheSame s s

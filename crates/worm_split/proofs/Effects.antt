@@ -13,7 +13,7 @@ use Rattle.worm_region.specs.Workable.{owned}
 use Rattle.worm_region.specs.declared.fault.StepFault.{StepFault}
 use Rattle.worm_region.specs.declared.fault.StepFault.TheVariants.{Refused}
 use Rattle.worm_region.specs.declared.node.Node.{Node}
-use Rattle.worm_script.specs.declared.script.Entry.{Entry}
+use Rattle.worm_script.specs.declared.entry.Entry.{Entry}
 use Rattle.worm_split.specs.Effects.{HasAccepted, HaveWords, IsRefused, OneMore, SinksTakeOne, SourceTakes, SourcesTake}
 use Rattle.worm_split.specs.PartState.{PartState}
 use Rattle.worm_split.specs.PartTurns.{EachOf, NodeTurn, NodeTurns}

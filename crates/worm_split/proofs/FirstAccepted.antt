@@ -24,9 +24,9 @@ use Rattle.worm_region.specs.Turns.{Each, ask, fault_of}
 use Rattle.worm_region.specs.declared.fault.StepFault.{StepFault}
 use Rattle.worm_region.specs.declared.fault.StepFault.TheVariants.{NoMemory, NoSuchPlace, Refused}
 use Rattle.worm_region.specs.declared.node.Node.{Node}
-use Rattle.worm_script.specs.declared.script.Act.{Act}
-use Rattle.worm_script.specs.declared.script.Act.TheVariants.{Close, Offer}
-use Rattle.worm_script.specs.declared.script.Entry.{Entry}
+use Rattle.worm_script.specs.declared.entry.Act.{Act}
+use Rattle.worm_script.specs.declared.entry.Act.TheVariants.{Close, Offer}
+use Rattle.worm_script.specs.declared.entry.Entry.{Entry}
 use Rattle.worm_region.specs.declared.step.Moved.{Moved}
 use Rattle.worm_region.specs.declared.step.Moved.TheVariants.{Done, Idle}
 use Rattle.worm_region.proofs.Sources.{counted_packets, none_refused}

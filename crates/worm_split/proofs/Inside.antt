@@ -15,7 +15,7 @@ use Rattle.worm_region.specs.Turns.{FeedsClassesBy, RoutesChannelsBy}
 use Rattle.worm_region.specs.Workable.{IsWorkable}
 use Rattle.worm_region.specs.Owned.{owned_by}
 use Rattle.worm_region.specs.declared.own.Own.{Own}
-use Rattle.worm_script.specs.declared.script.Entry.{Entry}
+use Rattle.worm_script.specs.declared.entry.Entry.{Entry}
 use Rattle.worm_region.proofs.PassIsGrants.{IsKeptByGrants, allocated_keeps, chosen_apart}
 use Rattle.worm_parts.specs.Region.{HasPart}
 use Rattle.worm_split.specs.Ends.{End, Inner, Leaving, Entering, seen_by, taken_on, returned_on}

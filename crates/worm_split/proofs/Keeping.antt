@@ -13,9 +13,9 @@ use Rattle.worm_region.specs.Replies.{Attempts, Replies}
 use Rattle.worm_region.specs.Turns.{Passage, Each, ◌and_then◌, AsksSourceBy, TakesCreditsBy, TakesFlitsBy}
 use Rattle.worm_region.specs.Turns.{FeedsClassesBy, RoutesPortBy, RoutesChannelsBy, ask, all_ports, mesh_ports}
 use Rattle.worm_script.specs.Script.{begun_at}
-use Rattle.worm_script.specs.declared.script.Act.{Act}
-use Rattle.worm_script.specs.declared.script.Act.TheVariants.{Offer as ToOffer, Close as ToClose}
-use Rattle.worm_script.specs.declared.script.Entry.{Entry}
+use Rattle.worm_script.specs.declared.entry.Act.{Act}
+use Rattle.worm_script.specs.declared.entry.Act.TheVariants.{Offer as ToOffer, Close as ToClose}
+use Rattle.worm_script.specs.declared.entry.Entry.{Entry}
 use Rattle.worm_region.specs.declared.step.Moved.{Moved}
 use Rattle.worm_region.specs.declared.step.Moved.TheVariants.{Done, Idle}
 use Rattle.worm_region.specs.declared.fault.StepFault.{StepFault}

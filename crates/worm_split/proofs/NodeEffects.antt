@@ -13,7 +13,7 @@ use Rattle.worm_region.specs.State.{NetState, router_at, sink_at, source_at}
 use Rattle.worm_region.specs.Turns.{Allocates, ComesInBy, Passage, lowest_owed, mesh_ports}
 use Rattle.worm_region.specs.declared.fault.StepFault.{StepFault}
 use Rattle.worm_region.specs.declared.fault.StepFault.TheVariants.{Refused}
-use Rattle.worm_script.specs.declared.script.Entry.{Entry}
+use Rattle.worm_script.specs.declared.entry.Entry.{Entry}
 use Rattle.worm_split.specs.Effects.{HasAccepted, HasWords, HaveWords, OneMore, Refuses, SourceTakes, after_entries}
 use Rattle.worm_split.specs.PartState.{PartState}
 use Rattle.worm_split.specs.PartTurns.{◌then◌, Gives, GivesCredit, GivesCredits, NodeTurn, PartPassage}

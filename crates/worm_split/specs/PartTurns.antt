@@ -15,7 +15,7 @@ use Rattle.worm_region.specs.Replies.{Attempts}
 use Rattle.worm_region.specs.Turns.{ComesInBy, AsksSourceBy, Passage, Allocates, lowest_owed, mesh_ports}
 use Rattle.worm_region.specs.Turns.{all_ports, all_nodes}
 use Rattle.worm_region.specs.declared.fault.StepFault.{StepFault}
-use Rattle.worm_script.specs.declared.script.Entry.{Entry}
+use Rattle.worm_script.specs.declared.entry.Entry.{Entry}
 use Rattle.worm_region.specs.Workable.{owned}
 use Rattle.worm_swalloc.specs.declared.grant.SwGrant.{SwGrant}
 use Rattle.worm_split.specs.Crossings.{AwaitsCredit, AwaitsFlit, CreditGiven, CreditTaken, FlitSent, FlitTaken}

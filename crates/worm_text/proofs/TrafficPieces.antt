@@ -5,7 +5,7 @@ use Rattle.std.specs.Prelude.{codes}
 use Rattle.std.specs.List.{join_with_byte}
 use Rattle.std.specs.Str.{bytes_eq}
 use Rattle.std.proofs.lemmas.List.{append-nil, length_push, length-map, map_push}
-use Rattle.worm_script.specs.declared.script.Entry.{Entry}
+use Rattle.worm_script.specs.declared.entry.Entry.{Entry}
 use Rattle.worm_text.specs.Lines.{cut, space, newline}
 use Rattle.worm_text.specs.Network.{Network, nodes_of}
 use Rattle.worm_text.specs.Traffic.{Said, entry_view}

@@ -10,9 +10,9 @@ use Rattle.worm_text.specs.declared.fault.Why.TheVariants.{Header, Missing, Name
 use Rattle.worm_text.specs.declared.fault.Why.TheVariants.{TooMany, ManyChannels, NoEnd, AfterEnd}
 use Rattle.worm_text.specs.declared.fault.TextFault.{TextFault}
 use Rattle.worm_flit.specs.declared.Lane.{Lane}
-use Rattle.worm_script.specs.declared.script.Act.{Act}
-use Rattle.worm_script.specs.declared.script.Act.TheVariants as act
-use Rattle.worm_script.specs.declared.script.Entry.{Entry}
+use Rattle.worm_script.specs.declared.entry.Act.{Act}
+use Rattle.worm_script.specs.declared.entry.Act.TheVariants as act
+use Rattle.worm_script.specs.declared.entry.Entry.{Entry}
 use Rattle.worm_text.specs.Lines.{cut, space, newline}
 use Rattle.worm_text.specs.Network.{Network, nodes_of}
 use Rattle.worm_text.specs.Reading.{◌>>=◌, checked, number_at, no_more}

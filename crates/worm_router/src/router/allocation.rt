@@ -1,7 +1,6 @@
 //! One pass of each allocator, over what the records state.
 
 ghost use Rattle.std.specs.Prelude.{◌≡◌, ◌+◌};
-ghost use Rattle.worm_flit.specs.Channels.{class_bits};
 ghost use Rattle.worm_vcalloc.specs.VcAlloc.{IsChannelMatching};
 ghost use Rattle.worm_swalloc.specs.SwAlloc.{IsSwitchMatching};
 ghost use Rattle.worm_router.specs.Router.{terminal, width};
@@ -14,16 +13,6 @@ use worm_swalloc::{Ready, SwGrants};
 use worm_vcalloc::VcGrants;
 
 impl Router {
-    /// The channels of a class, as a bit for each.
-    pub(super) fn mask(&self, class: u8) -> u8
-        ensures { result ≡ class_bits self.now.channels class }
-    {
-        match self.masks.get(usize::from(class)) {
-            Some(mask) => *mask,
-            None => 0,
-        }
-    }
-
     /// One pass of the channel allocator over the waiting channels and the free ones. Each grant is written into
     /// the records of the input channel and of the output channel (Dally and Towles, chapters 16 and 19).
     pub fn allocate(&mut self) -> VcGrants

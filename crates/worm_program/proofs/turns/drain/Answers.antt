@@ -1,7 +1,7 @@
 use Rattle.std.proofs.Common.{◌-◌, None, Some, List, sym, subst, ◌∙◌}
 use Rattle.worm_script.specs.Script.{due}
 use Rattle.worm_region.specs.Turns.{Turn}
-use Rattle.worm_script.specs.declared.script.Entry.{Entry}
+use Rattle.worm_script.specs.declared.entry.Entry.{Entry}
 use Rattle.worm_program.proofs.Draining.{drain_over, drain_on, drain_cut}
 use Rattle.worm_program.proofs.turns.drain.Goals as goal
 

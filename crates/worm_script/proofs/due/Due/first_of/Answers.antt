@@ -1,7 +1,7 @@
 use Rattle.std.proofs.Common.{◌≡◌, ◌<◌, ◌∙◌, ℕ, List, Some, None, length, get_or, arith, ap, sym, subst, inl, inr}
 use Rattle.worm_flit.specs.declared.Lane.{Lane}
 use Rattle.worm_script.specs.Script.{IsNext, lane_of, sources_of}
-use Rattle.worm_script.specs.declared.script.Entry.{Entry}
+use Rattle.worm_script.specs.declared.entry.Entry.{Entry}
 use Rattle.worm_script.proofs.NextOfSource.{first_is_next, none_is_next, number_cases, source_at}
 use Rattle.worm_script.proofs.due.Due.first_of.Goals as goal
 

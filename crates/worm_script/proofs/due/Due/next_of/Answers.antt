@@ -1,6 +1,6 @@
 use Rattle.std.proofs.Common.{◌≡◌, ◌+◌, ◌<◌, List, Some, None, get_or, length, arith, ap, subst}
 use Rattle.worm_script.specs.Script.{IsNext, sources_of}
-use Rattle.worm_script.specs.declared.script.Entry.{Entry}
+use Rattle.worm_script.specs.declared.entry.Entry.{Entry}
 use Rattle.worm_script.proofs.NextOfSource.{as_many, is_next, is_none}
 use Rattle.worm_script.proofs.due.Due.next_of.Goals as goal
 use Rattle.worm_script.proofs.due.Due.next_of.Goals.{else-gap-ne0-via-then-gap-ne0+else-gap-self}

@@ -1,7 +1,7 @@
 use Rattle.std.proofs.Common.{ap, sym, ◌∙◌}
 use Rattle.worm_flit.specs.declared.Lane.{Lane}
 use Rattle.worm_script.specs.Script.{lane_of}
-use Rattle.worm_script.specs.declared.script.Entry.{Entry}
+use Rattle.worm_script.specs.declared.entry.Entry.{Entry}
 use Rattle.worm_script.proofs.NextOfSource.{source_at}
 use Rattle.worm_script.proofs.due.Due.source.Goals as goal
 

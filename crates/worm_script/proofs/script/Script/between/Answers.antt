@@ -1,6 +1,6 @@
 use Rattle.std.proofs.Common.{◌≡◌, ◌≤◌, ◌∙◌, List, ap, arith, length, subst, sym}
 use Rattle.worm_script.specs.Script.{sources_of, AreGaps}
-use Rattle.worm_script.specs.declared.script.Entry.{Entry}
+use Rattle.worm_script.specs.declared.entry.Entry.{Entry}
 use Rattle.worm_script.proofs.GapsOfPart.{gaps_between}
 use Rattle.worm_script.proofs.NextOfSource.{as_many}
 use Rattle.worm_script.proofs.script.Script.between.Goals as goal

@@ -3,7 +3,7 @@ use Rattle.std.proofs.Common.{subst, sym}
 use Rattle.std.specs.Prelude.{[], unwrap_or, IsTrue}
 use Rattle.std.proofs.lemmas.Option.{unwrap_or-slice_get}
 use Rattle.worm_script.specs.Script.{AreInOrder, due}
-use Rattle.worm_script.specs.declared.script.Entry.{Entry}
+use Rattle.worm_script.specs.declared.entry.Entry.{Entry}
 use Rattle.worm_script.proofs.DueEntries.{less, none_behind}
 use Rattle.worm_script.proofs.script.Script.is_over.Goals as goal
 

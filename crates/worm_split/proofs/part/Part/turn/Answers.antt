@@ -3,7 +3,7 @@ use Rattle.std.specs.Result.{result_err}
 use Rattle.worm_script.specs.Script.{due}
 use Rattle.worm_region.specs.State.{IsFramed}
 use Rattle.worm_region.specs.declared.fault.StepFault.{StepFault}
-use Rattle.worm_script.specs.declared.script.Entry.{Entry}
+use Rattle.worm_script.specs.declared.entry.Entry.{Entry}
 use Rattle.worm_split.specs.Effects.{HaveWords}
 use Rattle.worm_split.specs.PartState.{PartState}
 use Rattle.worm_split.specs.PartTurns.{NodeTurns, ReceivesFlits}
