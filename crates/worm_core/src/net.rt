@@ -1,5 +1,5 @@
 ghost use Rattle.std.specs.Prelude.{None, Some, ◌≡◌, ◌≤◌, ◌<◌, ◌↔◌, Result, IsTrue};
-ghost use Rattle.std.specs.Prelude.{IfOk, Ok, sum, length, take, Err};
+ghost use Rattle.std.specs.Prelude.{IfOk, Ok, length, take, Err};
 ghost use Rattle.worm_region.specs.Runs.{AreAnswered, IsRun, StopsBehind, event_of};
 ghost use Rattle.worm_region.specs.Answers.{Answers, ArbitersStand};
 ghost use Rattle.worm_theory.specs.Steps.{empty};
@@ -156,13 +156,6 @@ impl Net {
     {
         let nodes = self.nodes();
         u16::from(lane.src) < nodes && u16::from(lane.dst) < nodes && lane.class < self.classes()
-    }
-
-    /// The number of channels of a port.
-    pub(crate) fn vcs(&self) -> u8
-        ensures { result ≡ sum self.now.channels }
-    {
-        self.region.fabric().vcs()
     }
 
     /// One step.
