@@ -27,7 +27,7 @@ fn is_past(rt: &impl Abort, script: &mut Script, turn: u8) {
 
 /// The script has so many entries.
 fn has_entries(rt: &impl Abort, script: &Script, count: usize) {
-    are_equal(rt, script.entries().len(), count);
+    are_equal(rt, script.len(), count);
 }
 
 /// The turn has so many entries.
@@ -39,7 +39,7 @@ fn has_due(rt: &impl Abort, script: &Script, turn: u64, count: usize) {
 fn begins_with(rt: &impl Abort, script: &Script, turn: u64, lane: Lane) {
     let due = script.due(turn);
     assert!(rt; !due.is_empty());
-    assert_eq!(rt; due.entry(0).act.lane(), lane);
+    assert_eq!(rt; due.lane(0), lane);
     assert_eq!(rt; due.first_of(lane.src), Some(0));
 }
 

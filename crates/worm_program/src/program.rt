@@ -89,7 +89,7 @@ fn accept(alloc: Global, network: &[u8], traffic: &[u8]) -> Result<Accepted, Pro
     };
     match read_traffic(alloc, traffic, &config) {
         Ok(script) => {
-            let _entries = script.entries();
+            let _entries = script.len();
             Ok(Accepted { config, script })
         }
         Err(fault) if fault.why == Why::NoMemory => Err(ProgramFault::NoMemory),
@@ -114,7 +114,7 @@ fn open(alloc: Global, config: &Config) -> Option<Net>
 fn not_offered(net: &Net, script: &Script) -> u64
     ensures { result ≡ length script.now - accepted_total net.now }
 {
-    let entries = script.entries().len() as u128;
+    let entries = script.len() as u128;
     entries.saturating_sub(net.totals().accepted) as u64
 }
 

@@ -4,7 +4,7 @@ use Rattle.std.proofs.Common.{get_or, drop, take, map, List, [], ◌∷◌, ◌+
 use Rattle.std.proofs.Common.{arith, ap, sym, subst, ◌∙◌}
 use Rattle.std.proofs.lemmas.Bool.{eqb-true}
 use Rattle.std.proofs.lemmas.Bool.Decides.{nat_tests}
-use Rattle.std.proofs.lemmas.List.{get_or-map, take_more}
+use Rattle.std.proofs.lemmas.List.{get_or_default, get_or-map, take_more}
 use Rattle.std.proofs.lemmas.List.Elements.{All-head, filter-append, filter_passes}
 use Rattle.std.specs.Prelude.{Result, option_map, filter, slice_index, slice_index_or, IfSome, IfNone}
 use Rattle.std.specs.List.{All, range_with_len, find}
@@ -74,6 +74,11 @@ pub asks_within : (x : ℕ) (entries : List Entry) (i : ℕ) (a b : NetState) �
     i < length entries
 asks_within x entries i a b so_far = so_far.left.0
 
+-- and whatever is told where none is, it is the same
+asks_same : (x : ℕ) (entries : List Entry) (i : ℕ) (e : Entry) (a b : NetState) → Asked x entries (Some i) a b →
+    get_or entries i (get_or entries i e) ≡ get_or entries i e
+asks_same x entries i e a b so_far = get_or_default entries i (get_or entries i e) e so_far.left.0
+
 -- the next one is for the source, so what comes next of the source that it asks comes next for this one
 pub next_left : (x : ℕ) (entries : List Entry) (i : ℕ) (e : Entry) (a b : NetState) (next : Option ℕ) →
     Asked x entries (Some i) a b → IsNext (slice_index (sources_of entries) i) entries (i + 1) next →
@@ -111,16 +116,18 @@ asks_on x entries i e a b c fault so_far at made =
     so_far.whole c fault (subst (λ (es : List Entry). Each Attempts (map (λ (e : Entry). ask x e.act) es) b fault c)
     (sym from_here) made)
 
-pub asks_more : (x : ℕ) (entries : List Entry) (i : ℕ) (e : Entry) (next : Option ℕ) (a b c : NetState)
-    (answer : Result Moved StepFault) → Asked x entries (Some i) a b → get_or entries i e ≡ e →
-    Replies b (ask x e.act) answer c → None ≡ fault_of answer → IsNext x entries (i + 1) next →
+pub asks_more : (x : ℕ) (entries : List Entry) (i : ℕ) (d : Entry) (next : Option ℕ) (a b c : NetState)
+    (answer : Result Moved StepFault) → Asked x entries (Some i) a b →
+    Replies b (ask x (get_or entries i d).act) answer c → None ≡ fault_of answer → IsNext x entries (i + 1) next →
     Asked x entries next a c
-asks_more x entries i e next a b c answer so_far at answered ends is =
+asks_more x entries i d next a b c answer so_far answered ends is =
+    let e = get_or entries i d in
+    let same = asks_same x entries i d a b so_far in
     let one = does_try b c (ask x e.act) answer None answered ends in
     record {
       place = i + 1;
       left = is;
-      whole = λ d fault made. asks_on x entries i e a b d fault so_far at (inr (c, one.exact, made));
+      whole = λ end fault made. asks_on x entries i e a b end fault so_far same (inr (c, one.exact, made));
       reaches = joined a b c so_far.reaches one.reaches;
     }
 
@@ -131,14 +138,16 @@ asks_source x entries a b fault made reaches =
     (record { exact = made; reaches = reaches }, asks_at x entries a b fault made)
 
 -- up to a fault
-pub asks_until : (x : ℕ) (entries : List Entry) (i : ℕ) (e : Entry) (a b c : NetState)
-    (answer : Result Moved StepFault) (fault : StepFault) → Asked x entries (Some i) a b → get_or entries i e ≡ e →
-    Replies b (ask x e.act) answer c → Some fault ≡ fault_of answer →
+pub asks_until : (x : ℕ) (entries : List Entry) (i : ℕ) (d : Entry) (a b c : NetState)
+    (answer : Result Moved StepFault) (fault : StepFault) → Asked x entries (Some i) a b →
+    Replies b (ask x (get_or entries i d).act) answer c → Some fault ≡ fault_of answer →
     Does (AsksSourceBy Attempts entries x) a (Some fault) c × ReachesAt x a c
-asks_until x entries i e a b c answer fault so_far at answered ends =
+asks_until x entries i d a b c answer fault so_far answered ends =
+    let e = get_or entries i d in
+    let same = asks_same x entries i d a b so_far in
     let one = does_try b c (ask x e.act) answer (Some fault) answered ends in
     asks_source x entries a c (Some fault)
-    (asks_on x entries i e a b c (Some fault) so_far at (inl (refl, one.exact)))
+    (asks_on x entries i e a b c (Some fault) so_far same (inl (refl, one.exact)))
     (joined a b c so_far.reaches one.reaches)
 
 -- or all of them

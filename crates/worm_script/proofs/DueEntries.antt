@@ -7,7 +7,7 @@ use Rattle.std.proofs.Math.Seq.{drop-nil}
 use Rattle.std.proofs.lemmas.Bool.{cases_lt}
 use Rattle.std.proofs.lemmas.List.{get_or-map}
 use Rattle.std.proofs.lemmas.List.Sorted.{IsNonDecreasingBy-from_all_adjacent}
-use Rattle.worm_script.specs.Script.{AreInOrder, due}
+use Rattle.worm_script.specs.Script.{AreInOrder, due, last_turn}
 use Rattle.worm_script.specs.declared.entry.Entry.{Entry}
 
 -- the elements of number t stand from place a to before place b
@@ -93,7 +93,7 @@ stands_by n t xs a b first next = record {
 }
 
 -- the turns of a script never fall
-pub turns_rise : (entries : List Entry) → AreInOrder entries → IsNonDecreasingBy (λ (e : Entry). e.turn) entries
+turns_rise : (entries : List Entry) → AreInOrder entries → IsNonDecreasingBy (λ (e : Entry). e.turn) entries
 turns_rise entries in_order =
     IsNonDecreasingBy-from_all_adjacent (λ (e : Entry). e.turn) entries
     (λ k d below.
@@ -109,24 +109,24 @@ places_rise n t (x ∷ xs) a b within stands = elim (cases_lt b a) [
   | inr above ↦ above
 ]
 
--- the entries of a turn stand between the places that two searches find
-pub due_part : (entries : List Entry) (turn a b : ℕ) → a ≤ length entries
-    → IsPartitionPoint (λ (e : Entry). nat_lt e.turn turn ≡ true) (λ (e : Entry). nat_lt e.turn turn ≡ false) entries a
-    → IsPartitionPoint (λ (e : Entry). nat_le e.turn turn ≡ true) (λ (e : Entry). nat_le e.turn turn ≡ false) entries b
-    → (a ≤ b) × (take (b - a) (drop a entries) ≡ due turn entries)
-due_part entries turn a b within first next =
-    let stands = stands_by (λ (e : Entry). e.turn) turn entries a b first next in
-    let rise = places_rise (λ (e : Entry). e.turn) turn entries a b within stands in
-    (rise, sym (stands_part (λ (e : Entry). e.turn) turn entries a b rise stands))
+-- those of a turn stand between the places that two searches find
+pub part_of_turn : {X : Type 0} (n : X → ℕ) (xs : List X) (turn a b : ℕ) → a ≤ length xs
+    → IsPartitionPoint (λ x. nat_lt (n x) turn ≡ true) (λ x. nat_lt (n x) turn ≡ false) xs a
+    → IsPartitionPoint (λ x. nat_le (n x) turn ≡ true) (λ x. nat_le (n x) turn ≡ false) xs b
+    → (a ≤ b) × (take (b - a) (drop a xs) ≡ filter (λ x. n x == turn) xs)
+part_of_turn n xs turn a b within first next =
+    let stands = stands_by n turn xs a b first next in
+    let rise = places_rise n turn xs a b within stands in
+    (rise, sym (stands_part n turn xs a b rise stands))
 
 -- a turn behind the last entry's has none
-pub none_behind : (entries : List Entry) (turn : ℕ) → AreInOrder entries
-    → ((d : Entry) → 0 < length entries → (get_or entries (length entries - 1) d).turn < turn) → due turn entries ≡ []
+pub none_behind : (entries : List Entry) (turn : ℕ) → AreInOrder entries → last_turn entries < turn
+    → due turn entries ≡ []
 none_behind entries turn in_order last =
     let rise = turns_rise entries in_order in
     let below : (k : ℕ) (d : Entry) → k < length entries → (get_or entries k d).turn < turn = λ k d there.
     let risen = rise k (length entries - 1) d (omega arith) (omega arith) in
-    let end = last d (omega arith) in
+    let end = get_or-map (λ (e : Entry). e.turn) entries (length entries - 1) d 0 (omega arith) in
     omega arith in
     let none : length entries - length entries ≡ 0 = omega arith in
     stands_part (λ (e : Entry). e.turn) turn entries (length entries) (length entries) (omega arith) record {

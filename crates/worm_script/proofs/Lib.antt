@@ -1,4 +1,5 @@
 pub mod DueEntries
+pub mod EntriesKept
 pub mod NextOfSource
 pub mod GapsOfPart
 pub mod GapsLinked

@@ -1,7 +1,8 @@
 -- The order of a script's entries, and those of a turn and of a node.
 use Rattle.std.specs.Prelude.{ℕ, ◌≡◌, ◌≢◌, ◌≤◌, ◌+◌, ◌-◌, ◌<◌, ◌==◌, List, [], ◌∷◌}
-use Rattle.std.specs.Prelude.{Option, None, Some, length, drop, filter, map, slice_index, slice_index_or}
+use Rattle.std.specs.Prelude.{All, Option, None, Some, length, drop, filter, map, slice_index, slice_index_or}
 use Rattle.worm_flit.specs.declared.Lane.{Lane}
+use Rattle.worm_flit.specs.Packets.{PacketState}
 use Rattle.worm_script.specs.declared.entry.Act.{Act}
 use Rattle.worm_script.specs.declared.entry.Act.TheVariants.{Offer, Close}
 use Rattle.worm_script.specs.declared.entry.Entry.{Entry}
@@ -23,6 +24,19 @@ AreInOrder entries = (i : ℕ) → i + 1 < length entries
 abbrev pub lane_of : Act → Lane
 lane_of (Offer packet) = packet.lane
 lane_of (Close lane) = lane
+
+-- the packet that is offered, if one is
+abbrev pub packet_in : Act → Option PacketState
+packet_in (Offer packet) = Some packet
+packet_in (Close lane) = None
+
+-- a packet has 1 to 32 words, as every packet has
+abbrev pub HasWords : Act → Type 0
+HasWords (Offer packet) = (1 ≤ length packet.words) × (length packet.words ≤ 32)
+HasWords (Close lane) = Unit {0}
+
+abbrev pub HaveWords : List Entry → Type 0
+HaveWords entries = All (λ (e : Entry). HasWords e.act) entries
 
 -- the entries of a turn, in their order
 abbrev pub due : ℕ → List Entry → List Entry

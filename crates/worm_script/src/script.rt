@@ -1,9 +1,11 @@
 ghost use Rattle.std.specs.Prelude.{◌≡◌, ◌<◌, ◌≤◌, ◌-◌, ◌↔◌, ◌++◌, ◌∷◌, [], IsTrue, OnOk, OnErr, length};
-ghost use Rattle.std.specs.Prelude.{slice_range, slice_set};
+ghost use Rattle.std.specs.Prelude.{slice_index_or, slice_range, slice_set};
 ghost use Rattle.worm_script.specs.Script.{AreInOrder, due, last_turn};
+ghost use Rattle.worm_script.specs.declared.entry.Entry.{Entry as OfEntry};
 
 use crate::due::Due;
 use crate::entry::Entry;
+use crate::lines::Lines;
 use std::alloc::Global;
 use std::marker::Model;
 
@@ -19,7 +21,7 @@ pub enum ScriptFault {
 /// Entries in the order of the text, whose turns never fall; turn by turn each source is asked its own in this order.
 #[derive(Debug, Drop)]
 pub struct Script {
-    entries: Vec<Entry>,
+    entries: Lines,
     /// From each entry, how many places on the next one stands that asks the same source: 0 where none does.
     gaps: Vec<usize>,
     /// By node, how many entries there are up to the last one that asks its source: 0 where none does.
@@ -33,21 +35,9 @@ impl Model for Script {
 
     ghost Value = { List Entry };
 
-    ghost view = { λ s. s.entries.items };
+    ghost view = { λ s. s.entries };
 
-    ghost invariant = { λ s. IsScript s.entries.items s.gaps.items s.lasts };
-}
-
-/// Where the entries of a turn begin, and where those of later turns.
-fn due_places(entries: &[Entry], turn: u64) -> (usize, usize)
-    requires { AreInOrder entries.now }
-    ensures rise { result.0 ≤ result.1 }
-    ensures within { result.1 ≤ length entries.now }
-    ensures part { slice_range entries.now result.0 result.1 ≡ due turn entries.now }
-{
-    let first = entries.partition_point(|entry| u64::from(entry.turn) < turn);
-    let next = entries.partition_point(|entry| u64::from(entry.turn) <= turn);
-    (first, next)
+    ghost invariant = { λ s. IsScript s.entries s.gaps.items s.lasts };
 }
 
 /// Leads from the last entry of a source, if it has one, to the entry at the end.
@@ -68,7 +58,7 @@ impl Script {
         ensures { result ≡ [] }
     {
         Script {
-            entries: Vec::new(alloc),
+            entries: Lines::new(alloc),
             gaps: Vec::new(alloc),
             lasts: [0; 256],
         }
@@ -81,18 +71,14 @@ impl Script {
         ensures falls { (result ≡ Err ScriptFault.TurnFalls) ↔ (entry.turn < last_turn self.old) }
         ensures err { OnErr result (self.new ≡ self.old) }
     {
-        let last = match self.entries.last() {
-            None => 0,
-            Some(entry) => entry.turn,
-        };
-        if entry.turn < last {
+        if entry.turn < self.entries.last_turn() {
             return Err(ScriptFault::TurnFalls);
         }
         if self.gaps.reserve(1).is_err() {
             return Err(ScriptFault::NoMemory);
         }
         let source = usize::from(entry.act.lane().src);
-        if self.entries.push(entry).is_err() {
+        if self.entries.push(&entry).is_err() {
             return Err(ScriptFault::NoMemory);
         }
         let _ = self.gaps.push(0);
@@ -101,22 +87,27 @@ impl Script {
         Ok(())
     }
 
-    /// The entries, in order.
-    pub fn entries(&self) -> &[Entry]
-        ensures value { result.now ≡ self.now }
+    /// How many entries there are.
+    pub fn len(&self) -> usize
+        ensures value { result ≡ length self.now }
         ensures in_order { AreInOrder self.now }
     {
-        self.entries.as_slice()
+        self.entries.len()
+    }
+
+    /// The entry at this place.
+    pub fn entry(&self, i: usize) -> Entry
+        requires { i < length self.now }
+        ensures { (d : OfEntry) → slice_index_or self.now i d ≡ result }
+    {
+        self.entries.entry(i)
     }
 
     /// Whether all entries are of turns before this one, so that it has none.
     fn is_over(&self, turn: u64) -> bool
         ensures { IsTrue result → due turn self.now ≡ [] }
     {
-        match self.entries.last() {
-            None => true,
-            Some(last) => u64::from(last.turn) < turn,
-        }
+        self.entries.len() == 0 || u64::from(self.entries.last_turn()) < turn
     }
 
     /// The entries between two places, each with where the next stands.
@@ -125,7 +116,7 @@ impl Script {
         requires within { next ≤ length self.now }
         ensures { result ≡ slice_range self.now first next }
     {
-        Due::new(&self.entries[first..next], &self.gaps[first..next])
+        Due::new(&self.entries, first, &self.gaps[first..next])
     }
 
     /// The entries of a turn, in order.
@@ -135,7 +126,7 @@ impl Script {
         if self.is_over(turn) {
             return self.between(0, 0);
         }
-        let (first, next) = due_places(self.entries(), turn);
+        let (first, next) = self.entries.places(turn);
         self.between(first, next)
     }
 }

@@ -7,14 +7,14 @@ use Rattle.std.proofs.lemmas.Bool.{cases_eq}
 use Rattle.worm_mesh.specs.Address.{node_count}
 use Rattle.worm_term.specs.declared.fault.OfferFault.{OfferFault}
 use Rattle.worm_theory.proofs.Places.{bool_cases}
-use Rattle.worm_script.specs.Script.{begun_at}
+use Rattle.worm_script.specs.Script.{HaveWords, begun_at}
 use Rattle.worm_region.specs.State.{IsFramed, IsNodeOf, NetState, node_at, sink_at, source_at}
 use Rattle.worm_region.specs.Workable.{owned}
 use Rattle.worm_region.specs.declared.fault.StepFault.{StepFault}
 use Rattle.worm_region.specs.declared.fault.StepFault.TheVariants.{Refused}
 use Rattle.worm_region.specs.declared.node.Node.{Node}
 use Rattle.worm_script.specs.declared.entry.Entry.{Entry}
-use Rattle.worm_split.specs.Effects.{HasAccepted, HaveWords, IsRefused, OneMore, SinksTakeOne, SourceTakes, SourcesTake}
+use Rattle.worm_split.specs.Effects.{HasAccepted, IsRefused, OneMore, SinksTakeOne, SourceTakes, SourcesTake}
 use Rattle.worm_split.specs.PartState.{PartState}
 use Rattle.worm_split.specs.PartTurns.{EachOf, NodeTurn, NodeTurns}
 use Rattle.worm_wires.specs.Links.{LinkView}

@@ -8,13 +8,13 @@ use Rattle.worm_router.specs.Router.{after_gave}
 use Rattle.worm_term.specs.declared.fault.OfferFault.{OfferFault}
 use Rattle.worm_term.specs.Source.{SourceState}
 use Rattle.worm_region.specs.Replies.{Attempts}
-use Rattle.worm_script.specs.Script.{begun_at, lane_of}
+use Rattle.worm_script.specs.Script.{HasWords, HaveWords, begun_at, lane_of}
 use Rattle.worm_region.specs.State.{NetState, router_at, sink_at, source_at}
 use Rattle.worm_region.specs.Turns.{Allocates, ComesInBy, Passage, lowest_owed, mesh_ports}
 use Rattle.worm_region.specs.declared.fault.StepFault.{StepFault}
 use Rattle.worm_region.specs.declared.fault.StepFault.TheVariants.{Refused}
 use Rattle.worm_script.specs.declared.entry.Entry.{Entry}
-use Rattle.worm_split.specs.Effects.{HasAccepted, HasWords, HaveWords, OneMore, Refuses, SourceTakes, after_entries}
+use Rattle.worm_split.specs.Effects.{HasAccepted, OneMore, Refuses, SourceTakes, after_entries}
 use Rattle.worm_split.specs.PartState.{PartState}
 use Rattle.worm_split.specs.PartTurns.{◌then◌, Gives, GivesCredit, GivesCredits, NodeTurn, PartPassage}
 use Rattle.worm_split.specs.PartTurns.{SendsGranted, Within}

@@ -1,5 +1,5 @@
 -- What a turn of a part does to the sources and sinks of its nodes (Dally and Towles, chapter 20).
-use Rattle.std.specs.Prelude.{◌≡◌, ℕ, ◌<◌, ◌≤◌, Bool, true, false, List, ◌∷◌, ◌++◌, length, fold, All}
+use Rattle.std.specs.Prelude.{◌≡◌, ℕ, ◌<◌, Bool, true, false, List, ◌∷◌, ◌++◌, length, fold}
 use Rattle.std.specs.Prelude.{Option, Some, None}
 use Rattle.std.specs.Option.{option_to_list}
 use Rattle.worm_flit.specs.declared.Flit.{Flit}
@@ -15,16 +15,6 @@ use Rattle.worm_script.specs.declared.entry.Act.{Act}
 use Rattle.worm_script.specs.declared.entry.Act.TheVariants.{Offer, Close}
 use Rattle.worm_script.specs.declared.entry.Entry.{Entry}
 use Rattle.worm_split.specs.PartState.{PartState}
-
--- Entries
-
--- a packet has 1 to 32 words, as every packet has
-abbrev pub HasWords : Act → Type 0
-HasWords (Offer packet) = (1 ≤ length packet.words) × (length packet.words ≤ 32)
-HasWords (Close lane) = Unit {0}
-
-abbrev pub HaveWords : List Entry → Type 0
-HaveWords entries = All (λ (e : Entry). HasWords e.act) entries
 
 -- Sources
 

@@ -9,7 +9,7 @@ ghost use Rattle.worm_script.specs.Script.{due};
 ghost use Rattle.worm_region.specs.Prepared.{Prepares};
 ghost use Rattle.worm_region.specs.Turns.{AreGrants, AreThere, AsksSourceBy, MayAllSend, OthersMaySend};
 ghost use Rattle.worm_region.specs.Workable.{owned};
-ghost use Rattle.worm_split.specs.Effects.{HasWords, HaveWords, IsRefused, SinksTakeOne, SourcesTake};
+ghost use Rattle.worm_split.specs.Effects.{IsRefused, SinksTakeOne, SourcesTake};
 ghost use Rattle.worm_split.specs.PartState.{IsSamePart};
 ghost use Rattle.worm_region.specs.State.{router_at, shape};
 ghost use Rattle.worm_swalloc.specs.SwAlloc.{AreGranted};
@@ -23,7 +23,7 @@ ghost use Rattle.worm_split.specs.PartTurns.{StaysWithin, Turn, Within};
 
 use crate::part::Part;
 use std::sync::Wait;
-use worm_core::{Act, Due, Entry, Script, StepFault, tried};
+use worm_core::{Due, Script, StepFault, tried};
 use worm_flit::Flit;
 use worm_vcalloc::ChannelSet;
 
@@ -330,7 +330,7 @@ impl Part {
         ensures same { IsSamePart self.old self.new }
     {
         let due = script.due(turn);
-        have_words(due.entries());
+        due.recall();
         self.fetch();
         self.receive_flits();
         self.receive_credits();
@@ -352,23 +352,5 @@ impl Part {
         ensures { self.new ≡ self.old }
     {
         self.side.flush(rt);
-    }
-}
-
-/// What holds of every packet, for contracts: it has words, and not too many.
-fn has_words(act: &Act)
-    ensures { HasWords act.now }
-{
-    if let Act::Offer(packet) = act {
-        let _words = packet.words();
-    }
-}
-
-/// The same of all entries.
-fn have_words(entries: &[Entry])
-    ensures { HaveWords entries.now }
-{
-    for entry in entries {
-        has_words(&entry.act);
     }
 }

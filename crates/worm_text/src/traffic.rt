@@ -261,7 +261,7 @@ fn read_entries(
         let standing = Standing {
             config,
             nodes,
-            count: script.entries().len(),
+            count: script.len(),
             last,
             closed: &closed,
         };

@@ -1,4 +1,4 @@
-use Rattle.std.proofs.Common.{◌≡◌, ◌<◌, ◌∙◌, [], ◌∷◌, ◌++◌, map, length, sym, ap, refl, inl, inr, arith}
+use Rattle.std.proofs.Common.{◌≡◌, ◌<◌, ◌∙◌, [], ◌∷◌, ◌++◌, map, length, sym, refl, inl, inr, arith}
 use Rattle.std.proofs.lemmas.List.{length-map, length_push}
 use Rattle.std.proofs.lemmas.Bool.Decides.{nat_tests}
 use Rattle.std.specs.BTreeSet.{contains}
@@ -17,9 +17,9 @@ returns-in-Err c =
     let n = view c.args.config.now in
     let es = c.loop-front.script in
     let i = c.loop-front.invariant in
-    let len : length c.entries.result.now ≡ length (map entry_view es) =
-    omega (arith, length-map es entry_view, ap length c.entries.ensures.value) in
-    let call = same_call n (map entry_view es) (length c.entries.result.now) c.loop-front.last
+    let len : c.len.result ≡ length (map entry_view es) =
+    omega (arith, length-map es entry_view, c.len.ensures.value) in
+    let call = same_call n (map entry_view es) c.len.result c.loop-front.last
     (contains lane_cmp c.loop-front.closed.lanes) (cut space c.in-Some.front.now) len i.last i.closed in
     inr (stops n (map entry_view es) c.loop-front.line c.loop-front.rest.now c.in-Some.front.now c.in-Some.after.now
     (read_entries n [] 2 (cut newline c.args.rest.now)) c.in-Err.why c.in-Some.ensures.parts i.read
@@ -30,9 +30,9 @@ returns-then-is_empty c =
     let n = view c.args.config.now in
     let es = c.loop-front.script in
     let i = c.loop-front.invariant in
-    let len : length c.entries.result.now ≡ length (map entry_view es) =
-    omega (arith, length-map es entry_view, ap length c.entries.ensures.value) in
-    let call = same_call n (map entry_view es) (length c.entries.result.now) c.loop-front.last
+    let len : c.len.result ≡ length (map entry_view es) =
+    omega (arith, length-map es entry_view, c.len.ensures.value) in
+    let call = same_call n (map entry_view es) c.len.result c.loop-front.last
     (contains lane_cmp c.loop-front.closed.lanes) (cut space c.in-Some.front.now) len i.last i.closed in
     let none : length c.in-Some.after.now ≡ 0 = grind (arith, nat_tests, c.is_empty.ensures, c.if-is_empty.true) in
     ends_well n (map entry_view es) c.loop-front.line c.loop-front.rest.now c.in-Some.front.now c.in-Some.after.now
@@ -44,9 +44,9 @@ returns-else-is_empty c =
     let n = view c.args.config.now in
     let es = c.loop-front.script in
     let i = c.loop-front.invariant in
-    let len : length c.entries.result.now ≡ length (map entry_view es) =
-    omega (arith, length-map es entry_view, ap length c.entries.ensures.value) in
-    let call = same_call n (map entry_view es) (length c.entries.result.now) c.loop-front.last
+    let len : c.len.result ≡ length (map entry_view es) =
+    omega (arith, length-map es entry_view, c.len.ensures.value) in
+    let call = same_call n (map entry_view es) c.len.result c.loop-front.last
     (contains lane_cmp c.loop-front.closed.lanes) (cut space c.in-Some.front.now) len i.last i.closed in
     let some : 0 < length c.in-Some.after.now = grind (arith, nat_tests, c.is_empty.ensures, c.if-is_empty.false) in
     inr (ends_ill n (map entry_view es) c.loop-front.line c.loop-front.rest.now c.in-Some.front.now c.in-Some.after.now
@@ -58,9 +58,9 @@ loop-front-preserved c =
     let n = view c.args.config.now in
     let es = c.loop-front.script in
     let i = c.loop-front.invariant in
-    let len : length c.entries.result.now ≡ length (map entry_view es) =
-    omega (arith, length-map es entry_view, ap length c.entries.ensures.value) in
-    let call = same_call n (map entry_view es) (length c.entries.result.now) c.loop-front.last
+    let len : c.len.result ≡ length (map entry_view es) =
+    omega (arith, length-map es entry_view, c.len.ensures.value) in
+    let call = same_call n (map entry_view es) c.len.result c.loop-front.last
     (contains lane_cmp c.loop-front.closed.lanes) (cut space c.in-Some.front.now) len i.last i.closed in
     let e = c.in-Ok-Some.entry in
     let told = rw c.in-Ok-Some.field-0-is at c.in-Ok-Some.ensures in
@@ -71,7 +71,7 @@ loop-front-preserved c =
     c.if-is_err-2.false in
     let g = goes_on n es e c.loop-front.line c.loop-front.rest.now c.in-Some.front.now c.in-Some.after.now
     (read_entries n [] 2 (cut newline c.args.rest.now)) c.in-Some.ensures.parts i.read j in
-    let r = room n (length c.entries.result.now) c.loop-front.last (contains lane_cmp c.loop-front.closed.lanes)
+    let r = room n c.len.result c.loop-front.last (contains lane_cmp c.loop-front.closed.lanes)
     (cut space c.in-Some.front.now) (entry_view e) told in
     let noted = on_ok c.note.result c.is_err.result ((other : Lane)
     → contains lane_cmp c.note.new.self.lanes other
@@ -94,9 +94,9 @@ returns-then-is_err c =
     let n = view c.args.config.now in
     let es = c.loop-front.script in
     let i = c.loop-front.invariant in
-    let len : length c.entries.result.now ≡ length (map entry_view es) =
-    omega (arith, length-map es entry_view, ap length c.entries.ensures.value) in
-    let call = same_call n (map entry_view es) (length c.entries.result.now) c.loop-front.last
+    let len : c.len.result ≡ length (map entry_view es) =
+    omega (arith, length-map es entry_view, c.len.ensures.value) in
+    let call = same_call n (map entry_view es) c.len.result c.loop-front.last
     (contains lane_cmp c.loop-front.closed.lanes) (cut space c.in-Some.front.now) len i.last i.closed in
     let pieces = cut newline c.args.rest.now in
     let e = c.in-Ok-Some.entry in

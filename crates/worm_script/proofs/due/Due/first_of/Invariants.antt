@@ -5,4 +5,4 @@ use Rattle.worm_script.proofs.due.Due.first_of.Given as goal
 
 -- none of those before is the node's
 abbrev pub invariant-loop-i : goal.invariant-loop-i
-invariant-loop-i l = (k : ℕ) → k < l.i → slice_index (sources_of l.entries) k ≢ l.node
+invariant-loop-i l = (k : ℕ) → k < l.i → slice_index (sources_of l.self) k ≢ l.node

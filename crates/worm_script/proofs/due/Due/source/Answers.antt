@@ -1,12 +1,11 @@
 use Rattle.std.proofs.Common.{ap, sym, ◌∙◌}
 use Rattle.worm_flit.specs.declared.Lane.{Lane}
-use Rattle.worm_script.specs.Script.{lane_of}
+use Rattle.worm_script.specs.declared.entry.Act.TheVariants.{Close}
 use Rattle.worm_script.specs.declared.entry.Entry.{Entry}
 use Rattle.worm_script.proofs.NextOfSource.{source_at}
 use Rattle.worm_script.proofs.due.Due.source.Goals as goal
 
 pub returns : goal.returns
 returns c =
-    let at = source_at c.args.self.now c.args.i c.entry.result.now c.requires in
-    ap (λ (l : Lane). l.src) c.lane.ensures
-    ∙ sym (at ∙ ap (λ (e : Entry). (lane_of e.act).src) (c.entry.ensures c.entry.result.now))
+    let other : Entry = record { turn = 0; act = Close (record { src = 0; dst = 0; class = 0 }) } in
+    ap (λ (l : Lane). l.src) (sym (c.lane.ensures other)) ∙ sym (source_at c.args.self.now c.args.i other c.requires)

@@ -1,10 +1,9 @@
-use Rattle.std.proofs.Common.{List, Option, None, inr, sym, subst, ◌∙◌}
+use Rattle.std.proofs.Common.{List, Option, None, inr, sym, subst}
 use Rattle.std.specs.Result.{result_err}
-use Rattle.worm_script.specs.Script.{due}
+use Rattle.worm_script.specs.Script.{HaveWords, due}
 use Rattle.worm_region.specs.State.{IsFramed}
 use Rattle.worm_region.specs.declared.fault.StepFault.{StepFault}
 use Rattle.worm_script.specs.declared.entry.Entry.{Entry}
-use Rattle.worm_split.specs.Effects.{HaveWords}
 use Rattle.worm_split.specs.PartState.{PartState}
 use Rattle.worm_split.specs.PartTurns.{NodeTurns, ReceivesFlits}
 use Rattle.worm_split.proofs.AcrossLinks.{OnLinks, credits_on_links, flits_on_links, links_on}
@@ -26,7 +25,7 @@ module _ (g : given.Over) (c : goal.After-flush g) where
   fault = result_err c.node_turns-done.result
 
   words : HaveWords entries
-  words = subst HaveWords (c.entries.ensures ∙ c.due-due.ensures) c.have_words.ensures
+  words = subst HaveWords c.due-due.ensures c.recall.ensures
 
   abbrev came : PartState
   came = c.receive_credits.new.self
@@ -42,7 +41,7 @@ module _ (g : given.Over) (c : goal.After-flush g) where
       (credits_on_links c.receive_flits.new.self came None c.receive_credits.ensures.came)
 
   framed : IsFramed came.net
-  framed = subst (λ (p : PartState). IsFramed p.net) c.self.view_is c.recall.ensures.framed
+  framed = subst (λ (p : PartState). IsFramed p.net) c.self.view_is c.recall-2.ensures.framed
 
   turned : NodeTurns entries came fault new
   turned =
