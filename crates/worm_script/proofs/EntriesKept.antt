@@ -71,7 +71,8 @@ all_within words more lines line kept is within new =
     λ k d below. elim (cases_lt k (length lines)) [
       | inl inside ↦
           subst (IsWithin kept) (sym (get_or_append_left lines (line ∷ []) d k inside))
-          (subst (λ (ws : List ℕ). IsWithin ws (get_or lines k d)) (sym is) (all_more words more lines within k d inside))
+          (subst (λ (ws : List ℕ). IsWithin ws (get_or lines k d)) (sym is)
+          (all_more words more lines within k d inside))
       | inr past ↦
           let long = length-append lines (line ∷ []) in
           let end : k ≡ length lines = omega arith in

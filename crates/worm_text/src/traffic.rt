@@ -45,13 +45,14 @@ fn turn(last: u32, fields: &mut Fields<'_>) -> Result<u32, Why>
     Ok(turn)
 }
 
-/// The words of a packet, all fields that are left. `Missing` where there is none, `TooMany` at the 33rd.
-fn words(fields: &mut Fields<'_>) -> Result<ArrayVec<u32, 32>, Why>
-    ensures read { Gives (λ v. v.items) result (words_at [] fields.old) }
-    ensures some { IfOk result (λ v. 1 ≤ length v.items) }
-    ensures few { IfOk result (λ v. length v.items ≤ 32) }
+/// Puts the words of a packet, all fields that are left, into a list that has none. `Missing` where there is none,
+/// `TooMany` at the 33rd.
+fn read_words(fields: &mut Fields<'_>, words: &mut ArrayVec<u32, 32>) -> Result<(), Why>
+    requires { words.old.items ≡ [] }
+    ensures read { Gives (λ done. words.new.items) result (words_at [] fields.old) }
+    ensures some { OnOk result (1 ≤ length words.new.items) }
+    ensures few { OnOk result (length words.new.items ≤ 32) }
 {
-    let mut words = ArrayVec::new();
     while !fields.is_over() {
         if words.is_full() {
             return Err(Why::TooMany);
@@ -61,7 +62,7 @@ fn words(fields: &mut Fields<'_>) -> Result<ArrayVec<u32, 32>, Why>
     if words.is_empty() {
         return Err(Why::Missing);
     }
-    Ok(words)
+    Ok(())
 }
 
 /// The lanes that earlier lines closed.
@@ -165,7 +166,8 @@ impl<'a> Standing<'a> {
         if self.closed.contains(lane) {
             return Err(Why::LaneClosed);
         }
-        let words = words(fields)?;
+        let mut words = ArrayVec::new();
+        read_words(fields, &mut words)?;
         match Packet::new(lane, words.as_slice()) {
             Ok(packet) => Ok(Entry {
                 turn,

@@ -1,6 +1,6 @@
 use Rattle.std.proofs.Common.{◌≡◌, ◌≤◌, [], length}
 use Rattle.worm_text.specs.Traffic.{words_at}
-use Rattle.worm_text.proofs.traffic.words.Given as goal
+use Rattle.worm_text.proofs.traffic.read_words.Given as goal
 
 abbrev pub invariant-loop-words : goal.invariant-loop-words
 invariant-loop-words l = (words_at l.words.items l.fields ≡ words_at [] l.fn.fields) × (length l.words.items ≤ 32)

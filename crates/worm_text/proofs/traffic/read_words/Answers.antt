@@ -4,7 +4,7 @@ use Rattle.std.proofs.lemmas.Bool.Decides.{nat_tests}
 use Rattle.std.proofs.lemmas.Result.{err_from_is_err_and}
 use Rattle.worm_text.specs.Traffic.{words_at}
 use Rattle.worm_text.proofs.Words.{some_left, none_left, words_full, words_more, words_bad, words_over}
-use Rattle.worm_text.proofs.traffic.words.Goals as goal
+use Rattle.worm_text.proofs.traffic.read_words.Goals as goal
 
 pub returns-then-is_full-clause-read : goal.returns-then-is_full-clause-read
 returns-then-is_full-clause-read c =
