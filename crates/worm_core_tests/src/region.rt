@@ -3,11 +3,11 @@
 
 ghost use Rattle.std.specs.Prelude.{◌<◌};
 
-use crate::cases::{are_equal, config, lane, to_offer};
+use crate::cases::{are_equal, config, lane, packet, to_offer};
 use std::alloc::Global;
 use std::process::Abort;
-use worm_flit::Lane;
-use worm_region::{Config, Due, NetFault, Region, Script, ScriptFault};
+use worm_flit::{Lane, Packet};
+use worm_region::{Act, Config, Due, Entry, NetFault, Region, Script, ScriptFault};
 
 /// The script of an entry in each of these turns: a word for the node of the turn's number.
 fn script_of_turns(rt: &impl Abort, alloc: Global, turns: &[u8]) -> Script {
@@ -100,6 +100,35 @@ fn the_entries_of_a_source(rt: HostRuntime) {
     asks_at(&rt, &due, 255, &[0]);
     asks_at(&rt, &due, 2, &[]);
     asks_at(&rt, &script.due(5), 0, &[]);
+}
+
+/// The script's next entry is of this turn, and asks for that.
+fn goes_on_with(rt: &impl Abort, script: &mut Script, turn: u32, act: Act) {
+    script.push(Entry { turn, act }).expect(rt, "an entry more");
+}
+
+/// The packet has these words.
+fn carries(rt: &impl Abort, packet: Option<Packet>, words: &[u32]) {
+    match packet {
+        Some(packet) => assert!(rt; packet.words() == words),
+        None => assert!(rt; false, "no packet"),
+    }
+}
+
+#[test]
+fn what_the_entries_of_a_turn_ask(rt: HostRuntime) {
+    let mut script = script_of_turns(&rt, rt.alloc(), &[2]);
+    let (first, second) = (lane(0, 5, 0), lane(1, 5, 0));
+    goes_on_with(&rt, &mut script, 3, Act::Offer(packet(&rt, first, &[7, 8])));
+    goes_on_with(&rt, &mut script, 3, Act::Close(second));
+    goes_on_with(&rt, &mut script, 3, Act::Offer(packet(&rt, first, &[9])));
+    let due = script.due(3);
+    assert_eq!(&rt; due.len(), 3);
+    carries(&rt, due.packet(0), &[7, 8]);
+    assert!(&rt; due.packet(1).is_none());
+    carries(&rt, due.packet(2), &[9]);
+    assert_eq!(&rt; due.lane(0), first);
+    assert_eq!(&rt; due.lane(1), second);
 }
 
 /// A number of the configuration is out of its range.
