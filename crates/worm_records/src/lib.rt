@@ -4,15 +4,14 @@
 //! An input channel is idle, waits for a channel of an output port, or holds one. An output channel is
 //! free or held by one input channel, and counts the flits that the buffer at its far end can still
 //! take. Each move of a record has the condition under which it is made and gives the record after it
-//! exactly. A router's step is one move of each record that it touches, but that it spends credits by their number,
-//! which is 0 at the terminal.
+//! exactly. A router's step is one move of each record that it touches.
 //!
 //! A record is a plain value. That holder and held channel name each other is the router's to keep, and
 //! so is the range of ports and channels: neither is known here. The book's finer states (routing, and
 //! active without a credit) are not kept: a credit count and a buffer tell them.
 #![tactic(auto)]
 
-ghost use Rattle.std.specs.Prelude.{◌≡◌, ◌+◌, ◌-◌, ◌<◌, ℕ, Some, None, IsSome};
+ghost use Rattle.std.specs.Prelude.{◌≡◌, ◌+◌, ◌-◌, ◌<◌, ◌≤◌, ℕ, Some, None, IsSome};
 
 /// What an input channel does with the packet at its front.
 #[derive(Clone, Copy, PartialEq, Eq, Debug)]
@@ -89,12 +88,12 @@ impl OutRecord {
         self.holder = None;
     }
 
-    /// A flit goes out and takes one place of the buffer at the far end.
-    pub fn spend_credit(&mut self)
-        requires { 0 < self.old.credits }
-        ensures { self.new ≡ record self.old { credits = self.old.credits - 1 } }
+    /// A flit goes out and takes `count` places of the buffer at the far end: one, or none where it leaves the network.
+    pub fn spend(&mut self, count: u8)
+        requires { count ≤ self.old.credits }
+        ensures { self.new ≡ record self.old { credits = self.old.credits - count } }
     {
-        self.credits -= 1;
+        self.credits -= count;
     }
 
     /// A credit comes back: the buffer at the far end, of `depth` places, has one more free.

@@ -1,12 +1,13 @@
 -- Lemmas on the requesters of an output channel, as a set of the input channels that the router hears ask for it.
-use Rattle.std.proofs.Common.{◌≡◌, ℕ, ◌<◌, ◌≤◌, ◌&&◌, Bool, true, false, not, List, Option, Some, None}
+use Rattle.std.proofs.Common.{◌≡◌, ℕ, ◌<◌, ◌≤◌, ◌&&◌, ◌||◌, Bool, true, false, not, List, Option, Some, None}
 use Rattle.std.proofs.Common.{is_some, is_none, nat_lt, slice_index_or, if◌then◌else◌, refl, sym, ap, ◌∙◌, arith}
 use Rattle.std.proofs.Common.{inl, inr}
 use Rattle.std.proofs.lemmas.Bool.{cases_Bool, cases_lt, and_from, and_parts, lt-ltb, le-ltb, ltb-true, ne_eqb}
 use Rattle.std.proofs.lemmas.Bool.{eqb-true, true≢false}
+use Rattle.std.proofs.Math.Bool.{and-true}
 use Rattle.worm_vcalloc.specs.declared.asked.Asked.{Asked}
 use Rattle.worm_vcalloc.specs.declared.request.VcRequest.{VcRequest}
-use Rattle.worm_vcalloc.specs.Asked.{IsFiled, heard, is_below}
+use Rattle.worm_vcalloc.specs.Asked.{IsFiled, heard, is_below, is_met_by}
 use Rattle.worm_vcalloc.specs.ChannelSet.{has}
 use Rattle.worm_vcalloc.specs.Table.{cell}
 use Rattle.worm_vcalloc.specs.VcAlloc.{is_requester}
@@ -70,6 +71,20 @@ pub record AreAsking (waiting : List (List (Option VcRequest))) (grants : List (
       → has asking p v ≡ is_requester waiting grants out channel p v
   pub within : (p v : ℕ) → p < 7 → v < 8 → has asking p v ≡ true → (p < ports) × (v < vcs)
 
+-- what both files say together, where the one by channels has it, is that the channel may be used
+by_files : (o : Option VcRequest) (out channel vcs : ℕ) (filed : Bool) → channel < vcs
+    → (1 < vcs → filed ≡ allows o channel)
+    → (is_met_by o vcs out && (not (nat_lt 1 vcs) || filed)) ≡ may_use o out channel
+by_files o out channel vcs filed lc says = elim (cases_lt 1 vcs) [
+  | inl many ↦
+      ap (λ t. (is_for o out && (t || allows o 0)) && (not t || filed)) (lt-ltb 1 vcs many)
+      ∙ ap (λ t. t && filed) (and-true (is_for o out)) ∙ ap (λ t. is_for o out && t) (says many)
+  | inr one ↦
+      let first : channel ≡ 0 = omega arith in
+      ap (λ t. (is_for o out && (t || allows o 0)) && (not t || filed)) (le-ltb 1 vcs one)
+      ∙ and-true (is_for o out && allows o 0) ∙ ap (λ k. is_for o out && allows o k) (sym first)
+]
+
 none_is : (o : Option ℕ) → not (is_some o) ≡ is_none o
 none_is None = refl
 none_is (Some x) = refl
@@ -78,8 +93,8 @@ none_is (Some x) = refl
 pub are_asking : (waiting : List (List (Option VcRequest))) (grants : List (List (Option ℕ)))
     (ports vcs out channel filed granted asking : ℕ) (files : Asked) → ports ≤ 7 → vcs ≤ 8
     → out < ports → channel < vcs → IsFiled waiting ports vcs files
-    → ((p v : ℕ) → has filed p v
-    ≡ (has (slice_index_or files.by_port out 0) p v && has (slice_index_or files.by_channel channel 0) p v))
+    → ((p v : ℕ) → has filed p v ≡ (has (slice_index_or files.by_port out 0) p v
+    && (not (nat_lt 1 vcs) || has (slice_index_or files.by_channel channel 0) p v)))
     → ((p v : ℕ) → p < 7 → v < 8 → has granted p v ≡ is_some (cell grants p v None))
     → ((p v : ℕ) → p < 7 → v < 8 → has asking p v ≡ (has filed p v && not (has granted p v)))
     → AreAsking waiting grants ports vcs out channel asking
@@ -97,8 +112,10 @@ are_asking waiting grants ports vcs out channel filed granted asking files few f
       all p v lp lv =
           rest p v lp lv
           ∙ ap (λ t. t && not (has granted p v)) (both p v
-          ∙ ap (λ t. t && has (slice_index_or files.by_channel channel 0) p v) (f.by_port out p v (omega arith) lp lv)
-          ∙ ap (λ t. is_for (heard waiting ports vcs p v) out && t)
-          (f.by_channel channel p v (omega arith) lp lv))
+          ∙ ap (λ t. t && (not (nat_lt 1 vcs) || has (slice_index_or files.by_channel channel 0) p v))
+          (f.by_port out p v (omega arith) lp lv)
+          ∙ by_files (heard waiting ports vcs p v) out channel vcs
+          (has (slice_index_or files.by_channel channel 0) p v) lc
+          (λ many. f.by_channel many channel p v (omega arith) lp lv))
           ∙ ap (λ t. may_use (heard waiting ports vcs p v) out channel && not t) (have p v lp lv)
           ∙ ap (λ t. may_use (heard waiting ports vcs p v) out channel && t) (none_is (cell grants p v None))

@@ -11,7 +11,7 @@ use Rattle.worm_flit.specs.SmallSet as small
 use Rattle.worm_flit.proofs.SmallSets.{has_none}
 use Rattle.worm_vcalloc.specs.declared.asked.Asked.{Asked}
 use Rattle.worm_vcalloc.specs.declared.request.VcRequest.{VcRequest}
-use Rattle.worm_vcalloc.specs.Asked.{AreAllowed, IsFiled, heard, is_below}
+use Rattle.worm_vcalloc.specs.Asked.{AreAllowed, IsFiled, heard, is_below, is_met_by}
 use Rattle.worm_vcalloc.specs.ChannelSet.{has, IsFirst, IsPut}
 use Rattle.worm_vcalloc.specs.Table.{cell}
 use Rattle.worm_vcalloc.specs.VcRequest.{is_for, allows}
@@ -111,7 +111,7 @@ holds_all says left set none holds p v lp lv =
 
 -- whether an input channel is heard to ask for an output port
 abbrev pub for_port : List (List (Option VcRequest)) → ℕ → ℕ → ℕ → ℕ → ℕ → Bool
-for_port requests ports vcs out p v = is_for (heard requests ports vcs p v) out
+for_port requests ports vcs out p v = is_met_by (heard requests ports vcs p v) vcs out
 
 -- and to allow a channel
 abbrev pub for_channel : List (List (Option VcRequest)) → ℕ → ℕ → ℕ → ℕ → ℕ → Bool
@@ -122,7 +122,7 @@ pub record AreFiledBut (requests : List (List (Option VcRequest))) (ports vcs le
     : Type 0 where
   pub by_port : (out : ℕ) → out < 7
       → Holds (for_port requests ports vcs out) left (slice_index_or files.by_port out 0)
-  pub by_channel : (channel : ℕ) → channel < 8
+  pub by_channel : 1 < vcs → (channel : ℕ) → channel < 8
       → Holds (for_channel requests ports vcs channel) left
       (slice_index_or files.by_channel channel 0)
   pub asked : (out p v : ℕ) → out < 7 → p < 7 → v < 8 → is_for (heard requests ports vcs p v) out ≡ true
@@ -138,8 +138,8 @@ pub filed_start : (requests : List (List (Option VcRequest))) (ports vcs waiting
 filed_start requests ports vcs waiting waits = record {
   by_port = λ out lo. rw (get_or-replicate {A = ℕ} 7 out 0 0 lo)
       (holds_none (for_port requests ports vcs out) waiting
-      (λ p v lp lv e. left p v lp lv (for_some (heard requests ports vcs p v) out e)));
-  by_channel = λ channel lc. rw (get_or-replicate {A = ℕ} 8 channel 0 0 lc)
+      (λ p v lp lv e. left p v lp lv (for_some (heard requests ports vcs p v) out (and_parts _ _ e).0)));
+  by_channel = λ many channel lc. rw (get_or-replicate {A = ℕ} 8 channel 0 0 lc)
       (holds_none (for_channel requests ports vcs channel) waiting
       (λ p v lp lv e. left p v lp lv (allows_some (heard requests ports vcs p v) channel e)));
   asked = λ out p v lo lp lv asks off.
@@ -179,22 +179,26 @@ asked_more requests ports vcs left left' port vc files set b f here more out p v
 
 -- one that the router hears is put into its files
 pub filed_for : (requests : List (List (Option VcRequest))) (ports vcs left left' port vc d set asked : ℕ)
-    (by_channel : List ℕ) (r : VcRequest) (files : Asked) → AreFiledBut requests ports vcs left files
+    (by_channel : List ℕ) (r : VcRequest) (files : Asked) (fits : Bool) → AreFiledBut requests ports vcs left files
     → IsFirst left left' port vc → cell requests port vc None ≡ Some r → ports ≤ 7 → port < ports → vc < vcs
     → r.out < ports → r.out < length files.by_port
-    → IsPut (slice_index_or files.by_port r.out d) set port vc true → small.IsPut files.ports asked r.out true
-    → AreAllowed files.by_channel by_channel port vc r.allowed
+    → fits ≡ (nat_lt 1 vcs || small.has r.allowed 0)
+    → IsPut (slice_index_or files.by_port r.out d) set port vc fits → small.IsPut files.ports asked r.out true
+    → (1 < vcs → AreAllowed files.by_channel by_channel port vc r.allowed)
     → AreFiledBut requests ports vcs left'
     (record { by_port = slice_set files.by_port r.out set; by_channel = by_channel; ports = asked })
-filed_for requests ports vcs left left' port vc d set asked by_channel r files b f is few lp lv lo long put added
-    allowed = record {
+filed_for requests ports vcs left left' port vc d set asked by_channel r files fits b f is few lp lv lo long fit put
+    added allowed = record {
       by_port = λ out l. holds_more (for_port requests ports vcs out) left left' port vc
           (slice_index_or files.by_port out 0) (slice_index_or (slice_set files.by_port r.out set) out 0) f
           (b.by_port out l) (elim (cases_eq out r.out) [
-            | inl same ↦ at_file out same port vc ∙ put.here ∙ sym (asks out ∙ eq-eqb r.out out (sym same))
+            | inl same ↦ at_file out same port vc ∙ put.here ∙ fit
+                ∙ sym (meets out ∙ ap (λ t. t && (nat_lt 1 vcs || small.has r.allowed 0))
+                (eq-eqb r.out out (sym same)))
             | inr other ↦ at_other out other port vc
                 ∙ not_held (for_port requests ports vcs out) left left' port vc _ f (b.by_port out l)
-                ∙ sym (asks out ∙ ne_eqb r.out out (λ e. other (sym e)))
+                ∙ sym (meets out ∙ ap (λ t. t && (nat_lt 1 vcs || small.has r.allowed 0))
+                (ne_eqb r.out out (λ e. other (sym e))))
           ]) (λ p v lp' lv' apart. elim (cases_eq out r.out) [
             | inl same ↦
                 at_file out same p v ∙ put.elsewhere p v lp' lv' apart
@@ -202,14 +206,15 @@ filed_for requests ports vcs left left' port vc d set asked by_channel r files b
                 ∙ ap (λ k. has (slice_index_or files.by_port k 0) p v) (sym same)
             | inr other ↦ at_other out other p v
           ]);
-      by_channel = λ channel l. holds_more (for_channel requests ports vcs channel) left left' port vc
-          (slice_index_or files.by_channel channel 0) (slice_index_or by_channel channel 0) f (b.by_channel channel l)
-          (allowed.here channel l
+      by_channel = λ many channel l. holds_more (for_channel requests ports vcs channel) left left' port vc
+          (slice_index_or files.by_channel channel 0) (slice_index_or by_channel channel 0) f
+          (b.by_channel many channel l)
+          ((allowed many).here channel l
           ∙ ap (λ t. t || small.has r.allowed channel)
           (not_held (for_channel requests ports vcs channel) left left' port vc _ f
-          (b.by_channel channel l))
+          (b.by_channel many channel l))
           ∙ sym (ap (λ o. allows o channel) hears))
-          (λ p v lp' lv' apart. allowed.elsewhere channel p v l lp' lv' apart);
+          (λ p v lp' lv' apart. (allowed many).elsewhere channel p v l lp' lv' apart);
       asked =
           asked_more requests ports vcs left left' port vc files asked b f
           (λ out l e. ap (small.has asked) (sym (eqb-true r.out out (sym (asks out) ∙ e))) ∙ added.here)
@@ -228,6 +233,10 @@ filed_for requests ports vcs left left' port vc d set asked by_channel r files b
 
       asks : (out : ℕ) → is_for (heard requests ports vcs port vc) out ≡ (r.out == out)
       asks out = ap (λ o. is_for o out) hears
+
+      meets : (out : ℕ) → for_port requests ports vcs out port vc
+          ≡ ((r.out == out) && (nat_lt 1 vcs || small.has r.allowed 0))
+      meets out = ap (λ o. is_met_by o vcs out) hears
 
       at_file : (out : ℕ) → out ≡ r.out → (p v : ℕ)
           → has (slice_index_or (slice_set files.by_port r.out set) out 0) p v ≡ has set p v
@@ -248,12 +257,12 @@ filed_nowhere requests ports vcs left left' port vc files b f silent = record {
   by_port = λ out l. holds_more (for_port requests ports vcs out) left left' port vc _ _ f
       (b.by_port out l)
       (not_held (for_port requests ports vcs out) left left' port vc _ f (b.by_port out l)
-      ∙ sym (ap (λ o. is_for o out) silent))
+      ∙ sym (ap (λ o. is_met_by o vcs out) silent))
       (λ p v lp lv apart. refl);
-  by_channel = λ channel l. holds_more (for_channel requests ports vcs channel) left left' port vc
-      _ _ f (b.by_channel channel l)
+  by_channel = λ many channel l. holds_more (for_channel requests ports vcs channel) left left' port vc
+      _ _ f (b.by_channel many channel l)
       (not_held (for_channel requests ports vcs channel) left left' port vc _ f
-      (b.by_channel channel l)
+      (b.by_channel many channel l)
       ∙ sym (ap (λ o. allows o channel) silent))
       (λ p v lp lv apart. refl);
   asked =
@@ -269,8 +278,8 @@ pub filed_all : (requests : List (List (Option VcRequest))) (ports vcs left : �
 filed_all requests ports vcs left files b e = record {
   by_port = λ out p v lo. holds_all (for_port requests ports vcs out) left _ e (b.by_port out lo)
       p v;
-  by_channel = λ channel p v lc. holds_all (for_channel requests ports vcs channel) left _ e
-      (b.by_channel channel lc) p v;
+  by_channel = λ many channel p v lc. holds_all (for_channel requests ports vcs channel) left _ e
+      (b.by_channel many channel lc) p v;
   asked = λ out p v lo lp lv asks. b.asked out p v lo lp lv asks (ap (λ s. has s p v) e ∙ has-zero p v);
   within = b.within;
 }

@@ -20,13 +20,17 @@ heard requests ports vcs p v =
     then cell requests p v None
     else None
 
+-- whether it is for an output port with so many channels, and where that has one alone, allows that
+abbrev pub is_met_by : Option VcRequest → ℕ → ℕ → Bool
+is_met_by r vcs out = is_for r out && (nat_lt 1 vcs || allows r 0)
+
 -- the files of a table of requests, as a router hears them
 pub record IsFiled (requests : List (List (Option VcRequest))) (ports vcs : ℕ) (files : Asked) : Type 0 where
-  -- for each output port the input channels that ask for it
+  -- for each output port the input channels that ask for it; where it has one channel alone, those that allow that
   pub by_port : (out p v : ℕ) → out < 7 → p < 7 → v < 8
-      → has (slice_index_or files.by_port out 0) p v ≡ is_for (heard requests ports vcs p v) out
-  -- for each channel the input channels that allow it
-  pub by_channel : (channel p v : ℕ) → channel < 8 → p < 7 → v < 8
+      → has (slice_index_or files.by_port out 0) p v ≡ is_met_by (heard requests ports vcs p v) vcs out
+  -- where a port has more, for each channel the input channels that allow it
+  pub by_channel : 1 < vcs → (channel p v : ℕ) → channel < 8 → p < 7 → v < 8
       → has (slice_index_or files.by_channel channel 0) p v ≡ allows (heard requests ports vcs p v) channel
   -- the output ports that some input channel asks for are in the set, and none but the router's
   pub asked : (out p v : ℕ) → out < 7 → p < 7 → v < 8 → is_for (heard requests ports vcs p v) out ≡ true

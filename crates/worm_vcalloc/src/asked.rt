@@ -1,4 +1,5 @@
-ghost use Rattle.std.specs.Prelude.{◌≡◌, ℕ, ◌<◌, ◌≤◌, ◌&&◌, replicate, slice_index_or};
+ghost use Rattle.std.specs.Prelude.{◌≡◌, ℕ, ◌<◌, ◌≤◌, ◌&&◌, ◌||◌, not, nat_lt, replicate};
+ghost use Rattle.std.specs.Prelude.{slice_index_or};
 ghost use Rattle.worm_vcalloc.specs.Asked.{AreAllowed, IsFiled};
 ghost use Rattle.worm_vcalloc.specs.ChannelSet.{has};
 
@@ -11,9 +12,11 @@ use worm_flit::SmallSet;
 /// to keep them up as requests come and go takes no less time over a run, and is one invariant more.
 #[derive(Drop)]
 pub(crate) struct Asked {
-    /// For each output port the input channels that wait for a channel of it.
+    /// For each output port the input channels that wait for a channel of it; where it has one alone, those for which
+    /// that will do.
     by_port: [ChannelSet; 7],
-    /// For each channel the input channels for which it will do, whatever the output port.
+    /// For each channel the input channels for which it will do, whatever the output port; nothing where a port has one
+    /// channel alone, since the file by ports then tells all.
     by_channel: [ChannelSet; 8],
     /// The output ports that an input channel waits for.
     ports: SmallSet,
@@ -45,10 +48,13 @@ impl Asked {
         while let Some((port, vc)) = left.pop_first() {
             let request = waiting.request(port, vc);
             if port < ports && vc < vcs && request.out < ports {
-                self.by_port[request.out as usize].put(port, vc, true);
-                self.ports.put(request.out, true);
                 let allowed = SmallSet::from_bits(request.allowed);
-                file_allowed(&mut self.by_channel, port, vc, allowed);
+                let fits = (vcs > 1) | allowed.contains(0);
+                self.by_port[request.out as usize].put(port, vc, fits);
+                self.ports.put(request.out, true);
+                if vcs > 1 {
+                    file_allowed(&mut self.by_channel, port, vc, allowed);
+                }
             }
         }
     }
@@ -60,16 +66,21 @@ impl Asked {
         self.ports
     }
 
-    /// The input channels that wait for this channel of an output port.
-    pub(crate) fn asking(&self, out: u8, channel: u8) -> ChannelSet
+    /// The input channels that wait for this channel of an output port, which has so many.
+    pub(crate) fn asking(&self, out: u8, channel: u8, vcs: u8) -> ChannelSet
         requires out { out < 7 }
         requires channel { channel < 8 }
         ensures { (p v : ℕ) → has result p v
             ≡ (has (slice_index_or self.now.by_port out 0) p v
-            && has (slice_index_or self.now.by_channel channel 0) p v) }
+            && (not (nat_lt 1 vcs) || has (slice_index_or self.now.by_channel channel 0) p v)) }
     {
-        let (by_port, by_channel) = (&self.by_port, &self.by_channel);
-        by_port[out as usize].intersection(&by_channel[channel as usize])
+        let by_port = &self.by_port[out as usize];
+        if vcs > 1 {
+            let by_channel = &self.by_channel;
+            by_port.intersection(&by_channel[channel as usize])
+        } else {
+            *by_port
+        }
     }
 }
 

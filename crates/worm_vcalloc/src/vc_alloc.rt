@@ -24,7 +24,8 @@ pub type VcGrants = ChannelMap;
 ///
 /// ```text
 /// let mut alloc = VcAlloc::new(5, 2);
-/// let grants = alloc.grant(&waiting, &free);
+/// let mut grants = VcGrants::new();
+/// alloc.grant(&waiting, &free, &mut grants);
 /// ```
 #[derive(Clone, Copy)]
 pub struct VcAlloc {
@@ -83,25 +84,24 @@ impl VcAlloc {
     }
 
     /// One pass: each free output channel, by rising port and then channel, goes to the requester
-    /// that its arbiter picks among the input channels that may use it and have no grant yet.
-    pub fn grant(&mut self, waiting: &VcRequests, free: &FreeChannels) -> VcGrants
+    /// that its arbiter picks among the input channels that may use it and have no grant yet. The grants are written
+    /// into a table of the caller's, mostly an empty one.
+    pub fn grant(&mut self, waiting: &VcRequests, free: &FreeChannels, grants: &mut VcGrants)
         ensures pass { record {
           alloc = self.new;
-          grants = result;
-        } ≡ vc_pass waiting.now free.now
-            (record { alloc = self.old; grants = replicate 7 (replicate 8 None) }) }
-        ensures matching { IsChannelMatching self.old.ports self.old.vcs waiting.now free.now result }
+          grants = grants.new;
+        } ≡ vc_pass waiting.now free.now (record { alloc = self.old; grants = grants.old }) }
+        ensures matching { grants.old ≡ replicate 7 (replicate 8 None)
+            → IsChannelMatching self.old.ports self.old.vcs waiting.now free.now grants.new }
         ensures ports { self.new.ports ≡ self.old.ports }
         ensures vcs { self.new.vcs ≡ self.old.vcs }
     {
-        let mut grants = VcGrants::new();
         let mut asked = Asked::new();
         asked.file(waiting, self.ports, self.vcs);
         let mut left = asked.ports();
         while let Some(out) = left.pop_first() {
-            self.grant_port(out, &asked, free, &mut grants);
+            self.grant_port(out, &asked, free, grants);
         }
-        grants
     }
 
     /// Offers the free channels of one output port, rising, whatever requests these are the files of.
@@ -138,7 +138,9 @@ impl VcAlloc {
         ensures vcs { self.new.vcs ≡ self.old.vcs }
     {
         let last = self.places[out as usize][channel as usize];
-        let asking = asked.asking(out, channel).difference(&grants.keys());
+        let asking = asked
+            .asking(out, channel, self.vcs)
+            .difference(&grants.keys());
         if let Some((port, vc)) = asking.first_from(last + 1) {
             let row = &mut self.places[out as usize];
             row[channel as usize] = 8 * port + vc;

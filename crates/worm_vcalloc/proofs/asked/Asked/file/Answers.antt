@@ -1,8 +1,11 @@
-use Rattle.std.proofs.Common.{◌<◌, arith, length, sym, subst}
+use Rattle.std.proofs.Common.{◌<◌, ◌||◌, ℕ, List, nat_lt, arith, length, slice_set, sym, ap, subst, ◌∙◌}
+use Rattle.worm_flit.specs.SmallSet as small
+use Rattle.worm_vcalloc.specs.Asked.{AreAllowed}
 use Rattle.worm_vcalloc.specs.declared.asked.Asked.{Asked}
 use Rattle.worm_vcalloc.proofs.RequestsFiled.{AreFiledBut, filed_start, filed_for, filed_nowhere, filed_all}
 use Rattle.worm_vcalloc.proofs.RequestsFiled.{heard_none}
 use Rattle.worm_vcalloc.proofs.asked.Asked.file.Goals as goal
+use Rattle.worm_vcalloc.proofs.asked.Asked.file.Goals.{After-put-then-request-ports}
 use Rattle.worm_vcalloc.proofs.asked.Asked.file.Goals.{
   else-port-ports-via-then-port-ports+then-vc-vcs+else-request-ports,
 }
@@ -15,15 +18,35 @@ loop-port-init c =
     (sym c.requires.empty)
     (filed_start c.args.waiting.now c.args.ports c.args.vcs c.waiting-left.result c.waiting-left.ensures)
 
-pub loop-port-preserved-then-request-ports : goal.loop-port-preserved-then-request-ports
-loop-port-preserved-then-request-ports c =
+-- one that the router hears is filed
+heard : (c : After-put-then-request-ports) (by_channel : List ℕ)
+    → (1 < c.args.vcs → AreAllowed c.loop-port.self.by_channel by_channel c.in-Some.port c.in-Some.vc
+    c.request-request.result.allowed)
+    → AreFiledBut c.args.waiting.now c.args.ports c.args.vcs c.pop_first.new.self (record {
+      by_port = slice_set c.loop-port.self.by_port c.request-request.result.out c.put.new.self;
+      by_channel = by_channel;
+      ports = c.put-then-request-ports.new.self;
+    })
+heard c by_channel allowed =
     let long : c.request-request.result.out < length c.loop-port.self.by_port =
     omega (arith, c.if-request-ports.true) in
     filed_for c.args.waiting.now c.args.ports c.args.vcs c.loop-port.left c.pop_first.new.self c.in-Some.port
-    c.in-Some.vc _ c.put.new.self c.put-then-request-ports.new.self c.file_allowed.new.by_channel
-    c.request-request.result c.loop-port.self c.loop-port.invariant c.in-Some.ensures (sym c.request-request.ensures)
-    c.requires.few_ports c.if-port-ports.true c.if-vc-vcs.true c.if-request-ports.true long c.put.ensures
-    c.put-then-request-ports.ensures (rw (← c.from_bits-allowed.ensures) c.file_allowed.ensures)
+    c.in-Some.vc _ c.put.new.self c.put-then-request-ports.new.self by_channel c.request-request.result
+    c.loop-port.self _ c.loop-port.invariant c.in-Some.ensures (sym c.request-request.ensures) c.requires.few_ports
+    c.if-port-ports.true c.if-vc-vcs.true c.if-request-ports.true long
+    (ap (λ t. nat_lt 1 c.args.vcs || t) (c.contains.ensures
+    ∙ ap (λ s. small.has s 0) c.from_bits-allowed.ensures)) c.put.ensures
+    c.put-then-request-ports.ensures allowed
+
+pub loop-port-preserved-then-vcs-gt1 : goal.loop-port-preserved-then-vcs-gt1
+loop-port-preserved-then-vcs-gt1 c =
+    heard (goal.at.loop-port-preserved-then-vcs-gt1 c).After-put-then-request-ports c.file_allowed.new.by_channel
+    (λ many. rw (← c.from_bits-allowed.ensures) c.file_allowed.ensures)
+
+pub loop-port-preserved-else-vcs-gt1 : goal.loop-port-preserved-else-vcs-gt1
+loop-port-preserved-else-vcs-gt1 c =
+    heard (goal.at.loop-port-preserved-else-vcs-gt1 c).After-put-then-request-ports c.loop-port.self.by_channel
+    (λ many. absurd (omega (arith, many, c.if-vcs-gt1.false)))
 
 pub loop-port-preserved : goal.loop-port-preserved
 loop-port-preserved c =

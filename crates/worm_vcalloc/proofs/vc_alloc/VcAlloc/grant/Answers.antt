@@ -9,7 +9,7 @@ use Rattle.worm_vcalloc.proofs.vc_alloc.VcAlloc.grant.Goals as goal
 
 pub loop-out-init : goal.loop-out-init
 loop-out-init c =
-    let start : VcPass = record { alloc = c.args.self.now; grants = c.new-grants.result } in
+    let start : VcPass = record { alloc = c.args.self.now; grants = c.args.grants.now } in
     let filed : IsFiled c.args.waiting.now c.args.self.now.ports c.args.self.now.vcs c.file.new.self =
     rw (← c.self.view_is) c.file.ensures in
     rw c.ports-left.ensures (passed_start c.args.waiting.now c.args.free.now start c.file.new.self
@@ -18,7 +18,7 @@ loop-out-init c =
 
 pub loop-out-preserved : goal.loop-out-preserved
 loop-out-preserved c =
-    let start : VcPass = record { alloc = c.args.self.now; grants = c.new-grants.result } in
+    let start : VcPass = record { alloc = c.args.self.now; grants = c.args.grants.now } in
     let here : VcPass = record { alloc = c.loop-out.self; grants = c.loop-out.grants } in
     let there : VcPass = record { alloc = c.grant_port.new.self; grants = c.grant_port.new.grants } in
     let filed : IsFiled c.args.waiting.now c.args.self.now.ports c.args.self.now.vcs c.file.new.self =
@@ -32,14 +32,12 @@ loop-out-preserved c =
 
 pub returns-clause-pass : goal.returns-clause-pass
 returns-clause-pass c =
-    let start : VcPass = record { alloc = c.args.self.now; grants = c.new-grants.result } in
+    let start : VcPass = record { alloc = c.args.self.now; grants = c.args.grants.now } in
     let here : VcPass = record { alloc = c.loop-out.self; grants = c.loop-out.grants } in
     passed_all c.args.waiting.now c.args.free.now start here c.loop-out.left c.loop-out.invariant c.in_default.ensures.0
-    ∙ ap (λ g. vc_pass c.args.waiting.now c.args.free.now (record { alloc = c.args.self.now; grants = g }))
-    c.new-grants.ensures
 
 pub returns-clause-matching : goal.returns-clause-matching
-returns-clause-matching c =
+returns-clause-matching c = λ none.
     let s : VcAllocState = record {
       ports = c.self.inside.ports;
       vcs = c.self.inside.vcs;
@@ -47,4 +45,5 @@ returns-clause-matching c =
     } in
     rw (← c.self.view_is) (matching_of c.args.waiting.now c.args.free.now s c.loop-out.self c.loop-out.grants
     (IsVcAlloc-placed c.self.inside.ports c.self.inside.vcs c.self.inside.places c.self.invariant)
-    (rw c.self.view_is (returns-clause-pass c)))
+    (rw c.self.view_is (returns-clause-pass c
+    ∙ ap (λ g. vc_pass c.args.waiting.now c.args.free.now (record { alloc = c.args.self.now; grants = g })) none)))
