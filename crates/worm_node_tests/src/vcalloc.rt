@@ -161,7 +161,9 @@ fn passes(
     free: &FreeChannels,
     granted: &[(u8, u8, Option<u8>)],
 ) {
-    are_granted(rt, &alloc.grant(waiting, free), granted);
+    let mut grants = VcGrants::new();
+    alloc.grant(waiting, free, &mut grants);
+    are_granted(rt, &grants, granted);
 }
 
 #[test]
@@ -178,6 +180,26 @@ fn one_channel_goes_round(rt: HostRuntime) {
     passes(&rt, &mut alloc, &waiting, &free, &[(0, 0, Some(0))]);
 }
 
+/// Where a port has one channel alone, whoever asks for that gets it, and nobody who asks for another.
+#[test]
+fn one_channel_a_port_is_enough(rt: HostRuntime) {
+    let mut alloc = VcAlloc::new(3, 1);
+    let waiting = waiting_of(&rt, &[(0, 0, asks(1, 0b10)), (2, 0, asks(1, 0b01))]);
+    let free = free_of(&rt, 1, &[0, 1]);
+    passes(&rt, &mut alloc, &waiting, &free, &[(0, 0, None), (2, 0, Some(0))]);
+}
+
+/// What a table of grants holds already stays, and gets nothing more.
+#[test]
+fn grants_stay(rt: HostRuntime) {
+    let mut alloc = VcAlloc::new(3, 2);
+    let waiting = waiting_of(&rt, &[(0, 0, asks(1, 1)), (2, 1, asks(1, 1))]);
+    let mut grants = VcGrants::new();
+    grants.set(0, 0, Some(1));
+    alloc.grant(&waiting, &free_of(&rt, 1, &[0]), &mut grants);
+    are_granted(&rt, &grants, &[(0, 0, Some(1)), (2, 1, Some(0))]);
+}
+
 #[test]
 fn a_granted_channel_gets_no_second(rt: HostRuntime) {
     let mut alloc = VcAlloc::new(3, 2);
@@ -190,7 +212,8 @@ fn a_granted_channel_gets_no_second(rt: HostRuntime) {
 /// Of those that wait, a fresh allocator finds these for the free channels of the output port, and no others.
 fn finds(rt: &impl Abort, waiting: &VcRequests, out: u8, numbers: &[u8], found: &[(u8, u8)]) {
     let mut alloc = VcAlloc::new(7, 8);
-    let grants = alloc.grant(waiting, &free_of(rt, out, numbers));
+    let mut grants = VcGrants::new();
+    alloc.grant(waiting, &free_of(rt, out, numbers), &mut grants);
     has_channels(rt, grants.keys(), found);
 }
 

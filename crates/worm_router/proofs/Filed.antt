@@ -1,8 +1,10 @@
 -- What filing one channel leaves of the sets of busy channels.
-use Rattle.std.proofs.Common.{ℕ, ◌+◌, ◌*◌, ◌≤◌, ◌<◌, ◌≡◌, List, length, slice_set, slice_index_or, replicate, Bool, ◌⊎◌}
+use Rattle.std.proofs.Common.{ℕ, ◌+◌, ◌*◌, ◌≤◌, ◌<◌, ◌≡◌, ◌==◌, List, length, slice_set, slice_index_or, replicate, Bool}
+use Rattle.std.proofs.Common.{◌⊎◌, ◌&&◌, ◌||◌, not, nat_lt}
 use Rattle.std.proofs.Common.{true, false, None, arith, inl, inr, refl, sym, ap, subst, ◌∙◌}
 use Rattle.std.proofs.lemmas.Grind.{get_or-set_at}
-use Rattle.std.proofs.lemmas.Bool.{cases_eq}
+use Rattle.std.proofs.lemmas.Bool.{cases_eq, eq-eqb, ne_eqb, lt-ltb, le-ltb}
+use Rattle.std.proofs.Math.Bool.{and-true, and-false}
 use Rattle.std.proofs.lemmas.Nat.{same_from_place, mul-add-lt}
 use Rattle.std.proofs.lemmas.List.{get_or-set_other, get_or-replicate}
 use Rattle.worm_vcalloc.specs.ChannelSet.{has, IsPut}
@@ -68,6 +70,26 @@ pub inside_of : (test : ChannelState → Bool) (r : RouterState) (port vc i set 
 inside_of test r port vc i set had input is =
     is.inside port vc input.place.port_in input.place.channel_in
     ∙ ap test (sym (input.was ∙ ap (λ k. slice_index_or r.inputs k (fresh_channel r.depth)) input.at))
+
+-- what owed, and has given one, owes still where its count is not zero
+pub owes_still : (owed : ℕ) (owing : Bool) → owing ≡ true → (owing && not (owed == 0)) ≡ nat_lt 0 owed
+owes_still owed owing e = elim (cases_eq owed 0) [
+  | inl none ↦
+      ap (λ b. owing && not b) (eq-eqb owed 0 none) ∙ and-false owing ∙ sym (le-ltb 0 owed (omega arith))
+  | inr some ↦
+      ap (λ b. owing && not b) (ne_eqb owed 0 some) ∙ and-true owing ∙ e ∙ sym (lt-ltb 0 owed (omega arith))
+]
+
+-- what owes more owes, whether it did before or not
+pub owes_more : (owed more : ℕ) (owing : Bool) → owing ≡ nat_lt 0 owed
+    → (owing || nat_lt 0 more) ≡ nat_lt 0 (owed + more)
+owes_more owed more owing e = elim (cases_eq owed 0) [
+  | inl none ↦
+      let all : more ≡ owed + more = omega (arith, none) in
+      ap (λ b. b || nat_lt 0 more) (e ∙ ap (nat_lt 0) none) ∙ ap (nat_lt 0) all
+  | inr some ↦
+      ap (λ b. b || nat_lt 0 more) (e ∙ lt-ltb 0 owed (omega arith)) ∙ sym (lt-ltb 0 (owed + more) (omega arith))
+]
 
 -- a set is filed anew at the channel, or the channel passes its test as before
 abbrev pub IsFiledBy : (ChannelState → Bool) → ℕ → ℕ → ℕ → ℕ → ChannelState → ChannelState → Type 0

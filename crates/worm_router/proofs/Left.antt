@@ -221,27 +221,25 @@ module _ (r : RouterState) (sets mid : BusyChannels) (asked : DemandView) (masks
       })
 
   -- more of its packet comes: the channel lacks a credit where none is left
-  pub followed_kept : (no_credit : ℕ)
-      → IsFiled mid.no_credit no_credit port vc (has mid.no_credit port vc || nat_lt (had_out.credits - spent) spent)
-      → IsKept (record r {
-        inputs = slice_set r.inputs i gone;
-        outputs = slice_set r.outputs o (record had_out { credits = had_out.credits - spent });
-      }) (record mid { no_credit = no_credit }) asked masks routes
-  followed_kept no_credit filed =
+  pub followed_kept : (u : OutRecord) (no_credit : ℕ) → u ≡ record had_out { credits = had_out.credits - spent }
+      → IsFiled mid.no_credit no_credit port vc (has mid.no_credit port vc || nat_lt u.credits spent)
+      → IsKept (record r { inputs = slice_set r.inputs i gone; outputs = slice_set r.outputs o u })
+      (record mid { no_credit = no_credit }) asked masks routes
+  followed_kept u no_credit u_is filed =
       left_kept r sets (record mid { no_credit = no_credit }) asked asked masks routes port vc i out out_vc o had gone
-      had_out (record had_out { credits = had_out.credits - spent }) f spent more false kept leaving (record {
+      had_out u f spent more false kept leaving (record {
         now_is = is_out.gone_is;
-        credits = refl;
-        holder = refl;
+        credits = ap (λ (w : OutRecord). w.credits) u_is;
+        holder = ap (λ (w : OutRecord). w.holder) u_is;
         occupied = is_out.occupied;
         owing = is_out.owing;
         owes_all = is_out.owes_all;
         full = is_out.full;
         outs = ap (λ (b : BusyChannels). b.outs) is_out.others;
-        no_credit = subst (λ b. IsFiled sets.no_credit no_credit port vc (b || nat_lt (had_out.credits - spent) spent))
+        no_credit = subst (λ b. IsFiled sets.no_credit no_credit port vc (b || nat_lt u.credits spent))
             leaving.has_credit
             (subst (λ (b : BusyChannels). IsFiled b.no_credit no_credit port vc
-            (has b.no_credit port vc || nat_lt (had_out.credits - spent) spent)) is_out.others filed);
+            (has b.no_credit port vc || nat_lt u.credits spent)) is_out.others filed);
         requests = refl;
         free = refl;
       })

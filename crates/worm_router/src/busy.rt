@@ -1,9 +1,7 @@
-ghost use Rattle.std.specs.Prelude.{◌≡◌, ◌<◌, ◌||◌, true, false, None, IfSome, MatchOption, replicate, sum};
-ghost use Rattle.worm_vcalloc.specs.ChannelSet.{has};
+ghost use Rattle.std.specs.Prelude.{◌≡◌, ◌<◌, None, replicate, sum};
 ghost use Rattle.worm_flit.specs.Channels.{AreChannels, owner_of};
-ghost use Rattle.worm_router.specs.Busy.{AreReady, IsFiled, IsWithout, is_occupied, owes};
+ghost use Rattle.worm_router.specs.Busy.{AreReady, IsWithout};
 
-use crate::channel::InputChannel;
 use worm_flit::{ClassChannels, SmallSet};
 use worm_swalloc::ReadyOuts;
 use worm_vcalloc::ChannelSet;
@@ -58,43 +56,9 @@ impl BusyChannels {
             .difference(&self.owes_all)
     }
 
-    /// Files a channel that a flit was put into, if it `came`.
-    pub fn file_put(&mut self, port: u8, vc: u8, came: bool)
-        requires port { port < 7 }
-        requires vc { vc < 8 }
-        ensures occupied { IsFiled self.old.occupied self.new.occupied port vc (came || has self.old.occupied port vc) }
-        ensures others { self.new ≡ record self.old { occupied = self.new.occupied } }
-    {
-        if came {
-            self.occupied.put(port, vc, true);
-        }
-    }
-
-    /// Files a channel that has let a flit out, so that it had one and might owe more: whether it has one more, whether
-    /// it owes a credit, as one that did before or that owes `one_more`, and whether that is `all` that it may owe.
-    pub fn file_left(&mut self, port: u8, vc: u8, channel: &InputChannel, one_more: bool, all: bool)
-        requires port { port < 7 }
-        requires vc { vc < 8 }
-        requires had { has self.old.occupied port vc ≡ true }
-        requires might { has self.old.owes_all port vc ≡ false }
-        requires more { (has self.old.owing port vc || one_more) ≡ owes channel.now }
-        ensures occupied { IsFiled self.old.occupied self.new.occupied port vc (is_occupied channel.now) }
-        ensures owing { IsFiled self.old.owing self.new.owing port vc (owes channel.now) }
-        ensures owes_all { IsFiled self.old.owes_all self.new.owes_all port vc all }
-        ensures others { self.new ≡ record self.old {
-          occupied = self.new.occupied;
-          owing = self.new.owing;
-          owes_all = self.new.owes_all;
-        } }
-    {
-        self.occupied.remove_if(port, vc, !channel.is_occupied());
-        // Who owed before owes still, so this needs no look at the count.
-        self.owing.insert_if(port, vc, one_more);
-        self.owes_all.insert_if(port, vc, all);
-    }
-
-    /// Files that a flit has left this channel, and its class an injection buffer with room, if it was `fed` there.
-    pub fn file_room(&mut self, classes: &ClassChannels, vc: u8, fed: bool)
+    /// A flit that was `fed` to this channel, as those that come in at the terminal are, has left it: the injection
+    /// buffer of its class has room.
+    pub fn make_room(&mut self, classes: &ClassChannels, vc: u8, fed: bool)
         requires classes { AreChannels classes.now }
         requires channel { vc < sum classes.now }
         ensures gone { IsWithout self.old.full self.new.full (owner_of classes.now vc) fed }
@@ -103,31 +67,6 @@ impl BusyChannels {
         // Mostly none is known to be full.
         if fed && !self.full.is_empty() {
             self.full.put(classes.owner(vc), false);
-        }
-    }
-
-    /// Files a channel whose credit, one that it owed, has gone out: it may owe one more.
-    pub fn file_given(&mut self, port: u8, vc: u8, channel: &InputChannel)
-        requires port { port < 7 }
-        requires vc { vc < 8 }
-        requires owed { has self.old.owing port vc ≡ true }
-        ensures owing { IsFiled self.old.owing self.new.owing port vc (owes channel.now) }
-        ensures owes_all { IsFiled self.old.owes_all self.new.owes_all port vc false }
-        ensures others { self.new ≡ record self.old { owing = self.new.owing; owes_all = self.new.owes_all } }
-    {
-        self.owing.remove_if(port, vc, channel.owed() == 0);
-        self.owes_all.put(port, vc, false);
-    }
-
-    /// Files that a credit has come to an output channel, which this channel holds, if any does.
-    pub fn file_credit(&mut self, holder: Option<(u8, u8)>)
-        requires { IfSome holder (λ place. (place.0 < 7) × (place.1 < 8)) }
-        ensures no_credit { MatchOption holder (self.new.no_credit ≡ self.old.no_credit)
-            (λ place. IsFiled self.old.no_credit self.new.no_credit place.0 place.1 false) }
-        ensures others { self.new ≡ record self.old { no_credit = self.new.no_credit } }
-    {
-        if let Some((port, vc)) = holder {
-            self.no_credit.put(port, vc, false);
         }
     }
 }

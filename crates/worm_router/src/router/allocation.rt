@@ -27,9 +27,9 @@ impl Router {
         if self.allocates_nothing() {
             return VcGrants::new();
         }
-        let grants = self
-            .channel_alloc
-            .grant(self.demand.requests(), self.demand.free());
+        let mut grants = VcGrants::new();
+        let (requests, free) = (self.demand.requests(), self.demand.free());
+        self.channel_alloc.grant(requests, free, &mut grants);
         let mut left = grants.keys();
         // A pass grants what is asked for and free, and nothing twice, so a grant is written without a test of that.
         while let Some((port, vc)) = left.pop_first() {

@@ -1,12 +1,13 @@
-use Rattle.std.proofs.Common.{◌<◌, subst, arith, sym, ap, ◌∙◌, inl, inr}
+use Rattle.std.proofs.Common.{◌<◌, ◌≡◌, ◌==◌, ◌&&◌, not, refl, subst, arith, sym, ap, ◌∙◌, inl, inr}
 use Rattle.worm_router.specs.Router.{ChannelState}
 use Rattle.std.proofs.lemmas.List.Elements.{All-set, All-get_or}
 use Rattle.worm_router.specs.Allocation.{asking}
-use Rattle.worm_router.specs.Busy.{HasFront, is_occupied, port_held}
-use Rattle.worm_router.specs.declared.busy.BusyChannels.{BusyChannels}
+use Rattle.worm_router.specs.Busy.{HasFront, IsFiled, is_occupied, owes, port_held}
+use Rattle.std.proofs.lemmas.Bool.{lt-ltb}
+use Rattle.worm_vcalloc.specs.ChannelSet.{has}
 use Rattle.worm_router.proofs.Places.{input_of}
 use Rattle.worm_router.proofs.Kept.{input_read, input_set_sound, read_sound, give_sound}
-use Rattle.worm_router.proofs.Filed.{busy_filed}
+use Rattle.worm_router.proofs.Filed.{busy_filed, filed, inside_of, owes_still}
 use Rattle.worm_router.proofs.Demanded.{requests_kept}
 use Rattle.worm_router.proofs.Holders.{holders_in}
 use Rattle.worm_router.proofs.HeldOuts.{outs_kept}
@@ -30,6 +31,11 @@ invariant_of-self c =
     c.self.invariant.fronts) in
     let owed_some : 0 < c.index_mut-channel.result.now.owed =
     subst (λ (x : ChannelState). 0 < x.owed) (sym here) c.requires.owed in
+    let owing : (has c.self.inside.busy.owing c.args.port c.args.vc && not (c.owed.result == 0))
+    ≡ owes c.give.new.self =
+    ap (λ n. has c.self.inside.busy.owing c.args.port c.args.vc && not (n == 0)) c.owed.ensures
+    ∙ owes_still c.give.new.self.owed _ (inside_of owes _ _ _ _ _ _ input c.self.invariant.busy.owing
+    ∙ lt-ltb 0 c.index_mut-channel.result.now.owed owed_some) in
     record {
       router = record {
         lists = input_set_sound _ _ _ _ _ _ _ _ c.self.invariant.router.lists (give_sound _ _ _ _ _ had c.give.ensures);
@@ -37,8 +43,8 @@ invariant_of-self c =
       };
       arbiters = c.self.invariant.arbiters;
       busy = busy_filed _ _ _ _ _ _ _ _ input c.self.invariant.busy
-          (inr (ap (λ (b : BusyChannels). b.occupied) c.file_given.ensures.others, ap is_occupied c.give.ensures))
-          (inl c.file_given.ensures.owing);
+          (inr (refl, ap is_occupied c.give.ensures))
+          (inl (subst (IsFiled _ _ _ _) owing (filed _ _ _ _ _ c.remove_if.ensures)));
       demand = record {
         requests = c.self.invariant.demand.requests
             ∙ sym (requests_kept _ _ _ _ _ _ input
@@ -52,15 +58,12 @@ invariant_of-self c =
           (λ o k holds. ap (λ (x : ChannelState). x.state) c.give.ensures ∙ holds) c.self.invariant.holders;
       classes = c.self.invariant.classes;
       destinations = c.self.invariant.destinations;
-      outs = ap (λ (b : BusyChannels). b.outs) c.file_given.ensures.others
-          ∙ outs_kept _ _ _ _ _ _ input _ (ap (λ (x : ChannelState). port_held x.state) c.give.ensures)
+      outs = outs_kept _ _ _ _ _ _ input _ (ap (λ (x : ChannelState). port_held x.state) c.give.ensures)
           c.self.invariant.outs;
       no_credit = lack_stay _ _ _ _ _ _ input c.self.invariant.busy.few_ports c.self.invariant.busy.few_channels _ _
-          (ap (λ (b : BusyChannels). b.no_credit) c.file_given.ensures.others)
-          (ap (λ (x : ChannelState). x.state) c.give.ensures) c.self.invariant.no_credit;
+          refl (ap (λ (x : ChannelState). x.state) c.give.ensures) c.self.invariant.no_credit;
       owes_all = owe_given _ _ _ _ _ _ input c.self.invariant.busy.few_ports c.self.invariant.busy.few_channels _ _ _
           (ap (λ (x : ChannelState). x.owed) c.give.ensures) (omega (arith, owed_some)) had.owed_fits
-          c.file_given.ensures.owes_all c.self.invariant.owes_all;
-      full = full_kept _ _ _ _ _ _ input _ _ _ (ap (λ (b : BusyChannels). b.full) c.file_given.ensures.others)
-          (ap (λ (x : ChannelState). x.buffer) c.give.ensures) c.self.invariant.full;
+          (filed _ _ _ _ _ c.put.ensures) c.self.invariant.owes_all;
+      full = full_kept _ _ _ _ _ _ input _ _ _ refl (ap (λ (x : ChannelState). x.buffer) c.give.ensures) c.self.invariant.full;
     }

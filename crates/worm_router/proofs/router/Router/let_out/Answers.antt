@@ -1,13 +1,15 @@
-use Rattle.std.proofs.Common.{◌+◌, ◌<◌, ◌==◌, nat_lt, ℕ, Option, ap, sym, ◌∙◌, subst}
+use Rattle.std.proofs.Common.{◌+◌, ◌<◌, ◌≡◌, ◌&&◌, ◌||◌, not, nat_lt, ℕ, Option, None, refl, ap, sym, ◌∙◌, subst}
 use Rattle.std.specs.Prelude.{is_some}
-use Rattle.worm_router.specs.Busy.{IsFiled, IsWithout}
-use Rattle.worm_router.proofs.Filed.{filed}
-use Rattle.worm_flit.specs.Channels.{owner_of}
+use Rattle.worm_router.specs.Busy.{IsFiled, is_occupied, owes}
+use Rattle.worm_records.specs.declared.OutRecord.{OutRecord}
+use Rattle.worm_vcalloc.specs.ChannelSet.{has}
+use Rattle.std.proofs.Math.Bool.{not-not}
+use Rattle.worm_router.proofs.Filed.{filed, inside_of, owes_more}
 use Rattle.worm_router.specs.declared.busy.BusyChannels.{BusyChannels}
 use Rattle.worm_router.specs.Router.{RouterState, ChannelState, router_state, width}
 use Rattle.worm_router.proofs.Leaving.{may_leave}
 use Rattle.worm_router.proofs.Left.{IsLeaving, IsOut, leaving_of, closed_kept, followed_kept}
-use Rattle.worm_router.proofs.router.Router.let_out.Goals.{After-index_mut-output, After-file_room}
+use Rattle.worm_router.proofs.router.Router.let_out.Goals.{After-index_mut-output, After-make_room}
 use Rattle.worm_router.proofs.router.Router.let_out.Goals as goal
 
 abbrev was : After-index_mut-output → RouterState
@@ -37,13 +39,6 @@ line-o-requires c =
     c.requires.ready in
     record { port_in = there.out_in; channel_in = there.channel_in }
 
-pub file_left-requires-clause-had : goal.file_left-requires-clause-had
-file_left-requires-clause-had c = (leaves (goal.at.file_left-requires-clause-had c).After-index_mut-output).has_flit
-
-pub file_left-requires-clause-might : goal.file_left-requires-clause-might
-file_left-requires-clause-might c =
-    (leaves (goal.at.file_left-requires-clause-might c).After-index_mut-output).owes_less
-
 pub close-requires : goal.close-requires
 close-requires c =
     let it = leaves (goal.at.close-requires c).After-index_mut-output in
@@ -51,44 +46,59 @@ close-requires c =
 
 pub release-requires : goal.release-requires
 release-requires c =
-    ap (λ (h : Option (ℕ × ℕ)). is_some h) (leaves (goal.at.release-requires c).After-index_mut-output).its
+    ap (λ (u : OutRecord). is_some u.holder) c.spend.ensures
+    ∙ ap (λ (h : Option (ℕ × ℕ)). is_some h) (leaves (goal.at.release-requires c).After-index_mut-output).its
 
 -- it is out, and filed so
-out : (c : After-file_room)
-    → IsOut c.self.inside.depth c.self.inside.classes c.self.inside.busy c.file_room.new.self c.args.port c.args.vc
+out : (c : After-make_room)
+    → IsLeaving (router_state c.self.inside.mesh c.self.inside.node c.self.inside.classes c.self.inside.depth
+    c.self.inside.inputs.items c.self.inside.outputs.items c.self.inside.channel_alloc c.self.inside.switch_alloc)
+    c.self.inside.busy c.args.port c.args.vc c.line-i.result c.args.out c.args.flit.vc c.line-o.result
+    c.index_mut-channel.result.now c.index_mut-output.result.now c.credit_of-spent.result c.credit_of-more_owed.result
+    → IsOut c.self.inside.depth c.self.inside.classes c.self.inside.busy c.make_room.new.self c.args.port c.args.vc
     c.index_mut-channel.result.now c.let_out.new.self c.args.flit c.credit_of-more_owed.result
-out c = subst (λ (mid : BusyChannels). IsOut c.self.inside.depth c.self.inside.classes c.self.inside.busy mid
+out c it =
+    let sets = c.self.inside.busy in
+    let gone = c.let_out.new.self in
+    let more = c.credit_of-more_owed.result in
+    let occupied : (has sets.occupied c.args.port c.args.vc && not (not c.is_occupied.result)) ≡ is_occupied gone =
+    ap (λ b. b && not (not c.is_occupied.result)) it.has_flit ∙ not-not c.is_occupied.result ∙ c.is_occupied.ensures in
+    let owing : (has sets.owing c.args.port c.args.vc || nat_lt 0 more) ≡ owes gone =
+    owes_more c.index_mut-channel.result.now.owed more _
+    (inside_of owes _ _ _ _ _ _ it.input c.self.invariant.busy.owing) ∙ sym (ap owes c.let_out.ensures) in
+    let owes_all : (has sets.owes_all c.args.port c.args.vc || nat_lt c.self.inside.depth (c.owed.result + more))
+    ≡ nat_lt c.self.inside.depth (gone.owed + more) =
+    ap (λ b. b || nat_lt c.self.inside.depth (c.owed.result + more)) it.owes_less
+    ∙ ap (λ n. nat_lt c.self.inside.depth (n + more)) c.owed.ensures in
+    subst (λ (mid : BusyChannels). IsOut c.self.inside.depth c.self.inside.classes c.self.inside.busy mid
     c.args.port c.args.vc c.index_mut-channel.result.now c.let_out.new.self c.args.flit c.credit_of-more_owed.result)
-    (sym c.file_room.ensures.others) (record {
+    (sym c.make_room.ensures.others) (record {
       gone_is = c.let_out.ensures;
-      occupied = c.file_left.ensures.occupied;
-      owing = c.file_left.ensures.owing;
-      owes_all = subst (λ n. IsFiled c.self.inside.busy.owes_all c.file_left.new.self.owes_all c.args.port c.args.vc
-          (nat_lt c.self.inside.depth (n + c.credit_of-more_owed.result))) c.owed.ensures c.file_left.ensures.owes_all;
-      full = subst (λ (b : BusyChannels). IsWithout b.full c.file_room.new.self.full
-          (owner_of c.self.inside.classes c.args.vc) (c.credit_of-more_owed.result == 0))
-          c.file_left.ensures.others c.file_room.ensures.gone;
-      others = ap (λ (b : BusyChannels). record b { full = c.file_room.new.self.full }) c.file_left.ensures.others;
+      occupied = subst (IsFiled _ _ _ _) occupied (filed _ _ _ _ _ c.remove_if.ensures);
+      owing = subst (IsFiled _ _ _ _) owing (filed _ _ _ _ _ c.insert_if.ensures);
+      owes_all = subst (IsFiled _ _ _ _) owes_all (filed _ _ _ _ _ c.insert_if-2.ensures);
+      full = c.make_room.ensures.gone;
+      others = refl;
     })
 
-pub file_room-requires-clause-classes : goal.file_room-requires-clause-classes
-file_room-requires-clause-classes c = c.self.invariant.classes.are
+pub make_room-requires-clause-classes : goal.make_room-requires-clause-classes
+make_room-requires-clause-classes c = c.self.invariant.classes.are
 
-pub file_room-requires-clause-channel : goal.file_room-requires-clause-channel
-file_room-requires-clause-channel c =
+pub make_room-requires-clause-channel : goal.make_room-requires-clause-channel
+make_room-requires-clause-channel c =
     let place = c.requires.place in
     subst (λ (r : RouterState). c.args.vc < width r) (sym c.self.view_is) place.channel_in
 
 pub invariant_of-self : goal.invariant_of-self
 invariant_of-self c =
-    let at = (goal.at.invariant_of-self c).After-file_room in
-    closed_kept _ _ _ _ _ _ _ _ _ _ _ _ _ _ _ _ _ _ c.self.invariant
-    (leaves (goal.at.invariant_of-self c).After-index_mut-output) (out at) _ _ _ _ c.close.ensures
-    c.release.ensures c.set.ensures c.release-then-is_closing.ensures
+    let at = (goal.at.invariant_of-self c).After-make_room in
+    let it = leaves (goal.at.invariant_of-self c).After-index_mut-output in
+    closed_kept _ _ _ _ _ _ _ _ _ _ _ _ _ _ _ _ _ _ c.self.invariant it (out at it) _ _ _ _ c.close.ensures
+    (c.release.ensures ∙ ap (λ (u : OutRecord). record u { holder = None }) c.spend.ensures) c.set.ensures c.release-then-is_closing.ensures
 
 pub invariant_of-self-else-is_closing : goal.invariant_of-self-else-is_closing
 invariant_of-self-else-is_closing c =
-    let at = (goal.at.invariant_of-self-else-is_closing c).After-file_room in
-    followed_kept _ _ _ _ _ _ _ _ _ _ _ _ _ _ _ _ _ _ c.self.invariant
-    (leaves (goal.at.invariant_of-self-else-is_closing c).After-index_mut-output) (out at) _
-    (filed _ _ _ _ _ c.insert_if.ensures)
+    let at = (goal.at.invariant_of-self-else-is_closing c).After-make_room in
+    let it = leaves (goal.at.invariant_of-self-else-is_closing c).After-index_mut-output in
+    followed_kept _ _ _ _ _ _ _ _ _ _ _ _ _ _ _ _ _ _ c.self.invariant it (out at it) _ _ c.spend.ensures
+    (filed _ _ _ _ _ c.insert_if-else-is_closing.ensures)
