@@ -186,7 +186,13 @@ fn one_channel_a_port_is_enough(rt: HostRuntime) {
     let mut alloc = VcAlloc::new(3, 1);
     let waiting = waiting_of(&rt, &[(0, 0, asks(1, 0b10)), (2, 0, asks(1, 0b01))]);
     let free = free_of(&rt, 1, &[0, 1]);
-    passes(&rt, &mut alloc, &waiting, &free, &[(0, 0, None), (2, 0, Some(0))]);
+    passes(
+        &rt,
+        &mut alloc,
+        &waiting,
+        &free,
+        &[(0, 0, None), (2, 0, Some(0))],
+    );
 }
 
 /// What a table of grants holds already stays, and gets nothing more.

@@ -89,7 +89,7 @@ fn accept(alloc: Global, network: &[u8], traffic: &[u8]) -> Result<Accepted, Pro
     };
     match read_traffic(alloc, traffic, &config) {
         Ok(script) => {
-            let _entries = script.len();
+            script.recall();
             Ok(Accepted { config, script })
         }
         Err(fault) if fault.why == Why::NoMemory => Err(ProgramFault::NoMemory),

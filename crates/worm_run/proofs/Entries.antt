@@ -5,10 +5,9 @@ use Rattle.std.specs.Prelude.{filter}
 use Rattle.std.specs.List.Sorted.{IsNonDecreasingBy}
 use Rattle.std.proofs.lemmas.Bool.{cases_lt}
 use Rattle.std.proofs.lemmas.List.Elements.{filter-append}
-use Rattle.std.proofs.lemmas.List.{get_or-map}
-use Rattle.std.proofs.lemmas.List.Sorted.{IsNonDecreasingBy-from_all_adjacent}
 use Rattle.worm_script.specs.Script.{AreInOrder, begun_at, due, lane_of}
 use Rattle.worm_script.specs.declared.entry.Entry.{Entry}
+use Rattle.worm_script.proofs.DueEntries.{turns_rise}
 use Rattle.worm_run.specs.Working.{due_before}
 
 is_below : (a b : ℕ) → a < b → nat_lt a b ≡ true
@@ -70,15 +69,6 @@ none_first n xs = none_below n 0 xs (λ k d within. omega arith)
 
 pub due_before-zero : (script : List Entry) → due_before 0 script ≡ []
 due_before-zero script = none_first (λ (e : Entry). e.turn) script
-
--- the turns of a script never fall
-turns_rise : (entries : List Entry) → AreInOrder entries → IsNonDecreasingBy (λ (e : Entry). e.turn) entries
-turns_rise entries in_order =
-    IsNonDecreasingBy-from_all_adjacent (λ (e : Entry). e.turn) entries (λ k d below.
-    let here = get_or-map (λ (e : Entry). e.turn) entries k d 0 (omega arith) in
-    let next = get_or-map (λ (e : Entry). e.turn) entries (k + 1) d 0 below in
-    let rises = in_order k below in
-    omega arith)
 
 -- the entries of the turns below one more
 pub due_before-more : (script : List Entry) (t : ℕ) → AreInOrder script →

@@ -81,8 +81,7 @@ pub fn work<R: Wait, G: Gate>(
 ) -> Worked
     ensures { WorkedAs (G.may_stop gate.now) (G.may_pass gate.now) script.now turns worker part result }
 {
-    // What is read off it is that its turns never fall.
-    let _entries = script.len();
+    script.recall();
     let mut beside = Beside::new(pace, worker);
     for turn in 0..turns {
         beside.wait(turn);

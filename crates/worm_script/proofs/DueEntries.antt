@@ -93,7 +93,7 @@ stands_by n t xs a b first next = record {
 }
 
 -- the turns of a script never fall
-turns_rise : (entries : List Entry) → AreInOrder entries → IsNonDecreasingBy (λ (e : Entry). e.turn) entries
+pub turns_rise : (entries : List Entry) → AreInOrder entries → IsNonDecreasingBy (λ (e : Entry). e.turn) entries
 turns_rise entries in_order =
     IsNonDecreasingBy-from_all_adjacent (λ (e : Entry). e.turn) entries
     (λ k d below.

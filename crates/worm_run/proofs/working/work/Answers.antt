@@ -39,7 +39,7 @@ loop-turn-preserved g c =
     let told = c.in_default.ensures in
     let before = c.loop-turn.invariant in
     record {
-      turned = turned-more c.args.script.now c.loop-turn.turn c.len-entries.ensures.in_order c.args.part
+      turned = turned-more c.args.script.now c.loop-turn.turn c.recall.ensures c.args.part
           c.loop-turn.part c.turn.new.self before.turned told.exact told.same told.sources told.sinks;
       passed = passes_more (g.G.Gate.may_pass c.args.gate.now) c.args.worker c.loop-turn.turn c.pass.result
           before.passed c.pass.ensures.goes (search rules);

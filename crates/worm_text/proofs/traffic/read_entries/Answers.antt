@@ -18,7 +18,7 @@ returns-in-Err c =
     let es = c.loop-front.script in
     let i = c.loop-front.invariant in
     let len : c.len.result ≡ length (map entry_view es) =
-    omega (arith, length-map es entry_view, c.len.ensures.value) in
+    omega (arith, length-map es entry_view, c.len.ensures) in
     let call = same_call n (map entry_view es) c.len.result c.loop-front.last
     (contains lane_cmp c.loop-front.closed.lanes) (cut space c.in-Some.front.now) len i.last i.closed in
     inr (stops n (map entry_view es) c.loop-front.line c.loop-front.rest.now c.in-Some.front.now c.in-Some.after.now
@@ -31,7 +31,7 @@ returns-then-is_empty c =
     let es = c.loop-front.script in
     let i = c.loop-front.invariant in
     let len : c.len.result ≡ length (map entry_view es) =
-    omega (arith, length-map es entry_view, c.len.ensures.value) in
+    omega (arith, length-map es entry_view, c.len.ensures) in
     let call = same_call n (map entry_view es) c.len.result c.loop-front.last
     (contains lane_cmp c.loop-front.closed.lanes) (cut space c.in-Some.front.now) len i.last i.closed in
     let none : length c.in-Some.after.now ≡ 0 = grind (arith, nat_tests, c.is_empty.ensures, c.if-is_empty.true) in
@@ -45,7 +45,7 @@ returns-else-is_empty c =
     let es = c.loop-front.script in
     let i = c.loop-front.invariant in
     let len : c.len.result ≡ length (map entry_view es) =
-    omega (arith, length-map es entry_view, c.len.ensures.value) in
+    omega (arith, length-map es entry_view, c.len.ensures) in
     let call = same_call n (map entry_view es) c.len.result c.loop-front.last
     (contains lane_cmp c.loop-front.closed.lanes) (cut space c.in-Some.front.now) len i.last i.closed in
     let some : 0 < length c.in-Some.after.now = grind (arith, nat_tests, c.is_empty.ensures, c.if-is_empty.false) in
@@ -59,7 +59,7 @@ loop-front-preserved c =
     let es = c.loop-front.script in
     let i = c.loop-front.invariant in
     let len : c.len.result ≡ length (map entry_view es) =
-    omega (arith, length-map es entry_view, c.len.ensures.value) in
+    omega (arith, length-map es entry_view, c.len.ensures) in
     let call = same_call n (map entry_view es) c.len.result c.loop-front.last
     (contains lane_cmp c.loop-front.closed.lanes) (cut space c.in-Some.front.now) len i.last i.closed in
     let e = c.in-Ok-Some.entry in
@@ -95,7 +95,7 @@ returns-then-is_err c =
     let es = c.loop-front.script in
     let i = c.loop-front.invariant in
     let len : c.len.result ≡ length (map entry_view es) =
-    omega (arith, length-map es entry_view, c.len.ensures.value) in
+    omega (arith, length-map es entry_view, c.len.ensures) in
     let call = same_call n (map entry_view es) c.len.result c.loop-front.last
     (contains lane_cmp c.loop-front.closed.lanes) (cut space c.in-Some.front.now) len i.last i.closed in
     let pieces = cut newline c.args.rest.now in
