@@ -1,6 +1,6 @@
 -- What filing one channel leaves of the sets of busy channels.
-use Rattle.std.proofs.Common.{ℕ, ◌+◌, ◌*◌, ◌≤◌, ◌<◌, ◌≡◌, ◌==◌, List, length, slice_set, slice_index_or, replicate, Bool}
-use Rattle.std.proofs.Common.{◌⊎◌, ◌&&◌, ◌||◌, not, nat_lt}
+use Rattle.std.proofs.Common.{ℕ, ◌+◌, ◌*◌, ◌≤◌, ◌<◌, ◌≡◌, ◌==◌, List, length, slice_set, slice_index_or, replicate}
+use Rattle.std.proofs.Common.{Bool, ◌⊎◌, ◌&&◌, ◌||◌, not, nat_lt}
 use Rattle.std.proofs.Common.{true, false, None, arith, inl, inr, refl, sym, ap, subst, ◌∙◌}
 use Rattle.std.proofs.lemmas.Grind.{get_or-set_at}
 use Rattle.std.proofs.lemmas.Bool.{cases_eq, eq-eqb, ne_eqb, lt-ltb, le-ltb}

@@ -79,13 +79,15 @@ set_grants_nothing-requires c =
     let given = grantable _ _ _ _ _ _ _ _ c.self.invariant c.requests-requests.ensures c.free-free.ensures
     (c.grant.ensures.matching c.new-grants.ensures) in
     nothing_left _ _ _ _ _ given (passed_by _ _ _ _ _ _ _ _ _ _ _ _ refl c.self.invariant c.requests-requests.ensures
-    c.free-free.ensures (c.grant.ensures.pass ∙ from_none _ _ _ _ c.new-grants.ensures) (c.grant.ensures.matching c.new-grants.ensures) c.loop-port.invariant
+    c.free-free.ensures (c.grant.ensures.pass ∙ from_none _ _ _ _ c.new-grants.ensures)
+    (c.grant.ensures.matching c.new-grants.ensures) c.loop-port.invariant
     c.in_default.ensures.0) c.self-2.view_is c.self-2.invariant.demand
 
 passed : (c : goal.After-set_grants_nothing) → IsPassed c.args.self.now c.loop-port.self c.grant.new.grants
 passed c =
-    passed_by _ c.args.self.now _ _ _ _ _ _ _ _ _ _ c.self.view_is c.self.invariant c.requests-requests.ensures c.free-free.ensures
-    (c.grant.ensures.pass ∙ from_none _ _ _ _ c.new-grants.ensures) (c.grant.ensures.matching c.new-grants.ensures) c.loop-port.invariant c.in_default.ensures.0
+    passed_by _ c.args.self.now _ _ _ _ _ _ _ _ _ _ c.self.view_is c.self.invariant c.requests-requests.ensures
+    c.free-free.ensures (c.grant.ensures.pass ∙ from_none _ _ _ _ c.new-grants.ensures)
+    (c.grant.ensures.matching c.new-grants.ensures) c.loop-port.invariant c.in_default.ensures.0
 
 pub returns-clause-after : goal.returns-clause-after
 returns-clause-after c = c.self-2.view_is ∙ (passed c).after

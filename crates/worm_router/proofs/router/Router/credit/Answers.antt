@@ -1,4 +1,5 @@
-use Rattle.std.proofs.Common.{ℕ, ◌<◌, ◌≡◌, ◌∙◌, IfSome, MatchOption, false, refl, sym, subst, arith, ap, ◌*◌, sum, length, slice_set}
+use Rattle.std.proofs.Common.{ℕ, ◌<◌, ◌≡◌, ◌∙◌, IfSome, MatchOption, false, refl, sym, subst, arith, ap, ◌*◌}
+use Rattle.std.proofs.Common.{sum, length, slice_set}
 use Rattle.std.proofs.lemmas.Grind.{common_steps, elements}
 use Rattle.worm_records.specs.declared.OutRecord.{OutRecord}
 use Rattle.worm_router.specs.Busy.{IsFiled, IsKept}

@@ -94,7 +94,8 @@ invariant_of-self c =
     let at = (goal.at.invariant_of-self c).After-make_room in
     let it = leaves (goal.at.invariant_of-self c).After-index_mut-output in
     closed_kept _ _ _ _ _ _ _ _ _ _ _ _ _ _ _ _ _ _ c.self.invariant it (out at it) _ _ _ _ c.close.ensures
-    (c.release.ensures ∙ ap (λ (u : OutRecord). record u { holder = None }) c.spend.ensures) c.set.ensures c.release-then-is_closing.ensures
+    (c.release.ensures ∙ ap (λ (u : OutRecord). record u { holder = None }) c.spend.ensures) c.set.ensures
+    c.release-then-is_closing.ensures
 
 pub invariant_of-self-else-is_closing : goal.invariant_of-self-else-is_closing
 invariant_of-self-else-is_closing c =
