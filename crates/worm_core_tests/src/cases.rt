@@ -1,16 +1,9 @@
 //! What the networks and scripts of the tests are made from.
 
 use arrayvec::ArrayVec;
-use std::fmt::Debug;
 use std::process::Abort;
 use worm_core::{Act, Config, Entry, Name};
 use worm_flit::{Lane, Packet};
-
-/// What is found is what is wanted. The tests compare by this call, since an `assert_eq!` is proved with all that its
-/// function holds.
-pub fn are_equal<T: PartialEq + Debug + Drop>(rt: &impl Abort, found: T, wanted: T) {
-    assert_eq!(rt; found, wanted);
-}
 
 /// A configuration with these radices, depth and classes of so many channels.
 pub fn config(radices: &[u8], depth: u8, channels: &[u8]) -> Config {
@@ -28,11 +21,6 @@ pub fn config(radices: &[u8], depth: u8, channels: &[u8]) -> Config {
         let _ = config.classes.try_push(Name::new());
     }
     config
-}
-
-/// The lane of the class from one node to another.
-pub fn lane(src: u8, dst: u8, class: u8) -> Lane {
-    Lane { src, dst, class }
 }
 
 /// A packet of these words on the lane.

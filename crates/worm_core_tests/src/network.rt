@@ -4,9 +4,9 @@ mod parts;
 mod turns;
 mod view;
 
-use crate::cases::lane;
 use crate::steps::{close, feed, grant, offer, route, send, take};
 use crate::trial::{Trial, is_refused};
+use worm_cases::lane;
 use worm_core::{Moved, NetFault, OfferFault, RunSoFar, StepFault, Totals};
 
 #[test]

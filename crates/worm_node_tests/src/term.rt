@@ -2,9 +2,9 @@
 
 ghost use Rattle.std.specs.Prelude.{◌≡◌, ◌<◌, length};
 
-use crate::cases::{lane, single};
 use std::alloc::Global;
 use std::process::Abort;
+use worm_cases::{lane, single};
 use worm_flit::{Flit, Kind, Lane, Packet, are_channels};
 use worm_term::{OfferFault, Sink, Source};
 

@@ -1,32 +1,12 @@
-//! The texts that the tests share, and what the readers say of a text.
+//! What the readers say of a text.
 //!
 //! Each call of a reader stands in a function of its own that promises nothing. What a reader promises is long, and a
 //! test that knew it of each text that it reads would take a minute to prove.
 
 use std::alloc::Global;
-use std::fmt::Debug;
-use std::process::Abort;
 use std::test::Fail;
 use worm_core::{Config, Script};
 use worm_text::{TextFault, read_network, read_traffic};
-
-/// Two nodes, one class with one channel.
-pub const TWO_NODES: &[u8] = b"wormnet 1\nradix 2\ndims 1\ndepth 2\nclass data\nend\n";
-
-/// A packet of two words, from node 0 to node 1 of two.
-pub const TWO_WORDS: &[u8] = b"wormtraffic 1\nsend 0 0 1 data 17 18\nend\n";
-
-/// Four nodes by four.
-pub const SIXTEEN_NODES: &[u8] = b"wormnet 1\nradix 4\ndims 2\ndepth 2\nclass data\nend\n";
-
-/// A word, and then the mark that closes its lane.
-pub const WORD_AND_MARK: &[u8] = b"wormtraffic 1\nsend 0 0 1 data 5\nclose 0 0 1 data\nend\n";
-
-/// What is found is what is wanted. An `assert_eq!` is proved with all that its function holds, so that one here costs
-/// less than several there.
-pub fn are_equal<T: PartialEq + Debug + Drop>(rt: &impl Abort, found: T, wanted: T) {
-    assert_eq!(rt; found, wanted);
-}
 
 /// The network of a text, or the text's fault.
 pub fn network(text: &[u8]) -> Result<Config, TextFault> {

@@ -1,13 +1,9 @@
-//! Worked cases of the public functions of `worm_text`, `worm_report` and `worm_rows`.
+//! Worked cases of the public functions of `worm_text`.
 //!
 //! They stand apart from what they test because a crate with tests is proved twice, with them and without.
 #![tactic(auto)]
 
 #[cfg(test)]
 mod cases;
-#[cfg(test)]
-mod reports;
-#[cfg(test)]
-mod rows;
 #[cfg(test)]
 mod texts;

@@ -1,8 +1,8 @@
 //! A network taken apart and put together again.
 
-use crate::cases::lane;
 use crate::steps::{buffer, feed, grant, link, offer, route, send, take};
 use crate::trial::{Shape, Trial};
+use worm_cases::lane;
 
 /// Three by two nodes, buffers of two flits, and three channels in two classes.
 const SHAPE: Shape = Shape {

@@ -1,8 +1,8 @@
 //! Lanes as they are seen while flits move step by step.
 
-use crate::cases::lane;
 use crate::steps::{buffer, close, feed, grant, link, offer, route, send, take};
 use crate::trial::Trial;
+use worm_cases::lane;
 use worm_core::{OfferFault, Place, StepFault};
 
 /// From node 0 of a square of three along its lowest dimension to node 2, and then up to node 5.

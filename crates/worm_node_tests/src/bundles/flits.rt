@@ -4,13 +4,13 @@ ghost use Rattle.std.specs.Prelude.{◌≡◌, ◌+◌, ◌<◌, ◌%◌, []};
 ghost use Rattle.worm_bundles.specs.Trial.{pairs_bundle, trial_flit, pair_flit, begun_pasts, IsReady};
 
 use crate::bundles::{node_of, pairs};
-use crate::cases::lane;
 use std::alloc::Global;
 use std::marker::Brand;
 use std::process::Abort;
 use std::sync::Wait;
 use std::thread;
 use worm_bundles::{Carried, Ends, FlitRx, FlitTx, bundle, bundle_after, reunite};
+use worm_cases::lane;
 use worm_flit::{Flit, Kind};
 
 /// The ends of a new bundle of one channel, and room for one flit on it.

@@ -1,4 +1,4 @@
-//! What the tests share: the texts, runs of two texts on this thread, and what a run answers, says and writes.
+//! What the tests share: a text, runs of two texts on this thread, and what a run answers, says and writes.
 //!
 //! No helper has a contract: so what is known of a whole run ends at the helper that takes it, and each test is proved
 //! in little time.
@@ -7,15 +7,11 @@ use std::alloc::{AllocError, Global};
 use std::io::Read;
 use std::process::Abort;
 use std::test::Fail;
+use worm_cases::are_equal;
 use worm_program::{ProgramFault, run_alone, run_joined};
 
-/// Two nodes, one class with one channel.
-pub const TWO_NODES: &[u8] = b"wormnet 1\nradix 2\ndims 1\ndepth 2\nclass data\nend\n";
-
-/// The same with buffers of one flit.
+/// Two nodes, one class with one channel, and buffers of one flit.
 pub const SHALLOW: &[u8] = b"wormnet 1\nradix 2\ndims 1\ndepth 1\nclass data\nend\n";
-
-pub const TWO_WORDS: &[u8] = b"wormtraffic 1\nsend 0 0 1 data 17 18\nend\n";
 
 /// What a run answered, and what it wrote.
 #[derive(Drop)]
@@ -60,15 +56,10 @@ pub fn answers(
     assert_eq!(rt; answer, wanted);
 }
 
-/// The bytes are these.
-pub fn are_bytes(rt: &impl Abort, bytes: &[u8], wanted: &[u8]) {
-    assert_eq!(rt; bytes, wanted);
-}
-
 /// The run answered this, and wrote this report.
 pub fn gives(rt: &impl Abort, ran: &Ran, answer: Result<(), ProgramFault>, report: &[u8]) {
     answers(rt, ran.answer, answer);
-    are_bytes(rt, ran.report.as_slice(), report);
+    are_equal(rt, ran.report.as_slice(), report);
 }
 
 /// The two texts give this report.
@@ -103,7 +94,7 @@ pub fn is_told(
     line: &str,
 ) -> Result<(), Fail> {
     has_status(rt, fault, status);
-    are_bytes(rt, line_of(alloc, fault)?.as_bytes(), line.as_bytes());
+    are_equal(rt, line_of(alloc, fault)?.as_bytes(), line.as_bytes());
     Ok(())
 }
 

@@ -1,11 +1,12 @@
 //! Readers that fail in mid-stream or give little at a time, and want of memory in a turn.
 
-use crate::run::cases::{Ran, TWO_NODES, TWO_WORDS, gives, is_fault, run_reader, run_readers};
+use crate::run::cases::{Ran, gives, is_fault, run_reader, run_readers};
 use std::alloc::Global;
 use std::io;
 use std::io::Read;
 use std::process::Abort;
 use std::test::Fail;
+use worm_cases::{TWO_NODES, TWO_WORDS};
 use worm_core::{Net, StepFault};
 use worm_program::{ProgramFault, report_run};
 use worm_report::Summary;

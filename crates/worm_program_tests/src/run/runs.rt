@@ -1,11 +1,10 @@
-use crate::run::cases::{
-    SHALLOW, TWO_NODES, TWO_WORDS, gives, has_status, is_refused, reports, run_reader,
-};
+use crate::run::cases::{SHALLOW, gives, has_status, is_refused, reports, run_reader};
 use std::alloc::Global;
 use std::io;
 use std::io::Read;
 use std::process::Abort;
 use std::test::Fail;
+use worm_cases::{TWO_NODES, TWO_WORDS};
 use worm_program::{MOST_BYTES, ProgramFault, network_end};
 use worm_text::{ReadFault, read_text};
 

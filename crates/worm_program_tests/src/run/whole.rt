@@ -1,12 +1,11 @@
 //! The whole program on a runtime of the tests' own: what it opens, prints and says, and its status.
 
-use crate::desk::{Desk, count_kept, kept};
-use crate::run::cases::{TWO_NODES, TWO_WORDS};
 use std::alloc::Global;
 use std::process::{Abort, ExitCode};
 use std::sync::Wait;
 use std::test::Fail;
 use std::thread::Threads;
+use worm_cases::{Desk, TWO_NODES, TWO_WORDS, count_kept, kept};
 use worm_program::run;
 
 /// The network and the traffic, and a text that is neither.

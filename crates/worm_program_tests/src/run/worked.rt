@@ -1,12 +1,11 @@
 //! Worked runs, their reports known from the rules of the network.
 
-use crate::run::cases::{
-    TWO_NODES, TWO_WORDS, answers, are_bytes, gives, is_refused, reports, run_pair, run_reader,
-};
+use crate::run::cases::{answers, gives, is_refused, reports, run_pair, run_reader};
 use std::alloc::{AllocError, Global};
 use std::io::Write;
 use std::process::Abort;
 use std::test::Fail;
+use worm_cases::{TWO_NODES, TWO_WORDS, WORD_AND_MARK, are_equal};
 use worm_program::{ProgramFault, run_alone};
 
 /// Two nodes, one class with two channels.
@@ -55,12 +54,11 @@ fn two_classes_share_a_link_flit_by_flit(rt: HostRuntime) {
 
 #[test]
 fn a_close_mark_arrives_last(rt: HostRuntime) {
-    let traffic = b"wormtraffic 1\nsend 0 0 1 data 5\nclose 0 0 1 data\nend\n";
     reports(
         &rt,
         rt.alloc(),
         TWO_NODES,
-        traffic,
+        WORD_AND_MARK,
         (1, 0),
         "wormreport 1\n\
          turns 1 workers 1 drain 0\n\
@@ -73,7 +71,7 @@ fn a_close_mark_arrives_last(rt: HostRuntime) {
         &rt,
         rt.alloc(),
         TWO_NODES,
-        traffic,
+        WORD_AND_MARK,
         (2, 0),
         "wormreport 1\n\
          turns 2 workers 1 drain 0\n\
@@ -217,6 +215,6 @@ fn each_short_writer_takes_what_fits(rt: HostRuntime) {
         let mut out = &mut room[..taken];
         let answer = run_into(rt.alloc(), &mut out);
         answers(&rt, answer, Err(ProgramFault::Write));
-        are_bytes(&rt, &room[..taken], &whole.report.as_slice()[..taken]);
+        are_equal(&rt, &room[..taken], &whole.report.as_slice()[..taken]);
     }
 }

@@ -3,7 +3,7 @@
 ghost use Rattle.std.specs.Prelude.{IfSome};
 ghost use Rattle.worm_program.specs.Ranges.{InRange};
 
-use crate::run::cases::{Ran, TWO_NODES, TWO_WORDS, answers, gives, is_fault, is_told};
+use crate::run::cases::{Ran, answers, gives, is_fault, is_told};
 use std::alloc::Global;
 use std::io::Write;
 use std::process::Abort;
@@ -12,6 +12,7 @@ use std::sync::atomic::{AtomicBool, Ordering};
 use std::test::Fail;
 use std::thread;
 use std::thread::Threads;
+use worm_cases::{SIXTEEN_NODES, TWO_NODES, TWO_WORDS};
 use worm_program::{Options, ProgramFault, run_texts};
 use worm_run::{FreeGate, Gate};
 
@@ -111,8 +112,6 @@ fn has(text: &[u8], bytes: &[u8]) -> bool {
     false
 }
 
-const SIXTEEN: &[u8] = b"wormnet 1\nradix 4\ndims 2\ndepth 2\nclass data\nend\n";
-
 /// Each node sends three words to the node opposite.
 const OPPOSITE: &[u8] = b"wormtraffic 1\n\
      send 0 0 15 data 0 100 200\n\
@@ -192,7 +191,7 @@ fn four_workers_deliver_all(rt: HostRuntime) -> Result<(), Fail> {
     let ran = run_both(
         &rt,
         rt.alloc(),
-        (SIXTEEN, OPPOSITE),
+        (SIXTEEN_NODES, OPPOSITE),
         (50, 4, 10_000),
         &FreeGate,
     );

@@ -1,13 +1,13 @@
 //! Whole runs whose writer fails after so many bytes, or takes a byte or a changing number in a call.
 
-use crate::run::cases::{Ran, SHALLOW, TWO_NODES, TWO_WORDS, gives, has_status};
+use crate::run::cases::{Ran, SHALLOW, gives, has_status};
 use crate::run::workers::{comes_up, runs};
-use crate::taking::Taking;
 use std::alloc::Global;
 use std::process::Abort;
 use std::sync::Wait;
 use std::sync::atomic::{AtomicBool, Ordering};
 use std::thread::Threads;
+use worm_cases::{TWO_NODES, TWO_WORDS, Taking, WORD_AND_MARK};
 use worm_program::ProgramFault;
 use worm_run::Gate;
 
@@ -77,10 +77,7 @@ const HALF_WAY: Worked = Worked {
 
 /// A word and the mark behind it arrived.
 const CLOSED: Worked = Worked {
-    texts: (
-        TWO_NODES,
-        b"wormtraffic 1\nsend 0 0 1 data 5\nclose 0 0 1 data\nend\n",
-    ),
+    texts: (TWO_NODES, WORD_AND_MARK),
     turns: 2,
     workers: 1,
     report: "wormreport 1\n\

@@ -1,11 +1,12 @@
 //! Each byte of a text replaced by each other one: what is still accepted is the text of what was read, written here
 //! from the rules.
 
-use crate::cases::{TWO_NODES, TWO_WORDS, network, traffic};
+use crate::cases::{network, traffic};
 use std::alloc::Global;
 use std::fmt::Display;
 use std::process::Abort;
 use std::test::Fail;
+use worm_cases::{TWO_NODES, TWO_WORDS};
 use worm_core::{Act, Config, Entry, Script};
 use worm_flit::{Lane, Packet};
 

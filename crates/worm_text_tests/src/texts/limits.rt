@@ -1,9 +1,9 @@
 //! What both readers say of texts that are cut, at their limits and past them, huge, or hold bytes that no text has.
 
-use crate::cases::{SIXTEEN_NODES, TWO_NODES, TWO_WORDS, WORD_AND_MARK};
 use std::alloc::Global;
 use std::process::Abort;
 use std::test::Fail;
+use worm_cases::{SIXTEEN_NODES, TWO_NODES, TWO_WORDS, WORD_AND_MARK};
 use worm_text::{Why, read_network, read_traffic};
 
 /// Two dimensions with radices of their own.

@@ -6,17 +6,14 @@
 
 mod whole;
 
-use crate::taking::Taking;
 use std::alloc::Global;
 use std::io;
 use std::io::{ErrorKind, Read, Write};
 use std::process::Abort;
+use worm_cases::{TWO_NODES, Taking, are_equal};
 use worm_picture::draw;
 use worm_text::{TextFault, Why};
 use worm_view::{Accepted, ViewFault, accept, run_view};
-
-/// Two nodes in a line.
-pub const NETWORK: &[u8] = b"wormnet 1\nradix 2\ndims 1\ndepth 2\nclass data\nend\n";
 
 /// A packet on its way, and one that waits.
 pub const REPORT: &[u8] = b"wormreport 1\n\
@@ -56,7 +53,7 @@ impl Read for Failing {
 
 /// What the network and the report say.
 fn accepted(rt: &impl Abort, alloc: Global) -> Accepted {
-    accept(alloc, NETWORK, REPORT).expect(rt, "accepted texts")
+    accept(alloc, TWO_NODES, REPORT).expect(rt, "accepted texts")
 }
 
 /// The picture of the report, or its map.
@@ -89,7 +86,7 @@ fn is_not_drawn<N: Read + Drop, R: Read + Drop>(
 
 /// Gives the writer the map of the report.
 fn write_map<W: Write>(alloc: Global, out: &mut W) -> Result<(), ViewFault> {
-    let mut network = NETWORK;
+    let mut network = TWO_NODES;
     let mut report = REPORT;
     run_view(alloc, &mut network, &mut report, true, out)
 }
@@ -128,7 +125,7 @@ fn faults(rt: HostRuntime) {
     is_not_drawn(
         &rt,
         alloc,
-        NETWORK,
+        TWO_NODES,
         nothing,
         false,
         ViewFault::Report(EMPTY),
@@ -140,12 +137,7 @@ fn readers_that_fail(rt: HostRuntime) {
     let alloc = rt.alloc();
     let (network, report) = (Failing { left: 10 }, Failing { left: 10 });
     is_not_drawn(&rt, alloc, network, REPORT, false, ViewFault::ReadNetwork);
-    is_not_drawn(&rt, alloc, NETWORK, report, true, ViewFault::ReadReport);
-}
-
-/// The bytes are these.
-fn are_bytes(rt: &impl Abort, bytes: &[u8], wanted: &[u8]) {
-    assert_eq!(rt; bytes, wanted);
+    is_not_drawn(&rt, alloc, TWO_NODES, report, true, ViewFault::ReadReport);
 }
 
 /// A writer that fails within the map has taken what it had room for, however much that is.
@@ -159,7 +151,7 @@ fn is_cut_short(rt: &impl Abort, alloc: Global, map: &str) {
         };
         let ended = write_map(alloc, &mut out);
         assert_eq!(rt; ended, Err(ViewFault::Write));
-        are_bytes(rt, out.taken.as_slice(), &map.as_bytes()[..room]);
+        are_equal(rt, out.taken.as_slice(), &map.as_bytes()[..room]);
     }
 }
 

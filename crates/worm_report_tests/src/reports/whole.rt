@@ -1,8 +1,9 @@
 //! Whole reports, as the rules of the report say them.
 
-use super::networks::{Asked, Given, Ground, lane, summary, two_nodes};
+use super::networks::{Asked, Given, Ground, summary, two_nodes};
 use super::steps::{feed, grant, route, send, take};
 use std::process::Abort;
+use worm_cases::lane;
 use worm_core::Step;
 use worm_report::Summary;
 

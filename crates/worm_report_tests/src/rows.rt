@@ -1,8 +1,8 @@
 //! Worked reports: two nodes in a line, one class, one channel.
 
-use crate::cases::TWO_NODES;
 use std::alloc::Global;
 use std::process::Abort;
+use worm_cases::TWO_NODES;
 use worm_core::Place;
 use worm_flit::Lane;
 use worm_rows::{Load, PacketId, Row, Shape, read_report};

@@ -16,16 +16,19 @@ use std::rt::{Env, Files};
 /// The runtime of one run of a program.
 #[derive(Drop)]
 pub struct Desk {
+    /// Where all that it keeps is kept.
     pub alloc: Global,
     /// The words of the command line, the program's name first.
     pub words: &'static [&'static [u8]],
     /// The files, each by its name.
     pub files: &'static [(&'static str, &'static [u8])],
+    /// The standard input.
     pub input: &'static [u8],
     /// How many bytes more the standard output takes.
     pub room: Cell<usize>,
     /// The names that were opened, each as a line.
     pub opened: RefCell<Vec<u8>>,
+    /// What went to the standard output.
     pub printed: RefCell<Vec<u8>>,
     /// What went to the standard error.
     pub said: RefCell<Vec<u8>>,

@@ -1,13 +1,13 @@
 //! The whole program on a runtime of the tests' own: what it opens, prints and says, and its status.
 
-use crate::desk::{Desk, are_kept, begins, kept};
-use crate::view::{MAP, NETWORK, REPORT, drawing};
+use crate::view::{MAP, REPORT, drawing};
 use std::alloc::Global;
 use std::process::{Abort, ExitCode};
+use worm_cases::{Desk, TWO_NODES, are_kept, begins, kept};
 use worm_view::run;
 
 /// The network, and a text that is none.
-const FILES: &[(&str, &[u8])] = &[("n", NETWORK), ("x", b"x\n")];
+const FILES: &[(&str, &[u8])] = &[("n", TWO_NODES), ("x", b"x\n")];
 
 const A_PICTURE: &[&[u8]] = &[b"wormview", b"n"];
 

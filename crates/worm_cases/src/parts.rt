@@ -1,9 +1,8 @@
-//! Lanes, flits, meshes and printed texts that several tests share.
+//! Lanes, flits and meshes.
 
 ghost use Rattle.std.specs.Prelude.{◌≡◌};
 ghost use Rattle.worm_mesh.specs.Address.{AreRadices};
 
-use std::fmt::Debug;
 use std::process::Abort;
 use worm_flit::{Flit, Kind, Lane};
 use worm_mesh::Mesh;
@@ -35,9 +34,4 @@ pub fn mesh_of(rt: &impl Abort, radices: &[u8]) -> Mesh
     ensures mesh { AreRadices result }
 {
     Mesh::new(radices).expect(rt, "a mesh")
-}
-
-/// What was printed reads so.
-pub fn reads<E: Debug>(rt: &impl Abort, printed: Result<String, E>, text: &str) {
-    assert_eq!(rt; printed.expect(rt, "memory").as_str(), text);
 }
