@@ -10,7 +10,6 @@ use std::fmt::Display;
 use std::fs::{Metadata, OpenFile, OpenOptions};
 use std::io;
 use std::io::{BufRead, ErrorKind, Lines, Read, Seek, SeekFrom, Write};
-use std::process::Abort;
 use std::rt::{Env, Files};
 
 /// The runtime of one run of a program.
@@ -52,35 +51,6 @@ impl Desk {
             printed: RefCell::new(Vec::new(alloc)),
             said: RefCell::new(Vec::new(alloc)),
         }
-    }
-}
-
-/// What was kept are these bytes.
-pub fn are_kept(rt: &impl Abort, kept: &RefCell<Vec<u8>>, wanted: &[u8]) {
-    match kept.try_borrow() {
-        Ok(kept) => assert_eq!(rt; kept.as_slice(), wanted),
-        Err(_) => panic!(rt; "in use"),
-    }
-}
-
-/// What was kept is this text.
-pub fn kept(rt: &impl Abort, kept: &RefCell<Vec<u8>>, wanted: &str) {
-    are_kept(rt, kept, wanted.as_bytes());
-}
-
-/// What was kept begins with this text.
-pub fn begins(rt: &impl Abort, kept: &RefCell<Vec<u8>>, wanted: &str) {
-    match kept.try_borrow() {
-        Ok(kept) => assert!(rt; kept.as_slice().starts_with(wanted.as_bytes()), "{wanted}"),
-        Err(_) => panic!(rt; "in use"),
-    }
-}
-
-/// How many bytes were kept.
-pub fn count_kept(rt: &impl Abort, kept: &RefCell<Vec<u8>>) -> usize {
-    match kept.try_borrow() {
-        Ok(kept) => kept.as_slice().len(),
-        Err(_) => panic!(rt; "in use"),
     }
 }
 

@@ -1,11 +1,8 @@
-//! Lanes, flits and meshes.
+//! Lanes and flits.
 
 ghost use Rattle.std.specs.Prelude.{◌≡◌};
-ghost use Rattle.worm_mesh.specs.Address.{AreRadices};
 
-use std::process::Abort;
 use worm_flit::{Flit, Kind, Lane};
-use worm_mesh::Mesh;
 
 /// The lane of the class from one node to another.
 pub fn lane(src: u8, dst: u8, class: u8) -> Lane
@@ -26,12 +23,4 @@ pub fn single(packet: u16, word: u32) -> Flit
         vc: 0,
         word,
     }
-}
-
-/// The mesh with these radices.
-pub fn mesh_of(rt: &impl Abort, radices: &[u8]) -> Mesh
-    ensures value { result ≡ radices.now }
-    ensures mesh { AreRadices result }
-{
-    Mesh::new(radices).expect(rt, "a mesh")
 }

@@ -1,9 +1,16 @@
 //! What the networks and scripts of the tests are made from.
 
 use arrayvec::ArrayVec;
+use std::fmt::Debug;
 use std::process::Abort;
 use worm_core::{Act, Config, Entry, Name};
 use worm_flit::{Lane, Packet};
+
+/// What is found is what is wanted. An `assert_eq!` is proved with all that its function holds, so that one here costs
+/// less than several there.
+pub fn are_equal<T: PartialEq + Debug + Drop>(rt: &impl Abort, found: T, wanted: T) {
+    assert_eq!(rt; found, wanted);
+}
 
 /// A configuration with these radices, depth and classes of so many channels.
 pub fn config(radices: &[u8], depth: u8, channels: &[u8]) -> Config {

@@ -3,10 +3,10 @@
 
 ghost use Rattle.std.specs.Prelude.{◌<◌};
 
-use crate::cases::{config, packet, to_offer};
+use crate::cases::{are_equal, config, packet, to_offer};
 use std::alloc::Global;
 use std::process::Abort;
-use worm_cases::{are_equal, lane};
+use worm_cases::lane;
 use worm_flit::{Lane, Packet};
 use worm_region::{Act, Config, Due, Entry, NetFault, Region, Script, ScriptFault};
 

@@ -6,10 +6,9 @@
 
 ghost use Rattle.std.specs.Prelude.{◌<◌};
 
-use crate::cases::{config, to_offer};
+use crate::cases::{are_equal, config, to_offer};
 use std::alloc::Global;
 use std::process::Abort;
-use worm_cases::are_equal;
 use worm_core::{
     Act, Config, Entry, LaneView, Moved, Net, NetFault, NetParts, Place, RunSoFar, Script,
     ScriptFault, Step, StepFault, Totals,

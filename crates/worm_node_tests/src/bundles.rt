@@ -6,9 +6,9 @@ mod flits;
 ghost use Rattle.std.specs.Prelude.{◌≡◌, ◌<◌, ◌%◌};
 ghost use Rattle.worm_bundles.specs.Trial.{pairs_bundle};
 
+use crate::cases::mesh_of;
 use std::process::Abort;
 use worm_bundles::BundleCfg;
-use worm_cases::mesh_of;
 
 /// The bundle with so many channels, and room for so many flits on each.
 fn pairs(rt: &impl Abort, vcs: u8, depth: u8) -> BundleCfg

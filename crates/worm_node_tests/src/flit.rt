@@ -2,8 +2,9 @@
 
 ghost use Rattle.std.specs.Prelude.{◌<◌};
 
+use crate::cases::reads;
 use std::process::Abort;
-use worm_cases::{lane, reads};
+use worm_cases::lane;
 use worm_flit::{
     ClassChannels, Flit, Kind, Lane, Packet, PacketFault, SmallSet, are_channels, close_flit,
     flit_at, is_closing, is_opening, pack, unpack,

@@ -8,6 +8,8 @@
 #[cfg(test)]
 mod bundles;
 #[cfg(test)]
+mod cases;
+#[cfg(test)]
 mod flit;
 #[cfg(test)]
 mod term;

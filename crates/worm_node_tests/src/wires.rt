@@ -2,9 +2,10 @@
 
 ghost use Rattle.std.specs.Prelude.{◌<◌};
 
+use crate::cases::mesh_of;
 use std::alloc::Global;
 use std::process::Abort;
-use worm_cases::{mesh_of, single};
+use worm_cases::single;
 use worm_flit::{Flit, SmallSet};
 use worm_wires::{Inboxes, LinkState, Links, Wiring};
 

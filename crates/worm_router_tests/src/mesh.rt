@@ -2,8 +2,8 @@
 
 ghost use Rattle.std.specs.Prelude.{◌<◌};
 
+use crate::cases::{mesh_of, reads};
 use std::process::Abort;
-use worm_cases::{mesh_of, reads};
 use worm_mesh::{LinkEnds, Mesh, MeshFault};
 
 /// Radices make no mesh, for this fault.

@@ -2,9 +2,9 @@
 
 ghost use Rattle.std.specs.Prelude.{◌<◌};
 
+use crate::cases::mesh_of;
 use crate::mesh::is_opposite;
 use std::process::Abort;
-use worm_cases::mesh_of;
 use worm_mesh::Mesh;
 use worm_route::{crosses, hops, next_port};
 

@@ -1,12 +1,20 @@
-//! What the readers say of a text.
+//! What compares, and what the readers say of a text.
 //!
 //! Each call of a reader stands in a function of its own that promises nothing. What a reader promises is long, and a
 //! test that knew it of each text that it reads would take a minute to prove.
 
 use std::alloc::Global;
+use std::fmt::Debug;
+use std::process::Abort;
 use std::test::Fail;
 use worm_core::{Config, Script};
 use worm_text::{TextFault, read_network, read_traffic};
+
+/// What is found is what is wanted. An `assert_eq!` is proved with all that its function holds, so that one here costs
+/// less than several there.
+pub fn are_equal<T: PartialEq + Debug + Drop>(rt: &impl Abort, found: T, wanted: T) {
+    assert_eq!(rt; found, wanted);
+}
 
 /// The network of a text, or the text's fault.
 pub fn network(text: &[u8]) -> Result<Config, TextFault> {

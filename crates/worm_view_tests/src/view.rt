@@ -10,7 +10,7 @@ use std::alloc::Global;
 use std::io;
 use std::io::{ErrorKind, Read, Write};
 use std::process::Abort;
-use worm_cases::{TWO_NODES, Taking, are_equal};
+use worm_cases::{TWO_NODES, Taking};
 use worm_picture::draw;
 use worm_text::{TextFault, Why};
 use worm_view::{Accepted, ViewFault, accept, run_view};
@@ -49,6 +49,11 @@ impl Read for Failing {
         self.left -= count;
         Ok(count)
     }
+}
+
+/// The bytes are these.
+fn are_bytes(rt: &impl Abort, bytes: &[u8], wanted: &[u8]) {
+    assert_eq!(rt; bytes, wanted);
 }
 
 /// What the network and the report say.
@@ -151,7 +156,7 @@ fn is_cut_short(rt: &impl Abort, alloc: Global, map: &str) {
         };
         let ended = write_map(alloc, &mut out);
         assert_eq!(rt; ended, Err(ViewFault::Write));
-        are_equal(rt, out.taken.as_slice(), &map.as_bytes()[..room]);
+        are_bytes(rt, out.taken.as_slice(), &map.as_bytes()[..room]);
     }
 }
 

@@ -1,11 +1,11 @@
 //! Turns: who is asked, what moves in which turn, and what a refusal leaves.
 
-use crate::cases::{config, to_offer};
+use crate::cases::{are_equal, config, to_offer};
 use crate::steps::{buffer, feed, grant, link, offer, route, send, take};
 use crate::trial::{Standing, Trial, made};
 use std::alloc::Global;
 use std::process::Abort;
-use worm_cases::{are_equal, lane};
+use worm_cases::lane;
 use worm_core::{Moved, Net, NetFault, OfferFault, Place, ScriptFault, StepFault};
 
 /// Takes a turn. Node 2 then has these words, and these flits of the two lanes are under way.

@@ -4,14 +4,20 @@
 //! in little time.
 
 use std::alloc::{AllocError, Global};
+use std::fmt::Debug;
 use std::io::Read;
 use std::process::Abort;
 use std::test::Fail;
-use worm_cases::are_equal;
 use worm_program::{ProgramFault, run_alone, run_joined};
 
 /// Two nodes, one class with one channel, and buffers of one flit.
 pub const SHALLOW: &[u8] = b"wormnet 1\nradix 2\ndims 1\ndepth 1\nclass data\nend\n";
+
+/// What is found is what is wanted. An `assert_eq!` is proved with all that its function holds, so that one here costs
+/// less than several there.
+pub fn are_equal<T: PartialEq + Debug + Drop>(rt: &impl Abort, found: T, wanted: T) {
+    assert_eq!(rt; found, wanted);
+}
 
 /// What a run answered, and what it wrote.
 #[derive(Drop)]

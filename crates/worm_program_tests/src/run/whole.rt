@@ -1,11 +1,12 @@
 //! The whole program on a runtime of the tests' own: what it opens, prints and says, and its status.
 
 use std::alloc::Global;
+use std::cell::RefCell;
 use std::process::{Abort, ExitCode};
 use std::sync::Wait;
 use std::test::Fail;
 use std::thread::Threads;
-use worm_cases::{Desk, TWO_NODES, TWO_WORDS, count_kept, kept};
+use worm_cases::{Desk, TWO_NODES, TWO_WORDS};
 use worm_program::run;
 
 /// The network and the traffic, and a text that is neither.
@@ -50,6 +51,22 @@ fn ends(
     kept(rt, &desk.opened, opened);
     kept(rt, &desk.printed, printed);
     kept(rt, &desk.said, said);
+}
+
+/// What was kept is this text.
+fn kept(rt: &impl Abort, kept: &RefCell<Vec<u8>>, wanted: &str) {
+    match kept.try_borrow() {
+        Ok(kept) => assert_eq!(rt; kept.as_slice(), wanted.as_bytes()),
+        Err(_) => panic!(rt; "in use"),
+    }
+}
+
+/// How many bytes were kept.
+fn count_kept(rt: &impl Abort, kept: &RefCell<Vec<u8>>) -> usize {
+    match kept.try_borrow() {
+        Ok(kept) => kept.as_slice().len(),
+        Err(_) => panic!(rt; "in use"),
+    }
 }
 
 #[test]

@@ -1,11 +1,11 @@
 //! Worked runs, their reports known from the rules of the network.
 
-use crate::run::cases::{answers, gives, is_refused, reports, run_pair, run_reader};
+use crate::run::cases::{answers, are_equal, gives, is_refused, reports, run_pair, run_reader};
 use std::alloc::{AllocError, Global};
 use std::io::Write;
 use std::process::Abort;
 use std::test::Fail;
-use worm_cases::{TWO_NODES, TWO_WORDS, WORD_AND_MARK, are_equal};
+use worm_cases::{TWO_NODES, TWO_WORDS, WORD_AND_MARK};
 use worm_program::{ProgramFault, run_alone};
 
 /// Two nodes, one class with two channels.

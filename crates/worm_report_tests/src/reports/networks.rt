@@ -4,10 +4,10 @@
 //! What such a call promises is long, and a test that knew it of each call that it makes, with a way out of each, would
 //! take a minute to prove.
 
+use crate::cases::are_equal;
 use arrayvec::ArrayVec;
 use std::io::Write;
 use std::process::Abort;
-use worm_cases::are_equal;
 use worm_core::{Act, Config, Entry, Moved, Name, Net, Script, Step};
 use worm_flit::{Lane, Packet};
 use worm_report::{ReportFault, Summary, write_report};

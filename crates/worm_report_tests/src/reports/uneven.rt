@@ -1,10 +1,11 @@
 //! Reports for writers that fail after so many bytes, or take now more and now less.
 
 use super::networks::{Asked, Ground, summary, two_nodes};
+use crate::cases::are_equal;
 use std::io;
 use std::io::{ErrorKind, Write};
 use std::process::Abort;
-use worm_cases::{are_equal, lane};
+use worm_cases::lane;
 use worm_report::{ReportFault, Summary};
 
 /// The word arrived, and the mark waits.

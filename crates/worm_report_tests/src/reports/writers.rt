@@ -1,12 +1,13 @@
 //! Writers that are full, slow or broken, and memory that runs out.
 
 use super::networks::{Asked, Ground, summary, two_nodes};
+use crate::cases::are_equal;
 use std::alloc::Global;
 use std::io;
 use std::io::{ErrorKind, Write};
 use std::process::Abort;
 use std::test::Fail;
-use worm_cases::{are_equal, lane};
+use worm_cases::lane;
 use worm_report::ReportFault;
 
 /// One flit arrived, and one waits at its source.

@@ -2,11 +2,12 @@
 
 ghost use Rattle.std.specs.Prelude.{◌≡◌, ◌<◌, ◌≤◌};
 
+use crate::cases::mesh_of;
 use crate::swalloc::are_chosen;
 use crate::vcalloc::{are_granted, has_channels};
 use std::marker::Model;
 use std::process::Abort;
-use worm_cases::{mesh_of, single};
+use worm_cases::single;
 use worm_flit::{ClassChannels, Flit, are_channels};
 use worm_records::InRecord;
 use worm_router::{Router, TooMany};

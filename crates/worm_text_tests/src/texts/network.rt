@@ -1,10 +1,10 @@
 //! Networks that are read, and the faults of their texts.
 
-use crate::cases::network;
+use crate::cases::{are_equal, network};
 use std::alloc::Global;
 use std::process::Abort;
 use std::test::Fail;
-use worm_cases::{TWO_NODES, are_equal};
+use worm_cases::TWO_NODES;
 use worm_core::Config;
 use worm_text::{TextFault, Why};
 

@@ -1,10 +1,10 @@
 //! Traffic that is read, and the faults of its texts.
 
-use crate::cases::traffic;
+use crate::cases::{are_equal, traffic};
 use std::alloc::Global;
 use std::process::Abort;
 use std::test::Fail;
-use worm_cases::{TWO_NODES, TWO_WORDS, are_equal};
+use worm_cases::{TWO_NODES, TWO_WORDS};
 use worm_core::{Act, Entry, Script};
 use worm_flit::Lane;
 use worm_text::{TextFault, Why};

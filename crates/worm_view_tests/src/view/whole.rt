@@ -2,8 +2,9 @@
 
 use crate::view::{MAP, REPORT, drawing};
 use std::alloc::Global;
+use std::cell::RefCell;
 use std::process::{Abort, ExitCode};
-use worm_cases::{Desk, TWO_NODES, are_kept, begins, kept};
+use worm_cases::{Desk, TWO_NODES};
 use worm_view::run;
 
 /// The network, and a text that is none.
@@ -12,6 +13,27 @@ const FILES: &[(&str, &[u8])] = &[("n", TWO_NODES), ("x", b"x\n")];
 const A_PICTURE: &[&[u8]] = &[b"wormview", b"n"];
 
 const A_MAP: &[&[u8]] = &[b"wormview", b"n", b"--text"];
+
+/// What was kept are these bytes.
+fn are_kept(rt: &impl Abort, kept: &RefCell<Vec<u8>>, wanted: &[u8]) {
+    match kept.try_borrow() {
+        Ok(kept) => assert_eq!(rt; kept.as_slice(), wanted),
+        Err(_) => panic!(rt; "in use"),
+    }
+}
+
+/// What was kept is this text.
+fn kept(rt: &impl Abort, kept: &RefCell<Vec<u8>>, wanted: &str) {
+    are_kept(rt, kept, wanted.as_bytes());
+}
+
+/// What was kept begins with this text.
+fn begins(rt: &impl Abort, kept: &RefCell<Vec<u8>>, wanted: &str) {
+    match kept.try_borrow() {
+        Ok(kept) => assert!(rt; kept.as_slice().starts_with(wanted.as_bytes()), "{wanted}"),
+        Err(_) => panic!(rt; "in use"),
+    }
+}
 
 /// A desk with these words, and this report on its standard input.
 fn desk_with(alloc: Global, words: &'static [&'static [u8]], report: &'static [u8]) -> Desk {

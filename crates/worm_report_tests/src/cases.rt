@@ -1,4 +1,4 @@
-//! What compares what is found with what is wanted.
+//! What compares.
 
 use std::fmt::Debug;
 use std::process::Abort;
@@ -7,9 +7,4 @@ use std::process::Abort;
 /// less than several there.
 pub fn are_equal<T: PartialEq + Debug + Drop>(rt: &impl Abort, found: T, wanted: T) {
     assert_eq!(rt; found, wanted);
-}
-
-/// What was printed reads so.
-pub fn reads<E: Debug>(rt: &impl Abort, printed: Result<String, E>, text: &str) {
-    assert_eq!(rt; printed.expect(rt, "memory").as_str(), text);
 }
