@@ -12,7 +12,8 @@ use Rattle.worm_rows.specs.declared.rows.PacketId.{PacketId}
 use Rattle.worm_rows.specs.declared.rows.Row.{Row}
 use Rattle.std.specs.BTreeMap as tree
 use Rattle.std.specs.Option.{unwrap_or}
-use Rattle.worm_picture.specs.Packets.{lane_cmp, last_with, packet_cmp, place_of, same_packet, tail_in, tail_of}
+use Rattle.worm_text.specs.Traffic.{lane_cmp}
+use Rattle.worm_picture.specs.Packets.{last_with, packet_cmp, place_of, same_packet, tail_in, tail_of}
 use Rattle.worm_picture.specs.declared.packets.Packet.{Packet}
 use Rattle.worm_picture.specs.declared.packets.Packets.{Packets}
 

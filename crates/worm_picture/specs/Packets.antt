@@ -5,7 +5,7 @@ use Rattle.std.specs.List.{filter_map}
 use Rattle.std.specs.Ordering.{nat_cmp, ordering_then}
 use Rattle.std.specs.BTreeMap as tree
 use Rattle.std.specs.declared.cmp.Ordering.{Ordering}
-use Rattle.worm_flit.specs.declared.Lane.{Lane}
+use Rattle.worm_text.specs.Traffic.{lane_cmp}
 use Rattle.worm_rows.specs.declared.rows.Load.{Load}
 use Rattle.worm_rows.specs.declared.rows.Load.TheVariants.{Close, Word}
 use Rattle.worm_rows.specs.declared.rows.PacketId.{PacketId}
@@ -18,9 +18,6 @@ abbrev pub same_packet : PacketId → PacketId → Bool
 same_packet a b =
     ((a.lane.src == b.lane.src) && ((a.lane.dst == b.lane.dst) && (a.lane.class == b.lane.class)))
     && (a.number == b.number)
-
-abbrev pub lane_cmp : Lane → Lane → Ordering
-lane_cmp a b = ordering_then (nat_cmp a.src b.src) (ordering_then (nat_cmp a.dst b.dst) (nat_cmp a.class b.class))
 
 -- packets in order: by lane, and then by number
 abbrev pub packet_cmp : PacketId → PacketId → Ordering

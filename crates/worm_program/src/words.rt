@@ -14,6 +14,7 @@ use clap::{Arg, ArgAction, ArgMatches, Command, Error, value_parser};
 use std::alloc::{AllocError, Global};
 use std::io;
 use std::rt::Env;
+use worm_words::Named;
 
 /// How to run.
 #[derive(Clone, Copy, PartialEq, Eq, Debug)]
@@ -80,11 +81,13 @@ impl From<io::Error> for WordsFault {
     }
 }
 
-/// All words of the command line, the program's name first.
+/// All words of the command line, behind the name `wormrun`, whatever the system calls the program. `NotText` where one
+/// of them is not UTF-8, `NoMemory` where there is none for the list.
 pub fn all_words<R: Env + AllocGlobal>(rt: &R) -> Result<Vec<String>, WordsFault>
     ensures { IfErr result IsNoList }
 {
-    let words = std::env::args(rt)?.collect::<Vec<String>>(rt.alloc())?;
+    let named = (Named::new(rt, "wormrun"), rt.alloc());
+    let words = std::env::args(&named)?.collect::<Vec<String>>(rt.alloc())?;
     Ok(words)
 }
 

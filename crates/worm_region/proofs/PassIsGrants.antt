@@ -22,7 +22,7 @@ use Rattle.worm_shape.proofs.Channels.{owned_by}
 use Rattle.worm_swalloc.specs.SwAlloc.{SwAllocState}
 use Rattle.worm_theory.specs.Shape.{Shape}
 use Rattle.worm_theory.specs.Network.{Network}
-use Rattle.worm_theory.specs.Steps.{Grant, Send, IsThere}
+use Rattle.worm_theory.specs.Steps.{Grant, Send, IsThere, node_of}
 use Rattle.worm_theory.proofs.Bridge.{same_network}
 use Rattle.worm_vcalloc.specs.Table.{cell}
 use Rattle.worm_vcalloc.specs.VcAlloc.{VcAllocState}
@@ -34,7 +34,7 @@ use Rattle.worm_region.specs.Workable.{IsWorkable, owned, Works}
 use Rattle.worm_region.specs.Answers.{moved_of}
 use Rattle.worm_region.specs.Moves.{IsReady, chosen_router}
 use Rattle.worm_region.specs.Replies.{Replies}
-use Rattle.worm_region.specs.Turns.{ReachesAt, node_of}
+use Rattle.worm_region.specs.Turns.{ReachesAt}
 use Rattle.worm_region.specs.declared.step.Moved.{Moved}
 use Rattle.worm_region.specs.declared.fault.StepFault.{StepFault}
 use Rattle.worm_region.proofs.NodeWritten.{node_at-put, node_kept}

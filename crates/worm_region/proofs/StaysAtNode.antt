@@ -3,13 +3,13 @@ use Rattle.std.proofs.Common.{◌≡◌, ℕ, inl, inr, List, [], ◌∷◌, ◌
 use Rattle.std.specs.Prelude.{Result}
 use Rattle.std.proofs.lemmas.List.Elements.{All-append, All-cons, All-nil}
 use Rattle.worm_theory.specs.Shape.{Shape}
-use Rattle.worm_theory.specs.Steps.{Step, Feed, Route, Take, TakeCredit, StepsLead}
+use Rattle.worm_theory.specs.Steps.{Step, Feed, Route, Take, TakeCredit, StepsLead, node_of}
 use Rattle.worm_theory.proofs.Lists.{steps-append}
 use Rattle.worm_region.specs.Shape.{net_shape}
 use Rattle.worm_region.specs.State.{NetState, shape, network_of}
 use Rattle.worm_region.specs.Replies.{Attempts, Replies}
 use Rattle.worm_script.specs.Script.{begun_at}
-use Rattle.worm_region.specs.Turns.{Passage, ◌and_then◌, Each, Reaches, ReachesAt, node_of, ask, AsksSourceBy}
+use Rattle.worm_region.specs.Turns.{Passage, ◌and_then◌, Each, Reaches, ReachesAt, ask, AsksSourceBy}
 use Rattle.worm_region.specs.Turns.{ComesInBy, TakesCreditsBy, TakesFlitsBy, FeedsClassesBy, RoutesChannelsBy}
 use Rattle.worm_region.specs.Turns.{RoutesPortBy, all_ports, mesh_ports, all_classes, all_channels}
 use Rattle.worm_script.specs.declared.entry.Act.{Act}

@@ -11,8 +11,8 @@ use Rattle.worm_router.specs.Router.{RouterState, width, input_at}
 use Rattle.worm_router.specs.Allocation.{after_allocate, switch_grants}
 use Rattle.worm_swalloc.specs.SwAlloc.{AreGranted}
 use Rattle.worm_swalloc.specs.declared.grant.SwGrant.{SwGrant}
-use Rattle.worm_theory.specs.Steps.{Step, Offer, CloseLane, Feed, Route, Grant, Send, Take, GiveCredit, TakeCredit}
-use Rattle.worm_theory.specs.Steps.{IsThere, StepsLead}
+use Rattle.worm_theory.specs.Steps.{Step, Offer, CloseLane, Feed, Route, Send, Take, GiveCredit, TakeCredit}
+use Rattle.worm_theory.specs.Steps.{IsThere, StepsLead, node_of}
 use Rattle.worm_region.specs.State.{NetState, IsSameConfig, shape, network_of, router_at, with_router}
 use Rattle.worm_region.specs.Moves.{IsReady, chosen_router}
 use Rattle.worm_region.specs.Answers.{Answers}
@@ -257,18 +257,6 @@ pub record Reaches (old new : NetState) : Type 0 where
   pub steps : List Step
   pub led : StepsLead (shape old) (network_of old) steps (network_of new)
   pub config : IsSameConfig old new
-
--- the node at which a step is
-abbrev pub node_of : Step → ℕ
-node_of (Offer x lane words) = x
-node_of (CloseLane x lane) = x
-node_of (Feed x k) = x
-node_of (Route x p v) = x
-node_of (Grant x p v c) = x
-node_of (Send x p v) = x
-node_of (Take x p) = x
-node_of (GiveCredit x p v) = x
-node_of (TakeCredit x o) = x
 
 -- some list of steps at this node does
 pub record ReachesAt (x : ℕ) (old new : NetState) : Type 0 where

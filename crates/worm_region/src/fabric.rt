@@ -21,7 +21,7 @@ pub(crate) mod parts;
 mod readers;
 mod rest;
 
-use crate::fresh::{make_links, make_nodes};
+use crate::fresh::{fresh_links, make_nodes};
 use crate::nodes::Nodes;
 use crate::{Moved, Name, Node, Own, StepFault};
 use arrayvec::ArrayVec;
@@ -76,7 +76,7 @@ impl Fabric {
         let classes = ClassChannels::new(channels);
         let nodes = make_nodes(alloc, &mesh, channels, depth)?;
         let room = u16::from(classes.total()) * u16::from(depth);
-        let links = make_links(alloc, mesh.links(), room)?;
+        let links = fresh_links(alloc, mesh.links(), room)?;
         let inboxes = Inboxes::new(alloc)?;
         let nodes = Nodes::new(nodes);
         Ok(Fabric {

@@ -76,8 +76,8 @@ pub(crate) fn make_nodes(
     Ok(nodes)
 }
 
-/// The links of a new network, each with room for so many flits and so many credits.
-pub(crate) fn make_links(alloc: Global, count: u16, room: u16) -> Result<Vec<LinkState>, AllocError>
+/// So many links with nothing on them, each with room for so many flits and so many credits.
+pub fn fresh_links(alloc: Global, count: u16, room: u16) -> Result<Vec<LinkState>, AllocError>
     ensures { IfOk result (λ v. v.items ≡ replicate count (empty_link room)) }
 {
     let mut links = Vec::with_capacity(alloc, usize::from(count))?;

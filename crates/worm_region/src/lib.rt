@@ -24,7 +24,7 @@ mod turn;
 pub use config::{Config, Name};
 pub use fabric::Fabric;
 pub use fault::{NetFault, StepFault};
-pub use fresh::fresh_nodes;
+pub use fresh::{fresh_links, fresh_nodes};
 pub use node::Node;
 pub use own::Own;
 pub use parts::NetParts;

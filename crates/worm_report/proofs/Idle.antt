@@ -9,7 +9,8 @@ use Rattle.worm_core.specs.declared.view.Held.{Held}
 use Rattle.worm_report.specs.declared.row.Row.{Row}
 use Rattle.worm_report.specs.declared.row.Row.TheVariants.{Underway}
 use Rattle.worm_report.specs.Seen.{seen}
-use Rattle.worm_report.specs.Report.{lane_of, lane_rows, pair_rows, rows_below, source_rows}
+use Rattle.worm_term.specs.Lanes.{lane_of}
+use Rattle.worm_report.specs.Report.{lane_rows, pair_rows, rows_below, source_rows}
 use Rattle.worm_report.specs.Writing.{Standing, WritesRows}
 use Rattle.worm_report.proofs.Written.{done, no_rows, same_rows}
 

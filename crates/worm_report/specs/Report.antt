@@ -2,6 +2,7 @@
 use Rattle.std.specs.Prelude.{ℕ, List, [], ◌∷◌, ◌++◌, Option, Some, None, map, slice_index_or}
 use Rattle.std.specs.List.{flat_map, range_with_len}
 use Rattle.worm_flit.specs.declared.Lane.{Lane}
+use Rattle.worm_term.specs.Lanes.{lane_of}
 use Rattle.worm_report.specs.declared.summary.Summary.{Summary}
 use Rattle.worm_report.specs.declared.row.Row.{Row}
 use Rattle.worm_report.specs.declared.row.Row.TheVariants.{Header, Options, Stopped, Delivered, Underway, NotOffered}
@@ -32,9 +33,6 @@ delivered_rows net = rows_below (λ node. map (λ flit. Delivered node flit) (ne
 -- what is under way of a lane, from the sink back
 abbrev pub lane_rows : Seen → Lane → List Row
 lane_rows net lane = map (λ held. Underway lane held) (net.underway lane)
-
-abbrev pub lane_of : ℕ → ℕ → ℕ → Lane
-lane_of src dst class = record { src = src; dst = dst; class = class }
 
 -- by source, then destination, then class
 abbrev pub pair_rows : Seen → ℕ → ℕ → List Row

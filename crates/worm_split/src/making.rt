@@ -20,7 +20,7 @@ use std::alloc::{AllocError, Global};
 use std::marker::Brand;
 use std::snapshot::Snapshot;
 use worm_bundles::{BundleCfg, Opening, bundle_after, credit_bundle};
-use worm_core::{Config, Inboxes, LinkState, Net, Node, fresh_nodes};
+use worm_core::{Config, Inboxes, LinkState, Net, Node, fresh_links, fresh_nodes};
 use worm_flit::ClassChannels;
 use worm_mesh::{LinkEnds, Mesh};
 
@@ -248,17 +248,6 @@ fn make_sides(
     Ok(sides)
 }
 
-/// Links with nothing on them.
-fn make_links(alloc: Global, count: u16, room: u16) -> Result<Vec<LinkState>, AllocError>
-    ensures { IfOk result (λ v. v.items ≡ replicate count (empty_link room)) }
-{
-    let mut links = Vec::with_capacity(alloc, usize::from(count))?;
-    for _number in 0..count {
-        links.push(LinkState::new(alloc, room)?)?;
-    }
-    Ok(links)
-}
-
 /// A worker's lists.
 fn make_seat(
     alloc: Global,
@@ -274,7 +263,7 @@ fn make_seat(
     net.recall();
     let config = net.config();
     let nodes = fresh_nodes(alloc, &config)?;
-    let links = make_links(alloc, count, room)?;
+    let links = fresh_links(alloc, count, room)?;
     let inboxes = Inboxes::new(alloc)?;
     Ok(Seat {
         config,

@@ -17,7 +17,8 @@ use Rattle.worm_text.specs.Numerals.{is_name}
 use Rattle.worm_text.specs.Network.{Network, IsBetween, nodes_of, AreNew}
 use Rattle.worm_text.specs.Reading.{◌>>=◌, checked, number_at, no_more}
 use Rattle.worm_text.specs.Reader.{AreLines}
-use Rattle.worm_text.specs.Traffic.{Said, send, close, is_closed, last_turn, class_at, turn_at, lane_of, lane_at}
+use Rattle.worm_text.specs.Traffic.{Said, send, close, is_closed, last_turn, class_at, turn_at, lane_at}
+use Rattle.worm_term.specs.Lanes.{lane_of}
 use Rattle.worm_text.specs.Traffic.{words_at, is_open, send_at, close_at, entry_at, read_entries, read_header}
 use Rattle.worm_text.specs.Traffic.{traffic_of}
 use Rattle.worm_text.specs.TrafficText.{where_fields, entry_line, traffic_lines, traffic_text, IsPlaced, IsEntry}

@@ -17,7 +17,8 @@ use Rattle.worm_flit.specs.declared.Lane.{Lane}
 use Rattle.worm_text.specs.Lines.{cut, line, space}
 use Rattle.worm_text.specs.Network.{Network, IsBetween, nodes_of}
 use Rattle.worm_text.specs.Reading.{◌>>=◌, checked, number_at, no_more}
-use Rattle.worm_text.specs.Traffic.{Said, send, close, is_closed, last_turn, class_at, turn_at, lane_of, lane_at}
+use Rattle.worm_text.specs.Traffic.{Said, send, close, is_closed, last_turn, class_at, turn_at, lane_at}
+use Rattle.worm_term.specs.Lanes.{lane_of}
 use Rattle.worm_text.specs.Traffic.{words_at, is_open, send_at, close_at, entry_at}
 use Rattle.worm_text.specs.TrafficText.{where_fields, entry_line, IsEntry}
 use Rattle.worm_text.proofs.Binds.{fine, fault, bind_ok, ok_is, checked_ok, no_more_ok}

@@ -10,6 +10,7 @@ use Rattle.worm_text.specs.declared.fault.Why.TheVariants.{Header, Missing, Name
 use Rattle.worm_text.specs.declared.fault.Why.TheVariants.{TooMany, ManyChannels, NoEnd, AfterEnd}
 use Rattle.worm_text.specs.declared.fault.TextFault.{TextFault}
 use Rattle.worm_flit.specs.declared.Lane.{Lane}
+use Rattle.worm_term.specs.Lanes.{lane_of}
 use Rattle.worm_script.specs.declared.entry.Act.{Act}
 use Rattle.worm_script.specs.declared.entry.Act.TheVariants as act
 use Rattle.worm_script.specs.declared.entry.Entry.{Entry}
@@ -67,9 +68,6 @@ unfoldable pub turn_at : ℕ → List (List ℕ) → Result (ℕ × List (List �
 turn_at last fields = do
   turn ← number_at 0 1000000 fields
   checked (nat_le last turn.0) OrderOfTurns turn
-
-abbrev pub lane_of : ℕ → ℕ → ℕ → Lane
-lane_of src dst class = record { src = src; dst = dst; class = class }
 
 unfoldable pub lane_at : Network → List (List ℕ) → Result (Lane × List (List ℕ)) Why
 lane_at n fields = do

@@ -26,6 +26,18 @@ pub data Step : Type 0 where
   GiveCredit : (node port vc : ℕ) → Step
   TakeCredit : (node port : ℕ) → Step
 
+-- the node at which a step is
+abbrev pub node_of : Step → ℕ
+node_of (Offer x lane words) = x
+node_of (CloseLane x lane) = x
+node_of (Feed x k) = x
+node_of (Route x p v) = x
+node_of (Grant x p v c) = x
+node_of (Send x p v) = x
+node_of (Take x p) = x
+node_of (GiveCredit x p v) = x
+node_of (TakeCredit x o) = x
+
 -- how many packets and marks these flits end, and whether a mark is among them
 abbrev pub packets_in : List Flit → ℕ
 packets_in fs = count_by (λ f. closes f.kind) fs

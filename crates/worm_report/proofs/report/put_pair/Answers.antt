@@ -1,5 +1,6 @@
 use Rattle.std.proofs.Common.{arith}
-use Rattle.worm_report.specs.Report.{lane_of, lane_rows}
+use Rattle.worm_term.specs.Lanes.{lane_of}
+use Rattle.worm_report.specs.Report.{lane_rows}
 use Rattle.worm_report.specs.Seen.{seen}
 use Rattle.worm_report.proofs.Written.{below_none, below_then, below_stop, below_all}
 use Rattle.worm_report.proofs.report.put_pair.Goals as goal

@@ -1,4 +1,5 @@
-use Rattle.worm_report.specs.Report.{rows_below, lane_of, lane_rows}
+use Rattle.worm_term.specs.Lanes.{lane_of}
+use Rattle.worm_report.specs.Report.{rows_below, lane_rows}
 use Rattle.worm_report.specs.Seen.{seen}
 use Rattle.worm_report.specs.Writing.{PutsRows}
 use Rattle.worm_report.proofs.Written.{done}
