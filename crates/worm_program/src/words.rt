@@ -80,7 +80,8 @@ impl From<io::Error> for WordsFault {
     }
 }
 
-/// All words of the command line, the program's name first.
+/// All words of the command line, the program's name first. `NotText` where a word is not UTF-8, `NoMemory` where there
+/// is none for the list.
 pub fn all_words<R: Env + AllocGlobal>(rt: &R) -> Result<Vec<String>, WordsFault>
     ensures { IfErr result IsNoList }
 {
@@ -142,7 +143,8 @@ fn words_in<'a>(matches: &ArgMatches<'a>) -> Words<'a>
 }
 
 /// Reads the words, the program's name first: `NETWORK TRAFFIC --turns T [--workers W] [--drain M]`, in any order.
-/// Turns and drain are 0 to 1,000,000, workers are 1 to 16; any other word or number is a fault of the words.
+/// Turns and drain are 0 to 1,000,000, workers are 1 to 16. `Words` where one is unknown or missing, or a number is out
+/// of its range; `NoMemory` where there is none for the parser.
 pub fn read_words<'a>(alloc: Global, words: &'a [&'a str]) -> Result<Words<'a>, WordsFault>
     requires { 0 < length words.now }
     ensures said { IfOk result (Say (matches_of command (texts words.now))) }

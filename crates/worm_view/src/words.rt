@@ -68,7 +68,8 @@ impl From<io::Error> for WordsFault {
     }
 }
 
-/// All words of the command line, the program's name first.
+/// All words of the command line, the program's name first. `NotText` where a word is not UTF-8, `NoMemory` where there
+/// is none for the list.
 pub fn all_words<R: Env + AllocGlobal>(rt: &R) -> Result<Vec<String>, WordsFault>
     ensures { IfErr result IsNoList }
 {
@@ -128,8 +129,8 @@ fn words_in<'a>(matches: &ArgMatches<'a>) -> Words<'a>
     }
 }
 
-/// Reads the words, the program's name first: `NETWORK [--text]`, in any order, or `--help` or `--version`. Any other
-/// word is a fault of the words.
+/// Reads the words, the program's name first: `NETWORK [--text]`, in any order. `Asked` for `--help` and `--version`,
+/// `Words` where one is unknown or missing, `NoMemory` where there is none for the parser.
 pub fn read_words<'a>(alloc: Global, words: &'a [&'a str]) -> Result<Words<'a>, WordsFault>
     ensures said { IfOk result (Say (matches_of command (texts words.now))) }
     ensures faultless { OnOk result (fault_of command (texts words.now) ≡ []) }
