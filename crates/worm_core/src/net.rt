@@ -1,3 +1,5 @@
+//! A sound network: its steps, runs of them, and its turns.
+
 ghost use Rattle.std.specs.Prelude.{None, Some, ◌≡◌, ◌≤◌, ◌<◌, ◌↔◌, Result, IsTrue};
 ghost use Rattle.std.specs.Prelude.{IfOk, Ok, length, take, Err};
 ghost use Rattle.worm_region.specs.Runs.{AreAnswered, IsRun, StopsBehind, event_of};
@@ -158,7 +160,11 @@ impl Net {
         u16::from(lane.src) < nodes && u16::from(lane.dst) < nodes && lane.class < self.classes()
     }
 
-    /// One step.
+    /// One step (Dally and Towles, chapters 13 and 16). `Done` where it was enabled, `Idle` where its place is there
+    /// and it was not. `NoSuchPlace` where the network has not its node, port, channel or class, or its port has not
+    /// the link that it needs; `Refused` where a source refuses a packet or a mark, also for its lane's nodes or class;
+    /// `NoMemory` where it was enabled and there is none for an accepted or a delivered flit. With these, and with
+    /// `Idle`, nothing changed.
     pub fn step(&mut self, step: &Step) -> Result<Moved, StepFault>
         ensures answers { Answers self.old (event_of step.now) result self.new }
 
@@ -218,7 +224,8 @@ impl Net {
 
     /// Takes the steps one after another, up to the first fault; the steps before it stand. After any such run what
     /// was delivered of a lane whose class owns one channel, followed by what is under way, is what was injected; of
-    /// other classes that holds packet by packet; and nothing follows a close mark.
+    /// other classes that holds packet by packet; and nothing follows a close mark. The fault is the first with which a
+    /// step is answered: `NoSuchPlace`, `Refused` or `NoMemory`, as `step` tells them.
     pub fn run(&mut self, steps: &[Step]) -> RunSoFar
         ensures answered { AreAnswered self.old (take result.done steps.now) self.new }
         ensures stopped { StopsBehind result.done steps.now result.fault self.new }

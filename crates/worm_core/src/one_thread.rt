@@ -1,3 +1,5 @@
+//! Turns on one thread have one outcome.
+
 ghost use Rattle.std.specs.Prelude.{ℕ, List};
 ghost use Rattle.worm_script.specs.declared.entry.Entry.{Entry};
 ghost use Rattle.worm_region.specs.NewNet.{IsOneNetwork};

@@ -1,3 +1,5 @@
+//! How many flits and packets all sources accepted, and how many flits all sinks took.
+
 ghost use Rattle.std.specs.Prelude.{◌≡◌, ◌==◌, ◌<◌, ◌≤◌, ◌*◌, ◌^◌, length};
 ghost use Rattle.worm_mesh.specs.Address.{node_count};
 ghost use Rattle.worm_theory.specs.Steps.{packets_in};

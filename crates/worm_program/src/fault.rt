@@ -1,3 +1,5 @@
+//! How the program can fail.
+
 ghost use Rattle.std.specs.Prelude.{◌≡◌, Some};
 ghost use Rattle.worm_program.specs.Faults.{line_of, status_of};
 

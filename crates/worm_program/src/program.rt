@@ -34,7 +34,7 @@ use worm_report::{ReportFault, Summary, write_report};
 use worm_run::{Gate, RunPlan};
 use worm_text::{ReadFault, Why, read_network, read_text, read_traffic};
 
-/// The bytes that a text may have.
+/// The most bytes that a text may have: 8 MiB.
 pub const MOST_BYTES: usize = 8_388_608;
 
 /// The two texts, read to their end.

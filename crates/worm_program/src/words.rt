@@ -145,7 +145,8 @@ fn words_in<'a>(matches: &ArgMatches<'a>) -> Words<'a>
 }
 
 /// Reads the words, the program's name first: `NETWORK TRAFFIC --turns T [--workers W] [--drain M]`, in any order.
-/// Turns and drain are 0 to 1,000,000, workers are 1 to 16; any other word or number is a fault of the words.
+/// Turns and drain are 0 to 1,000,000, workers are 1 to 16. `Words` where one is unknown or missing, or a number is out
+/// of its range; `NoMemory` where there is none for the parser.
 pub fn read_words<'a>(alloc: Global, words: &'a [&'a str]) -> Result<Words<'a>, WordsFault>
     requires { 0 < length words.now }
     ensures said { IfOk result (Say (matches_of command (texts words.now))) }

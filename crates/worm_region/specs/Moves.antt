@@ -1,4 +1,5 @@
--- What the moves of a network make of its lists, in the words of routers, terminals and links.
+-- What the moves of a network make of its lists, in the words of routers, terminals and links (Dally and Towles,
+-- chapters 13 and 16).
 use Rattle.std.specs.Prelude.{ℕ, ◌*◌, ◌<◌, ◌≡◌, ◌==◌, Bool, true, false, nat_lt, if◌then◌else◌, List, [], ◌∷◌}
 use Rattle.std.specs.Prelude.{◌++◌, length, drop, slice_get, slice_index_or, Option, Some, None, IsSome, Result}
 use Rattle.std.specs.Prelude.{Ok, Err}

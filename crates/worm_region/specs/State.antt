@@ -1,4 +1,5 @@
--- What a contract sees of a network, and the functions of places that it stands for.
+-- What a contract sees of a network, and the functions of places that it stands for (Dally and Towles, chapters 13 and
+-- 16).
 use Rattle.std.specs.Prelude.{ℕ, ◌*◌, ◌<◌, ◌≤◌, ◌≡◌, ◌==◌, cond, nat_lt, List, [], length, map, drop, sum}
 use Rattle.std.specs.Prelude.{slice_index_or, slice_set, IsSome}
 use Rattle.arrayvec.specs.ArrayString.{ArrayString}

@@ -1,3 +1,5 @@
+//! The configuration that a network is made from.
+
 ghost use Rattle.std.specs.Prelude.{◌≡◌};
 ghost use Rattle.worm_region.specs.State.{texts_of};
 

@@ -1,3 +1,5 @@
+//! The lists of a network, nodes and links by number, and what reads and changes them at one place.
+
 ghost use Rattle.std.specs.Prelude.{true, false, IfOk, ◌==◌, ◌≡◌, ◌*◌, ◌<◌, ◌≤◌, ◌↔◌};
 ghost use Rattle.std.specs.Prelude.{IsTrue, IsSome, ◌⊎◌, None, Some, IfSome};
 ghost use Rattle.std.specs.Prelude.{if◌then◌else◌, length, sum};

@@ -1,3 +1,5 @@
+//! Why no network is made, and why a step is not done.
+
 use worm_term::OfferFault;
 
 /// Why no network was made.

@@ -1,3 +1,5 @@
+//! A node by itself: what passes between its source, its router and its sink.
+
 ghost use Rattle.std.specs.Prelude.{true, false, ◌≡◌, ◌<◌, Some, None};
 ghost use Rattle.std.specs.Prelude.{if◌then◌else◌};
 ghost use Rattle.worm_router.specs.Router.{IsPlace, terminal, leaving};

@@ -7,9 +7,9 @@ ghost use Rattle.worm_region.specs.Owned.{sole};
 /// workers.
 #[derive(Clone, Copy, Debug, PartialEq, Eq)]
 pub struct Own {
-    /// The worker's number, counted from 0.
+    /// The worker's number, 0 to workers - 1.
     pub worker: u16,
-    /// How many workers there are.
+    /// How many workers there are, 1 to 16.
     pub workers: u16,
 }
 

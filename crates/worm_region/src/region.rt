@@ -54,12 +54,15 @@ impl Model for Region {
     ghost invariant = { λ r. IsWorkable r.fabric };
 }
 
+/// The answer to a step whose place is there: `Done` where it was done, else `Idle`.
 fn moved(done: bool) -> Moved
     ensures { result ≡ moved_of done }
 {
     if done { Moved::Done } else { Moved::Idle }
 }
 
+/// What a source answered to a packet or a mark, as the answer to a step: `NoMemory` where it had none, and for each
+/// other reason `Refused` with it.
 fn accepted(answer: Result<u16, OfferFault>) -> Result<Moved, StepFault>
     ensures { result ≡ accepted_of answer }
 {
@@ -236,6 +239,7 @@ impl Region {
         self.fabric.nodes.count_under_way(classes);
     }
 
+    /// An Offer: the node's source is asked to accept the packet.
     pub(crate) fn offer(&mut self, node: u8, packet: &Packet) -> Result<Moved, StepFault>
         ensures { Replies self.old (Event.Offer node packet.now.lane packet.now.words) result self.new }
     {
@@ -247,6 +251,7 @@ impl Region {
         accepted(self.fabric.source_mut(node).offer(packet))
     }
 
+    /// A Close: the node's source is asked to accept the lane's mark.
     pub(crate) fn close(&mut self, node: u8, lane: Lane) -> Result<Moved, StepFault>
         ensures { Replies self.old (Event.CloseLane node lane) result self.new }
     {
@@ -256,6 +261,7 @@ impl Region {
         accepted(self.fabric.source_mut(node).close(lane))
     }
 
+    /// A Feed: the next flit of the class goes from the node's source into its injection buffer.
     pub(crate) fn feed(&mut self, node: u8, class: u8) -> Result<Moved, StepFault>
         ensures { Replies self.old (Event.Feed node class) result self.new }
     {
@@ -275,6 +281,7 @@ impl Region {
         self.fabric.nodes.feed(node, class, terminal)
     }
 
+    /// A Route: the opening flit at the front of the input channel's buffer finds its output port.
     fn route(&mut self, node: u8, port: u8, vc: u8) -> Result<Moved, StepFault>
         ensures { Replies self.old (Event.Route node port vc) result self.new }
     {
@@ -292,6 +299,7 @@ impl Region {
         self.fabric.router_mut(node).route(port, vc)
     }
 
+    /// A Grant: the packet that waits at the input channel gets the output channel `out_vc` of its port.
     fn grant(&mut self, node: u8, port: u8, vc: u8, out_vc: u8) -> Result<Moved, StepFault>
         ensures { Replies self.old (Event.Grant node port vc out_vc) result self.new }
     {
@@ -301,6 +309,7 @@ impl Region {
         Ok(moved(self.fabric.router_mut(node).grant(port, vc, out_vc)))
     }
 
+    /// A Send, where all nodes are owned: the flit at the front of the input channel's buffer leaves.
     fn send(&mut self, node: u8, port: u8, vc: u8) -> Result<Moved, StepFault>
         requires { self.old.own ≡ sole }
         ensures { Replies self.old (Event.Send node port vc) result self.new }
@@ -324,8 +333,9 @@ impl Region {
         self.send_next(node, port, vc)
     }
 
-    /// The same of a channel that may send, as one that was granted the switch. No two hold one output channel, so what
-    /// may leave any other channel of the node may leave it still.
+    /// The same of a channel that may send, as one that was granted the switch: `NoMemory`, with nothing changed, where
+    /// there is none for a delivered flit. No two hold one output channel, so what may leave any other channel of the
+    /// node may leave it still.
     #[inline(always)]
     pub fn send_next(&mut self, node: u8, port: u8, vc: u8) -> Result<Moved, StepFault>
         requires there { IsThere (shape self.old) (Event.Send node port vc) }
@@ -338,6 +348,7 @@ impl Region {
         self.fabric.send_next(node, port, vc)
     }
 
+    /// A Take: the front flit of the link into the port goes into its buffer.
     pub(crate) fn take_flit(&mut self, node: u8, port: u8) -> Result<Moved, StepFault>
         ensures { Replies self.old (Event.Take node port) result self.new }
     {
@@ -355,6 +366,7 @@ impl Region {
         self.fabric.take_flit(node, port)
     }
 
+    /// A GiveCredit, where all nodes are owned: a credit that the input channel owes goes onto its link.
     fn give_credit(&mut self, node: u8, port: u8, vc: u8) -> Result<Moved, StepFault>
         requires { self.old.own ≡ sole }
         ensures { Replies self.old (Event.GiveCredit node port vc) result self.new }
@@ -380,6 +392,7 @@ impl Region {
         self.fabric.give_credit(node, port, vc);
     }
 
+    /// A TakeCredit: the front credit of the link out of the port goes to its channel's count.
     pub(crate) fn take_credit(&mut self, node: u8, port: u8) -> Result<Moved, StepFault>
         ensures { Replies self.old (Event.TakeCredit node port) result self.new }
     {
@@ -397,7 +410,12 @@ impl Region {
         self.fabric.take_credit(node, port)
     }
 
-    /// One step, where all nodes are owned.
+    /// One step (Dally and Towles, chapters 13 and 16), where all nodes are owned. `Done` where it was enabled, `Idle`
+    /// where its place is there and it was not, or where it would let out into a sink what is not for its node.
+    /// `NoSuchPlace` where the network has not its node, port, channel or class, or its port has not the link that it
+    /// needs; `Refused` where a source refuses a packet or a mark, also for its lane's nodes or class; `NoMemory` where
+    /// it was enabled and there is none for an accepted or a delivered flit. With these, and with `Idle`, nothing
+    /// changed.
     pub fn step(&mut self, step: &Step) -> Result<Moved, StepFault>
         requires { self.old.own ≡ sole }
         ensures { Replies self.old (event_of step.now) result self.new }

@@ -1,3 +1,5 @@
+//! The nine steps of a network, and what a step did.
+
 use worm_flit::{Lane, Packet};
 
 /// One event at one place of the network (Dally and Towles, chapters 13 and 16). Nodes, ports, channels and classes are

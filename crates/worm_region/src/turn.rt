@@ -62,7 +62,9 @@ impl Region {
         }
     }
 
-    /// Asks the node's source what these entries ask of it, up to the first refusal.
+    /// Asks the node's source what these entries ask of it, up to the first fault: `Refused` where the source refuses
+    /// an entry, `NoMemory` where there is none for the flits of one. That entry changed nothing, those before it
+    /// stand.
     pub fn ask_source(&mut self, node: u8, entries: &Due<'_>) -> Result<(), StepFault>
         ensures does { Does (AsksSourceBy Attempts entries.now node) self.old (result_err result) self.new }
         ensures at_node { ReachesAt node self.old self.new }
@@ -298,7 +300,8 @@ impl Region {
         Ok(())
     }
 
-    /// The turns of all nodes with these entries, in rising number.
+    /// The turns of all nodes with these entries, in rising number. After a fault what was done before it stands:
+    /// `Refused` where a source refuses an entry, `NoMemory` where there is none for an accepted or a delivered flit.
     pub fn all_turns(&mut self, entries: &Due<'_>) -> Result<(), StepFault>
         requires { self.old.own ≡ sole }
         ensures { Does (ForEach all_nodes (NodeTurnBy Attempts entries.now)) self.old (result_err result) self.new }

@@ -1,4 +1,5 @@
--- The places of a lane, from the sink back: where its flits can stand. A place is named without a channel.
+-- The places of a lane, from the sink back: where its flits can stand (Dally and Towles, chapter 8). A place is named
+-- without a channel.
 use Rattle.std.specs.Prelude.{ℕ, ◌≡◌, ◌+◌, ◌*◌, List, [], ◌∷◌, ◌++◌, length, reverse, unwrap_or}
 use Rattle.worm_mesh.specs.Address.{neighbour_of, opposite_of}
 use Rattle.worm_route.specs.Route.{route_of, port_of, hops_of}

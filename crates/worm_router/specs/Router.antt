@@ -1,4 +1,4 @@
--- What a contract sees of a router, and what each call makes of it.
+-- What a contract sees of a router, and what each call makes of it (Dally and Towles, chapters 13, 16 and 19).
 use Rattle.std.specs.Prelude.{ℕ, ◌+◌, ◌-◌, ◌*◌, ◌≤◌, ◌<◌, ◌≡◌, ◌==◌, Bool, true, false, ◌&&◌, ◌||◌, nat_lt, is_none}
 use Rattle.std.specs.Prelude.{if◌then◌else◌, List, [], ◌∷◌, ◌++◌, length, sum, drop, slice_index_or, slice_set}
 use Rattle.std.specs.Prelude.{replicate, All, Option, None, Some}

@@ -5,7 +5,7 @@ use worm_core::{Net, OfferFault};
 /// How many turns each worker takes, and how many workers there are.
 #[derive(Clone, Copy, Debug, PartialEq, Eq)]
 pub struct RunPlan {
-    /// The turns 0, 1, .. below it.
+    /// How many turns each worker takes: 0, 1, .. below it.
     pub turns: u64,
     /// 1 to 16, and at most the nodes.
     pub workers: usize,

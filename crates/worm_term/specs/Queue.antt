@@ -1,4 +1,4 @@
--- What a contract sees of the flits of one class.
+-- What a contract sees of the flits of one class (Dally and Towles, chapters 12 and 13).
 use Rattle.std.specs.Prelude.{ℕ, ◌+◌, List, [], ◌++◌, Option, slice_get}
 use Rattle.worm_flit.specs.declared.Flit.{Flit}
 

@@ -1,4 +1,4 @@
--- What a contract sees of a sink.
+-- What a contract sees of a sink (Dally and Towles, chapters 12 and 13).
 use Rattle.std.specs.Prelude.{ℕ, Bool, ◌&&◌, List, [], ◌∷◌, ◌++◌}
 use Rattle.std.specs.List.{list_any}
 use Rattle.worm_flit.specs.declared.Lane.{Lane}

@@ -1,4 +1,4 @@
--- What a contract sees of a source, and what each call makes of it.
+-- What a contract sees of a source, and what each call makes of it (Dally and Towles, chapters 12 and 13).
 use Rattle.std.specs.Prelude.{ℕ, ◌+◌, ◌*◌, ◌≤◌, ◌<◌, ◌≡◌, ◌==◌, Bool, true, false, ◌&&◌, not, nat_lt, nat_le}
 use Rattle.std.specs.Prelude.{if◌then◌else◌, List, [], ◌∷◌, length, slice_index, slice_index_or, slice_set, replicate}
 use Rattle.std.specs.Prelude.{All, Option, None, Some, is_some, option_map, unwrap_or, Result, OnOk, OnErr, IfErr}

@@ -238,7 +238,8 @@ impl<'a> Fields<'a> {
         }
     }
 
-    /// The word that begins the line. `UnknownWord` where it is no word of a network text.
+    /// The word that begins the line. `Missing` where no field is left, `UnknownWord` where it is no word of a network
+    /// text.
     pub fn key(&mut self) -> Result<Key, Why>
         ensures answer { Reads (λ x. x) result self.new (key_at self.old) }
         ensures one { self.new ≡ drop 1 self.old }

@@ -364,7 +364,8 @@ fn read_lines(bytes: &[u8]) -> Result<Config, TextFault>
     }
 }
 
-/// Reads a network text of either format (Dally and Towles, chapters 5 and 13). It takes no memory.
+/// Reads a network text of either format (Dally and Towles, chapters 5 and 13). It takes no memory. Where the bytes are
+/// none: the first fault, the fields of a line from the left, and its line, counted from 1 (README, the table of WHY).
 ///
 /// `wormnet 1`, `radix 4`, `dims 2`, `depth 2`, `class data` and `end`, each line ended by a line feed, are a network
 /// of 16 nodes.

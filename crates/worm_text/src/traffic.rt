@@ -316,8 +316,9 @@ fn read_script(alloc: Global, bytes: &[u8], config: &Config) -> Result<Script, T
     read_entries(alloc, rest, config, nodes)
 }
 
-/// Reads a traffic text for a network that a network text says. `NoMemory`, at the line of an entry, where there was no
-/// room for it.
+/// Reads a traffic text for a network that a network text says: the configuration is one as `read_network` answers.
+/// `NoMemory`, at the line of an entry, where there was no room for it. Where the bytes are no such text: the first
+/// fault, the fields of a line from the left, and its line, counted from 1 (README, the table of WHY).
 ///
 /// `wormtraffic 1`, `send 0 0 5 data 17 18` and `end`, each line ended by a line feed, offer one packet of two words to
 /// node 0 in turn 0.

@@ -17,7 +17,7 @@ use worm_report::write_bytes;
 use worm_rows::{Row, Shape, read_report};
 use worm_text::{ReadFault, Why, read_network, read_text};
 
-/// The bytes that a text may have.
+/// The most bytes that a text may have: 64 MiB.
 pub const MOST_BYTES: usize = 67_108_864;
 
 /// What two accepted texts say.

@@ -131,8 +131,8 @@ fn words_in<'a>(matches: &ArgMatches<'a>) -> Words<'a>
     }
 }
 
-/// Reads the words, the program's name first: `NETWORK [--text]`, in any order, or `--help` or `--version`. Any other
-/// word is a fault of the words.
+/// Reads the words, the program's name first: `NETWORK [--text]`, in any order. `Asked` for `--help` and `--version`,
+/// `Words` where one is unknown or missing, `NoMemory` where there is none for the parser.
 pub fn read_words<'a>(alloc: Global, words: &'a [&'a str]) -> Result<Words<'a>, WordsFault>
     ensures said { IfOk result (Say (matches_of command (texts words.now))) }
     ensures faultless { OnOk result (fault_of command (texts words.now) ≡ []) }
