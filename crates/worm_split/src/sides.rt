@@ -243,9 +243,23 @@ impl Side {
     pub fn fetch(&mut self)
         ensures { self.new ≡ self.old }
     {
+        self.fetch_flits();
+        self.fetch_credits();
+    }
+
+    /// Looks for flits.
+    fn fetch_flits(&mut self)
+        ensures { self.new ≡ self.old }
+    {
         for port in 0..self.entering.len() {
             self.entering[port].fetch();
         }
+    }
+
+    /// Looks for credits.
+    fn fetch_credits(&mut self)
+        ensures { self.new ≡ self.old }
+    {
         for port in 0..self.leaving.len() {
             self.leaving[port].fetch();
         }
@@ -255,9 +269,23 @@ impl Side {
     pub fn flush<R: Wait>(&mut self, rt: &R)
         ensures { self.new ≡ self.old }
     {
+        self.flush_credits(rt);
+        self.flush_flits(rt);
+    }
+
+    /// Lets out the credits that were given.
+    fn flush_credits<R: Wait>(&mut self, rt: &R)
+        ensures { self.new ≡ self.old }
+    {
         for port in 0..self.entering.len() {
             self.entering[port].flush(rt);
         }
+    }
+
+    /// Lets out the flits that were sent.
+    fn flush_flits<R: Wait>(&mut self, rt: &R)
+        ensures { self.new ≡ self.old }
+    {
         for port in 0..self.leaving.len() {
             self.leaving[port].flush(rt);
         }

@@ -106,6 +106,14 @@ fn no_words_run_the_joined_input(rt: HostRuntime) {
     ends(&rt, rt.alloc(), &[], 0, "", A_HUNDRED_TURNS, "");
 }
 
+/// The name that the system gives may be no text: nothing of it is read.
+#[test]
+fn a_name_that_is_no_text(rt: HostRuntime) {
+    ends(&rt, rt.alloc(), &[b"jos\xe9/wormrun"], 0, "", A_HUNDRED_TURNS, "");
+    let words: &[&[u8]] = &[b"jos\xe9/wormrun", b"n", b"t", b"--turns", b"1"];
+    ends(&rt, rt.alloc(), words, 0, "n\nt\n", ONE_TURN, "");
+}
+
 /// The program on these words ends with this status, opens and says this, and prints nothing.
 fn fails(
     rt: &(impl Abort + Threads + Wait + Sync),

@@ -109,6 +109,14 @@ fn words_that_are_not_known(rt: HostRuntime) {
     refuses(&rt, rt.alloc(), &[b"wormview"], missing);
 }
 
+/// The name that the system gives may be no text: nothing of it is read.
+#[test]
+fn a_name_that_is_no_text(rt: HostRuntime) {
+    let words: &[&[u8]] = &[b"jos\xe9/wormview", b"n", b"--text"];
+    let desk = desk_with(rt.alloc(), words, REPORT);
+    ends(&rt, &desk, 0, "n\n", MAP, "");
+}
+
 /// Words of which one is no text.
 const NO_TEXTS: &[&[&[u8]]] = &[
     &[b"wormview", b"\xff", b"--text"],
