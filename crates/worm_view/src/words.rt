@@ -69,8 +69,8 @@ impl From<io::Error> for WordsFault {
     }
 }
 
-/// All words of the command line, behind the name `wormview`, whatever the system calls the program. `NotText` where one
-/// of them is not UTF-8, `NoMemory` where there is none for the list.
+/// All words of the command line, behind the name `wormview`, whatever the system calls the program. `NotText` where
+/// one of them is not UTF-8, `NoMemory` where there is none for the list.
 pub fn all_words<R: Env + AllocGlobal>(rt: &R) -> Result<Vec<String>, WordsFault>
     ensures { IfErr result IsNoList }
 {

@@ -15,15 +15,16 @@ loop-turn-init g c = record {
 
 pub stopped_by-requires : goal.stopped_by-requires
 stopped_by-requires g c =
-    λ same. turn_place (due c.loop-turn.turn c.args.orders.now.script.now) c.loop-turn.part c.turn.new.self (Some c.in-Err.fault)
-    c.in-Err.ensures.exact (ap (λ (f : StepFault). Some f) same)
+    λ same. turn_place (due c.loop-turn.turn c.args.orders.now.script.now) c.loop-turn.part c.turn.new.self
+    (Some c.in-Err.fault) c.in-Err.ensures.exact (ap (λ (f : StepFault). Some f) same)
 
 pub returns-in-Err : goal.returns-in-Err
 returns-in-Err g c =
     let told = c.in-Err.ensures in
     let before = c.loop-turn.invariant in
-    let pass = g.G.Gate.may_pass c.args.orders.now.gate.now in
-    stopped_at (g.G.Gate.may_stop c.args.orders.now.gate.now) pass c.args.orders.now.script.now c.args.orders.now.turns c.args.worker c.loop-turn.turn
+    let orders = c.args.orders.now in
+    let pass = g.G.Gate.may_pass orders.gate.now in
+    stopped_at (g.G.Gate.may_stop orders.gate.now) pass orders.script.now orders.turns c.args.worker c.loop-turn.turn
     c.args.part c.loop-turn.part c.turn.new.self c.in-Err.fault c.stopped_by.result (omega arith)
     (passes_more pass c.args.worker c.loop-turn.turn c.pass.result before.passed c.pass.ensures.goes (search rules))
     c.stopped_by.ensures before.turned record {
@@ -47,10 +48,11 @@ loop-turn-preserved g c =
 
 pub returns : goal.returns
 returns g c =
-    let all : c.loop-turn.turn ≡ c.args.orders.now.turns = omega arith in
+    let orders = c.args.orders.now in
+    let all : c.loop-turn.turn ≡ orders.turns = omega arith in
     let before = c.loop-turn.invariant in
     record {
       stops = refl;
-      passed = subst (λ (n : ℕ). MayPassBelow (g.G.Gate.may_pass c.args.orders.now.gate.now) c.args.worker n) all before.passed;
-      ends = subst (λ (n : ℕ). HasTurned c.args.orders.now.script.now n c.args.part c.loop-turn.part) all before.turned;
+      passed = subst (λ (n : ℕ). MayPassBelow (g.G.Gate.may_pass orders.gate.now) c.args.worker n) all before.passed;
+      ends = subst (λ (n : ℕ). HasTurned orders.script.now n c.args.part c.loop-turn.part) all before.turned;
     }
