@@ -1,6 +1,6 @@
-//! What travels through the network: flits, the packets that they are cut from, the words that links carry
-//! them as, and the channels that message classes own (Dally and Towles, chapters 12 and 13); and sets of
-//! small numbers, such as classes or ports.
+//! What travels through the network: flits, the packets that they are cut from, a flit as one word, and the
+//! channels that message classes own (Dally and Towles, chapters 12 and 13); and sets of small numbers, such
+//! as classes or ports.
 //!
 //! A packet is one `Single` flit, or a `Head`, any number of `Body` flits and a `Tail`; a mark that closes a
 //! lane is a packet of one `Close` flit. Each flit carries a stamp (its lane, its packet's number in the lane,
