@@ -9,7 +9,7 @@ ghost use Rattle.worm_run.specs.Runs.{FailsAs, HasRooms, HasWorkers, IsEndOf, Ra
 use crate::gate::Gate;
 use crate::pace::Pace;
 use crate::plan::{RunEnd, RunFault, RunPlan, Stop, StopWhy};
-use crate::working::{Orders, Worked, WorksAs, work};
+use crate::working::{Worked, WorksAs, work};
 use std::alloc::{AllocError, Global};
 use std::snapshot::Snapshot;
 use std::sync::Wait;
@@ -60,12 +60,17 @@ struct Ran {
 fn start<'s, E, R: Threads + Wait + Sync, G: Gate + Sync>(
     scope: &Scope<'s, E>,
     rt: &'s R,
-    orders: &'s Orders<'s, G>,
+    script: &'s Script,
+    turns: u64,
+    gate: &'s G,
+    pace: &'s Pace,
     parts: &mut Vec<Part>,
 ) -> Result<PromisedHandle<Worked, WorksAs<'s, G>>, usize>
     requires { 0 < vec_len parts.old }
     ensures taken { IfOk result (λ child. parts.old.items ≡ parts.new.items ++ child.promise.part.value ∷ []) }
-    ensures orders { IfOk result (λ child. child.promise.orders.now ≡ orders.now) }
+    ensures script { IfOk result (λ child. child.promise.script.now ≡ script.now) }
+    ensures turns { IfOk result (λ child. child.promise.turns ≡ turns) }
+    ensures gate { IfOk result (λ child. child.promise.gate.now ≡ gate.now) }
     ensures worker { IfOk result (λ child. child.promise.worker ≡ vec_len parts.new) }
     ensures fewer { vec_len parts.new + 1 ≡ vec_len parts.old }
     ensures refused { IfErr result (λ w. w < vec_len parts.old) }
@@ -76,11 +81,16 @@ fn start<'s, E, R: Threads + Wait + Sync, G: Gate + Sync>(
     };
     let worker = parts.len();
     let promise = WorksAs {
-        orders,
+        script,
+        turns,
+        gate,
         worker,
         part: Snapshot::of(&part),
     };
-    match scope.spawn_with(promise, move || work(rt, part, worker, orders)) {
+    match scope.spawn_with(
+        promise,
+        move || work(rt, part, worker, turns, script, gate, pace),
+    ) {
         Ok(child) => Ok(child),
         Err(_) => Err(worker),
     }
@@ -95,9 +105,9 @@ fn collect<'s, R: Threads, G: Gate>(
 )
     requires { vec_len done.old < vec_capacity done.old }
     ensures worked { (worked : Worked) × (done.new.items ≡ done.old.items ++ worked ∷ []) ×
-        WorkedAs (G.may_stop child.entry.promise.orders.now.gate.now)
-        (G.may_pass child.entry.promise.orders.now.gate.now) child.entry.promise.orders.now.script.now
-        child.entry.promise.orders.now.turns child.entry.promise.worker child.entry.promise.part.value worked }
+        WorkedAs (G.may_stop child.entry.promise.gate.now) (G.may_pass child.entry.promise.gate.now)
+        child.entry.promise.script.now child.entry.promise.turns child.entry.promise.worker
+        child.entry.promise.part.value worked }
     ensures len { vec_len done.new ≡ vec_len done.old + 1 }
     ensures room { vec_capacity done.old ≤ vec_capacity done.new }
 {
@@ -110,15 +120,17 @@ fn collect<'s, R: Threads, G: Gate>(
 fn run_parts<'s, E, R: Threads + Wait + Sync, G: Gate + Sync>(
     scope: &Scope<'s, E>,
     rt: &'s R,
-    orders: &'s Orders<'s, G>,
+    script: &'s Script,
+    turns: u64,
+    gate: &'s G,
+    pace: &'s Pace,
     parts: &mut Vec<Part>,
     done: &mut Vec<Worked>,
 ) -> Result<(), usize>
     requires empty { vec_len done.old ≡ 0 }
     requires room { vec_len parts.old ≤ vec_capacity done.old }
     ensures worked { OnOk result
-        (AllWorked (G.may_stop orders.now.gate.now) (G.may_pass orders.now.gate.now) orders.now.script.now
-        orders.now.turns 0 parts.old.items done.new.items) }
+        (AllWorked (G.may_stop gate.now) (G.may_pass gate.now) script.now turns 0 parts.old.items done.new.items) }
     ensures all { OnOk result (vec_len done.new ≡ vec_len parts.old) }
     ensures taken { OnOk result (vec_len parts.new ≡ 0) }
     ensures refused { IfErr result (λ w. w < vec_len parts.old) }
@@ -128,8 +140,8 @@ fn run_parts<'s, E, R: Threads + Wait + Sync, G: Gate + Sync>(
     if parts.is_empty() {
         return Ok(());
     }
-    let child = start(scope, rt, orders, parts)?;
-    run_parts(scope, rt, orders, parts, done)?;
+    let child = start(scope, rt, script, turns, gate, pace, parts)?;
+    run_parts(scope, rt, script, turns, gate, pace, parts, done)?;
     collect(rt, child, done);
     Ok(())
 }
@@ -189,13 +201,15 @@ fn gather(done: Vec<Worked>, mut parts: Vec<Part>, mut stops: Vec<Stop>, mut end
 fn run_scoped<'s, E, R: Threads + Wait + Sync, G: Gate + Sync>(
     scope: &Scope<'s, E>,
     rt: &'s R,
-    orders: &'s Orders<'s, G>,
+    script: &'s Script,
+    turns: u64,
+    gate: &'s G,
+    pace: &'s Pace,
     mut parts: Vec<Part>,
     rooms: Rooms,
 ) -> Result<Ran, usize>
     requires { HasRooms (vec_len parts) rooms }
-    ensures ran { IfOk result (RanAs (G.may_stop orders.now.gate.now) (G.may_pass orders.now.gate.now)
-        orders.now.script.now orders.now.turns parts.items) }
+    ensures ran { IfOk result (RanAs (G.may_stop gate.now) (G.may_pass gate.now) script.now turns parts.items) }
     ensures refused { IfErr result (λ w. w < vec_len parts) }
 {
     let Rooms {
@@ -203,20 +217,22 @@ fn run_scoped<'s, E, R: Threads + Wait + Sync, G: Gate + Sync>(
         stops,
         ended,
     } = rooms;
-    run_parts(scope, rt, orders, &mut parts, &mut done)?;
+    run_parts(scope, rt, script, turns, gate, pace, &mut parts, &mut done)?;
     Ok(gather(done, parts, stops, ended))
 }
 
-/// Runs each part by a worker of its own.
+/// Runs each part by a worker of its own, up to so many turns.
 fn run_all<R: Threads + Wait + Sync, G: Gate + Sync>(
     rt: &R,
-    orders: &Orders<'_, G>,
+    script: &Script,
+    turns: u64,
+    gate: &G,
+    pace: &Pace,
     parts: Vec<Part>,
     rooms: Rooms,
 ) -> Result<Ran, usize>
     requires { HasRooms (vec_len parts) rooms }
-    ensures ran { IfOk result (RanAs (G.may_stop orders.now.gate.now) (G.may_pass orders.now.gate.now)
-        orders.now.script.now orders.now.turns parts.items) }
+    ensures ran { IfOk result (RanAs (G.may_stop gate.now) (G.may_pass gate.now) script.now turns parts.items) }
     ensures refused { IfErr result (λ w. w < vec_len parts) }
 {
     thread::scope(
@@ -224,10 +240,10 @@ fn run_all<R: Threads + Wait + Sync, G: Gate + Sync>(
         rt,
         move |scope| -> Result<Ran, usize>
             requires { HasRooms (vec_len parts) rooms }
-            ensures ran { IfOk result (RanAs (G.may_stop orders.entry.now.gate.now)
-                (G.may_pass orders.entry.now.gate.now) orders.entry.now.script.now orders.entry.now.turns parts.items) }
+            ensures ran { IfOk result
+                (RanAs (G.may_stop gate.entry.now) (G.may_pass gate.entry.now) script.entry.now turns parts.items) }
             ensures refused { IfErr result (λ w. w < vec_len parts) }
-        { run_scoped(scope, rt, orders, parts, rooms) },
+        { run_scoped(scope, rt, script, turns, gate, pace, parts, rooms) },
     )
 }
 
@@ -270,13 +286,7 @@ pub fn run<R: Threads + Wait + Sync, G: Gate + Sync>(
         Ok(parts) => parts,
         Err((net, _no_memory)) => return Err(RunFault::NoMemory(net)),
     };
-    let orders = Orders {
-        script,
-        turns: plan.turns,
-        gate,
-        pace: &pace,
-    };
-    match run_all(rt, &orders, parts, rooms) {
+    match run_all(rt, script, plan.turns, gate, &pace, parts, rooms) {
         Ok(ran) => {
             let Ran {
                 parts,

@@ -24,23 +24,14 @@ pub struct Worked {
     pub stop: Option<StopWhy>,
 }
 
-/// What all workers of a run are told, lent to each of them.
-#[derive(Drop)]
-pub struct Orders<'a, G> {
-    /// What their sources are asked.
-    pub script: &'a Script,
-    /// How many turns each may take.
-    pub turns: u64,
-    /// What each asks before each of its turns.
-    pub gate: &'a G,
-    /// How far each of them is.
-    pub pace: &'a Pace,
-}
-
 /// A worker's promise: what it gives back is this part after turns by these orders.
 pub struct WorksAs<'a, G> {
-    /// What it is told.
-    pub orders: &'a Orders<'a, G>,
+    /// What its sources are asked.
+    pub script: &'a Script,
+    /// How many turns it may take.
+    pub turns: u64,
+    /// What it asks before each turn.
+    pub gate: &'a G,
     /// Its number.
     pub worker: usize,
     /// The part that it takes.
@@ -50,7 +41,9 @@ pub struct WorksAs<'a, G> {
 impl<'a, G> Drop for WorksAs<'a, G> {
     fn drop(self) {
         let WorksAs {
-            orders: _,
+            script: _,
+            turns: _,
+            gate: _,
             worker: _,
             part: _,
         } = self;
@@ -59,8 +52,7 @@ impl<'a, G> Drop for WorksAs<'a, G> {
 
 impl<'a, G: Gate> Promise<Worked> for WorksAs<'a, G> {
     ghost kept_by = { λ p w.
-        WorkedAs (G.may_stop p.orders.now.gate.now) (G.may_pass p.orders.now.gate.now) p.orders.now.script.now
-        p.orders.now.turns p.worker p.part.value w };
+        WorkedAs (G.may_stop p.gate.now) (G.may_pass p.gate.now) p.script.now p.turns p.worker p.part.value w };
 }
 
 /// The stop that a turn's fault is.
@@ -82,36 +74,38 @@ pub fn work<R: Wait, G: Gate>(
     rt: &R,
     mut part: Part,
     worker: usize,
-    orders: &Orders<'_, G>,
+    turns: u64,
+    script: &Script,
+    gate: &G,
+    pace: &Pace,
 ) -> Worked
-    ensures { WorkedAs (G.may_stop orders.now.gate.now) (G.may_pass orders.now.gate.now) orders.now.script.now
-        orders.now.turns worker part result }
+    ensures { WorkedAs (G.may_stop gate.now) (G.may_pass gate.now) script.now turns worker part result }
 {
-    orders.script.recall();
-    let mut beside = Beside::new(orders.pace, worker);
-    for turn in 0..orders.turns {
+    script.recall();
+    let mut beside = Beside::new(pace, worker);
+    for turn in 0..turns {
         beside.wait(turn);
-        if !orders.gate.pass(worker, turn) {
-            orders.pace.leave(worker);
+        if !gate.pass(worker, turn) {
+            pace.leave(worker);
             return Worked {
                 part,
                 ended: turn,
                 stop: Some(StopWhy::Gate),
             };
         }
-        if let Err(fault) = part.turn(rt, turn, orders.script) {
-            orders.pace.leave(worker);
+        if let Err(fault) = part.turn(rt, turn, script) {
+            pace.leave(worker);
             return Worked {
                 part,
                 ended: turn,
                 stop: Some(stopped_by(fault)),
             };
         }
-        orders.pace.tell(worker, turn + 1);
+        pace.tell(worker, turn + 1);
     }
     Worked {
         part,
-        ended: orders.turns,
+        ended: turns,
         stop: None,
     }
 }

@@ -21,11 +21,11 @@ mod words;
 
 pub use fault::ViewFault;
 pub use program::{Accepted, accept, run_view};
-pub use words::{Words, WordsFault, all_words, read_words};
 use std::alloc::Global;
 use std::process::ExitCode;
 use std::rt::{Env, Files};
 use std::{fs, io};
+pub use words::{Words, WordsFault, all_words, read_words};
 
 /// Opens the file of the network, and draws the report on the standard input.
 fn run_file<R: Files + Input + Print + AllocGlobal>(

@@ -109,7 +109,15 @@ fn no_words_run_the_joined_input(rt: HostRuntime) {
 /// The name that the system gives may be no text: nothing of it is read.
 #[test]
 fn a_name_that_is_no_text(rt: HostRuntime) {
-    ends(&rt, rt.alloc(), &[b"jos\xe9/wormrun"], 0, "", A_HUNDRED_TURNS, "");
+    ends(
+        &rt,
+        rt.alloc(),
+        &[b"jos\xe9/wormrun"],
+        0,
+        "",
+        A_HUNDRED_TURNS,
+        "",
+    );
     let words: &[&[u8]] = &[b"jos\xe9/wormrun", b"n", b"t", b"--turns", b"1"];
     ends(&rt, rt.alloc(), words, 0, "n\nt\n", ONE_TURN, "");
 }

@@ -6,20 +6,19 @@ use Rattle.worm_run.proofs.running.+run_parts.Goals as goal
 
 pub returns-clause-worked : goal.returns-clause-worked
 returns-clause-worked g t c =
-    let stop = g.G.Gate.may_stop c.args.orders.now.gate.now in
-    let pass = g.G.Gate.may_pass c.args.orders.now.gate.now in
-    let script = c.args.orders.now.script.now in
-    let turns = c.args.orders.now.turns in
+    let stop = g.G.Gate.may_stop c.args.gate.now in
+    let pass = g.G.Gate.may_pass c.args.gate.now in
+    let script = c.args.script.now in
     let promise = c.in_ok-child.child.promise in
     let told = c.in_ok-child.ensures in
     let others = c.start.new.parts.items in
     let back : (worked : Worked) × (c.collect.new.done.items ≡ c.run_parts.new.done.items ++ worked ∷ [])
-    × WorkedAs (g.G.Gate.may_stop promise.orders.now.gate.now) (g.G.Gate.may_pass promise.orders.now.gate.now)
-    promise.orders.now.script.now promise.orders.now.turns promise.worker promise.part.value worked
+    × WorkedAs (g.G.Gate.may_stop promise.gate.now) (g.G.Gate.may_pass promise.gate.now) promise.script.now
+    promise.turns promise.worker promise.part.value worked
     = c.collect.ensures.worked in
-    let kept : WorkedAs stop pass script turns promise.worker promise.part.value back.0
-    = rw told.orders at back.2 in
+    let kept : WorkedAs stop pass script c.args.turns promise.worker promise.part.value back.0
+    = rw (told.gate, told.script, told.turns) at back.2 in
     let last : promise.worker ≡ 0 + length others = search rules in
     rw (told.taken, back.1)
-    (AllWorked-snoc stop pass script turns 0 promise.worker others c.run_parts.new.done.items
+    (AllWorked-snoc stop pass script c.args.turns 0 promise.worker others c.run_parts.new.done.items
     promise.part.value back.0 last c.in_ok-run_parts.ensures.worked kept)

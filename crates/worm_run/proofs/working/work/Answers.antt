@@ -9,22 +9,21 @@ use Rattle.worm_run.proofs.working.work.Goals as goal
 
 pub loop-turn-init : goal.loop-turn-init
 loop-turn-init g c = record {
-  turned = turned-none c.args.orders.now.script.now c.args.part;
+  turned = turned-none c.args.script.now c.args.part;
   passed = λ turn below. absurd (omega arith);
 }
 
 pub stopped_by-requires : goal.stopped_by-requires
 stopped_by-requires g c =
-    λ same. turn_place (due c.loop-turn.turn c.args.orders.now.script.now) c.loop-turn.part c.turn.new.self
-    (Some c.in-Err.fault) c.in-Err.ensures.exact (ap (λ (f : StepFault). Some f) same)
+    λ same. turn_place (due c.loop-turn.turn c.args.script.now) c.loop-turn.part c.turn.new.self (Some c.in-Err.fault)
+    c.in-Err.ensures.exact (ap (λ (f : StepFault). Some f) same)
 
 pub returns-in-Err : goal.returns-in-Err
 returns-in-Err g c =
     let told = c.in-Err.ensures in
     let before = c.loop-turn.invariant in
-    let orders = c.args.orders.now in
-    let pass = g.G.Gate.may_pass orders.gate.now in
-    stopped_at (g.G.Gate.may_stop orders.gate.now) pass orders.script.now orders.turns c.args.worker c.loop-turn.turn
+    let pass = g.G.Gate.may_pass c.args.gate.now in
+    stopped_at (g.G.Gate.may_stop c.args.gate.now) pass c.args.script.now c.args.turns c.args.worker c.loop-turn.turn
     c.args.part c.loop-turn.part c.turn.new.self c.in-Err.fault c.stopped_by.result (omega arith)
     (passes_more pass c.args.worker c.loop-turn.turn c.pass.result before.passed c.pass.ensures.goes (search rules))
     c.stopped_by.ensures before.turned record {
@@ -40,19 +39,18 @@ loop-turn-preserved g c =
     let told = c.in_default.ensures in
     let before = c.loop-turn.invariant in
     record {
-      turned = turned-more c.args.orders.now.script.now c.loop-turn.turn c.recall.ensures c.args.part
+      turned = turned-more c.args.script.now c.loop-turn.turn c.recall.ensures c.args.part
           c.loop-turn.part c.turn.new.self before.turned told.exact told.same told.sources told.sinks;
-      passed = passes_more (g.G.Gate.may_pass c.args.orders.now.gate.now) c.args.worker c.loop-turn.turn c.pass.result
+      passed = passes_more (g.G.Gate.may_pass c.args.gate.now) c.args.worker c.loop-turn.turn c.pass.result
           before.passed c.pass.ensures.goes (search rules);
     }
 
 pub returns : goal.returns
 returns g c =
-    let orders = c.args.orders.now in
-    let all : c.loop-turn.turn ≡ orders.turns = omega arith in
+    let all : c.loop-turn.turn ≡ c.args.turns = omega arith in
     let before = c.loop-turn.invariant in
     record {
       stops = refl;
-      passed = subst (λ (n : ℕ). MayPassBelow (g.G.Gate.may_pass orders.gate.now) c.args.worker n) all before.passed;
-      ends = subst (λ (n : ℕ). HasTurned orders.script.now n c.args.part c.loop-turn.part) all before.turned;
+      passed = subst (λ (n : ℕ). MayPassBelow (g.G.Gate.may_pass c.args.gate.now) c.args.worker n) all before.passed;
+      ends = subst (λ (n : ℕ). HasTurned c.args.script.now n c.args.part c.loop-turn.part) all before.turned;
     }
