@@ -39,13 +39,14 @@ pub struct BundleCfg {
     pub owners: [u8; 8],
 }
 
-/// A flit, and the node whose link it crosses.
+/// A flit, and the node whose link it crosses. The flit stands first: behind the node it would be copied as two words
+/// that overlap, which a processor cannot forward to who reads it next.
 #[derive(Clone, Copy, PartialEq, Eq, Debug)]
 pub struct Carried {
-    /// The node that the link leaves.
-    pub node: u8,
     /// What crosses it.
     pub flit: Flit,
+    /// The node that the link leaves.
+    pub node: u8,
 }
 
 /// A credit, and the node whose link it is for.
@@ -57,7 +58,7 @@ pub struct Returned {
     pub vc: u8,
 }
 
-/// What an unused place of a batch holds.
+/// What an unused place of a batch holds: all its bytes are zero, so that a whole batch is cleared at once.
 impl Default for Carried {
     fn default() -> Carried {
         let lane = Lane {
@@ -66,15 +67,15 @@ impl Default for Carried {
             class: 0,
         };
         Carried {
-            node: 0,
             flit: Flit {
                 lane,
                 packet: 0,
                 index: 0,
-                kind: Kind::Single,
+                kind: Kind::Head,
                 vc: 0,
                 word: 0,
             },
+            node: 0,
         }
     }
 }

@@ -72,20 +72,21 @@ impl VcRequests {
         ensures { result ≡ cell self.now port vc None }
     {
         if self.waiting.contains(port, vc) {
-            Some(self.request(port, vc))
+            Some(*self.request(port, vc))
         } else {
             None
         }
     }
 
-    /// What an input channel that waits is waiting for.
-    pub(crate) fn request(&self, port: u8, vc: u8) -> VcRequest
+    /// What an input channel that waits is waiting for: where it lies, so that a pass reads its port and its channels
+    /// one by one. Both at once would be read right behind two stores of a byte each, which a processor cannot forward.
+    pub(crate) fn request(&self, port: u8, vc: u8) -> &VcRequest
         requires port { port < 7 }
         requires vc { vc < 8 }
         requires waits { is_some (cell self.now port vc None) ≡ true }
-        ensures { Some result ≡ cell self.now port vc None }
+        ensures { Some result.now ≡ cell self.now port vc None }
     {
-        self.table.rows[port as usize][vc as usize]
+        &self.table.rows[port as usize][vc as usize]
     }
 
     /// From now on the input channel waits for this. A request for a port or channel that the router does not have is

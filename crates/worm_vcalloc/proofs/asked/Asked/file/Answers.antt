@@ -21,17 +21,17 @@ loop-port-init c =
 -- one that the router hears is filed
 heard : (c : After-put-then-request-ports) (by_channel : List ℕ)
     → (1 < c.args.vcs → AreAllowed c.loop-port.self.by_channel by_channel c.in-Some.port c.in-Some.vc
-    c.request-request.result.allowed)
+    c.request-request.result.now.allowed)
     → AreFiledBut c.args.waiting.now c.args.ports c.args.vcs c.pop_first.new.self (record {
-      by_port = slice_set c.loop-port.self.by_port c.request-request.result.out c.put.new.self;
+      by_port = slice_set c.loop-port.self.by_port c.request-request.result.now.out c.put.new.self;
       by_channel = by_channel;
       ports = c.put-then-request-ports.new.self;
     })
 heard c by_channel allowed =
-    let long : c.request-request.result.out < length c.loop-port.self.by_port =
+    let long : c.request-request.result.now.out < length c.loop-port.self.by_port =
     omega (arith, c.if-request-ports.true) in
     filed_for c.args.waiting.now c.args.ports c.args.vcs c.loop-port.left c.pop_first.new.self c.in-Some.port
-    c.in-Some.vc _ c.put.new.self c.put-then-request-ports.new.self by_channel c.request-request.result
+    c.in-Some.vc _ c.put.new.self c.put-then-request-ports.new.self by_channel c.request-request.result.now
     c.loop-port.self _ c.loop-port.invariant c.in-Some.ensures (sym c.request-request.ensures) c.requires.few_ports
     c.if-port-ports.true c.if-vc-vcs.true c.if-request-ports.true long
     (ap (λ t. nat_lt 1 c.args.vcs || t) (c.contains.ensures
@@ -51,7 +51,7 @@ loop-port-preserved-else-vcs-gt1 c =
 pub loop-port-preserved : goal.loop-port-preserved
 loop-port-preserved c =
     let foreign : c.in-Some.port < c.args.ports → c.in-Some.vc < c.args.vcs
-    → c.request-request.result.out < c.args.ports → ⊥ =
+    → c.request-request.result.now.out < c.args.ports → ⊥ =
     λ lp lv lo. elim c.else-port-ports.branch [
       | else-port-ports-via-then-port-ports+then-vc-vcs+else-request-ports w ↦
           omega (arith, lo, w.if-request-ports.false)
@@ -60,7 +60,7 @@ loop-port-preserved c =
     ] in
     filed_nowhere c.args.waiting.now c.args.ports c.args.vcs c.loop-port.left c.pop_first.new.self c.in-Some.port
     c.in-Some.vc c.loop-port.self c.loop-port.invariant c.in-Some.ensures
-    (heard_none c.args.waiting.now c.args.ports c.args.vcs c.in-Some.port c.in-Some.vc c.request-request.result
+    (heard_none c.args.waiting.now c.args.ports c.args.vcs c.in-Some.port c.in-Some.vc c.request-request.result.now
     foreign (sym c.request-request.ensures))
 
 pub returns : goal.returns
