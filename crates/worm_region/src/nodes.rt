@@ -141,6 +141,14 @@ impl Nodes {
         self.resting[usize::from(node)]
     }
 
+    /// The node is not known to rest any more.
+    #[inline(always)]
+    pub fn wake(&mut self, node: u8)
+        ensures { self.new ≡ self.old }
+    {
+        self.resting[usize::from(node)] = false;
+    }
+
     /// Keeps it that the node rests, until it changes.
     pub fn keep_resting(&mut self, node: u8)
         requires { IsResting (nth_node self.old node) }

@@ -15,6 +15,15 @@ use super::Region;
 use worm_flit::Flit;
 
 impl Region {
+    /// The node is not known to rest any more. A send marks it so; where that is done before `next_out`, a send that
+    /// follows finds it done, and need not read the router anew.
+    #[inline(always)]
+    pub fn wake(&mut self, node: u8)
+        ensures { self.new ≡ self.old }
+    {
+        self.fabric.nodes.wake(node);
+    }
+
     /// By which port the front flit of a channel that may send leaves, and as which flit. Whoever was granted the
     /// switch may send, and is not asked again.
     #[inline(always)]
