@@ -98,8 +98,13 @@ impl Outlet {
         ensures awaited { IfSome result (λ r. AwaitsCredit region.now r.node port) }
     {
         let (_tx, back) = self.ends.as_mut()?;
-        back.fetch_behind_full();
-        let next = back.front()?;
+        let next = match back.front() {
+            Some(next) => next,
+            None => {
+                back.fetch_behind_full();
+                back.front()?
+            }
+        };
         if !awaits_credit(region, next.node, port) {
             return None;
         }
@@ -153,8 +158,13 @@ impl Inlet {
         ensures awaited { IfSome result (λ c. AwaitsFlit region.now c.node out) }
     {
         let (rx, _give) = self.ends.as_mut()?;
-        rx.fetch_behind_full();
-        let next = rx.front()?;
+        let next = match rx.front() {
+            Some(next) => next,
+            None => {
+                rx.fetch_behind_full();
+                rx.front()?
+            }
+        };
         if !awaits_flit(region, next.node, out) {
             return None;
         }

@@ -161,6 +161,14 @@ impl Part {
         tried(self.region.send_next(node, port, vc))
     }
 
+    /// The node is not known to rest any more, so that a send within the part need not read its router anew.
+    fn wake(&mut self, node: u8)
+        ensures { self.new ≡ self.old }
+    {
+        self.region.recall();
+        self.region.wake(node);
+    }
+
     /// Lets a granted channel send, over a link to another worker or within the part; what may leave any other channel
     /// of the node may leave it still. `NoMemory` where its flit is for the sink and there is none for it there.
     fn send<R: Wait>(&mut self, rt: &R, node: u8, port: u8, vc: u8) -> Result<(), StepFault>
@@ -171,6 +179,7 @@ impl Part {
         ensures others { OthersMaySend self.old.net node port vc self.new.net }
         ensures same { IsSamePart self.old self.new }
     {
+        self.wake(node);
         let (out, flit) = self.region.next_out(node, port, vc);
         if !self.side.leaves(out) {
             return self.send_within(node, port, vc);

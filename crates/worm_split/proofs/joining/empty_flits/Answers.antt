@@ -5,17 +5,17 @@ use Rattle.worm_wires.specs.Links.{LinkView}
 use Rattle.worm_split.proofs.Emptying.{begun, further_onto, further_past}
 use Rattle.worm_split.proofs.joining.empty_flits.Goals as goal
 
-pub loop-node-init : goal.loop-node-init
-loop-node-init g c =
+pub loop-flit-init : goal.loop-flit-init
+loop-flit-init g c =
     let ends = c.reunite-ends.result in
     let made = c.reunite-ends.ensures in
     begun (λ (d : Carried). d.node) (λ (d : Carried). d.flit) (λ (l : LinkView). l.flits)
     (λ (l : LinkView). l.credits) c.args.span.now c.args.tx.sent c.args.rx.taken ends.sent ends.taken
     c.args.links.now.items (ap (λ (v : EndsView). v.sent) made) (ap (λ (v : EndsView). v.taken) made)
 
-pub loop-node-preserved-in-Some-number : goal.loop-node-preserved-in-Some-number
-loop-node-preserved-in-Some-number g c =
-    let s = c.loop-node in
+pub loop-flit-preserved-in-Some-number : goal.loop-flit-preserved-in-Some-number
+loop-flit-preserved-in-Some-number g c =
+    let s = c.loop-flit in
     let so_far = s.invariant in
     let found = c.in-Some-number.ensures in
     let popped = c.in-Some.ensures.taken in
@@ -33,9 +33,9 @@ loop-node-preserved-in-Some-number g c =
     found.value.0 (k_at ∙ found.value.1) there c.index_mut.ensures.value c.put_behind.ensures.fits
     c.put_behind.ensures.full
 
-pub loop-node-preserved : goal.loop-node-preserved
-loop-node-preserved g c =
-    let s = c.loop-node in
+pub loop-flit-preserved : goal.loop-flit-preserved
+loop-flit-preserved g c =
+    let s = c.loop-flit in
     let popped = c.in-Some.ensures.taken in
     let after = c.pop_rest.new.self in
     further_past (λ (d : Carried). d.node) (λ (d : Carried). d.flit) (λ (l : LinkView). l.flits)
