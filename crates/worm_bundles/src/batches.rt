@@ -353,7 +353,7 @@ impl<X: Copy + Default, const N: usize, H: Carriage<X>> Taker<X, N, H> {
         ensures { self.new ≡ record self.old { ahead = self.new.ahead } }
     {
         if let Some(batch) = self.line.try_pop_as::<Takes<H>>(&mut self.pass) {
-            self.hand.fill(batch);
+            self.hand = Hand::of(batch);
         }
     }
 

@@ -41,16 +41,6 @@ impl<X: Copy + Default, const N: usize> Hand<X, N> {
         Hand { batch, next: 0 }
     }
 
-    /// The whole batch comes to hand, in place of what was there. It is moved once: as a hand of its own it would be
-    /// copied twice.
-    pub fn fill(&mut self, batch: ArrayVec<X, N>)
-        ensures gone { self.new.gone ≡ [] }
-        ensures ahead { self.new.ahead ≡ batch.items }
-    {
-        self.batch = batch;
-        self.next = 0;
-    }
-
     /// Whether nothing is ahead.
     pub fn is_empty(&self) -> bool
         ensures { result ≡ (length self.now.ahead == 0) }
