@@ -333,16 +333,19 @@ impl<X: Copy + Default, const N: usize, H: Carriage<X>> Taker<X, N, H> {
         }
     }
 
-    /// Behind a full batch that was taken, the next batch of the queue comes to hand, if it holds one. Behind one that
-    /// was not full it looks for none: a sender flushes once a turn, so one seldom stands there, and a look costs both
-    /// threads a cache line.
-    pub fn fetch_behind_full(&mut self)
+    /// The next item at hand. Behind a full batch that was taken, the next batch of the queue comes to hand first, if it
+    /// holds one. Behind one that was not full it looks for none: a sender flushes once a turn, so one seldom stands
+    /// there, and a look costs both threads a cache line.
+    pub fn peek(&mut self) -> Option<X>
         ensures others { self.new ≡ record self.old { ahead = self.new.ahead } }
         ensures kept { 0 < length self.old.ahead → self.new ≡ self.old }
+        ensures value { result ≡ slice_get self.new.ahead 0 }
+        ensures variant { IsSome result ↔ (0 < length self.new.ahead) }
     {
         if self.hand.is_empty() && self.hand.was_full() {
             self.refill();
         }
+        self.hand.front()
     }
 
     /// The next batch of the queue comes to hand, if it holds one. It stands apart: a call that it were part of would
@@ -355,14 +358,6 @@ impl<X: Copy + Default, const N: usize, H: Carriage<X>> Taker<X, N, H> {
         if let Some(batch) = self.line.try_pop_as::<Takes<H>>(&mut self.pass) {
             self.hand = Hand::of(batch);
         }
-    }
-
-    /// The next item at hand.
-    pub fn front(&self) -> Option<X>
-        ensures value { result ≡ slice_get self.now.ahead 0 }
-        ensures variant { IsSome result ↔ (0 < length self.now.ahead) }
-    {
-        self.hand.front()
     }
 
     /// Takes the next item at hand.

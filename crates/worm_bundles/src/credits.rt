@@ -35,7 +35,7 @@ impl Carriage<Returned> for Credits {
 /// assert_eq!(rt; tx.push(&rt, 3, 0), Ok(()));
 /// tx.flush(&rt);
 /// rx.fetch();
-/// assert_eq!(rt; rx.front(), Some(Returned { node: 3, vc: 0 }));
+/// assert_eq!(rt; rx.peek(), Some(Returned { node: 3, vc: 0 }));
 /// ```
 #[derive(Drop)]
 pub struct CreditTx {
@@ -59,7 +59,7 @@ impl Model for CreditTx {
 ///
 /// ```
 /// rx.fetch();
-/// while rx.front().is_some() {
+/// while rx.peek().is_some() {
 ///     let Returned { node, vc } = rx.take();
 ///     credits.put(node, vc);
 ///     rx.fetch();
@@ -186,22 +186,16 @@ impl CreditRx {
         self.end.fetch();
     }
 
-    /// Behind a full batch that was taken, takes the next batch off the queue, if one stands in it. Behind one that was
-    /// not full it looks for none: a sender flushes once a turn, so one seldom stands there, and a look costs both
-    /// threads a cache line.
-    pub fn fetch_behind_full(&mut self)
+    /// The next credit at hand; `None` where nothing is at hand. Behind a full batch that was taken, the next batch of the
+    /// queue comes to hand first, if one stands in it. Behind one that was not full it looks for none: a sender flushes
+    /// once a turn, so one seldom stands there, and a look costs both threads a cache line.
+    pub fn peek(&mut self) -> Option<Returned>
         ensures others { self.new ≡ record self.old { ahead = self.new.ahead } }
         ensures kept { 0 < length self.old.ahead → self.new ≡ self.old }
+        ensures value { result ≡ slice_get self.new.ahead 0 }
+        ensures variant { IsSome result ↔ (0 < length self.new.ahead) }
     {
-        self.end.fetch_behind_full();
-    }
-
-    /// The next credit at hand; `None` where nothing is at hand.
-    pub fn front(&self) -> Option<Returned>
-        ensures value { result ≡ slice_get self.now.ahead 0 }
-        ensures variant { IsSome result ↔ (0 < length self.now.ahead) }
-    {
-        self.end.front()
+        self.end.peek()
     }
 
     /// Takes the next credit at hand, which is for a channel of its link.

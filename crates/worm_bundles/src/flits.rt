@@ -39,7 +39,7 @@ impl Carriage<Carried> for Flits {
 /// assert_eq!(rt; tx.push(&rt, 3, flit), Ok(()));
 /// tx.flush(&rt);
 /// rx.fetch();
-/// assert_eq!(rt; rx.front(), Some(Carried { node: 3, flit }));
+/// assert_eq!(rt; rx.peek(), Some(Carried { node: 3, flit }));
 /// ```
 #[derive(Drop)]
 pub struct FlitTx {
@@ -68,7 +68,7 @@ impl Model for FlitTx {
 ///
 /// ```
 /// rx.fetch();
-/// while rx.front().is_some() {
+/// while rx.peek().is_some() {
 ///     carried.push(rx.take())?;
 ///     rx.fetch();
 /// }
@@ -236,22 +236,16 @@ impl FlitRx {
         self.end.fetch();
     }
 
-    /// Behind a full batch that was taken, takes the next batch off the queue, if one stands in it. Behind one that was
-    /// not full it looks for none: a sender flushes once a turn, so one seldom stands there, and a look costs both
-    /// threads a cache line.
-    pub fn fetch_behind_full(&mut self)
+    /// The next flit at hand; `None` where nothing is at hand. Behind a full batch that was taken, the next batch of the
+    /// queue comes to hand first, if one stands in it. Behind one that was not full it looks for none: a sender flushes
+    /// once a turn, so one seldom stands there, and a look costs both threads a cache line.
+    pub fn peek(&mut self) -> Option<Carried>
         ensures others { self.new ≡ record self.old { ahead = self.new.ahead } }
         ensures kept { 0 < length self.old.ahead → self.new ≡ self.old }
+        ensures value { result ≡ slice_get self.new.ahead 0 }
+        ensures variant { IsSome result ↔ (0 < length self.new.ahead) }
     {
-        self.end.fetch_behind_full();
-    }
-
-    /// The next flit at hand; `None` where nothing is at hand.
-    pub fn front(&self) -> Option<Carried>
-        ensures value { result ≡ slice_get self.now.ahead 0 }
-        ensures variant { IsSome result ↔ (0 < length self.now.ahead) }
-    {
-        self.end.front()
+        self.end.peek()
     }
 
     /// Takes the next flit at hand. It continues what was taken on its channel of its link and may cross that, as the

@@ -7,7 +7,7 @@ ghost use Rattle.worm_flit.specs.Channels.{AreChannels};
 ghost use Rattle.worm_region.specs.NewNet.{IsFresh};
 ghost use Rattle.worm_mesh.specs.Address.{AreRadices, node_count, neighbour_of};
 ghost use Rattle.worm_mesh.specs.Links.{link_count};
-ghost use Rattle.worm_router.specs.Router.{input_at, leaving, terminal};
+ghost use Rattle.worm_router.specs.Router.{after_route, can_route, input_at, leaving, terminal};
 ghost use Rattle.worm_region.specs.State.{IsNetPlace, link_at, node_at, router_at, sink_at, source_at, texts_of};
 ghost use Rattle.worm_region.specs.State.{with_node, with_router, with_source};
 ghost use Rattle.worm_region.specs.Moves.{CreditFits, FrontFits, LeavesByLink, Sends, after_getting, after_giving};
@@ -135,6 +135,20 @@ impl Fabric {
         }
         self.links.pop(node, port);
         true
+    }
+
+    /// The packet at the front of an input channel's buffer finds its output port (Dally and Towles, chapter 8).
+    pub(crate) fn route(&mut self, node: u8, port: u8, vc: u8) -> bool
+        requires place { IsNetPlace self.old node port vc }
+        requires mesh { (router_at self.old node).mesh ≡ self.old.mesh }
+        ensures enabled { result ≡ can_route (router_at self.old node) port vc }
+        ensures after { self.new ≡ (if result then with_router self.old node
+            (after_route (router_at self.old node) port vc) else self.old) }
+    {
+        let addresses = self.links.wiring().addresses();
+        self.nodes
+            .router_mut(node)
+            .route(port, vc, addresses)
     }
 
     /// Whether the flit that is ready at this place is at home. The buffer is asked: were the flit itself read in part,

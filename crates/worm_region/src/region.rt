@@ -296,7 +296,7 @@ impl Region {
         requires { IsThere (shape self.old) (Event.Route node port vc) }
         ensures { Replies self.old (Event.Route node port vc) (Ok (moved_of result)) self.new }
     {
-        self.fabric.router_mut(node).route(port, vc)
+        self.fabric.route(node, port, vc)
     }
 
     /// A Grant: the packet that waits at the input channel gets the output channel `out_vc` of its port.

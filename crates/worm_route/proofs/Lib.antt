@@ -1,6 +1,7 @@
 pub mod NothingTwice
 pub mod Legs
 pub mod Onward
+pub mod Nearest
 pub mod Track
 pub mod PlacesByNode
 pub mod DigitCrossing

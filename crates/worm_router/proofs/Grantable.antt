@@ -50,11 +50,11 @@ pub record IsGrantable (r : RouterState) (grants : List (List (Option ℕ))) : T
   pub matching : IsChannelMatching (terminal r + 1) (width r) (requests r) (free_channels r) grants
 
 -- those of a pass over what a router keeps
-pub grantable : (r : RouterState) (sets : BusyChannels) (asked : DemandView) (masks routes : List ℕ)
+pub grantable : (r : RouterState) (sets : BusyChannels) (asked : DemandView) (masks : List ℕ)
     (waiting : List (List (Option VcRequest))) (free : List (List Bool)) (grants : List (List (Option ℕ)))
-    → IsKept r sets asked masks routes → waiting ≡ asked.requests → free ≡ asked.free
+    → IsKept r sets asked masks → waiting ≡ asked.requests → free ≡ asked.free
     → IsChannelMatching r.channel_alloc.ports r.channel_alloc.vcs waiting free grants → IsGrantable r grants
-grantable r sets asked masks routes waiting free grants kept is is' matching = record {
+grantable r sets asked masks waiting free grants kept is is' matching = record {
   few_ports = kept.busy.few_ports;
   few = kept.busy.few_channels;
   inputs = kept.router.lists.all_inputs;

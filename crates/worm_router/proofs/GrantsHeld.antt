@@ -437,16 +437,16 @@ pub record IsPassed (old new : RouterState) (grants : List (List (Option ℕ))) 
   pub held : AreHeld old new grants
   pub rest : LeavesRest old new grants
 
-pub passed_by : (r s new : RouterState) (sets : BusyChannels) (asked : DemandView) (masks routes : List ℕ)
+pub passed_by : (r s new : RouterState) (sets : BusyChannels) (asked : DemandView) (masks : List ℕ)
     (waiting : List (List (Option VcRequest))) (free : List (List Bool)) (a : VcAllocState)
     (grants : List (List (Option ℕ))) (left : ℕ)
-    → r ≡ s → IsKept r sets asked masks routes → waiting ≡ asked.requests → free ≡ asked.free
+    → r ≡ s → IsKept r sets asked masks → waiting ≡ asked.requests → free ≡ asked.free
     → record { alloc = a; grants = grants }
     ≡ vc_pass waiting free (record { alloc = r.channel_alloc; grants = replicate 7 (replicate 8 None) })
     → IsChannelMatching r.channel_alloc.ports r.channel_alloc.vcs waiting free grants
     → AreWritten (record r { channel_alloc = a }) new grants left → left ≡ 0 → IsPassed s new grants
-passed_by r s new sets asked masks routes waiting free a grants left same kept is is' pass matching so none =
-    let given = grantable r sets asked masks routes waiting free grants kept is is' matching in
+passed_by r s new sets asked masks waiting free a grants left same kept is is' pass matching so none =
+    let given = grantable r sets asked masks waiting free grants kept is is' matching in
     let all = far_to r a grants given 56 in
     let ends = writing_ends (record r { channel_alloc = a }) grants new left so none in
     let here = sym (ends ∙ all.2) in

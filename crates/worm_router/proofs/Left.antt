@@ -42,14 +42,14 @@ pub record IsLeaving (r : RouterState) (sets : BusyChannels) (port vc i out out_
   pub enough : spent ≤ had_out.credits
   pub may_owe : had.owed + more ≤ r.depth
 
-pub leaving_of : (r s : RouterState) (sets : BusyChannels) (asked : DemandView) (masks routes : List ℕ)
+pub leaving_of : (r s : RouterState) (sets : BusyChannels) (asked : DemandView) (masks : List ℕ)
     (port vc i out o : ℕ) (f : Flit) (had : ChannelState) (had_out : OutRecord) (spent more : ℕ)
-    → r ≡ s → IsKept r sets asked masks routes → IsPlace s port vc → leaving s port vc ≡ Some (out, f)
+    → r ≡ s → IsKept r sets asked masks → IsPlace s port vc → leaving s port vc ≡ Some (out, f)
     → i ≡ line s port vc → i < length s.inputs → had ≡ get_or r.inputs i had
     → o ≡ line s out f.vc → o < length s.outputs → had_out ≡ get_or r.outputs o had_out
     → spent ≡ credit_of s out → more ≡ credit_of s port
     → IsLeaving r sets port vc i out f.vc o had had_out spent more
-leaving_of r s sets asked masks routes port vc i out o f had had_out spent more same kept place leaves at within read
+leaving_of r s sets asked masks port vc i out o f had had_out spent more same kept place leaves at within read
     at_out within_out read_out spends owes_more =
     let may : leaving r port vc ≡ Some (out, f) = ap (λ (q : RouterState). leaving q port vc) same ∙ leaves in
     let input = input_of r s port vc i had same place at within read in
@@ -108,9 +108,9 @@ record HasLeft (r : RouterState) (sets new : BusyChannels) (asked now_asked : De
   requests : now_asked.requests ≡ asked.requests
   free : now_asked.free ≡ (if closed then with_cell asked.free out out_vc true else asked.free)
 
-module _ (r : RouterState) (sets new : BusyChannels) (asked now_asked : DemandView) (masks routes : List ℕ)
+module _ (r : RouterState) (sets new : BusyChannels) (asked now_asked : DemandView) (masks : List ℕ)
     (port vc i out out_vc o : ℕ) (had now : ChannelState) (had_out u : OutRecord) (f : Flit) (spent more : ℕ)
-    (closed : Bool) (kept : IsKept r sets asked masks routes)
+    (closed : Bool) (kept : IsKept r sets asked masks)
     (leaving : IsLeaving r sets port vc i out out_vc o had had_out spent more)
     (left : HasLeft r sets new asked now_asked port vc out out_vc had now had_out u f spent more closed) where
   state_now : now.state ≡ (if closed then Idle else had.state)
@@ -149,7 +149,7 @@ module _ (r : RouterState) (sets new : BusyChannels) (asked now_asked : DemandVi
       omega (arith, left.credits, had_full, none)
 
   left_kept : IsKept (record r { inputs = slice_set r.inputs i now; outputs = slice_set r.outputs o u })
-      new now_asked masks routes
+      new now_asked masks
   left_kept = record {
     router = record {
       lists = both_set_sound r.mesh r.node r.channels r.depth r.inputs r.outputs i o now u kept.router.lists sound_now
@@ -187,12 +187,11 @@ module _ (r : RouterState) (sets new : BusyChannels) (asked now_asked : DemandVi
     full = full_left r port vc i had now leaving.input (slice_set r.outputs o u) sets.full new.full more
         kept.classes.are leaving.owes_more left.full kept.full;
     classes = kept.classes;
-    destinations = kept.destinations;
   }
 
-module _ (r : RouterState) (sets mid : BusyChannels) (asked : DemandView) (masks routes : List ℕ)
+module _ (r : RouterState) (sets mid : BusyChannels) (asked : DemandView) (masks : List ℕ)
     (port vc i out out_vc o : ℕ) (had gone : ChannelState) (had_out : OutRecord) (f : Flit) (spent more : ℕ)
-    (kept : IsKept r sets asked masks routes) (leaving : IsLeaving r sets port vc i out out_vc o had had_out spent more)
+    (kept : IsKept r sets asked masks) (leaving : IsLeaving r sets port vc i out out_vc o had had_out spent more)
     (is_out : IsOut r.depth r.channels sets mid port vc had gone f more) where
   -- it closed its packet: both channels are free
   pub closed_kept : (now : ChannelState) (u : OutRecord) (outs : List (List (Option ℕ))) (now_asked : DemandView)
@@ -200,9 +199,9 @@ module _ (r : RouterState) (sets mid : BusyChannels) (asked : DemandView) (masks
       → outs ≡ with_cell mid.outs port vc None
       → now_asked ≡ record asked { free = with_cell asked.free out out_vc true }
       → IsKept (record r { inputs = slice_set r.inputs i now; outputs = slice_set r.outputs o u })
-      (record mid { outs = outs }) now_asked masks routes
+      (record mid { outs = outs }) now_asked masks
   closed_kept now u outs now_asked now_is u_is outs_are asks =
-      left_kept r sets (record mid { outs = outs }) asked now_asked masks routes port vc i out out_vc o had now had_out
+      left_kept r sets (record mid { outs = outs }) asked now_asked masks port vc i out out_vc o had now had_out
       u f spent more true kept leaving (record {
         now_is = now_is ∙ ap (λ (c : ChannelState). in_state c Idle) is_out.gone_is;
         credits = ap (λ (w : OutRecord). w.credits) u_is;
@@ -224,9 +223,9 @@ module _ (r : RouterState) (sets mid : BusyChannels) (asked : DemandView) (masks
   pub followed_kept : (u : OutRecord) (no_credit : ℕ) → u ≡ record had_out { credits = had_out.credits - spent }
       → IsFiled mid.no_credit no_credit port vc (has mid.no_credit port vc || nat_lt u.credits spent)
       → IsKept (record r { inputs = slice_set r.inputs i gone; outputs = slice_set r.outputs o u })
-      (record mid { no_credit = no_credit }) asked masks routes
+      (record mid { no_credit = no_credit }) asked masks
   followed_kept u no_credit u_is filed =
-      left_kept r sets (record mid { no_credit = no_credit }) asked asked masks routes port vc i out out_vc o had gone
+      left_kept r sets (record mid { no_credit = no_credit }) asked asked masks port vc i out out_vc o had gone
       had_out u f spent more false kept leaving (record {
         now_is = is_out.gone_is;
         credits = ap (λ (w : OutRecord). w.credits) u_is;

@@ -106,8 +106,8 @@ and_both : (a b c : Bool) → ((a && b) && c) ≡ (a && (b && c))
 and_both true b c = refl
 and_both false b c = refl
 
-module _ (r : RouterState) (sets : BusyChannels) (asked : DemandView) (masks routes : List ℕ) (ready : ℕ)
-    (kept : IsKept r sets asked masks routes) (are : AreReady sets ready) where
+module _ (r : RouterState) (sets : BusyChannels) (asked : DemandView) (masks : List ℕ) (ready : ℕ)
+    (kept : IsKept r sets asked masks) (are : AreReady sets ready) where
   ready_here : (p v : ℕ) → IsPlace r p v → has ready p v
       ≡ ((is_some (out_at r p v) && is_occupied (input_at r p v))
       && free r p (input_at r p v).state (input_at r p v).owed)
@@ -169,11 +169,11 @@ module _ (r : RouterState) (sets : BusyChannels) (asked : DemandView) (masks rou
       by_test p v false b e g = sym (none_either (has ready p v))
 
 -- as its contract tells that of the router that a caller sees
-pub kept_leaves : (r s : RouterState) (sets : BusyChannels) (asked : DemandView) (masks routes : List ℕ)
-    (ready port vc : ℕ) → r ≡ s → IsKept r sets asked masks routes → AreReady sets ready → IsPlace s port vc
+pub kept_leaves : (r s : RouterState) (sets : BusyChannels) (asked : DemandView) (masks : List ℕ)
+    (ready port vc : ℕ) → r ≡ s → IsKept r sets asked masks → AreReady sets ready → IsPlace s port vc
     → has ready port vc ≡ is_some (leaving s port vc)
-kept_leaves r s sets asked masks routes ready port vc same kept are place =
-    ready_leaves r sets asked masks routes ready kept are port vc
+kept_leaves r s sets asked masks ready port vc same kept are place =
+    ready_leaves r sets asked masks ready kept are port vc
     (subst (λ (q : RouterState). IsPlace q port vc) (sym same) place)
     ∙ ap (λ (q : RouterState). is_some (leaving q port vc)) same
 

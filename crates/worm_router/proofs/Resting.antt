@@ -80,12 +80,12 @@ pub record IsUnready (r : RouterState) : Type 0 where
   pub chooses : after_choose r ≡ r
   pub grants : switch_grants r ≡ replicate 7 None
 
-pub unready : (r s : RouterState) (sets : BusyChannels) (asked : DemandView) (masks routes : List ℕ) (ready : ℕ)
-    → r ≡ s → IsKept r sets asked masks routes → AreReady sets ready → (ready == 0) ≡ true → IsUnready s
-unready r s sets asked masks routes ready same kept are none =
+pub unready : (r s : RouterState) (sets : BusyChannels) (asked : DemandView) (masks : List ℕ) (ready : ℕ)
+    → r ≡ s → IsKept r sets asked masks → AreReady sets ready → (ready == 0) ≡ true → IsUnready s
+unready r s sets asked masks ready same kept are none =
     let ports = kept.router.allocators.switch_ports in
     let few = kept.busy.few_ports in
-    let sends = none_ready r sets asked masks routes ready kept are none in
+    let sends = none_ready r sets asked masks ready kept are none in
     subst IsUnready same (record {
       sends = sends;
       chooses = idle_choose r (omega arith) kept.arbiters sends;

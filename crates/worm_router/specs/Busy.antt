@@ -5,7 +5,6 @@ use Rattle.std.specs.Prelude.{slice_index, slice_index_or, All, Option, Some, No
 use Rattle.worm_flit.specs.Channels.{AreChannels, class_bits, first_channel}
 use Rattle.worm_flit.specs.SmallSet.{has as has_small}
 use Rattle.worm_mesh.specs.Address.{node_count}
-use Rattle.worm_route.specs.Route.{port_of}
 use Rattle.worm_records.specs.declared.InRecord.{InRecord}
 use Rattle.worm_records.specs.declared.InRecord.TheVariants.{Idle, Waiting, Active}
 use Rattle.worm_vcalloc.specs.ChannelSet.{has}
@@ -142,12 +141,6 @@ pub record AreMasks (channels masks : List ℕ) : Type 0 where
   pub four : length masks ≡ 4
   pub each : (class : ℕ) → class < 4 → slice_index masks class ≡ class_bits channels class
 
--- the output port of the route from a node to each node of the mesh
-pub record AreRoutes (mesh : List ℕ) (node : ℕ) (routes : List ℕ) : Type 0 where
-  pub all : length routes ≡ node_count mesh
-  pub each : (dst : ℕ) → dst < node_count mesh → slice_index routes dst ≡ port_of mesh node dst
-  pub ports : All (λ port. port ≤ 2 * length mesh) routes
-
 -- the allocator of the switch has an arbiter for each of its ports, on either side
 pub record HasArbiters (s : SwAllocState) : Type 0 where
   pub inputs : s.ports ≤ length s.inputs
@@ -157,8 +150,8 @@ pub record HasArbiters (s : SwAllocState) : Type 0 where
 abbrev pub HasFront : ChannelState → Type 0
 HasFront c = is_waiting c ≡ true → is_occupied c ≡ true
 
--- what a router keeps: what contracts see, and the sets, the requests, the masks of classes and the routes beside it
-pub record IsKept (r : RouterState) (sets : BusyChannels) (asked : DemandView) (masks routes : List ℕ) : Type 0 where
+-- what a router keeps: what contracts see, and the sets, the requests and the masks of classes beside it
+pub record IsKept (r : RouterState) (sets : BusyChannels) (asked : DemandView) (masks : List ℕ) : Type 0 where
   pub router : IsRouter r
   pub arbiters : HasArbiters r.switch_alloc
   pub busy : AreBusy (terminal r) (width r) r.depth r.inputs sets
@@ -170,4 +163,3 @@ pub record IsKept (r : RouterState) (sets : BusyChannels) (asked : DemandView) (
   pub owes_all : OweAll r sets.owes_all
   pub full : AreFull r sets.full
   pub classes : AreMasks r.channels masks
-  pub destinations : AreRoutes r.mesh r.node routes

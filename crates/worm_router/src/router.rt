@@ -4,7 +4,6 @@ ghost use Rattle.std.specs.Prelude.{if◌then◌else◌};
 ghost use Rattle.worm_flit.specs.Channels.{AreChannels, class_bits};
 ghost use Rattle.worm_mesh.specs.Address.{node_count};
 ghost use Rattle.worm_records.specs.declared.InRecord.TheVariants.{Waiting};
-ghost use Rattle.worm_route.specs.Route.{port_of};
 ghost use Rattle.worm_router.specs.Router.{IsPlace, line, fresh_router, input_at};
 ghost use Rattle.worm_router.specs.Router.{output_at, terminal, width, after_accept, can_route, after_route, can_grant};
 ghost use Rattle.worm_router.specs.Router.{after_grant, after_granting, leaving, MayLeave, credit_of};
@@ -20,23 +19,21 @@ use crate::busy::BusyChannels;
 use crate::channel::InputChannel;
 use crate::demand::Demand;
 use crate::fault::{RouterFault, TooMany};
-use crate::router::fresh::{class_masks, make_inputs, make_outputs, make_routes};
+use crate::router::fresh::{class_masks, make_inputs, make_outputs};
 use std::alloc::Global;
 use std::marker::Model;
 use worm_flit::{ClassChannels, Flit, is_closing, is_opening};
 use worm_mesh::Mesh;
 use worm_records::{InRecord, OutRecord};
+use worm_route::Addresses;
 use worm_swalloc::SwAlloc;
 use worm_vcalloc::{VcAlloc, VcRequest};
 
 /// The router of one node: its input channels and its output channels, each by rising port, then channel.
 ///
-/// A packet's route is looked up, not worked out: the output port for each destination stands in a table, made with the
-/// router. One read costs less at each packet than to compare two addresses digit by digit.
-///
 /// ```text
 /// router.accept(0, flit)?;            // a flit comes in by port 0
-/// router.route(0, flit.vc);           // the front packet's output port is found
+/// router.route(0, flit.vc, &addresses); // the front packet's output port is found
 /// let grants = router.allocate();     // it gets a channel there
 /// if let Some((out, flit)) = router.ready(0, 0) { router.sent(0, 0); .. }
 /// ```
@@ -52,8 +49,6 @@ pub struct Router {
     masks: [u8; 4],
     /// How many flits each buffer holds, 1 to 16.
     depth: u8,
-    /// The output port of the route to each node.
-    routes: Vec<u8>,
     /// The input channels.
     inputs: Vec<InputChannel>,
     /// The records of the output channels. The terminal's always have `depth` credits.
@@ -78,7 +73,7 @@ impl Model for Router {
         r.switch_alloc };
 
     ghost invariant = { λ r. IsKept (router_state r.mesh r.node r.classes r.depth r.inputs.items r.outputs.items
-        r.channel_alloc r.switch_alloc) r.busy r.demand r.masks r.routes.items };
+        r.channel_alloc r.switch_alloc) r.busy r.demand r.masks };
 }
 
 impl Router {
@@ -103,14 +98,12 @@ impl Router {
         let count = usize::from(ports) * usize::from(total);
         let outputs = make_outputs(alloc, count, depth)?;
         let inputs = make_inputs(alloc, count, depth)?;
-        let routes = make_routes(alloc, mesh, node)?;
         Ok(Router {
             mesh: *mesh,
             node,
             classes,
             masks,
             depth,
-            routes,
             inputs,
             outputs,
             channel_alloc: VcAlloc::new(ports, total),
@@ -180,15 +173,6 @@ impl Router {
         came
     }
 
-    /// The output port of the route to a node.
-    fn port_to(&self, dst: u8) -> u8
-        requires { dst < node_count self.now.mesh }
-        ensures value { result ≡ port_of self.now.mesh self.now.node dst }
-        ensures bound { result ≤ terminal self.now }
-    {
-        self.routes[usize::from(dst)]
-    }
-
     /// The channels of a class, as a bit for each.
     fn mask(&self, class: u8) -> u8
         ensures { result ≡ class_bits self.now.channels class }
@@ -200,9 +184,11 @@ impl Router {
     }
 
     /// Route computation: an idle channel with an opening flit at its front comes to wait for the output port that the
-    /// packet's route takes. False, and nothing done, where it is not idle or has no such flit.
-    pub fn route(&mut self, port: u8, vc: u8) -> bool
-        requires { IsPlace self.old port vc }
+    /// packet's route takes, as the addresses of the router's mesh tell it. False, and nothing done, where it is not
+    /// idle or has no such flit.
+    pub fn route(&mut self, port: u8, vc: u8, addresses: &Addresses) -> bool
+        requires place { IsPlace self.old port vc }
+        requires mesh { addresses.now ≡ self.old.mesh }
         ensures enabled { result ≡ can_route self.old port vc }
         ensures after { self.new ≡ (if result then after_route self.old port vc else self.old) }
     {
@@ -217,7 +203,7 @@ impl Router {
         if !is_opening(front.kind) {
             return false;
         }
-        let out = self.port_to(front.lane.dst);
+        let out = addresses.port(self.node, front.lane.dst);
         let allowed = self.mask(front.lane.class);
         let channel = &mut self.inputs[i];
         channel.route_to(out);

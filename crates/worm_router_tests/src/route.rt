@@ -6,12 +6,14 @@ use crate::cases::mesh_of;
 use crate::mesh::is_opposite;
 use std::process::Abort;
 use worm_mesh::Mesh;
-use worm_route::{crosses, hops, next_port};
+use worm_route::{Addresses, crosses, hops, next_port};
 
-/// The port by which the route leaves the node.
+/// The port by which the route leaves the node, by the mesh and by the addresses of its nodes.
 fn port_from(rt: &impl Abort, mesh: &Mesh, here: u8, dst: u8) -> u8 {
     assert!(rt; u16::from(here) < mesh.nodes() && u16::from(dst) < mesh.nodes());
-    next_port(mesh, here, dst)
+    let port = next_port(mesh, here, dst);
+    assert_eq!(rt; Addresses::new(*mesh).port(here, dst), port);
+    port
 }
 
 /// The nodes that leaving each node by its next port passes, up to the terminal.

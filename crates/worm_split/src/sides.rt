@@ -98,13 +98,7 @@ impl Outlet {
         ensures awaited { IfSome result (λ r. AwaitsCredit region.now r.node port) }
     {
         let (_tx, back) = self.ends.as_mut()?;
-        let next = match back.front() {
-            Some(next) => next,
-            None => {
-                back.fetch_behind_full();
-                back.front()?
-            }
-        };
+        let next = back.peek()?;
         if !awaits_credit(region, next.node, port) {
             return None;
         }
@@ -158,13 +152,7 @@ impl Inlet {
         ensures awaited { IfSome result (λ c. AwaitsFlit region.now c.node out) }
     {
         let (rx, _give) = self.ends.as_mut()?;
-        let next = match rx.front() {
-            Some(next) => next,
-            None => {
-                rx.fetch_behind_full();
-                rx.front()?
-            }
-        };
+        let next = rx.peek()?;
         if !awaits_flit(region, next.node, out) {
             return None;
         }

@@ -8,6 +8,7 @@ ghost use Rattle.worm_wires.specs.Wiring.{port_links};
 
 use std::marker::Model;
 use worm_mesh::Mesh;
+use worm_route::Addresses;
 
 /// The links of a mesh port that has a neighbour: the node beyond, and the numbers of the two links between.
 #[derive(Clone, Copy)]
@@ -35,8 +36,8 @@ pub struct NodeLinks {
 /// A mesh and the links of each of its nodes. It is small, since networks and parts are moved about by value.
 #[derive(Drop)]
 pub struct Wiring {
-    /// The mesh.
-    mesh: Mesh,
+    /// The mesh, with the addresses of its nodes.
+    addresses: Addresses,
     /// How many nodes it has.
     count: u16,
     /// The terminal port of each node.
@@ -54,9 +55,9 @@ impl Model for Wiring {
 
     ghost use Rattle.worm_wires.specs.Wiring.{IsWired};
 
-    ghost view = { λ w. w.mesh };
+    ghost view = { λ w. w.addresses };
 
-    ghost invariant = { λ w. IsWired w.mesh w.count w.terminal w.steps w.nodes };
+    ghost invariant = { λ w. IsWired w.addresses w.count w.terminal w.steps w.nodes };
 }
 
 /// The number that is kept of the link out of this port.
@@ -122,7 +123,7 @@ impl Wiring {
         let terminal = 2 * mesh.dims();
         let steps = steps(&mesh);
         Wiring {
-            mesh,
+            addresses: Addresses::new(mesh),
             count,
             terminal,
             steps,
@@ -134,7 +135,14 @@ impl Wiring {
     pub fn mesh(&self) -> &Mesh
         ensures { result.now ≡ self.now }
     {
-        &self.mesh
+        self.addresses.mesh()
+    }
+
+    /// The addresses of the nodes.
+    pub fn addresses(&self) -> &Addresses
+        ensures { result.now ≡ self.now }
+    {
+        &self.addresses
     }
 
     /// How many nodes there are, 2 to 256.
@@ -160,7 +168,7 @@ impl Wiring {
         ensures mesh { AreRadices self.now }
     {
         // For the proof: a mesh has radices within their limits.
-        let _nodes = self.mesh.nodes();
+        let _nodes = self.addresses.mesh().nodes();
         self.nodes[usize::from(node)].outs[usize::from(port)]
     }
 
@@ -170,7 +178,7 @@ impl Wiring {
         ensures { Some result ≡ neighbour_of self.now node port }
     {
         // For the proof: a mesh has radices within their limits.
-        let _nodes = self.mesh.nodes();
+        let _nodes = self.addresses.mesh().nodes();
         node.wrapping_add(self.steps[usize::from(port)])
     }
 
@@ -181,9 +189,9 @@ impl Wiring {
         ensures mesh_port { result < 6 }
     {
         // For the proof: a mesh has radices within their limits.
-        let _nodes = self.mesh.nodes();
+        let _nodes = self.addresses.mesh().nodes();
         let _there = self.beyond(node, port);
-        self.mesh.opposite(port)
+        self.addresses.mesh().opposite(port)
     }
 
     /// The links of a port that has a neighbour, where this is the number of the one out of it.
@@ -193,7 +201,7 @@ impl Wiring {
         ensures { Some result ≡ port_links self.now node port }
     {
         // For the proof: a mesh has radices within their limits.
-        let _nodes = self.mesh.nodes();
+        let _nodes = self.addresses.mesh().nodes();
         let beyond = self.beyond(node, port);
         let entered = self.entered(node, port);
         let into = self.kept(beyond, entered);
@@ -219,7 +227,7 @@ impl Wiring {
         ensures mesh_ports { IfSome result (λ links. (port < 6) × (links.entered < 6)) }
     {
         // For the proof: a mesh has radices within their limits.
-        let _nodes = self.mesh.nodes();
+        let _nodes = self.addresses.mesh().nodes();
         if port >= 6 {
             return None;
         }
@@ -245,7 +253,7 @@ impl Wiring {
         ensures mesh_port { port < 6 }
     {
         // For the proof: a mesh has radices within their limits.
-        let _nodes = self.mesh.nodes();
+        let _nodes = self.addresses.mesh().nodes();
         let out = self.kept(node, port);
         self.links_by(node, port, out)
     }

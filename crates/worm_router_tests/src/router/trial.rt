@@ -10,6 +10,7 @@ use std::process::Abort;
 use worm_cases::single;
 use worm_flit::{ClassChannels, Flit, are_channels};
 use worm_records::InRecord;
+use worm_route::Addresses;
 use worm_router::{Router, TooMany};
 use worm_swalloc::SwGrant;
 
@@ -90,7 +91,8 @@ impl<R: Abort + AllocGlobal + Copy> Trial<R> {
     /// The channel's packet gets its route.
     pub fn routes(&mut self, port: u8, vc: u8) {
         assert!(self.rt; port < 3 && vc < self.width);
-        assert!(self.rt; self.router.route(port, vc));
+        let addresses = Addresses::new(mesh_of(&self.rt, &[2]));
+        assert!(self.rt; self.router.route(port, vc, &addresses));
     }
 
     /// The channel's packet is granted this channel of the port that it waits for.

@@ -25,7 +25,7 @@ loop-port-init c = writing_begins _ _ _ c.keys-left.ensures
 
 pub in_record-requires : goal.in_record-requires
 in_record-requires c =
-    let given = grantable _ _ _ _ _ _ _ _ c.self.invariant c.requests-requests.ensures c.free-free.ensures
+    let given = grantable _ _ _ _ _ _ _ c.self.invariant c.requests-requests.ensures c.free-free.ensures
     (c.grant.ensures.matching c.new-grants.ensures) in
     next_place _ c.grant.new.self _ given _ _ _ _ _ c.loop-port.invariant c.in-Some.ensures
 
@@ -34,34 +34,34 @@ number-out_vc-requires-clause-within c = has_grant _ _ _ _ c.loop-port.invariant
 
 pub hold-requires-clause-place : goal.hold-requires-clause-place
 hold-requires-clause-place c =
-    let given = grantable _ _ _ _ _ _ _ _ c.self.invariant c.requests-requests.ensures c.free-free.ensures
+    let given = grantable _ _ _ _ _ _ _ c.self.invariant c.requests-requests.ensures c.free-free.ensures
     (c.grant.ensures.matching c.new-grants.ensures) in
     next_place _ c.grant.new.self _ given _ _ _ _ _ c.loop-port.invariant c.in-Some.ensures
 
 pub hold-requires-clause-out_place : goal.hold-requires-clause-out_place
 hold-requires-clause-out_place c =
-    let given = grantable _ _ _ _ _ _ _ _ c.self.invariant c.requests-requests.ensures c.free-free.ensures
+    let given = grantable _ _ _ _ _ _ _ c.self.invariant c.requests-requests.ensures c.free-free.ensures
     (c.grant.ensures.matching c.new-grants.ensures) in
     (next_held _ c.grant.new.self _ given _ _ _ _ _ c.loop-port.invariant c.in-Some.ensures _ _
     (sym c.number-out_vc.ensures) (sym c.in_record.ensures ∙ c.in-Waiting.is)).out_place
 
 pub hold-requires-clause-free : goal.hold-requires-clause-free
 hold-requires-clause-free c =
-    let given = grantable _ _ _ _ _ _ _ _ c.self.invariant c.requests-requests.ensures c.free-free.ensures
+    let given = grantable _ _ _ _ _ _ _ c.self.invariant c.requests-requests.ensures c.free-free.ensures
     (c.grant.ensures.matching c.new-grants.ensures) in
     (next_held _ c.grant.new.self _ given _ _ _ _ _ c.loop-port.invariant c.in-Some.ensures _ _
     (sym c.number-out_vc.ensures) (sym c.in_record.ensures ∙ c.in-Waiting.is)).free
 
 pub loop-port-preserved-in-Waiting : goal.loop-port-preserved-in-Waiting
 loop-port-preserved-in-Waiting c =
-    let given = grantable _ _ _ _ _ _ _ _ c.self.invariant c.requests-requests.ensures c.free-free.ensures
+    let given = grantable _ _ _ _ _ _ _ c.self.invariant c.requests-requests.ensures c.free-free.ensures
     (c.grant.ensures.matching c.new-grants.ensures) in
     next_written _ c.grant.new.self _ given _ _ _ _ _ c.loop-port.invariant c.in-Some.ensures _ _
     (sym c.number-out_vc.ensures) (sym c.in_record.ensures ∙ c.in-Waiting.is) _ c.hold.ensures
 
 pub loop-port-preserved : goal.loop-port-preserved
 loop-port-preserved c =
-    let given = grantable _ _ _ _ _ _ _ _ c.self.invariant c.requests-requests.ensures c.free-free.ensures
+    let given = grantable _ _ _ _ _ _ _ c.self.invariant c.requests-requests.ensures c.free-free.ensures
     (c.grant.ensures.matching c.new-grants.ensures) in
     let waits = next_waits _ c.grant.new.self _ given _ _ _ _ _ c.loop-port.invariant c.in-Some.ensures _
     (sym c.number-out_vc.ensures) in
@@ -76,16 +76,16 @@ from_none waiting free a grants = ap (λ g. vc_pass waiting free (record { alloc
 
 pub set_grants_nothing-requires : goal.set_grants_nothing-requires
 set_grants_nothing-requires c =
-    let given = grantable _ _ _ _ _ _ _ _ c.self.invariant c.requests-requests.ensures c.free-free.ensures
+    let given = grantable _ _ _ _ _ _ _ c.self.invariant c.requests-requests.ensures c.free-free.ensures
     (c.grant.ensures.matching c.new-grants.ensures) in
-    nothing_left _ _ _ _ _ given (passed_by _ _ _ _ _ _ _ _ _ _ _ _ refl c.self.invariant c.requests-requests.ensures
+    nothing_left _ _ _ _ _ given (passed_by _ _ _ _ _ _ _ _ _ _ _ refl c.self.invariant c.requests-requests.ensures
     c.free-free.ensures (c.grant.ensures.pass ∙ from_none _ _ _ _ c.new-grants.ensures)
     (c.grant.ensures.matching c.new-grants.ensures) c.loop-port.invariant
     c.in_default.ensures.0) c.self-2.view_is c.self-2.invariant.demand
 
 passed : (c : goal.After-set_grants_nothing) → IsPassed c.args.self.now c.loop-port.self c.grant.new.grants
 passed c =
-    passed_by _ c.args.self.now _ _ _ _ _ _ _ _ _ _ c.self.view_is c.self.invariant c.requests-requests.ensures
+    passed_by _ c.args.self.now _ _ _ _ _ _ _ _ _ c.self.view_is c.self.invariant c.requests-requests.ensures
     c.free-free.ensures (c.grant.ensures.pass ∙ from_none _ _ _ _ c.new-grants.ensures)
     (c.grant.ensures.matching c.new-grants.ensures) c.loop-port.invariant c.in_default.ensures.0
 

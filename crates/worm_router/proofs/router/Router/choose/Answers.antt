@@ -39,14 +39,13 @@ invariant_of-self c = record {
   owes_all = record { each = c.self.invariant.owes_all.each };
   full = full_as _ _ _ _ _ _ refl c.self.invariant.full;
   classes = c.self.invariant.classes;
-  destinations = c.self.invariant.destinations;
 }
 
 -- the channels that may send are those that the records say
 told : (c : goal.After-grant) → c.new-ready.result ≡ ready_outs (here c)
 told c =
     c.new-ready.ensures
-    ∙ ready_table (here c) _ _ _ _ c.ready-among.result c.self.invariant c.ready-among.ensures
+    ∙ ready_table (here c) _ _ _ c.ready-among.result c.self.invariant c.ready-among.ensures
 
 pub returns-clause-grants : goal.returns-clause-grants
 returns-clause-grants c =

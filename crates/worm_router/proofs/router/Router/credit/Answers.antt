@@ -21,7 +21,7 @@ credited : (c : After-add_credit) (no_credit : ℕ)
     → IsKept (router_state c.self.inside.mesh c.self.inside.node c.self.inside.classes c.self.inside.depth
     c.self.inside.inputs.items (slice_set c.self.inside.outputs.items c.line-o.result c.add_credit.new.self)
     c.self.inside.channel_alloc c.self.inside.switch_alloc) (record c.self.inside.busy { no_credit = no_credit })
-    c.self.inside.demand c.self.inside.masks c.self.inside.routes.items
+    c.self.inside.demand c.self.inside.masks
 credited c no_credit filed_so =
     let output = output_of _ c.args.self.now c.args.out_port c.args.vc c.line-o.result c.index_mut-output.result.now
     c.self.view_is c.requires c.line-o.ensures.value c.line-o.ensures.in_outputs c.index_mut-output.ensures.value in
@@ -55,7 +55,6 @@ credited c no_credit filed_so =
       holders = holders_out _ _ _ _ _ _ output
           (ap (λ (u : OutRecord). u.holder) c.add_credit.ensures) c.self.invariant.holders;
       classes = c.self.invariant.classes;
-      destinations = c.self.invariant.destinations;
       outs = c.self.invariant.outs;
       no_credit = lack_credited _ _ _ _ _ _ output (ap (λ (u : OutRecord). u.credits) c.add_credit.ensures)
           c.self.invariant.busy.few_ports c.self.invariant.busy.few_channels c.self.invariant.router

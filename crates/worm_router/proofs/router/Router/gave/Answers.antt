@@ -57,7 +57,6 @@ invariant_of-self c =
           (λ o k holds. sym (ap (λ (x : ChannelState). x.state) c.give.ensures) ∙ holds)
           (λ o k holds. ap (λ (x : ChannelState). x.state) c.give.ensures ∙ holds) c.self.invariant.holders;
       classes = c.self.invariant.classes;
-      destinations = c.self.invariant.destinations;
       outs = outs_kept _ _ _ _ _ _ input _ (ap (λ (x : ChannelState). port_held x.state) c.give.ensures)
           c.self.invariant.outs;
       no_credit = lack_stay _ _ _ _ _ _ input c.self.invariant.busy.few_ports c.self.invariant.busy.few_channels _ _

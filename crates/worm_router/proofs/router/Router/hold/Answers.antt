@@ -80,7 +80,6 @@ invariant_of-self c =
           (ap (λ (v : OutRecord). v.holder) read ∙ c.requires.free)
           (ap (λ (v : OutRecord). v.holder) c.grant.ensures) c.self.invariant.holders;
       classes = c.self.invariant.classes;
-      destinations = c.self.invariant.destinations;
       outs = outs_put _ _ _ _ _ _ input _ _ _ c.self.invariant.busy.few_ports c.self.invariant.busy.few_channels
           c.set.ensures (ap (λ (x : ChannelState). port_held x.state) active) c.self.invariant.outs;
       no_credit = lack_held _ _ _ _ _ _ input c.self.invariant.busy.few_ports c.self.invariant.busy.few_channels

@@ -24,5 +24,4 @@ invariant_of-self c = record {
   full = more_full _ _ _ _ (subst (λ (r : RouterState). IsFull r c.args.class) (sym c.self.view_is) c.requires)
       c.put.ensures c.self.invariant.full;
   classes = c.self.invariant.classes;
-  destinations = c.self.invariant.destinations;
 }

@@ -24,7 +24,7 @@ leaves : (c : After-index_mut-output)
     c.credit_of-more_owed.result
 leaves c =
     leaving_of (was c) c.args.self.now c.self.inside.busy c.self.inside.demand c.self.inside.masks
-    c.self.inside.routes.items c.args.port c.args.vc c.line-i.result c.args.out c.line-o.result c.args.flit
+    c.args.port c.args.vc c.line-i.result c.args.out c.line-o.result c.args.flit
     c.index_mut-channel.result.now c.index_mut-output.result.now c.credit_of-spent.result
     c.credit_of-more_owed.result c.self.view_is c.self.invariant c.requires.place c.requires.ready
     c.line-i.ensures.value c.line-i.ensures.in_inputs c.index_mut-channel.ensures.value
@@ -93,7 +93,7 @@ pub invariant_of-self : goal.invariant_of-self
 invariant_of-self c =
     let at = (goal.at.invariant_of-self c).After-make_room in
     let it = leaves (goal.at.invariant_of-self c).After-index_mut-output in
-    closed_kept _ _ _ _ _ _ _ _ _ _ _ _ _ _ _ _ _ _ c.self.invariant it (out at it) _ _ _ _ c.close.ensures
+    closed_kept _ _ _ _ _ _ _ _ _ _ _ _ _ _ _ _ _ c.self.invariant it (out at it) _ _ _ _ c.close.ensures
     (c.release.ensures ∙ ap (λ (u : OutRecord). record u { holder = None }) c.spend.ensures) c.set.ensures
     c.release-then-is_closing.ensures
 
@@ -101,5 +101,5 @@ pub invariant_of-self-else-is_closing : goal.invariant_of-self-else-is_closing
 invariant_of-self-else-is_closing c =
     let at = (goal.at.invariant_of-self-else-is_closing c).After-make_room in
     let it = leaves (goal.at.invariant_of-self-else-is_closing c).After-index_mut-output in
-    followed_kept _ _ _ _ _ _ _ _ _ _ _ _ _ _ _ _ _ _ c.self.invariant it (out at it) _ _ c.spend.ensures
+    followed_kept _ _ _ _ _ _ _ _ _ _ _ _ _ _ _ _ _ c.self.invariant it (out at it) _ _ c.spend.ensures
     (filed _ _ _ _ _ c.insert_if-else-is_closing.ensures)

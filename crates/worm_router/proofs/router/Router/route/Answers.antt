@@ -1,5 +1,5 @@
 use Rattle.worm_flit.specs.Channels.{class_bits}
-use Rattle.std.proofs.Common.{refl, slice_get, Some, sym, subst, ap, ◌∙◌, inr, ◌≡◌, ◌≤◌, ◌*◌, length}
+use Rattle.std.proofs.Common.{ℕ, List, refl, slice_get, Some, sym, subst, ap, ◌∙◌, inr, ◌≡◌, ◌≤◌, ◌*◌, length}
 use Rattle.std.proofs.lemmas.List.Elements.{All-set}
 use Rattle.worm_router.specs.Allocation.{asking}
 use Rattle.worm_router.specs.Demand.{DemandView}
@@ -22,9 +22,9 @@ use Rattle.worm_router.proofs.router.Router.route.Goals.{in-Idle, in_default}
 pub route_to-requires : goal.route_to-requires
 route_to-requires c =
     let input = input_of _ c.args.self.now c.args.port c.args.vc c.line-i.result c.index_mut-channel.result.now
-    c.self.view_is c.requires c.line-i.ensures.value c.line-i.ensures.in_inputs c.index_mut-channel.ensures.value in
+    c.self.view_is c.requires.place c.line-i.ensures.value c.line-i.ensures.in_inputs c.index_mut-channel.ensures.value in
     let read = input_of _ c.args.self.now c.args.port c.args.vc c.line-i.result c.index-channel.result.now
-    c.self.view_is c.requires c.line-i.ensures.value c.line-i.ensures.in_inputs c.index-channel.ensures in
+    c.self.view_is c.requires.place c.line-i.ensures.value c.line-i.ensures.in_inputs c.index-channel.ensures in
     let idle : c.state.result ≡ Idle = elim c.match-matches.branch [
       | in-Idle w ↦ w.in-Idle.is
       | in_default w ↦ absurd (cc)
@@ -34,11 +34,11 @@ route_to-requires c =
 pub invariant_of-self : goal.invariant_of-self
 invariant_of-self c =
     let input = input_of _ c.args.self.now c.args.port c.args.vc c.line-i.result c.index_mut-channel.result.now
-    c.self.view_is c.requires c.line-i.ensures.value c.line-i.ensures.in_inputs c.index_mut-channel.ensures.value in
+    c.self.view_is c.requires.place c.line-i.ensures.value c.line-i.ensures.in_inputs c.index_mut-channel.ensures.value in
     let had = read_sound _ _ _ _ _ c.index_mut-channel.result.now c.index_mut-channel.ensures.value input.within
     c.self.invariant.router.lists.inputs_sound in
     let read = input_of _ c.args.self.now c.args.port c.args.vc c.line-i.result c.index-channel.result.now
-    c.self.view_is c.requires c.line-i.ensures.value c.line-i.ensures.in_inputs c.index-channel.ensures in
+    c.self.view_is c.requires.place c.line-i.ensures.value c.line-i.ensures.in_inputs c.index-channel.ensures in
     let idle : c.state.result ≡ Idle = elim c.match-matches.branch [
       | in-Idle w ↦ w.in-Idle.is
       | in_default w ↦ absurd (cc)
@@ -53,9 +53,10 @@ invariant_of-self c =
     record {
       router = record {
         lists = input_set_sound _ _ _ _ _ _ _ _ c.self.invariant.router.lists
-            (state_sound _ _ _ _ _ (Waiting c.port_to-out.result) had
-            (subst (λ (r : RouterState). c.port_to-out.result ≤ 2 * length r.mesh) (sym c.self.view_is)
-            c.port_to-out.ensures.bound) c.route_to.ensures);
+            (state_sound _ _ _ _ _ (Waiting c.port-out.result) had
+            (subst (λ (r : RouterState). c.port-out.result ≤ 2 * length r.mesh) (sym c.self.view_is)
+            (subst (λ (mesh : List ℕ). c.port-out.result ≤ 2 * length mesh) c.requires.mesh
+            c.port-out.ensures.port)) c.route_to.ensures);
         allocators = c.self.invariant.router.allocators;
       };
       arbiters = c.self.invariant.arbiters;
@@ -76,7 +77,6 @@ invariant_of-self c =
           (λ o k holds. let unlike = sym (ap (λ (x : ChannelState). x.state) c.route_to.ensures) ∙ holds in
           absurd (cc)) (λ o k holds. let unlike = sym was_idle ∙ holds in absurd (cc)) c.self.invariant.holders;
       classes = c.self.invariant.classes;
-      destinations = c.self.invariant.destinations;
       outs = outs_kept _ _ _ _ _ _ input _ (ap (λ (x : ChannelState). port_held x.state) c.route_to.ensures
           ∙ sym (ap port_held was_idle)) c.self.invariant.outs;
       no_credit = lack_waiting _ _ _ _ _ _ input c.self.invariant.busy.few_ports c.self.invariant.busy.few_channels _ _
