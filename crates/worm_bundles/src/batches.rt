@@ -333,8 +333,8 @@ impl<X: Copy + Default, const N: usize, H: Carriage<X>> Taker<X, N, H> {
         }
     }
 
-    /// The next item at hand. Behind a full batch that was taken, the next batch of the queue comes to hand first, if it
-    /// holds one. Behind one that was not full it looks for none: a sender flushes once a turn, so one seldom stands
+    /// The next item at hand. Behind a full batch that was taken, the next batch of the queue comes to hand first, if
+    /// it holds one. Behind one that was not full it looks for none: a sender flushes once a turn, so one seldom stands
     /// there, and a look costs both threads a cache line.
     pub fn peek(&mut self) -> Option<X>
         ensures others { self.new ≡ record self.old { ahead = self.new.ahead } }

@@ -236,9 +236,9 @@ impl FlitRx {
         self.end.fetch();
     }
 
-    /// The next flit at hand; `None` where nothing is at hand. Behind a full batch that was taken, the next batch of the
-    /// queue comes to hand first, if one stands in it. Behind one that was not full it looks for none: a sender flushes
-    /// once a turn, so one seldom stands there, and a look costs both threads a cache line.
+    /// The next flit at hand; `None` where nothing is at hand. Behind a full batch that was taken, the next batch of
+    /// the queue comes to hand first, if one stands in it. Behind one that was not full it looks for none: a sender
+    /// flushes once a turn, so one seldom stands there, and a look costs both threads a cache line.
     pub fn peek(&mut self) -> Option<Carried>
         ensures others { self.new ≡ record self.old { ahead = self.new.ahead } }
         ensures kept { 0 < length self.old.ahead → self.new ≡ self.old }

@@ -146,9 +146,7 @@ impl Fabric {
             (after_route (router_at self.old node) port vc) else self.old) }
     {
         let addresses = self.links.wiring().addresses();
-        self.nodes
-            .router_mut(node)
-            .route(port, vc, addresses)
+        self.nodes.router_mut(node).route(port, vc, addresses)
     }
 
     /// Whether the flit that is ready at this place is at home. The buffer is asked: were the flit itself read in part,

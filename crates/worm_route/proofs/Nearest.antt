@@ -1,6 +1,6 @@
 -- The port that three dimensions tell is that of the route, however many of them the mesh has.
-use Rattle.std.proofs.Common.{ℕ, ◌≡◌, ◌≢◌, ◌+◌, ◌*◌, ◌<◌, ◌≤◌, cond, eqb, ltb, true, false, List, [], ◌∷◌, length, get_or, set}
-use Rattle.std.proofs.Common.{arith, refl, below_more, get_or-set_other, get_or-set_same}
+use Rattle.std.proofs.Common.{ℕ, ◌≡◌, ◌≢◌, ◌+◌, ◌*◌, ◌<◌, ◌≤◌, cond, eqb, ltb, true, false, List, [], ◌∷◌, length}
+use Rattle.std.proofs.Common.{get_or, set, arith, refl, below_more, get_or-set_other, get_or-set_same}
 use Rattle.worm_route.specs.Addresses.{AreDigitsOf, nearer, no_digits}
 use Rattle.worm_route.specs.Route.{port_from}
 use Rattle.worm_route.specs.declared.addresses.Digits.{Digits}

@@ -12,7 +12,8 @@ returns-clause-value c =
     let there = all.each c.args.dst c.ranges.dst.fits in
     let here_length = length-address_of mesh c.args.here in
     let there_length = length-address_of mesh c.args.dst in
-    let three = by_three (address_of mesh c.args.here) (address_of mesh c.args.dst) (omega arith) (omega (arith, all.few_dims)) in
+    let three = by_three (address_of mesh c.args.here) (address_of mesh c.args.dst) (omega arith)
+    (omega (arith, all.few_dims)) in
     search rules
 
 pub returns-clause-port : goal.returns-clause-port

@@ -22,7 +22,8 @@ use Rattle.worm_router.proofs.router.Router.route.Goals.{in-Idle, in_default}
 pub route_to-requires : goal.route_to-requires
 route_to-requires c =
     let input = input_of _ c.args.self.now c.args.port c.args.vc c.line-i.result c.index_mut-channel.result.now
-    c.self.view_is c.requires.place c.line-i.ensures.value c.line-i.ensures.in_inputs c.index_mut-channel.ensures.value in
+    c.self.view_is c.requires.place c.line-i.ensures.value c.line-i.ensures.in_inputs
+    c.index_mut-channel.ensures.value in
     let read = input_of _ c.args.self.now c.args.port c.args.vc c.line-i.result c.index-channel.result.now
     c.self.view_is c.requires.place c.line-i.ensures.value c.line-i.ensures.in_inputs c.index-channel.ensures in
     let idle : c.state.result ≡ Idle = elim c.match-matches.branch [
@@ -34,7 +35,8 @@ route_to-requires c =
 pub invariant_of-self : goal.invariant_of-self
 invariant_of-self c =
     let input = input_of _ c.args.self.now c.args.port c.args.vc c.line-i.result c.index_mut-channel.result.now
-    c.self.view_is c.requires.place c.line-i.ensures.value c.line-i.ensures.in_inputs c.index_mut-channel.ensures.value in
+    c.self.view_is c.requires.place c.line-i.ensures.value c.line-i.ensures.in_inputs
+    c.index_mut-channel.ensures.value in
     let had = read_sound _ _ _ _ _ c.index_mut-channel.result.now c.index_mut-channel.ensures.value input.within
     c.self.invariant.router.lists.inputs_sound in
     let read = input_of _ c.args.self.now c.args.port c.args.vc c.line-i.result c.index-channel.result.now
