@@ -176,6 +176,7 @@ impl<'a> Fields<'a> {
 
     /// A number from `low` to `high`. `Missing` where no field is left, `Number` where the field is no numeral, else
     /// `Range`.
+    #[inline(always)]
     pub fn number(&mut self, low: u32, high: u32) -> Result<u32, Why>
         ensures answer { Reads (λ x. x) result self.new (number_at low high self.old) }
         ensures one { self.new ≡ drop 1 self.old }

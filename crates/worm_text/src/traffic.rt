@@ -1,7 +1,7 @@
 //! The text of the traffic, line by line.
 
 ghost use Rattle.std.specs.Prelude.{◌≡◌, ◌≤◌, ◌<◌, ◌-◌, [], ◌==◌, length, position, Some, None};
-ghost use Rattle.std.specs.Prelude.{OnOk, IfOk, IfErr, Ok, ◌⊎◌, List, ◌||◌, All, false};
+ghost use Rattle.std.specs.Prelude.{OnOk, IfOk, IfErr, IfSome, Ok, ◌⊎◌, List, ◌||◌, All, false};
 ghost use Rattle.worm_text.specs.TrafficText.{AreEntries, traffic_text};
 ghost use Rattle.worm_text.specs.ScriptView.{said_of};
 ghost use Rattle.std.specs.Option.{option_map};
@@ -12,6 +12,7 @@ ghost use Rattle.worm_text.specs.Network.{view, nodes_of, names_of, Keeps};
 ghost use Rattle.worm_text.specs.declared.format.Format.{Format};
 ghost use Rattle.worm_text.specs.Traffic.{Said, class_at, turn_at, lane_at, words_at, send_at, close_at, entry_at};
 ghost use Rattle.worm_text.specs.Traffic.{entry_view, same_lane, lane_cmp, closes, read_entries};
+ghost use Rattle.worm_text.specs.Asked.{HasWords, closing, said_by};
 ghost use Rattle.worm_text.specs.Traffic.{traffic_of};
 ghost use Rattle.worm_text.specs.TrafficFaults.{AnswersOrFull, RanOut, IsEntryLine, IsEntryPiece, IsTrafficFaultLine};
 ghost use Rattle.worm_text.specs.Lines.{cut, space, newline};
@@ -125,6 +126,38 @@ fn class(classes: &[Name], fields: &mut Fields<'_>) -> Result<u8, Why>
     }
 }
 
+/// What an entry line asks for. The words of a packet stand beside it, so that a packet is made once, where it is kept,
+/// and not handed up from call to call.
+#[derive(Clone, Copy)]
+enum Asked {
+    /// To accept a packet of this lane in this turn.
+    Offer { turn: u32, lane: Lane },
+    /// To close this lane in this turn.
+    Close { turn: u32, lane: Lane },
+}
+
+impl Asked {
+    /// The entry with these words.
+    fn entry(self, words: &[u32]) -> Entry
+        requires { HasWords self words.now }
+        ensures { entry_view result ≡ said_by self words.now }
+    {
+        match self {
+            Asked::Offer { turn, lane } => match Packet::new(lane, words) {
+                Ok(packet) => Entry {
+                    turn,
+                    act: Act::Offer(packet),
+                },
+                Err(_) => unreachable!(),
+            },
+            Asked::Close { turn, lane } => Entry {
+                turn,
+                act: Act::Close(lane),
+            },
+        }
+    }
+}
+
 /// What a reader knows in front of a line.
 #[derive(Clone, Copy)]
 struct Standing<'a> {
@@ -155,32 +188,29 @@ impl<'a> Standing<'a> {
         Ok(Lane { src, dst, class })
     }
 
-    /// What stands behind `send`. `LaneClosed` where the lane was closed.
+    /// What stands behind `send`; the words of its packet go into a list that has none. `LaneClosed` where the lane was
+    /// closed.
     #[tactic(auto, unfolding(crate::specs::Traffic::send_at))]
-    fn send(&self, fields: &mut Fields<'_>) -> Result<Entry, Why>
-        ensures { Gives entry_view result (send_at (view self.now.config.now) self.now.last
-            (contains lane_cmp self.now.closed.now.lanes) fields.old) }
+    fn send(&self, fields: &mut Fields<'_>, words: &mut ArrayVec<u32, 32>) -> Result<Asked, Why>
+        requires { words.old.items ≡ [] }
+        ensures said { Gives (λ asked. said_by asked words.new.items) result (send_at (view self.now.config.now)
+            self.now.last (contains lane_cmp self.now.closed.now.lanes) fields.old) }
+        ensures words { IfOk result (λ asked. HasWords asked words.new.items) }
     {
         let turn = turn(self.last, fields)?;
         let lane = self.lane(fields)?;
         if self.closed.contains(lane) {
             return Err(Why::LaneClosed);
         }
-        let mut words = ArrayVec::new();
-        read_words(fields, &mut words)?;
-        match Packet::new(lane, words.as_slice()) {
-            Ok(packet) => Ok(Entry {
-                turn,
-                act: Act::Offer(packet),
-            }),
-            Err(_) => unreachable!(),
-        }
+        read_words(fields, words)?;
+        Ok(Asked::Offer { turn, lane })
     }
 
-    /// What stands behind `close`. `ManyChannels` where the class owns several, `LaneClosed` where the lane was closed.
+    /// What stands behind `close`: a turn and a lane. `ManyChannels` where the class owns several, `LaneClosed` where the
+    /// lane was closed.
     #[tactic(auto, unfolding(crate::specs::Traffic::close_at))]
-    fn close(&self, fields: &mut Fields<'_>) -> Result<Entry, Why>
-        ensures { Gives entry_view result (close_at (view self.now.config.now) self.now.last
+    fn close(&self, fields: &mut Fields<'_>) -> Result<(u32, Lane), Why>
+        ensures { Gives closing result (close_at (view self.now.config.now) self.now.last
             (contains lane_cmp self.now.closed.now.lanes) fields.old) }
     {
         let turn = turn(self.last, fields)?;
@@ -193,17 +223,18 @@ impl<'a> Standing<'a> {
             return Err(Why::LaneClosed);
         }
         fields.end()?;
-        Ok(Entry {
-            turn,
-            act: Act::Close(lane),
-        })
+        Ok((turn, lane))
     }
 
-    /// The entry that a line says, or none at the line `end`. `TooMany` at the 10,001st entry.
+    /// The entry that a line says, or none at the line `end`; the words of a packet go into a list that has none.
+    /// `TooMany` at the 10,001st entry.
     #[tactic(auto, unfolding(crate::specs::Traffic::entry_at))]
-    fn entry(&self, line: &[u8]) -> Result<Option<Entry>, Why>
-        ensures { Gives (option_map entry_view) result (entry_at (view self.now.config.now) self.now.count
-            self.now.last (contains lane_cmp self.now.closed.now.lanes) (cut space line.now)) }
+    fn entry(&self, line: &[u8], words: &mut ArrayVec<u32, 32>) -> Result<Option<Asked>, Why>
+        requires { words.old.items ≡ [] }
+        ensures said { Gives (option_map (λ asked. said_by asked words.new.items)) result (entry_at
+            (view self.now.config.now) self.now.count self.now.last (contains lane_cmp self.now.closed.now.lanes)
+            (cut space line.now)) }
+        ensures words { IfOk result (λ entry. IfSome entry (λ asked. HasWords asked words.new.items)) }
     {
         let mut fields = Fields::new(line);
         let Some(word) = fields.next() else {
@@ -213,12 +244,13 @@ impl<'a> Standing<'a> {
             if self.count >= 10_000 {
                 return Err(Why::TooMany);
             }
-            Ok(Some(self.send(&mut fields)?))
+            Ok(Some(self.send(&mut fields, words)?))
         } else if word == b"close".as_slice() {
             if self.count >= 10_000 {
                 return Err(Why::TooMany);
             }
-            Ok(Some(self.close(&mut fields)?))
+            let (turn, lane) = self.close(&mut fields)?;
+            Ok(Some(Asked::Close { turn, lane }))
         } else if word == b"end".as_slice() {
             fields.end()?;
             Ok(None)
@@ -267,7 +299,8 @@ fn read_entries(
             last,
             closed: &closed,
         };
-        match standing.entry(front) {
+        let mut words = ArrayVec::new();
+        match standing.entry(front, &mut words) {
             Err(why) => return Err(TextFault { line, why }),
             Ok(None) => {
                 return if after.is_empty() {
@@ -279,7 +312,8 @@ fn read_entries(
                     })
                 };
             }
-            Ok(Some(entry)) => {
+            Ok(Some(asked)) => {
+                let entry = asked.entry(words.as_slice());
                 last = entry.turn;
                 if closed.note(&entry).is_err() || script.push(entry).is_err() {
                     let why = Why::NoMemory;

@@ -1,4 +1,4 @@
-use Rattle.std.proofs.Common.{◌≡◌, ◌<◌, ◌∙◌, [], ◌∷◌, ◌++◌, map, length, sym, refl, inl, inr, arith}
+use Rattle.std.proofs.Common.{◌≡◌, ◌<◌, ◌∙◌, ℕ, List, Some, Ok, [], ◌∷◌, ◌++◌, map, length, sym, ap, refl, inl, inr, arith}
 use Rattle.std.proofs.lemmas.List.{length-map, length_push}
 use Rattle.std.proofs.lemmas.Bool.Decides.{nat_tests}
 use Rattle.std.specs.BTreeSet.{contains}
@@ -6,7 +6,8 @@ use Rattle.std.specs.Prelude.{◌||◌}
 use Rattle.worm_flit.specs.declared.Lane.{Lane}
 use Rattle.worm_text.specs.Lines.{cut, space, newline}
 use Rattle.worm_text.specs.Network.{view}
-use Rattle.worm_text.specs.Traffic.{read_entries, entry_view, lane_cmp, closes}
+use Rattle.worm_text.specs.Traffic.{Said, read_entries, entry_view, lane_cmp, closes}
+use Rattle.worm_text.specs.Asked.{said_by}
 use Rattle.worm_text.proofs.Entries.{same_call, stops, ends_well, ends_ill, goes_on, last-push, closed-push, room}
 use Rattle.worm_text.proofs.Entries.{on_ok}
 use Rattle.worm_text.proofs.TrafficPieces.{read_one, last_read}
@@ -23,7 +24,7 @@ returns-in-Err c =
     (contains lane_cmp c.loop-front.closed.lanes) (cut space c.in-Some.front.now) len i.last i.closed in
     inr (stops n (map entry_view es) c.loop-front.line c.loop-front.rest.now c.in-Some.front.now c.in-Some.after.now
     (read_entries n [] 2 (cut newline c.args.rest.now)) c.in-Err.why c.in-Some.ensures.parts i.read
-    (sym call ∙ c.in-Err.ensures))
+    (sym call ∙ c.in-Err.ensures.said))
 
 pub returns-then-is_empty : goal.returns-then-is_empty
 returns-then-is_empty c =
@@ -37,7 +38,7 @@ returns-then-is_empty c =
     let none : length c.in-Some.after.now ≡ 0 = grind (arith, nat_tests, c.is_empty.ensures, c.if-is_empty.true) in
     ends_well n (map entry_view es) c.loop-front.line c.loop-front.rest.now c.in-Some.front.now c.in-Some.after.now
     (read_entries n [] 2 (cut newline c.args.rest.now)) c.in-Some.ensures.parts i.read
-    (sym call ∙ rw c.in-Ok-None.field-0-is at c.in-Ok-None.ensures) none
+    (sym call ∙ rw c.in-Ok-None.field-0-is at c.in-Ok-None.ensures.said) none
 
 pub returns-else-is_empty : goal.returns-else-is_empty
 returns-else-is_empty c =
@@ -51,7 +52,7 @@ returns-else-is_empty c =
     let some : 0 < length c.in-Some.after.now = grind (arith, nat_tests, c.is_empty.ensures, c.if-is_empty.false) in
     inr (ends_ill n (map entry_view es) c.loop-front.line c.loop-front.rest.now c.in-Some.front.now c.in-Some.after.now
     (read_entries n [] 2 (cut newline c.args.rest.now)) c.in-Some.ensures.parts i.read
-    (sym call ∙ rw c.in-Ok-None.field-0-is at c.in-Ok-None.ensures) some)
+    (sym call ∙ rw c.in-Ok-None.field-0-is at c.in-Ok-None.ensures.said) some)
 
 pub loop-front-preserved : goal.loop-front-preserved
 loop-front-preserved c =
@@ -62,8 +63,10 @@ loop-front-preserved c =
     omega (arith, length-map es entry_view, c.len.ensures) in
     let call = same_call n (map entry_view es) c.len.result c.loop-front.last
     (contains lane_cmp c.loop-front.closed.lanes) (cut space c.in-Some.front.now) len i.last i.closed in
-    let e = c.in-Ok-Some.entry in
-    let told = rw c.in-Ok-Some.field-0-is at c.in-Ok-Some.ensures in
+    let e = c.entry-entry.result in
+    let made = c.entry-entry.ensures ∙ ap (λ (ws : List ℕ). said_by c.in-Ok-Some.asked ws) c.as_slice.ensures.value in
+    let told = rw c.in-Ok-Some.field-0-is at c.in-Ok-Some.ensures.said
+    ∙ ap (λ (s : Said). Ok (Some s)) (sym made) in
     let j = sym call ∙ told in
     let items : c.push.new.self ≡ es ++ e ∷ [] =
     on_ok c.push.result c.is_err-else-is_err.result
@@ -99,8 +102,10 @@ returns-then-is_err c =
     let call = same_call n (map entry_view es) c.len.result c.loop-front.last
     (contains lane_cmp c.loop-front.closed.lanes) (cut space c.in-Some.front.now) len i.last i.closed in
     let pieces = cut newline c.args.rest.now in
-    let e = c.in-Ok-Some.entry in
+    let e = c.entry-entry.result in
+    let made = c.entry-entry.ensures ∙ ap (λ (ws : List ℕ). said_by c.in-Ok-Some.asked ws) c.as_slice.ensures.value in
+    let told = rw c.in-Ok-Some.field-0-is at c.in-Ok-Some.ensures.said
+    ∙ ap (λ (s : Said). Ok (Some s)) (sym made) in
     let one = read_one n es e pieces c.loop-front.rest.now c.in-Some.front.now c.in-Some.after.now
-    (omega (arith, c.requires.counted, c.requires.few)) c.in-Some.ensures.parts i.read_so_far
-    (sym call ∙ rw c.in-Ok-Some.field-0-is at c.in-Ok-Some.ensures) in
+    (omega (arith, c.requires.counted, c.requires.few)) c.in-Some.ensures.parts i.read_so_far (sym call ∙ told) in
     inl (refl, last_read n es e pieces c.in-Some.after.now c.loop-front.line one i.count)
