@@ -206,8 +206,8 @@ impl<'a> Standing<'a> {
         Ok(Asked::Offer { turn, lane })
     }
 
-    /// What stands behind `close`: a turn and a lane. `ManyChannels` where the class owns several, `LaneClosed` where the
-    /// lane was closed.
+    /// What stands behind `close`: a turn and a lane. `ManyChannels` where the class owns several, `LaneClosed` where
+    /// the lane was closed.
     #[tactic(auto, unfolding(crate::specs::Traffic::close_at))]
     fn close(&self, fields: &mut Fields<'_>) -> Result<(u32, Lane), Why>
         ensures { Gives closing result (close_at (view self.now.config.now) self.now.last
