@@ -92,3 +92,14 @@ fn turns_in_a_square_of_three(rt: HostRuntime) {
     is_opposite(&rt, &mesh, 3, 2);
     assert_eq!(rt; mesh.neighbour(2, 3), Some(5));
 }
+
+/// The largest mesh, and a line: to the far corner and back.
+#[test]
+fn routes_to_the_far_corner(rt: HostRuntime) {
+    let largest = mesh_of(&rt, &[4, 8, 8]);
+    leaves(&rt, &largest, 255, &[(0, 1), (3, 3), (31, 5), (255, 6)]);
+    leaves(&rt, &largest, 0, &[(255, 0), (252, 2), (224, 4), (0, 6)]);
+    let line = mesh_of(&rt, &[16]);
+    leaves(&rt, &line, 15, &[(0, 1), (15, 2)]);
+    leaves(&rt, &line, 0, &[(15, 0), (0, 2)]);
+}
