@@ -6,6 +6,7 @@ ghost use Rattle.worm_route.specs.Addresses.{AreDigitsOf, nearer};
 ghost use Rattle.worm_route.specs.Route.{port_of};
 
 use crate::split;
+use std::alloc::{AllocError, Global};
 use std::marker::Model;
 use worm_mesh::Mesh;
 
@@ -20,9 +21,44 @@ pub struct Digits {
     pub highest: u8,
 }
 
-/// A mesh and the addresses of its nodes, by number. In contracts it is the list of the radices.
+/// The address of node 0.
+const ORIGIN: Digits = Digits {
+    lowest: 0,
+    middle: 0,
+    highest: 0,
+};
+
+/// Memory for the addresses of 256 nodes, whatever stands in it. It goes with the lists of a network, so that addresses
+/// are worked out again without taking any.
+#[derive(Drop)]
+pub struct AddressRoom {
+    /// By number.
+    list: Vec<Digits>,
+}
+
+impl Model for AddressRoom {
+    ghost use Rattle.std.specs.Prelude.{◌≡◌, length};
+
+    ghost Value = { Unit {0} };
+
+    ghost view = { λ _. tt };
+
+    ghost invariant = { λ r. length r.list.items ≡ 256 };
+}
+
+impl AddressRoom {
+    /// Memory in which nothing is yet.
+    pub fn new(alloc: Global) -> Result<AddressRoom, AllocError> {
+        Ok(AddressRoom {
+            list: vec![in alloc; ORIGIN; 256]?,
+        })
+    }
+}
+
+/// A mesh and the addresses of its nodes, by number. In contracts it is the list of the radices. They are on the heap,
+/// since networks and parts are moved about by value.
 ///
-/// `Addresses::new(mesh).port(5, 6)` is 1 where radix 0 is 4: node 6 is one step up from node 5 in dimension 0.
+/// `Addresses::new(mesh, room).port(5, 6)` is 1 where radix 0 is 4: node 6 is one step up from node 5 in dimension 0.
 #[derive(Drop)]
 pub struct Addresses {
     /// The mesh.
@@ -30,7 +66,7 @@ pub struct Addresses {
     /// The terminal port of each node.
     terminal: u8,
     /// By number, a node's or not.
-    list: [Digits; 256],
+    list: Vec<Digits>,
 }
 
 impl Model for Addresses {
@@ -41,7 +77,7 @@ impl Model for Addresses {
 
     ghost view = { λ a. a.mesh };
 
-    ghost invariant = { λ a. AreAddresses a.mesh a.terminal a.list };
+    ghost invariant = { λ a. AreAddresses a.mesh a.terminal a.list.items };
 }
 
 /// The radix of a dimension, 1 past the last one.
@@ -85,16 +121,12 @@ fn nearer(dim: u8, at: u8, goal: u8, above: u8) -> u8
 }
 
 impl Addresses {
-    /// Those of the nodes of this mesh.
-    pub fn new(mesh: Mesh) -> Addresses
+    /// Those of the nodes of this mesh, in this memory.
+    pub fn new(mesh: Mesh, room: AddressRoom) -> Addresses
         ensures { result ≡ mesh }
     {
         let terminal = 2 * mesh.dims();
-        let mut list = [Digits {
-            lowest: 0,
-            middle: 0,
-            highest: 0,
-        }; 256];
+        let AddressRoom { mut list } = room;
         for number in 0..256u16 {
             list[usize::from(number)] = digits_of(&mesh, number as u8);
         }
@@ -103,6 +135,16 @@ impl Addresses {
             terminal,
             list,
         }
+    }
+
+    /// The memory that they are in.
+    pub fn into_room(self) -> AddressRoom {
+        let Addresses {
+            mesh: _,
+            terminal: _,
+            list,
+        } = self;
+        AddressRoom { list }
     }
 
     /// The mesh.

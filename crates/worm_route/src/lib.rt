@@ -20,7 +20,7 @@ ghost use Rattle.worm_route.specs.Route.{LeadsOn, hops_of, port_of, route_of, wa
 
 mod addresses;
 
-pub use addresses::Addresses;
+pub use addresses::{AddressRoom, Addresses};
 use worm_mesh::Mesh;
 
 /// The port by which the route to `dst` leaves `here`: `2d` is the minus side of dimension `d`, `2d + 1` its plus side.

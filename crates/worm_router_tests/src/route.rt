@@ -2,22 +2,22 @@
 
 ghost use Rattle.std.specs.Prelude.{◌<◌};
 
-use crate::cases::mesh_of;
+use crate::cases::{addresses_of, mesh_of};
 use crate::mesh::is_opposite;
 use std::process::Abort;
 use worm_mesh::Mesh;
-use worm_route::{Addresses, crosses, hops, next_port};
+use worm_route::{crosses, hops, next_port};
 
 /// The port by which the route leaves the node, by the mesh and by the addresses of its nodes.
-fn port_from(rt: &impl Abort, mesh: &Mesh, here: u8, dst: u8) -> u8 {
+fn port_from<R: Abort + AllocGlobal>(rt: &R, mesh: &Mesh, here: u8, dst: u8) -> u8 {
     assert!(rt; u16::from(here) < mesh.nodes() && u16::from(dst) < mesh.nodes());
     let port = next_port(mesh, here, dst);
-    assert_eq!(rt; Addresses::new(*mesh).port(here, dst), port);
+    assert_eq!(rt; addresses_of(rt, *mesh).port(here, dst), port);
     port
 }
 
 /// The nodes that leaving each node by its next port passes, up to the terminal.
-fn walked(rt: &impl Abort, mesh: &Mesh, src: u8, dst: u8) -> [u8; 8] {
+fn walked<R: Abort + AllocGlobal>(rt: &R, mesh: &Mesh, src: u8, dst: u8) -> [u8; 8] {
     let mut nodes = [255; 8];
     let mut here = src;
     for place in 0..8 {
@@ -31,7 +31,7 @@ fn walked(rt: &impl Abort, mesh: &Mesh, src: u8, dst: u8) -> [u8; 8] {
 }
 
 /// The route passes these nodes.
-fn passes(rt: &impl Abort, mesh: &Mesh, nodes: [u8; 8], src: u8, dst: u8) {
+fn passes<R: Abort + AllocGlobal>(rt: &R, mesh: &Mesh, nodes: [u8; 8], src: u8, dst: u8) {
     assert_eq!(rt; walked(rt, mesh, src, dst), nodes);
 }
 
@@ -42,7 +42,7 @@ fn takes(rt: &impl Abort, mesh: &Mesh, count: u8, src: u8, dst: u8) {
 }
 
 /// The route to the node leaves these by these ports.
-fn leaves(rt: &impl Abort, mesh: &Mesh, dst: u8, ports: &[(u8, u8)]) {
+fn leaves<R: Abort + AllocGlobal>(rt: &R, mesh: &Mesh, dst: u8, ports: &[(u8, u8)]) {
     for (here, port) in ports {
         assert_eq!(rt; port_from(rt, mesh, *here, dst), *port, "at {here}");
     }

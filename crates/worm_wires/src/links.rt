@@ -154,9 +154,12 @@ impl Links {
         requires states { length states.items ≡ link_count mesh }
         ensures { result ≡ record { mesh = mesh; states = states.items } }
     {
-        let wiring = Wiring::new(mesh);
+        let Inboxes {
+            list: mut fronts,
+            addresses,
+        } = inboxes;
+        let wiring = Wiring::new(mesh, addresses);
         let mut arrivals = [Arrivals::new(); 256];
-        let Inboxes { list: mut fronts } = inboxes;
         for node in 0..256u16 {
             let at = usize::from(node);
             let inbox = inbox_of(&wiring, states.as_slice(), node as u8);
@@ -192,7 +195,11 @@ impl Links {
         for node in 0..256u16 {
             spill_node(&wiring, &arrivals, &mut lists, &mut fronts, node as u8);
         }
-        (lists, Inboxes { list: fronts })
+        let inboxes = Inboxes {
+            list: fronts,
+            addresses: wiring.into_room(),
+        };
+        (lists, inboxes)
     }
 
     /// Whether nothing comes in at the node.

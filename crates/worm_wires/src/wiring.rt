@@ -8,7 +8,7 @@ ghost use Rattle.worm_wires.specs.Wiring.{port_links};
 
 use std::marker::Model;
 use worm_mesh::Mesh;
-use worm_route::Addresses;
+use worm_route::{AddressRoom, Addresses};
 
 /// The links of a mesh port that has a neighbour: the node beyond, and the numbers of the two links between.
 #[derive(Clone, Copy)]
@@ -110,8 +110,8 @@ fn steps(mesh: &Mesh) -> [u8; 6]
 }
 
 impl Wiring {
-    /// The mesh with its links' numbers.
-    pub fn new(mesh: Mesh) -> Wiring
+    /// The mesh with its links' numbers, and the addresses of its nodes in this memory.
+    pub fn new(mesh: Mesh, room: AddressRoom) -> Wiring
         requires { AreRadices mesh }
         ensures { result ≡ mesh }
     {
@@ -123,12 +123,24 @@ impl Wiring {
         let terminal = 2 * mesh.dims();
         let steps = steps(&mesh);
         Wiring {
-            addresses: Addresses::new(mesh),
+            addresses: Addresses::new(mesh, room),
             count,
             terminal,
             steps,
             nodes,
         }
+    }
+
+    /// The memory that the addresses are in.
+    pub(crate) fn into_room(self) -> AddressRoom {
+        let Wiring {
+            addresses,
+            count: _,
+            terminal: _,
+            steps: _,
+            nodes: _,
+        } = self;
+        addresses.into_room()
     }
 
     /// The mesh.

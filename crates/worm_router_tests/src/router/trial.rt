@@ -2,7 +2,7 @@
 
 ghost use Rattle.std.specs.Prelude.{◌≡◌, ◌<◌, ◌≤◌};
 
-use crate::cases::mesh_of;
+use crate::cases::{addresses_of, mesh_of};
 use crate::swalloc::are_chosen;
 use crate::vcalloc::{are_granted, has_channels};
 use std::marker::Model;
@@ -10,7 +10,6 @@ use std::process::Abort;
 use worm_cases::single;
 use worm_flit::{ClassChannels, Flit, are_channels};
 use worm_records::InRecord;
-use worm_route::Addresses;
 use worm_router::{Router, TooMany};
 use worm_swalloc::SwGrant;
 
@@ -91,7 +90,7 @@ impl<R: Abort + AllocGlobal + Copy> Trial<R> {
     /// The channel's packet gets its route.
     pub fn routes(&mut self, port: u8, vc: u8) {
         assert!(self.rt; port < 3 && vc < self.width);
-        let addresses = Addresses::new(mesh_of(&self.rt, &[2]));
+        let addresses = addresses_of(&self.rt, mesh_of(&self.rt, &[2]));
         assert!(self.rt; self.router.route(port, vc, &addresses));
     }
 

@@ -7,6 +7,6 @@ loop-number-preserved c =
     let inv = c.loop-number.invariant in
     record {
       all = rw length-set inv.all;
-      each = rw c.from.ensures (digits_more c.args.mesh c.loop-number.list c.loop-number.number c.digits_of.result
+      each = rw c.from.ensures (digits_more c.args.mesh c.loop-number.list.items c.loop-number.number c.digits_of.result
           (omega (arith, inv.all)) c.digits_of.ensures inv.each);
     }

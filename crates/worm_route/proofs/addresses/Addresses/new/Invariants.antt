@@ -4,6 +4,6 @@ use Rattle.worm_route.proofs.addresses.Addresses.new.Given as goal
 
 abbrev pub invariant-loop-number : goal.invariant-loop-number
 invariant-loop-number l = record {
-  all : length l.list ≡ 256;
-  each : (x : ℕ) → x < l.number → AreDigitsOf l.mesh x (get_or l.list x no_digits);
+  all : length l.list.items ≡ 256;
+  each : (x : ℕ) → x < l.number → AreDigitsOf l.mesh x (get_or l.list.items x no_digits);
 }

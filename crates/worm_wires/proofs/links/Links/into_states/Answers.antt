@@ -25,8 +25,8 @@ loop-node-preserved c =
           inv.spilled;
     }
 
-pub invariant_of-result : goal.invariant_of-result
-invariant_of-result c = c.loop-node.invariant.kept.sound.all
+pub invariant_of-inboxes : goal.invariant_of-inboxes
+invariant_of-inboxes c = c.loop-node.invariant.kept.sound.all
 
 pub returns : goal.returns
 returns c =
