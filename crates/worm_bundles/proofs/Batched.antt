@@ -1,14 +1,16 @@
 -- What each step of the ends of a queue of batches keeps.
 use Rattle.std.proofs.Common.{◌≡◌, ◌<◌, ◌+◌, true, List, [], ◌∷◌, ◌++◌, length}
-use Rattle.std.proofs.Common.{Option, refl, sym, ap, ◌∙◌, subst, arith, append_assoc, length-append, map}
+use Rattle.std.proofs.Common.{◌≤◌, Vec, Global, Option, refl, sym, ap, ◌∙◌, subst, arith, append_assoc, map}
+use Rattle.std.proofs.Common.{length-append}
 use Rattle.std.proofs.lemmas.List.{append-nil}
 use Rattle.std.proofs.lemmas.List.Elements.{All-nil, All-push}
-use Rattle.arrayvec.specs.ArrayVec.{ArrayVec}
 use Rattle.crossbeam_queue.specs.declared.array_queue.Doing.{Doing}
 use Rattle.crossbeam_queue.specs.declared.array_queue.Slotted.{Slotted}
-use Rattle.crossbeam_queue.specs.Passes.{Pass, view, IsPassOf, IsSamePass}
+use Rattle.crossbeam_queue.specs.Passes.{Pass, view, IsPassOf, IsSamePass, ruled_capacity}
 use Rattle.worm_bundles.specs.declared.history.Opened.{Opened}
-use Rattle.worm_bundles.specs.Batches.{joined, before, items_of, IsFilled, IsBatch, AreBatches, HandView}
+use Rattle.worm_bundles.specs.Batches.{joined, before, items_of, IsFilled, IsBatch, AreBatches}
+use Rattle.worm_bundles.specs.Batches.{FillingView, HandView}
+use Rattle.worm_bundles.specs.Bundles.{bundle_capacity}
 use Rattle.worm_bundles.specs.Roles.{IsSender, IsTaker, IsBoth}
 use Rattle.worm_bundles.proofs.Joined.{joined-append, joined-push, before-nothing, is_end, takes_one, IsEnd}
 use Rattle.worm_links.specs.declared.history.Known.{Known}
@@ -17,6 +19,9 @@ use Rattle.worm_links.proofs.OnLinks.{All-front}
 
 abbrev Knows : Type 0 → Type 0
 Knows X = Known Opened (List X)
+
+abbrev Batch : Type 0 → Type 0
+Batch X = Vec X Global
 
 module _ {X : Type 0} where
   pub is_none : (xs : List X) → length xs ≡ 0 → xs ≡ []
@@ -49,15 +54,18 @@ module _ {X : Type 0} where
           history = front bundle (joined bs) (joined cs) (subst (IsHistory bundle) (joined-append bs cs) h.history);
         }
 
-    module _ {Q A : Type 0} (line : Slotted (Option (ArrayVec X)) (Doing (ArrayVec X) (Knows X)) Q A)
-        (pass : Pass (ArrayVec X) (Knows X)) where
+    module _ {Q A : Type 0} (line : Slotted (Option (Batch X)) (Doing (Batch X) (Knows X)) Q A)
+        (pass : Pass (Batch X) (Knows X)) where
       abbrev v : Knows X
       v = view pass
 
       -- nothing was sent, and nothing taken
-      pub sender_begins : (bundle : Opened) (batch : List X) → IsHistory bundle [] → IsPassOf line pass
-          → v ≡ sender bundle [] → batch ≡ [] → IsSender IsHistory line pass batch
-      sender_begins bundle batch none here is empty =
+      pub sender_begins : (bundle : Opened) (filling : FillingView X) → IsHistory bundle [] → IsPassOf line pass
+          → v ≡ sender bundle [] → filling.items ≡ [] → bundle_capacity bundle.cfg ≤ ruled_capacity line
+          → filling.spares ≡ bundle_capacity bundle.cfg → IsSender IsHistory line pass filling
+      sender_begins bundle filling none here is empty room ready =
+          let places : bundle_capacity v.link.cfg ≡ bundle_capacity bundle.cfg =
+          ap (λ (u : Knows X). bundle_capacity u.link.cfg) is in
           record {
             here = here;
             role = is ∙ sym (ap (λ (u : Knows X). sender u.link u.sent) is);
@@ -65,6 +73,8 @@ module _ {X : Type 0} where
             history =
                 subst (λ (y : Knows X × List X). IsHistory y.0.link (joined y.0.sent ++ y.1))
                 (λ i. (sym is i, sym empty i)) none;
+            room = omega (arith, places, room);
+            ready = omega (arith, places, ready);
           }
 
       pub taker_begins : (bundle : Opened) (ahead : List X) → IsHistory bundle [] → IsPassOf line pass
@@ -79,22 +89,33 @@ module _ {X : Type 0} where
           }
 
       -- an item joins the batch that is being filled
-      pub fills : (batch : List X) (x : X) → IsSender IsHistory line pass batch →
-          IsHistory v.link ((joined v.sent ++ batch) ++ x ∷ []) → IsSender IsHistory line pass (batch ++ x ∷ [])
-      fills batch x h now =
+      pub fills : (filling next : FillingView X) (x : X) → IsSender IsHistory line pass filling →
+          IsHistory v.link ((joined v.sent ++ filling.items) ++ x ∷ []) → next.items ≡ filling.items ++ x ∷ []
+          → next.spares ≡ filling.spares → IsSender IsHistory line pass next
+      fills filling next x h now more same =
           record {
             here = h.here;
             role = h.role;
             batches = h.batches;
-            history = subst (IsHistory v.link) (append_assoc (joined v.sent) batch (x ∷ [])) now;
+            history =
+                subst (λ l. IsHistory v.link (joined v.sent ++ l)) (sym more)
+                (subst (IsHistory v.link) (append_assoc (joined v.sent) filling.items (x ∷ [])) now);
+            room = h.room;
+            ready = omega (arith, same, h.ready);
           }
 
-      -- the batch went onto the queue
-      pub puts : (batch : List X) (now : Pass (ArrayVec X) (Knows X)) → IsFilled batch →
-          IsSender IsHistory line pass batch → IsSamePass pass now →
-          view now ≡ known v.link v.pushes v.pops (v.sent ++ batch ∷ []) v.taken → IsSender IsHistory line now []
-      puts batch now more h same is =
+      -- the batch went onto the queue, and another was begun, in new memory or in what was asked for ahead
+      pub puts : (filling next : FillingView X) (now : Pass (Batch X) (Knows X)) → IsFilled filling.items →
+          IsSender IsHistory line pass filling → IsSamePass pass now →
+          view now ≡ known v.link v.pushes v.pops (v.sent ++ filling.items ∷ []) v.taken → next.items ≡ []
+          → filling.spares ≤ next.spares + 1 → IsSender IsHistory line now next
+      puts filling next now more h same is empty fewer =
+          let batch = filling.items in
           let grown = batches_grow v.link v.sent batch more h.history h.batches in
+          let places : bundle_capacity (view now).link.cfg ≡ bundle_capacity v.link.cfg =
+          ap (λ (u : Knows X). bundle_capacity u.link.cfg) is in
+          let longer : length (view now).sent ≡ length v.sent + 1 =
+          ap (λ (u : Knows X). length u.sent) is ∙ length-append v.sent (batch ∷ []) in
           record {
             here = (same.0 ∙ h.here.0, same.2 ∙ h.here.1);
             role =
@@ -102,35 +123,46 @@ module _ {X : Type 0} where
                 sym (ap (λ (u : Knows X). sender u.link u.sent) is);
             batches = subst (λ (u : Knows X). Batches u.link u.sent) (sym is) grown;
             history =
-                subst (λ (u : Knows X). IsHistory u.link (joined u.sent ++ [])) (sym is)
+                subst (λ (y : Knows X × List X). IsHistory y.0.link (joined y.0.sent ++ y.1))
+                (λ i. (sym is i, sym empty i))
                 (subst (IsHistory v.link) (sym (append-nil (joined (v.sent ++ batch ∷ [])))) grown.history);
+            room = omega (arith, places, h.room);
+            ready = omega (arith, places, longer, fewer, h.ready);
           }
 
-      -- the queue was full
-      pub stays : (batch : List X) (now : Pass (ArrayVec X) (Knows X)) → IsSender IsHistory line pass batch →
-          IsSamePass pass now → view now ≡ v → IsSender IsHistory line now batch
-      stays batch now h same is =
+      -- the queue was full, so as many batches were sent
+      pub stays : (filling next : FillingView X) (now : Pass (Batch X) (Knows X)) →
+          IsSender IsHistory line pass filling → IsSamePass pass now → view now ≡ v → next.items ≡ filling.items
+          → ruled_capacity line ≤ length v.sent → IsSender IsHistory line now next
+      stays filling next now h same is items full =
+          let places : bundle_capacity (view now).link.cfg ≡ bundle_capacity v.link.cfg =
+          ap (λ (u : Knows X). bundle_capacity u.link.cfg) is in
+          let sent : length (view now).sent ≡ length v.sent = ap (λ (u : Knows X). length u.sent) is in
           record {
             here = (same.0 ∙ h.here.0, same.2 ∙ h.here.1);
             role = is ∙ h.role ∙ sym (ap (λ (u : Knows X). sender u.link u.sent) is);
             batches = subst (λ (u : Knows X). Batches u.link u.sent) (sym is) h.batches;
-            history = subst (λ (u : Knows X). IsHistory u.link (joined u.sent ++ batch)) (sym is) h.history;
+            history =
+                subst (λ (y : Knows X × List X). IsHistory y.0.link (joined y.0.sent ++ y.1))
+                (λ i. (sym is i, sym items i)) h.history;
+            room = omega (arith, places, h.room);
+            ready = omega (arith, places, sent, h.room, full);
           }
 
       -- a batch came to hand, where nothing was
-      pub fetches : (ahead : List X) (x : ArrayVec X) (now : Pass (ArrayVec X) (Knows X)) → ahead ≡ [] →
+      pub fetches : (ahead : List X) (x : Batch X) (now : Pass (Batch X) (Knows X)) → ahead ≡ [] →
           IsTaker IsHistory line pass ahead → IsSamePass pass now → Popped items_of IsBatch Batches v x (view now)
-          → IsTaker IsHistory line now x.items ×
-          (before (joined (view now).taken) x.items ≡ before (joined v.taken) ahead)
+          → IsTaker IsHistory line now (items_of x) ×
+          (before (joined (view now).taken) (items_of x) ≡ before (joined v.taken) ahead)
       fetches ahead x now none h same told =
           let is = told.0 in
-          let all : joined (view now).taken ≡ joined v.taken ++ x.items =
-          ap (λ (u : Knows X). joined u.taken) is ∙ joined-push v.taken x.items in
-          let end = is_end (joined (view now).taken) (joined v.taken) x.items all in (
+          let all : joined (view now).taken ≡ joined v.taken ++ (items_of x) =
+          ap (λ (u : Knows X). joined u.taken) is ∙ joined-push v.taken (items_of x) in
+          let end = is_end (joined (view now).taken) (joined v.taken) (items_of x) all in (
             record {
               here = (same.0 ∙ h.here.0, same.2 ∙ h.here.1);
               role =
-                  is ∙ ap (λ (u : Knows X). known v.link u.pushes u.pops u.sent (v.taken ++ x.items ∷ [])) h.role ∙
+                  is ∙ ap (λ (u : Knows X). known v.link u.pushes u.pops u.sent (v.taken ++ (items_of x) ∷ [])) h.role ∙
                   sym (ap (λ (u : Knows X). taker u.link u.taken) is);
               batches = subst (λ (u : Knows X). Batches u.link u.taken) (sym is) told.2;
               at_hand = end.0;
@@ -221,29 +253,29 @@ module _ {X : Type 0} where
           )
 
       -- a batch came to hand, where nothing was
-      pub pops : (ahead : List X) (last : HandView X) (x : ArrayVec X) (now : Pass (ArrayVec X) (Knows X)) → ahead ≡ []
+      pub pops : (ahead : List X) (last : HandView X) (x : Batch X) (now : Pass (Batch X) (Knows X)) → ahead ≡ []
           → IsBoth IsHistory line pass ahead last → IsSamePass pass now →
           Popped items_of IsBatch Batches v x (view now)
-          → IsBoth IsHistory line now x.items last ×
-          (before (joined (view now).taken) x.items ≡ before (joined v.taken) ahead)
+          → IsBoth IsHistory line now (items_of x) last ×
+          (before (joined (view now).taken) (items_of x) ≡ before (joined v.taken) ahead)
       pops ahead last x now none h same told =
           let is = told.0 in
           let rest = told.3 (ap (λ (u : Knows X). u.pushes) h.role) in
           let sent : (view now).sent ≡ v.sent = ap (λ (u : Knows X). u.sent) is in
-          let taken : (view now).taken ≡ v.taken ++ x.items ∷ [] = ap (λ (u : Knows X). u.taken) is in
-          let all : joined (view now).taken ≡ joined v.taken ++ x.items =
-          ap joined taken ∙ joined-push v.taken x.items in
-          let end = is_end (joined (view now).taken) (joined v.taken) x.items all in
-          let longer : length (joined v.sent) ≡ length (joined v.taken) + length x.items + length (joined rest.0) =
+          let taken : (view now).taken ≡ v.taken ++ (items_of x) ∷ [] = ap (λ (u : Knows X). u.taken) is in
+          let all : joined (view now).taken ≡ joined v.taken ++ (items_of x) =
+          ap joined taken ∙ joined-push v.taken (items_of x) in
+          let end = is_end (joined (view now).taken) (joined v.taken) (items_of x) all in
+          let longer : length (joined v.sent) ≡ length (joined v.taken) + length (items_of x) + length (joined rest.0) =
           ap (λ (l : List (List X)). length (joined l)) rest.1 ∙
-          ap length (joined-append (v.taken ++ x.items ∷ []) rest.0) ∙
-          length-append (joined (v.taken ++ x.items ∷ [])) (joined rest.0) ∙
-          ap (λ (l : List X). length l + length (joined rest.0)) (joined-push v.taken x.items) ∙
-          ap (λ n. n + length (joined rest.0)) (length-append (joined v.taken) x.items) in (
+          ap length (joined-append (v.taken ++ (items_of x) ∷ []) rest.0) ∙
+          length-append (joined (v.taken ++ (items_of x) ∷ [])) (joined rest.0) ∙
+          ap (λ (l : List X). length l + length (joined rest.0)) (joined-push v.taken (items_of x)) ∙
+          ap (λ n. n + length (joined rest.0)) (length-append (joined v.taken) (items_of x)) in (
             record {
               here = (same.0 ∙ h.here.0, same.2 ∙ h.here.1);
               role =
-                  is ∙ ap (λ (u : Knows X). known v.link u.pushes u.pops v.sent (v.taken ++ x.items ∷ [])) h.role ∙
+                  is ∙ ap (λ (u : Knows X). known v.link u.pushes u.pops v.sent (v.taken ++ (items_of x) ∷ [])) h.role ∙
                   sym (ap (λ (u : Knows X). whole u.link u.sent u.taken) is);
               history =
                   subst (λ (u : Knows X). IsHistory u.link (joined u.sent ++ (last.gone ++ last.ahead))) (sym is)
@@ -256,31 +288,31 @@ module _ {X : Type 0} where
           )
 
       -- nothing is at hand, and the queue is empty
-      pub record IsLast (ahead : List X) (last : HandView X) (now : Pass (ArrayVec X) (Knows X)) : Type 0 where
+      pub record IsLast (ahead : List X) (last : HandView X) (now : Pass (Batch X) (Knows X)) : Type 0 where
         pub none : ahead ≡ []
         pub both : IsBoth IsHistory line pass ahead last
         pub same : IsSamePass pass now
         pub is : view now ≡ v
-        pub held : (items : List (ArrayVec X)) × (length items ≡ 0) ×
+        pub held : (items : List (Batch X)) × (length items ≡ 0) ×
             (v.pushes ≡ true → v.sent ≡ v.taken ++ map items_of items)
 
-      all_taken : (ahead : List X) (last : HandView X) (now : Pass (ArrayVec X) (Knows X)) → IsLast ahead last now
+      all_taken : (ahead : List X) (last : HandView X) (now : Pass (Batch X) (Knows X)) → IsLast ahead last now
           → v.sent ≡ v.taken
       all_taken ahead last now h = by_items h.held.0 h.held.1 (h.held.2 (ap (λ (u : Knows X). u.pushes) h.both.role))
         where
-          by_items : (items : List (ArrayVec X)) → length items ≡ 0 → v.sent ≡ v.taken ++ map items_of items
+          by_items : (items : List (Batch X)) → length items ≡ 0 → v.sent ≡ v.taken ++ map items_of items
               → v.sent ≡ v.taken
           by_items [] e is = is ∙ append-nil v.taken
           by_items (x ∷ items) e is = absurd (omega (arith, e))
 
-      front_is : (ahead : List X) (last : HandView X) (now : Pass (ArrayVec X) (Knows X)) → IsLast ahead last now
+      front_is : (ahead : List X) (last : HandView X) (now : Pass (Batch X) (Knows X)) → IsLast ahead last now
           → before (joined v.taken) ahead ≡ joined v.sent
       front_is ahead last now h =
           ap (λ l. before (joined v.taken) l) h.none ∙ before-nothing (joined v.taken) ∙
           ap joined (sym (all_taken ahead last now h))
 
       -- of the sender's batch nothing is left either
-      pub ends : (ahead : List X) (last : HandView X) (now : Pass (ArrayVec X) (Knows X)) → IsLast ahead last now
+      pub ends : (ahead : List X) (last : HandView X) (now : Pass (Batch X) (Knows X)) → IsLast ahead last now
           → last.ahead ≡ []
           → before (joined v.taken) ahead ++ last.gone ≡ joined v.sent ++ (last.gone ++ last.ahead)
       ends ahead last now h none =
@@ -289,7 +321,7 @@ module _ {X : Type 0} where
           ap (λ l. joined v.sent ++ (last.gone ++ l)) (sym none)
 
       -- nothing changes
-      pub rests : (ahead : List X) (last : HandView X) (now : Pass (ArrayVec X) (Knows X)) → IsLast ahead last now
+      pub rests : (ahead : List X) (last : HandView X) (now : Pass (Batch X) (Knows X)) → IsLast ahead last now
           → IsBoth IsHistory line now ahead last
       rests ahead last now h =
           let b = h.both in
@@ -307,7 +339,7 @@ module _ {X : Type 0} where
           }
 
       -- the next item of the sender's batch is taken
-      pub takes_last : (ahead : List X) (last next : HandView X) (x : X) (now : Pass (ArrayVec X) (Knows X))
+      pub takes_last : (ahead : List X) (last next : HandView X) (x : X) (now : Pass (Batch X) (Knows X))
           → IsLast ahead last now → last.ahead ≡ x ∷ next.ahead → next.gone ≡ last.gone ++ x ∷ []
           → IsBoth IsHistory line now ahead next × (next.gone ++ next.ahead ≡ last.gone ++ last.ahead)
       takes_last ahead last next x now h e gone =
@@ -332,8 +364,8 @@ module _ {X : Type 0} where
           )
 
       -- the ends came together
-      pub meets : (ahead batch : List X) (last : HandView X) (now : Pass (ArrayVec X) (Knows X)) (sent : Knows X)
-          (items : List (ArrayVec X)) → IsTaker IsHistory line pass ahead → IsSamePass pass now
+      pub meets : (ahead batch : List X) (last : HandView X) (now : Pass (Batch X) (Knows X)) (sent : Knows X)
+          (items : List (Batch X)) → IsTaker IsHistory line pass ahead → IsSamePass pass now
           → view now ≡ whole sent.link sent.sent v.taken → last.gone ≡ [] → last.ahead ≡ batch
           → IsHistory sent.link (joined sent.sent ++ batch)
           → ((view now).pushes ≡ true → (view now).sent ≡ (view now).taken ++ map items_of items)

@@ -1,7 +1,7 @@
 -- The items of a queue's batches, and how its ends are seen.
-use Rattle.std.specs.Prelude.{ℕ, ◌<◌, ◌-◌, List, length, take, All}
+use Rattle.std.specs.Prelude.{◌≡◌, ℕ, ◌<◌, ◌≤◌, ◌-◌, List, [], length, take, All, Vec, vec_capacity}
 use Rattle.std.specs.List.{flat_map}
-use Rattle.arrayvec.specs.ArrayVec.{ArrayVec}
+use Rattle.std.specs.declared.alloc.Global.{Global}
 use Rattle.worm_bundles.specs.declared.history.Opened.{Opened}
 use Rattle.worm_links.specs.History.{QueueName}
 
@@ -10,15 +10,19 @@ module _ {X : Type 0} where
   abbrev pub joined : List (List X) → List X
   joined batches = flat_map (λ batch. batch) batches
 
-  abbrev pub items_of : ArrayVec X → List X
+  abbrev pub items_of : Vec X Global → List X
   items_of batch = batch.items
 
   abbrev pub IsFilled : List X → Type 0
   IsFilled batch = 0 < length batch
 
   -- an item of the queue is a batch that is not empty
-  abbrev pub IsBatch : ArrayVec X → Type 0
-  IsBatch batch = IsFilled batch.items
+  abbrev pub IsBatch : Vec X Global → Type 0
+  IsBatch batch = IsFilled (items_of batch)
+
+  -- an empty batch with so many places
+  abbrev pub IsSpare : ℕ → Vec X Global → Type 0
+  IsSpare places batch = (items_of batch ≡ []) × (places ≤ vec_capacity batch)
 
   -- what was taken out of these before the end that is still ahead
   abbrev pub before : List X → List X → List X
@@ -35,11 +39,15 @@ pub record HandView (X : Type 0) : Type 0 where
   pub gone : List X
   pub ahead : List X
 
--- of the sender's end: the bundle, the queue, how many batches it has room for, and all that was sent
+-- of a batch that is being filled: its items, and for how many others memory was asked for ahead
+pub record FillingView (X : Type 0) : Type 0 where
+  pub items : List X
+  pub spares : ℕ
+
+-- of the sender's end: the bundle, the queue, and all that was sent
 pub record SenderView (X : Type 0) : Type 0 where
   pub bundle : Opened
   pub queue : QueueName
-  pub room : ℕ
   pub sent : List X
 
 -- of the taker's end: all that was taken, and what is at hand

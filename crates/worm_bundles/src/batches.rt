@@ -2,37 +2,39 @@
 //! batch that came off it.
 ghost use Rattle.std.specs.Prelude.{◌≡◌, ◌<◌, ◌≤◌, [], ◌∷◌, ◌++◌, true, false, length, List, slice_get, IfOk, IfErr};
 ghost use Rattle.std.specs.Prelude.{IfSome, IfNone, IsSome, ◌↔◌};
-ghost use Rattle.crossbeam_queue.specs.Passes.{view, IsPassOf, IsSamePass, ruled_capacity};
+ghost use Rattle.crossbeam_queue.specs.Passes.{view, IsPassOf, IsSamePass};
 ghost use Rattle.worm_bundles.specs.Batches.{joined};
 ghost use Rattle.worm_bundles.specs.Bundles.{no_bundle, bundle_capacity};
 ghost use Rattle.worm_bundles.specs.Roles.{IsSender};
 ghost use Rattle.worm_links.specs.History.{sender, taker, whole};
 
 use crate::BundleCfg;
+use crate::filling::Filling;
 use crate::hand::Hand;
 use crate::history::{Carriage, Naming, Opened, Reunion, Roles};
-use arrayvec::ArrayVec;
 use crossbeam_queue::protocol::{Lesson, Outcome, Protocol};
 use crossbeam_queue::{Pass, RuledArrayQueue};
 use std::alloc::Global;
 use std::collections::LinkedList;
 use std::marker::{Brand, Model, PhantomData};
-use std::mem;
 use std::sync::{Arc, Wait};
 use worm_links::{Known, LinkFault};
 
+// How many batches a queue has room for at least: what a sender lets out in many turns.
+const LEAST_BATCHES: usize = 64;
+
 type Knows<X> = Known<Opened, LinkedList<X>>;
 
-type Line<X, const N: usize, H> = RuledArrayQueue<ArrayVec<X, N>, Knows<X>, BatchRule<H>>;
+type Line<X, H> = RuledArrayQueue<Vec<X>, Knows<X>, BatchRule<H>>;
 
-type BatchPass<X, const N: usize> = Pass<ArrayVec<X, N>, Knows<X>>;
+type BatchPass<X> = Pass<Vec<X>, Knows<X>>;
 
 /// What was sent is what was taken, and then the batches that the queue holds, none of which is empty.
 pub struct BatchRule<H> {
     carriage: PhantomData<H>,
 }
 
-impl<X, const N: usize, H: Carriage<X>> Protocol<ArrayVec<X, N>, Knows<X>> for BatchRule<H> {
+impl<X, H: Carriage<X>> Protocol<Vec<X>, Knows<X>> for BatchRule<H> {
     ghost use Rattle.std.specs.Prelude.{[]};
     ghost use Rattle.worm_links.specs.History.{IsKept, whole};
     ghost use Rattle.worm_bundles.specs.Batches.{items_of, IsBatch, AreBatches};
@@ -48,14 +50,14 @@ struct Sends<H> {
     carriage: PhantomData<H>,
 }
 
-impl<X, const N: usize, H: Carriage<X>> Outcome<ArrayVec<X, N>, Knows<X>> for Sends<H> {
+impl<X, H: Carriage<X>> Outcome<Vec<X>, Knows<X>> for Sends<H> {
     ghost use Rattle.worm_links.specs.History.{Pushed};
     ghost use Rattle.worm_bundles.specs.Batches.{items_of, IsBatch, AreBatches};
 
     ghost then = { Pushed items_of IsBatch (AreBatches H.IsHistory) };
 }
 
-impl<X, const N: usize, H: Carriage<X>> Lesson<ArrayVec<X, N>, Knows<X>> for Sends<H> {
+impl<X, H: Carriage<X>> Lesson<Vec<X>, Knows<X>> for Sends<H> {
     ghost use Rattle.worm_links.specs.History.{HoldsSent};
     ghost use Rattle.worm_bundles.specs.Batches.{items_of, IsBatch, AreBatches};
 
@@ -67,14 +69,14 @@ struct Takes<H> {
     carriage: PhantomData<H>,
 }
 
-impl<X, const N: usize, H: Carriage<X>> Outcome<ArrayVec<X, N>, Knows<X>> for Takes<H> {
+impl<X, H: Carriage<X>> Outcome<Vec<X>, Knows<X>> for Takes<H> {
     ghost use Rattle.worm_links.specs.History.{Popped};
     ghost use Rattle.worm_bundles.specs.Batches.{items_of, IsBatch, AreBatches};
 
     ghost then = { Popped items_of IsBatch (AreBatches H.IsHistory) };
 }
 
-impl<X, const N: usize, H: Carriage<X>> Lesson<ArrayVec<X, N>, Knows<X>> for Takes<H> {
+impl<X, H: Carriage<X>> Lesson<Vec<X>, Knows<X>> for Takes<H> {
     ghost use Rattle.worm_links.specs.History.{HoldsRest};
     ghost use Rattle.worm_bundles.specs.Batches.{items_of, IsBatch, AreBatches};
 
@@ -85,17 +87,17 @@ impl<X, const N: usize, H: Carriage<X>> Lesson<ArrayVec<X, N>, Knows<X>> for Tak
 #[derive(Drop)]
 pub struct Sender<X, const N: usize, H: Carriage<X>> {
     // The queue, which the other end shares.
-    line: Arc<Line<X, N, H>>,
+    line: Arc<Line<X, H>>,
     // What this end may do with it, and knows of it.
-    pass: BatchPass<X, N>,
-    // The batch that is being filled.
-    batch: ArrayVec<X, N>,
+    pass: BatchPass<X>,
+    // The batch that is being filled, and memory for those on the queue.
+    filling: Filling<X, N>,
 }
 
 impl<X, const N: usize, H: Carriage<X>> Model for Sender<X, N, H> {
     ghost use Rattle.std.specs.Prelude.{◌++◌};
     ghost use Rattle.std.specs.Arc.{arc_value};
-    ghost use Rattle.crossbeam_queue.specs.Passes.{view as knows, ruled_capacity};
+    ghost use Rattle.crossbeam_queue.specs.Passes.{view as knows};
     ghost use Rattle.worm_links.specs.History.{queue_of};
     ghost use Rattle.worm_bundles.specs.Batches.{SenderView, joined};
     ghost use Rattle.worm_bundles.specs.Roles.{IsSender};
@@ -105,20 +107,19 @@ impl<X, const N: usize, H: Carriage<X>> Model for Sender<X, N, H> {
     ghost view = { λ t. record {
       bundle = (knows t.pass).link;
       queue = queue_of t.pass;
-      room = ruled_capacity (arc_value t.line);
-      sent = joined (knows t.pass).sent ++ t.batch.items;
+      sent = joined (knows t.pass).sent ++ t.filling.items;
     } };
 
-    ghost invariant = { λ t. IsSender H.IsHistory (arc_value t.line) t.pass t.batch.items };
+    ghost invariant = { λ t. IsSender H.IsHistory (arc_value t.line) t.pass t.filling };
 }
 
 /// The taker's end: it knows all that was taken, and has a batch at hand.
 #[derive(Drop)]
 pub struct Taker<X, const N: usize, H: Carriage<X>> {
     // The queue, which the other end shares.
-    line: Arc<Line<X, N, H>>,
+    line: Arc<Line<X, H>>,
     // What this end may do with it, and knows of it.
-    pass: BatchPass<X, N>,
+    pass: BatchPass<X>,
     // The batch that came off the queue last.
     hand: Hand<X, N>,
 }
@@ -146,9 +147,9 @@ impl<X, const N: usize, H: Carriage<X>> Model for Taker<X, N, H> {
 #[derive(Drop)]
 pub struct Both<X, const N: usize, H: Carriage<X>> {
     // The queue, which no one shares any more.
-    line: Arc<Line<X, N, H>>,
+    line: Arc<Line<X, H>>,
     // What the ends may do with it, and know of it.
-    whole: BatchPass<X, N>,
+    whole: BatchPass<X>,
     // The batch that came off the queue last.
     hand: Hand<X, N>,
     // The batch that the sender was filling.
@@ -176,10 +177,7 @@ impl<X, const N: usize, H: Carriage<X>> Model for Both<X, N, H> {
 }
 
 // Divides the first pass of a queue into those of a sender and a taker of the bundle that `B` names.
-fn divide<X, const N: usize, H: Carriage<X>, B: Naming>(
-    line: &Line<X, N, H>,
-    pass: &mut BatchPass<X, N>,
-) -> BatchPass<X, N>
+fn divide<X, H: Carriage<X>, B: Naming>(line: &Line<X, H>, pass: &mut BatchPass<X>) -> BatchPass<X>
     requires none { H.IsHistory B.bundle [] }
     requires queue { IsPassOf line.now pass.old × (view pass.old ≡ whole no_bundle [] []) }
     ensures queue { IsSamePass pass.old pass.new × IsPassOf line.now result }
@@ -188,19 +186,19 @@ fn divide<X, const N: usize, H: Carriage<X>, B: Naming>(
     line.another::<Roles<B>>(pass)
 }
 
-// How many batches a queue has room for: as many as a link's buffers have places, and not too few for a turn's.
-fn room_for(cfg: BundleCfg) -> usize
+// How many places the buffers at a link's far end have together.
+fn places_of(cfg: BundleCfg) -> usize
     requires vcs { (0 < cfg.vcs) × (cfg.vcs ≤ 8) }
     requires depth { (0 < cfg.depth) × (cfg.depth ≤ 17) }
-    ensures some { 0 < result }
-    ensures enough { bundle_capacity cfg ≤ result }
+    ensures { result ≡ bundle_capacity cfg }
 {
-    let places = usize::from(cfg.vcs) * usize::from(cfg.depth);
-    places.max(64)
+    usize::from(cfg.vcs) * usize::from(cfg.depth)
 }
 
-/// The ends of a new queue of batches, over the bundle that `B` names.
-pub fn batches<X: Copy + Default, const N: usize, H: Carriage<X>, B: Naming>(
+/// The ends of a new queue of batches, over the bundle that `B` names. It has room for as many batches as a link's
+/// buffers have places, and not too few for a turn's; memory for as many is asked for ahead, so that no fewer were sent
+/// where memory for another is refused.
+pub fn batches<X: Copy, const N: usize, H: Carriage<X>, B: Naming>(
     alloc: Global,
     cfg: BundleCfg,
 ) -> Result<(Sender<X, N, H>, Taker<X, N, H>), LinkFault>
@@ -210,12 +208,13 @@ pub fn batches<X: Copy + Default, const N: usize, H: Carriage<X>, B: Naming>(
     requires unnamed { H.IsHistory no_bundle [] }
     requires none { H.IsHistory B.bundle [] }
     ensures bundle { IfOk result (λ ends. (ends.0.bundle ≡ B.bundle) × (ends.1.bundle ≡ B.bundle)) }
-    ensures room { IfOk result (λ ends. bundle_capacity cfg ≤ ends.0.room) }
     ensures empty { IfOk result (λ ends. (ends.0.sent ≡ []) × (ends.1.taken ≡ []) × (ends.1.ahead ≡ [])) }
     ensures queue { IfOk result (λ ends. ends.0.queue ≡ ends.1.queue) }
 {
-    let (line, mut tx) = Line::<X, N, H>::ruled(alloc, room_for(cfg))?;
-    let rx = divide::<X, N, H, B>(&line, &mut tx);
+    let places = places_of(cfg);
+    let filling = Filling::new(alloc, places)?;
+    let (line, mut tx) = Line::<X, H>::ruled(alloc, places.max(LEAST_BATCHES))?;
+    let rx = divide::<X, H, B>(&line, &mut tx);
     let Ok(line) = Arc::new(alloc, line) else {
         return Err(LinkFault::NoMemory);
     };
@@ -223,98 +222,101 @@ pub fn batches<X: Copy + Default, const N: usize, H: Carriage<X>, B: Naming>(
     let sender = Sender {
         line,
         pass: tx,
-        batch: ArrayVec::new(),
+        filling,
     };
     let taker = Taker {
         line: theirs,
         pass: rx,
-        hand: Hand::new(),
+        hand: Hand::new(alloc),
     };
     Ok((sender, taker))
 }
 
-// Puts the batch onto the queue, and leaves an empty one. False where the queue is full.
-fn put<X: Copy + Default, const N: usize, H: Carriage<X>, R: Wait>(
+// Puts the batch onto the queue, and leaves an empty one. False where the queue is full, or there is no memory.
+fn put<X: Copy, const N: usize, H: Carriage<X>, R: Wait>(
     rt: &R,
-    line: &Line<X, N, H>,
-    pass: &mut BatchPass<X, N>,
-    batch: &mut ArrayVec<X, N>,
+    line: &Line<X, H>,
+    pass: &mut BatchPass<X>,
+    filling: &mut Filling<X, N>,
 ) -> bool
-    requires end { IsSender H.IsHistory line.now pass.old batch.old.items }
-    requires filled { 0 < length batch.old.items }
-    ensures end { IsSender H.IsHistory line.now pass.new batch.new.items }
+    requires end { IsSender H.IsHistory line.now pass.old filling.old }
+    requires filled { 0 < length filling.old.items }
+    ensures end { IsSender H.IsHistory line.now pass.new filling.new }
     ensures queue { IsSamePass pass.old pass.new }
     ensures bundle { (view pass.new).link ≡ (view pass.old).link }
-    ensures sent { joined (view pass.new).sent ++ batch.new.items ≡ joined (view pass.old).sent ++ batch.old.items }
-    ensures put { result ≡ true → batch.new.items ≡ [] }
-    ensures full { result ≡ false → ruled_capacity line.now ≤ length (joined (view pass.old).sent) }
+    ensures sent { joined (view pass.new).sent ++ filling.new.items ≡ joined (view pass.old).sent ++ filling.old.items }
+    ensures put { result ≡ true → filling.new.items ≡ [] }
+    ensures full { result ≡ false → bundle_capacity (view pass.old).link.cfg ≤ length (joined (view pass.old).sent) }
 {
-    let full = mem::replace(batch, ArrayVec::new());
+    let Some(full) = filling.begin_next() else {
+        return false;
+    };
     match line.push_as::<Sends<H>, R>(rt, pass, full) {
         Ok(()) => true,
         Err(back) => {
-            *batch = back;
+            filling.put_back(back);
             false
         }
     }
 }
 
-// Puts the batch onto the queue, if it is full. False where the queue is full, too.
-fn make_room<X: Copy + Default, const N: usize, H: Carriage<X>, R: Wait>(
+// Puts the batch onto the queue, if it is full. False where that cannot be.
+fn make_room<X: Copy, const N: usize, H: Carriage<X>, R: Wait>(
     rt: &R,
-    line: &Line<X, N, H>,
-    pass: &mut BatchPass<X, N>,
-    batch: &mut ArrayVec<X, N>,
+    line: &Line<X, H>,
+    pass: &mut BatchPass<X>,
+    filling: &mut Filling<X, N>,
 ) -> bool
-    requires end { IsSender H.IsHistory line.now pass.old batch.old.items }
+    requires end { IsSender H.IsHistory line.now pass.old filling.old }
     requires places { 0 < N }
-    ensures end { IsSender H.IsHistory line.now pass.new batch.new.items }
+    ensures end { IsSender H.IsHistory line.now pass.new filling.new }
     ensures queue { IsSamePass pass.old pass.new }
     ensures bundle { (view pass.new).link ≡ (view pass.old).link }
-    ensures sent { joined (view pass.new).sent ++ batch.new.items ≡ joined (view pass.old).sent ++ batch.old.items }
-    ensures room { result ≡ true → length batch.new.items < N }
-    ensures full { result ≡ false → ruled_capacity line.now ≤ length (joined (view pass.old).sent) }
+    ensures sent { joined (view pass.new).sent ++ filling.new.items ≡ joined (view pass.old).sent ++ filling.old.items }
+    ensures room { result ≡ true → length filling.new.items < N }
+    ensures full { result ≡ false → bundle_capacity (view pass.old).link.cfg ≤ length (joined (view pass.old).sent) }
 {
-    if !batch.is_full() {
+    if !filling.is_full() {
         return true;
     }
-    put(rt, line, pass, batch)
+    put(rt, line, pass, filling)
 }
 
-impl<X: Copy + Default, const N: usize, H: Carriage<X>> Sender<X, N, H> {
+impl<X: Copy, const N: usize, H: Carriage<X>> Sender<X, N, H> {
     /// What was sent is a history of the bundle.
     pub fn history(&self)
         ensures { H.IsHistory self.now.bundle self.now.sent }
     {
-        let _ = &self.batch;
+        let _ = &self.filling;
     }
 
-    /// Sends the item. `Err` gives it back and changes nothing: the queue is full, and so is the batch.
+    /// Sends the item. `Err` gives it back and changes nothing: the batch is full, and so is the queue, or memory for
+    /// another batch is refused.
     pub fn push<R: Wait>(&mut self, rt: &R, item: X) -> Result<(), X>
         requires places { 0 < N }
         requires history { H.IsHistory self.old.bundle (self.old.sent ++ item ∷ []) }
         ensures sent { IfOk result (λ _. self.new ≡ record self.old { sent = self.old.sent ++ item ∷ [] }) }
         ensures back { IfErr result (λ back. (back ≡ item) × (self.new ≡ self.old)) }
-        ensures full { IfErr result (λ _. self.old.room ≤ length self.old.sent) }
+        ensures full { IfErr result (λ _. bundle_capacity self.old.bundle.cfg ≤ length self.old.sent) }
     {
-        if !make_room(rt, &self.line, &mut self.pass, &mut self.batch) {
+        if !make_room(rt, &self.line, &mut self.pass, &mut self.filling) {
             return Err(item);
         }
-        self.batch.push(item);
+        self.filling.push(item);
         Ok(())
     }
 
-    /// Puts the batch onto the queue, unless it is empty or the queue is full.
+    /// Puts the batch onto the queue, unless it is empty, the queue is full, or memory for another batch is refused.
     pub fn flush<R: Wait>(&mut self, rt: &R)
         ensures { self.new ≡ self.old }
     {
-        if !self.batch.is_empty() {
-            let _ = put(rt, &self.line, &mut self.pass, &mut self.batch);
+        if !self.filling.is_empty() {
+            let _ = put(rt, &self.line, &mut self.pass, &mut self.filling);
         }
     }
 }
 
-impl<X: Copy + Default, const N: usize, H: Carriage<X>> Taker<X, N, H> {
+impl<X: Copy, const N: usize, H: Carriage<X>> Taker<X, N, H> {
     /// What was taken is a history of the bundle, and so it is with what is at hand.
     pub fn history(&self)
         ensures taken { H.IsHistory self.now.bundle self.now.taken }
@@ -371,7 +373,7 @@ impl<X: Copy + Default, const N: usize, H: Carriage<X>> Taker<X, N, H> {
 }
 
 /// Both ends of one queue, together again.
-pub fn reunite<X: Copy + Default, const N: usize, H: Carriage<X>>(
+pub fn reunite<X: Copy, const N: usize, H: Carriage<X>>(
     tx: Sender<X, N, H>,
     rx: Taker<X, N, H>,
 ) -> Both<X, N, H>
@@ -381,7 +383,7 @@ pub fn reunite<X: Copy + Default, const N: usize, H: Carriage<X>>(
     let Sender {
         line: _,
         pass: sent,
-        batch,
+        filling,
     } = tx;
     let Taker {
         line,
@@ -394,11 +396,11 @@ pub fn reunite<X: Copy + Default, const N: usize, H: Carriage<X>>(
         line,
         whole: taken,
         hand,
-        last: Hand::of(batch),
+        last: Hand::of(filling.finish()),
     }
 }
 
-impl<X: Copy + Default, const N: usize, H: Carriage<X>> Both<X, N, H> {
+impl<X: Copy, const N: usize, H: Carriage<X>> Both<X, N, H> {
     /// What was taken is a history of the bundle, and the beginning of what was sent.
     pub fn history(&self)
         ensures history { H.IsHistory self.now.bundle self.now.taken }

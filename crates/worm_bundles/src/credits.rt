@@ -44,14 +44,11 @@ pub struct CreditTx {
 }
 
 impl Model for CreditTx {
-    ghost use Rattle.std.specs.Prelude.{◌≤◌};
-    ghost use Rattle.worm_bundles.specs.Bundles.{CreditTxView, bundle_capacity};
+    ghost use Rattle.worm_bundles.specs.Bundles.{CreditTxView};
 
     ghost Value = { CreditTxView };
 
     ghost view = { λ t. record { bundle = t.end.bundle.cfg; queue = t.end.queue; sent = t.end.sent } };
-
-    ghost invariant = { λ t. bundle_capacity t.end.bundle.cfg ≤ t.end.room };
 }
 
 /// The taker's end of a bundle's credit lines: it knows all that was taken, and has a batch at hand. It may lie in a
@@ -123,7 +120,8 @@ fn open<B: Naming>(alloc: Global, cfg: BundleCfg) -> Result<(CreditTx, CreditRx)
 }
 
 /// The ends of the credit lines of a new bundle, whose queue has room for as many batches as a link's buffers have
-/// places, and for 64 at least. A credit continues nothing, so there is no other way to open them.
+/// places, and for 64 at least. Memory for as many batches as those places is taken ahead. A credit continues nothing,
+/// so there is no other way to open them.
 ///
 /// There are 1 to 8 channels and 1 to 17 places of depth. `NoMemory` where memory is refused.
 pub fn credit_bundle(alloc: Global, cfg: BundleCfg) -> Result<(CreditTx, CreditRx), LinkFault>
@@ -145,8 +143,8 @@ impl CreditTx {
     }
 
     /// Sends a credit for the channel of the link that leaves the node. It stays in the batch until that is full or
-    /// flushed. `Err` gives the channel back and changes nothing: the batch and the queue are full, so at least
-    /// channels times depth credits were sent.
+    /// flushed. `Err` gives the channel back and changes nothing: the batch is full, and so is the queue, or memory for
+    /// the batch is refused. Then at least channels times depth credits were sent.
     pub fn push<R: Wait>(&mut self, rt: &R, node: u8, vc: u8) -> Result<(), u8>
         requires { vc < self.old.bundle.vcs }
         ensures sent { IfOk result (λ _. self.new
@@ -161,7 +159,7 @@ impl CreditTx {
         }
     }
 
-    /// Puts the batch onto the queue, unless it is empty or the queue is full.
+    /// Puts the batch onto the queue, unless it is empty, the queue is full, or memory for it is refused.
     pub fn flush<R: Wait>(&mut self, rt: &R)
         ensures { self.new ≡ self.old }
     {

@@ -17,7 +17,7 @@ use worm_flit::Flit;
 use worm_links::LinkFault;
 
 // How many flits a batch has places for.
-const PLACES: usize = 32;
+const PLACES: usize = 64;
 
 /// Flits, which are worms on each channel of each link.
 pub struct Flits;
@@ -31,7 +31,7 @@ impl Carriage<Carried> for Flits {
     ghost front = { bundle_front };
 }
 
-/// The sender's end of a bundle: it knows all that was sent, and fills a batch of 32 flits. It may lie in a `Vec` and
+/// The sender's end of a bundle: it knows all that was sent, and fills a batch of 64 flits. It may lie in a `Vec` and
 /// go to another thread.
 ///
 /// ```
@@ -48,8 +48,7 @@ pub struct FlitTx {
 }
 
 impl Model for FlitTx {
-    ghost use Rattle.std.specs.Prelude.{◌≤◌};
-    ghost use Rattle.worm_bundles.specs.Bundles.{TxView, bundle_capacity};
+    ghost use Rattle.worm_bundles.specs.Bundles.{TxView};
 
     ghost Value = { TxView };
 
@@ -59,8 +58,6 @@ impl Model for FlitTx {
       queue = t.end.queue;
       sent = t.end.sent;
     } };
-
-    ghost invariant = { λ t. bundle_capacity t.end.bundle.cfg ≤ t.end.room };
 }
 
 /// The taker's end of a bundle: it knows all that was taken, and has a batch at hand. It may lie in a `Vec` and go to
@@ -150,7 +147,7 @@ fn open<B: Naming>(alloc: Global, cfg: BundleCfg) -> Result<(FlitTx, FlitRx), Li
 }
 
 /// The ends of a new bundle, whose queue has room for as many batches as a link's buffers have places, and for 64 at
-/// least. The first flit of a channel may be any.
+/// least. Memory for as many batches as those places is taken ahead. The first flit of a channel may be any.
 ///
 /// There are 1 to 8 channels and 1 to 17 places of depth. `NoMemory` where memory is refused.
 pub fn bundle(alloc: Global, cfg: BundleCfg) -> Result<(FlitTx, FlitRx), LinkFault>
@@ -194,7 +191,8 @@ impl FlitTx {
 
     /// Sends the flit over the link that leaves the node, which it may cross; it continues the last flit of its channel
     /// there. It stays in the batch until that is full or flushed. `Err` gives it back and changes nothing: the batch
-    /// and the queue are full, so at least channels times depth flits were sent.
+    /// is full, and so is the queue, or memory for the batch is refused. Then at least channels times depth flits were
+    /// sent.
     pub fn push<R: Wait>(&mut self, rt: &R, node: u8, flit: Flit) -> Result<(), Flit>
         requires continues { Continues
             (on_channel flit.vc (past_at self.old.pasts node ++ on_node node self.old.sent)) flit }
@@ -211,7 +209,7 @@ impl FlitTx {
         }
     }
 
-    /// Puts the batch onto the queue, unless it is empty or the queue is full.
+    /// Puts the batch onto the queue, unless it is empty, the queue is full, or memory for it is refused.
     pub fn flush<R: Wait>(&mut self, rt: &R)
         ensures { self.new ≡ self.old }
     {

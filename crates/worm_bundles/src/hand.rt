@@ -1,14 +1,14 @@
 //! A batch off the queue, whose items are taken one by one.
 ghost use Rattle.std.specs.Prelude.{◌≡◌, ◌<◌, ◌+◌, [], ◌∷◌, ◌++◌, ◌==◌, length, slice_get, IsSome, ◌↔◌};
 
-use arrayvec::ArrayVec;
+use std::alloc::Global;
 use std::marker::Model;
 
 /// A batch, and how far it was taken.
 #[derive(Drop)]
 pub struct Hand<X, const N: usize> {
     // The items, which stay where they are.
-    batch: ArrayVec<X, N>,
+    batch: Vec<X>,
     // How many of them were taken.
     next: usize,
 }
@@ -24,17 +24,17 @@ impl<X, const N: usize> Model for Hand<X, N> {
     ghost invariant = { λ h. h.next ≤ length h.batch.items };
 }
 
-impl<X: Copy + Default, const N: usize> Hand<X, N> {
+impl<X: Copy, const N: usize> Hand<X, N> {
     /// Nothing at hand.
-    pub fn new() -> Hand<X, N>
+    pub fn new(alloc: Global) -> Hand<X, N>
         ensures gone { result.gone ≡ [] }
         ensures ahead { result.ahead ≡ [] }
     {
-        Hand::of(ArrayVec::new())
+        Hand::of(Vec::new(alloc))
     }
 
     /// The whole batch at hand.
-    pub fn of(batch: ArrayVec<X, N>) -> Hand<X, N>
+    pub fn of(batch: Vec<X>) -> Hand<X, N>
         ensures gone { result.gone ≡ [] }
         ensures ahead { result.ahead ≡ batch.items }
     {
@@ -52,7 +52,7 @@ impl<X: Copy + Default, const N: usize> Hand<X, N> {
     pub fn was_full(&self) -> bool
         ensures { result ≡ (length self.now.gone + length self.now.ahead == N) }
     {
-        self.batch.is_full()
+        self.batch.len() == N
     }
 
     /// The next item, if any.

@@ -2,26 +2,29 @@
 //! credits the other (Dally and Towles, chapters 12 and 13).
 //!
 //! A flit that crosses alone costs two threads a cache line to and fro. So a queue holds batches: the sender fills one,
-//! of 32 flits or 60 credits, and puts it onto the queue when it is full or flushed; the taker has one at hand.
+//! of 64 flits or 60 credits, and puts it onto the queue when it is full or flushed; the taker has one at hand. A batch
+//! lies on the heap, and the queue moves no more than where.
 //! One idea carries both kinds: what was sent is the items of the batches that were taken, and then of those that the
 //! queue holds, and then of the batch that is being filled. For each node the flits among them are a history of its
 //! link, as in `worm_links`, so the taker has that of what it takes with no check. An end is written and proved once,
 //! for whatever is carried (`batches`); flits and credits say only what a history of theirs is.
 //!
-//! Only making a queue takes memory. Nothing here waits for room or for a batch; a push, a flush, and a pop of what is
-//! left at the end, may yet wait within the queue, so that they return is not claimed, nor that a batch is ever taken,
-//! nor when. That a node is one of the sender's worker is the caller's affair.
+//! Making a queue takes memory, and so does each batch that goes onto one. Where that is refused, batches go in what
+//! was taken ahead, and then what is sent stays with its sender. Nothing here waits for room or for a batch; a push, a
+//! flush, and a pop of what is left at the end, may yet wait within the queue, so that they return is not claimed, nor
+//! that a batch is ever taken, nor when. That a node is one of the sender's worker is the caller's affair.
 #![tactic(auto)]
 
 mod batches;
 mod credits;
+mod filling;
 mod flits;
 mod hand;
 mod history;
 
 pub use credits::{CreditEnds, CreditRx, CreditTx, credit_bundle, reunite_credits};
 pub use flits::{Ends, FlitRx, FlitTx, Opening, bundle, bundle_after, reunite};
-use worm_flit::{Flit, Kind, Lane};
+use worm_flit::Flit;
 use worm_mesh::Mesh;
 
 /// All links that leave one worker's nodes by one port, and what each may carry.
@@ -56,33 +59,4 @@ pub struct Returned {
     pub node: u8,
     /// The link's channel on which a place came free.
     pub vc: u8,
-}
-
-/// What an unused place of a batch holds: all its bytes are zero, so that a whole batch is cleared at once.
-impl Default for Carried {
-    fn default() -> Carried {
-        let lane = Lane {
-            src: 0,
-            dst: 0,
-            class: 0,
-        };
-        Carried {
-            flit: Flit {
-                lane,
-                packet: 0,
-                index: 0,
-                kind: Kind::Head,
-                vc: 0,
-                word: 0,
-            },
-            node: 0,
-        }
-    }
-}
-
-/// What an unused place of a batch holds.
-impl Default for Returned {
-    fn default() -> Returned {
-        Returned { node: 0, vc: 0 }
-    }
 }

@@ -114,29 +114,29 @@ fn are_left<R: Abort + Wait>(rt: &R, ends: &mut Ends, first: u16, end: u16) {
 
 /// Two batches and a part: what is in the sender's batch comes once it is flushed.
 #[test]
-fn eighty_flits_of_two_links(rt: HostRuntime) {
+fn flits_of_two_links_in_three_batches(rt: HostRuntime) {
     let (mut tx, mut rx) = ends_of(&rt, rt.alloc());
     assert_eq!(rt; next(&mut rx), None);
-    assert_eq!(rt; push_all(&rt, &mut tx, 80), 80);
-    come(&rt, &mut rx, 0, 64);
+    assert_eq!(rt; push_all(&rt, &mut tx, 144), 144);
+    come(&rt, &mut rx, 0, 128);
     assert_eq!(rt; next(&mut rx), None);
     tx.flush(&rt);
     tx.flush(&rt);
-    come(&rt, &mut rx, 64, 80);
+    come(&rt, &mut rx, 128, 144);
     assert_eq!(rt; next(&mut rx), None);
 }
 
-/// The queue has room for 64 batches of 32 flits, and the sender for one more.
+/// The queue has room for 64 batches of 64 flits, and the sender for one more.
 #[test]
 fn a_full_bundle(rt: HostRuntime) {
     let (mut tx, mut rx) = ends_of(&rt, rt.alloc());
-    assert_eq!(rt; push_all(&rt, &mut tx, 3000), 2080);
-    assert_eq!(rt; push(&rt, &mut tx, 2, 2080), Err(only(2, 2080)));
+    assert_eq!(rt; push_all(&rt, &mut tx, 5000), 4160);
+    assert_eq!(rt; push(&rt, &mut tx, 2, 4160), Err(only(2, 4160)));
     tx.flush(&rt);
-    come(&rt, &mut rx, 0, 2048);
+    come(&rt, &mut rx, 0, 4096);
     assert_eq!(rt; next(&mut rx), None);
     tx.flush(&rt);
-    come(&rt, &mut rx, 2048, 2080);
+    come(&rt, &mut rx, 4096, 4160);
 }
 
 /// Behind a full batch that was taken the next comes to hand. Behind one that was not full none does, though one stands
@@ -144,14 +144,14 @@ fn a_full_bundle(rt: HostRuntime) {
 #[test]
 fn a_batch_behind_a_full_one(rt: HostRuntime) {
     let (mut tx, mut rx) = ends_of(&rt, rt.alloc());
-    assert_eq!(rt; push_all(&rt, &mut tx, 34), 34);
+    assert_eq!(rt; push_all(&rt, &mut tx, 66), 66);
     tx.flush(&rt);
     assert_eq!(rt; push_all(&rt, &mut tx, 1), 1);
     tx.flush(&rt);
     assert_eq!(rt; rx.peek(), None);
-    come(&rt, &mut rx, 0, 32);
-    assert_eq!(rt; rx.peek(), Some(carried(32)));
-    come(&rt, &mut rx, 32, 34);
+    come(&rt, &mut rx, 0, 64);
+    assert_eq!(rt; rx.peek(), Some(carried(64)));
+    come(&rt, &mut rx, 64, 66);
     assert_eq!(rt; rx.peek(), None);
     rx.fetch();
     assert_eq!(rt; rx.peek(), Some(carried(0)));
@@ -161,10 +161,10 @@ fn a_batch_behind_a_full_one(rt: HostRuntime) {
 #[test]
 fn flits_left_at_the_reunion(rt: HostRuntime) {
     let (mut tx, mut rx) = ends_of(&rt, rt.alloc());
-    assert_eq!(rt; push_all(&rt, &mut tx, 67), 67);
+    assert_eq!(rt; push_all(&rt, &mut tx, 131), 131);
     come(&rt, &mut rx, 0, 2);
     let mut ends = reunite(tx, rx);
-    are_left(&rt, &mut ends, 2, 67);
+    are_left(&rt, &mut ends, 2, 131);
 }
 
 /// Pushes and flushes packets of one flit in turns of 70, as long as there is room; how many.

@@ -1,7 +1,7 @@
-use Rattle.std.proofs.Common.{rules}
+use Rattle.std.proofs.Common.{◌≡◌, ◌∙◌, ap, arith, rules, sym}
 use Rattle.std.specs.Arc.{arc_value}
 use Rattle.worm_bundles.specs.Batches.{items_of, IsBatch, AreBatches}
-use Rattle.worm_bundles.specs.Bundles.{no_bundle}
+use Rattle.worm_bundles.specs.Bundles.{no_bundle, bundle_capacity}
 use Rattle.worm_bundles.proofs.Batched.{no_batch, sender_begins, taker_begins}
 use Rattle.worm_links.proofs.Histories.{begins}
 use Rattle.worm_bundles.proofs.batches.batches.Goals as goal
@@ -13,8 +13,11 @@ ruled-requires-clause-rule g c =
 
 pub invariant_of-sender : goal.invariant_of-sender
 invariant_of-sender g c =
+    let places : bundle_capacity g.B.Naming.bundle.cfg ≡ c.places_of-places.result =
+    ap bundle_capacity c.requires.bundle ∙ sym c.places_of-places.ensures in
     sender_begins g.H.Carriage.IsHistory (arc_value c.in-Ok.line) c.divide-rx.new.pass g.B.Naming.bundle
-    c.new-2.result.items c.requires.none (search rules) c.divide-rx.ensures.views.0 c.new-2.ensures
+    _ c.requires.none (search rules) c.divide-rx.ensures.views.0 (search rules) (search (arith, rules))
+    (search (arith, rules))
 
 pub invariant_of-taker : goal.invariant_of-taker
 invariant_of-taker g c =

@@ -1,8 +1,6 @@
 use Rattle.std.proofs.Common.{◌<◌, ◌∙◌, ap, arith, subst, sym, List, [], ◌∷◌, ◌++◌, length}
-use Rattle.arrayvec.specs.ArrayVec.{ArrayVec}
 use Rattle.crossbeam_queue.specs.Passes.{view}
 use Rattle.worm_bundles.specs.Batches.{joined, items_of, IsBatch, AreBatches}
-use Rattle.worm_bundles.specs.Roles.{IsSender}
 use Rattle.worm_bundles.proofs.Batched.{batches_grow, puts}
 use Rattle.worm_bundles.proofs.Joined.{no_more_batches}
 use Rattle.worm_links.specs.History.{known}
@@ -15,10 +13,10 @@ push_as-requires-clause-rule g c =
     let v = view c.args.pass.now in
     let end = c.requires.end in
     let may = ap (λ v. v.pushes) end.role in
-    let is = sym c.replace-full.ensures.value in
-    let filled = subst (λ (b : ArrayVec g.row.X.Denot). 0 < length b.items) is c.requires.filled in
-    let history = subst (λ (b : ArrayVec g.row.X.Denot). H v.link (joined v.sent ++ b.items)) is end.history in (
-      sends items_of IsBatch (AreBatches H) _ _ v c.replace-full.result may filled
+    let is = sym c.in-Some.ensures.given.0 in
+    let filled = subst (λ (l : List g.row.X.Denot). 0 < length l) is c.requires.filled in
+    let history = subst (λ (l : List g.row.X.Denot). H v.link (joined v.sent ++ l)) is end.history in (
+      sends items_of IsBatch (AreBatches H) _ _ v c.in-Some.full may filled
           (batches_grow H v.link v.sent _ filled history),
       learns_sent items_of IsBatch (AreBatches H) _ _ may,
     )
@@ -27,13 +25,21 @@ pub returns-in-Ok-clause-end : goal.returns-in-Ok-clause-end
 returns-in-Ok-clause-end g c =
     let H = g.H.Carriage.IsHistory in
     let v = view c.args.pass.now in
-    let is = c.replace-full.ensures.value in
-    let empty = ap items_of c.replace-full.ensures.after ∙ c.new.ensures in
     let now = c.push_as.new.pass in
     let pushed = c.in-Ok.ensures.rule ∙
-    ap (λ (b : ArrayVec g.row.X.Denot). known v.link v.pushes v.pops (v.sent ++ b.items ∷ []) v.taken) is in
-    subst (λ (l : List g.row.X.Denot). IsSender H c.args.line.now now l) (sym empty)
-    (puts H c.args.line.now c.args.pass.now _ now c.requires.filled c.requires.end c.in-Ok.ensures.queue pushed)
+    ap (λ (l : List g.row.X.Denot). known v.link v.pushes v.pops (v.sent ++ l ∷ []) v.taken)
+    c.in-Some.ensures.given.0 in
+    puts H c.args.line.now c.args.pass.now _ _ now c.requires.filled c.requires.end c.in-Ok.ensures.queue pushed
+    c.in-Some.ensures.begun c.in-Some.ensures.spares
+
+pub returns-in_default-clause-full : goal.returns-in_default-clause-full
+returns-in_default-clause-full g c = λ _.
+    omega (
+      arith,
+      c.in_default.ensures.none.1,
+      c.requires.end.ready,
+      no_more_batches _ c.requires.end.batches.filled,
+    )
 
 pub returns-in-Err-clause-full : goal.returns-in-Err-clause-full
 returns-in-Err-clause-full g c = λ _.
@@ -41,5 +47,6 @@ returns-in-Err-clause-full g c = λ _.
       arith,
       c.in-Err.ensures.rule.2.1,
       c.in-Err.ensures.rule.2.2,
+      c.requires.end.room,
       no_more_batches _ c.requires.end.batches.filled,
     )

@@ -24,8 +24,8 @@ invariant_of-result g c =
     let was = view c.rx.inside.pass in
     let is = c.learn_as.ensures.queue.1 ∙ c.absorb.ensures.rule in
     meets g.H.Carriage.IsHistory (arc_value c.rx.inside.line) c.rx.inside.pass c.rx.inside.hand.ahead
-    c.tx.inside.batch.items c.of.result c.learn_as.new.pass sent c.learn_as.ensures.rule.0 c.rx.invariant
-    (search rules) is c.of.ensures.gone c.of.ensures.ahead c.tx.invariant.history
+    c.tx.inside.filling.items c.of.result c.learn_as.new.pass sent c.learn_as.ensures.rule.0 c.rx.invariant
+    (search rules) is c.of.ensures.gone (c.of.ensures.ahead ∙ c.finish.ensures) c.tx.invariant.history
     (subst (λ (v : Known Opened (List g.row.X.Denot)). v.pushes ≡ true →
     v.sent ≡ v.taken ++ map items_of c.learn_as.ensures.rule.0) (sym c.learn_as.ensures.queue.1)
     c.learn_as.ensures.rule.1)

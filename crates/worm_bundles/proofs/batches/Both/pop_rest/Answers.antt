@@ -44,7 +44,7 @@ popped g c =
     let came = pops H line c.self.inside.whole c.self.inside.hand.ahead c.self.inside.last c.in-Some.batch
     c.pop_as.new.pass none c.self.invariant c.in-Some.ensures.queue c.in-Some.ensures.rule in
     let took = takes_at_hand H line c.pop_as.new.pass c.in-Some.batch.items c.take-in-Some.new.self.ahead
-    c.self.inside.last c.take-in-Some.result (sym c.of-self-inside.ensures.ahead ∙ c.take-in-Some.ensures.ahead)
+    c.self.inside.last c.take-in-Some.result (sym c.of.ensures.ahead ∙ c.take-in-Some.ensures.ahead)
     came.0 in
     (took.0, took.1 ∙ ap (λ l. (l ++ c.self.inside.last.gone) ++ c.take-in-Some.result ∷ []) came.1)
 

@@ -13,13 +13,13 @@ try_pop_as-requires-clause-rule g c =
     takes items_of IsBatch (AreBatches H) _ _ (ap (λ v. v.pops) c.self.invariant.role)
     (batches_front H g.H.Carriage.front)
 
-abbrev Fetched : (g : _) → goal.After-self-1 g → Type 0
+abbrev Fetched : (g : _) → goal.After-drop-self-inside g → Type 0
 Fetched g c =
     IsTaker g.H.Carriage.IsHistory (arc_value c.self.inside.line) c.try_pop_as.new.pass c.in-Some.batch.items ×
     (before (joined (view c.try_pop_as.new.pass).taken) c.in-Some.batch.items ≡
     before (joined (view c.self.inside.pass).taken) c.self.inside.hand.ahead)
 
-fetched : (g : _) (c : goal.After-self-1 g) → Fetched g c
+fetched : (g : _) (c : goal.After-drop-self-inside g) → Fetched g c
 fetched g c =
     let none : c.self.inside.hand.ahead ≡ [] = search rules in
     fetches g.H.Carriage.IsHistory (arc_value c.self.inside.line) c.self.inside.pass _ c.in-Some.batch
@@ -28,7 +28,7 @@ fetched g c =
 pub invariant_of-self : goal.invariant_of-self
 invariant_of-self g c =
     subst (λ (l : List g.row.X.Denot). IsTaker g.H.Carriage.IsHistory (arc_value c.self.inside.line)
-    c.try_pop_as.new.pass l) (sym c.of-self-inside.ensures.ahead) (fetched g c).0
+    c.try_pop_as.new.pass l) (sym c.of.ensures.ahead) (fetched g c).0
 
 pub returns-in-Some : goal.returns-in-Some
 returns-in-Some g c =
