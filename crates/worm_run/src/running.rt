@@ -53,6 +53,19 @@ struct Ran {
     ended: Vec<u64>,
 }
 
+/// What each worker of a run is told.
+#[derive(Drop)]
+struct Orders<'a, G> {
+    /// What its sources are asked.
+    script: &'a Script,
+    /// How many turns it may take.
+    turns: u64,
+    /// What it asks before each.
+    gate: &'a G,
+    /// How far each worker is.
+    pace: &'a Pace,
+}
+
 /// Starts the last part's worker. `Err` names it where its thread could not be started.
 ///
 /// This and `collect` are not inlined, so that no part lies on the stack while the workers of others are started.
@@ -60,17 +73,14 @@ struct Ran {
 fn start<'s, E, R: Threads + Wait + Sync, G: Gate + Sync>(
     scope: &Scope<'s, E>,
     rt: &'s R,
-    script: &'s Script,
-    turns: u64,
-    gate: &'s G,
-    pace: &'s Pace,
+    orders: &Orders<'s, G>,
     parts: &mut Vec<Part>,
 ) -> Result<PromisedHandle<Worked, WorksAs<'s, G>>, usize>
     requires { 0 < vec_len parts.old }
     ensures taken { IfOk result (λ child. parts.old.items ≡ parts.new.items ++ child.promise.part.value ∷ []) }
-    ensures script { IfOk result (λ child. child.promise.script.now ≡ script.now) }
-    ensures turns { IfOk result (λ child. child.promise.turns ≡ turns) }
-    ensures gate { IfOk result (λ child. child.promise.gate.now ≡ gate.now) }
+    ensures script { IfOk result (λ child. child.promise.script.now ≡ orders.now.script.now) }
+    ensures turns { IfOk result (λ child. child.promise.turns ≡ orders.now.turns) }
+    ensures gate { IfOk result (λ child. child.promise.gate.now ≡ orders.now.gate.now) }
     ensures worker { IfOk result (λ child. child.promise.worker ≡ vec_len parts.new) }
     ensures fewer { vec_len parts.new + 1 ≡ vec_len parts.old }
     ensures refused { IfErr result (λ w. w < vec_len parts.old) }
@@ -80,6 +90,12 @@ fn start<'s, E, R: Threads + Wait + Sync, G: Gate + Sync>(
         unreachable!()
     };
     let worker = parts.len();
+    let Orders {
+        script,
+        turns,
+        gate,
+        pace,
+    } = *orders;
     let promise = WorksAs {
         script,
         turns,
@@ -120,17 +136,15 @@ fn collect<'s, R: Threads, G: Gate>(
 fn run_parts<'s, E, R: Threads + Wait + Sync, G: Gate + Sync>(
     scope: &Scope<'s, E>,
     rt: &'s R,
-    script: &'s Script,
-    turns: u64,
-    gate: &'s G,
-    pace: &'s Pace,
+    orders: &Orders<'s, G>,
     parts: &mut Vec<Part>,
     done: &mut Vec<Worked>,
 ) -> Result<(), usize>
     requires empty { vec_len done.old ≡ 0 }
     requires room { vec_len parts.old ≤ vec_capacity done.old }
     ensures worked { OnOk result
-        (AllWorked (G.may_stop gate.now) (G.may_pass gate.now) script.now turns 0 parts.old.items done.new.items) }
+        (AllWorked (G.may_stop orders.now.gate.now) (G.may_pass orders.now.gate.now)
+        orders.now.script.now orders.now.turns 0 parts.old.items done.new.items) }
     ensures all { OnOk result (vec_len done.new ≡ vec_len parts.old) }
     ensures taken { OnOk result (vec_len parts.new ≡ 0) }
     ensures refused { IfErr result (λ w. w < vec_len parts.old) }
@@ -140,8 +154,8 @@ fn run_parts<'s, E, R: Threads + Wait + Sync, G: Gate + Sync>(
     if parts.is_empty() {
         return Ok(());
     }
-    let child = start(scope, rt, script, turns, gate, pace, parts)?;
-    run_parts(scope, rt, script, turns, gate, pace, parts, done)?;
+    let child = start(scope, rt, orders, parts)?;
+    run_parts(scope, rt, orders, parts, done)?;
     collect(rt, child, done);
     Ok(())
 }
@@ -201,15 +215,13 @@ fn gather(done: Vec<Worked>, mut parts: Vec<Part>, mut stops: Vec<Stop>, mut end
 fn run_scoped<'s, E, R: Threads + Wait + Sync, G: Gate + Sync>(
     scope: &Scope<'s, E>,
     rt: &'s R,
-    script: &'s Script,
-    turns: u64,
-    gate: &'s G,
-    pace: &'s Pace,
+    orders: &Orders<'s, G>,
     mut parts: Vec<Part>,
     rooms: Rooms,
 ) -> Result<Ran, usize>
     requires { HasRooms (vec_len parts) rooms }
-    ensures ran { IfOk result (RanAs (G.may_stop gate.now) (G.may_pass gate.now) script.now turns parts.items) }
+    ensures ran { IfOk result (RanAs (G.may_stop orders.now.gate.now) (G.may_pass orders.now.gate.now)
+        orders.now.script.now orders.now.turns parts.items) }
     ensures refused { IfErr result (λ w. w < vec_len parts) }
 {
     let Rooms {
@@ -217,24 +229,28 @@ fn run_scoped<'s, E, R: Threads + Wait + Sync, G: Gate + Sync>(
         stops,
         ended,
     } = rooms;
-    run_parts(scope, rt, script, turns, gate, pace, &mut parts, &mut done)?;
+    run_parts(scope, rt, orders, &mut parts, &mut done)?;
     Ok(gather(done, parts, stops, ended))
 }
 
 /// Runs each part by a worker of its own, up to so many turns.
 fn run_all<R: Threads + Wait + Sync, G: Gate + Sync>(
     rt: &R,
-    script: &Script,
-    turns: u64,
-    gate: &G,
-    pace: &Pace,
+    orders: Orders<'_, G>,
     parts: Vec<Part>,
     rooms: Rooms,
 ) -> Result<Ran, usize>
     requires { HasRooms (vec_len parts) rooms }
-    ensures ran { IfOk result (RanAs (G.may_stop gate.now) (G.may_pass gate.now) script.now turns parts.items) }
+    ensures ran { IfOk result (RanAs (G.may_stop orders.entry.gate.now) (G.may_pass orders.entry.gate.now)
+        orders.entry.script.now orders.entry.turns parts.items) }
     ensures refused { IfErr result (λ w. w < vec_len parts) }
 {
+    let Orders {
+        script,
+        turns,
+        gate,
+        pace,
+    } = orders;
     thread::scope(
         thread::scope_env(),
         rt,
@@ -243,7 +259,15 @@ fn run_all<R: Threads + Wait + Sync, G: Gate + Sync>(
             ensures ran { IfOk result
                 (RanAs (G.may_stop gate.entry.now) (G.may_pass gate.entry.now) script.entry.now turns parts.items) }
             ensures refused { IfErr result (λ w. w < vec_len parts) }
-        { run_scoped(scope, rt, script, turns, gate, pace, parts, rooms) },
+        {
+            let orders = Orders {
+                script,
+                turns,
+                gate,
+                pace,
+            };
+            run_scoped(scope, rt, &orders, parts, rooms)
+        },
     )
 }
 
@@ -286,7 +310,13 @@ pub fn run<R: Threads + Wait + Sync, G: Gate + Sync>(
         Ok(parts) => parts,
         Err((net, _no_memory)) => return Err(RunFault::NoMemory(net)),
     };
-    match run_all(rt, script, plan.turns, gate, &pace, parts, rooms) {
+    let orders = Orders {
+        script,
+        turns: plan.turns,
+        gate,
+        pace: &pace,
+    };
+    match run_all(rt, orders, parts, rooms) {
         Ok(ran) => {
             let Ran {
                 parts,
