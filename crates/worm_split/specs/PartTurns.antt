@@ -85,8 +85,8 @@ ReceivesFlits old fault new = (places : List (ℕ × ℕ)) × EachOf TakesFlit p
 abbrev pub ReceivesCredits : PartPassage
 ReceivesCredits old fault new = (places : List (ℕ × ℕ)) × EachOf TakesCredit places old fault new
 
--- The flit that is ready leaves by a link to another worker: its push lands, and it left; or the push comes back full,
--- and nothing is done. It comes back full only where as many flits were sent by the port as a link's buffers hold.
+-- The flit that is ready leaves by a link to another worker: its push lands, and it left; or the push comes back, and
+-- nothing is done. It comes back only where as many flits were sent by the port as a link's buffers hold.
 pub record SendsAcross (x p v : ℕ) (old new : PartState) : Type 0 where
   pub out : ℕ
   pub flit : Flit
@@ -114,8 +114,8 @@ Sends x p v old fault new =
     ⊎ (StaysWithin old (leaving (router_at old.net x) p v) × Within (Attempts (Send x p v)) old fault new)
 
 -- A credit that is owed goes back over a link to another worker: its push lands, and it is given; or the push comes
--- back full, and nothing is done. It comes back full only where as many credits were given by the port as a link's
--- buffers hold flits.
+-- back, and nothing is done. It comes back only where as many credits were given by the port as a link's buffers hold
+-- flits.
 pub record GivesAcross (x p v : ℕ) (old new : PartState) : Type 0 where
   pub beyond : ℕ
   pub inlet : InletView

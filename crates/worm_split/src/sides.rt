@@ -105,7 +105,8 @@ impl Outlet {
         Some(back.take())
     }
 
-    /// Lets out what was sent and is in no batch of the queue. Where that is full, it is done another time.
+    /// Lets out what was sent and is in no batch of the queue. Where that is full, or memory is refused, it is done
+    /// another time.
     pub fn flush<R: Wait>(&mut self, rt: &R)
         ensures { self.new ≡ self.old }
     {
@@ -159,8 +160,8 @@ impl Inlet {
         Some(rx.take())
     }
 
-    /// Lets out the credits that were given and are in no batch of the queue. Where that is full, it is done another
-    /// time.
+    /// Lets out the credits that were given and are in no batch of the queue. Where that is full, or memory is refused,
+    /// it is done another time.
     pub fn flush<R: Wait>(&mut self, rt: &R)
         ensures { self.new ≡ self.old }
     {
