@@ -97,17 +97,20 @@ fn accept(alloc: Global, network: &[u8], traffic: &[u8]) -> Result<Accepted, Pro
     }
 }
 
-/// The network that an accepted text says, with nothing offered; none where there is no memory for it.
-fn open(alloc: Global, config: &Config) -> Option<Net>
+/// The network that an accepted text says, with nothing offered, and memory for all that the script brings; none where
+/// there is no memory for it.
+fn open(alloc: Global, config: &Config, script: &Script) -> Option<Net>
     requires { (format : Format) × KeepsRules format (view config.now) }
     ensures { IfSome result (IsFresh config.now.radices.items config.now.channels.items config.now.depth
         (texts_of config.now.classes.items)) }
 {
-    match Net::new(alloc, config) {
-        Ok(net) => Some(net),
-        Err(NetFault::NoMemory) => None,
+    let mut net = match Net::new(alloc, config) {
+        Ok(net) => net,
+        Err(NetFault::NoMemory) => return None,
         Err(NetFault::BadConfig) => unreachable!(),
-    }
+    };
+    net.make_room(script).ok()?;
+    Some(net)
 }
 
 /// How many entries of the script no source accepted.
@@ -167,7 +170,7 @@ fn run_and_report<W: Write>(
         (Fails network.now traffic.now turns drain (stream (W.contents out.old) (W.contents out.new))) }
 {
     let accepted = accept(alloc, network, traffic)?;
-    let Some(mut net) = open(alloc, &accepted.config) else {
+    let Some(mut net) = open(alloc, &accepted.config, &accepted.script) else {
         return Err(ProgramFault::NoMemory);
     };
     let ending = run_script(alloc, &mut net, &accepted.script, turns, drain);
@@ -234,7 +237,7 @@ fn run_and_report_together<R: Threads + Wait + Sync, G: Gate + Sync, W: Write>(
     if !has_nodes(&accepted.config, options.workers) {
         return Err(ProgramFault::Workers);
     }
-    let Some(net) = open(alloc, &accepted.config) else {
+    let Some(net) = open(alloc, &accepted.config, &accepted.script) else {
         return Err(ProgramFault::NoMemory);
     };
     let plan = RunPlan {

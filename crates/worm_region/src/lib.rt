@@ -10,6 +10,7 @@
 #![tactic(auto)]
 
 mod config;
+mod expected;
 mod fabric;
 mod fault;
 mod fresh;

@@ -6,7 +6,10 @@ ghost use Rattle.worm_router.specs.Router.{IsPlace, terminal, leaving};
 ghost use Rattle.worm_term.specs.Source.{classes, front_of};
 ghost use Rattle.worm_region.specs.Moves.{AreToFeed, FrontFits, can_enter, delivered_node};
 ghost use Rattle.worm_region.specs.Moves.{fed_node};
+ghost use Rattle.worm_region.specs.UnderWay.{HasClasses};
 
+use crate::expected::Expected;
+use std::alloc::AllocError;
 use worm_flit::{Flit, SmallSet};
 use worm_router::Router;
 use worm_term::{Sink, Source};
@@ -70,6 +73,19 @@ impl Node {
         ensures { AreToFeed self.now result }
     {
         self.router.unfilled(self.source.unfed())
+    }
+
+    /// Takes memory ahead for so many flits more, of each of so many classes at the source and of all at the sink.
+    pub(crate) fn make_room(&mut self, classes: u8, flits: &Expected) -> Result<(), AllocError>
+        requires { HasClasses classes self.old }
+        ensures { self.new ≡ self.old }
+    {
+        for class in 0..classes {
+            if let Some(from) = flits.from.get(usize::from(class)) {
+                self.source.make_room(class, *from as usize)?;
+            }
+        }
+        self.sink.make_room(flits.to as usize)
     }
 
     /// Lets the flit that is ready at this place out into the sink, by the output port `out`, if the sink can take it.

@@ -25,9 +25,10 @@ mod edges;
 mod parts;
 
 use crate::config::copy_names;
+use crate::expected::expected_of;
 use crate::fabric::Fabric;
-use crate::{Config, Moved, NetFault, Step, StepFault};
-use std::alloc::Global;
+use crate::{Config, Moved, NetFault, Script, Step, StepFault};
+use std::alloc::{AllocError, Global};
 use std::marker::Model;
 use worm_flit::{Lane, Packet, SmallSet, are_channels};
 use worm_mesh::Mesh;
@@ -237,6 +238,16 @@ impl Region {
     {
         let classes = self.fabric.classes();
         self.fabric.nodes.count_under_way(classes);
+    }
+
+    /// Takes memory ahead for the flits that the script brings to sources and sinks, so that no turn asks for any.
+    /// `Err` where it is refused. Nothing that is seen changes.
+    pub fn make_room(&mut self, script: &Script) -> Result<(), AllocError>
+        ensures { self.new ≡ self.old }
+    {
+        let classes = self.fabric.classes();
+        let expected = expected_of(script);
+        self.fabric.nodes.make_room(classes, &expected)
     }
 
     /// An Offer: the node's source is asked to accept the packet.

@@ -20,7 +20,6 @@ fn a_flit_passes_to_the_terminal(rt: HostRuntime) {
     trial.is_held(2, 0, (0, 0));
     trial.is_ready(0, 0, 2, flit(0, 0));
     trial.sends(0, 0);
-    trial.has_sent(0, 0, flit(0, 0));
     trial.owes(0, 0, 1);
     trial.owes_first(0, Some(0));
     trial.gives(0, 0);
@@ -91,7 +90,6 @@ fn room_and_rest_are_told(rt: HostRuntime) {
     trial.routes(0, 0);
     trial.allocates(&[]);
     trial.lets_out(0, 0);
-    trial.has_sent(0, 0, flit(0, 0));
     trial.has_room(0, 0, true);
     trial.is_at_rest(false);
     trial.gives(0, 0);

@@ -30,6 +30,11 @@ abbrev pub packet_in : Act → Option PacketState
 packet_in (Offer packet) = Some packet
 packet_in (Close lane) = None
 
+-- how many flits it brings: one for each word of its packet, or the mark alone
+abbrev pub flit_count : Act → ℕ
+flit_count (Offer packet) = length packet.words
+flit_count (Close lane) = 1
+
 -- a packet has 1 to 32 words, as every packet has
 abbrev pub HasWords : Act → Type 0
 HasWords (Offer packet) = (1 ≤ length packet.words) × (length packet.words ≤ 32)

@@ -3,7 +3,7 @@
 ghost use Rattle.std.specs.Prelude.{ℕ, ◌≡◌, ◌<◌, ◌≤◌, ◌++◌, ◌∷◌, [], List, OnOk, OnErr, IfOk, length, slice_range};
 ghost use Rattle.std.specs.Prelude.{slice_index_or};
 ghost use Rattle.worm_script.specs.Lines.{IsWithin, entry_of};
-ghost use Rattle.worm_script.specs.Script.{AreInOrder, HaveWords, due, lane_of, last_turn, packet_in};
+ghost use Rattle.worm_script.specs.Script.{AreInOrder, HaveWords, due, flit_count, lane_of, last_turn, packet_in};
 ghost use Rattle.worm_script.specs.declared.entry.Entry.{Entry as OfEntry};
 
 use crate::entry::{Act, Entry};
@@ -124,6 +124,15 @@ impl Lines {
         ensures { (d : OfEntry) → lane_of (slice_index_or self.now i d).act ≡ result }
     {
         self.lines[i].lane
+    }
+
+    /// How many flits the entry at this place brings: one for each word of its packet, or the mark alone.
+    pub fn flits(&self, i: usize) -> u8
+        requires { i < length self.now }
+        ensures { (d : OfEntry) → flit_count (slice_index_or self.now i d).act ≡ result }
+    {
+        let count = self.lines[i].count;
+        if count == 0 { 1 } else { count }
     }
 
     /// The packet that the entry at this place offers; `None` where it closes its lane.

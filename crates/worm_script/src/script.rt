@@ -1,6 +1,6 @@
 ghost use Rattle.std.specs.Prelude.{◌≡◌, ◌<◌, ◌≤◌, ◌-◌, ◌↔◌, ◌++◌, ◌∷◌, [], IsTrue, OnOk, OnErr, length};
 ghost use Rattle.std.specs.Prelude.{slice_index_or, slice_range, slice_set};
-ghost use Rattle.worm_script.specs.Script.{AreInOrder, due, last_turn};
+ghost use Rattle.worm_script.specs.Script.{AreInOrder, due, flit_count, lane_of, last_turn};
 ghost use Rattle.worm_script.specs.declared.entry.Entry.{Entry as OfEntry};
 
 use crate::due::Due;
@@ -8,6 +8,7 @@ use crate::entry::Entry;
 use crate::lines::Lines;
 use std::alloc::Global;
 use std::marker::Model;
+use worm_flit::Lane;
 
 /// Why an entry was not added.
 #[derive(Clone, Copy, Debug, PartialEq, Eq)]
@@ -107,6 +108,22 @@ impl Script {
         ensures { (d : OfEntry) → slice_index_or self.now i d ≡ result }
     {
         self.entries.entry(i)
+    }
+
+    /// The lane of which the entry at this place speaks.
+    pub fn lane(&self, i: usize) -> Lane
+        requires { i < length self.now }
+        ensures { (d : OfEntry) → lane_of (slice_index_or self.now i d).act ≡ result }
+    {
+        self.entries.lane(i)
+    }
+
+    /// How many flits the entry at this place brings: one for each word of its packet, or the mark alone.
+    pub fn flits(&self, i: usize) -> u8
+        requires { i < length self.now }
+        ensures { (d : OfEntry) → flit_count (slice_index_or self.now i d).act ≡ result }
+    {
+        self.entries.flits(i)
     }
 
     /// Whether all entries are of turns before this one, so that it has none.

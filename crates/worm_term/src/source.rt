@@ -78,14 +78,11 @@ fn make_queues(alloc: Global, count: u8) -> Result<Vec<Queue>, AllocError>
 fn make_lanes(alloc: Global, count: usize) -> Result<Vec<LaneState>, AllocError>
     ensures { IfOk result (λ v. v.items ≡ replicate count fresh_lane) }
 {
-    let mut lanes = Vec::with_capacity(alloc, count)?;
-    for _i in 0..count {
-        lanes.push(LaneState {
-            next: 0,
-            closed: false,
-        })?;
-    }
-    Ok(lanes)
+    let fresh = LaneState {
+        next: 0,
+        closed: false,
+    };
+    vec![in alloc; fresh; count]
 }
 
 impl Source {
@@ -152,6 +149,16 @@ impl Source {
             return Err(OfferFault::LaneFull);
         }
         Ok(i)
+    }
+
+    /// Takes memory ahead for so many flits more of a class, so that none is asked for as packets and marks are
+    /// accepted. `Err` where it is refused.
+    pub fn make_room(&mut self, class: u8, flits: usize) -> Result<(), AllocError>
+        requires { class < classes self.old }
+        ensures { self.new ≡ self.old }
+    {
+        let queue = &mut self.queues[usize::from(class)];
+        queue.make_room(flits)
     }
 
     /// Accepts the packet, all its flits or none, and answers its number in its lane. What refuses it, in this

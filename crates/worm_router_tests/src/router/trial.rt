@@ -174,12 +174,6 @@ impl<R: Abort + AllocGlobal + Copy> Trial<R> {
         assert_eq!(self.rt; self.router.has_room(port, vc), room);
     }
 
-    /// The flit that left the channel last is this.
-    pub fn has_sent(&self, port: u8, vc: u8, flit: Flit) {
-        assert!(self.rt; port < 3 && vc < self.width);
-        assert_eq!(self.rt; self.router.last_out(port, vc), Some(flit));
-    }
-
     /// The channel owes so many credits.
     pub fn owes(&self, port: u8, vc: u8, count: u8) {
         assert!(self.rt; port < 3 && vc < self.width);
