@@ -43,3 +43,4 @@ pub mod CountsUnderWay
 pub mod StaysAtNode
 pub mod PassIsGrants
 pub mod OthersReady
+pub mod Sent

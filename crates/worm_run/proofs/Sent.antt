@@ -1,9 +1,9 @@
 -- A part may be moved to another thread, and so may what its worker gives back: neither has what is one thread's alone.
 use denote.Param.Send.{IsSend, sendable}
 use Rattle.std.proofs.Crossing.{crosses}
-use Rattle.worm_region.proofs.region.Region.TheSendSync.{the_send as region_send}
+use Rattle.worm_region.proofs.Sent.{region_send}
 use Rattle.worm_split.proofs.sides.Side.TheSendSync.{the_send as side_send}
-use Rattle.worm_split.proofs.exchange.Kept.TheSendSync.{the_send as kept_send}
+use Rattle.worm_split.proofs.Sent.{kept_send}
 use Rattle.worm_split.specs.contracts.part.Part as Part
 use Rattle.worm_run.specs.contracts.working.Worked as Worked
 

@@ -57,3 +57,4 @@ pub mod SinkSends
 pub mod NodeEffects
 pub mod Effects
 pub mod AtRest
+pub mod Sent
