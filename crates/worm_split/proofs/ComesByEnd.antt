@@ -1,7 +1,6 @@
 -- What comes by a part's end: a flit of a link that enters its nodes, a credit of one that leaves them.
 use Rattle.std.proofs.Common.{◌≡◌, ℕ, false, ◌<◌, List, [], ◌∷◌, ◌++◌, sum, Some}
 use Rattle.std.proofs.Common.{refl, sym, ap, subst, ◌∙◌}
-use Rattle.std.specs.Prelude.{IsSome}
 use Rattle.worm_flit.specs.Stamps.{on_channel}
 use Rattle.worm_flit.specs.Worms.{Continues}
 use Rattle.worm_links.specs.declared.LinkCfg.{LinkCfg}
@@ -105,9 +104,6 @@ module _ (p : PartState) (part : IsPart p) (framed : IsFramed p.net) (q : ℕ) (
       (past_of (shape p.opening) (network_of p.opening) y o awaited.beyond) (owns p y) (owns p awaited.beyond)
       (rx_at y by.rx) (give_at y by.give)
   facts = is_entering p part y o awaited.beyond (rx_at y by.rx) (give_at y by.give) linked_then end_is
-
-  pub flit_linked : IsSome (neighbour_of p.net.mesh y o)
-  flit_linked = rw awaited.linked refl
 
   pub flit_channel : c.flit.vc < sum p.net.channels
   flit_channel =

@@ -58,3 +58,4 @@ pub mod NodeEffects
 pub mod Effects
 pub mod AtRest
 pub mod Sent
+pub mod Landing

@@ -8,7 +8,7 @@ use Rattle.std.proofs.lemmas.Bool.{cases_lt}
 use Rattle.worm_region.specs.declared.fault.StepFault.{StepFault}
 use Rattle.worm_region.proofs.Passages.{range_more, range_split}
 use Rattle.worm_split.specs.PartState.{PartState, IsSamePart}
-use Rattle.worm_split.specs.PartTurns.{CreditComes, EachOf, FlitComes, PartPassage}
+use Rattle.worm_split.specs.PartTurns.{EachOf, PartPassage}
 
 pub of_append : {A : Type 0} (P : A → PartPassage) (xs ys : List A) (a b c : PartState) (fault : Option StepFault)
     → EachOf P xs a None b → EachOf P ys b fault c → EachOf P (xs ++ ys) a fault c
@@ -107,21 +107,6 @@ same_on a b c h k =
     }
 
 -- What was received, one thing after another
-
--- what came leaves what a part is
-pub flit_same : (y q : ℕ) (a b : PartState) → FlitComes y q a b → IsSamePart a b
-flit_same y q a b comes = subst (λ (p : PartState). IsSamePart a p) (sym comes.exact) (record {
-  config = record { mesh = refl; channels = refl; depth = refl; names = refl; own = refl };
-  opening = refl;
-  sides = refl;
-})
-
-pub credit_same : (x o : ℕ) (a b : PartState) → CreditComes x o a b → IsSamePart a b
-credit_same x o a b comes = subst (λ (p : PartState). IsSamePart a p) (sym comes.exact) (record {
-  config = record { mesh = refl; channels = refl; depth = refl; names = refl; own = refl };
-  opening = refl;
-  sides = refl;
-})
 
 -- nothing yet, and one more
 pub receives_none : {A : Type 0} (P : A → PartPassage) (a : PartState) → (places : List A) × EachOf P places a None a

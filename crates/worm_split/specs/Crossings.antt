@@ -72,12 +72,6 @@ CreditGiven (From rx give) y v false new = (new ≡ From rx give) × (bundle_cap
 
 -- The same by a port of a worker's
 
-abbrev pub FlitTakenBy : SideView → ℕ → Carried → SideView → Type 0
-FlitTakenBy old p c new = (into : InletView) × FlitTaken (inlet_at old p) c into × (new ≡ put_inlet old p into)
-
-abbrev pub CreditTakenBy : SideView → ℕ → Returned → SideView → Type 0
-CreditTakenBy old o r new = (out : OutletView) × CreditTaken (outlet_at old o) r out × (new ≡ put_outlet old o out)
-
 abbrev pub FlitSentBy : SideView → ℕ → ℕ → Flit → Bool → SideView → Type 0
 FlitSentBy old o y f sent new =
     (out : OutletView) × FlitSent (outlet_at old o) y f sent out × (new ≡ cond sent (put_outlet old o out) old)

@@ -10,3 +10,4 @@ pub mod Exchange
 pub mod Splits
 pub mod Joins
 pub mod Emptying
+pub mod Landing

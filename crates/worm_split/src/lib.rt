@@ -13,6 +13,7 @@ mod exchange;
 mod joining;
 mod making;
 mod part;
+mod receiving;
 mod sides;
 mod splitting;
 mod turning;

@@ -1,14 +1,16 @@
 //! What a worker has by port: its ends of the bundles that its nodes share with other workers'.
 
-ghost use Rattle.std.specs.Prelude.{◌≡◌, ◌<◌, IfNone, IfSome, IsTrue, false, true};
-ghost use Rattle.worm_split.specs.Crossings.{AwaitsCredit, AwaitsFlit, CreditGiven, CreditTaken, FlitSent, FlitTaken};
-ghost use Rattle.worm_split.specs.Crossings.{CreditGivenBy, CreditTakenBy, FlitSentBy, FlitTakenBy, MayGive, MaySend};
+ghost use Rattle.std.specs.Prelude.{◌≡◌, true};
+ghost use Rattle.worm_mesh.specs.Address.{opposite_of};
+ghost use Rattle.worm_split.specs.Crossings.{CreditGiven, CreditGivenBy, FlitSent, FlitSentBy, MayGive, MaySend};
+ghost use Rattle.worm_split.specs.Landing.{HasInlet, HasOutlet, ReceivesBack, ReceivesInto};
+ghost use Rattle.worm_split.specs.PartState.{PartState};
 ghost use Rattle.worm_split.specs.Sides.{inlet_at, is_from, is_over, outlet_at};
 
-use crate::exchange::owns;
+use crate::receiving::{receive_credits, receive_flits};
 use std::marker::Model;
 use std::sync::Wait;
-use worm_bundles::{Carried, CreditRx, CreditTx, FlitRx, FlitTx, Returned};
+use worm_bundles::{CreditRx, CreditTx, FlitRx, FlitTx};
 use worm_core::Region;
 use worm_flit::Flit;
 
@@ -89,20 +91,14 @@ impl Outlet {
         }
     }
 
-    /// Takes the next credit that came back, where its link, out of this port of one of the region's nodes, has none on
-    /// its way. None where none came, or one waits.
-    pub fn receive(&mut self, region: &Region, port: u8) -> Option<Returned>
-        requires { 0 < region.now.own.workers }
-        ensures none { IfNone result (self.new ≡ self.old) }
-        ensures taken { IfSome result (λ r. CreditTaken self.old r self.new) }
-        ensures awaited { IfSome result (λ r. AwaitsCredit region.now r.node port) }
+    /// Puts down what credits came back on the region's links out of this port: of each link one at most.
+    pub fn receive(&mut self, region: &mut Region, port: u8)
+        requires { (p : PartState) × HasOutlet p port region.old self.old }
+        ensures { ReceivesBack port region.old self.old region.new self.new }
     {
-        let (_tx, back) = self.ends.as_mut()?;
-        let next = back.peek()?;
-        if !awaits_credit(region, next.node, port) {
-            return None;
+        if let Some((_tx, back)) = &mut self.ends {
+            receive_credits(region, back, port);
         }
-        Some(back.take())
     }
 
     /// Lets out what was sent and is in no batch of the queue. Where that is full, or memory is refused, it is done
@@ -144,20 +140,15 @@ impl Inlet {
         }
     }
 
-    /// Takes the next flit that came, where its link, out of this port of another worker's node, has none on it. None
-    /// where none came, or one waits.
-    pub fn receive(&mut self, region: &Region, out: u8) -> Option<Carried>
-        requires { 0 < region.now.own.workers }
-        ensures none { IfNone result (self.new ≡ self.old) }
-        ensures taken { IfSome result (λ c. FlitTaken self.old c self.new) }
-        ensures awaited { IfSome result (λ c. AwaitsFlit region.now c.node out) }
+    /// Puts down what flits came on the region's links out of this port of other workers' nodes: of each link one at
+    /// most.
+    pub fn receive(&mut self, region: &mut Region, out: u8)
+        requires { (p : PartState) × HasInlet p (opposite_of out) region.old self.old }
+        ensures { ReceivesInto (opposite_of out) region.old self.old region.new self.new }
     {
-        let (rx, _give) = self.ends.as_mut()?;
-        let next = rx.peek()?;
-        if !awaits_flit(region, next.node, out) {
-            return None;
+        if let Some((rx, _give)) = &mut self.ends {
+            receive_flits(region, rx, out);
         }
-        Some(rx.take())
     }
 
     /// Lets out the credits that were given and are in no batch of the queue. Where that is full, or memory is refused,
@@ -212,32 +203,6 @@ impl Side {
         self.entering[usize::from(port)].give(rt, node, vc)
     }
 
-    /// Takes the next flit that came in by the port, where its link, out of port `out` of another worker's node, has
-    /// none on it. None where none came, or one waits.
-    pub fn receive_flit(&mut self, region: &Region, port: u8, out: u8) -> Option<Carried>
-        requires { 0 < region.now.own.workers }
-        ensures none { IfNone result (self.new ≡ self.old) }
-        ensures taken { IfSome result (λ c. FlitTakenBy self.old port c self.new) }
-        ensures awaited { IfSome result (λ c. AwaitsFlit region.now c.node out) }
-    {
-        let inlet = self.entering.get_mut(usize::from(port))?;
-        let carried = inlet.receive(region, out)?;
-        Some(carried)
-    }
-
-    /// Takes the next credit that came back by the port, where its link has none on its way. None where none came, or
-    /// one waits.
-    pub fn receive_credit(&mut self, region: &Region, port: u8) -> Option<Returned>
-        requires { 0 < region.now.own.workers }
-        ensures none { IfNone result (self.new ≡ self.old) }
-        ensures taken { IfSome result (λ r. CreditTakenBy self.old port r self.new) }
-        ensures awaited { IfSome result (λ r. AwaitsCredit region.now r.node port) }
-    {
-        let outlet = self.leaving.get_mut(usize::from(port))?;
-        let returned = outlet.receive(region, port)?;
-        Some(returned)
-    }
-
     /// Looks for what came by all ports.
     pub fn fetch(&mut self)
         ensures { self.new ≡ self.old }
@@ -289,37 +254,4 @@ impl Side {
             self.leaving[port].flush(rt);
         }
     }
-}
-
-/// Whether the link out of this port awaits a flit: it leads to one of the region's own nodes, and no flit is on it.
-fn awaits_flit(region: &Region, node: u8, out: u8) -> bool
-    requires { 0 < region.now.own.workers }
-    ensures yes { IsTrue result → AwaitsFlit region.now node out }
-    ensures no { result ≡ false → AwaitsFlit region.now node out → ⊥ }
-{
-    region.recall();
-    let Some(links) = region.links_at(node, out) else {
-        return false;
-    };
-    if !owns(region.own(), links.beyond) {
-        return false;
-    }
-    !region.has_flits(node, out)
-}
-
-/// Whether the link out of this port of one of the region's own nodes awaits a credit: it is there, and no credit is on
-/// its way back over it.
-fn awaits_credit(region: &Region, node: u8, out: u8) -> bool
-    requires { 0 < region.now.own.workers }
-    ensures yes { IsTrue result → AwaitsCredit region.now node out }
-    ensures no { result ≡ false → AwaitsCredit region.now node out → ⊥ }
-{
-    region.recall();
-    let Some(links) = region.links_at(node, out) else {
-        return false;
-    };
-    if !owns(region.own(), node) {
-        return false;
-    }
-    !region.has_credits(links.beyond, links.entered)
 }

@@ -16,7 +16,7 @@ ghost use Rattle.worm_swalloc.specs.SwAlloc.{AreGranted};
 ghost use Rattle.worm_swalloc.specs.declared.grant.SwGrant.{SwGrant};
 ghost use Rattle.worm_router.specs.Router.{input_at, leaving};
 ghost use Rattle.worm_theory.specs.Steps.{IsThere, Step as Event};
-ghost use Rattle.worm_split.specs.PartTurns.{ComesBy, CreditComes, EachOf, FlitComes, Gives};
+ghost use Rattle.worm_split.specs.PartTurns.{ComesBy, EachOf, Gives};
 ghost use Rattle.worm_split.specs.PartTurns.{GivesAcross, GivesCredits, LeavesBy, NodePasses, NodeTurn, NodeTurns};
 ghost use Rattle.worm_split.specs.PartTurns.{ReceivesCredits, ReceivesFlits, Sends, SendsAcross, SendsGrants};
 ghost use Rattle.worm_split.specs.PartTurns.{StaysWithin, Turn, Within};
@@ -28,49 +28,17 @@ use worm_flit::Flit;
 use worm_vcalloc::ChannelSet;
 
 impl Part {
-    /// Receives the next flit that came by the port, if its link has none on it. False where none came, or one waits.
-    fn receive_flit(&mut self, port: u8) -> bool
-        requires { port < 2 * length self.old.net.mesh }
-        ensures came { result ≡ true → (node : ℕ) × FlitComes node port self.old self.new }
-        ensures none { result ≡ false → self.new ≡ self.old }
-    {
-        self.region.recall();
-        let out = self.region.mesh().opposite(port);
-        let Some(carried) = self.side.receive_flit(&self.region, port, out) else {
-            return false;
-        };
-        self.region.arrive(carried.node, out, carried.flit);
-        true
-    }
-
-    /// Receives the next credit that came back by the port, if its link has none on its way. False where none came, or
-    /// one waits.
-    fn receive_credit(&mut self, port: u8) -> bool
-        requires { port < 2 * length self.old.net.mesh }
-        ensures came { result ≡ true → (node : ℕ) × CreditComes node port self.old self.new }
-        ensures none { result ≡ false → self.new ≡ self.old }
-    {
-        self.region.recall();
-        let Some(returned) = self.side.receive_credit(&self.region, port) else {
-            return false;
-        };
-        let links = self.region.links_beyond(returned.node, port);
-        self.region
-            .arrive_credit(links.beyond, links.entered, returned.vc);
-        true
-    }
-
     /// Receives what flits came by the port: of each link one at most, so no more than there are nodes.
     fn receive_flits_by(&mut self, port: u8)
         requires { port < 2 * length self.old.net.mesh }
         ensures came { ReceivesFlits self.old None self.new }
         ensures same { IsSamePart self.old self.new }
     {
-        for _link in 0..self.region.nodes() {
-            if !self.receive_flit(port) {
-                return;
-            }
-        }
+        let out = self.region.mesh().opposite(port);
+        let Some(inlet) = self.side.entering.get_mut(usize::from(port)) else {
+            return;
+        };
+        inlet.receive(&mut self.region, out);
     }
 
     /// The same of credits.
@@ -79,11 +47,10 @@ impl Part {
         ensures came { ReceivesCredits self.old None self.new }
         ensures same { IsSamePart self.old self.new }
     {
-        for _link in 0..self.region.nodes() {
-            if !self.receive_credit(port) {
-                return;
-            }
-        }
+        let Some(outlet) = self.side.leaving.get_mut(usize::from(port)) else {
+            return;
+        };
+        outlet.receive(&mut self.region, port);
     }
 
     /// Receives what flits came by all ports.

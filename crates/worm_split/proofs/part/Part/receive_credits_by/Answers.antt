@@ -1,46 +1,64 @@
-use Rattle.std.proofs.Common.{◌*◌, ◌<◌, ℕ, List, None, length, refl, sym, subst}
-use Rattle.worm_split.specs.PartState.{PartState, IsSamePart}
-use Rattle.worm_split.specs.PartTurns.{ReceivesCredits, TakesCredit}
-use Rattle.worm_split.proofs.PartLoops.{credit_same, receives_more, receives_none, receives_one, same_on, same_still}
+use Rattle.std.proofs.Common.{◌≡◌, ℕ, None, refl, sym, ap, subst, ◌∙◌}
+use Rattle.worm_region.specs.declared.own.Own.{Own}
+use Rattle.worm_split.specs.Apart.{IsKept}
+use Rattle.worm_split.specs.Landing.{HasOutlet, Received}
+use Rattle.worm_split.specs.PartState.{PartState, IsPart, IsSamePart, part_state}
+use Rattle.worm_split.specs.PartTurns.{ReceivesCredits, with_outlet}
+use Rattle.worm_split.specs.Sides.{SideView}
+use Rattle.worm_split.specs.declared.part.Part.TheInside.{Inside}
+use Rattle.worm_split.proofs.SidesPut.{read_outlet}
 use Rattle.worm_split.proofs.part.Part.receive_credits_by.Goals as goal
+use Rattle.worm_split.proofs.part.Part.receive_credits_by.Goals.{After-receive}
 
-pub loop-link-init : goal.loop-link-init
-loop-link-init c = record {
-  came = receives_none TakesCredit c.args.self.now;
-  same = same_still c.args.self.now;
-}
+module _ (c : After-receive) where
+  abbrev side : SideView
+  side = record {
+    leaving = c.self-inside.inside.0.1.0.leaving.items;
+    entering = c.self-inside.inside.0.1.0.entering.items;
+  }
 
-pub receive_credit-requires : goal.receive_credit-requires
-receive_credit-requires c = subst (λ (ks : List ℕ). c.args.port < 2 * length ks)
-    (sym c.loop-link.invariant.same.config.mesh) c.requires
+  abbrev p : PartState
+  p = part_state c.self-inside.inside.0.0 side c.self-inside.inside.0.1.1.0.value
+      c.self-inside.inside.0.1.1.1.0.value.items
 
-pub returns-then-not-receive_credit-clause-came : goal.returns-then-not-receive_credit-clause-came
-returns-then-not-receive_credit-clause-came c =
-    subst (λ (p : PartState). ReceivesCredits c.args.self.now None p)
-    (sym (c.receive_credit.ensures.none c.if-not-receive_credit.true))
-    c.loop-link.invariant.came
+  part_is : p ≡ c.args.self.now
+  part_is = ap (λ (i : Inside). part_state i.region i.side i.opening.value i.sides.value.items) c.self-inside.view_is
+      ∙ c.self.view_is
 
-pub returns-then-not-receive_credit-clause-same : goal.returns-then-not-receive_credit-clause-same
-returns-then-not-receive_credit-clause-same c =
-    subst (λ (p : PartState). IsSamePart c.args.self.now p)
-    (sym (c.receive_credit.ensures.none c.if-not-receive_credit.true))
-    c.loop-link.invariant.same
+  port_is : c.from.result ≡ c.args.port
+  port_is = c.from.ensures
 
-pub loop-link-preserved : goal.loop-link-preserved
-loop-link-preserved c =
-    let a = c.args.self.now in
-    let b = c.loop-link.self in
-    let d = c.receive_credit.new.self in
-    let one = c.receive_credit.ensures.came c.if-not-receive_credit.false in
-    let had = c.loop-link.invariant in
-    record {
-      came = receives_more TakesCredit a b d had.came
-          (receives_one TakesCredit (one.0, c.args.port) b d (refl, one.1));
-      same = same_on a b d had.same (credit_same one.0 c.args.port b d one.1);
-    }
+  has : HasOutlet p c.args.port p.net c.in-Some.outlet.now
+  has = record {
+    part = subst (λ (i : Inside). IsPart (part_state i.region i.side i.opening.value i.sides.value.items))
+        (sym c.self-inside.view_is) c.self.invariant.0;
+    net_is = refl;
+    outlet_is = sym (read_outlet p.side c.from.result c.args.port c.in-Some.outlet.now port_is
+        c.in-Some.ensures.item.3.0 c.in-Some.ensures.value);
+  }
+
+  got : Received ReceivesCredits p (with_outlet p c.from.result c.receive.new.self c.receive.new.region)
+  got = subst (λ (q : ℕ). Received ReceivesCredits p (with_outlet p q c.receive.new.self c.receive.new.region))
+      (sym port_is) (c.receive.ensures p has)
+
+  kept : IsKept p.opening c.receive.new.region.own c.self-inside.inside.0.1.1.1.1.0
+  kept = subst (λ (w : Own). IsKept p.opening w c.self-inside.inside.0.1.1.1.1.0) (sym got.same.config.own)
+      (subst (λ (i : Inside). IsKept i.opening.value i.region.own i.kept) (sym c.self-inside.view_is)
+      c.self.invariant.1)
+
+pub invariant_of-self-2 : goal.invariant_of-self-2
+invariant_of-self-2 c =
+    let here = (goal.at.invariant_of-self-2 c).After-receive in
+    ((got here).part, kept here)
 
 pub returns-clause-came : goal.returns-clause-came
-returns-clause-came c = c.loop-link.invariant.came
+returns-clause-came c =
+    let here = (goal.at.returns-clause-came c).After-receive in
+    subst (λ (a : PartState). ReceivesCredits a None (with_outlet (p here) c.from.result c.receive.new.self
+    c.receive.new.region)) (part_is here) (got here).came
 
 pub returns-clause-same : goal.returns-clause-same
-returns-clause-same c = c.loop-link.invariant.same
+returns-clause-same c =
+    let here = (goal.at.returns-clause-same c).After-receive in
+    subst (λ (a : PartState). IsSamePart a (with_outlet (p here) c.from.result c.receive.new.self
+    c.receive.new.region)) (part_is here) (got here).same

@@ -1,46 +1,65 @@
-use Rattle.std.proofs.Common.{◌*◌, ◌<◌, ℕ, List, None, length, refl, sym, subst}
-use Rattle.worm_split.specs.PartState.{PartState, IsSamePart}
-use Rattle.worm_split.specs.PartTurns.{ReceivesFlits, TakesFlit}
-use Rattle.worm_split.proofs.PartLoops.{flit_same, receives_more, receives_none, receives_one, same_on, same_still}
+use Rattle.std.proofs.Common.{◌≡◌, ℕ, None, refl, sym, ap, subst, ◌∙◌}
+use Rattle.worm_mesh.specs.Address.{opposite_of}
+use Rattle.worm_region.specs.declared.own.Own.{Own}
+use Rattle.worm_split.specs.Apart.{IsKept}
+use Rattle.worm_split.specs.Landing.{HasInlet, Received}
+use Rattle.worm_split.specs.PartState.{PartState, IsPart, IsSamePart, part_state}
+use Rattle.worm_split.specs.PartTurns.{ReceivesFlits, with_inlet}
+use Rattle.worm_split.specs.Sides.{SideView}
+use Rattle.worm_split.specs.declared.part.Part.TheInside.{Inside}
+use Rattle.worm_split.proofs.SidesPut.{read_inlet}
 use Rattle.worm_split.proofs.part.Part.receive_flits_by.Goals as goal
+use Rattle.worm_split.proofs.part.Part.receive_flits_by.Goals.{After-receive}
 
-pub loop-link-init : goal.loop-link-init
-loop-link-init c = record {
-  came = receives_none TakesFlit c.args.self.now;
-  same = same_still c.args.self.now;
-}
+module _ (c : After-receive) where
+  abbrev side : SideView
+  side = record {
+    leaving = c.self-inside.inside.0.1.0.leaving.items;
+    entering = c.self-inside.inside.0.1.0.entering.items;
+  }
 
-pub receive_flit-requires : goal.receive_flit-requires
-receive_flit-requires c = subst (λ (ks : List ℕ). c.args.port < 2 * length ks)
-    (sym c.loop-link.invariant.same.config.mesh) c.requires
+  abbrev p : PartState
+  p = part_state c.self-inside.inside.0.0 side c.self-inside.inside.0.1.1.0.value
+      c.self-inside.inside.0.1.1.1.0.value.items
 
-pub returns-then-not-receive_flit-clause-came : goal.returns-then-not-receive_flit-clause-came
-returns-then-not-receive_flit-clause-came c =
-    subst (λ (p : PartState). ReceivesFlits c.args.self.now None p)
-    (sym (c.receive_flit.ensures.none c.if-not-receive_flit.true))
-    c.loop-link.invariant.came
+  part_is : p ≡ c.args.self.now
+  part_is = ap (λ (i : Inside). part_state i.region i.side i.opening.value i.sides.value.items) c.self-inside.view_is
+      ∙ c.self.view_is
 
-pub returns-then-not-receive_flit-clause-same : goal.returns-then-not-receive_flit-clause-same
-returns-then-not-receive_flit-clause-same c =
-    subst (λ (p : PartState). IsSamePart c.args.self.now p)
-    (sym (c.receive_flit.ensures.none c.if-not-receive_flit.true))
-    c.loop-link.invariant.same
+  port_is : c.from.result ≡ opposite_of c.opposite-out.result
+  port_is = c.from.ensures ∙ sym c.opposite-out.ensures.twice
 
-pub loop-link-preserved : goal.loop-link-preserved
-loop-link-preserved c =
-    let a = c.args.self.now in
-    let b = c.loop-link.self in
-    let d = c.receive_flit.new.self in
-    let one = c.receive_flit.ensures.came c.if-not-receive_flit.false in
-    let had = c.loop-link.invariant in
-    record {
-      came = receives_more TakesFlit a b d had.came
-          (receives_one TakesFlit (one.0, c.args.port) b d (refl, one.1));
-      same = same_on a b d had.same (flit_same one.0 c.args.port b d one.1);
-    }
+  has : HasInlet p (opposite_of c.opposite-out.result) p.net c.in-Some.inlet.now
+  has = record {
+    part = subst (λ (i : Inside). IsPart (part_state i.region i.side i.opening.value i.sides.value.items))
+        (sym c.self-inside.view_is) c.self.invariant.0;
+    net_is = refl;
+    inlet_is = sym (read_inlet p.side c.from.result (opposite_of c.opposite-out.result) c.in-Some.inlet.now port_is
+        c.in-Some.ensures.item.3.0 c.in-Some.ensures.value);
+  }
+
+  got : Received ReceivesFlits p (with_inlet p c.from.result c.receive.new.self c.receive.new.region)
+  got = subst (λ (q : ℕ). Received ReceivesFlits p (with_inlet p q c.receive.new.self c.receive.new.region))
+      (sym port_is) (c.receive.ensures p has)
+
+  kept : IsKept p.opening c.receive.new.region.own c.self-inside.inside.0.1.1.1.1.0
+  kept = subst (λ (w : Own). IsKept p.opening w c.self-inside.inside.0.1.1.1.1.0) (sym got.same.config.own)
+      (subst (λ (i : Inside). IsKept i.opening.value i.region.own i.kept) (sym c.self-inside.view_is)
+      c.self.invariant.1)
+
+pub invariant_of-self-2 : goal.invariant_of-self-2
+invariant_of-self-2 c =
+    let here = (goal.at.invariant_of-self-2 c).After-receive in
+    ((got here).part, kept here)
 
 pub returns-clause-came : goal.returns-clause-came
-returns-clause-came c = c.loop-link.invariant.came
+returns-clause-came c =
+    let here = (goal.at.returns-clause-came c).After-receive in
+    subst (λ (a : PartState). ReceivesFlits a None (with_inlet (p here) c.from.result c.receive.new.self
+    c.receive.new.region)) (part_is here) (got here).came
 
 pub returns-clause-same : goal.returns-clause-same
-returns-clause-same c = c.loop-link.invariant.same
+returns-clause-same c =
+    let here = (goal.at.returns-clause-same c).After-receive in
+    subst (λ (a : PartState). IsSamePart a (with_inlet (p here) c.from.result c.receive.new.self
+    c.receive.new.region)) (part_is here) (got here).same

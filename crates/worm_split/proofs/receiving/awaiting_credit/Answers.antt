@@ -1,12 +1,11 @@
-use Rattle.std.proofs.Common.{◌≡◌, ℕ, Bool, true, false, not, inl, inr, sym, ◌∙◌, ap}
-use Rattle.worm_theory.proofs.Places.{bool_cases}
+use Rattle.std.proofs.Common.{ℕ, sym, ◌∙◌, ap}
 use Rattle.worm_region.specs.Owned.{owned_by}
 use Rattle.worm_region.specs.declared.own.Own.{Own}
 use Rattle.worm_region.specs.State.{link_at}
 use Rattle.worm_region.specs.Moves.{link_into}
 use Rattle.worm_split.proofs.PortKnown.{HasLinks, back_is_some, beyond_in, entered_is, linked}
-use Rattle.worm_split.proofs.sides.awaits_credit.Goals as goal
-use Rattle.worm_split.proofs.sides.awaits_credit.Goals.{In-Some}
+use Rattle.worm_split.proofs.receiving.awaiting_credit.Goals as goal
+use Rattle.worm_split.proofs.receiving.awaiting_credit.Goals.{In-Some}
 
 -- the links of the port
 port : (c : In-Some) → HasLinks c.args.region.now c.args.node c.args.out c.in-Some.links
@@ -19,18 +18,13 @@ pub has_credits-requires-clause-linked : goal.has_credits-requires-clause-linked
 has_credits-requires-clause-linked c = back_is_some (port (goal.at.has_credits-requires-clause-linked c).In-Some)
 
 pub returns-clause-yes : goal.returns-clause-yes
-returns-clause-yes c = λ none.
+returns-clause-yes c =
     let has = port (goal.at.returns-clause-yes c).In-Some in
     let s = c.args.region.now in
-    let owner = sym c.own.ensures in
-    let empty : c.has_credits.result ≡ false = elim (bool_cases c.has_credits.result) [
-      | inl some ↦ let clash : false ≡ true = ap (λ (b : Bool). not b) (sym some) ∙ none in absurd (cc)
-      | inr none ↦ none
-    ] in
     record {
       beyond = c.in-Some.links.beyond;
       linked = linked has;
-      own = ap (λ (w : Own). owned_by w c.args.node) owner ∙ sym c.if-not-owns.ensures;
+      own = ap (λ (w : Own). owned_by w c.args.node) (sym c.requires.own) ∙ sym c.if-not-owns.ensures;
       none_waits = ap (λ (q : ℕ). (link_at s (link_into s c.in-Some.links.beyond q)).credits) (sym (entered_is has))
-          ∙ c.has_credits.ensures.0 empty;
+          ∙ c.has_credits.ensures.0 c.if-has_credits.false;
     }
