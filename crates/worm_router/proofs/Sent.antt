@@ -16,5 +16,15 @@ pub channel_send : IsSend InputChannel.the_row
 channel_send = search (sendable, crosses, ring_send) depth 60
 
 pub router_send : IsSend Router.the_row
-router_send = search (sendable, crosses, channel_send, classes_send, mesh_send, record_send, busy_send, demand_send,
-    switch_send, alloc_send) depth 60
+router_send = search (
+  sendable,
+  crosses,
+  channel_send,
+  classes_send,
+  mesh_send,
+  record_send,
+  busy_send,
+  demand_send,
+  switch_send,
+  alloc_send,
+) depth 60
