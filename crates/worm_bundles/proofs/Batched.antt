@@ -88,22 +88,6 @@ module _ {X : Type 0} where
                 subst (λ (y : Knows X × List X). IsEnd (joined y.0.taken) y.1) (λ i. (sym is i, sym empty i)) refl;
           }
 
-      -- an item joins the batch that is being filled
-      pub fills : (filling next : FillingView X) (x : X) → IsSender IsHistory line pass filling →
-          IsHistory v.link ((joined v.sent ++ filling.items) ++ x ∷ []) → next.items ≡ filling.items ++ x ∷ []
-          → next.spares ≡ filling.spares → IsSender IsHistory line pass next
-      fills filling next x h now more same =
-          record {
-            here = h.here;
-            role = h.role;
-            batches = h.batches;
-            history =
-                subst (λ l. IsHistory v.link (joined v.sent ++ l)) (sym more)
-                (subst (IsHistory v.link) (append_assoc (joined v.sent) filling.items (x ∷ [])) now);
-            room = h.room;
-            ready = omega (arith, same, h.ready);
-          }
-
       -- the batch went onto the queue, and another was begun, in new memory or in what was asked for ahead
       pub puts : (filling next : FillingView X) (now : Pass (Batch X) (Knows X)) → IsFilled filling.items →
           IsSender IsHistory line pass filling → IsSamePass pass now →
@@ -128,25 +112,6 @@ module _ {X : Type 0} where
                 (subst (IsHistory v.link) (sym (append-nil (joined (v.sent ++ batch ∷ [])))) grown.history);
             room = omega (arith, places, h.room);
             ready = omega (arith, places, longer, fewer, h.ready);
-          }
-
-      -- the queue was full, so as many batches were sent
-      pub stays : (filling next : FillingView X) (now : Pass (Batch X) (Knows X)) →
-          IsSender IsHistory line pass filling → IsSamePass pass now → view now ≡ v → next.items ≡ filling.items
-          → ruled_capacity line ≤ length v.sent → IsSender IsHistory line now next
-      stays filling next now h same is items full =
-          let places : bundle_capacity (view now).link.cfg ≡ bundle_capacity v.link.cfg =
-          ap (λ (u : Knows X). bundle_capacity u.link.cfg) is in
-          let sent : length (view now).sent ≡ length v.sent = ap (λ (u : Knows X). length u.sent) is in
-          record {
-            here = (same.0 ∙ h.here.0, same.2 ∙ h.here.1);
-            role = is ∙ h.role ∙ sym (ap (λ (u : Knows X). sender u.link u.sent) is);
-            batches = subst (λ (u : Knows X). Batches u.link u.sent) (sym is) h.batches;
-            history =
-                subst (λ (y : Knows X × List X). IsHistory y.0.link (joined y.0.sent ++ y.1))
-                (λ i. (sym is i, sym items i)) h.history;
-            room = omega (arith, places, h.room);
-            ready = omega (arith, places, sent, h.room, full);
           }
 
       -- a batch came to hand, where nothing was

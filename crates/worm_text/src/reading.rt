@@ -39,7 +39,7 @@ pub fn read_text<R: Read>(
     ensures { IfOk result (λ text. IsWhole most_bytes (R.remaining reader.old) (R.remaining reader.new) text.items) }
 {
     let mut text = Vec::new(alloc);
-    let mut chunk = [0u8; 16_384];
+    let mut chunk = [0u8; 4096];
     for _ in 0..MOST_READS {
         let Ok(count) = reader.read(&mut chunk) else {
             return Err(ReadFault::Unreadable);
