@@ -201,7 +201,7 @@ granted_parts s requests n port (Some h) g e =
       line_is (Some q) e = ap Some (eqb-true q port e)
 
 -- a named request is a ready channel with its output port
-request_parts : (row : List (Option ℕ)) (vc : Option ℕ) (g : SwGrant) → request_of row vc ≡ Some g
+pub request_parts : (row : List (Option ℕ)) (vc : Option ℕ) (g : SwGrant) → request_of row vc ≡ Some g
     → (vc ≡ Some g.vc) × (slice_index_or row g.vc None ≡ Some g.out)
 request_parts row None g e = absurd (cc)
 request_parts row (Some v) g e = go (slice_index_or row v None) refl where

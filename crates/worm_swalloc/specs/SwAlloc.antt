@@ -91,6 +91,23 @@ IsSolePort ready port = (p v : ℕ) → p < 7 → v < 8 → ((p ≡ port) → �
 abbrev pub sole_named : ℕ → Option SwGrant → List (Option SwGrant)
 sole_named port request = slice_set (replicate 7 None) port request
 
+-- the ready channels and their output ports are the allocator's, and no two share an input port or an output port: so
+-- no arbiter has a choice
+pub record AreApart (s : SwAllocState) (ready : List (List (Option ℕ))) : Type 0 where
+  pub within : (port vc out : ℕ) → cell ready port vc None ≡ Some out
+      → (port < s.ports) × (vc < s.vcs) × (out < s.ports)
+  pub inputs : (port vc vc' out out' : ℕ) → cell ready port vc None ≡ Some out → cell ready port vc' None ≡ Some out'
+      → vc ≡ vc'
+  pub outputs : (port port' vc vc' out : ℕ) → cell ready port vc None ≡ Some out → cell ready port' vc' None ≡ Some out
+      → port ≡ port'
+
+-- the allocator once the arbiters of both ports have moved past what the input port is granted
+abbrev pub after_granting : SwAllocState → ℕ → SwGrant → SwAllocState
+after_granting s port g = record s {
+  inputs = slice_set s.inputs port (after_pick (slice_index_or s.inputs port no_arbiter) (Some g.vc));
+  outputs = slice_set s.outputs g.out (after_pick (slice_index_or s.outputs g.out no_arbiter) (Some port));
+}
+
 -- whether a grant is of this channel
 abbrev pub is_of : Option SwGrant → ℕ → Bool
 is_of None vc = false

@@ -7,7 +7,7 @@ ghost use Rattle.worm_swalloc.specs.Front.{with_front};
 ghost use Rattle.worm_swalloc.specs.SwAlloc.{SwAllocState, IsSwAlloc, IsSwitchMatching, AreChannelsBelow};
 ghost use Rattle.worm_swalloc.specs.SwAlloc.{named, all_named, sole_named, IsSolePort, is_for, channel_of, chosen};
 ghost use Rattle.worm_swalloc.specs.SwAlloc.{granted, sw_grants, sw_after, output_after, after_grant, with_choice};
-ghost use Rattle.worm_swalloc.specs.SwAlloc.{with_move, AreRequested, granted_of};
+ghost use Rattle.worm_swalloc.specs.SwAlloc.{with_move, AreApart, AreRequested, after_granting, granted_of};
 
 use crate::grant::{SwGrant, SwGrants};
 use crate::named::Named;
@@ -87,6 +87,39 @@ impl SwAlloc {
         self.gather(ready, &mut named);
         let granted = self.grant_named(&named);
         SwGrants::among(named.into_requests(), granted)
+    }
+
+    /// A pass over ready channels of which no two share an input port or an output port, as where each port has one
+    /// channel: no arbiter has a choice, so each of them is granted.
+    pub fn grant_each(&mut self, ready: &Ready<'_>) -> SwGrants
+        requires apart { AreApart self.old ready.now }
+        ensures grants { result ≡ sw_grants self.old ready.now }
+        ensures after { self.new ≡ sw_after self.old ready.now }
+        ensures matching { IsSwitchMatching self.old ready.now result }
+    {
+        // The proof needs the widths of the arbiters.
+        let _ = &self.ports;
+        let among = ready.keys();
+        let mut requests = [None; 7];
+        let mut left = among;
+        while let Some((port, vc)) = left.pop_first() {
+            let out = ready.out_port(port, vc);
+            let grant = SwGrant { vc, out };
+            requests[port as usize] = Some(grant);
+            self.move_past(port, grant);
+        }
+        SwGrants::among(requests, among)
+    }
+
+    /// An input port is granted this: its arbiter moves past the channel, and that of the output port past the port.
+    fn move_past(&mut self, port: u8, grant: SwGrant)
+        requires port { port < self.old.ports }
+        requires channel { grant.vc < self.old.vcs }
+        requires out { grant.out < self.old.ports }
+        ensures { self.new ≡ after_granting self.old port grant }
+    {
+        self.outputs[grant.out as usize].move_past(port);
+        self.inputs[port as usize].move_past(grant.vc);
     }
 
     /// The port that alone has ready channels, if there is one.
@@ -185,8 +218,7 @@ impl SwAlloc {
         if grant.out >= ports {
             return SwGrants::new();
         }
-        self.outputs[grant.out as usize].move_past(port);
-        self.inputs[port as usize].move_past(grant.vc);
+        self.move_past(port, grant);
         SwGrants::sole(port, grant)
     }
 
