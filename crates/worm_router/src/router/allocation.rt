@@ -1,16 +1,30 @@
 //! One pass of each allocator, over what the records state.
 
-ghost use Rattle.std.specs.Prelude.{◌≡◌, ◌+◌};
+ghost use Rattle.std.specs.Prelude.{◌≡◌, ◌+◌, true};
 ghost use Rattle.worm_vcalloc.specs.VcAlloc.{IsChannelMatching};
-ghost use Rattle.worm_swalloc.specs.SwAlloc.{IsSwitchMatching};
+ghost use Rattle.worm_swalloc.specs.SwAlloc.{AreApart, IsSwitchMatching, sw_after, sw_grants};
 ghost use Rattle.worm_router.specs.Router.{terminal, width};
 ghost use Rattle.worm_router.specs.Allocation.{requests, free_channels, channel_pass, after_allocate, IsSameSize};
 ghost use Rattle.worm_router.specs.Allocation.{AreHeld, LeavesRest, ready_outs, switch_grants, after_choose};
 
 use crate::router::Router;
 use worm_records::InRecord;
-use worm_swalloc::{Ready, SwGrants};
+use worm_swalloc::{Ready, SwAlloc, SwGrants};
 use worm_vcalloc::VcGrants;
+
+/// One pass of the switch allocator over ready channels that are known to be `apart`, or are not known to be.
+fn pass(alloc: &mut SwAlloc, ready: &Ready<'_>, apart: bool) -> SwGrants
+    requires { apart ≡ true → AreApart alloc.old ready.now }
+    ensures grants { result ≡ sw_grants alloc.old ready.now }
+    ensures after { alloc.new ≡ sw_after alloc.old ready.now }
+    ensures matching { IsSwitchMatching alloc.old ready.now result }
+{
+    if apart {
+        alloc.grant_each(ready)
+    } else {
+        alloc.grant(ready)
+    }
+}
 
 impl Router {
     /// One pass of the channel allocator over the waiting channels and the free ones. Each grant is written into
@@ -52,6 +66,7 @@ impl Router {
     {
         let among = self.busy.ready();
         let ready = Ready::new(&self.busy.outs, among);
-        self.switch_alloc.grant(&ready)
+        // Where each port has one channel, no two ask for one output port: each holds the channel that it asks for.
+        pass(&mut self.switch_alloc, &ready, self.classes.total() == 1)
     }
 }
