@@ -59,6 +59,20 @@ fn a_pass_grants_and_chooses(rt: HostRuntime) {
     trial.chooses(&[(0, None), (2, sends(1, 2))]);
 }
 
+/// Each port has one channel, and the packets go opposite ways: both are granted in one pass.
+#[test]
+fn packets_that_pass_each_other_are_both_chosen(rt: HostRuntime) {
+    let mut trial = Trial::new(rt, 0, &[1], 1);
+    let mut home = flit(0, 0);
+    home.lane.dst = 0;
+    trial.accepts(1, home);
+    trial.accepts(2, flit(1, 0));
+    trial.routes(1, 0);
+    trial.routes(2, 0);
+    trial.allocates(&[(1, 0, Some(0)), (2, 0, Some(0))]);
+    trial.chooses(&[(0, None), (1, sends(0, 2)), (2, sends(0, 1))]);
+}
+
 #[test]
 fn sets_follow_a_packet(rt: HostRuntime) {
     let mut trial = Trial::new(rt, 1, &[1], 1);

@@ -67,7 +67,7 @@ impl<R: Abort + AllocGlobal + Copy> Trial<R> {
 
     /// The flit comes in by the port.
     pub fn accepts(&mut self, port: u8, flit: Flit)
-        requires { flit.lane.dst ≡ 1 }
+        requires { flit.lane.dst < 2 }
     {
         assert!(self.rt; port < 3 && flit.vc < self.width);
         match self.router.accept(port, flit) {
