@@ -22,8 +22,8 @@ use crate::fields::{Fields, cut_first};
 use arrayvec::ArrayVec;
 use std::alloc::{AllocError, Global};
 use std::collections::BTreeSet;
-use worm_core::{Act, Config, Entry, Name, Script};
-use worm_flit::{Lane, Packet};
+use worm_core::{Config, Name, Script};
+use worm_flit::Lane;
 
 /// Which of the classes has the name.
 fn place_of(name: &[u8], classes: &[Name]) -> Option<usize>
@@ -99,16 +99,16 @@ impl ClosedLanes {
         Ok(())
     }
 
-    /// The lane of a close entry is closed from then on.
-    fn note(&mut self, entry: &Entry) -> Result<(), AllocError>
+    /// The lane of an entry without words is closed from then on.
+    fn note(&mut self, asked: Asked, words: &[u32]) -> Result<(), AllocError>
         ensures noted { OnOk result ((other : Lane)
             → contains lane_cmp self.new.lanes other
-            ≡ (closes other (entry_view entry.now) || contains lane_cmp self.old.lanes other)) }
+            ≡ (closes other (said_by asked words.now) || contains lane_cmp self.old.lanes other)) }
     {
-        match &entry.act {
-            Act::Offer(_) => Ok(()),
-            Act::Close(lane) => self.add(*lane),
+        if words.is_empty() {
+            self.add(asked.lane)?;
         }
+        Ok(())
     }
 }
 
@@ -126,36 +126,14 @@ fn class(classes: &[Name], fields: &mut Fields<'_>) -> Result<u8, Why>
     }
 }
 
-/// What an entry line asks for. The words of a packet stand beside it, so that a packet is made once, where it is kept,
-/// and not handed up from call to call.
+/// What an entry line asks for, but for the words of its packet: they stand beside it, so that they are copied once, to
+/// where they are kept. Where there is none the lane is to be closed.
 #[derive(Clone, Copy)]
-enum Asked {
-    /// To accept a packet of this lane in this turn.
-    Offer { turn: u32, lane: Lane },
-    /// To close this lane in this turn.
-    Close { turn: u32, lane: Lane },
-}
-
-impl Asked {
-    /// The entry with these words.
-    fn entry(self, words: &[u32]) -> Entry
-        requires { HasWords self words.now }
-        ensures { entry_view result ≡ said_by self words.now }
-    {
-        match self {
-            Asked::Offer { turn, lane } => match Packet::new(lane, words) {
-                Ok(packet) => Entry {
-                    turn,
-                    act: Act::Offer(packet),
-                },
-                Err(_) => unreachable!(),
-            },
-            Asked::Close { turn, lane } => Entry {
-                turn,
-                act: Act::Close(lane),
-            },
-        }
-    }
+struct Asked {
+    /// The turn in which it is asked.
+    turn: u32,
+    /// The lane of which it speaks.
+    lane: Lane,
 }
 
 /// What a reader knows in front of a line.
@@ -203,13 +181,13 @@ impl<'a> Standing<'a> {
             return Err(Why::LaneClosed);
         }
         read_words(fields, words)?;
-        Ok(Asked::Offer { turn, lane })
+        Ok(Asked { turn, lane })
     }
 
     /// What stands behind `close`: a turn and a lane. `ManyChannels` where the class owns several, `LaneClosed` where
     /// the lane was closed.
     #[tactic(auto, unfolding(crate::specs::Traffic::close_at))]
-    fn close(&self, fields: &mut Fields<'_>) -> Result<(u32, Lane), Why>
+    fn close(&self, fields: &mut Fields<'_>) -> Result<Asked, Why>
         ensures { Gives closing result (close_at (view self.now.config.now) self.now.last
             (contains lane_cmp self.now.closed.now.lanes) fields.old) }
     {
@@ -223,7 +201,7 @@ impl<'a> Standing<'a> {
             return Err(Why::LaneClosed);
         }
         fields.end()?;
-        Ok((turn, lane))
+        Ok(Asked { turn, lane })
     }
 
     /// The entry that a line says, or none at the line `end`; the words of a packet go into a list that has none.
@@ -249,8 +227,7 @@ impl<'a> Standing<'a> {
             if self.count >= 10_000 {
                 return Err(Why::TooMany);
             }
-            let (turn, lane) = self.close(&mut fields)?;
-            Ok(Some(Asked::Close { turn, lane }))
+            Ok(Some(self.close(&mut fields)?))
         } else if word == b"end".as_slice() {
             fields.end()?;
             Ok(None)
@@ -273,6 +250,25 @@ fn node_count(radices: &[u8]) -> u32
     nodes
 }
 
+/// The shortest line of an entry, `send 0 0 0 a 0` and its end.
+const LEAST_LINE: usize = 15;
+
+/// The most entries that a text may have.
+const MOST_ENTRIES: usize = 10_000;
+
+/// A script with no entry, and memory for those that these lines may say, so that its lists need not grow line by line
+/// and be copied. Where it is refused each line asks for its own.
+fn script_for(alloc: Global, rest: &[u8]) -> Script
+    ensures { result ≡ [] }
+{
+    let mut script = Script::empty(alloc);
+    let entries = (rest.len() / LEAST_LINE).min(MOST_ENTRIES);
+    // Each word takes two bytes at least, and an entry has at most 32.
+    let words = (rest.len() / 2).min(32 * MOST_ENTRIES);
+    let _ = script.make_room(entries, words);
+    script
+}
+
 /// The lines behind the header, entry after entry.
 fn read_entries(
     alloc: Global,
@@ -286,7 +282,7 @@ fn read_entries(
     ensures { AnswersOrFull said_of (IsEntryPiece (view config.now) (cut newline rest.now)) result
         (read_entries (view config.now) [] 2 (cut newline rest.now)) }
 {
-    let mut script = Script::empty(alloc);
+    let mut script = script_for(alloc, rest);
     let mut closed = ClosedLanes::new(alloc);
     let mut last = 0;
     let mut line = 2;
@@ -313,9 +309,11 @@ fn read_entries(
                 };
             }
             Ok(Some(asked)) => {
-                let entry = asked.entry(words.as_slice());
-                last = entry.turn;
-                if closed.note(&entry).is_err() || script.push(entry).is_err() {
+                last = asked.turn;
+                let words = words.as_slice();
+                if closed.note(asked, words).is_err()
+                    || script.add(asked.turn, asked.lane, words).is_err()
+                {
                     let why = Why::NoMemory;
                     return Err(TextFault { line, why });
                 }
