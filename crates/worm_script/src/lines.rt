@@ -73,8 +73,8 @@ impl Lines {
         }
     }
 
-    /// Takes memory ahead for so many entries more, with so many words together. `Err` where it is refused. Nothing that
-    /// is seen changes.
+    /// Takes memory ahead for so many entries more, with so many words together. `Err` where it is refused. Nothing
+    /// that is seen changes.
     pub fn make_room(&mut self, entries: usize, words: usize) -> Result<(), AllocError>
         ensures { self.new ≡ self.old }
     {

@@ -102,8 +102,8 @@ impl Script {
         Ok(())
     }
 
-    /// Takes memory ahead for so many entries more, with so many words together. `Err` where it is refused. Nothing that
-    /// is seen changes.
+    /// Takes memory ahead for so many entries more, with so many words together. `Err` where it is refused. Nothing
+    /// that is seen changes.
     pub fn make_room(&mut self, entries: usize, words: usize) -> Result<(), AllocError>
         ensures { self.new ≡ self.old }
     {

@@ -1,7 +1,7 @@
 //! The text of the traffic, line by line.
 
 ghost use Rattle.std.specs.Prelude.{◌≡◌, ◌≤◌, ◌<◌, ◌-◌, [], ◌==◌, length, position, Some, None};
-ghost use Rattle.std.specs.Prelude.{OnOk, IfOk, IfErr, IfSome, Ok, ◌⊎◌, List, ◌||◌, All, false};
+ghost use Rattle.std.specs.Prelude.{OnOk, IfOk, IfErr, Ok, ◌⊎◌, List, ◌||◌, All, false};
 ghost use Rattle.worm_text.specs.TrafficText.{AreEntries, traffic_text};
 ghost use Rattle.worm_text.specs.ScriptView.{said_of};
 ghost use Rattle.std.specs.Option.{option_map};
@@ -11,8 +11,8 @@ ghost use Rattle.worm_text.specs.Reading.{Reads, Gives};
 ghost use Rattle.worm_text.specs.Network.{view, nodes_of, names_of, Keeps};
 ghost use Rattle.worm_text.specs.declared.format.Format.{Format};
 ghost use Rattle.worm_text.specs.Traffic.{Said, class_at, turn_at, lane_at, words_at, send_at, close_at, entry_at};
-ghost use Rattle.worm_text.specs.Traffic.{entry_view, same_lane, lane_cmp, closes, read_entries};
-ghost use Rattle.worm_text.specs.Asked.{HasWords, closing, said_by};
+ghost use Rattle.worm_text.specs.Traffic.{same_lane, lane_cmp, closes, read_entries};
+ghost use Rattle.worm_text.specs.Asked.{said_by};
 ghost use Rattle.worm_text.specs.Traffic.{traffic_of};
 ghost use Rattle.worm_text.specs.TrafficFaults.{AnswersOrFull, RanOut, IsEntryLine, IsEntryPiece, IsTrafficFaultLine};
 ghost use Rattle.worm_text.specs.Lines.{cut, space, newline};
@@ -24,6 +24,12 @@ use std::alloc::{AllocError, Global};
 use std::collections::BTreeSet;
 use worm_core::{Config, Name, Script};
 use worm_flit::Lane;
+
+/// The most entries that a text may have.
+const MOST_ENTRIES: usize = 10_000;
+
+/// The bytes of the shortest line of an entry, `close 0 0 0 a` and its end.
+const LEAST_LINE: usize = 14;
 
 /// Which of the classes has the name.
 fn place_of(name: &[u8], classes: &[Name]) -> Option<usize>
@@ -52,7 +58,6 @@ fn read_words(fields: &mut Fields<'_>, words: &mut ArrayVec<u32, 32>) -> Result<
     requires { words.old.items ≡ [] }
     ensures read { Gives (λ done. words.new.items) result (words_at [] fields.old) }
     ensures some { OnOk result (1 ≤ length words.new.items) }
-    ensures few { OnOk result (length words.new.items ≤ 32) }
 {
     while !fields.is_over() {
         if words.is_full() {
@@ -106,9 +111,10 @@ impl ClosedLanes {
             ≡ (closes other (said_by asked words.now) || contains lane_cmp self.old.lanes other)) }
     {
         if words.is_empty() {
-            self.add(asked.lane)?;
+            self.add(asked.lane)
+        } else {
+            Ok(())
         }
-        Ok(())
     }
 }
 
@@ -171,9 +177,8 @@ impl<'a> Standing<'a> {
     #[tactic(auto, unfolding(crate::specs::Traffic::send_at))]
     fn send(&self, fields: &mut Fields<'_>, words: &mut ArrayVec<u32, 32>) -> Result<Asked, Why>
         requires { words.old.items ≡ [] }
-        ensures said { Gives (λ asked. said_by asked words.new.items) result (send_at (view self.now.config.now)
+        ensures { Gives (λ asked. said_by asked words.new.items) result (send_at (view self.now.config.now)
             self.now.last (contains lane_cmp self.now.closed.now.lanes) fields.old) }
-        ensures words { IfOk result (λ asked. HasWords asked words.new.items) }
     {
         let turn = turn(self.last, fields)?;
         let lane = self.lane(fields)?;
@@ -188,7 +193,7 @@ impl<'a> Standing<'a> {
     /// the lane was closed.
     #[tactic(auto, unfolding(crate::specs::Traffic::close_at))]
     fn close(&self, fields: &mut Fields<'_>) -> Result<Asked, Why>
-        ensures { Gives closing result (close_at (view self.now.config.now) self.now.last
+        ensures { Gives (λ asked. said_by asked []) result (close_at (view self.now.config.now) self.now.last
             (contains lane_cmp self.now.closed.now.lanes) fields.old) }
     {
         let turn = turn(self.last, fields)?;
@@ -209,22 +214,21 @@ impl<'a> Standing<'a> {
     #[tactic(auto, unfolding(crate::specs::Traffic::entry_at))]
     fn entry(&self, line: &[u8], words: &mut ArrayVec<u32, 32>) -> Result<Option<Asked>, Why>
         requires { words.old.items ≡ [] }
-        ensures said { Gives (option_map (λ asked. said_by asked words.new.items)) result (entry_at
+        ensures { Gives (option_map (λ asked. said_by asked words.new.items)) result (entry_at
             (view self.now.config.now) self.now.count self.now.last (contains lane_cmp self.now.closed.now.lanes)
             (cut space line.now)) }
-        ensures words { IfOk result (λ entry. IfSome entry (λ asked. HasWords asked words.new.items)) }
     {
         let mut fields = Fields::new(line);
         let Some(word) = fields.next() else {
             return Err(Why::Missing);
         };
         if word == b"send".as_slice() {
-            if self.count >= 10_000 {
+            if self.count >= MOST_ENTRIES {
                 return Err(Why::TooMany);
             }
             Ok(Some(self.send(&mut fields, words)?))
         } else if word == b"close".as_slice() {
-            if self.count >= 10_000 {
+            if self.count >= MOST_ENTRIES {
                 return Err(Why::TooMany);
             }
             Ok(Some(self.close(&mut fields)?))
@@ -249,12 +253,6 @@ fn node_count(radices: &[u8]) -> u32
     }
     nodes
 }
-
-/// The shortest line of an entry, `send 0 0 0 a 0` and its end.
-const LEAST_LINE: usize = 15;
-
-/// The most entries that a text may have.
-const MOST_ENTRIES: usize = 10_000;
 
 /// A script with no entry, and memory for those that these lines may say, so that its lists need not grow line by line
 /// and be copied. Where it is refused each line asks for its own.
