@@ -26,6 +26,7 @@ use crate::turns::{Ending, run_script};
 use crate::words::Options;
 use std::alloc::Global;
 use std::io::{Read, Write};
+use std::mem::forget;
 use std::sync::Wait;
 use std::thread::Threads;
 use worm_core::{Config, Net, NetFault, Script, StepFault};
@@ -175,7 +176,10 @@ fn run_and_report<W: Write>(
     };
     let ending = run_script(alloc, &mut net, &accepted.script, turns, drain);
     let summary = summary_of(&net, &accepted.script, turns, drain, &ending);
-    report_run(alloc, &net, &summary, ending.fault, out)
+    let told = report_run(alloc, &net, &summary, ending.fault, out);
+    forget(net);
+    forget(accepted);
+    told
 }
 
 /// Reads two texts to their end, the network first, runs them on this thread, and writes the report.

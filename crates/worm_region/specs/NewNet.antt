@@ -6,6 +6,7 @@ use Rattle.worm_mesh.specs.Links.{link_count}
 use Rattle.worm_region.specs.declared.node.Node.{Node}
 use Rattle.worm_region.specs.Owned.{sole}
 use Rattle.worm_region.specs.State.{NetState, fresh_node}
+use Rattle.worm_term.specs.Source.{SourceState, fresh_source}
 use Rattle.worm_wires.specs.Links.{empty_link}
 
 -- the limits of a configuration
@@ -16,9 +17,15 @@ pub record IsConfig (radices channels : List ℕ) (depth names : ℕ) : Type 0 w
   pub most_depth : depth ≤ 16
   pub all_named : names ≡ length channels
 
+-- nodes of a new network, each at its number
 abbrev pub AreFresh : List ℕ → List ℕ → ℕ → List Node → Type 0
 AreFresh mesh channels depth nodes =
     (x : ℕ) → slice_index_or nodes x (fresh_node mesh channels depth x) ≡ fresh_node mesh channels depth x
+
+-- sources of a new network with so many nodes, each at its node's number
+abbrev pub AreFreshSources : ℕ → List ℕ → List SourceState → Type 0
+AreFreshSources nodes channels sources =
+    (x : ℕ) → slice_index_or sources x (fresh_source x nodes channels) ≡ fresh_source x nodes channels
 
 pub record IsFresh (mesh channels : List ℕ) (depth : ℕ) (names : List (List ℕ)) (s : NetState) : Type 0 where
   pub same_mesh : s.mesh ≡ mesh

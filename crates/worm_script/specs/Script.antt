@@ -1,6 +1,7 @@
 -- The order of a script's entries, and those of a turn and of a node.
 use Rattle.std.specs.Prelude.{ℕ, ◌≡◌, ◌≢◌, ◌≤◌, ◌+◌, ◌-◌, ◌<◌, ◌==◌, List, [], ◌∷◌}
 use Rattle.std.specs.Prelude.{All, Option, None, Some, length, drop, filter, map, slice_index, slice_index_or}
+use Rattle.std.specs.Prelude.{if◌then◌else◌}
 use Rattle.worm_flit.specs.declared.Lane.{Lane}
 use Rattle.worm_flit.specs.Packets.{PacketState}
 use Rattle.worm_script.specs.declared.entry.Act.{Act}
@@ -24,6 +25,14 @@ AreInOrder entries = (i : ℕ) → i + 1 < length entries
 abbrev pub lane_of : Act → Lane
 lane_of (Offer packet) = packet.lane
 lane_of (Close lane) = lane
+
+-- what is asked of a lane's source: to accept a packet of these words, or where there is none to close the lane
+abbrev pub asking : Lane → List ℕ → Act
+asking lane words = if length words == 0 then Close lane else Offer (record { lane = lane; words = words })
+
+-- the entry that asks it in a turn
+abbrev pub entry_with : ℕ → Lane → List ℕ → Entry
+entry_with turn lane words = record { turn = turn; act = asking lane words }
 
 -- the packet that is offered, if one is
 abbrev pub packet_in : Act → Option PacketState

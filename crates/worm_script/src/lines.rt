@@ -3,7 +3,8 @@
 ghost use Rattle.std.specs.Prelude.{ℕ, ◌≡◌, ◌<◌, ◌≤◌, ◌++◌, ◌∷◌, [], List, OnOk, OnErr, IfOk, length, slice_range};
 ghost use Rattle.std.specs.Prelude.{slice_index_or};
 ghost use Rattle.worm_script.specs.Lines.{IsWithin, entry_of};
-ghost use Rattle.worm_script.specs.Script.{AreInOrder, HaveWords, due, flit_count, lane_of, last_turn, packet_in};
+ghost use Rattle.worm_script.specs.Script.{AreInOrder, HaveWords, due, entry_with, flit_count, lane_of, last_turn};
+ghost use Rattle.worm_script.specs.Script.{packet_in};
 ghost use Rattle.worm_script.specs.declared.entry.Entry.{Entry as OfEntry};
 
 use crate::entry::{Act, Entry};
@@ -45,23 +46,18 @@ impl Model for Lines {
 }
 
 /// Keeps the words of an entry behind all others, and tells what else is to be kept of it.
-fn line_of(words: &mut Vec<u32>, entry: &Entry) -> Result<Line, AllocError>
-    ensures behind { (more : List ℕ) × (words.new.items ≡ words.old.items ++ more) }
-    ensures within { IfOk result (IsWithin words.new.items) }
-    ensures entry { IfOk result (λ line. entry_of words.new.items line ≡ entry.now) }
+fn line_of(all: &mut Vec<u32>, turn: u32, lane: Lane, words: &[u32]) -> Result<Line, AllocError>
+    requires few { length words.now ≤ 32 }
+    ensures behind { (more : List ℕ) × (all.new.items ≡ all.old.items ++ more) }
+    ensures within { IfOk result (IsWithin all.new.items) }
+    ensures entry { IfOk result (λ line. entry_of all.new.items line ≡ entry_with turn lane words.now) }
 {
-    let first = words.len();
-    let count = match &entry.act {
-        Act::Offer(packet) => {
-            words.extend_from_slice(packet.words())?;
-            packet.words().len() as u8
-        }
-        Act::Close(_) => 0,
-    };
+    let first = all.len();
+    all.extend_from_slice(words)?;
     Ok(Line {
-        turn: entry.turn,
-        lane: entry.act.lane(),
-        count,
+        turn,
+        lane,
+        count: words.len() as u8,
         first,
     })
 }
@@ -75,6 +71,15 @@ impl Lines {
             lines: Vec::new(alloc),
             words: Vec::new(alloc),
         }
+    }
+
+    /// Takes memory ahead for so many entries more, with so many words together. `Err` where it is refused. Nothing
+    /// that is seen changes.
+    pub fn make_room(&mut self, entries: usize, words: usize) -> Result<(), AllocError>
+        ensures { self.new ≡ self.old }
+    {
+        self.lines.reserve(entries)?;
+        self.words.reserve(words)
     }
 
     /// How many entries there are.
@@ -94,13 +99,15 @@ impl Lines {
         }
     }
 
-    /// Adds an entry at the end; `Err` where there is no memory for it, and then it is not added.
-    pub fn push(&mut self, entry: &Entry) -> Result<(), AllocError>
-        ensures ok { OnOk result (self.new ≡ self.old ++ entry.now ∷ []) }
+    /// Adds an entry at the end: a packet of these words, or where there is none the mark that closes the lane. `Err`
+    /// where there is no memory for it, and then it is not added.
+    pub fn add(&mut self, turn: u32, lane: Lane, words: &[u32]) -> Result<(), AllocError>
+        requires few { length words.now ≤ 32 }
+        ensures ok { OnOk result (self.new ≡ self.old ++ entry_with turn lane words.now ∷ []) }
         ensures err { OnErr result (self.new ≡ self.old) }
     {
         self.lines.reserve(1)?;
-        let line = line_of(&mut self.words, entry)?;
+        let line = line_of(&mut self.words, turn, lane, words)?;
         let _ = self.lines.push(line);
         Ok(())
     }

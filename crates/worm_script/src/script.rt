@@ -1,12 +1,12 @@
 ghost use Rattle.std.specs.Prelude.{◌≡◌, ◌<◌, ◌≤◌, ◌-◌, ◌↔◌, ◌++◌, ◌∷◌, [], IsTrue, OnOk, OnErr, length};
 ghost use Rattle.std.specs.Prelude.{slice_index_or, slice_range, slice_set};
-ghost use Rattle.worm_script.specs.Script.{AreInOrder, due, flit_count, lane_of, last_turn};
+ghost use Rattle.worm_script.specs.Script.{AreInOrder, due, entry_with, flit_count, lane_of, last_turn};
 ghost use Rattle.worm_script.specs.declared.entry.Entry.{Entry as OfEntry};
 
 use crate::due::Due;
-use crate::entry::Entry;
+use crate::entry::{Act, Entry};
 use crate::lines::Lines;
-use std::alloc::Global;
+use std::alloc::{AllocError, Global};
 use std::marker::Model;
 use worm_flit::Lane;
 
@@ -72,20 +72,43 @@ impl Script {
         ensures falls { (result ≡ Err ScriptFault.TurnFalls) ↔ (entry.turn < last_turn self.old) }
         ensures err { OnErr result (self.new ≡ self.old) }
     {
-        if entry.turn < self.entries.last_turn() {
+        match &entry.act {
+            Act::Offer(packet) => self.add(entry.turn, packet.lane(), packet.words()),
+            Act::Close(lane) => self.add(entry.turn, *lane, &[]),
+        }
+    }
+
+    /// The same of an entry by its parts: it offers a packet of these words, at most 32, or where there is none closes
+    /// the lane.
+    pub fn add(&mut self, turn: u32, lane: Lane, words: &[u32]) -> Result<(), ScriptFault>
+        requires few { length words.now ≤ 32 }
+        ensures ok { OnOk result (self.new ≡ self.old ++ entry_with turn lane words.now ∷ []) }
+        ensures falls { (result ≡ Err ScriptFault.TurnFalls) ↔ (turn < last_turn self.old) }
+        ensures err { OnErr result (self.new ≡ self.old) }
+    {
+        if turn < self.entries.last_turn() {
             return Err(ScriptFault::TurnFalls);
         }
         if self.gaps.reserve(1).is_err() {
             return Err(ScriptFault::NoMemory);
         }
-        let source = usize::from(entry.act.lane().src);
-        if self.entries.push(&entry).is_err() {
+        let source = usize::from(lane.src);
+        if self.entries.add(turn, lane, words).is_err() {
             return Err(ScriptFault::NoMemory);
         }
         let _ = self.gaps.push(0);
         lead_to_end(&mut self.gaps, self.lasts[source]);
         self.lasts[source] = self.entries.len();
         Ok(())
+    }
+
+    /// Takes memory ahead for so many entries more, with so many words together. `Err` where it is refused. Nothing
+    /// that is seen changes.
+    pub fn make_room(&mut self, entries: usize, words: usize) -> Result<(), AllocError>
+        ensures { self.new ≡ self.old }
+    {
+        self.gaps.reserve(entries)?;
+        self.entries.make_room(entries, words)
     }
 
     /// How many entries there are.

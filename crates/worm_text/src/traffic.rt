@@ -1,7 +1,7 @@
 //! The text of the traffic, line by line.
 
 ghost use Rattle.std.specs.Prelude.{◌≡◌, ◌≤◌, ◌<◌, ◌-◌, [], ◌==◌, length, position, Some, None};
-ghost use Rattle.std.specs.Prelude.{OnOk, IfOk, IfErr, IfSome, Ok, ◌⊎◌, List, ◌||◌, All, false};
+ghost use Rattle.std.specs.Prelude.{OnOk, IfOk, IfErr, Ok, ◌⊎◌, List, ◌||◌, All, false};
 ghost use Rattle.worm_text.specs.TrafficText.{AreEntries, traffic_text};
 ghost use Rattle.worm_text.specs.ScriptView.{said_of};
 ghost use Rattle.std.specs.Option.{option_map};
@@ -11,8 +11,8 @@ ghost use Rattle.worm_text.specs.Reading.{Reads, Gives};
 ghost use Rattle.worm_text.specs.Network.{view, nodes_of, names_of, Keeps};
 ghost use Rattle.worm_text.specs.declared.format.Format.{Format};
 ghost use Rattle.worm_text.specs.Traffic.{Said, class_at, turn_at, lane_at, words_at, send_at, close_at, entry_at};
-ghost use Rattle.worm_text.specs.Traffic.{entry_view, same_lane, lane_cmp, closes, read_entries};
-ghost use Rattle.worm_text.specs.Asked.{HasWords, closing, said_by};
+ghost use Rattle.worm_text.specs.Traffic.{same_lane, lane_cmp, closes, read_entries};
+ghost use Rattle.worm_text.specs.Asked.{said_by};
 ghost use Rattle.worm_text.specs.Traffic.{traffic_of};
 ghost use Rattle.worm_text.specs.TrafficFaults.{AnswersOrFull, RanOut, IsEntryLine, IsEntryPiece, IsTrafficFaultLine};
 ghost use Rattle.worm_text.specs.Lines.{cut, space, newline};
@@ -22,8 +22,14 @@ use crate::fields::{Fields, cut_first};
 use arrayvec::ArrayVec;
 use std::alloc::{AllocError, Global};
 use std::collections::BTreeSet;
-use worm_core::{Act, Config, Entry, Name, Script};
-use worm_flit::{Lane, Packet};
+use worm_core::{Config, Name, Script};
+use worm_flit::Lane;
+
+/// The most entries that a text may have.
+const MOST_ENTRIES: usize = 10_000;
+
+/// The bytes of the shortest line of an entry, `close 0 0 0 a` and its end.
+const LEAST_LINE: usize = 14;
 
 /// Which of the classes has the name.
 fn place_of(name: &[u8], classes: &[Name]) -> Option<usize>
@@ -52,7 +58,6 @@ fn read_words(fields: &mut Fields<'_>, words: &mut ArrayVec<u32, 32>) -> Result<
     requires { words.old.items ≡ [] }
     ensures read { Gives (λ done. words.new.items) result (words_at [] fields.old) }
     ensures some { OnOk result (1 ≤ length words.new.items) }
-    ensures few { OnOk result (length words.new.items ≤ 32) }
 {
     while !fields.is_over() {
         if words.is_full() {
@@ -99,15 +104,16 @@ impl ClosedLanes {
         Ok(())
     }
 
-    /// The lane of a close entry is closed from then on.
-    fn note(&mut self, entry: &Entry) -> Result<(), AllocError>
+    /// The lane of an entry without words is closed from then on.
+    fn note(&mut self, asked: Asked, words: &[u32]) -> Result<(), AllocError>
         ensures noted { OnOk result ((other : Lane)
             → contains lane_cmp self.new.lanes other
-            ≡ (closes other (entry_view entry.now) || contains lane_cmp self.old.lanes other)) }
+            ≡ (closes other (said_by asked words.now) || contains lane_cmp self.old.lanes other)) }
     {
-        match &entry.act {
-            Act::Offer(_) => Ok(()),
-            Act::Close(lane) => self.add(*lane),
+        if words.is_empty() {
+            self.add(asked.lane)
+        } else {
+            Ok(())
         }
     }
 }
@@ -126,36 +132,14 @@ fn class(classes: &[Name], fields: &mut Fields<'_>) -> Result<u8, Why>
     }
 }
 
-/// What an entry line asks for. The words of a packet stand beside it, so that a packet is made once, where it is kept,
-/// and not handed up from call to call.
+/// What an entry line asks for, but for the words of its packet: they stand beside it, so that they are copied once, to
+/// where they are kept. Where there is none the lane is to be closed.
 #[derive(Clone, Copy)]
-enum Asked {
-    /// To accept a packet of this lane in this turn.
-    Offer { turn: u32, lane: Lane },
-    /// To close this lane in this turn.
-    Close { turn: u32, lane: Lane },
-}
-
-impl Asked {
-    /// The entry with these words.
-    fn entry(self, words: &[u32]) -> Entry
-        requires { HasWords self words.now }
-        ensures { entry_view result ≡ said_by self words.now }
-    {
-        match self {
-            Asked::Offer { turn, lane } => match Packet::new(lane, words) {
-                Ok(packet) => Entry {
-                    turn,
-                    act: Act::Offer(packet),
-                },
-                Err(_) => unreachable!(),
-            },
-            Asked::Close { turn, lane } => Entry {
-                turn,
-                act: Act::Close(lane),
-            },
-        }
-    }
+struct Asked {
+    /// The turn in which it is asked.
+    turn: u32,
+    /// The lane of which it speaks.
+    lane: Lane,
 }
 
 /// What a reader knows in front of a line.
@@ -193,9 +177,8 @@ impl<'a> Standing<'a> {
     #[tactic(auto, unfolding(crate::specs::Traffic::send_at))]
     fn send(&self, fields: &mut Fields<'_>, words: &mut ArrayVec<u32, 32>) -> Result<Asked, Why>
         requires { words.old.items ≡ [] }
-        ensures said { Gives (λ asked. said_by asked words.new.items) result (send_at (view self.now.config.now)
+        ensures { Gives (λ asked. said_by asked words.new.items) result (send_at (view self.now.config.now)
             self.now.last (contains lane_cmp self.now.closed.now.lanes) fields.old) }
-        ensures words { IfOk result (λ asked. HasWords asked words.new.items) }
     {
         let turn = turn(self.last, fields)?;
         let lane = self.lane(fields)?;
@@ -203,14 +186,14 @@ impl<'a> Standing<'a> {
             return Err(Why::LaneClosed);
         }
         read_words(fields, words)?;
-        Ok(Asked::Offer { turn, lane })
+        Ok(Asked { turn, lane })
     }
 
     /// What stands behind `close`: a turn and a lane. `ManyChannels` where the class owns several, `LaneClosed` where
     /// the lane was closed.
     #[tactic(auto, unfolding(crate::specs::Traffic::close_at))]
-    fn close(&self, fields: &mut Fields<'_>) -> Result<(u32, Lane), Why>
-        ensures { Gives closing result (close_at (view self.now.config.now) self.now.last
+    fn close(&self, fields: &mut Fields<'_>) -> Result<Asked, Why>
+        ensures { Gives (λ asked. said_by asked []) result (close_at (view self.now.config.now) self.now.last
             (contains lane_cmp self.now.closed.now.lanes) fields.old) }
     {
         let turn = turn(self.last, fields)?;
@@ -223,7 +206,7 @@ impl<'a> Standing<'a> {
             return Err(Why::LaneClosed);
         }
         fields.end()?;
-        Ok((turn, lane))
+        Ok(Asked { turn, lane })
     }
 
     /// The entry that a line says, or none at the line `end`; the words of a packet go into a list that has none.
@@ -231,26 +214,24 @@ impl<'a> Standing<'a> {
     #[tactic(auto, unfolding(crate::specs::Traffic::entry_at))]
     fn entry(&self, line: &[u8], words: &mut ArrayVec<u32, 32>) -> Result<Option<Asked>, Why>
         requires { words.old.items ≡ [] }
-        ensures said { Gives (option_map (λ asked. said_by asked words.new.items)) result (entry_at
+        ensures { Gives (option_map (λ asked. said_by asked words.new.items)) result (entry_at
             (view self.now.config.now) self.now.count self.now.last (contains lane_cmp self.now.closed.now.lanes)
             (cut space line.now)) }
-        ensures words { IfOk result (λ entry. IfSome entry (λ asked. HasWords asked words.new.items)) }
     {
         let mut fields = Fields::new(line);
         let Some(word) = fields.next() else {
             return Err(Why::Missing);
         };
         if word == b"send".as_slice() {
-            if self.count >= 10_000 {
+            if self.count >= MOST_ENTRIES {
                 return Err(Why::TooMany);
             }
             Ok(Some(self.send(&mut fields, words)?))
         } else if word == b"close".as_slice() {
-            if self.count >= 10_000 {
+            if self.count >= MOST_ENTRIES {
                 return Err(Why::TooMany);
             }
-            let (turn, lane) = self.close(&mut fields)?;
-            Ok(Some(Asked::Close { turn, lane }))
+            Ok(Some(self.close(&mut fields)?))
         } else if word == b"end".as_slice() {
             fields.end()?;
             Ok(None)
@@ -273,6 +254,19 @@ fn node_count(radices: &[u8]) -> u32
     nodes
 }
 
+/// A script with no entry, and memory for those that these lines may say, so that its lists need not grow line by line
+/// and be copied. Where it is refused each line asks for its own.
+fn script_for(alloc: Global, rest: &[u8]) -> Script
+    ensures { result ≡ [] }
+{
+    let mut script = Script::empty(alloc);
+    let entries = (rest.len() / LEAST_LINE).min(MOST_ENTRIES);
+    // Each word takes two bytes at least, and an entry has at most 32.
+    let words = (rest.len() / 2).min(32 * MOST_ENTRIES);
+    let _ = script.make_room(entries, words);
+    script
+}
+
 /// The lines behind the header, entry after entry.
 fn read_entries(
     alloc: Global,
@@ -286,7 +280,7 @@ fn read_entries(
     ensures { AnswersOrFull said_of (IsEntryPiece (view config.now) (cut newline rest.now)) result
         (read_entries (view config.now) [] 2 (cut newline rest.now)) }
 {
-    let mut script = Script::empty(alloc);
+    let mut script = script_for(alloc, rest);
     let mut closed = ClosedLanes::new(alloc);
     let mut last = 0;
     let mut line = 2;
@@ -313,9 +307,11 @@ fn read_entries(
                 };
             }
             Ok(Some(asked)) => {
-                let entry = asked.entry(words.as_slice());
-                last = entry.turn;
-                if closed.note(&entry).is_err() || script.push(entry).is_err() {
+                last = asked.turn;
+                let words = words.as_slice();
+                if closed.note(asked, words).is_err()
+                    || script.add(asked.turn, asked.lane, words).is_err()
+                {
                     let why = Why::NoMemory;
                     return Err(TextFault { line, why });
                 }

@@ -1,5 +1,4 @@
 use Rattle.std.proofs.Common.{◌≡◌, ◌≤◌, ◌<◌, ◌∙◌, length, sym, ap, arith, ltb, refl, true, false}
-use Rattle.std.proofs.lemmas.List.{length_push}
 use Rattle.std.proofs.lemmas.Bool.Decides.{nat_tests}
 use Rattle.std.proofs.lemmas.Result.{err_from_is_err_and}
 use Rattle.worm_text.specs.Traffic.{words_at}
@@ -11,7 +10,7 @@ returns-then-is_full-clause-read c =
     let some = some_left c.is_over.result c.loop-words.fields c.is_over.ensures c.loop-words-test.true in
     let full : 32 ≤ length c.loop-words.words.items =
     grind (arith, nat_tests, c.is_full.ensures.value, c.if-is_full.true) in
-    sym c.loop-words.invariant.0 ∙ words_full c.loop-words.words.items c.loop-words.fields some full
+    sym c.loop-words.invariant ∙ words_full c.loop-words.words.items c.loop-words.fields some full
 
 pub returns-in_err-number-clause-read : goal.returns-in_err-number-clause-read
 returns-in_err-number-clause-read c =
@@ -19,7 +18,7 @@ returns-in_err-number-clause-read c =
     let some = some_left c.is_over.result c.loop-words.fields c.is_over.ensures c.loop-words-test.true in
     let room : length c.loop-words.words.items < 32 =
     grind (arith, nat_tests, c.is_full.ensures.value, c.is_full.ensures.fits, c.if-is_full.false) in
-    rw (p.1, p.2) (sym c.loop-words.invariant.0
+    rw (p.1, p.2) (sym c.loop-words.invariant
     ∙ words_bad c.loop-words.words.items c.loop-words.fields c.in_err-number.field-0.0 some room
     c.in_err-number.ensures.answer)
 
@@ -28,26 +27,19 @@ loop-words-preserved c =
     let room : length c.loop-words.words.items < 32 =
     grind (arith, nat_tests, c.is_full.ensures.value, c.is_full.ensures.fits, c.if-is_full.false) in
     let m = words_more c.loop-words.words.items c.loop-words.fields c.number.new.self c.in_ok-number.field-0 room
-    c.in_ok-number.ensures.answer in (
-      ap (λ ws. words_at ws c.number.new.self) c.push.ensures.items ∙ sym m.0 ∙ c.loop-words.invariant.0,
-      omega (
-        arith,
-        room,
-        ap length c.push.ensures.items,
-        length_push c.loop-words.words.items c.in_ok-number.field-0,
-      ),
-    )
+    c.in_ok-number.ensures.answer in
+    ap (λ ws. words_at ws c.number.new.self) c.push.ensures.items ∙ sym m.0 ∙ c.loop-words.invariant
 
 pub returns-then-is_empty-clause-read : goal.returns-then-is_empty-clause-read
 returns-then-is_empty-clause-read c =
     let none = none_left c.is_over.result c.loop-words.fields c.is_over.ensures c.loop-words-test.false in
     let empty : ltb 0 (length c.loop-words.words.items) ≡ false =
     grind (arith, nat_tests, c.is_empty.ensures, c.if-is_empty.true) in
-    sym c.loop-words.invariant.0 ∙ words_over c.loop-words.words.items c.loop-words.fields none ∙ rw empty refl
+    sym c.loop-words.invariant ∙ words_over c.loop-words.words.items c.loop-words.fields none ∙ rw empty refl
 
 pub returns-clause-read : goal.returns-clause-read
 returns-clause-read c =
     let none = none_left c.is_over.result c.loop-words.fields c.is_over.ensures c.loop-words-test.false in
     let some : ltb 0 (length c.loop-words.words.items) ≡ true =
     grind (arith, nat_tests, c.is_empty.ensures, c.if-is_empty.false) in
-    sym c.loop-words.invariant.0 ∙ words_over c.loop-words.words.items c.loop-words.fields none ∙ rw some refl
+    sym c.loop-words.invariant ∙ words_over c.loop-words.words.items c.loop-words.fields none ∙ rw some refl
