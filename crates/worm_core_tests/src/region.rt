@@ -108,6 +108,12 @@ fn goes_on_with(rt: &impl Abort, script: &mut Script, turn: u32, act: Act) {
     script.push(Entry { turn, act }).expect(rt, "an entry more");
 }
 
+/// The same by its parts: it offers a packet of these words, or where there is none closes the lane.
+fn goes_on_by(rt: &impl Abort, script: &mut Script, turn: u32, lane: Lane, words: &[u32]) {
+    assert!(rt; words.len() <= 32);
+    script.add(turn, lane, words).expect(rt, "an entry more");
+}
+
 /// The packet has these words.
 fn carries(rt: &impl Abort, packet: Option<Packet>, words: &[u32]) {
     match packet {
@@ -122,12 +128,15 @@ fn what_the_entries_of_a_turn_ask(rt: HostRuntime) {
     let (first, second) = (lane(0, 5, 0), lane(1, 5, 0));
     goes_on_with(&rt, &mut script, 3, Act::Offer(packet(&rt, first, &[7, 8])));
     goes_on_with(&rt, &mut script, 3, Act::Close(second));
-    goes_on_with(&rt, &mut script, 3, Act::Offer(packet(&rt, first, &[9])));
+    script.make_room(2, 1).expect(&rt, "memory ahead");
+    goes_on_by(&rt, &mut script, 3, first, &[9]);
+    goes_on_by(&rt, &mut script, 3, first, &[]);
     let due = script.due(3);
-    assert_eq!(&rt; due.len(), 3);
+    assert_eq!(&rt; due.len(), 4);
     carries(&rt, due.packet(0), &[7, 8]);
     assert!(&rt; due.packet(1).is_none());
     carries(&rt, due.packet(2), &[9]);
+    assert!(&rt; due.packet(3).is_none());
     assert_eq!(&rt; due.lane(0), first);
     assert_eq!(&rt; due.lane(1), second);
 }

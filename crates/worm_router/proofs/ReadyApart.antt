@@ -27,7 +27,8 @@ module _ (r : RouterState) (sound : IsRouter r) (holders : AreHolders r) (sole :
       let same : d.0 ≡ out = cc in
       let may = may_leave r port vc d sound place e in
       let first : d.1.vc ≡ 0 = let below = may.channel_in in omega arith in
-      let active = leaves_by_state r port (input_at r port vc) (input_at r port vc).state (input_at r port vc).buffer d e in
+      let active = leaves_by_state r port (input_at r port vc) (input_at r port vc).state
+      (input_at r port vc).buffer d e in
       record {
         place = place;
         out_in = let within = may.out_in in omega arith;

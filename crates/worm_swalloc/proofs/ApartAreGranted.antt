@@ -5,28 +5,21 @@ use Rattle.std.proofs.Common.{slice_index_or, slice_set, length, replicate, get_
 use Rattle.std.specs.Option.{option_map}
 use Rattle.std.proofs.lemmas.Bool.{and_from, cases_eq, cases_lt, eq-eqb, eqb-true, lt-ltb, ne_eqb, true≢false}
 use Rattle.std.proofs.lemmas.List.{ext_get_or, length-set}
-use Rattle.worm_vcalloc.specs.Arbiter.{ArbiterState, no_arbiter, winner, after_pick}
+use Rattle.worm_vcalloc.specs.Arbiter.{ArbiterState, no_arbiter, after_pick}
 use Rattle.worm_vcalloc.specs.ChannelSet.{has, IsFirst, IsFirstPort}
 use Rattle.worm_vcalloc.specs.Table.{cell}
-use Rattle.worm_vcalloc.proofs.Winner.{winner_none, winner_none_requests, winner_requests, winner_same}
+use Rattle.worm_vcalloc.proofs.Winner.{winner_none, winner_same}
 use Rattle.worm_swalloc.specs.Front.{with_front}
 use Rattle.worm_swalloc.specs.declared.grant.SwGrant.{SwGrant}
 use Rattle.worm_swalloc.specs.SwAlloc.{SwAllocState, IsSwAlloc, AreApart, AreRequested, after_grant, after_granting}
-use Rattle.worm_swalloc.specs.SwAlloc.{all_named, channel_of, chosen, granted, granted_at, granted_of, if_chosen, if_in, is_for}
-use Rattle.worm_swalloc.specs.SwAlloc.{is_line, is_of, named, named_channel, output_after, request_of, sw_grants}
+use Rattle.worm_swalloc.specs.SwAlloc.{all_named, channel_of, chosen, granted, granted_at, granted_of, if_chosen}
+use Rattle.worm_swalloc.specs.SwAlloc.{if_in, is_for, is_line, is_of, named, named_channel, output_after}
+use Rattle.worm_swalloc.specs.SwAlloc.{request_of, sw_grants}
 use Rattle.worm_swalloc.proofs.FrontGiven.{length-with_front, slice_index_or-with_front_below}
 use Rattle.worm_swalloc.proofs.FrontGiven.{slice_index_or-with_front_past, with_front_kept, with_front_same}
 use Rattle.worm_swalloc.proofs.PortsWalked.{walked_from}
 use Rattle.worm_swalloc.proofs.SwitchPass.{AskedBelow, asked_more, asked_start, get_or-replicate_same}
-use Rattle.worm_swalloc.proofs.SwitchPass.{not_asked, request_parts}
-
--- the only line that asks wins
-pub winner_sole : (a : ArbiterState) (asks : ℕ → Bool) (k : ℕ) → a.pointer ≤ a.width → k < a.width → asks k ≡ true
-    → ((i : ℕ) → asks i ≡ true → i ≡ k) → winner a asks ≡ Some k
-winner_sole a asks k ok within there sole = go (winner a asks) refl where
-  go : (w : Option ℕ) → winner a asks ≡ w → winner a asks ≡ Some k
-  go None e = absurd (true≢false (sym there ∙ winner_none_requests a asks ok e k within))
-  go (Some i) e = e ∙ ap Some (sole i (winner_requests a asks i ok e).1)
+use Rattle.worm_swalloc.proofs.SwitchPass.{not_asked, request_parts, winner_sole}
 
 -- a list whose first elements are given by a function, one of which is set
 set_in_front : {X : Type 0} (n i : ℕ) (f g : ℕ → X) (xs : List X) (d x : X) → n ≤ length xs → i < n → x ≡ g i
@@ -129,7 +122,8 @@ module _ (s : SwAllocState) (ready : List (List (Option ℕ))) (r : IsSwAlloc s.
       ap (λ xs. is_for (slice_index_or xs p None) out) b.requests_are
       ∙ elim (cases_lt p b.next) [
         | inl below ↦
-            ap (λ o. is_for o out) (slice_index_or-with_front_below b.next p (named s ready) (replicate 7 None) None below)
+            ap (λ o. is_for o out)
+            (slice_index_or-with_front_below b.next p (named s ready) (replicate 7 None) None below)
             ∙ before below (named s ready p) refl
         | inr past ↦
             ap (λ o. is_for o out) (slice_index_or-with_front_past b.next p (named s ready) (replicate 7 None) None past
@@ -146,8 +140,8 @@ module _ (s : SwAllocState) (ready : List (List (Option ℕ))) (r : IsSwAlloc s.
         ]
 
   -- so it chooses the next, and the others choose as before
-  module _ (requests : List (Option SwGrant)) (port : ℕ) (g : SwGrant) (within : port < s.ports) (out_in : g.out < s.ports)
-      (room : port < length requests) (none : slice_index_or requests port None ≡ None)
+  module _ (requests : List (Option SwGrant)) (port : ℕ) (g : SwGrant) (within : port < s.ports)
+      (out_in : g.out < s.ports) (room : port < length requests) (none : slice_index_or requests port None ≡ None)
       (new : (p : ℕ) → is_for (slice_index_or requests p None) g.out ≡ false) where
     abbrev added : List (Option SwGrant)
     added = slice_set requests port (Some g)
@@ -282,8 +276,8 @@ module _ (s : SwAllocState) (ready : List (List (Option ℕ))) (r : IsSwAlloc s.
           | inr other ↦ b.among p v lp lv (sym (whole.elsewhere p v lp lv other) ∙ there)
         ];
         state = moved
-            ∙ apart_moved requests port (record { vc = vc; out = out }) within.0 within.2 (omega arith) none new now long
-            long' b.state
+            ∙ apart_moved requests port (record { vc = vc; out = out }) within.0 within.2 (omega arith) none new now
+            long long' b.state
             ∙ ap (λ xs. record s {
               inputs = with_front s.ports (after_grant s xs) s.inputs;
               outputs = with_front s.ports (output_after s xs) s.outputs;

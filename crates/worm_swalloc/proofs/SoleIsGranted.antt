@@ -1,15 +1,15 @@
 -- Lemmas on a pass in which one input port alone may name anything.
-use Rattle.std.proofs.Common.{◌≡◌, IfSome, Bool, ℕ, ◌+◌, ◌-◌, zero, suc, ◌<◌, ◌≤◌, true, false, List, Option, Some}
+use Rattle.std.proofs.Common.{◌≡◌, IfSome, ℕ, ◌+◌, ◌-◌, zero, suc, ◌<◌, ◌≤◌, false, List, Option, Some}
 use Rattle.std.proofs.Common.{None, refl, sym, ap, ◌∙◌, arith, slice_index_or, slice_set, length, inl, inr, replicate}
 use Rattle.std.proofs.Common.{subst}
 use Rattle.std.proofs.lemmas.Bool.{cases_eq, eq-eqb, ne_eqb, true≢false}
-use Rattle.worm_vcalloc.specs.Arbiter.{ArbiterState, no_arbiter, winner, after_pick}
-use Rattle.worm_vcalloc.proofs.Winner.{winner_none, winner_none_requests, winner_requests}
+use Rattle.worm_vcalloc.specs.Arbiter.{no_arbiter, after_pick}
+use Rattle.worm_vcalloc.proofs.Winner.{winner_none}
 use Rattle.worm_swalloc.specs.declared.grant.SwGrant.{SwGrant}
 use Rattle.worm_swalloc.specs.SwAlloc.{SwAllocState, IsSwAlloc, sole_named, is_for, chosen, with_choice, output_after}
 use Rattle.worm_swalloc.specs.SwAlloc.{IsSolePort, channel_of, with_move, named, all_named}
 use Rattle.worm_swalloc.proofs.FrontGiven.{slice_set-with_front, with_front_kept, with_front_skip}
-use Rattle.worm_swalloc.proofs.SwitchPass.{get_or-replicate_same, named_unready, named_within}
+use Rattle.worm_swalloc.proofs.SwitchPass.{get_or-replicate_same, named_unready, named_within, winner_sole}
 use Rattle.worm_swalloc.proofs.GrantsOfSet.{sole_here, sole_elsewhere}
 use Rattle.worm_swalloc.proofs.ChoicesByPort.{ChosenBelow, chosen_none, chosen_more, chosen_pass}
 
@@ -103,30 +103,18 @@ sole_none s port o grants r long long' within none e =
 
 -- the output port that it is for chooses the sole one
 sole_chosen : (s : SwAllocState) (port : ℕ) (g : SwGrant) → IsSwAlloc s.ports s.vcs s.inputs s.outputs
-    → port < s.ports → g.out < s.ports → (w : Option ℕ) → chosen s (sole_named port (Some g)) g.out ≡ w → w ≡ Some port
-sole_chosen s port g r within out_in w e =
+    → port < s.ports → g.out < s.ports → chosen s (sole_named port (Some g)) g.out ≡ Some port
+sole_chosen s port g r within out_in =
     let few = r.few_ports in
     let wide = r.output_width g.out (omega arith) in
     let low = r.output_pointer g.out (omega arith) in
-    by_winner w e (omega arith) (omega arith) where
-      arbiter : ArbiterState
-      arbiter = slice_index_or s.outputs g.out no_arbiter
-
-      asks : ℕ → Bool
-      asks p = is_for (slice_index_or (sole_named port (Some g)) p None) g.out
-
-      by_winner : (w : Option ℕ) → winner arbiter asks ≡ w → arbiter.pointer ≤ arbiter.width → port < arbiter.width
-          → w ≡ Some port
-      by_winner None e low wide =
-          let few = r.few_ports in
-          let yes : asks port ≡ true = ap (λ q. is_for q g.out) (sole_here port (Some g) (omega arith))
-          ∙ eq-eqb g.out g.out refl in
-          absurd (true≢false (sym yes ∙ winner_none_requests arbiter asks low e port wide))
-      by_winner (Some q) e low wide = elim (cases_eq q port) [
-        | inl same ↦ ap (λ k. Some k) same
-        | inr other ↦ absurd (true≢false (sym (winner_requests arbiter asks q low e).1
-            ∙ ap (λ k. is_for k g.out) (sole_elsewhere port q (Some g) other)))
-      ]
+    winner_sole (slice_index_or s.outputs g.out no_arbiter)
+    (λ p. is_for (slice_index_or (sole_named port (Some g)) p None) g.out) port (omega arith) (omega arith)
+    (ap (λ o. is_for o g.out) (sole_here port (Some g) (omega arith)) ∙ eq-eqb g.out g.out refl)
+    (λ p there. elim (cases_eq p port) [
+      | inl here ↦ here
+      | inr other ↦ absurd (true≢false (sym there ∙ ap (λ o. is_for o g.out) (sole_elsewhere port p (Some g) other)))
+    ])
 
 -- and the sole request is granted
 pub sole_granted : (s next : SwAllocState) (port : ℕ) (g : SwGrant) (grants grants' : List (Option SwGrant))
@@ -143,7 +131,7 @@ sole_granted s next port g grants grants' r long long' within out_in e given mov
     let few = r.few_ports in
     let requests : List (Option SwGrant) = sole_named port (Some g) in
     let choice : chosen s requests g.out ≡ Some port =
-    sole_chosen s port g r within out_in (chosen s requests g.out) refl in
+    sole_chosen s port g r within out_in in
     let here : slice_index_or requests port None ≡ Some g = sole_here port (Some g) (omega arith) in
     let away : (out p : ℕ) → (g.out ≡ out → ⊥)
     → is_for (slice_index_or requests p None) out ≡ false =

@@ -35,6 +35,14 @@ pub winner_of_lines : (a : ArbiterState) (width lines : ℕ) (asks : ℕ → Boo
 winner_of_lines a width lines asks wide low same =
     winner_same a (line_requests lines) asks (omega arith) (λ i l. same i (omega arith))
 
+-- the only line that asks wins
+pub winner_sole : (a : ArbiterState) (asks : ℕ → Bool) (k : ℕ) → a.pointer ≤ a.width → k < a.width → asks k ≡ true
+    → ((i : ℕ) → asks i ≡ true → i ≡ k) → winner a asks ≡ Some k
+winner_sole a asks k ok within there sole = go (winner a asks) refl where
+  go : (w : Option ℕ) → winner a asks ≡ w → winner a asks ≡ Some k
+  go None e = absurd (true≢false (sym there ∙ winner_none_requests a asks ok e k within))
+  go (Some i) e = e ∙ ap Some (sole i (winner_requests a asks i ok e).1)
+
 -- the channel that an input arbiter names, from the lines that the code gathers
 pub named_is : (s : SwAllocState) (ready : List (List (Option ℕ))) (port lines : ℕ) (d : ArbiterState) (w : Option ℕ)
     → IsSwAlloc s.ports s.vcs s.inputs s.outputs → port < s.ports → port < length s.inputs
