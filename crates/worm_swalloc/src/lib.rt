@@ -12,6 +12,9 @@
 //! ready channel are passed over, and so are output ports that nobody asks for: who asks for which is
 //! gathered in one set as the input ports are looked at.
 //!
+//! Where no two ready channels share an input port or an output port, as where each port has one channel, no arbiter
+//! has a choice: `grant_each` grants each of them in one loop, and asks no arbiter.
+//!
 //! What a pass grants is what the input ports named beside a set: the channels that are granted, a bit for each.
 //! Whoever asks for the set alone is given one word, and no table of grants is made.
 //!
