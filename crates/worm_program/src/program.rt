@@ -26,7 +26,6 @@ use crate::turns::{Ending, run_script};
 use crate::words::Options;
 use std::alloc::Global;
 use std::io::{Read, Write};
-use std::mem::forget;
 use std::sync::Wait;
 use std::thread::Threads;
 use worm_core::{Config, Net, NetFault, Script, StepFault};
@@ -157,13 +156,6 @@ pub fn report_run<W: Write>(
     }
 }
 
-/// Leaves the memory of a run that is over to the end of the process, which gives it back at once and not piece by
-/// piece.
-fn leave(net: Net, accepted: Accepted) {
-    forget(net);
-    forget(accepted);
-}
-
 /// Runs two texts on this thread, and writes the report.
 fn run_and_report<W: Write>(
     alloc: Global,
@@ -183,9 +175,7 @@ fn run_and_report<W: Write>(
     };
     let ending = run_script(alloc, &mut net, &accepted.script, turns, drain);
     let summary = summary_of(&net, &accepted.script, turns, drain, &ending);
-    let answer = report_run(alloc, &net, &summary, ending.fault, out);
-    leave(net, accepted);
-    answer
+    report_run(alloc, &net, &summary, ending.fault, out)
 }
 
 /// Reads two texts to their end, the network first, runs them on this thread, and writes the report.
@@ -193,7 +183,7 @@ fn run_and_report<W: Write>(
 /// `ReadNetwork` and `ReadTraffic` where a reader failed or gave more than 8,388,608 bytes; `Network` and `Traffic`
 /// where a text is refused; `Write` where the writer failed or took nothing, and `NoMemory` where memory ran out: a
 /// first part of the report may then be out, and with `NoMemory` all of it only where memory ran out in a turn. With
-/// every other fault nothing was written. The memory of a run that was reported is left to the end of the process.
+/// every other fault nothing was written.
 pub fn run_alone<N: Read, F: Read, W: Write>(
     alloc: Global,
     network: &mut N,
@@ -265,9 +255,7 @@ fn run_and_report_together<R: Threads + Wait + Sync, G: Gate + Sync, W: Write>(
         stops: ended.stops,
         not_offered: not_offered(&ended.net, &accepted.script),
     };
-    let answer = report_run(alloc, &ended.net, &summary, ended.fault, out);
-    leave(ended.net, accepted);
-    answer
+    report_run(alloc, &ended.net, &summary, ended.fault, out)
 }
 
 /// Reads two texts to their end, the network first, runs them by several workers, and writes the report.
