@@ -1,9 +1,8 @@
 -- Where each port has one channel, no two channels that may send ask for one output port, since each of them holds the
 -- channel of the port that it asks for.
-use Rattle.std.proofs.Common.{◌≡◌, ℕ, ◌+◌, ◌<◌, ◌≤◌, Option, None, Some, arith, refl, ap, sym, ◌∙◌}
+use Rattle.std.proofs.Common.{◌≡◌, ℕ, ◌+◌, ◌≤◌, Option, None, Some, arith, refl, ap, sym, ◌∙◌}
 use Rattle.std.specs.Option.{option_map}
 use Rattle.worm_flit.specs.declared.Flit.{Flit}
-use Rattle.worm_records.specs.declared.InRecord.TheVariants.{Active}
 use Rattle.worm_vcalloc.specs.Table.{cell}
 use Rattle.worm_swalloc.specs.SwAlloc.{AreApart}
 use Rattle.worm_router.specs.Router.{RouterState, IsRouter, IsPlace, terminal, width, input_at, output_at, leaving}

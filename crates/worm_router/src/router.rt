@@ -96,8 +96,9 @@ impl Router {
         let ports = 2 * mesh.dims() + 1;
         let total = classes.total();
         let count = usize::from(ports) * usize::from(total);
-        let outputs = make_outputs(alloc, count, depth)?;
+        // The outputs come last: room is left behind them.
         let inputs = make_inputs(alloc, count, depth)?;
+        let outputs = make_outputs(alloc, count, depth)?;
         Ok(Router {
             mesh: *mesh,
             node,

@@ -79,6 +79,10 @@ fn owners_of(classes: &ClassChannels) -> [u8; 8]
     owners
 }
 
+/// How many more ends a list has room for than a worker has ports: two cache lines of empty room behind them, so that no
+/// two workers write one line.
+const APART: usize = 2;
+
 /// What a worker has by so many ports before any bundle is made.
 fn make_side(alloc: Global, ports: u8) -> Result<Side, AllocError>
     ensures { IfOk result (λ side. side ≡ record {
@@ -86,8 +90,9 @@ fn make_side(alloc: Global, ports: u8) -> Result<Side, AllocError>
       entering = replicate ports Inside;
     }) }
 {
-    let mut leaving = Vec::with_capacity(alloc, usize::from(ports))?;
-    let mut entering = Vec::with_capacity(alloc, usize::from(ports))?;
+    let room = usize::from(ports) + APART;
+    let mut leaving = Vec::with_capacity(alloc, room)?;
+    let mut entering = Vec::with_capacity(alloc, room)?;
     for _port in 0..ports {
         leaving.push(Outlet { ends: None })?;
         entering.push(Inlet { ends: None })?;

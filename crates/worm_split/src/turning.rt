@@ -147,10 +147,11 @@ impl Part {
         ensures same { IsSamePart self.old self.new }
     {
         self.wake(node);
-        let (out, flit) = self.region.next_out(node, port, vc);
-        if !self.side.leaves(out) {
+        // Of what stays within the part no more than its port is read before it is sent.
+        if !self.side.leaves(self.region.port_out(node, port, vc)) {
             return self.send_within(node, port, vc);
         }
+        let (out, flit) = self.region.next_out(node, port, vc);
         self.send_across(rt, node, port, vc, out, flit);
         Ok(())
     }

@@ -1,7 +1,7 @@
 //! What comes into a part of a network and goes out of it, over the links that it shares with other workers
 //! (Dally and Towles, chapter 13).
 
-ghost use Rattle.std.specs.Prelude.{◌≡◌, ◌<◌, ◌↔◌, [], false, IsSome, Some, sum};
+ghost use Rattle.std.specs.Prelude.{◌≡◌, ◌<◌, ◌↔◌, [], false, IfSome, IsSome, Some, sum};
 ghost use Rattle.worm_theory.specs.Steps.{IsThere, Step as Event};
 ghost use Rattle.worm_region.specs.Edges.{Arrives, ComesBack, LetsGive, LetsOut};
 ghost use Rattle.worm_region.specs.Moves.{link_into, link_out};
@@ -33,6 +33,16 @@ impl Region {
         ensures { Some result ≡ leaving (router_at self.now node) port vc }
     {
         self.fabric.node(node).router.next_out(port, vc)
+    }
+
+    /// By which port that flit leaves, where no more is asked of it.
+    #[inline(always)]
+    pub fn port_out(&self, node: u8, port: u8, vc: u8) -> u8
+        requires there { IsThere (shape self.now) (Event.Send node port vc) }
+        requires ready { IsSome (leaving (router_at self.now node) port vc) }
+        ensures { IfSome (leaving (router_at self.now node) port vc) (λ way. result ≡ way.0) }
+    {
+        self.fabric.node(node).router.port_out(port, vc)
     }
 
     /// The ready flit leaves the node by the output port `out`, over a link to another worker's node: a Send but for

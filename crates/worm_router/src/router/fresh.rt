@@ -10,6 +10,11 @@ use std::alloc::{AllocError, Global};
 use worm_flit::ClassChannels;
 use worm_records::OutRecord;
 
+/// How many records would fit between a router's last list and what is made next, which may be the first one of another
+/// worker's router: 128 bytes of them, since a processor may fetch two cache lines together. So no two workers write
+/// one line.
+const APART: usize = 32;
+
 /// So many input channels with empty buffers.
 pub(super) fn make_inputs(
     alloc: Global,
@@ -25,7 +30,7 @@ pub(super) fn make_inputs(
     Ok(inputs)
 }
 
-/// So many free output channels with all their credits.
+/// So many free output channels with all their credits, and room behind them that stays empty.
 pub(super) fn make_outputs(
     alloc: Global,
     count: usize,
@@ -33,7 +38,7 @@ pub(super) fn make_outputs(
 ) -> Result<Vec<OutRecord>, AllocError>
     ensures { IfOk result (λ v. v.items ≡ replicate count (free_output depth)) }
 {
-    let mut outputs = Vec::with_capacity(alloc, count)?;
+    let mut outputs = Vec::with_capacity(alloc, count.saturating_add(APART))?;
     for _i in 0..count {
         outputs.push(OutRecord {
             holder: None,

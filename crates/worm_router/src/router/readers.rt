@@ -1,7 +1,7 @@
 //! What of a router can be seen: the sets of its channels, and what stands at a place.
 
-ghost use Rattle.std.specs.Prelude.{◌≡◌, length, nat_lt, slice_get};
-ghost use Rattle.worm_router.specs.Router.{IsPlace, IsRouter, input_at, output_at, terminal};
+ghost use Rattle.std.specs.Prelude.{◌≡◌, IfSome, IsSome, length, nat_lt, slice_get};
+ghost use Rattle.worm_router.specs.Router.{IsPlace, IsRouter, input_at, leaving, output_at, terminal};
 ghost use Rattle.worm_router.specs.Busy.{IsSetOf, is_active, is_occupied, is_waiting, lacks_route, owes};
 
 use crate::router::Router;
@@ -63,6 +63,19 @@ impl Router {
     {
         let channel = &self.inputs[self.line(port, vc)];
         channel.state()
+    }
+
+    /// The output port by which the front flit of a channel that may send leaves.
+    #[inline(always)]
+    pub fn port_out(&self, port: u8, vc: u8) -> u8
+        requires place { IsPlace self.now port vc }
+        requires ready { IsSome (leaving self.now port vc) }
+        ensures { IfSome (leaving self.now port vc) (λ way. result ≡ way.0) }
+    {
+        let InRecord::Active { out, out_vc: _ } = self.in_record(port, vc) else {
+            unreachable!()
+        };
+        out
     }
 
     /// Who holds the output channel, and how many credits it has.

@@ -116,6 +116,7 @@ impl<R: Abort + AllocGlobal + Copy> Trial<R> {
     pub fn is_ready(&self, port: u8, vc: u8, out: u8, flit: Flit) {
         assert!(self.rt; port < 3 && vc < self.width);
         assert_eq!(self.rt; self.router.ready(port, vc), Some((out, flit)));
+        assert_eq!(self.rt; self.router.port_out(port, vc), out);
     }
 
     /// The channel's front leaves.

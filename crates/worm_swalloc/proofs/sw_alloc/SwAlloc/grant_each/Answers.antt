@@ -1,49 +1,33 @@
 use Rattle.std.proofs.Common.{◌≡◌, Some, None, sym, ◌∙◌, refl, subst, arith, replicate, slice_set}
 use Rattle.std.proofs.lemmas.List.{length-set}
 use Rattle.worm_swalloc.specs.declared.grant.SwGrant.{SwGrant}
-use Rattle.worm_swalloc.specs.SwAlloc.{SwAllocState, AreApart, IsSwitchMatching, all_named, sw_grants}
-use Rattle.worm_swalloc.proofs.ApartAreGranted.{EachBelow, apart_all, apart_granted, apart_requested, each_more}
+use Rattle.worm_swalloc.specs.SwAlloc.{IsSwitchMatching, all_named, sw_grants}
+use Rattle.worm_swalloc.proofs.ApartAreGranted.{apart_all, apart_granted, apart_requested, each_more}
 use Rattle.worm_swalloc.proofs.ApartAreGranted.{each_start}
 use Rattle.worm_swalloc.proofs.GrantsOfSet.{below_more}
 use Rattle.worm_swalloc.proofs.SwitchPass.{asked_all, matching, named_within, pass_is}
 use Rattle.worm_swalloc.proofs.sw_alloc.SwAlloc.grant_each.Goals as goal
 
 pub loop-port-init : goal.loop-port-init
-loop-port-init c =
-    let s : SwAllocState = record {
-      ports = c.self.inside.ports;
-      vcs = c.self.inside.vcs;
-      inputs = c.self.inside.inputs;
-      outputs = c.self.inside.outputs;
-    } in
-    let few = c.self.invariant.few_ports in
-    let apart : AreApart s c.args.ready.now = rw (← c.self.view_is) at c.requires.apart in
-    rw (← c.self.view_is) (
-      each_start s c.args.ready.now c.self.invariant apart c.keys-among.result (replicate 7 None) (omega arith)
-          (omega arith) refl,
-      refl,
-    )
+loop-port-init c = (
+  each_start c.args.self.now c.args.ready.now (rw (← c.self.view_is) c.self.invariant) c.requires.apart
+      c.keys-among.result (replicate 7 None)
+      (rw (← c.self.view_is) (let few = c.self.invariant.few_ports in omega arith))
+      (rw (← c.self.view_is) (let few = c.self.invariant.few_ports in omega arith)) refl,
+  refl,
+)
 
 pub loop-port-preserved : goal.loop-port-preserved
 loop-port-preserved c =
-    let s : SwAllocState = record {
-      ports = c.self.inside.ports;
-      vcs = c.self.inside.vcs;
-      inputs = c.self.inside.inputs;
-      outputs = c.self.inside.outputs;
-    } in
-    let few = c.self.invariant.few_ports in
-    let apart : AreApart s c.args.ready.now = rw (← c.self.view_is) at c.requires.apart in
-    let b : EachBelow s c.args.ready.now c.keys-among.result c.loop-port.left c.loop-port.requests c.loop-port.self =
-    rw (← c.self.view_is) at c.loop-port.invariant.0 in
     let long = c.loop-port.invariant.1 in
-    let grant : SwGrant = record { vc = c.in-Some.vc; out = c.out_port-out.result } in
-    rw (← c.self.view_is) (
-      each_more s c.args.ready.now c.self.invariant apart c.keys-among.result c.loop-port.left c.pop_first.new.self
-          c.in-Some.port c.in-Some.vc c.out_port-out.result c.loop-port.requests
-          (slice_set c.loop-port.requests c.in-Some.port (Some grant)) c.loop-port.self c.move_past.new.self
-          (omega arith) (omega arith) (omega arith) c.keys-among.ensures b c.in-Some.ensures
-          (sym c.out_port-out.ensures) refl c.move_past.ensures,
+    let grant : SwGrant = record { vc = c.in-Some.vc; out = c.out_port-out.result } in (
+      each_more c.args.self.now c.args.ready.now (rw (← c.self.view_is) c.self.invariant) c.requires.apart
+          c.keys-among.result c.loop-port.left c.pop_first.new.self c.in-Some.port c.in-Some.vc c.out_port-out.result
+          c.loop-port.requests (slice_set c.loop-port.requests c.in-Some.port (Some grant)) c.loop-port.self
+          c.move_past.new.self (rw (← c.self.view_is) (let few = c.self.invariant.few_ports in omega arith))
+          (rw (← c.self.view_is) (let few = c.self.invariant.few_ports in omega arith)) (omega arith)
+          c.keys-among.ensures c.loop-port.invariant.0 c.in-Some.ensures (sym c.out_port-out.ensures) refl
+          c.move_past.ensures,
       length-set c.loop-port.requests c.in-Some.port (Some grant) ∙ long,
     )
 
