@@ -11,7 +11,7 @@ use std::hint::spin_loop;
 use std::sync::atomic::{AtomicU64, Ordering};
 use std::thread::yield_now;
 
-/// How often a worker looks at once whether another has got on: some ten microseconds.
+/// How often a worker looks at once whether another has got on: one to two microseconds.
 const QUICK_LOOKS: u32 = 1_000;
 
 /// How often it looks in all: behind the first ones other threads may run before each further one.

@@ -79,8 +79,8 @@ fn owners_of(classes: &ClassChannels) -> [u8; 8]
     owners
 }
 
-/// How many more ends a list has room for than a worker has ports: two cache lines of empty room behind them, so that no
-/// two workers write one line.
+/// For how many ends more than it has ports a list of a worker has room: more than 128 bytes that stay empty, so that no
+/// two workers write one cache line.
 const APART: usize = 2;
 
 /// What a worker has by so many ports before any bundle is made.

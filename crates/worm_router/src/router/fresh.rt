@@ -10,9 +10,9 @@ use std::alloc::{AllocError, Global};
 use worm_flit::ClassChannels;
 use worm_records::OutRecord;
 
-/// How many records would fit between a router's last list and what is made next, which may be the first one of another
-/// worker's router: 128 bytes of them, since a processor may fetch two cache lines together. So no two workers write
-/// one line.
+/// For how many records more than it has the last list of a router has room: 128 bytes that stay empty, since a
+/// processor may fetch two cache lines together. The router made next may go to another worker, and no two workers
+/// write one line.
 const APART: usize = 32;
 
 /// So many input channels with empty buffers.
