@@ -4,6 +4,7 @@ pub mod OwnCredits
 pub mod StaysWorking
 pub mod FrameKept
 pub mod NewNet
+pub mod MadeGroups
 pub mod OwesToLinks
 pub mod PlacesThere
 pub mod AllOwned

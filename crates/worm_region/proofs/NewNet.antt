@@ -1,7 +1,6 @@
 -- A fresh network's lists are framed, and stand for the empty network.
 use Rattle.std.proofs.Common.{◌≡◌, ℕ, zero, suc, ◌+◌, ◌*◌, ◌<◌, ◌≤◌, ◌==◌, cond, nat_lt, inl, inr, List, [], ◌∷◌, ◌++◌}
 use Rattle.std.proofs.Common.{length, drop, get_or, sum, replicate, refl, arith, ap, sym, subst, ◌∙◌}
-use Rattle.std.proofs.Math.Seq.{get_or-append_seam}
 use Rattle.std.proofs.lemmas.List.{length-replicate}
 use Rattle.worm_flit.specs.Channels.{AreChannels}
 use Rattle.worm_mesh.specs.Address.{AreRadices, node_count, has_neighbour}
@@ -9,7 +8,7 @@ use Rattle.worm_mesh.specs.Links.{links_before, link_count}
 use Rattle.worm_records.specs.declared.OutRecord.{OutRecord}
 use Rattle.worm_router.specs.Router.{ChannelState, fresh_router, fresh_channel, free_output}
 use Rattle.worm_term.specs.Queue.{QueueState, empty_queue}
-use Rattle.worm_term.specs.Source.{SourceState, fresh_source, queue_at}
+use Rattle.worm_term.specs.Source.{fresh_source, queue_at}
 use Rattle.worm_term.proofs.Order.{fresh_sound}
 use Rattle.worm_theory.specs.Network.{Network}
 use Rattle.worm_theory.specs.Steps.{empty}
@@ -30,7 +29,7 @@ use Rattle.worm_region.specs.declared.own.Own.{Own}
 use Rattle.worm_wires.specs.Links.{LinkView, blank_link, empty_link}
 use Rattle.worm_region.specs.State.{NetState, net_state, IsNet, IsFramed, IsNodeOf, shape, network_of, node_at}
 use Rattle.worm_region.specs.State.{router_at, link_at, link_of, fresh_node, input_of, output_of, queue_of}
-use Rattle.worm_region.specs.NewNet.{IsFresh, AreFresh, AreFreshSources, IsOneNetwork}
+use Rattle.worm_region.specs.NewNet.{IsFresh, AreFresh, IsOneNetwork}
 use Rattle.worm_region.specs.Workable.{IsWorkable}
 use Rattle.worm_region.proofs.FrameKept.{framed_mesh}
 use Rattle.worm_region.proofs.StaysWorking.{sound_works}
@@ -76,18 +75,6 @@ pushed {A} f (x ∷ xs) all (suc i) = pushed (λ (j : ℕ). f (suc j)) xs (λ j.
 pub fresh_push : (mesh channels : List ℕ) (depth : ℕ) (nodes : List Node) → AreFresh mesh channels depth nodes →
     AreFresh mesh channels depth (nodes ++ fresh_node mesh channels depth (length nodes) ∷ [])
 fresh_push mesh channels depth nodes all = pushed (fresh_node mesh channels depth) nodes all
-
-pub fresh_source_push : (count : ℕ) (channels : List ℕ) (sources : List SourceState)
-    → AreFreshSources count channels sources
-    → AreFreshSources count channels (sources ++ fresh_source (length sources) count channels ∷ [])
-fresh_source_push count channels sources all = pushed (λ (x : ℕ). fresh_source x count channels) sources all
-
--- the source behind those that came before it
-pub next_source : (count : ℕ) (channels : List ℕ) (before : List SourceState) (s : SourceState)
-    (rest : List SourceState) → AreFreshSources count channels (before ++ s ∷ rest)
-    → s ≡ fresh_source (length before) count channels
-next_source count channels before s rest all =
-    sym (get_or-append_seam before s rest (fresh_source (length before) count channels)) ∙ all (length before)
 
 -- a fresh node is that of its number
 pub fresh_is : (mesh channels : List ℕ) (depth : ℕ) → AreRadices mesh → (x : ℕ) → x < node_count mesh

@@ -1,12 +1,12 @@
 -- What a new network is: a node fresh at each place, each link empty, with room for what all its channels may hold.
-use Rattle.std.specs.Prelude.{ℕ, ◌≡◌, ◌*◌, ◌≤◌, List, length, sum, replicate, slice_index_or}
+use Rattle.std.specs.Prelude.{ℕ, ◌≡◌, ◌*◌, ◌%◌, ◌<◌, ◌≤◌, List, Option, None, Some, length, sum, replicate}
+use Rattle.std.specs.Prelude.{slice_index_or}
 use Rattle.worm_flit.specs.Channels.{AreChannels}
 use Rattle.worm_mesh.specs.Address.{AreRadices, node_count}
 use Rattle.worm_mesh.specs.Links.{link_count}
 use Rattle.worm_region.specs.declared.node.Node.{Node}
 use Rattle.worm_region.specs.Owned.{sole}
 use Rattle.worm_region.specs.State.{NetState, fresh_node}
-use Rattle.worm_term.specs.Source.{SourceState, fresh_source}
 use Rattle.worm_wires.specs.Links.{empty_link}
 
 -- the limits of a configuration
@@ -22,10 +22,11 @@ abbrev pub AreFresh : List ℕ → List ℕ → ℕ → List Node → Type 0
 AreFresh mesh channels depth nodes =
     (x : ℕ) → slice_index_or nodes x (fresh_node mesh channels depth x) ≡ fresh_node mesh channels depth x
 
--- sources of a new network with so many nodes, each at its node's number
-abbrev pub AreFreshSources : ℕ → List ℕ → List SourceState → Type 0
-AreFreshSources nodes channels sources =
-    (x : ℕ) → slice_index_or sources x (fresh_source x nodes channels) ≡ fresh_source x nodes channels
+-- places for the nodes of a new network, each at its number, in which those stand whose number has a remainder by 16
+-- below this
+abbrev pub AreMade : List ℕ → List ℕ → ℕ → ℕ → List (Option Node) → Type 0
+AreMade mesh channels depth groups places =
+    (x : ℕ) → x < length places → x % 16 < groups → slice_index_or places x None ≡ Some (fresh_node mesh channels depth x)
 
 pub record IsFresh (mesh channels : List ℕ) (depth : ℕ) (names : List (List ℕ)) (s : NetState) : Type 0 where
   pub same_mesh : s.mesh ≡ mesh

@@ -1,54 +1,44 @@
-use Rattle.std.proofs.Common.{◌≡◌, ℕ, ◌++◌, ◌∷◌, [], List, length, length-append, append_assoc, ap, sym, subst, ◌∙◌}
-use Rattle.std.proofs.Common.{arith}
-use Rattle.std.specs.Vec.Iter.{into_iter_items}
-use Rattle.worm_mesh.specs.Address.{node_count}
-use Rattle.worm_term.specs.Source.{SourceState, fresh_source}
-use Rattle.worm_region.specs.NewNet.{AreFresh, AreFreshSources}
+use Rattle.std.proofs.Common.{◌≡◌, ℕ, ◌++◌, ◌∷◌, [], List, None, ap, arith, length, length-append}
+use Rattle.std.proofs.Common.{subst, sym, ◌∙◌}
+use Rattle.std.proofs.lemmas.List.{get_or-set_other, get_or_default, length-set}
+use Rattle.worm_region.specs.NewNet.{AreFresh}
 use Rattle.worm_region.specs.State.{fresh_node}
 use Rattle.worm_region.specs.declared.node.Node.{Node}
-use Rattle.worm_region.proofs.NewNet.{fresh_push, next_source}
+use Rattle.worm_region.proofs.NewNet.{fresh_push}
 use Rattle.worm_region.proofs.fresh.make_nodes.Goals as goal
 
-pub make_node-requires-clause-source : goal.make_node-requires-clause-source
-make_node-requires-clause-source c =
-    let mesh = c.args.mesh.now in
-    let channels = c.args.channels.now in
-    let so_far = c.loop-source.yielded in
-    let rest = into_iter_items c.next.new.self in
-    let all = subst (λ (ss : List SourceState). AreFreshSources (node_count mesh) channels (so_far ++ ss))
-    c.in-Some.ensures.steps.0 c.loop-source.invariant.sources in
-    let number : length so_far ≡ c.len-node.result = omega (arith, c.loop-source.invariant.counted) in
-    next_source (node_count mesh) channels so_far c.in-Some.source rest all
-    ∙ ap (λ (n : ℕ). fresh_source n (node_count mesh) channels) number
+-- what stood in the place
+taken : (c : goal.In_ok-push)
+    → c.in-Some.node ≡ fresh_node c.args.mesh.now c.args.channels.now c.args.depth c.loop-x.x
+taken c =
+    let all = c.loop-x.invariant.all in
+    let before = c.in_ok-places.ensures.places in
+    let left = c.loop-x.invariant.left c.loop-x.x (omega arith) (omega (arith, before)) in
+    let read =
+    get_or_default c.loop-x.places.items c.loop-x.x c.index_mut.result.now None (omega (arith, all, before)) in
+    let value = c.index_mut.ensures.value in
+    let now = c.in-Some.ensures.value in
+    let some = c.in-Some.is in
+    cc
 
-pub loop-source-preserved : goal.loop-source-preserved
-loop-source-preserved c =
-    let xs = c.loop-source.nodes.items in
+pub loop-x-preserved : goal.loop-x-preserved
+loop-x-preserved c =
+    let xs = c.loop-x.nodes.items in
     let mesh = c.args.mesh.now in
     let channels = c.args.channels.now in
     let depth = c.args.depth in
-    let inv = c.loop-source.invariant in
-    let so_far = c.loop-source.yielded in
-    let s = c.in-Some.source in
-    let number : c.len-node.result ≡ length xs = omega arith in
-    let next : c.in_ok-make_node.field-0 ≡ fresh_node mesh channels depth (length xs) =
-    c.in_ok-make_node.ensures ∙ ap (λ (n : ℕ). fresh_node mesh channels depth n) number in
-    let items : c.push.new.self.items ≡ xs ++ fresh_node mesh channels depth (length xs) ∷ [] =
-    c.in_ok-push.ensures.items ∙ ap (λ (n : Node). xs ++ n ∷ []) next in
-    let same : so_far ++ into_iter_items c.loop-source.source-iterator
-    ≡ (so_far ++ s ∷ []) ++ into_iter_items c.next.new.self =
-    ap (λ (ss : List SourceState). so_far ++ ss) c.in-Some.ensures.steps.0
-    ∙ sym (append_assoc so_far (s ∷ []) (into_iter_items c.next.new.self)) in
+    let inv = c.loop-x.invariant in
+    let counted = inv.counted in
+    let fresh = fresh_node mesh channels depth (length xs) in
+    let items : c.push.new.self.items ≡ xs ++ fresh ∷ [] =
+    c.in_ok-push.ensures.items
+    ∙ ap (λ (n : Node). xs ++ n ∷ []) (taken c ∙ ap (λ (n : ℕ). fresh_node mesh channels depth n) (sym counted)) in
     record {
+      all = length-set c.loop-x.places.items c.loop-x.x c.take.new.self ∙ inv.all;
       counted = let longer = ap (λ (ys : List Node). length ys) items in
-          omega (
-            arith,
-            longer,
-            inv.counted,
-            length-append xs (fresh_node mesh channels depth (length xs) ∷ []),
-            length-append so_far (s ∷ []),
-          );
-      all = ap (λ (ss : List SourceState). length ss) (sym same) ∙ inv.all;
-      sources = subst (AreFreshSources (node_count mesh) channels) same inv.sources;
+          omega (arith, longer, counted, length-append xs (fresh ∷ []));
       fresh = subst (AreFresh mesh channels depth) (sym items) (fresh_push mesh channels depth xs inv.fresh);
+      left = λ y later within.
+          get_or-set_other c.loop-x.places.items c.loop-x.x y c.take.new.self None (λ e. omega (arith, later, e))
+          ∙ inv.left y (omega (arith, later)) within;
     }

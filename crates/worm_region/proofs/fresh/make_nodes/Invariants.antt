@@ -1,13 +1,14 @@
-use Rattle.std.proofs.Common.{◌≡◌, ◌++◌, length}
-use Rattle.std.specs.Vec.Iter.{into_iter_items}
+use Rattle.std.proofs.Common.{◌≡◌, ◌≤◌, ◌<◌, ℕ, None, Some, get_or, length}
 use Rattle.worm_mesh.specs.Address.{node_count}
-use Rattle.worm_region.specs.NewNet.{AreFresh, AreFreshSources}
+use Rattle.worm_region.specs.NewNet.{AreFresh}
+use Rattle.worm_region.specs.State.{fresh_node}
 use Rattle.worm_region.proofs.fresh.make_nodes.Given as goal
 
-abbrev pub invariant-loop-source : goal.invariant-loop-source
-invariant-loop-source l = record {
-  counted : length l.nodes.items ≡ length l.yielded;
-  all : length (l.yielded ++ into_iter_items l.source-iterator) ≡ node_count l.mesh;
-  sources : AreFreshSources (node_count l.mesh) l.channels (l.yielded ++ into_iter_items l.source-iterator);
+abbrev pub invariant-loop-x : goal.invariant-loop-x
+invariant-loop-x l = record {
+  all : length l.places.items ≡ node_count l.mesh;
+  counted : length l.nodes.items ≡ l.x;
   fresh : AreFresh l.mesh l.channels l.depth l.nodes.items;
+  left : (y : ℕ) → l.x ≤ y → y < node_count l.mesh
+      → get_or l.places.items y None ≡ Some (fresh_node l.mesh l.channels l.depth y);
 }
