@@ -26,7 +26,8 @@ AreFresh mesh channels depth nodes =
 -- below this
 abbrev pub AreMade : List ℕ → List ℕ → ℕ → ℕ → List (Option Node) → Type 0
 AreMade mesh channels depth groups places =
-    (x : ℕ) → x < length places → x % 16 < groups → slice_index_or places x None ≡ Some (fresh_node mesh channels depth x)
+    (x : ℕ) → x < length places → x % 16 < groups
+    → slice_index_or places x None ≡ Some (fresh_node mesh channels depth x)
 
 pub record IsFresh (mesh channels : List ℕ) (depth : ℕ) (names : List (List ℕ)) (s : NetState) : Type 0 where
   pub same_mesh : s.mesh ≡ mesh
