@@ -79,8 +79,8 @@ fn owners_of(classes: &ClassChannels) -> [u8; 8]
     owners
 }
 
-/// For how many ends more than it has ports a list of a worker has room: more than 128 bytes that stay empty, so that no
-/// two workers write one cache line.
+/// For how many ends more than it has ports a list of a worker has room: more than 128 bytes that stay empty, so that
+/// no two workers write one cache line.
 const APART: usize = 2;
 
 /// What a worker has by so many ports before any bundle is made.
