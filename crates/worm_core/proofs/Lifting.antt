@@ -26,7 +26,7 @@ use Rattle.worm_region.specs.Turns.{GivesCredit, GivesCredits, NodePasses, NodeT
 use Rattle.worm_region.specs.Turns.{all_ports, mesh_ports, AsksSourceBy, ComesInBy, FeedsClassesBy, GivesCreditBy}
 use Rattle.worm_region.specs.Turns.{GivesCreditsBy, NodePassesBy, NodeTurnBy, RoutesChannelsBy, RoutesPortBy}
 use Rattle.worm_region.specs.Turns.{SendsGrantedBy, TakesCreditsBy, TakesFlitsBy}
-use Rattle.worm_region.specs.declared.node.Node.{Node}
+use Rattle.worm_node.specs.declared.node.Node.{Node}
 use Rattle.worm_script.specs.declared.entry.Entry.{Entry}
 use Rattle.worm_region.specs.declared.step.Moved.{Moved}
 use Rattle.worm_region.specs.declared.step.Moved.TheVariants.{Done, Idle}

@@ -21,9 +21,9 @@ use Rattle.worm_term.specs.Source.{classes, queue_at}
 use Rattle.worm_theory.proofs.Places.{bool_cases}
 use Rattle.worm_region.specs.Moves.{link_out}
 use Rattle.worm_region.specs.State.{NetState, IsFramed, router_at, node_at, queue_of, link_at, link_of, input_of}
-use Rattle.worm_region.specs.State.{fresh_node}
+use Rattle.worm_node.specs.NewNodes.{fresh_node}
 use Rattle.worm_core.specs.LaneView.{channels_of, at_place, held_at, buffer_held, link_held}
-use Rattle.worm_region.specs.declared.node.Node.{Node}
+use Rattle.worm_node.specs.declared.node.Node.{Node}
 use Rattle.worm_core.specs.declared.view.Place.{Place}
 use Rattle.worm_core.specs.declared.view.Place.TheVariants.{Source, Buffer, Link}
 use Rattle.worm_core.specs.LaneSet.{LaneMarks, lane_line, is_marked, with_mark, AllMarked, KeepsMarks, IsComplete}

@@ -14,7 +14,7 @@ use Rattle.worm_term.specs.declared.fault.OfferFault.{OfferFault}
 use Rattle.worm_term.specs.declared.source.LaneState.{LaneState}
 use Rattle.worm_term.specs.Source.{SourceState, IsOpen, fresh_lane, with_packet}
 use Rattle.worm_theory.proofs.Places.{bool_cases}
-use Rattle.worm_region.specs.declared.node.Node.{Node}
+use Rattle.worm_node.specs.declared.node.Node.{Node}
 use Rattle.worm_script.specs.declared.entry.Act.{Act}
 use Rattle.worm_script.specs.declared.entry.Act.TheVariants.{Offer, Close}
 use Rattle.worm_script.specs.declared.entry.Entry.{Entry}
@@ -22,7 +22,8 @@ use Rattle.worm_region.specs.declared.step.Moved.{Moved}
 use Rattle.worm_region.specs.declared.step.Moved.TheVariants.{Done, Idle}
 use Rattle.worm_region.specs.declared.fault.StepFault.{StepFault}
 use Rattle.worm_region.specs.declared.fault.StepFault.TheVariants.{NoSuchPlace, Refused, NoMemory}
-use Rattle.worm_region.specs.State.{NetState, node_at, source_at, with_source, fresh_node}
+use Rattle.worm_node.specs.NewNodes.{fresh_node}
+use Rattle.worm_region.specs.State.{NetState, node_at, source_at, with_source}
 use Rattle.worm_region.specs.Moves.{done_step}
 use Rattle.worm_region.specs.NewNet.{IsFresh}
 use Rattle.worm_region.specs.Answers.{Answers, refusal_of}

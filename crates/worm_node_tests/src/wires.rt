@@ -156,13 +156,6 @@ impl<R: Abort + AllocGlobal + Copy> Pair<R> {
         assert_eq!(self.rt; self.links.front_credit(node, port), vc, "at {node}");
     }
 
-    /// Whether there are flits on the link out of the port, and credits on the link into it.
-    fn is_used(&self, node: u8, port: u8, flits: bool, credits: bool) {
-        assert!(self.rt; self.links.wiring().links_at(node, port).is_some());
-        assert_eq!(self.rt; self.links.has_flits(node, port), flits, "out of {node}");
-        assert_eq!(self.rt; self.links.has_credits(node, port), credits, "into {node}");
-    }
-
     /// On the link out of the port are so many flits, the last of this word.
     fn ends_with(&self, node: u8, port: u8, count: usize, word: u32) {
         assert!(self.rt; self.links.wiring().links_at(node, port).is_some());
@@ -184,6 +177,36 @@ impl<R: Abort + AllocGlobal + Copy> Pair<R> {
         assert!(rt; states[number].count() < usize::from(states[number].room()));
         let mut links = Links::new(mesh, states, inboxes);
         links.push(node, port, flit);
+        Pair { rt, links }
+    }
+
+    /// The flit comes onto the link into the port, on which there is none.
+    fn bring(self, node: u8, port: u8, flit: Flit) -> Pair<R> {
+        let Pair { rt, links } = self;
+        assert!(rt; links.wiring().links_at(node, port).is_some());
+        let number = usize::from(links.wiring().links_beyond(node, port).into);
+        let mesh = *links.wiring().mesh();
+        let (states, inboxes) = links.into_states();
+        assert!(rt; states.len() == usize::from(mesh.links()));
+        assert!(rt; states[number].count() == 0);
+        assert!(rt; 0 < states[number].room());
+        let mut links = Links::new(mesh, states, inboxes);
+        links.bring_flit(node, port, flit);
+        Pair { rt, links }
+    }
+
+    /// A credit of the channel comes onto its way back over the link out of the port, over which none does.
+    fn give_back(self, node: u8, port: u8, vc: u8) -> Pair<R> {
+        let Pair { rt, links } = self;
+        assert!(rt; links.wiring().links_at(node, port).is_some());
+        let number = usize::from(links.wiring().links_beyond(node, port).out);
+        let mesh = *links.wiring().mesh();
+        let (states, inboxes) = links.into_states();
+        assert!(rt; states.len() == usize::from(mesh.links()));
+        assert!(rt; states[number].credit_count() == 0);
+        assert!(rt; 0 < states[number].room());
+        let mut links = Links::new(mesh, states, inboxes);
+        links.bring_credit(node, port, vc);
         Pair { rt, links }
     }
 
@@ -232,8 +255,6 @@ fn what_is_on_a_link_is_read_at_its_ends(rt: HostRuntime) {
     pair.comes_next(1, 0, None);
     pair.comes_back(1, 0, Some(2));
     pair.comes_back(0, 1, None);
-    pair.is_used(1, 0, true, false);
-    pair.is_used(0, 1, false, true);
     pair.ends_with(1, 0, 2, 6);
 }
 
@@ -245,4 +266,16 @@ fn what_goes_onto_a_link_comes_in_once(rt: HostRuntime) {
     pair.take(1, 0, 0);
     pair.brings_flit(1, None);
     pair.brings_nothing(1, true);
+}
+
+/// Link 0 leads into port 0 of node 1, and link 1 out of it.
+#[test]
+fn what_is_brought_is_read_at_both_ends(rt: HostRuntime) {
+    let pair = Pair::new(rt, &[], &[])
+        .bring(1, 0, single(0, 5))
+        .give_back(1, 0, 2);
+    pair.comes_next(1, 0, Some(5));
+    pair.comes_back(1, 0, Some(2));
+    pair.ends_with(0, 1, 1, 5);
+    pair.brings_nothing(0, true);
 }

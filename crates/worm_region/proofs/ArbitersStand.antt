@@ -8,13 +8,14 @@ use Rattle.worm_term.specs.Source.{front_of}
 use Rattle.worm_theory.specs.Steps.{Step, Offer, CloseLane, Feed, Route, Grant, Send, Take, GiveCredit, TakeCredit}
 use Rattle.worm_swalloc.specs.SwAlloc.{SwAllocState}
 use Rattle.worm_vcalloc.specs.VcAlloc.{VcAllocState}
-use Rattle.worm_region.specs.declared.node.Node.{Node}
+use Rattle.worm_node.specs.declared.node.Node.{Node}
 use Rattle.worm_region.specs.declared.step.Moved.{Moved}
 use Rattle.worm_region.specs.declared.step.Moved.TheVariants.{Done, Idle}
 use Rattle.worm_region.specs.declared.fault.StepFault.{StepFault}
 use Rattle.worm_region.specs.declared.fault.StepFault.TheVariants.{NoSuchPlace, Refused, NoMemory}
 use Rattle.worm_region.specs.State.{NetState, node_at, router_at, with_node}
-use Rattle.worm_region.specs.Moves.{done_step, link_into, front_into, front_credit, fed_node, after_take, after_getting}
+use Rattle.worm_node.specs.Node.{fed_node}
+use Rattle.worm_region.specs.Moves.{done_step, link_into, front_into, front_credit, after_take, after_getting}
 use Rattle.worm_region.specs.Moves.{after_ready, after_sending}
 use Rattle.worm_region.specs.Answers.{Answers, ArbitersStand}
 

@@ -1,6 +1,6 @@
 -- What a source has to feed, class by class.
 use Rattle.std.proofs.Common.{◌≡◌, ℕ, ◌<◌, ◌≤◌, ◌∷◌, [], false, inl, inr, length, List, None, Some, Option, refl}
-use Rattle.std.proofs.Common.{arith, ap, get_or, length-append, nat_lt, set, subst, sym, true, Bool, ◌∙◌}
+use Rattle.std.proofs.Common.{arith, ap, get_or, length-append, set, subst, sym, ◌∙◌}
 use Rattle.std.specs.Prelude.{Result, is_some, option_map}
 use Rattle.std.proofs.lemmas.Bool.{cases_eq, cases_lt}
 use Rattle.std.proofs.lemmas.Bool.Decides.{nat_tests}
@@ -8,22 +8,22 @@ use Rattle.std.proofs.lemmas.Grind.{get_or-set_at}
 use Rattle.std.proofs.lemmas.List.{get_or-set_other, get_or-set_same, get_or_past, set_past}
 use Rattle.worm_flit.specs.declared.Flit.{Flit}
 use Rattle.worm_flit.specs.Channels.{first_channel}
-use Rattle.worm_flit.specs.SmallSet.{has as has_small}
 use Rattle.worm_flit.specs.Stamps.{with_channel}
 use Rattle.worm_mesh.specs.Address.{node_count}
 use Rattle.worm_theory.specs.Steps.{Feed}
 use Rattle.worm_router.specs.Router.{ChannelState, RouterState, after_accept, fresh_channel, input_at, line, put_in}
 use Rattle.worm_router.specs.Router.{terminal}
-use Rattle.worm_router.specs.Busy.{IsFull}
 use Rattle.worm_term.specs.Queue.{QueueState, empty_queue, one_fed, waiting}
-use Rattle.worm_term.specs.Source.{AreUnfed, SourceState, after_fed, front_of, queue_at}
+use Rattle.worm_term.specs.Source.{SourceState, after_fed, front_of, queue_at}
 use Rattle.worm_region.specs.Shape.{net_shape}
-use Rattle.worm_region.specs.State.{NetState, fresh_node, node_at, router_at, source_at, with_node}
-use Rattle.worm_region.specs.Moves.{AreToFeed, Covers, NoFeed, can_enter, fed_node}
+use Rattle.worm_node.specs.NewNodes.{fresh_node}
+use Rattle.worm_region.specs.State.{NetState, node_at, router_at, source_at, with_node}
+use Rattle.worm_node.specs.Node.{AreToFeed, can_enter, fed_node}
+use Rattle.worm_region.specs.Moves.{Covers, NoFeed}
 use Rattle.worm_region.specs.Workable.{IsWorkable}
 use Rattle.worm_region.specs.Replies.{Replies}
 use Rattle.worm_region.specs.Resting.{nth_node}
-use Rattle.worm_region.specs.declared.node.Node.{Node}
+use Rattle.worm_node.specs.declared.node.Node.{Node}
 use Rattle.worm_region.specs.declared.step.Moved.{Moved}
 use Rattle.worm_region.specs.declared.fault.StepFault.{StepFault}
 use Rattle.worm_region.proofs.ReachedBySteps.{by_made}
@@ -106,46 +106,6 @@ classes x = record {
 }
 
 -- the set of the classes that are tried
-
-none_enters : (r : RouterState) (t : SourceState) (k : ℕ) → is_some (waiting (queue_at t k)) ≡ false
-    → can_enter r (terminal r) (front_of t k) ≡ false
-none_enters r t k none = by (waiting (queue_at t k)) none where
-  by : (o : Option Flit) → is_some o ≡ false
-      → can_enter r (terminal r) (option_map (λ f. with_channel f (first_channel t.channels k)) o) ≡ false
-  by None none = refl
-  by (Some f) none = absurd (cc)
-
-full_enters : (r : RouterState) (t : SourceState) (k : ℕ) → t.channels ≡ r.channels → IsFull r k
-    → can_enter r (terminal r) (front_of t k) ≡ false
-full_enters r t k same full = by (waiting (queue_at t k)) where
-  room : nat_lt (length (input_at r (terminal r) (first_channel t.channels k)).buffer) r.depth ≡ false
-  room =
-      let past : r.depth ≤ length (input_at r (terminal r) (first_channel t.channels k)).buffer =
-      subst (λ (counts : List ℕ). r.depth ≤ length (input_at r (terminal r) (first_channel counts k)).buffer) (sym same)
-      full.no_room in
-      grind (arith, nat_tests)
-
-  by : (o : Option Flit)
-      → can_enter r (terminal r) (option_map (λ f. with_channel f (first_channel t.channels k)) o) ≡ false
-  by None = refl
-  by (Some f) = room
-
-left_out : (n : Node) (unfed k : ℕ) → n.source.channels ≡ n.router.channels
-    → has_small unfed k ≡ is_some (waiting (queue_at n.source k)) → (b : Bool) → has_small unfed k ≡ b
-    → (has_small unfed k ≡ true → IsFull n.router k)
-    → can_enter n.router (terminal n.router) (front_of n.source k) ≡ false
-left_out n unfed k same is true there full = full_enters n.router n.source k same (full there)
-left_out n unfed k same is false there full = none_enters n.router n.source k (sym is ∙ there)
-
-pub to_feed : (n : Node) (unfed set : ℕ) → n.source.channels ≡ n.router.channels → AreUnfed n.source.queues unfed
-    → ((k : ℕ) → k < 8 → has_small set k ≡ true → has_small unfed k ≡ true)
-    → ((k : ℕ) → k < 8 → has_small unfed k ≡ true → has_small set k ≡ false → IsFull n.router k) → AreToFeed n set
-to_feed n unfed set same are within full = record {
-  some = λ k k_in there. sym (are k k_in) ∙ within k k_in there;
-  rest = λ k k_in off. left_out n unfed k same (are k k_in) (has_small unfed k) refl
-      (λ there. full k k_in there off);
-}
-
 pub unfed_cover : (s : NetState) (x set : ℕ) → IsWorkable s → x < node_count s.mesh
     → AreToFeed (node_at s x) set → Covers (NoFeed s x) (length s.channels) set
 unfed_cover s x set net x_in feeds =

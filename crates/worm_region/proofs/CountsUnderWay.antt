@@ -11,10 +11,10 @@ use Rattle.worm_flit.specs.declared.Flit.{Flit}
 use Rattle.worm_term.specs.Queue.{QueueState, empty_queue, one_fed}
 use Rattle.worm_term.specs.Source.{queue_at}
 use Rattle.worm_router.specs.Router.{RouterState}
-use Rattle.worm_region.specs.Moves.{delivered_node, fed_node}
+use Rattle.worm_node.specs.Node.{delivered_node, fed_node}
 use Rattle.worm_region.specs.Resting.{KnowsResting}
 use Rattle.worm_region.specs.UnderWay.{IsUnderWay, accepted_by, accepted_in, taken_by, taken_in}
-use Rattle.worm_region.specs.declared.node.Node.{Node}
+use Rattle.worm_node.specs.declared.node.Node.{Node}
 use Rattle.std.proofs.Common.{length-set, sym}
 use Rattle.std.proofs.lemmas.List.{get_or-set_other, get_or-set_same, get_or_past}
 use Rattle.worm_theory.proofs.Places.{number_cases}

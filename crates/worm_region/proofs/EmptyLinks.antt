@@ -35,26 +35,26 @@ some_room s k framed there =
 none_long : {A : Type 0} (xs : List A) (n : ℕ) → xs ≡ [] → 0 < n → length xs < n
 none_long {A} xs n empty some = let none = ap (λ (l : List A). length l) empty in omega arith
 
-pub flit_room : (s : NetState) (x o : ℕ) → IsFramed s → IsSome (neighbour_of s.mesh x o) →
-    (link_at s (link_out s x o)).flits ≡ []
-    → length (link_at s (link_out s x o)).flits < (link_at s (link_out s x o)).room
-flit_room s x o framed linked empty = by_link (neighbour_of s.mesh x o) refl linked where
-  by_link : (n : Option ℕ) → neighbour_of s.mesh x o ≡ n → IsSome n
-      → length (link_at s (link_out s x o)).flits < (link_at s (link_out s x o)).room
-  by_link None e some = absurd (cc)
-  by_link (Some y) e some =
-      let lead = leader s x o y framed e in
-      let k = link_out s x o in
-      none_long (link_at s k).flits (link_at s k).room empty (some_room s k framed lead.bound)
-
-pub credit_room : (s : NetState) (x p : ℕ) → IsFramed s → IsSome (neighbour_of s.mesh x p) →
-    (link_at s (link_into s x p)).credits ≡ []
-    → length (link_at s (link_into s x p)).credits < (link_at s (link_into s x p)).room
-credit_room s x p framed linked empty = by_link (neighbour_of s.mesh x p) refl linked empty where
-  by_link : (n : Option ℕ) → neighbour_of s.mesh x p ≡ n → IsSome n → (link_at s (into_from s.mesh p n)).credits ≡ []
-      → length (link_at s (into_from s.mesh p n)).credits < (link_at s (into_from s.mesh p n)).room
+pub flit_room : (s : NetState) (x p : ℕ) → IsFramed s → IsSome (neighbour_of s.mesh x p) →
+    (link_at s (link_into s x p)).flits ≡ []
+    → length (link_at s (link_into s x p)).flits < (link_at s (link_into s x p)).room
+flit_room s x p framed linked empty = by_link (neighbour_of s.mesh x p) refl linked empty where
+  by_link : (n : Option ℕ) → neighbour_of s.mesh x p ≡ n → IsSome n → (link_at s (into_from s.mesh p n)).flits ≡ []
+      → length (link_at s (into_from s.mesh p n)).flits < (link_at s (into_from s.mesh p n)).room
   by_link None e some none = absurd (cc)
   by_link (Some y) e some none =
       let fed = feeder s x p y framed e in
       let k = links_before s.mesh y (opposite_of p) in
-      none_long (link_at s k).credits (link_at s k).room none (some_room s k framed fed.bound)
+      none_long (link_at s k).flits (link_at s k).room none (some_room s k framed fed.bound)
+
+pub credit_room : (s : NetState) (x o : ℕ) → IsFramed s → IsSome (neighbour_of s.mesh x o) →
+    (link_at s (link_out s x o)).credits ≡ []
+    → length (link_at s (link_out s x o)).credits < (link_at s (link_out s x o)).room
+credit_room s x o framed linked empty = by_link (neighbour_of s.mesh x o) refl linked where
+  by_link : (n : Option ℕ) → neighbour_of s.mesh x o ≡ n → IsSome n
+      → length (link_at s (link_out s x o)).credits < (link_at s (link_out s x o)).room
+  by_link None e some = absurd (cc)
+  by_link (Some y) e some =
+      let lead = leader s x o y framed e in
+      let k = link_out s x o in
+      none_long (link_at s k).credits (link_at s k).room empty (some_room s k framed lead.bound)

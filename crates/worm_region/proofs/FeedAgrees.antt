@@ -14,13 +14,14 @@ use Rattle.worm_theory.specs.Network.{put2, put3}
 use Rattle.worm_theory.specs.Steps.{Feed, IsThere, Enabled, after, fed}
 use Rattle.worm_region.specs.Resting.{nth_node}
 use Rattle.worm_region.specs.Shape.{net_shape}
-use Rattle.worm_region.specs.declared.node.Node.{Node}
+use Rattle.worm_node.specs.declared.node.Node.{Node}
 use Rattle.worm_region.specs.State.{NetState, IsFramed, IsNodeOf, IsNetPlace, shape, network_of, node_at, router_at}
 use Rattle.worm_region.specs.State.{source_at, with_node, output_of, queue_of}
 use Rattle.worm_region.specs.Workable.{IsWorkableBy, IsBound}
 use Rattle.worm_region.specs.Replies.{Replies}
 use Rattle.worm_region.specs.Answers.{moved_of}
-use Rattle.worm_region.specs.Moves.{done_step, FrontFits, has_room, can_enter, fed_node}
+use Rattle.worm_node.specs.Node.{FrontFits, has_room, can_enter, fed_node}
+use Rattle.worm_region.specs.Moves.{done_step}
 use Rattle.worm_region.proofs.NodeWritten.{put2_same, put3_same, node_bridge, itself3, input_of-put, input_of-there}
 use Rattle.worm_region.proofs.NodeWritten.{below_cases}
 use Rattle.worm_region.proofs.AsListed.{buffer_there}

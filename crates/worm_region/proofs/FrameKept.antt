@@ -12,10 +12,11 @@ use Rattle.worm_theory.proofs.Places.{number_cases}
 use Rattle.worm_mesh.specs.Address.{node_count}
 use Rattle.worm_region.specs.Resting.{no_node, nth_node}
 use Rattle.worm_region.specs.Shape.{net_shape}
-use Rattle.worm_region.specs.declared.node.Node.{Node}
+use Rattle.worm_node.specs.declared.node.Node.{Node}
 use Rattle.worm_region.specs.State.{NetState, IsFramed, IsNodeOf, OwesToLinks, shape, network_of, node_at}
 use Rattle.worm_wires.specs.Links.{LinkView}
-use Rattle.worm_region.specs.State.{fresh_node, router_at, with_node, with_router}
+use Rattle.worm_node.specs.NewNodes.{fresh_node}
+use Rattle.worm_region.specs.State.{router_at, with_node, with_router}
 use Rattle.worm_region.specs.Workable.{IsWorkableBy, Works}
 use Rattle.worm_region.specs.Moves.{done_step}
 use Rattle.worm_region.specs.Replies.{Hindered, IsMade}

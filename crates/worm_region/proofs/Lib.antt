@@ -4,7 +4,6 @@ pub mod OwnCredits
 pub mod StaysWorking
 pub mod FrameKept
 pub mod NewNet
-pub mod MadeGroups
 pub mod OwesToLinks
 pub mod PlacesThere
 pub mod AllOwned
@@ -27,6 +26,7 @@ pub mod SendTried
 pub mod OwnEdges
 pub mod EdgeMoves
 pub mod EmptyLinks
+pub mod Brought
 pub mod ArbitersStand
 pub mod GrantedSent
 pub mod OfferAgrees

@@ -19,7 +19,7 @@ use Rattle.worm_region.specs.Workable.{IsWorkable}
 use Rattle.worm_region.specs.Replies.{Attempts, Replies}
 use Rattle.worm_region.specs.Moves.{OwesTheSame, can_give}
 use Rattle.worm_region.specs.Turns.{Does, Each, lowest_owed, GivesCreditBy}
-use Rattle.worm_region.specs.declared.node.Node.{Node}
+use Rattle.worm_node.specs.declared.node.Node.{Node}
 use Rattle.worm_region.specs.declared.step.Moved.{Moved}
 use Rattle.worm_region.specs.declared.fault.StepFault.{StepFault}
 use Rattle.worm_region.proofs.NodeWritten.{node_at-put, input_of-put, input_of-there}

@@ -1,5 +1,5 @@
 -- A fresh network's lists are framed, and stand for the empty network.
-use Rattle.std.proofs.Common.{◌≡◌, ℕ, zero, suc, ◌+◌, ◌*◌, ◌<◌, ◌≤◌, ◌==◌, cond, nat_lt, inl, inr, List, [], ◌∷◌, ◌++◌}
+use Rattle.std.proofs.Common.{◌≡◌, ℕ, zero, suc, ◌+◌, ◌*◌, ◌<◌, ◌≤◌, ◌==◌, cond, nat_lt, inl, inr, List, [], ◌∷◌}
 use Rattle.std.proofs.Common.{length, drop, get_or, sum, replicate, refl, arith, ap, sym, subst, ◌∙◌}
 use Rattle.std.proofs.lemmas.List.{length-replicate}
 use Rattle.worm_flit.specs.Channels.{AreChannels}
@@ -24,12 +24,14 @@ use Rattle.worm_theory.proofs.Others.{empty_others}
 use Rattle.worm_theory.proofs.Closed.{empty_closed}
 use Rattle.worm_region.specs.Shape.{net_shape}
 use Rattle.worm_region.specs.Owned.{sole}
-use Rattle.worm_region.specs.declared.node.Node.{Node}
+use Rattle.worm_node.specs.declared.node.Node.{Node}
 use Rattle.worm_region.specs.declared.own.Own.{Own}
 use Rattle.worm_wires.specs.Links.{LinkView, blank_link, empty_link}
 use Rattle.worm_region.specs.State.{NetState, net_state, IsNet, IsFramed, IsNodeOf, shape, network_of, node_at}
-use Rattle.worm_region.specs.State.{router_at, link_at, link_of, fresh_node, input_of, output_of, queue_of}
-use Rattle.worm_region.specs.NewNet.{IsFresh, AreFresh, IsOneNetwork}
+use Rattle.worm_node.specs.NewNodes.{fresh_node}
+use Rattle.worm_region.specs.State.{router_at, link_at, link_of, input_of, output_of, queue_of}
+use Rattle.worm_node.specs.NewNodes.{AreFresh}
+use Rattle.worm_region.specs.NewNet.{IsFresh, IsOneNetwork}
 use Rattle.worm_region.specs.Workable.{IsWorkable}
 use Rattle.worm_region.proofs.FrameKept.{framed_mesh}
 use Rattle.worm_region.proofs.StaysWorking.{sound_works}
@@ -63,18 +65,6 @@ link_fresh : (n k room : ℕ) → ((get_or (replicate n (empty_link room)) k bla
 link_fresh zero k room = (refl, refl)
 link_fresh (suc n) zero room = (refl, refl)
 link_fresh (suc n) (suc k) room = link_fresh n k room
-
--- a list whose items are given by their places, and one item more
-pushed : {A : Type 0} (f : ℕ → A) (xs : List A) → ((i : ℕ) → get_or xs i (f i) ≡ f i) → (i : ℕ) →
-    get_or (xs ++ f (length xs) ∷ []) i (f i) ≡ f i
-pushed {A} f [] all zero = refl
-pushed {A} f [] all (suc i) = refl
-pushed {A} f (x ∷ xs) all zero = all zero
-pushed {A} f (x ∷ xs) all (suc i) = pushed (λ (j : ℕ). f (suc j)) xs (λ j. all (suc j)) i
-
-pub fresh_push : (mesh channels : List ℕ) (depth : ℕ) (nodes : List Node) → AreFresh mesh channels depth nodes →
-    AreFresh mesh channels depth (nodes ++ fresh_node mesh channels depth (length nodes) ∷ [])
-fresh_push mesh channels depth nodes all = pushed (fresh_node mesh channels depth) nodes all
 
 -- a fresh node is that of its number
 pub fresh_is : (mesh channels : List ℕ) (depth : ℕ) → AreRadices mesh → (x : ℕ) → x < node_count mesh

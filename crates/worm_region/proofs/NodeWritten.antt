@@ -13,9 +13,10 @@ use Rattle.worm_term.specs.Queue.{QueueState}
 use Rattle.worm_theory.specs.Network.{same, put2, put3}
 use Rattle.worm_theory.proofs.Places.{bool_cases, number_cases, place_cases, place3_cases, same-false}
 use Rattle.worm_theory.proofs.Bridge.{get_or-set, same_network}
-use Rattle.worm_region.specs.declared.node.Node.{Node}
+use Rattle.worm_node.specs.declared.node.Node.{Node}
 use Rattle.worm_region.specs.State.{NetState, network_of, node_at, router_at, source_at, sink_at, with_node}
-use Rattle.worm_region.specs.State.{with_router, with_source, fresh_node, input_of, output_of, link_of}
+use Rattle.worm_node.specs.NewNodes.{fresh_node}
+use Rattle.worm_region.specs.State.{with_router, with_source, input_of, output_of, link_of}
 use Rattle.std.proofs.lemmas.List.{set-get_or}
 
 pub below_cases : (a b : ℕ) → ((nat_lt a b ≡ true) × (a < b)) ⊎ ((nat_lt a b ≡ false) × (b ≤ a))

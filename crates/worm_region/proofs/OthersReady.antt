@@ -21,10 +21,11 @@ use Rattle.worm_region.specs.Shape.{net_shape}
 use Rattle.worm_region.specs.State.{NetState, IsNetPlace, network_of, link_at, node_at, router_at, with_link}
 use Rattle.worm_region.specs.State.{with_node, with_router}
 use Rattle.worm_region.specs.Workable.{IsWorkable}
-use Rattle.worm_region.specs.Moves.{IsReady, after_ready, after_sending, delivered_node, link_out}
+use Rattle.worm_node.specs.Node.{delivered_node}
+use Rattle.worm_region.specs.Moves.{IsReady, after_ready, after_sending, link_out}
 use Rattle.worm_region.specs.Replies.{Replies}
 use Rattle.worm_region.specs.Turns.{MayAllSend, OthersMaySend}
-use Rattle.worm_region.specs.declared.node.Node.{Node}
+use Rattle.worm_node.specs.declared.node.Node.{Node}
 use Rattle.worm_region.specs.declared.step.Moved.{Moved}
 use Rattle.worm_region.specs.declared.fault.StepFault.{StepFault}
 use Rattle.worm_region.proofs.AsListed.{record_there}

@@ -8,8 +8,9 @@ use Rattle.worm_router.specs.Router.{ChannelState, RouterState, fresh_router, in
 use Rattle.worm_theory.specs.Steps.{GiveCredit, IsThere}
 use Rattle.worm_theory.proofs.Places.{place_cases}
 use Rattle.worm_region.specs.Shape.{net_shape}
-use Rattle.worm_region.specs.declared.node.Node.{Node}
-use Rattle.worm_region.specs.State.{NetState, IsFramed, IsNetPlace, OwesToLinks, fresh_node, input_of, node_at}
+use Rattle.worm_node.specs.declared.node.Node.{Node}
+use Rattle.worm_node.specs.NewNodes.{fresh_node}
+use Rattle.worm_region.specs.State.{NetState, IsFramed, IsNetPlace, OwesToLinks, input_of, node_at}
 use Rattle.worm_region.specs.State.{router_at, shape}
 use Rattle.worm_region.proofs.NewNet.{input_fresh}
 use Rattle.worm_region.proofs.NodeWritten.{input_of-put, input_of-there}

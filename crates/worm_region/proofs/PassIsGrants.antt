@@ -27,7 +27,7 @@ use Rattle.worm_theory.proofs.Bridge.{same_network}
 use Rattle.worm_vcalloc.specs.Table.{cell}
 use Rattle.worm_vcalloc.specs.VcAlloc.{VcAllocState}
 use Rattle.worm_region.specs.Shape.{net_shape}
-use Rattle.worm_region.specs.declared.node.Node.{Node}
+use Rattle.worm_node.specs.declared.node.Node.{Node}
 use Rattle.worm_region.specs.State.{NetState, IsNetPlace, IsSameConfig, shape, network_of, node_at, router_at}
 use Rattle.worm_region.specs.State.{with_node, with_router, input_of, output_of, link_of}
 use Rattle.worm_region.specs.Workable.{IsWorkable, owned, Works}

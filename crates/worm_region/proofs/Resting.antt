@@ -14,7 +14,8 @@ use Rattle.worm_theory.specs.Steps.{Step, Feed, Send, Take, TakeCredit}
 use Rattle.worm_region.specs.Shape.{net_shape}
 use Rattle.worm_region.specs.State.{NetState, node_at, router_at, source_at, with_router}
 use Rattle.worm_region.specs.Workable.{IsWorkable}
-use Rattle.worm_region.specs.Moves.{NothingComes, can_enter, can_get, chosen_router, front_credit, front_into}
+use Rattle.worm_node.specs.Node.{can_enter}
+use Rattle.worm_region.specs.Moves.{NothingComes, can_get, chosen_router, front_credit, front_into}
 use Rattle.worm_region.specs.Resting.{IsResting, nth_node}
 use Rattle.worm_region.specs.Replies.{Attempts}
 use Rattle.worm_region.specs.Turns.{Each, all_ports, granted_send, SendsGrantedBy, GivesCreditBy}

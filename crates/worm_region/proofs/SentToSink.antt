@@ -13,7 +13,7 @@ use Rattle.worm_term.specs.Source.{queue_at}
 use Rattle.worm_theory.specs.Network.{put2, put3}
 use Rattle.worm_theory.specs.Steps.{IsPort, sent_by}
 use Rattle.worm_region.specs.Shape.{net_shape}
-use Rattle.worm_region.specs.declared.node.Node.{Node}
+use Rattle.worm_node.specs.declared.node.Node.{Node}
 use Rattle.worm_region.specs.State.{NetState, IsNetPlace, shape, network_of, node_at, router_at}
 use Rattle.worm_region.specs.State.{sink_at, source_at, with_node}
 use Rattle.worm_region.specs.Workable.{IsWorkableBy}

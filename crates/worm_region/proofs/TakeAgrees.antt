@@ -17,7 +17,8 @@ use Rattle.worm_region.specs.State.{link_at}
 use Rattle.worm_region.specs.Workable.{IsWorkableBy, IsSent}
 use Rattle.worm_region.specs.Replies.{Replies}
 use Rattle.worm_region.specs.Answers.{moved_of}
-use Rattle.worm_region.specs.Moves.{done_step, link_into, front_into, FrontFits, has_room, can_enter}
+use Rattle.worm_node.specs.Node.{FrontFits, has_room, can_enter}
+use Rattle.worm_region.specs.Moves.{done_step, link_into, front_into}
 use Rattle.worm_wires.specs.Wiring.{into_from}
 use Rattle.worm_region.specs.Moves.{after_take}
 use Rattle.worm_region.proofs.LinksThere.{feeder}

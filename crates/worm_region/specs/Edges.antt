@@ -6,7 +6,7 @@ use Rattle.worm_flit.specs.declared.Flit.{Flit}
 use Rattle.worm_mesh.specs.Address.{neighbour_of, opposite_of}
 use Rattle.worm_router.specs.Router.{after_send, after_gave}
 use Rattle.worm_theory.specs.Network.{put2}
-use Rattle.worm_theory.specs.Steps.{Send, GiveCredit, Enabled, after}
+use Rattle.worm_theory.specs.Steps.{Send, GiveCredit, Enabled, IsLinked, after}
 use Rattle.worm_region.specs.State.{NetState, shape, network_of, router_at, link_at, with_router, with_link}
 use Rattle.worm_region.specs.Moves.{link_into, link_out}
 
@@ -51,3 +51,11 @@ pub record ComesBack (old : NetState) (x p v : ℕ) (new : NetState) : Type 0 wh
       let net = network_of old in
       let o = opposite_of p in
       network_of new ≡ record net { credit_list = put2 net.credit_list y o (net.credit_list y o ++ v ∷ []) }
+
+-- the same by the port at the link's other end: a flit that came in by a port, from the node y beyond it, and a credit
+-- that came back over the link out of one
+abbrev pub ArrivesBy : NetState → ℕ → ℕ → Flit → NetState → Type 0
+ArrivesBy old x p f new = IsLinked (neighbour_of old.mesh x p) (λ y. Arrives old y (opposite_of p) f new)
+
+abbrev pub ComesBackBy : NetState → ℕ → ℕ → ℕ → NetState → Type 0
+ComesBackBy old x o v new = IsLinked (neighbour_of old.mesh x o) (λ y. ComesBack old y (opposite_of o) v new)

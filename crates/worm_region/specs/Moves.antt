@@ -5,20 +5,18 @@ use Rattle.std.specs.Prelude.{◌++◌, length, drop, slice_get, slice_index_or,
 use Rattle.std.specs.Prelude.{Ok, Err}
 use Rattle.worm_flit.specs.declared.Flit.{Flit}
 use Rattle.worm_flit.specs.SmallSet.{has as has_small}
-use Rattle.worm_mesh.specs.Address.{node_count, neighbour_of}
+use Rattle.worm_mesh.specs.Address.{neighbour_of}
 use Rattle.worm_mesh.specs.Links.{links_before}
 use Rattle.worm_router.specs.Router.{RouterState, IsPlace, terminal, width, input_at, output_at, leaving, after_accept}
 use Rattle.worm_router.specs.Router.{after_route, after_grant, after_send, after_gave, after_credit, can_route}
 use Rattle.worm_router.specs.Allocation.{after_choose}
 use Rattle.worm_swalloc.specs.declared.grant.SwGrant.{SwGrant}
-use Rattle.worm_term.specs.Sink.{after_take as after_sink}
-use Rattle.worm_term.specs.Queue.{waiting}
-use Rattle.worm_term.specs.Source.{front_of, after_offer, after_close, after_fed, queue_at}
+use Rattle.worm_term.specs.Source.{front_of, after_offer, after_close}
 use Rattle.worm_theory.specs.Steps.{Step, Offer, CloseLane, Feed, Route, Grant, Send, Take, GiveCredit, TakeCredit}
+use Rattle.worm_node.specs.Node.{can_enter, delivered_node, fed_node}
 use Rattle.worm_wires.specs.Wiring.{into_from}
 use Rattle.worm_region.specs.State.{NetState, node_at, router_at, source_at, link_at, with_node, with_router}
 use Rattle.worm_region.specs.State.{with_source, with_link}
-use Rattle.worm_region.specs.declared.node.Node.{Node}
 use Rattle.worm_region.specs.declared.step.Moved.{Moved}
 use Rattle.worm_region.specs.declared.step.Moved.TheVariants.{Done, Idle}
 use Rattle.worm_region.specs.declared.fault.StepFault.{StepFault}
@@ -53,18 +51,6 @@ link_out s x o = links_before s.mesh x o
 abbrev pub front_into : NetState → ℕ → ℕ → Option Flit
 front_into s x p = slice_get (link_at s (link_into s x p)).flits 0
 
--- this flit, if there is one, may be given to the router at this port
-abbrev pub FrontFits : RouterState → ℕ → Option Flit → Type 0
-FrontFits r p None = Unit {0}
-FrontFits r p (Some f) = IsPlace r p f.vc × (f.lane.dst < node_count r.mesh)
-
-abbrev pub has_room : RouterState → ℕ → Flit → Bool
-has_room r p f = nat_lt (length (input_at r p f.vc).buffer) r.depth
-
-abbrev pub can_enter : RouterState → ℕ → Option Flit → Bool
-can_enter r p None = false
-can_enter r p (Some f) = has_room r p f
-
 -- Take: the front of the link k goes into the node's buffer
 abbrev pub after_take : NetState → ℕ → ℕ → ℕ → Option Flit → NetState
 after_take s x p k None = s
@@ -72,16 +58,7 @@ after_take s x p k (Some f) =
     with_link (with_router s x (after_accept (router_at s x) p f)) k
     (record (link_at s k) { flits = drop 1 (link_at s k).flits })
 
--- Feed: the source's front of the class goes into the injection buffer
-abbrev pub fed_node : Node → ℕ → Option Flit → Node
-fed_node n k None = n
-fed_node n k (Some f) =
-    record n { router = after_accept n.router (terminal n.router) f; source = after_fed n.source k }
-
 -- Send: the front leaves by the port d.0 as the flit d.1, into the sink or onto the link
-abbrev pub delivered_node : Node → ℕ → ℕ → Flit → Node
-delivered_node n p v f = record n { router = after_send n.router p v; sink = after_sink n.sink f }
-
 abbrev pub after_sending : NetState → ℕ → ℕ → ℕ → ℕ × Flit → NetState
 after_sending s x p v d =
     if d.0 == 2 * length s.mesh then with_node s x (delivered_node (node_at s x) p v d.1)
@@ -148,12 +125,6 @@ NoFlit s x p = IsSome (neighbour_of s.mesh x p) → front_into s x p ≡ None
 -- the source has no flit of the class for which the injection buffer has room
 abbrev pub NoFeed : NetState → ℕ → ℕ → Type 0
 NoFeed s x k = can_enter (router_at s x) (terminal (router_at s x)) (front_of (source_at s x) k) ≡ false
-
--- the node's source has a flit of each class of a set, and of no other one for which there is room
-pub record AreToFeed (n : Node) (set : ℕ) : Type 0 where
-  pub some : (k : ℕ) → k < 8 → has_small set k ≡ true → IsSome (waiting (queue_at n.source k))
-  pub rest : (k : ℕ) → k < 8 → has_small set k ≡ false →
-      can_enter n.router (terminal n.router) (front_of n.source k) ≡ false
 
 -- a set of mesh ports, by each of which the node has a neighbour
 abbrev pub AreLinked : NetState → ℕ → ℕ → Type 0

@@ -4,9 +4,9 @@ use Rattle.std.specs.Prelude.{ℕ, ◌≡◌, ◌<◌, Bool, true, false, List, 
 use Rattle.worm_router.specs.Router.{RouterState, terminal}
 use Rattle.worm_router.specs.Rest.{IsAtRest}
 use Rattle.worm_term.specs.Source.{SourceState, classes, front_of}
-use Rattle.worm_region.specs.State.{fresh_node}
-use Rattle.worm_region.specs.Moves.{can_enter}
-use Rattle.worm_region.specs.declared.node.Node.{Node}
+use Rattle.worm_node.specs.NewNodes.{fresh_node}
+use Rattle.worm_node.specs.Node.{can_enter}
+use Rattle.worm_node.specs.declared.node.Node.{Node}
 
 -- the router is at rest, and the source has no flit for which there is room
 pub record IsResting (n : Node) : Type 0 where

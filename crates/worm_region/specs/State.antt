@@ -1,6 +1,6 @@
 -- What a contract sees of a network, and the functions of places that it stands for (Dally and Towles, chapters 13 and
 -- 16).
-use Rattle.std.specs.Prelude.{ℕ, ◌*◌, ◌<◌, ◌≤◌, ◌≡◌, ◌==◌, cond, nat_lt, List, [], length, map, drop, sum}
+use Rattle.std.specs.Prelude.{ℕ, ◌*◌, ◌<◌, ◌≤◌, ◌≡◌, ◌==◌, cond, nat_lt, List, length, map, drop, sum}
 use Rattle.std.specs.Prelude.{slice_index_or, slice_set, IsSome}
 use Rattle.arrayvec.specs.ArrayString.{ArrayString}
 use Rattle.worm_flit.specs.Channels.{AreChannels}
@@ -8,19 +8,20 @@ use Rattle.worm_mesh.specs.Address.{AreRadices, node_count, has_neighbour, neigh
 use Rattle.worm_mesh.specs.Links.{links_before, link_count}
 use Rattle.worm_records.specs.declared.OutRecord.{OutRecord}
 use Rattle.worm_router.specs.Router.{RouterState, ChannelState, IsPlace, width, places, fresh_channel, free_output}
-use Rattle.worm_router.specs.Router.{fresh_router, input_at, output_at}
+use Rattle.worm_router.specs.Router.{input_at, output_at}
 use Rattle.worm_term.specs.Queue.{QueueState}
 use Rattle.worm_term.specs.Sink.{SinkState}
-use Rattle.worm_term.specs.Source.{SourceState, IsSource, fresh_source, queue_at}
+use Rattle.worm_term.specs.Source.{SourceState, IsSource, queue_at}
 use Rattle.worm_theory.specs.Shape.{Shape}
 use Rattle.worm_theory.specs.Network.{Network}
 use Rattle.worm_theory.specs.Sound.{Sound, OthersIdle, OnesClosed}
 use Rattle.worm_theory.specs.Cut.{LanesCut}
 use Rattle.worm_theory.specs.PacketCut.{PacketsHold}
+use Rattle.worm_node.specs.NewNodes.{fresh_node}
 use Rattle.worm_region.specs.Shape.{net_shape}
 use Rattle.worm_region.specs.Owned.{sole}
 use Rattle.worm_wires.specs.Links.{LinkView, blank_link}
-use Rattle.worm_region.specs.declared.node.Node.{Node}
+use Rattle.worm_node.specs.declared.node.Node.{Node}
 use Rattle.worm_region.specs.declared.own.Own.{Own}
 
 -- the texts of the classes' names
@@ -47,14 +48,6 @@ net_state mesh channels depth names nodes links own = record {
   nodes = nodes;
   links = links;
   own = own;
-}
-
--- a node as a new network has it; also what is read of a node that is not there
-abbrev pub fresh_node : List ℕ → List ℕ → ℕ → ℕ → Node
-fresh_node mesh channels depth x = record {
-  router = fresh_router mesh x channels depth;
-  source = fresh_source x (node_count mesh) channels;
-  sink = record { node = x; delivered = [] };
 }
 
 abbrev pub node_at : NetState → ℕ → Node

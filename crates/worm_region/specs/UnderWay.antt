@@ -3,9 +3,9 @@
 use Rattle.std.specs.Prelude.{ℕ, ◌+◌, ◌<◌, ◌≡◌, List, length, Option, IfSome}
 use Rattle.std.specs.List.{sum_by}
 use Rattle.worm_term.specs.Queue.{QueueState}
-use Rattle.worm_term.specs.Source.{classes}
+use Rattle.worm_node.specs.Node.{HasClasses}
 use Rattle.worm_region.specs.Resting.{nth_node}
-use Rattle.worm_region.specs.declared.node.Node.{Node}
+use Rattle.worm_node.specs.declared.node.Node.{Node}
 
 -- the flits that a node's source accepted, and those that its sink took; kept closed in goals, as the sums are
 unfoldable pub accepted_by : Node → ℕ
@@ -24,11 +24,6 @@ taken_in nodes = sum_by taken_by nodes
 -- the number, where it is known, is that of the flits accepted and not taken
 abbrev pub IsUnderWay : ℕ → ℕ → Option ℕ → Type 0
 IsUnderWay accepted taken count = IfSome count (λ n. accepted ≡ taken + n)
-
--- the node's source has so many classes, and a queue for each
-pub record HasClasses (count : ℕ) (n : Node) : Type 0 where
-  pub classes : classes n.source ≡ count
-  pub queues : length n.source.queues ≡ count
 
 -- the source of each node
 abbrev pub HaveClasses : ℕ → List Node → Type 0

@@ -1,15 +1,7 @@
 //! How many flits a script brings to the ends of its lanes, so that memory for them is taken before it is run.
 
+use worm_node::Expected;
 use worm_script::Script;
-
-/// How many flits a node's ends may get.
-#[derive(Clone, Copy)]
-pub(crate) struct Expected {
-    /// Of each class, those that the source may accept.
-    pub(crate) from: [u32; 4],
-    /// Those that the sink may take.
-    pub(crate) to: u32,
-}
 
 /// What the script brings to each node, by number.
 pub(crate) fn expected_of(script: &Script) -> [Expected; 256] {

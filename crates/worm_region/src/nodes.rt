@@ -5,18 +5,19 @@ ghost use Rattle.std.specs.Prelude.{ℕ, ◌≡◌, ◌+◌, ◌<◌, IsTrue, So
 ghost use Rattle.std.specs.Borrow.{Lends, sem};
 ghost use Rattle.worm_router.specs.Router.{IsPlace, leaving, terminal};
 ghost use Rattle.worm_term.specs.Source.{classes, front_of};
-ghost use Rattle.worm_region.specs.Moves.{FrontFits, can_enter, delivered_node, fed_node};
+ghost use Rattle.worm_node.specs.Node.{FrontFits, can_enter, delivered_node, fed_node};
 ghost use Rattle.worm_region.specs.Resting.{IsResting, nth_node, put_router, put_source};
-ghost use Rattle.worm_region.specs.UnderWay.{HasClasses, HaveClasses, IsUnderWay, accepted_by, accepted_in, taken_in};
+ghost use Rattle.worm_node.specs.Node.{HasClasses};
+ghost use Rattle.worm_region.specs.UnderWay.{HaveClasses, IsUnderWay, accepted_by, accepted_in, taken_in};
 ghost use Rattle.worm_region.specs.contracts.nodes.Nodes.{the_row};
 ghost use Rattle.worm_router.specs.contracts.router.Router.{the_row as router_row};
 ghost use Rattle.worm_term.specs.contracts.source.Source.{the_row as source_row};
 
 use crate::Node;
-use crate::expected::Expected;
 use std::alloc::AllocError;
 use std::marker::Model;
 use worm_flit::Flit;
+use worm_node::Expected;
 use worm_router::Router;
 use worm_term::Source;
 
@@ -33,7 +34,7 @@ pub struct Nodes {
 
 impl Model for Nodes {
     ghost use Rattle.std.specs.Prelude.{List};
-    ghost use Rattle.worm_region.specs.declared.node.Node.{Node};
+    ghost use Rattle.worm_node.specs.declared.node.Node.{Node};
 
     ghost Value = { List Node };
 

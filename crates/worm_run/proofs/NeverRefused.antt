@@ -18,8 +18,9 @@ use Rattle.worm_theory.proofs.Places.{bool_cases}
 use Rattle.worm_core.specs.Acceptable.{AreAcceptable, IsAcceptable, IsAcceptableScript, MayClose, closes, is_closed}
 use Rattle.worm_region.specs.NewNet.{IsFresh}
 use Rattle.worm_script.specs.Script.{begun_at, due, lane_of}
-use Rattle.worm_region.specs.State.{NetState, fresh_node, node_at, source_at}
-use Rattle.worm_region.specs.declared.node.Node.{Node}
+use Rattle.worm_node.specs.NewNodes.{fresh_node}
+use Rattle.worm_region.specs.State.{NetState, node_at, source_at}
+use Rattle.worm_node.specs.declared.node.Node.{Node}
 use Rattle.worm_script.specs.declared.entry.Act.{Act}
 use Rattle.worm_script.specs.declared.entry.Act.TheVariants.{Offer, Close}
 use Rattle.worm_script.specs.declared.entry.Entry.{Entry}

@@ -10,7 +10,7 @@ use Rattle.worm_script.specs.Script.{begun_at}
 use Rattle.worm_region.specs.Owned.{owned_by}
 use Rattle.worm_region.specs.State.{NetState, node_at, source_at, sink_at}
 use Rattle.worm_region.specs.Workable.{owned}
-use Rattle.worm_region.specs.declared.node.Node.{Node}
+use Rattle.worm_node.specs.declared.node.Node.{Node}
 use Rattle.worm_region.specs.declared.own.Own.{Own}
 use Rattle.worm_script.specs.declared.entry.Entry.{Entry}
 use Rattle.worm_split.specs.Effects.{HasAccepted, Refuses}

@@ -10,7 +10,7 @@ use Rattle.worm_wires.specs.Links.{LinkView, blank_link, empty_link}
 use Rattle.worm_region.proofs.NewNet.{fresh_is}
 use Rattle.worm_region.specs.State.{NetState, IsNet, IsNodeOf}
 use Rattle.worm_region.specs.Workable.{IsWorkable}
-use Rattle.worm_region.specs.declared.node.Node.{Node}
+use Rattle.worm_node.specs.declared.node.Node.{Node}
 use Rattle.worm_region.specs.declared.own.Own.{Own}
 use Rattle.worm_split.specs.declared.making.Seat.{Seat}
 use Rattle.worm_split.specs.Apart.{Apart, AreWays, ArePaired, IsExchanged, with_lists}

@@ -12,7 +12,7 @@ use Rattle.worm_region.specs.State.{IsFramed, IsNodeOf, NetState, node_at, sink_
 use Rattle.worm_region.specs.Workable.{owned}
 use Rattle.worm_region.specs.declared.fault.StepFault.{StepFault}
 use Rattle.worm_region.specs.declared.fault.StepFault.TheVariants.{Refused}
-use Rattle.worm_region.specs.declared.node.Node.{Node}
+use Rattle.worm_node.specs.declared.node.Node.{Node}
 use Rattle.worm_script.specs.declared.entry.Entry.{Entry}
 use Rattle.worm_split.specs.Effects.{HasAccepted, IsRefused, OneMore, SinksTakeOne, SourceTakes, SourcesTake}
 use Rattle.worm_split.specs.PartState.{PartState}

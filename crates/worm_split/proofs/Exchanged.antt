@@ -4,8 +4,9 @@ use Rattle.std.proofs.Common.{refl, sym, subst, ◌∙◌}
 use Rattle.std.specs.Prelude.{slice_index_or, slice_set}
 use Rattle.std.proofs.lemmas.List.{get_or_read}
 use Rattle.worm_region.specs.Owned.{owned_by}
-use Rattle.worm_region.specs.State.{NetState, IsFramed, IsNodeOf, fresh_node, net_state}
-use Rattle.worm_region.specs.declared.node.Node.{Node}
+use Rattle.worm_node.specs.NewNodes.{fresh_node}
+use Rattle.worm_region.specs.State.{NetState, IsFramed, IsNodeOf, net_state}
+use Rattle.worm_node.specs.declared.node.Node.{Node}
 use Rattle.worm_region.specs.declared.own.Own.{Own}
 use Rattle.worm_wires.specs.Links.{LinkView}
 use Rattle.worm_mesh.specs.declared.mesh.LinkEnds.{LinkEnds}

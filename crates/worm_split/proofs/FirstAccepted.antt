@@ -23,7 +23,7 @@ use Rattle.worm_region.specs.State.{source_at, with_source}
 use Rattle.worm_region.specs.Turns.{Each, ask, fault_of}
 use Rattle.worm_region.specs.declared.fault.StepFault.{StepFault}
 use Rattle.worm_region.specs.declared.fault.StepFault.TheVariants.{NoMemory, NoSuchPlace, Refused}
-use Rattle.worm_region.specs.declared.node.Node.{Node}
+use Rattle.worm_node.specs.declared.node.Node.{Node}
 use Rattle.worm_script.specs.declared.entry.Act.{Act}
 use Rattle.worm_script.specs.declared.entry.Act.TheVariants.{Close, Offer}
 use Rattle.worm_script.specs.declared.entry.Entry.{Entry}

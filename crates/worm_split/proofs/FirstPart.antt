@@ -18,10 +18,11 @@ use Rattle.worm_theory.proofs.Places.{bool_cases}
 use Rattle.worm_wires.specs.Links.{empty_link}
 use Rattle.worm_region.specs.Owned.{owned_by}
 use Rattle.worm_region.specs.Shape.{net_shape}
-use Rattle.worm_region.specs.State.{NetState, IsFramed, IsNet, fresh_node, link_at}
+use Rattle.worm_node.specs.NewNodes.{fresh_node}
+use Rattle.worm_region.specs.State.{NetState, IsFramed, IsNet, link_at}
 use Rattle.worm_region.specs.State.{network_of, node_at, shape, sink_at}
 use Rattle.worm_region.specs.Workable.{IsBound, IsKept, IsSent, IsWorkable, Works, owned}
-use Rattle.worm_region.specs.declared.node.Node.{Node}
+use Rattle.worm_node.specs.declared.node.Node.{Node}
 use Rattle.worm_region.proofs.FrameKept.{framed_mesh}
 use Rattle.worm_region.proofs.LinkWritten.{credits_there, out_there}
 use Rattle.worm_region.proofs.NewNet.{workable, stands_for}

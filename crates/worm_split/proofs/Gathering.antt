@@ -7,7 +7,7 @@ use Rattle.std.proofs.lemmas.Bool.{cases_eq}
 use Rattle.std.proofs.lemmas.List.{get_or-set_other, get_or-set_same}
 use Rattle.worm_region.specs.Owned.{owned_by}
 use Rattle.worm_region.specs.State.{IsFramed, link_at}
-use Rattle.worm_region.specs.declared.node.Node.{Node}
+use Rattle.worm_node.specs.declared.node.Node.{Node}
 use Rattle.worm_region.specs.declared.own.Own.{Own}
 use Rattle.worm_split.specs.Ends.{End}
 use Rattle.worm_split.specs.Apart.{Apart, IsPutBack}

@@ -7,10 +7,11 @@ use Rattle.worm_mesh.specs.Links.{links_before}
 use Rattle.worm_theory.proofs.Bridge.{same_network}
 use Rattle.worm_term.specs.Source.{queue_at}
 use Rattle.worm_region.specs.Shape.{net_shape}
-use Rattle.worm_region.specs.State.{NetState, IsFramed, fresh_node, input_of}
+use Rattle.worm_node.specs.NewNodes.{fresh_node}
+use Rattle.worm_region.specs.State.{NetState, IsFramed, input_of}
 use Rattle.worm_wires.specs.Links.{LinkView}
 use Rattle.worm_region.specs.State.{link_at, network_of, node_at, output_of, shape, sink_at}
-use Rattle.worm_region.specs.declared.node.Node.{Node}
+use Rattle.worm_node.specs.declared.node.Node.{Node}
 use Rattle.worm_region.proofs.LinkWritten.{credits_there, out_there}
 use Rattle.worm_split.specs.Ends.{End, Inner, sent_on}
 use Rattle.worm_split.specs.Apart.{Apart, with_lists}

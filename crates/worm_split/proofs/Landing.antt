@@ -14,7 +14,6 @@ use Rattle.worm_links.specs.Links.{MayCross}
 use Rattle.worm_region.specs.Edges.{Arrives, ComesBack}
 use Rattle.worm_region.specs.State.{NetState, IsFramed}
 use Rattle.worm_region.specs.Workable.{owned}
-use Rattle.worm_wires.specs.declared.wiring.PortLinks.{PortLinks}
 use Rattle.worm_split.specs.Crossings.{AwaitsCredit, AwaitsFlit, CreditTaken, FlitTaken}
 use Rattle.worm_split.specs.Landing.{CreditLands, FlitLands, HasInlet, HasOutlet, Received, ReceivesBack, ReceivesInto}
 use Rattle.worm_split.specs.Landing.{ReceivesOver, ReturnsOver, TakesBack, TakesInto}
@@ -27,7 +26,7 @@ use Rattle.worm_split.proofs.ComesByEnd.{credit_channel, credit_put, elsewhere, 
 use Rattle.worm_split.proofs.ComesByEnd.{gave_elsewhere}
 use Rattle.worm_split.proofs.PartFacts.{some_workers}
 use Rattle.worm_split.proofs.PartLoops.{receives_more, receives_none, receives_one, same_on, same_still}
-use Rattle.worm_split.proofs.PortKnown.{HasLinks, back_of, linked}
+use Rattle.worm_split.proofs.PortKnown.{back_of}
 use Rattle.worm_split.proofs.SidesPut.{from_bound, inlet_put, outlet_put, over_bound}
 
 -- Flits
@@ -223,13 +222,6 @@ pub some_back : (o : ℕ) (net : NetState) (back : CreditsIn) → TakesBack o ne
 some_back o net back of =
     subst (λ (s : NetState). 0 < s.own.workers) of.2.net_is
     (some_workers of.1 of.2.part)
-
--- the node beyond, as it was looked up and as it is awaited
-pub same_beyond : (net : NetState) (x o : ℕ) (links : PortLinks) → HasLinks net x o links
-    → (awaited : AwaitsCredit net x o) → links.beyond ≡ awaited.beyond
-same_beyond net x o links has awaited =
-    let one : ◌≡◌ {A = Option ℕ} (Some links.beyond) (Some awaited.beyond) = sym (linked has) ∙ awaited.linked in
-    cc
 
 -- where a credit may be put down
 pub record MayReturn (net : NetState) (beyond vc : ℕ) : Type 0 where

@@ -7,7 +7,7 @@ use Rattle.worm_theory.specs.Network.{Network}
 use Rattle.worm_theory.specs.Shape.{Shape}
 use Rattle.worm_region.specs.State.{NetState, input_of, network_of, node_at, output_of}
 use Rattle.worm_region.specs.Workable.{LeadsOn}
-use Rattle.worm_region.specs.declared.node.Node.{Node}
+use Rattle.worm_node.specs.declared.node.Node.{Node}
 
 pub record SameAt (a b : Network) (x : ℕ) : Type 0 where
   pub buffer : (p v : ℕ) → a.buffer x p v ≡ b.buffer x p v

@@ -2,7 +2,7 @@
 use denote.Param.Send.{IsSend, sendable}
 use Rattle.std.proofs.Crossing.{crosses}
 use Rattle.worm_mesh.proofs.mesh.LinkEnds.TheSendSync.{the_send as ends_send}
-use Rattle.worm_region.proofs.Sent.{node_send}
+use Rattle.worm_node.proofs.Sent.{node_send}
 use Rattle.worm_region.proofs.config.Config.TheSendSync.{the_send as config_send}
 use Rattle.worm_wires.proofs.inbox.Inboxes.TheSendSync.{the_send as inboxes_send}
 use Rattle.worm_wires.proofs.link.LinkState.TheSendSync.{the_send as link_send}

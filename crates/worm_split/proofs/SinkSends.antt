@@ -12,7 +12,8 @@ use Rattle.worm_router.specs.Allocation.{switch_grants}
 use Rattle.worm_router.specs.Router.{RouterState, after_send, leaving}
 use Rattle.worm_term.specs.declared.fault.OfferFault.{OfferFault}
 use Rattle.worm_theory.specs.Steps.{Send}
-use Rattle.worm_region.specs.Moves.{after_ready, after_sending, chosen_router, delivered_node, link_out}
+use Rattle.worm_node.specs.Node.{delivered_node}
+use Rattle.worm_region.specs.Moves.{after_ready, after_sending, chosen_router, link_out}
 use Rattle.worm_region.specs.Replies.{Replies}
 use Rattle.worm_region.specs.State.{NetState, link_at, node_at, router_at, sink_at, source_at, with_link, with_node}
 use Rattle.worm_region.specs.State.{with_router}
@@ -20,7 +21,7 @@ use Rattle.worm_wires.specs.Links.{LinkView}
 use Rattle.worm_region.specs.Turns.{fault_of}
 use Rattle.worm_region.specs.declared.fault.StepFault.{StepFault}
 use Rattle.worm_region.specs.declared.fault.StepFault.TheVariants.{NoMemory, NoSuchPlace, Refused}
-use Rattle.worm_region.specs.declared.node.Node.{Node}
+use Rattle.worm_node.specs.declared.node.Node.{Node}
 use Rattle.worm_region.specs.declared.step.Moved.{Moved}
 use Rattle.worm_region.specs.declared.step.Moved.TheVariants.{Done, Idle}
 use Rattle.worm_split.specs.Effects.{HaveTheSame, OneMore}

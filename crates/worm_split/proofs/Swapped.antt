@@ -7,7 +7,7 @@ use Rattle.std.proofs.lemmas.List.{get_or_past}
 use Rattle.worm_mesh.specs.declared.mesh.LinkEnds.{LinkEnds}
 use Rattle.worm_region.specs.Owned.{owned_by}
 use Rattle.worm_wires.specs.Links.{LinkView, blank_link}
-use Rattle.worm_region.specs.declared.node.Node.{Node}
+use Rattle.worm_node.specs.declared.node.Node.{Node}
 use Rattle.worm_region.specs.declared.own.Own.{Own}
 use Rattle.worm_split.specs.Exchange.{LinksSwapped, NodesSwapped, far_of, near_of}
 

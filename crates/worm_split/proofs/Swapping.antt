@@ -8,7 +8,7 @@ use Rattle.std.proofs.lemmas.List.{get_or_read, get_or-set_other, get_or-set_sam
 use Rattle.worm_mesh.specs.declared.mesh.LinkEnds.{LinkEnds}
 use Rattle.worm_region.specs.Owned.{owned_by}
 use Rattle.worm_wires.specs.Links.{LinkView}
-use Rattle.worm_region.specs.declared.node.Node.{Node}
+use Rattle.worm_node.specs.declared.node.Node.{Node}
 use Rattle.worm_region.specs.declared.own.Own.{Own}
 use Rattle.worm_split.specs.Exchange.{AreSwapped, LinksSwapped, NodesSwapped, SwapsLink, SwapsNode, far_of, near_of}
 use Rattle.worm_split.specs.Exchange.{way_at}

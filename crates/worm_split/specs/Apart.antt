@@ -7,7 +7,7 @@ use Rattle.worm_wires.specs.Links.{LinkView}
 use Rattle.worm_region.specs.Owned.{sole}
 use Rattle.worm_region.specs.State.{NetState, IsFramed, net_state, texts_of}
 use Rattle.worm_region.specs.declared.config.Config.{Config}
-use Rattle.worm_region.specs.declared.node.Node.{Node}
+use Rattle.worm_node.specs.declared.node.Node.{Node}
 use Rattle.worm_region.specs.declared.own.Own.{Own}
 use Rattle.worm_split.specs.Exchange.{LinksSwapped, NodesSwapped, way_at}
 use Rattle.worm_split.specs.PartState.{HasConfigOf}

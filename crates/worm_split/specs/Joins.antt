@@ -9,7 +9,7 @@ use Rattle.worm_core.specs.Headline.{NothingFollowsMarks}
 use Rattle.worm_region.specs.Owned.{sole}
 use Rattle.worm_region.specs.State.{NetState, IsFramed, link_at, network_of, node_at, shape}
 use Rattle.worm_wires.specs.Links.{LinkView, blank_link}
-use Rattle.worm_region.specs.declared.node.Node.{Node}
+use Rattle.worm_node.specs.declared.node.Node.{Node}
 use Rattle.worm_split.specs.Ends.{TxView, RxView, CreditTxView, CreditRxView, End, Inner, Leaving, Entering, Line}
 use Rattle.worm_split.specs.PartState.{PartState, IsPart, HasConfigOf, part_network, returned_to, taken_by}
 use Rattle.worm_split.specs.Exchange.{way_at}

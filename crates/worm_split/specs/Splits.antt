@@ -3,7 +3,7 @@ use Rattle.std.specs.Prelude.{◌≡◌, ℕ, ◌*◌, ◌<◌, ◌≤◌, List,
 use Rattle.std.specs.Prelude.{vec_capacity}
 use Rattle.worm_mesh.specs.Address.{node_count}
 use Rattle.worm_mesh.specs.Links.{link_count}
-use Rattle.worm_region.specs.NewNet.{AreFresh}
+use Rattle.worm_node.specs.NewNodes.{AreFresh}
 use Rattle.worm_wires.specs.Links.{empty_link}
 use Rattle.worm_region.specs.Owned.{sole}
 use Rattle.worm_region.specs.Parts.{IsConfigOf}

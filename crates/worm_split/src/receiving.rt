@@ -13,21 +13,26 @@ use crate::exchange::owns;
 use worm_bundles::{CreditRx, FlitRx};
 use worm_core::{Own, PortLinks, Region};
 
-/// Whether the link out of this port awaits a flit: it leads to one of the region's own nodes, and no flit is on it.
-fn awaits_flit(region: &Region, own: Own, node: u8, out: u8) -> bool
+/// The links of this port, where the link out of it awaits a flit: it leads to one of the region's own nodes, and no
+/// flit is on it.
+fn awaiting_flit(region: &Region, own: Own, node: u8, out: u8) -> Option<PortLinks>
     requires own { own ≡ region.now.own }
     requires workers { 0 < own.workers }
-    ensures yes { IsTrue result → AwaitsFlit region.now node out }
-    ensures no { result ≡ false → AwaitsFlit region.now node out → ⊥ }
+    ensures links { IfSome result (λ links. Some links ≡ port_links region.now.mesh node out) }
+    ensures yes { IfSome result (λ links. AwaitsFlit region.now node out) }
+    ensures no { IfNone result (AwaitsFlit region.now node out → ⊥) }
 {
     region.recall();
     let Some(links) = region.links_at(node, out) else {
-        return false;
+        return None;
     };
     if !owns(own, links.beyond) {
-        return false;
+        return None;
     }
-    !region.has_flits(node, out)
+    if region.has_flit_in(links.beyond, links.entered) {
+        return None;
+    }
+    Some(links)
 }
 
 /// Takes the next flit that came and puts it down, where its link, out of this port of another worker's node, has none
@@ -42,11 +47,11 @@ fn receive_flit(region: &mut Region, own: Own, rx: &mut FlitRx, out: u8) -> bool
     let Some(next) = rx.peek() else {
         return false;
     };
-    if !awaits_flit(region, own, next.node, out) {
+    let Some(links) = awaiting_flit(region, own, next.node, out) else {
         return false;
-    }
+    };
     let carried = rx.take();
-    region.arrive(carried.node, out, carried.flit);
+    region.arrive(links.beyond, links.entered, carried.flit);
     true
 }
 
@@ -65,26 +70,22 @@ pub(crate) fn receive_flits(region: &mut Region, rx: &mut FlitRx, out: u8)
     }
 }
 
-/// The links of this port of one of the region's own nodes, where the link out of it awaits a credit: it is there, and
-/// no credit is on its way back over it.
-fn awaiting_credit(region: &Region, own: Own, node: u8, out: u8) -> Option<PortLinks>
+/// Whether the link out of this port awaits a credit: it is that of one of the region's own nodes, and no credit is on
+/// its way back over it.
+fn awaits_credit(region: &Region, own: Own, node: u8, out: u8) -> bool
     requires own { own ≡ region.now.own }
     requires workers { 0 < own.workers }
-    ensures links { IfSome result (λ links. Some links ≡ port_links region.now.mesh node out) }
-    ensures yes { IfSome result (λ links. AwaitsCredit region.now node out) }
-    ensures no { IfNone result (AwaitsCredit region.now node out → ⊥) }
+    ensures yes { IsTrue result → AwaitsCredit region.now node out }
+    ensures no { result ≡ false → AwaitsCredit region.now node out → ⊥ }
 {
     region.recall();
-    let Some(links) = region.links_at(node, out) else {
-        return None;
+    let Some(_links) = region.links_at(node, out) else {
+        return false;
     };
     if !owns(own, node) {
-        return None;
+        return false;
     }
-    if region.has_credits(links.beyond, links.entered) {
-        return None;
-    }
-    Some(links)
+    !region.has_credit_back(node, out)
 }
 
 /// Takes the next credit that came back and puts it down, where its link, out of this port, has none on its way. False
@@ -99,11 +100,11 @@ fn receive_credit(region: &mut Region, own: Own, back: &mut CreditRx, port: u8) 
     let Some(next) = back.peek() else {
         return false;
     };
-    let Some(links) = awaiting_credit(region, own, next.node, port) else {
+    if !awaits_credit(region, own, next.node, port) {
         return false;
-    };
+    }
     let returned = back.take();
-    region.arrive_credit(links.beyond, links.entered, returned.vc);
+    region.arrive_credit(returned.node, port, returned.vc);
     true
 }
 

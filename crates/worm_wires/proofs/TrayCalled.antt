@@ -66,6 +66,13 @@ module _ {A B : Type 0} {kind : Kind A} {other : Kind B} {put : LinkView → Lis
         ∙ (λ t. whole (has (kind.tray (inbox_is call t)).here p) (slice_get (kind.tray (inbox_is call t)).front p)
         (on_link kind.list lists (by t)))
 
+    -- nothing is seen where none comes in
+    pub none_come : (n : ℕ) → n ≡ k → kind.list (state_at now n) ≡ [] → has (kind.tray read).here p ≡ false
+    none_come n same empty =
+        sym (comes_by (has (kind.tray read).here p) (has (kind.tray read).more p) (slice_get (kind.tray read).front p)
+        (kind.list (get_or lists k blank_link)) (get_or lists k blank_link).room way)
+        ∙ ap (λ (l : List A). has_front l) (sym (seen_is n same) ∙ empty)
+
     pub front_seen : (n : ℕ) → n ≡ k → slice_get (kind.list (state_at now n)) 0 ≡ front_of (kind.tray read) p
     front_seen n same =
         ap (λ (l : List A). slice_get l 0) (seen_is n same)

@@ -6,7 +6,7 @@ ghost use Rattle.std.specs.Prelude.{Option, Some, true, drop, is_some, length, o
 ghost use Rattle.worm_mesh.specs.Address.{AreRadices, neighbour_of};
 ghost use Rattle.worm_mesh.specs.Links.{link_count};
 ghost use Rattle.worm_wires.specs.Arrivals.{AreFronts, LinksView, credits_of, credits_to, flits_of};
-ghost use Rattle.worm_wires.specs.Arrivals.{flits_to, has_front, number_into, number_out, state_at, with_state};
+ghost use Rattle.worm_wires.specs.Arrivals.{flits_to, number_into, number_out, state_at, with_state};
 ghost use Rattle.worm_wires.specs.Inbox.{AreFiled, AreSeenAlike, AreSpilled, IsInbox, IsPortSpilled, inbox_at};
 ghost use Rattle.worm_wires.specs.Inbox.{inbox_by, inboxes_by, of_credits, of_flits};
 
@@ -256,26 +256,6 @@ impl Links {
             .copied()
     }
 
-    /// Whether a flit is on the link out of this port.
-    pub fn has_flits(&self, node: u8, port: u8) -> bool
-        requires { IsSome (neighbour_of self.now.mesh node port) }
-        ensures { result ≡ has_front (state_at self.now (number_out self.now node port)).flits }
-    {
-        let links = self.wiring.links_beyond(node, port);
-        let beyond = &self.arrivals[usize::from(links.beyond)];
-        beyond.flits.contains(links.entered)
-    }
-
-    /// Whether a credit is on its way back over the link into this port.
-    pub fn has_credits(&self, node: u8, port: u8) -> bool
-        requires { IsSome (neighbour_of self.now.mesh node port) }
-        ensures { result ≡ has_front (state_at self.now (number_into self.now node port)).credits }
-    {
-        let links = self.wiring.links_beyond(node, port);
-        let beyond = &self.arrivals[usize::from(links.beyond)];
-        beyond.credits.contains(links.entered)
-    }
-
     /// How many flits are on the link out of this port.
     pub fn count(&self, node: u8, port: u8) -> usize
         requires { IsSome (neighbour_of self.now.mesh node port) }
@@ -360,6 +340,23 @@ impl Links {
         list.push(flit);
     }
 
+    /// Puts the flit at the end of the link into this port, on which there is none: what comes from another worker's
+    /// node is put down where it is looked for, without a look at where it comes from.
+    pub fn bring_flit(&mut self, node: u8, port: u8, flit: Flit)
+        requires linked { IsSome (neighbour_of self.old.mesh node port) }
+        requires empty { (state_at self.old (number_into self.old node port)).flits ≡ [] }
+        requires room { length (state_at self.old (number_into self.old node port)).flits
+            < (state_at self.old (number_into self.old node port)).room }
+        ensures { self.new ≡ with_state self.old (number_into self.old node port)
+            (record (state_at self.old (number_into self.old node port))
+            { flits = (state_at self.old (number_into self.old node port)).flits ++ flit ∷ [] }) }
+    {
+        let at = usize::from(node);
+        let here = &mut self.arrivals[at].flits;
+        let fronts = &mut self.fronts[at];
+        fronts.flits.put(here, port, flit);
+    }
+
     /// Drops the front credit of the link out of this port.
     pub fn pop_credit(&mut self, node: u8, port: u8)
         requires { IsSome (neighbour_of self.old.mesh node port) }
@@ -414,5 +411,21 @@ impl Links {
         let list = &mut self.lists[usize::from(number)];
         fronts.spill_credits(entered, list);
         list.push_credit(vc);
+    }
+
+    /// Puts a credit of the channel at the end of the credits of the link out of this port, of which there is none.
+    pub fn bring_credit(&mut self, node: u8, port: u8, vc: u8)
+        requires linked { IsSome (neighbour_of self.old.mesh node port) }
+        requires empty { (state_at self.old (number_out self.old node port)).credits ≡ [] }
+        requires room { length (state_at self.old (number_out self.old node port)).credits
+            < (state_at self.old (number_out self.old node port)).room }
+        ensures { self.new ≡ with_state self.old (number_out self.old node port)
+            (record (state_at self.old (number_out self.old node port))
+            { credits = (state_at self.old (number_out self.old node port)).credits ++ vc ∷ [] }) }
+    {
+        let at = usize::from(node);
+        let here = &mut self.arrivals[at].credits;
+        let fronts = &mut self.fronts[at];
+        fronts.credits.put(here, port, vc);
     }
 }

@@ -4,7 +4,7 @@ ghost use Rattle.std.specs.Prelude.{ℕ, ◌≡◌, ◌<◌, IsTrue, false, leng
 ghost use Rattle.worm_mesh.specs.Address.{node_count};
 ghost use Rattle.worm_router.specs.Router.{terminal};
 ghost use Rattle.worm_term.specs.Source.{front_of};
-ghost use Rattle.worm_region.specs.Moves.{can_enter};
+ghost use Rattle.worm_node.specs.Node.{can_enter};
 ghost use Rattle.worm_region.specs.State.{router_at, source_at};
 ghost use Rattle.worm_region.specs.Workable.{IsWorkable};
 ghost use Rattle.worm_region.specs.Resting.{IsResting, nth_node};

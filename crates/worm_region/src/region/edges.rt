@@ -3,7 +3,7 @@
 
 ghost use Rattle.std.specs.Prelude.{◌≡◌, ◌<◌, ◌↔◌, [], false, IfSome, IsSome, Some, sum};
 ghost use Rattle.worm_theory.specs.Steps.{IsThere, Step as Event};
-ghost use Rattle.worm_region.specs.Edges.{Arrives, ComesBack, LetsGive, LetsOut};
+ghost use Rattle.worm_region.specs.Edges.{ArrivesBy, ComesBackBy, LetsGive, LetsOut};
 ghost use Rattle.worm_region.specs.Moves.{link_into, link_out};
 ghost use Rattle.worm_region.specs.State.{link_at, router_at, shape};
 ghost use Rattle.worm_region.specs.Turns.{OthersMaySend};
@@ -68,46 +68,41 @@ impl Region {
         self.fabric.router_mut(node).gave(port, vc);
     }
 
-    /// Whether a flit is on the link out of this port. One that comes from another worker's node is taken off its
-    /// queue where none is.
-    pub fn has_flits(&self, node: u8, port: u8) -> bool
+    /// Whether a flit comes in by this port. One from another worker's node is taken off its queue where none does.
+    pub fn has_flit_in(&self, node: u8, port: u8) -> bool
         requires { IsSome (neighbour_of self.now.mesh node port) }
-        ensures { (result ≡ false) ↔ ((link_at self.now (link_out self.now node port)).flits ≡ []) }
+        ensures { (result ≡ false) ↔ ((link_at self.now (link_into self.now node port)).flits ≡ []) }
     {
-        self.fabric.wires().has_flits(node, port)
+        self.fabric.wires().flits_in(node).contains(port)
     }
 
-    /// Whether a credit is on its way back over the link into this port.
-    pub fn has_credits(&self, node: u8, port: u8) -> bool
-        requires node { node < node_count self.now.mesh }
-        requires linked { IsSome (neighbour_of self.now.mesh node port) }
-        ensures { (result ≡ false) ↔ ((link_at self.now (link_into self.now node port)).credits ≡ []) }
+    /// Whether a credit comes back over the link out of this port.
+    pub fn has_credit_back(&self, node: u8, port: u8) -> bool
+        requires { IsSome (neighbour_of self.now.mesh node port) }
+        ensures { (result ≡ false) ↔ ((link_at self.now (link_out self.now node port)).credits ≡ []) }
     {
-        self.fabric.wires().has_credits(node, port)
+        self.fabric.wires().credits_in(node).contains(port)
     }
 
-    /// The flit comes onto the link out of this port of another worker's node, on which there is none.
+    /// The flit comes in by this port, over a link from another worker's node on which there is none.
     pub fn arrive(&mut self, node: u8, port: u8, flit: Flit)
-        requires elsewhere { owned self.old node ≡ false }
-        requires linked { IsSome (neighbour_of self.old.mesh node port) }
-        requires empty { (link_at self.old (link_out self.old node port)).flits ≡ [] }
+        requires crosses { EndsElsewhere (shape self.old) (owned self.old) node port }
+        requires empty { (link_at self.old (link_into self.old node port)).flits ≡ [] }
         requires channel { flit.vc < sum self.old.channels }
         requires goal { flit.lane.dst < node_count self.old.mesh }
-        ensures { Arrives self.old node port flit self.new }
+        ensures { ArrivesBy self.old node port flit self.new }
     {
-        self.fabric.links.push(node, port, flit);
+        self.fabric.links.bring_flit(node, port, flit);
     }
 
-    /// The credit of the channel, which this port of another worker's node gave, comes onto its way back over the link
-    /// into the port, on which there is none.
+    /// The credit of the channel, which another worker's node gave, comes back over the link out of this port, over
+    /// which none does.
     pub fn arrive_credit(&mut self, node: u8, port: u8, vc: u8)
-        requires elsewhere { owned self.old node ≡ false }
-        requires node { node < node_count self.old.mesh }
-        requires linked { IsSome (neighbour_of self.old.mesh node port) }
-        requires empty { (link_at self.old (link_into self.old node port)).credits ≡ [] }
+        requires crosses { EndsElsewhere (shape self.old) (owned self.old) node port }
+        requires empty { (link_at self.old (link_out self.old node port)).credits ≡ [] }
         requires channel { vc < sum self.old.channels }
-        ensures { ComesBack self.old node port vc self.new }
+        ensures { ComesBackBy self.old node port vc self.new }
     {
-        self.fabric.links.push_credit(node, port, vc);
+        self.fabric.links.bring_credit(node, port, vc);
     }
 }

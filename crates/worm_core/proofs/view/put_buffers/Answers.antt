@@ -4,7 +4,7 @@ use Rattle.std.specs.List.{range_with_len}
 use Rattle.worm_flit.specs.Stamps.{of_lane}
 use Rattle.worm_router.specs.Router.{IsPlace, input_at}
 use Rattle.worm_core.specs.LaneView.{at_place, buffer_held}
-use Rattle.worm_region.specs.declared.node.Node.{Node}
+use Rattle.worm_node.specs.declared.node.Node.{Node}
 use Rattle.worm_core.specs.declared.view.Place.TheVariants.{Buffer}
 use Rattle.worm_core.proofs.ReadPlaces.{framed_place, buffer_read}
 use Rattle.worm_core.proofs.ViewLists.{added, channel-more, class_within}

@@ -5,7 +5,7 @@ use Rattle.worm_mesh.proofs.Digits.{AreLarge-from_radices}
 use Rattle.worm_route.specs.Places.{Source, Buffer}
 use Rattle.worm_term.specs.Source.{queue_at}
 use Rattle.worm_core.specs.LaneView.{at_place, held_at, places_past}
-use Rattle.worm_region.specs.declared.node.Node.{Node}
+use Rattle.worm_node.specs.declared.node.Node.{Node}
 use Rattle.worm_core.specs.declared.view.Place.TheVariants.{Source as InSource}
 use Rattle.worm_core.proofs.LanePlaces.{places_split, past_held}
 use Rattle.worm_core.proofs.view.underway.Goals as goal

@@ -4,8 +4,8 @@ use Rattle.worm_term.specs.Source.{front_of}
 use Rattle.worm_theory.proofs.Places.{number_cases}
 use Rattle.worm_region.specs.Shape.{net_shape}
 use Rattle.worm_region.specs.State.{NetState}
-use Rattle.worm_region.specs.Moves.{can_enter}
-use Rattle.worm_region.specs.declared.node.Node.{Node}
+use Rattle.worm_node.specs.Node.{can_enter}
+use Rattle.worm_node.specs.declared.node.Node.{Node}
 use Rattle.worm_region.proofs.FeedAgrees.{feed_fits}
 use Rattle.worm_region.proofs.fabric.Fabric.feeds_nothing.Goals as goal
 

@@ -1,7 +1,7 @@
 use Rattle.std.proofs.Common.{ℕ, ◌≡◌, ◌<◌, false}
 use Rattle.worm_router.specs.Router.{terminal}
 use Rattle.worm_term.specs.Source.{front_of}
-use Rattle.worm_region.specs.Moves.{can_enter}
+use Rattle.worm_node.specs.Node.{can_enter}
 use Rattle.worm_region.specs.State.{router_at, source_at}
 use Rattle.worm_region.proofs.fabric.Fabric.feeds_nothing.Given as goal
 

@@ -2,7 +2,7 @@ use Rattle.std.proofs.Common.{sym, subst}
 use Rattle.worm_router.specs.Rest.{IsAtRest}
 use Rattle.worm_region.specs.State.{NetState}
 use Rattle.worm_region.specs.Resting.{IsResting, nth_node}
-use Rattle.worm_region.specs.declared.node.Node.{Node}
+use Rattle.worm_node.specs.declared.node.Node.{Node}
 use Rattle.worm_region.proofs.Resting.{found_resting}
 use Rattle.worm_region.proofs.fabric.Fabric.is_resting.Goals as goal
 

@@ -1,6 +1,7 @@
 use Rattle.std.proofs.Common.{ℕ, List, ap, arith, length, subst, sym, ◌∙◌}
 use Rattle.worm_region.specs.State.{IsFramed, NetState}
-use Rattle.worm_region.specs.UnderWay.{HasClasses, HaveClasses}
+use Rattle.worm_node.specs.Node.{HasClasses}
+use Rattle.worm_region.specs.UnderWay.{HaveClasses}
 use Rattle.worm_region.proofs.FrameKept.{is_nth}
 use Rattle.worm_region.proofs.region.Region.count_under_way.Goals as goal
 

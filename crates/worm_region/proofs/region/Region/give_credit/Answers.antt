@@ -6,7 +6,7 @@ use Rattle.worm_region.specs.State.{NetState, router_at, shape}
 use Rattle.worm_region.specs.Replies.{Replies}
 use Rattle.worm_region.specs.Answers.{moved_of}
 use Rattle.worm_region.proofs.GiveAgrees.{gave_none}
-use Rattle.worm_region.specs.declared.node.Node.{Node}
+use Rattle.worm_node.specs.declared.node.Node.{Node}
 use Rattle.worm_region.proofs.LinkedPorts.{port_there}
 use Rattle.worm_region.proofs.AllOwned.{all_within}
 use Rattle.worm_region.proofs.region.Region.give_credit.Goals as goal

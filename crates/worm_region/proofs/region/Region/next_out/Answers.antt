@@ -1,28 +1,27 @@
-use Rattle.std.proofs.Common.{◌∙◌, IsSome, ap, subst, sym}
+use Rattle.std.proofs.Common.{◌∙◌, IsSome, ap}
 use Rattle.worm_router.specs.Router.{IsPlace, leaving}
-use Rattle.worm_region.specs.State.{IsNetPlace, NetState, router_at}
-use Rattle.worm_region.specs.declared.node.Node.{Node}
-use Rattle.worm_region.proofs.PlacesThere.{place_inside}
+use Rattle.worm_region.specs.State.{NetState, router_at}
+use Rattle.worm_node.specs.declared.node.Node.{Node}
+use Rattle.worm_region.proofs.PlacesThere.{asked_inside, place_inside}
 use Rattle.worm_region.proofs.region.Region.next_out.Goals as goal
-use Rattle.worm_region.proofs.region.Region.next_out.Goals.{After-self}
-
-place : (c : goal.After-self) → IsNetPlace c.self.inside.fabric c.args.node c.args.port c.args.vc
-place c =
-    place_inside _ c.args.self.now c.args.node c.args.port c.args.vc c.self.view_is c.self.invariant.framed
-    c.requires.there
+use Rattle.worm_region.proofs.region.Region.next_out.Goals.{After-node}
 
 pub node-requires : goal.node-requires
-node-requires c = (place (goal.at.node-requires c).After-self).node_in
+node-requires c =
+    (place_inside _ c.args.self.now c.args.node c.args.port c.args.vc c.self.view_is c.self.invariant.framed
+    c.requires.there).node_in
+
+asked : (c : After-node) → IsPlace c.node.result.now.router c.args.port c.args.vc
+    × IsSome (leaving c.node.result.now.router c.args.port c.args.vc)
+asked c =
+    asked_inside _ c.args.self.now c.args.node c.args.port c.args.vc _ c.self.view_is c.self.invariant.framed
+    c.requires.there c.requires.ready c.node.ensures
 
 pub next_out-requires-clause-place : goal.next_out-requires-clause-place
-next_out-requires-clause-place c = subst (λ (n : Node). IsPlace n.router c.args.port c.args.vc) (sym c.node.ensures)
-    (place (goal.at.next_out-requires-clause-place c).After-self).place
+next_out-requires-clause-place c = (asked (goal.at.next_out-requires-clause-place c).After-node).0
 
 pub next_out-requires-clause-ready : goal.next_out-requires-clause-ready
-next_out-requires-clause-ready c =
-    subst (λ (n : Node). IsSome (leaving n.router c.args.port c.args.vc)) (sym c.node.ensures)
-    (subst (λ (s : NetState). IsSome (leaving (router_at s c.args.node) c.args.port c.args.vc)) (sym c.self.view_is)
-    c.requires.ready)
+next_out-requires-clause-ready c = (asked (goal.at.next_out-requires-clause-ready c).After-node).1
 
 pub returns : goal.returns
 returns c =

@@ -1,7 +1,7 @@
 use Rattle.std.proofs.Common.{subst}
 use Rattle.worm_router.specs.Busy.{IsSetOf, owes}
 use Rattle.worm_region.specs.State.{NetState, router_at}
-use Rattle.worm_region.specs.declared.node.Node.{Node}
+use Rattle.worm_node.specs.declared.node.Node.{Node}
 use Rattle.worm_region.proofs.region.Region.owing.Goals as goal
 
 pub returns-clause-owing : goal.returns-clause-owing

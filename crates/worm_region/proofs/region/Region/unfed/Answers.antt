@@ -1,7 +1,8 @@
 use Rattle.std.proofs.Common.{◌≡◌, length, subst, sym}
 use Rattle.worm_region.specs.State.{NetState}
-use Rattle.worm_region.specs.Moves.{AreToFeed, Covers, NoFeed}
-use Rattle.worm_region.specs.declared.node.Node.{Node}
+use Rattle.worm_node.specs.Node.{AreToFeed}
+use Rattle.worm_region.specs.Moves.{Covers, NoFeed}
+use Rattle.worm_node.specs.declared.node.Node.{Node}
 use Rattle.worm_region.proofs.ClassesCovered.{same_channels, unfed_cover}
 use Rattle.worm_region.proofs.region.Region.unfed.Goals as goal
 

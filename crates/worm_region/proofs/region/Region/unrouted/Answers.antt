@@ -2,7 +2,7 @@ use Rattle.std.proofs.Common.{subst}
 use Rattle.worm_router.specs.Busy.{IsSetOf, lacks_route}
 use Rattle.worm_region.specs.State.{NetState, router_at}
 use Rattle.worm_region.specs.Turns.{AreThere}
-use Rattle.worm_region.specs.declared.node.Node.{Node}
+use Rattle.worm_node.specs.declared.node.Node.{Node}
 use Rattle.worm_region.proofs.PlacesThere.{unrouted_there}
 use Rattle.worm_region.proofs.region.Region.unrouted.Goals as goal
 use Rattle.worm_region.proofs.region.Region.unrouted.Goals.{After-unrouted}

@@ -1,0 +1,4 @@
+pub mod MadeGroups
+pub mod Pushed
+pub mod Sent
+pub mod ToFeed

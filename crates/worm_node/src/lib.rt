@@ -1,0 +1,9 @@
+//! A node by itself: its router and the two ends of its lanes, and what passes between them; and the nodes and links of
+//! a new network (Dally and Towles, chapters 5, 13 and 16).
+#![tactic(auto)]
+
+mod fresh;
+mod node;
+
+pub use fresh::{fresh_links, make_nodes};
+pub use node::{Expected, Node};
