@@ -12,11 +12,11 @@ use Rattle.worm_term.specs.declared.fault.OfferFault.{OfferFault}
 use Rattle.worm_term.specs.Source.{front_of}
 use Rattle.worm_theory.specs.Steps.{Step, Feed, Route, Take, GiveCredit, TakeCredit}
 use Rattle.worm_region.specs.Answers.{refusal_of}
-use Rattle.worm_node.specs.Node.{fed_node}
 use Rattle.worm_region.specs.Moves.{after_take, after_getting, done_step, front_credit, front_into, link_into}
+use Rattle.worm_node.specs.Node.{fed_node}
 use Rattle.worm_region.specs.Replies.{Attempts, Replies}
-use Rattle.worm_node.specs.NewNodes.{fresh_node}
 use Rattle.worm_region.specs.State.{NetState, node_at, router_at, sink_at, source_at, with_node}
+use Rattle.worm_node.specs.NewNodes.{fresh_node}
 use Rattle.worm_wires.specs.Links.{LinkView}
 use Rattle.worm_region.specs.Turns.{Allocates, ComesInBy, Each, FeedsClassesBy, Passage, RoutesChannelsBy, RoutesPortBy}
 use Rattle.worm_region.specs.Turns.{TakesCreditsBy, TakesFlitsBy, all_channels, all_classes, all_ports, fault_of}

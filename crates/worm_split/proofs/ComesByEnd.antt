@@ -1,38 +1,33 @@
--- What comes by a part's end: a flit of a link that enters its nodes, a credit of one that leaves them.
-use Rattle.std.proofs.Common.{◌≡◌, ℕ, false, ◌<◌, List, [], ◌∷◌, ◌++◌, sum, Some}
+-- What comes by a part's end: a credit of a link that leaves its nodes, a flit of one that enters them.
+use Rattle.std.proofs.Common.{◌≡◌, ℕ, ◌<◌, false, List, [], ◌∷◌, ◌++◌, sum, get_or, Some}
 use Rattle.std.proofs.Common.{refl, sym, ap, subst, ◌∙◌}
+use Rattle.std.specs.Prelude.{slice_set}
+use Rattle.worm_flit.specs.declared.Flit.{Flit}
 use Rattle.worm_flit.specs.Stamps.{on_channel}
 use Rattle.worm_flit.specs.Worms.{Continues}
-use Rattle.worm_links.specs.declared.LinkCfg.{LinkCfg}
-use Rattle.worm_links.specs.Links.{MayCross}
 use Rattle.worm_mesh.specs.Address.{neighbour_of, node_count, opposite_of}
-use Rattle.worm_mesh.proofs.Neighbours.{opposite_twice}
-use Rattle.worm_bundles.specs.declared.Carried.{Carried}
-use Rattle.worm_bundles.specs.declared.Returned.{Returned}
-use Rattle.worm_bundles.specs.Bundles.{TxView as FlitsOut, CreditTxView as CreditsOut, link_of, on_node, past_at}
-use Rattle.worm_parts.specs.Openings.{past_of}
-use Rattle.worm_theory.specs.Network.{put2}
+use Rattle.worm_mesh.specs.Links.{links_before}
+use Rattle.worm_links.specs.Links.{TxView, RxView, CreditTxView, CreditRxView, MayCross}
 use Rattle.worm_region.specs.Shape.{net_shape}
-use Rattle.worm_region.specs.State.{NetState, IsFramed, IsSameConfig, shape, network_of, with_link}
-use Rattle.worm_region.specs.Edges.{Arrives, ComesBack}
-use Rattle.worm_wires.specs.Links.{LinkView}
-use Rattle.worm_split.specs.Crossings.{AwaitsCredit, AwaitsFlit, CreditTaken, FlitTaken}
-use Rattle.worm_split.specs.Ends.{End, Leaving, Entering}
-use Rattle.worm_split.specs.PartState.{PartState, IsPart, IsSamePart, end_of, owns}
-use Rattle.worm_split.specs.PartTurns.{CreditComes, FlitComes}
-use Rattle.worm_split.specs.Sides.{CreditsIn, FlitsIn, From, InletView, Inside, IsSameInlet, IsSameOutlet, OutletView}
-use Rattle.worm_split.specs.Sides.{Over, Within, back_at, entering_at, give_at, inlet_at, is_from, is_over, leaving_at}
-use Rattle.worm_split.specs.Sides.{outlet_at, put_inlet, put_outlet, rx_at, tx_at}
-use Rattle.worm_split.proofs.EndFacts.{IsEnteringEnd, IsLeavingEnd}
+use Rattle.worm_region.specs.State.{NetState, IsFramed, IsSameConfig, shape, network_of, link_at}
+use Rattle.worm_region.specs.Edges.{Arrives, ArrivesBy, ComesBack, ComesBackBy, after_arriving, after_credit_back}
+use Rattle.worm_region.specs.Workable.{owned}
+use Rattle.worm_region.specs.Moves.{link_into, link_out}
+use Rattle.worm_wires.specs.declared.wiring.PortLinks.{PortLinks}
+use Rattle.worm_split.specs.declared.ends.End.{End}
+use Rattle.worm_split.specs.declared.ends.End.TheVariants.{Leaving, Entering}
+use Rattle.worm_split.specs.Ends.{CreditPopped, FlitPopped}
+use Rattle.worm_split.specs.PartState.{PartState, IsPart, IsSamePart, end_of}
+use Rattle.worm_split.specs.PartTurns.{CreditComes, FlitComes, with_end}
 use Rattle.worm_split.proofs.PartFacts.{is_leaving, is_entering}
 use Rattle.worm_split.proofs.PartMoves.{credit_comes, flit_comes}
-use Rattle.worm_split.proofs.PortKnown.{back_of}
-use Rattle.worm_split.proofs.SharedPorts.{comes_elsewhere, linked_elsewhere}
-use Rattle.worm_split.proofs.SidesPut.{PutsEnd, credits_here, credits_other, entering_now, from_bound, leaving_now}
-use Rattle.worm_split.proofs.SidesPut.{on_here, on_other, over_bound, puts_inlet, puts_outlet}
+use Rattle.worm_split.proofs.EndsKnown.{HasLinks, credit_popped, flit_popped, linked, back, out_is}
+use Rattle.worm_split.proofs.EndsKnown.{into_is, out_looked_up, into_looked_up}
+use Rattle.worm_split.proofs.EndsKnown.{out_credits, into_flits, out_here, into_here, of_beyond}
 
 -- another list of one link leaves the configuration
-same_when_linked : (s new : NetState) (k : ℕ) (l : LinkView) → new ≡ with_link s k l → IsSameConfig s new
+same_when_linked : (s new : NetState) (k : ℕ) (l : Rattle.worm_wires.specs.Links.LinkView)
+    → new ≡ Rattle.worm_region.specs.State.with_link s k l → IsSameConfig s new
 same_when_linked s new k l e = record {
   mesh = ap (λ (n : NetState). n.mesh) e;
   channels = ap (λ (n : NetState). n.channels) e;
@@ -41,201 +36,170 @@ same_when_linked s new k l e = record {
   own = ap (λ (n : NetState). n.own) e;
 }
 
--- by which inlet a flit was taken, and by which outlet a credit
-pub record IsTaken (into : InletView) (c : Carried) (new : InletView) : Type 0 where
-  pub rx : FlitsIn
-  pub give : CreditsOut
-  pub is : into ≡ From rx give
-  pub new_is : new ≡ From (record rx { taken = rx.taken ++ c ∷ [] }) give
-  pub continues : Continues (on_channel c.flit.vc (past_at rx.pasts c.node ++ on_node c.node rx.taken)) c.flit
-  pub crossing : MayCross (link_of rx.bundle c.node) c.flit
+-- A credit came off the line: what is asked of where it goes.
+pub record CreditInHand (p : PartState) (x o c : ℕ) (links : PortLinks) (n : ℕ) (new : End) : Type 0 where
+  pub has : HasLinks p x o links
+  pub number : n ≡ links.out
+  pub tx : TxView
+  pub line : CreditRxView
+  pub end_is : end_of p x o ≡ Leaving tx line
+  pub new_is : new ≡ Leaving tx (record line { taken = line.taken ++ c ∷ [] })
+  pub channel : c < sum p.net.channels
+  pub elsewhere : owned p.net links.beyond ≡ false
+  pub none_waits : (network_of p.net).credit_list x o ≡ []
 
-pub flit_taken_by : (into new : InletView) (c : Carried) → FlitTaken into c new → IsTaken into c new
-flit_taken_by Inside new c h = absurd h
-flit_taken_by (From rx give) new c h =
-    record { rx = rx; give = give; is = refl; new_is = h.0; continues = h.1; crossing = h.2 }
+pub record FlitInHand (p : PartState) (x o : ℕ) (f : Flit) (links : PortLinks) (n : ℕ) (new : End) : Type 0 where
+  pub has : HasLinks p x o links
+  pub number : n ≡ links.into
+  pub rx : RxView
+  pub line : CreditTxView
+  pub end_is : end_of p links.beyond (opposite_of o) ≡ Entering rx line
+  pub new_is : new ≡ Entering (record rx { taken = rx.taken ++ f ∷ [] }) line
+  pub continues : Continues (on_channel f.vc (rx.past ++ rx.taken)) f
+  pub crossing : MayCross rx.link f
+  pub channel : f.vc < sum p.net.channels
+  pub goal : f.lane.dst < node_count p.net.mesh
+  pub elsewhere : owned p.net links.beyond ≡ false
+  pub none_waits : (network_of p.net).out links.beyond (opposite_of o) ≡ []
 
-pub record IsReturned (out : OutletView) (r : Returned) (new : OutletView) : Type 0 where
-  pub tx : FlitsOut
-  pub back : CreditsIn
-  pub is : out ≡ Over tx back
-  pub new_is : new ≡ Over tx (record back { taken = back.taken ++ r ∷ [] })
-  pub channel : r.vc < back.bundle.vcs
-
-pub credit_taken_by : (out new : OutletView) (r : Returned) → CreditTaken out r new → IsReturned out r new
-credit_taken_by Within new r h = absurd h
-credit_taken_by (Over tx back) new r h = record { tx = tx; back = back; is = refl; new_is = h.0; channel = h.1 }
-
--- A flit came off the bundle by port q: what is asked of where it goes.
-module _ (p : PartState) (part : IsPart p) (framed : IsFramed p.net) (q : ℕ) (c : Carried) (new : InletView)
-    (awaited : AwaitsFlit p.net c.node (opposite_of q)) (taken : FlitTaken (inlet_at p.side q) c new) where
-  abbrev y : ℕ
-  y = c.node
-
-  abbrev o : ℕ
-  o = opposite_of q
-
-  abbrev by : IsTaken (inlet_at p.side q) c new
-  by = flit_taken_by (inlet_at p.side q) new c taken
-
-  abbrev end_now : End
-  end_now = Entering (rx_at y by.rx) (give_at y by.give)
-
-  abbrev end_new : End
-  end_new = Entering (record (rx_at y by.rx) { taken = on_node y by.rx.taken ++ c.flit ∷ [] }) (give_at y by.give)
-
-  into_port : neighbour_of p.net.mesh awaited.beyond q ≡ Some y
-  into_port = subst (λ (r : ℕ). neighbour_of p.net.mesh awaited.beyond r ≡ Some y) (opposite_twice q)
-      (back_of p.net y o awaited.beyond framed awaited.linked)
-
-  pub elsewhere : owns p y ≡ false
-  elsewhere = comes_elsewhere p part awaited.beyond q y into_port awaited.own (ap is_from by.is)
-
-  end_is : end_of p y o ≡ end_now
-  end_is = entering_now p y o awaited.beyond awaited.linked elsewhere awaited.own p.side
-      ∙ (ap (λ (r : ℕ). entering_at y (inlet_at p.side r)) (opposite_twice q)
-      ∙ ap (λ (i : InletView). entering_at y i) by.is)
-
-  linked_then : (shape p.opening).neighbour y o ≡ Some awaited.beyond
+module _ {p : PartState} {x o : ℕ} {links : PortLinks} (has : HasLinks p x o links) where
+  pub linked_then : (shape p.opening).neighbour x o ≡ Some links.beyond
   unfolding net_shape
-  linked_then = rw (← part.config.mesh) awaited.linked
+  linked_then = rw (← has.part.config.mesh) (linked has)
 
-  facts : IsEnteringEnd p.opening.mesh p.opening.channels y o
-      (past_of (shape p.opening) (network_of p.opening) y o awaited.beyond) (owns p y) (owns p awaited.beyond)
-      (rx_at y by.rx) (give_at y by.give)
-  facts = is_entering p part y o awaited.beyond (rx_at y by.rx) (give_at y by.give) linked_then end_is
-
-  pub flit_channel : c.flit.vc < sum p.net.channels
-  flit_channel =
-      let vcs : by.rx.bundle.vcs ≡ sum p.net.channels =
-      facts.link.same_channels ∙ ap (λ (counts : List ℕ). sum counts) (sym part.config.channels) in
-      subst (λ (n : ℕ). c.flit.vc < n) vcs by.crossing.channel
-
-  pub flit_goal : c.flit.lane.dst < node_count p.net.mesh
-  flit_goal =
-      let mesh : by.rx.bundle.mesh ≡ p.net.mesh = facts.link.same_mesh ∙ sym part.config.mesh in
-      subst (λ (ks : List ℕ). c.flit.lane.dst < node_count ks) mesh by.crossing.destination
-
-  puts : PutsEnd p y o end_new (put_inlet p.side q new)
-  puts =
-      let f = c.flit in
-      let more = record by.rx { taken = by.rx.taken ++ c ∷ [] } in
-      let bound = from_bound p.side q (ap is_from by.is) in
-      let same : IsSameInlet (inlet_at p.side q) new =
-      subst (λ (i : InletView). IsSameInlet i new) (sym by.is)
-      (subst (λ (i : InletView). IsSameInlet (From by.rx by.give) i) (sym by.new_is) (refl, refl, refl, refl, refl)) in
-      let others : (z : ℕ) → (z ≡ y → ⊥) → entering_at z new ≡ entering_at z (inlet_at p.side q)
-      = λ z apart. ap (λ (i : InletView). entering_at z i) by.new_is
-      ∙ ((λ t. Entering (record (rx_at z by.rx) { taken = on_other y z by.rx.taken f apart t }) (give_at z by.give))
-      ∙ ap (λ (i : InletView). entering_at z i) (sym by.is)) in
-      let here : entering_at y new ≡ end_new
-      = ap (λ (i : InletView). entering_at y i) by.new_is
-      ∙ (λ t. Entering (record (rx_at y by.rx) { taken = on_here y by.rx.taken f t }) (give_at y by.give)) in
-      subst (λ (e : End). PutsEnd p y o e (put_inlet p.side q new)) here
-      (puts_inlet p y o awaited.beyond q new awaited.linked elsewhere awaited.own (opposite_twice q) bound same
-      others)
-
-  -- it is put down, and the part stays a part
-  pub flit_put : (net : NetState) → Arrives p.net y o c.flit net
-      → IsPart (record p { net = net; side = put_inlet p.side q new })
-      × FlitComes y q p (record p { net = net; side = put_inlet p.side q new })
-      × IsSamePart p (record p { net = net; side = put_inlet p.side q new })
-  flit_put net comes =
-      let config = same_when_linked p.net net _ _ comes.exact in (
-        flit_comes p part y o awaited.beyond linked_then net config (put_inlet p.side q new) (rx_at y by.rx)
-            (give_at y by.give) c.flit end_is by.continues by.crossing comes.after_it puts,
-        record {
-          flit = c.flit;
-          inlet = new;
-          awaited = awaited;
-          taken = taken;
-          exact = λ t. record p { net = comes.exact t; side = put_inlet p.side q new };
-        },
-        record { config = config; opening = refl; sides = refl },
-      )
-
--- A credit came off the bundle by port o: what is asked of where it goes.
-module _ (p : PartState) (part : IsPart p) (o : ℕ) (r : Returned) (new : OutletView)
-    (awaited : AwaitsCredit p.net r.node o) (taken : CreditTaken (outlet_at p.side o) r new) where
-  abbrev x : ℕ
-  x = r.node
-
-  abbrev came : IsReturned (outlet_at p.side o) r new
-  came = credit_taken_by (outlet_at p.side o) new r taken
-
-  abbrev out_now : End
-  out_now = Leaving (tx_at x came.tx) (back_at x came.back)
-
-  abbrev out_new : End
-  out_new = Leaving (tx_at x came.tx) (record (back_at x came.back) {
-    taken = Rattle.worm_split.specs.Sides.credits_on x came.back.taken ++ r.vc ∷ [];
-  })
-
-  pub gave_elsewhere : owns p awaited.beyond ≡ false
-  gave_elsewhere = linked_elsewhere p part x o awaited.beyond awaited.linked awaited.own (ap is_over came.is)
-
-  out_is : end_of p x o ≡ out_now
-  out_is = leaving_now p x o awaited.beyond awaited.linked awaited.own gave_elsewhere p.side
-      ∙ ap (λ (i : OutletView). leaving_at x i) came.is
-
-  out_linked : (shape p.opening).neighbour x o ≡ Some awaited.beyond
+  pub back_then : (shape p.opening).neighbour links.beyond (opposite_of o) ≡ Some x
   unfolding net_shape
-  out_linked = rw (← part.config.mesh) awaited.linked
+  back_then = rw (← has.part.config.mesh) (back has)
 
-  out_facts : IsLeavingEnd p.opening.mesh p.opening.channels x o
-      (past_of (shape p.opening) (network_of p.opening) x o awaited.beyond) (owns p x) (owns p awaited.beyond)
-      (tx_at x came.tx) (back_at x came.back)
-  out_facts = is_leaving p part x o awaited.beyond (tx_at x came.tx) (back_at x came.back) out_linked out_is
+  -- the end is looked up by its number
+  pub credit_taken : {c n : ℕ} {new : End} (end : End) → n ≡ links.out → end ≡ get_or p.ends n end
+      → (link_at p.net (link_out p.net x o)).credits ≡ [] → CreditPopped end c new
+      → CreditInHand p x o c links n new
+  credit_taken {c} {n} {new} end number looked empty popped =
+      let by = credit_popped end new c popped in
+      let end_is : end_of p x o ≡ Leaving by.0 by.1 = sym (out_looked_up has n end number looked) ∙ by.2 in
+      let is = is_leaving p has.part x o links.beyond by.0 by.1 linked_then end_is in
+      let channels : by.1.link.channels ≡ sum p.net.channels =
+      ap (λ (l : Rattle.worm_links.specs.declared.LinkCfg.LinkCfg). l.channels) is.line
+      ∙ (is.link.same_channels ∙ ap sum (sym has.part.config.channels)) in
+      let channel : c < sum p.net.channels = subst (λ (n : ℕ). c < n) channels by.4 in
+      let list : (link_at p.net links.out).credits ≡ [] =
+      ap (λ (k : ℕ). (link_at p.net k).credits) (sym (out_here has)) ∙ empty in
+      record {
+        has = has;
+        number = number;
+        tx = by.0;
+        line = by.1;
+        end_is = end_is;
+        new_is = by.3;
+        channel = channel;
+        elsewhere = is.far_elsewhere;
+        none_waits = out_credits has ∙ list;
+      }
 
-  pub credit_channel : r.vc < sum p.net.channels
-  credit_channel =
-      let vcs : came.back.bundle.vcs ≡ sum p.net.channels =
-      ap (λ (l : LinkCfg). l.vcs) out_facts.line
-      ∙ (out_facts.link.same_channels ∙ ap (λ (counts : List ℕ). sum counts) (sym part.config.channels)) in
-      subst (λ (n : ℕ). r.vc < n) vcs came.channel
+  pub flit_off : {f : Flit} {n : ℕ} {new : End} (end : End) → n ≡ links.into → end ≡ get_or p.ends n end
+      → (link_at p.net (link_into p.net x o)).flits ≡ [] → FlitPopped end f new
+      → FlitInHand p x o f links n new
+  flit_off {f} {n} {new} end number looked empty popped =
+      let by = flit_popped end new f popped in
+      let end_is : end_of p links.beyond (opposite_of o) ≡ Entering by.0 by.1 =
+      sym (into_looked_up has n end number looked) ∙ by.2 in
+      let is = is_entering p has.part links.beyond (opposite_of o) x by.0 by.1 back_then end_is in
+      let channels : by.0.link.channels ≡ sum p.net.channels =
+      is.link.same_channels ∙ ap (λ (counts : List ℕ). sum counts) (sym has.part.config.channels) in
+      let channel : f.vc < sum p.net.channels = subst (λ (n : ℕ). f.vc < n) channels by.5.channel in
+      let mesh : by.0.link.mesh ≡ p.net.mesh = is.link.same_mesh ∙ sym has.part.config.mesh in
+      let list : (link_at p.net links.into).flits ≡ [] =
+      ap (λ (k : ℕ). (link_at p.net k).flits) (sym (into_here has)) ∙ empty in
+      record {
+        has = has;
+        number = number;
+        rx = by.0;
+        line = by.1;
+        end_is = end_is;
+        new_is = by.3;
+        continues = by.4;
+        crossing = by.5;
+        channel = channel;
+        goal = subst (λ (ks : List ℕ). f.lane.dst < node_count ks) mesh by.5.destination;
+        elsewhere = is.near_elsewhere;
+        none_waits = into_flits has ∙ list;
+      }
 
-  out_puts : PutsEnd p x o out_new (put_outlet p.side o new)
-  out_puts =
-      let bound = over_bound p.side o (ap is_over came.is) in
-      let same : IsSameOutlet (outlet_at p.side o) new =
-      subst (λ (i : OutletView). IsSameOutlet i new) (sym came.is)
-      (subst (λ (i : OutletView). IsSameOutlet (Over came.tx came.back) i) (sym came.new_is)
-      (refl, refl, refl, refl, refl)) in
-      let others : (z : ℕ) → (z ≡ x → ⊥) → leaving_at z new ≡ leaving_at z (outlet_at p.side o)
-      = λ z apart. ap (λ (i : OutletView). leaving_at z i) came.new_is
-      ∙ ((λ t. Leaving (tx_at z came.tx) (record (back_at z came.back) {
-        taken = credits_other x z came.back.taken r.vc apart t;
-      }))
-      ∙ ap (λ (i : OutletView). leaving_at z i) (sym came.is)) in
-      let here : leaving_at x new ≡ out_new
-      = ap (λ (i : OutletView). leaving_at x i) came.new_is
-      ∙ (λ t. Leaving (tx_at x came.tx) (record (back_at x came.back) {
-        taken = credits_here x came.back.taken r.vc t;
-      })) in
-      subst (λ (e : End). PutsEnd p x o e (put_outlet p.side o new)) here
-      (puts_outlet p x o awaited.beyond new awaited.linked awaited.own gave_elsewhere bound same others)
+-- it is put down, and the part stays a part
+pub credit_put : {p : PartState} {x o c : ℕ} {links : PortLinks} {n : ℕ} {new : End}
+    → (hand : CreditInHand p x o c links n new) (net : NetState) → ComesBackBy p.net x o c net
+    → IsPart (record p { net = net; ends = slice_set p.ends n new })
+    × CreditComes x o p (record p { net = net; ends = slice_set p.ends n new })
+    × IsSamePart p (record p { net = net; ends = slice_set p.ends n new })
+credit_put {p} {x} {o} {c} {links} {n} {new} hand net came =
+    let N = network_of p.net in
+    let y = links.beyond in
+    let q = opposite_of o in
+    let comes : ComesBack p.net y q c net = of_beyond hand.has {λ z. ComesBack p.net z q c net} came in
+    let y_back : neighbour_of p.net.mesh y q ≡ Some x = back hand.has in
+    let twice : opposite_of q ≡ o = Rattle.worm_mesh.proofs.Neighbours.opposite_twice o in
+    let after_it : network_of net ≡ record N
+    { credit_list = Rattle.worm_theory.specs.Network.put2 N.credit_list x o (N.credit_list x o ++ c ∷ []) }
+    = comes.after_it x y_back ∙ ap (λ (k : ℕ).
+    record N {
+      credit_list = Rattle.worm_theory.specs.Network.put2 N.credit_list x k
+          (N.credit_list x k ++ c ∷ []);
+    }) twice in
+    let config = same_when_linked p.net net _ _ comes.exact in
+    let made = credit_comes p hand.has.part x o y (linked_then hand.has) net config hand.tx hand.line c hand.end_is
+    after_it in
+    let place : n ≡ links_before p.net.mesh x o = hand.number ∙ out_is hand.has in
+    let to : with_end p x o (Leaving hand.tx (record hand.line { taken = hand.line.taken ++ c ∷ [] })) net
+    ≡ record p { net = net; ends = slice_set p.ends n new }
+    = λ t. record p { net = net; ends = slice_set p.ends (sym place t) (sym hand.new_is t) } in
+    let exact_net : after_credit_back p.net y q c ≡ net = sym comes.exact in (
+      subst IsPart to made,
+      record {
+        beyond = y;
+        tx = hand.tx;
+        back = hand.line;
+        credit = c;
+        linked = linked hand.has;
+        end = hand.end_is;
+        none_waits = hand.none_waits;
+        exact = sym (ap (λ (m : NetState). with_end p x o
+            (Leaving hand.tx (record hand.line { taken = hand.line.taken ++ c ∷ [] })) m) exact_net ∙ to);
+      },
+      record { config = config; opening = refl; lines = refl },
+    )
 
-  -- it is put down, and the part stays a part
-  pub credit_put : (net : NetState) → ComesBack p.net awaited.beyond (opposite_of o) r.vc net
-      → neighbour_of p.net.mesh awaited.beyond (opposite_of o) ≡ Some x
-      → IsPart (record p { net = net; side = put_outlet p.side o new })
-      × CreditComes x o p (record p { net = net; side = put_outlet p.side o new })
-      × IsSamePart p (record p { net = net; side = put_outlet p.side o new })
-  credit_put net comes back =
-      let N = network_of p.net in
-      let config = same_when_linked p.net net _ _ comes.exact in
-      let after_it : network_of net ≡ record N { credit_list = put2 N.credit_list x o (N.credit_list x o ++ r.vc ∷ []) }
-      = comes.after_it x back ∙ ap (λ (k : ℕ). record N {
-        credit_list = put2 N.credit_list x k (N.credit_list x k ++ r.vc ∷ []);
-      }) (opposite_twice o) in (
-        credit_comes p part x o awaited.beyond out_linked net config (put_outlet p.side o new) (tx_at x came.tx)
-            (back_at x came.back) r.vc out_is after_it out_puts,
-        record {
-          credit = r.vc;
-          outlet = new;
-          awaited = awaited;
-          taken = taken;
-          exact = λ t. record p { net = comes.exact t; side = put_outlet p.side o new };
-        },
-        record { config = config; opening = refl; sides = refl },
-      )
+pub flit_put : {p : PartState} {x o : ℕ} {f : Flit} {links : PortLinks} {n : ℕ} {new : End}
+    → (hand : FlitInHand p x o f links n new) (net : NetState) → ArrivesBy p.net x o f net
+    → IsPart (record p { net = net; ends = slice_set p.ends n new })
+    × FlitComes x o p (record p { net = net; ends = slice_set p.ends n new })
+    × IsSamePart p (record p { net = net; ends = slice_set p.ends n new })
+flit_put {p} {x} {o} {f} {links} {n} {new} hand net came =
+    let N = network_of p.net in
+    let y = links.beyond in
+    let q = opposite_of o in
+    let comes : Arrives p.net y q f net = of_beyond hand.has {λ z. Arrives p.net z q f net} came in
+    let after_it : network_of net ≡ record N
+    { out = Rattle.worm_theory.specs.Network.put2 N.out y q (N.out y q ++ f ∷ []) } = comes.after_it in
+    let config = same_when_linked p.net net _ _ comes.exact in
+    let made = flit_comes p hand.has.part y q x (back_then hand.has) net config hand.rx hand.line f hand.end_is
+    hand.continues hand.crossing after_it in
+    let place : n ≡ links_before p.net.mesh y q = hand.number ∙ into_is hand.has in
+    let to : with_end p y q (Entering (record hand.rx { taken = hand.rx.taken ++ f ∷ [] }) hand.line) net
+    ≡ record p { net = net; ends = slice_set p.ends n new }
+    = λ t. record p { net = net; ends = slice_set p.ends (sym place t) (sym hand.new_is t) } in
+    let exact_net : after_arriving p.net y q f ≡ net = sym comes.exact in (
+      subst IsPart to made,
+      record {
+        beyond = y;
+        rx = hand.rx;
+        give = hand.line;
+        flit = f;
+        linked = linked hand.has;
+        end = hand.end_is;
+        none_waits = hand.none_waits;
+        exact = sym (ap (λ (m : NetState). with_end p y q
+            (Entering (record hand.rx { taken = hand.rx.taken ++ f ∷ [] }) hand.line) m) exact_net ∙ to);
+      },
+      record { config = config; opening = refl; lines = refl },
+    )

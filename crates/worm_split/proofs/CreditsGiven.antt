@@ -14,7 +14,6 @@ use Rattle.worm_region.proofs.LowestGiven.{Owing, gave_elsewhere, give_elsewhere
 use Rattle.worm_region.proofs.LowestGiven.{owing_place, router_size}
 use Rattle.worm_split.specs.PartState.{PartState, IsSamePart}
 use Rattle.worm_split.specs.PartTurns.{EachOf, Gives, GivesCredit}
-use Rattle.worm_split.proofs.AcrossLinks.{given_or_not}
 use Rattle.worm_split.proofs.PartLoops.{of_more, of_one, same_on}
 
 -- What the other ports owe
@@ -33,11 +32,13 @@ gives_elsewhere : (x q c : ℕ) (a b : PartState) → IsWorkable a.net → x < n
     → q < 2 * length a.net.mesh → c < sum a.net.channels → Gives x q c a None b → (p v : ℕ) → (p ≡ q → ⊥)
     → v < width (router_at b.net x) → OwesTheSame a.net b.net x p v
 gives_elsewhere x q c a b net x_in q_in c_in gives p v away within = elim gives [
-  | inl across ↦ elim (given_or_not x q c a b across.1) [
-    | inl went ↦ went_elsewhere a.net b.net x q c net x_in q_in c_in went p v away within
+  | inl across ↦ elim across.1.answer [
+    | inl went ↦
+        let net_is = ap (λ (s : PartState). s.net) went in
+        went_elsewhere a.net b.net x q c net x_in q_in c_in net_is p v away within
     | inr stayed ↦
         subst (λ (s : NetState). v < width (router_at s x) → OwesTheSame a.net s x p v)
-        (sym (ap (λ (s : PartState). s.net) stayed)) (λ there. record { there = there; owed = refl }) within
+        (sym (ap (λ (s : PartState). s.net) stayed.0)) (λ there. record { there = there; owed = refl }) within
   ]
   | inr inside ↦
       let tried = inside.1.0 in

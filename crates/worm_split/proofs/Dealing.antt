@@ -1,6 +1,6 @@
 -- A network taken apart is dealt to its workers in rising number: what it has yet of those that come.
 use Rattle.std.proofs.Common.{◌≡◌, ℕ, ◌+◌, ◌*◌, ◌≤◌, ◌%◌, Bool, true, false, cond, inl, inr, List, []}
-use Rattle.std.proofs.Common.{length, length-set, get_or-set_other, sum, refl, arith, ap, ◌∙◌}
+use Rattle.std.proofs.Common.{length, sum, refl, arith, ap, ◌∙◌}
 use Rattle.std.specs.Prelude.{slice_index_or}
 use Rattle.std.proofs.lemmas.Bool.{cases_lt}
 use Rattle.std.proofs.lemmas.List.{get_or-replicate, get_or_past}
@@ -8,36 +8,41 @@ use Rattle.std.proofs.Math.ListN.{length-replicate}
 use Rattle.worm_mesh.specs.Links.{link_count}
 use Rattle.worm_wires.specs.Links.{LinkView, blank_link, empty_link}
 use Rattle.worm_region.specs.Owned.{owned_by}
-use Rattle.worm_node.specs.NewNodes.{fresh_node}
 use Rattle.worm_region.specs.State.{NetState, link_at}
+use Rattle.worm_node.specs.NewNodes.{fresh_node}
 use Rattle.worm_node.specs.declared.node.Node.{Node}
 use Rattle.worm_region.specs.declared.own.Own.{Own}
+use Rattle.worm_split.specs.declared.ends.End.{End}
+use Rattle.worm_split.specs.declared.ends.End.TheVariants.{Inner}
+use Rattle.worm_split.specs.declared.ends.Line.{Line}
 use Rattle.worm_split.specs.declared.making.Seat.{Seat}
 use Rattle.worm_split.specs.Apart.{Apart, IsExchanged}
+use Rattle.worm_split.specs.Ends.{end_at, end_made, line_at}
 use Rattle.worm_split.specs.Exchange.{far_of, near_of, way_at}
 use Rattle.worm_split.specs.PartState.{HasConfigOf}
-use Rattle.worm_split.specs.Sides.{AreSides, SideView, no_side, side_at}
-use Rattle.worm_split.specs.Splits.{IsSeat}
+use Rattle.worm_split.specs.Splits.{AreLinesMade, IsSeat}
 use Rattle.worm_split.proofs.Exchanged.{config_then}
 use Rattle.worm_split.proofs.Gathered.{not_same}
-use Rattle.worm_split.proofs.Swapped.{link_in, links_now, nodes_now}
+use Rattle.worm_split.proofs.Gathering.{either_way}
+use Rattle.worm_split.proofs.Swapped.{ends_now, link_in, links_now, nodes_now}
 
-pub record IsDealt (O : NetState) (W : ℕ) (sides : List SideView) (from : ℕ) (kept : Apart) : Type 0 where
+pub record IsDealt (O : NetState) (W : ℕ) (lines : List Line) (from : ℕ) (kept : Apart) : Type 0 where
   pub config : HasConfigOf O kept.net
-  pub made : AreSides O W sides
+  pub made : AreLinesMade O W kept.ways lines
   pub nodes : (x : ℕ) → from ≤ x % W → (n : Node) → slice_index_or kept.net.nodes x n ≡ slice_index_or O.nodes x n
   pub flits : (k : ℕ) → from ≤ (way_at kept.ways k).to % W
       → (link_in kept.net.links k).flits ≡ (link_at O k).flits
   pub credits : (k : ℕ) → from ≤ (way_at kept.ways k).from % W
       → (link_in kept.net.links k).credits ≡ (link_at O k).credits
-  pub sides_left : (j : ℕ) → from ≤ j → side_at kept.sides j ≡ side_at sides j
-  pub all_sides : length kept.sides ≡ W
+  pub outs : (k : ℕ) → from ≤ (way_at kept.ways k).from % W
+      → (line_at kept.lines k).out ≡ (line_at lines k).out
+  pub intos : (k : ℕ) → from ≤ (way_at kept.ways k).to % W
+      → (line_at kept.lines k).into ≡ (line_at lines k).into
 
-module _ (O : NetState) (W w : ℕ) (sides : List SideView) (kept new : Apart) (dealt : IsDealt O W sides w kept)
-    (seat : Seat) (is : IsSeat O sides seat) (new_nodes : List Node) (new_links : List LinkView)
-    (empty_side new_side : SideView)
+module _ (O : NetState) (W w : ℕ) (lines : List Line) (kept new : Apart) (dealt : IsDealt O W lines w kept)
+    (seat : Seat) (is : IsSeat O lines seat) (new_nodes : List Node) (new_links : List LinkView) (new_ends : List End)
     (did : IsExchanged (record { worker = w; workers = W }) kept new seat.nodes.items new_nodes seat.links.items
-    new_links empty_side new_side) where
+    new_links seat.ends.items new_ends) where
   abbrev pub own : Own
   own = record { worker = w; workers = W }
 
@@ -62,11 +67,21 @@ module _ (O : NetState) (W w : ℕ) (sides : List SideView) (kept new : Apart) (
             (ap (λ (l : LinkView). l.flits) at, ap (λ (l : LinkView). l.credits) at)
       ]
 
+  empty_end : (k : ℕ) → end_at seat.ends.items k ≡ Inner
+  empty_end k = elim (cases_lt k (link_count O.mesh)) [
+    | inl below ↦ ap (λ (l : List End). end_at l k) is.ends
+        ∙ get_or-replicate (link_count O.mesh) k Inner Inner below
+    | inr past ↦
+        let long : length seat.ends.items ≡ link_count O.mesh = ap (λ (l : List End). length l) is.ends
+        ∙ length-replicate (link_count O.mesh) Inner in
+        get_or_past seat.ends.items k Inner (omega arith)
+  ]
+
   -- what is left for the workers that come
-  pub dealt_on : IsDealt O W sides (w + 1) new
+  pub dealt_on : IsDealt O W lines (w + 1) new
   dealt_on = record {
     config = config_then O kept.net new.net dealt.config did.config;
-    made = dealt.made;
+    made = rw did.ways dealt.made;
     nodes = λ x from n.
         let other = later x from in
         (nodes_now own kept.net.nodes seat.nodes.items new.net.nodes new_nodes did.nodes x n).0 ∙ (rw other refl
@@ -79,10 +94,15 @@ module _ (O : NetState) (W w : ℕ) (sides : List SideView) (kept new : Apart) (
         let other = later (way_at kept.ways k).from from in
         (links_now own kept.ways kept.net.links seat.links.items new.net.links new_links did.links k).credits
         ∙ (rw other refl ∙ dealt.credits k (omega arith)));
-    sides_left = λ j from. ap (λ (l : List SideView). side_at l j) did.sides
-        ∙ (get_or-set_other kept.sides w j empty_side no_side (λ e. omega arith) ∙ dealt.sides_left j (omega arith));
-    all_sides = ap (λ (l : List SideView). length l) did.sides ∙ (length-set kept.sides w empty_side
-        ∙ dealt.all_sides);
+    outs = rw did.ways (λ k from.
+        let other = later (way_at kept.ways k).from from in
+        (ends_now own kept.ways kept.lines seat.ends.items new.lines new_ends did.ends k).out
+        ∙ (rw other refl ∙ dealt.outs k (omega arith)));
+    intos = rw did.ways (λ k from.
+        let other = later (way_at kept.ways k).to from in
+        (ends_now own kept.ways kept.lines seat.ends.items new.lines new_ends did.ends k).into
+        ∙ (rw other (either_way (near_of own kept.ways k) (line_at kept.lines k).into)
+        ∙ dealt.intos k (omega arith)));
   }
 
   -- what the worker has
@@ -116,5 +136,15 @@ module _ (O : NetState) (W w : ℕ) (sides : List SideView) (kept new : Apart) (
       k).other_credits
       ∙ credits_by k (near_of own kept.ways k) refl
 
-  pub side_own : new_side ≡ side_at sides w
-  side_own = did.side ∙ dealt.sides_left w (omega arith)
+  ends_by : (k : ℕ) (near far : Bool) → near_of own kept.ways k ≡ near → far_of own kept.ways k ≡ far
+      → cond near (cond far (end_at seat.ends.items k) (line_at kept.lines k).out) (cond far
+      (line_at kept.lines k).into (end_at seat.ends.items k)) ≡ end_made near far (line_at lines k)
+  ends_by k true true e f = empty_end k
+  ends_by k true false e f = dealt.outs k (mine (way_at kept.ways k).from e)
+  ends_by k false true e f = dealt.intos k (mine (way_at kept.ways k).to f)
+  ends_by k false false e f = empty_end k
+
+  pub ends_own : (k : ℕ) → end_at new_ends k ≡ end_made (near_of own kept.ways k)
+      (far_of own kept.ways k) (line_at lines k)
+  ends_own k = (ends_now own kept.ways kept.lines seat.ends.items new.lines new_ends did.ends k).own_end
+      ∙ ends_by k (near_of own kept.ways k) (far_of own kept.ways k) refl refl

@@ -12,25 +12,27 @@ use Rattle.worm_region.specs.State.{NetState, IsNet, IsNodeOf}
 use Rattle.worm_region.specs.Workable.{IsWorkable}
 use Rattle.worm_node.specs.declared.node.Node.{Node}
 use Rattle.worm_region.specs.declared.own.Own.{Own}
+use Rattle.worm_split.specs.declared.ends.End.{End}
+use Rattle.worm_split.specs.declared.ends.End.TheVariants.{Inner}
+use Rattle.worm_split.specs.declared.ends.Line.{Line}
 use Rattle.worm_split.specs.declared.making.Seat.{Seat}
 use Rattle.worm_split.specs.Apart.{Apart, AreWays, ArePaired, IsExchanged, with_lists}
 use Rattle.worm_split.specs.PartState.{PartState, HasConfigOf, IsPart}
-use Rattle.worm_split.specs.Sides.{SideView}
 use Rattle.worm_split.specs.Splits.{IsFirstPart, IsSeat, IsSplitOf, no_part, part_at, seat_state}
-use Rattle.worm_split.proofs.Dealing.{IsDealt, credits_own, dealt_on, flits_own, node_other}
-use Rattle.worm_split.proofs.Dealing.{node_own, side_own}
+use Rattle.worm_split.proofs.Dealing.{IsDealt, credits_own, dealt_on, ends_own, flits_own}
+use Rattle.worm_split.proofs.Dealing.{node_other, node_own}
 use Rattle.worm_split.proofs.Exchanged.{framed_in, framed_with}
 use Rattle.worm_split.proofs.FirstPart.{IsDealtPart, first_begins, first_is_part, first_works, node_mine}
 use Rattle.worm_split.proofs.MadeSoFar.{each_push}
 
 -- what is dealt, what is yet to deal, and the parts so far
-pub record DealSoFar (O : NetState) (W : ℕ) (sides : List SideView) (w : ℕ) (kept : Apart) (seats : List Seat)
+pub record DealSoFar (O : NetState) (W : ℕ) (lines : List Line) (w : ℕ) (kept : Apart) (seats : List Seat)
     (parts : List PartState) (room : ℕ) : Type 0 where
-  pub dealt : IsDealt O W sides w kept
-  pub all : All (IsSeat O sides) seats
+  pub dealt : IsDealt O W lines w kept
+  pub all : All (IsSeat O lines) seats
   pub count : length seats + w ≡ W
   pub long : length parts ≡ w
-  pub each : (j : ℕ) → j < w → IsFirstPart O W j sides (part_at parts j)
+  pub each : (j : ℕ) → j < w → IsFirstPart O W j lines (part_at parts j)
   pub enough : W ≤ room
 
 pub all_last : {A : Type 0} (P : A → Type 0) (xs ys : List A) (x : A) → ys ≡ xs ++ x ∷ [] → All P ys → P x × All P xs
@@ -46,37 +48,37 @@ all_last {A} P xs ys x is all =
     )
 
 -- the last of the workers has the last seat
-pub one_left : {O : NetState} {W w : ℕ} {sides : List SideView} {kept : Apart} {seats : List Seat}
+pub one_left : {O : NetState} {W w : ℕ} {lines : List Line} {kept : Apart} {seats : List Seat}
     {parts : List PartState} {room : ℕ} (rest : List Seat) (seat : Seat)
-    → DealSoFar O W sides w kept seats parts room → seats ≡ rest ++ seat ∷ [] → W - 1 ≤ w
-    → DealSoFar O W sides (W - 1) kept seats parts room
-one_left {O} {W} {w} {sides} {kept} {seats} {parts} {room} rest seat so_far popped past =
+    → DealSoFar O W lines w kept seats parts room → seats ≡ rest ++ seat ∷ [] → W - 1 ≤ w
+    → DealSoFar O W lines (W - 1) kept seats parts room
+one_left {O} {W} {w} {lines} {kept} {seats} {parts} {room} rest seat so_far popped past =
     let long = ap (λ (l : List Seat). length l) popped ∙ length-append rest (seat ∷ []) in
     let count = so_far.count in
     let at : w ≡ W - 1 = omega arith in
-    subst (λ (n : ℕ). DealSoFar O W sides n kept seats parts room) at so_far
+    subst (λ (n : ℕ). DealSoFar O W lines n kept seats parts room) at so_far
 
 -- a worker's part once its seat's lists are exchanged
-abbrev pub dealt_state : Seat → Own → List Node → List LinkView → SideView → PartState
-dealt_state seat own nodes links side =
-    record (seat_state seat own side) { net = with_lists (seat_state seat own side).net nodes links }
+abbrev pub dealt_state : Seat → Own → List Node → List LinkView → List End → PartState
+dealt_state seat own nodes links ends =
+    record (seat_state seat own) { net = with_lists (seat_state seat own).net nodes links; ends = ends }
 
 -- What is dealt to a worker: its part works, and with it on the list one worker more has its own.
-pub record Deals (O : NetState) (W w : ℕ) (sides : List SideView) (new : Apart) (rest : List Seat)
+pub record Deals (O : NetState) (W w : ℕ) (lines : List Line) (new : Apart) (rest : List Seat)
     (parts : List PartState) (room : ℕ) (part : PartState) : Type 0 where
   pub works : IsWorkable part.net
   pub is_part : IsPart part
-  pub kept : HasConfigOf part.opening new.net × (length new.sides ≡ W)
+  pub kept : HasConfigOf part.opening new.net
   pub space : length parts < room
   pub further : (more : List PartState) (new_room : ℕ) → more ≡ parts ++ part ∷ [] → room ≤ new_room
-      → DealSoFar O W sides (w + 1) new rest more new_room
+      → DealSoFar O W lines (w + 1) new rest more new_room
 
 -- it is put on the list, which has room
-pub one_more : {O : NetState} {W w : ℕ} {sides : List SideView} {kept : Apart} {rest : List Seat} {part : PartState}
-    {T E Z : Type 0} (old new : Vec PartState Z) → Deals O W w sides kept rest old.items (vec_capacity old) part
+pub one_more : {O : NetState} {W w : ℕ} {lines : List Line} {kept : Apart} {rest : List Seat} {part : PartState}
+    {T E Z : Type 0} (old new : Vec PartState Z) → Deals O W w lines kept rest old.items (vec_capacity old) part
     → (r : Result T E) (p : PartState) → p ≡ part
     → new.items ≡ (if is_ok r then old.items ++ p ∷ [] else old.items) → OnErr r (vec_capacity old ≤ vec_len old)
-    → vec_capacity old ≤ vec_capacity new → DealSoFar O W sides (w + 1) kept rest new.items (vec_capacity new)
+    → vec_capacity old ≤ vec_capacity new → DealSoFar O W lines (w + 1) kept rest new.items (vec_capacity new)
 one_more old new deals (Ok a) p same is full grown =
     deals.further new.items (vec_capacity new) (is ∙ ap (λ (q : PartState). old.items ++ q ∷ []) same) grown
 one_more old new deals (Err e) p same is full grown =
@@ -84,30 +86,30 @@ one_more old new deals (Err e) p same is full grown =
     let over : vec_capacity old ≤ vec_len old = full in
     absurd (omega (arith, old.ok.0))
 
-module _ {O : NetState} {W w : ℕ} {sides : List SideView} {kept new : Apart} {seats : List Seat}
-    {parts : List PartState} {room : ℕ} {new_nodes : List Node} {new_links : List LinkView}
-    {empty_side new_side : SideView} (rest : List Seat) (seat : Seat) (net : IsNet O)
-    (so_far : DealSoFar O W sides w kept seats parts room) (below : w < W) (popped : seats ≡ rest ++ seat ∷ [])
+module _ {O : NetState} {W w : ℕ} {lines : List Line} {kept new : Apart} {seats : List Seat}
+    {parts : List PartState} {room : ℕ} {new_nodes : List Node} {new_links : List LinkView} {new_ends : List End}
+    (rest : List Seat) (seat : Seat) (net : IsNet O) (so_far : DealSoFar O W lines w kept seats parts room)
+    (below : w < W) (popped : seats ≡ rest ++ seat ∷ [])
     (did : IsExchanged (record { worker = w; workers = W }) kept new seat.nodes.items new_nodes
-    seat.links.items new_links empty_side new_side) where
-  abbrev dealt : IsDealt O W sides w kept
+    seat.links.items new_links seat.ends.items new_ends) where
+  abbrev dealt : IsDealt O W lines w kept
   dealt = so_far.dealt
 
-  last : IsSeat O sides seat × All (IsSeat O sides) rest
-  last = all_last (IsSeat O sides) rest seats seat popped so_far.all
+  last : IsSeat O lines seat × All (IsSeat O lines) rest
+  last = all_last (IsSeat O lines) rest seats seat popped so_far.all
 
-  abbrev is : IsSeat O sides seat
+  abbrev is : IsSeat O lines seat
   is = last.0
 
   abbrev part : PartState
-  part = dealt_state seat (record { worker = w; workers = W }) new_nodes new_links new_side
+  part = dealt_state seat (record { worker = w; workers = W }) new_nodes new_links new_ends
 
   abbrev dealt_net : NetState
   dealt_net = part.net
 
   -- the worker's part, with the network that was split as its opening
   abbrev p0 : PartState
-  p0 = record { net = dealt_net; side = new_side; opening = O; sides = sides }
+  p0 = record { net = dealt_net; ends = new_ends; opening = O; lines = lines }
 
   config : HasConfigOf O dealt_net
   config = record {
@@ -117,8 +119,8 @@ module _ {O : NetState} {W w : ℕ} {sides : List SideView} {kept new : Apart} {
     names = is.config.names;
   }
 
-  deal_on : IsDealt O W sides (w + 1) new
-  deal_on = dealt_on O W w sides kept new dealt seat is new_nodes new_links empty_side new_side did
+  deal_on : IsDealt O W lines (w + 1) new
+  deal_on = dealt_on O W w lines kept new dealt seat is new_nodes new_links new_ends did
 
   ways : AreWays O.mesh kept.ways
   ways =
@@ -129,18 +131,20 @@ module _ {O : NetState} {W w : ℕ} {sides : List SideView} {kept new : Apart} {
   dealt_part = record {
     config = config;
     worker = below;
-    node_own = node_own O W w sides kept new dealt seat is new_nodes new_links empty_side new_side did;
-    node_other = node_other O W w sides kept new dealt seat is new_nodes new_links empty_side new_side did;
-    flits = flits_own O W w sides kept new dealt seat is new_nodes new_links empty_side new_side did;
-    credits = credits_own O W w sides kept new dealt seat is new_nodes new_links empty_side new_side did;
-    side = side_own O W w sides kept new dealt seat is new_nodes new_links empty_side new_side did;
+    node_own = node_own O W w lines kept new dealt seat is new_nodes new_links new_ends did;
+    node_other = node_other O W w lines kept new dealt seat is new_nodes new_links new_ends did;
+    flits = flits_own O W w lines kept new dealt seat is new_nodes new_links new_ends did;
+    credits = credits_own O W w lines kept new dealt seat is new_nodes new_links new_ends did;
+    ends = ends_own O W w lines kept new dealt seat is new_nodes new_links new_ends did;
+    all_ends = did.ends.other_length ∙ (sym did.ends.same_length ∙ (did.fits.all_lines
+        ∙ ap link_count deal_on.config.mesh));
     framed = framed_in O kept.net dealt_net new_nodes new_links dealt.config config did.framed;
   }
 
   state_is : p0 ≡ part
-  state_is = λ t. record { net = dealt_net; side = new_side; opening = sym is.opening t; sides = sym is.made t }
+  state_is = λ t. record { net = dealt_net; ends = new_ends; opening = sym is.opening t; lines = sym is.made t }
 
-  deal_first : IsFirstPart O W w sides part
+  deal_first : IsFirstPart O W w lines part
   deal_first = record {
     own = refl;
     opened = is.opening;
@@ -148,11 +152,10 @@ module _ {O : NetState} {W w : ℕ} {sides : List SideView} {kept new : Apart} {
     config = config;
     nodes = node_mine p0 net kept.ways ways dealt.made dealt_part;
     begins = first_begins p0 net kept.ways ways dealt.made dealt_part;
-    side = dealt_part.side;
   }
 
   deal_further : (more : List PartState) (new_room : ℕ) → more ≡ parts ++ part ∷ [] → room ≤ new_room
-      → DealSoFar O W sides (w + 1) new rest more new_room
+      → DealSoFar O W lines (w + 1) new rest more new_room
   deal_further more new_room pushed grown =
       let seat_long = ap (λ (l : List Seat). length l) popped ∙ length-append rest (seat ∷ []) in
       let count = so_far.count in
@@ -164,32 +167,31 @@ module _ {O : NetState} {W w : ℕ} {sides : List SideView} {kept new : Apart} {
         all = last.1;
         count = omega arith;
         long = omega arith;
-        each = each_push (λ (j : ℕ) (q : PartState). IsFirstPart O W j sides q) no_part parts more part w long
+        each = each_push (λ (j : ℕ) (q : PartState). IsFirstPart O W j lines q) no_part parts more part w long
             pushed so_far.each deal_first;
         enough = omega arith;
       }
 
-  pub deals : Deals O W w sides new rest parts room part
+  pub deals : Deals O W w lines new rest parts room part
   deals =
       let long = so_far.long in
       let enough = so_far.enough in
       record {
         works = first_works p0 net kept.ways ways dealt.made dealt_part;
         is_part = subst IsPart state_is (first_is_part p0 net kept.ways ways dealt.made dealt_part);
-        kept = (subst (λ (s : NetState). HasConfigOf s new.net) (sym is.opening) deal_on.config, deal_on.all_sides);
+        kept = subst (λ (s : NetState). HasConfigOf s new.net) (sym is.opening) deal_on.config;
         space = omega arith;
         further = deal_further;
       }
 
 -- a worker's lists fit the network that is taken apart
-pub seat_lists : {O : NetState} {W w : ℕ} {sides : List SideView} {kept : Apart} {seats : List Seat}
+pub seat_lists : {O : NetState} {W w : ℕ} {lines : List Line} {kept : Apart} {seats : List Seat}
     {parts : List PartState} {room : ℕ} (rest : List Seat) (seat : Seat) → IsNet O
-    → DealSoFar O W sides w kept seats parts room
-    → w < W → seats ≡ rest ++ seat ∷ []
-    → ArePaired (record { worker = w; workers = W }) kept seat.nodes.items seat.links.items
-seat_lists {O} {sides = sides} {kept = kept} {seats = seats} rest seat net so_far below popped =
+    → DealSoFar O W lines w kept seats parts room
+    → seats ≡ rest ++ seat ∷ [] → ArePaired kept seat.nodes.items seat.links.items seat.ends.items
+seat_lists {O} {lines = lines} {kept = kept} {seats = seats} rest seat net so_far popped =
     let config = so_far.dealt.config in
-    let is = (all_last (IsSeat O sides) rest seats seat popped so_far.all).0 in
+    let is = (all_last (IsSeat O lines) rest seats seat popped so_far.all).0 in
     let room = sum O.channels * O.depth in
     let all = net.framed.all_nodes in
     let all_links = net.framed.all_links in
@@ -207,14 +209,15 @@ seat_lists {O} {sides = sides} {kept = kept} {seats = seats} rest seat net so_fa
           ∙ ap (λ (l : LinkView). l.room) (get_or-replicate (link_count O.mesh) k (empty_link room) blank_link
           (omega arith)) in
           omega arith));
-      side = let all_sides = so_far.dealt.all_sides in omega arith;
+      ends = (ap (λ (l : List End). length l) is.ends ∙ length-replicate (link_count O.mesh) Inner)
+          ∙ ap link_count (sym config.mesh);
     }
 
-pub all_dealt : {O : NetState} {W w : ℕ} {sides : List SideView} {kept : Apart} {seats : List Seat}
+pub all_dealt : {O : NetState} {W w : ℕ} {lines : List Line} {kept : Apart} {seats : List Seat}
     {parts : List PartState} {room : ℕ}
-    → DealSoFar O W sides w kept seats parts room → w ≡ W → IsSplitOf O W parts
-all_dealt {sides = sides} so_far all = record {
-  sides = sides;
+    → DealSoFar O W lines w kept seats parts room → w ≡ W → IsSplitOf O W parts
+all_dealt {lines = lines} so_far all = record {
+  lines = lines;
   count = so_far.long ∙ all;
   each = λ j below. so_far.each j (omega arith);
 }

@@ -7,7 +7,7 @@ use Rattle.std.proofs.lemmas.Bool.{cases_eq}
 use Rattle.worm_mesh.specs.Address.{node_count}
 use Rattle.worm_term.specs.declared.fault.OfferFault.{OfferFault}
 use Rattle.worm_theory.proofs.Places.{bool_cases}
-use Rattle.worm_script.specs.Script.{HaveWords, begun_at}
+use Rattle.worm_script.specs.Script.{begun_at}
 use Rattle.worm_region.specs.State.{IsFramed, IsNodeOf, NetState, node_at, sink_at, source_at}
 use Rattle.worm_region.specs.Workable.{owned}
 use Rattle.worm_region.specs.declared.fault.StepFault.{StepFault}
@@ -15,11 +15,10 @@ use Rattle.worm_region.specs.declared.fault.StepFault.TheVariants.{Refused}
 use Rattle.worm_node.specs.declared.node.Node.{Node}
 use Rattle.worm_script.specs.declared.entry.Entry.{Entry}
 use Rattle.worm_split.specs.Effects.{HasAccepted, IsRefused, OneMore, SinksTakeOne, SourceTakes, SourcesTake}
+use Rattle.worm_script.specs.Script.{HaveWords}
 use Rattle.worm_split.specs.PartState.{PartState}
-use Rattle.worm_split.specs.PartTurns.{EachOf, NodeTurn, NodeTurns}
-use Rattle.worm_wires.specs.Links.{LinkView}
+use Rattle.worm_split.specs.PartTurns.{EachOf, NodeTurn, Turn}
 use Rattle.worm_split.proofs.Accepted.{accepted-none}
-use Rattle.worm_split.proofs.AcrossLinks.{OnLinks}
 use Rattle.worm_split.proofs.Alone.{Touches, no_more}
 use Rattle.worm_split.proofs.FirstAccepted.{IsSeated, seated_in}
 use Rattle.worm_split.proofs.NodeEffects.{NodeDid, NodeRefuses, node_did}
@@ -210,72 +209,26 @@ module _ (entries : List Entry) (own : ℕ → Bool) where
         (subst (λ (xs : List ℕ). EachOf (NodeTurn entries) xs old fault new) past made))
   ]
 
--- a node of which the source refuses
-record RefusedBy (entries : List Entry) (why : OfferFault) (old new : NetState) : Type 0 where
-  node : ℕ
-  there : node < node_count old.mesh
-  own : owned old node ≡ true
-  refuses : NodeRefuses entries why node (source_at old node) (source_at new node)
-
--- what the turns of all nodes did
-record Did (entries : List Entry) (old : NetState) (fault : Option StepFault) (new : NetState) : Type 0 where
-  sources : (x : ℕ) → x < node_count old.mesh → owned old x ≡ true
-      → SourceTakes entries fault x (source_at old x) (source_at new x)
-  sinks : (x : ℕ) → x < node_count old.mesh → owned old x ≡ true
-      → OneMore (sink_at old x).delivered (sink_at new x).delivered
-  refused : (why : OfferFault) → fault ≡ Some (Refused why) → RefusedBy entries why old new
-
--- what is on links is no part of it
-did_still : (entries : List Entry) (a b c : NetState) (fault : Option StepFault) (links : List LinkView)
-    → b ≡ record a { links = links } → Did entries b fault c → Did entries a fault c
-did_still entries a b c fault links is did =
-    let same = subst (λ (s : NetState). Did entries s fault c) is did in
-    record {
-      sources = same.sources;
-      sinks = same.sinks;
-      refused = λ why ended.
-          let r = same.refused why ended in
-          record { node = r.node; there = r.there; own = r.own; refuses = r.refuses };
-    }
-
 module _ (p : PartState) (entries : List Entry) (fault : Option StepFault) (new : PartState)
-    (framed : IsFramed p.net) (words : HaveWords entries) (turned : NodeTurns entries p fault new) where
+    (framed : IsFramed p.net) (words : HaveWords entries) (turned : Turn entries p fault new) where
   whole : TurnsFrom entries (owned p.net) 0 p.net fault new.net
   whole =
       turns_from entries (owned p.net) (node_count p.net.mesh) 0 p new fault words (omega arith)
       (λ x above there. seated_in p.net x framed there) turned
 
-  -- what its turns do is told of its network alone
-  nodes-did : Did entries p.net fault new.net
-  nodes-did = record {
-    sources = λ x there mine. (whole.did x (omega arith) there mine).takes;
-    sinks = λ x there mine. (whole.did x (omega arith) there mine).one;
-    refused = λ why is.
-        let r = whole.refuses why is in
-        record { node = r.node; there = r.there; own = r.mine; refuses = r.refuses };
-  }
-
--- a part that receives, and then its nodes have their turns
-module _ (p came : PartState) (entries : List Entry) (fault : Option StepFault) (new : PartState)
-    (received : OnLinks p.net None came.net) (framed : IsFramed came.net) (words : HaveWords entries)
-    (turned : NodeTurns entries came fault new) where
-  turn-did : Did entries p.net fault new.net
-  turn-did = did_still entries p.net came.net new.net fault received.1.0 received.1.1
-      (nodes-did came entries fault new framed words turned)
-
   pub turn-sources : SourcesTake entries p fault new
-  turn-sources x there mine = turn-did.sources x there mine
+  turn-sources x there mine = (whole.did x (omega arith) there mine).takes
 
   pub turn-sinks : SinksTakeOne p new
-  turn-sinks x there mine = turn-did.sinks x there mine
+  turn-sinks x there mine = (whole.did x (omega arith) there mine).one
 
   pub turn-refused : IsRefused entries p fault new
   turn-refused why is =
-      let r = turn-did.refused why is in
+      let r = whole.refuses why is in
       record {
         node = r.node;
         there = r.there;
-        own = r.own;
+        own = r.mine;
         taken = r.refuses.taken;
         next = r.refuses.next;
         left = r.refuses.left;

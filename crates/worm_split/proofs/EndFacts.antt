@@ -2,9 +2,9 @@
 use Rattle.std.proofs.Common.{◌≡◌, ℕ, Bool, true, false, cond, List, refl, sym, subst, ◌∙◌}
 use Rattle.worm_flit.specs.declared.Flit.{Flit}
 use Rattle.worm_links.specs.declared.LinkCfg.{LinkCfg}
-use Rattle.worm_split.specs.Ends.{TxView, RxView, CreditTxView, CreditRxView}
-use Rattle.worm_split.specs.Ends.{End}
-use Rattle.worm_split.specs.Ends.{Inner, Leaving, Entering}
+use Rattle.worm_links.specs.Links.{TxView, RxView, CreditTxView, CreditRxView}
+use Rattle.worm_split.specs.declared.ends.End.{End}
+use Rattle.worm_split.specs.declared.ends.End.TheVariants.{Inner, Leaving, Entering}
 use Rattle.worm_split.specs.Ends.{IsLinkOf, IsSameEnd, AreEndsMade}
 
 -- the sender's end of a link

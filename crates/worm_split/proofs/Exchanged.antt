@@ -1,19 +1,19 @@
 -- An exchange leaves both sides framed: what stands at a place stood at the same place of one of them.
 use Rattle.std.proofs.Common.{◌≡◌, ℕ, ◌*◌, ◌<◌, ◌≤◌, Bool, true, false, cond, List, length, sum, arith}
 use Rattle.std.proofs.Common.{refl, sym, subst, ◌∙◌}
-use Rattle.std.specs.Prelude.{slice_index_or, slice_set}
-use Rattle.std.proofs.lemmas.List.{get_or_read}
+use Rattle.std.specs.Prelude.{slice_index_or}
 use Rattle.worm_region.specs.Owned.{owned_by}
-use Rattle.worm_node.specs.NewNodes.{fresh_node}
 use Rattle.worm_region.specs.State.{NetState, IsFramed, IsNodeOf, net_state}
+use Rattle.worm_node.specs.NewNodes.{fresh_node}
 use Rattle.worm_node.specs.declared.node.Node.{Node}
 use Rattle.worm_region.specs.declared.own.Own.{Own}
 use Rattle.worm_wires.specs.Links.{LinkView}
 use Rattle.worm_mesh.specs.declared.mesh.LinkEnds.{LinkEnds}
+use Rattle.worm_split.specs.declared.ends.End.{End}
+use Rattle.worm_split.specs.declared.ends.Line.{Line}
 use Rattle.worm_split.specs.Apart.{Apart, ArePaired, Fits, IsExchanged, with_lists}
-use Rattle.worm_split.specs.Exchange.{LinksSwapped, NodesSwapped}
+use Rattle.worm_split.specs.Exchange.{EndsSwapped, LinksSwapped, NodesSwapped}
 use Rattle.worm_split.specs.PartState.{HasConfigOf}
-use Rattle.worm_split.specs.Sides.{SideView, no_side}
 use Rattle.worm_split.proofs.Swapped.{link_in, nodes_now, rooms_now}
 
 -- configurations, one after another
@@ -97,31 +97,29 @@ module _ (own : Own) (s : NetState) (ways : List LinkEnds) (nodes us vs : List N
 
 -- What is exchanged fits as before.
 pub exchanged : (own : Own) (old kept : Apart) → old ≡ kept → (nodes us vs : List Node) (links ls ms : List LinkView)
-    (side place new_side : SideView) (sides : List SideView) → Fits old → ArePaired own kept nodes links
+    (ends new_ends : List End) (lines : List Line) → Fits old → ArePaired kept nodes links ends
     → NodesSwapped own (length old.net.nodes) old.net.nodes nodes us vs
     → LinksSwapped own old.ways (length old.net.links) old.net.links links ls ms
-    → place ≡ slice_index_or old.sides own.worker place
-    → sides ≡ slice_set old.sides own.worker side → new_side ≡ place
-    → IsExchanged own kept (record { net = with_lists old.net us ls; ways = old.ways; sides = sides }) nodes vs links ms
-    side new_side
-exchanged own old kept is nodes us vs links ls ms side place new_side sides fits paired nodes_swapped links_swapped
-    place_is sides_are side_is =
+    → EndsSwapped own old.ways (length old.lines) old.lines ends lines new_ends
+    → IsExchanged own kept (record { net = with_lists old.net us ls; ways = old.ways; lines = lines }) nodes vs links ms
+    ends new_ends
+exchanged own old kept is nodes us vs links ls ms ends new_ends lines fits paired nodes_swapped links_swapped
+    ends_swapped =
     let other = subst (λ (k : Apart). IsFramed (with_lists k.net nodes links)) (sym is) paired.framed in
-    let there = subst (λ (k : Apart). own.worker < length k.sides) (sym is) paired.side in
     let framed = both_framed own old.net old.ways nodes us vs links ls ms fits.framed other nodes_swapped links_swapped
     in
-    subst (λ (k : Apart). IsExchanged own k (record { net = with_lists old.net us ls; ways = old.ways; sides = sides })
-    nodes vs links ms side new_side) is (record {
+    subst (λ (k : Apart). IsExchanged own k (record { net = with_lists old.net us ls; ways = old.ways; lines = lines })
+    nodes vs links ms ends new_ends) is (record {
       fits = record {
         framed = framed.0;
         all_owned = fits.all_owned;
         ways = fits.ways;
+        all_lines = ends_swapped.same_length ∙ fits.all_lines;
       };
       config = record { mesh = refl; channels = refl; depth = refl; names = refl };
       ways = refl;
       nodes = nodes_swapped;
       links = links_swapped;
-      sides = sides_are;
-      side = side_is ∙ get_or_read old.sides own.worker place there place_is no_side;
+      ends = ends_swapped;
       framed = framed.1;
     })

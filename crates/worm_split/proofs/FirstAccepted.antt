@@ -30,8 +30,8 @@ use Rattle.worm_script.specs.declared.entry.Entry.{Entry}
 use Rattle.worm_region.specs.declared.step.Moved.{Moved}
 use Rattle.worm_region.specs.declared.step.Moved.TheVariants.{Done, Idle}
 use Rattle.worm_region.proofs.Sources.{counted_packets, none_refused}
-use Rattle.worm_script.specs.Script.{HasWords}
 use Rattle.worm_split.specs.Effects.{HasAccepted, HaveTheSame, Refuses, after_act}
+use Rattle.worm_script.specs.Script.{HasWords}
 use Rattle.worm_split.proofs.Accepted.{accepted-none, accepted-then, same_source}
 use Rattle.worm_split.proofs.Alone.{Touches, none_refuses, put_there, put_touches, touched_on, untouched}
 

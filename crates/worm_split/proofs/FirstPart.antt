@@ -18,8 +18,8 @@ use Rattle.worm_theory.proofs.Places.{bool_cases}
 use Rattle.worm_wires.specs.Links.{empty_link}
 use Rattle.worm_region.specs.Owned.{owned_by}
 use Rattle.worm_region.specs.Shape.{net_shape}
-use Rattle.worm_node.specs.NewNodes.{fresh_node}
 use Rattle.worm_region.specs.State.{NetState, IsFramed, IsNet, link_at}
+use Rattle.worm_node.specs.NewNodes.{fresh_node}
 use Rattle.worm_region.specs.State.{network_of, node_at, shape, sink_at}
 use Rattle.worm_region.specs.Workable.{IsBound, IsKept, IsSent, IsWorkable, Works, owned}
 use Rattle.worm_node.specs.declared.node.Node.{Node}
@@ -31,17 +31,18 @@ use Rattle.worm_region.proofs.StaysWorking.{sound_works}
 use Rattle.worm_parts.specs.Openings.{past_of}
 use Rattle.worm_parts.specs.Region.{Begins, HasPart}
 use Rattle.worm_parts.proofs.RegionQueues.{first_part}
-use Rattle.worm_split.specs.Ends.{End, Inner}
+use Rattle.worm_split.specs.declared.ends.End.{End}
+use Rattle.worm_split.specs.declared.ends.End.TheVariants.{Inner}
 use Rattle.worm_split.specs.Apart.{AreWays}
-use Rattle.worm_split.specs.Ends.{AreEndsMade, end_made, given_on, returned_on, sent_on, taken_on}
-use Rattle.worm_split.specs.Exchange.{far_of, near_of}
-use Rattle.worm_split.specs.PartState.{PartState, HasConfigOf, IsPart, end_of, line_of, owns, part_network}
-use Rattle.worm_split.specs.PartState.{returned_to, taken_by}
-use Rattle.worm_split.specs.Sides.{AreSides, IsSameSide, SideView, end_to, line_to, side_at}
-use Rattle.worm_split.proofs.FirstEnds.{IsUnused, end_first, first_unused, same_side}
+use Rattle.worm_split.specs.Ends.{AreEndsMade, IsSameEnd, end_at, end_made, given_on, line_at, returned_on, sent_on}
+use Rattle.worm_split.specs.Ends.{taken_on}
+use Rattle.worm_split.specs.Exchange.{far_of, near_of, way_at}
+use Rattle.worm_split.specs.PartState.{PartState, HasConfigOf, IsPart, end_of, owns, part_network, returned_to}
+use Rattle.worm_split.specs.PartState.{taken_by}
+use Rattle.worm_split.specs.Splits.{AreLinesMade}
+use Rattle.worm_split.proofs.FirstEnds.{IsUnused, first_unused, same_end_itself}
 use Rattle.worm_split.proofs.Gathered.{IsWay, net_holds, way_is}
 use Rattle.worm_split.proofs.JoinNet.{no_link_there}
-use Rattle.worm_split.proofs.LinesMade.{line_made}
 use Rattle.worm_split.proofs.SameNodes.{SameAt, leads_at, same_at}
 
 -- what a worker was dealt
@@ -54,7 +55,9 @@ pub record IsDealtPart (ways : List LinkEnds) (p : PartState) : Type 0 where
       x in slice_index_or p.net.nodes x n ≡ n
   pub flits : (k : ℕ) → (link_at p.net k).flits ≡ cond (far_of p.net.own ways k) (link_at p.opening k).flits []
   pub credits : (k : ℕ) → (link_at p.net k).credits ≡ cond (near_of p.net.own ways k) (link_at p.opening k).credits []
-  pub side : p.side ≡ side_at p.sides p.net.own.worker
+  pub ends : (k : ℕ) → end_at p.ends k ≡ end_made (near_of p.net.own ways k) (far_of p.net.own ways k)
+      (line_at p.lines k)
+  pub all_ends : length p.ends ≡ link_count p.opening.mesh
   pub framed : IsFramed p.net
 
 both_none : {A : Type 0} (b : Bool) → ◌≡◌ {A = List A} (cond b [] []) []
@@ -62,7 +65,7 @@ both_none {A} true = refl
 both_none {A} false = refl
 
 module _ (p : PartState) (net : IsNet p.opening) (ways : List LinkEnds) (are : AreWays p.opening.mesh ways)
-    (made : AreSides p.opening p.net.own.workers p.sides) (dealt : IsDealtPart ways p) where
+    (made : AreLinesMade p.opening p.net.own.workers ways p.lines) (dealt : IsDealtPart ways p) where
   abbrev O : NetState
   O = p.opening
 
@@ -141,29 +144,35 @@ module _ (p : PartState) (net : IsNet p.opening) (ways : List LinkEnds) (are : A
         ∙ ((λ t. cond (near_is t) (link_at O k).credits []) ∙ ap (λ (l : List ℕ). cond (owns p y) l []) (sym
         (credits_there O y o net.framed has)))))
 
-    linked_now : neighbour_of p.net.mesh y o ≡ Some x
-    linked_now = ap (λ (m : List ℕ). neighbour_of m y o) dealt.config.mesh ∙ linked_by
+    pub end_linked : end_of p y o ≡ end_made (owns p y) (owns p x) (line_at p.lines k)
+    end_linked = rw has_now (ap (λ (n : ℕ). end_at p.ends n) number ∙ (dealt.ends k
+        ∙ (λ t. end_made (near_is t) (far_is t) (line_at p.lines k))))
 
-    pub end_linked : end_of p y o ≡ end_made (owns p y) (owns p x) (line_of p y o)
-    end_linked = ap (λ (n : Option ℕ). end_to p.net.own p.side y o n) linked_now
-        ∙ (end_first p.sides p.side p.net.own y x o dealt.side
-        ∙ ap (λ (n : Option ℕ). end_made (owns p y) (owns p x) (line_to p.net.own.workers p.sides y o n)) (sym
-        linked_by))
-
-    line_of_link : (y % p.net.own.workers ≡ x % p.net.own.workers → ⊥)
+    pub line_made : (y % p.net.own.workers ≡ x % p.net.own.workers → ⊥)
         → AreEndsMade O.mesh O.channels O.depth y o (past_of (shape p.opening) (network_of p.opening) y o x)
-        (line_of p y o).out (line_of p y o).into
-    line_of_link apart =
-        let below = dealt.worker in
-        line_made O net.framed p.net.own.workers (omega arith) p.sides made y o x linked apart
+        (line_at p.lines k).out (line_at p.lines k).into
+    line_made apart =
+        let W = p.net.own.workers in
+        let line = line_at p.lines k in
+        let z = way_at ways k in
+        let all = made.all in
+        let within = way.within in
+        let had = made.each k (omega arith) (λ e. apart (subst (λ (i : ℕ). i % W ≡ x % W) way.from (subst (λ
+        (i : ℕ). z.from % W ≡ i % W) way.to e))) in
+        subst (λ (i : ℕ). AreEndsMade O.mesh O.channels O.depth y o (past_of (shape O) old y o i) line.out line.into)
+        way.to
+        (subst (λ (i : ℕ). AreEndsMade O.mesh O.channels O.depth y i (past_of
+        (shape O) old y i z.to) line.out line.into) way.out_port
+        (subst (λ (i : ℕ). AreEndsMade O.mesh O.channels O.depth i z.out_port (past_of
+        (shape O) old i z.out_port z.to) line.out line.into) way.from had))
 
     pub unused : IsUnused (owns p y) (owns p x) (end_of p y o)
     unused =
-        let line = line_of p y o in
+        let line = line_at p.lines k in
         subst (λ (e : End). IsUnused (owns p y) (owns p x) e) (sym end_linked)
         (first_unused O.mesh O.channels O.depth y o (past_of (shape p.opening) (network_of p.opening) y o x) (owns p y)
         (owns p x) line.out line.into
-        (λ apart. line_of_link (λ e. apart (ap (λ (r : ℕ). r == p.net.own.worker) e))))
+        (λ apart. line_made (λ e. apart (ap (λ (r : ℕ). r == p.net.own.worker) e))))
 
   -- a port with no link
   module _ (y o : ℕ) (none : (shape p.opening).neighbour y o ≡ None) where
@@ -184,9 +193,7 @@ module _ (p : PartState) (net : IsNet p.opening) (ways : List LinkEnds) (are : A
     bare_line m e = rw e refl
 
     pub end_unlinked : end_of p y o ≡ Inner
-    unfolding net_shape
-    end_unlinked = ap (λ (n : Option ℕ). end_to p.net.own p.side y o n)
-        (ap (λ (m : List ℕ). neighbour_of m y o) dealt.config.mesh ∙ none)
+    end_unlinked = rw none_now refl
 
     pub out_unlinked : owns p y ≡ true → N.out y o ≡ old.out y o
     out_unlinked e = bare_out p.net none_now
@@ -245,7 +252,7 @@ module _ (p : PartState) (net : IsNet p.opening) (ways : List LinkEnds) (are : A
               (fresh.buffered x q v)
         ];
         out = λ x o. all_of (IsSent s) (N.out x o) (old.out x o) (out_either x o (s.neighbour x o) refl) (then.out x o);
-        entries = λ y o. all_of (λ (c : ℕ). c < s.vcs) (N.credit_list y o) (old.credit_list y o)
+        entries = λ y o. all_of (λ (c : ℕ). c < s.channels) (N.credit_list y o) (old.credit_list y o)
             (line_either y o (s.neighbour y o) refl) (then.entries y o);
         few = λ x o y c linked c_in. elim (bool_cases (owns p x)) [
           | inl e ↦ subst (λ (n : ℕ). n ≤ s.depth) (sym ((same_mine x e).credits o c)) (then.few x o y c linked c_in)
@@ -311,9 +318,12 @@ module _ (p : PartState) (net : IsNet p.opening) (ways : List LinkEnds) (are : A
         opened = net;
         config = dealt.config;
         worker = dealt.worker;
-        made = made;
-        same = subst (λ (side : SideView). IsSameSide (side_at p.sides p.net.own.worker) side) (sym dealt.side)
-            (same_side (side_at p.sides p.net.own.worker));
+        made = λ y o x linked apart. line_made y o x linked apart;
+        all_ends = dealt.all_ends ∙ ap link_count (sym dealt.config.mesh);
+        ends = λ y o x linked. subst (λ (e : End). IsSameEnd (end_made (owns p y) (owns p x) (line_at p.lines
+            (links_before p.opening.mesh y o))) e)
+            (sym (end_linked y o x linked)) (same_end_itself (end_made (owns p y) (owns p x) (line_at p.lines
+            (links_before p.opening.mesh y o))));
         holds = subst (λ (f : ℕ → ℕ → List ℕ). HasPart s old (owns p) (part_network p) (taken_by p) f) returns
             (subst (λ (f : ℕ → ℕ → List Flit). HasPart s old (owns p) (part_network p) f (λ y o. [])) takes begun);
       }

@@ -1,14 +1,14 @@
 -- What the parts of one split know together: the configuration, which worker owns a node, and the links by number.
-use Rattle.std.proofs.Common.{◌≡◌, ℕ, ◌<◌, ◌≤◌, ◌%◌, ◌==◌, Bool, true, false, inl, inr, List, [], length, Option, Some}
+use Rattle.std.proofs.Common.{◌≡◌, ℕ, ◌<◌, ◌≤◌, ◌%◌, ◌==◌, Bool, true, false, cond, inl, inr, List, [], length, Some}
 use Rattle.std.proofs.Common.{refl, arith, sym, ap, subst, ◌∙◌, eq-eqb}
 use Rattle.std.proofs.lemmas.List.{get_or_past}
 use Rattle.std.proofs.lemmas.Bool.{cases_lt}
 use Rattle.worm_flit.specs.declared.Flit.{Flit}
-use Rattle.worm_mesh.specs.Address.{neighbour_of, Joins}
+use Rattle.worm_mesh.specs.Address.{has_neighbour, neighbour_of, Joins}
 use Rattle.worm_mesh.specs.Links.{links_before}
 use Rattle.worm_mesh.specs.declared.mesh.LinkEnds.{LinkEnds}
 use Rattle.worm_mesh.proofs.Digits.{AreLarge, AreLarge-from_radices}
-use Rattle.worm_mesh.proofs.Neighbours.{Joins-from, Joins-unique, neighbour_of-none, no_port}
+use Rattle.worm_mesh.proofs.Neighbours.{Joins-from, Joins-unique}
 use Rattle.worm_mesh.proofs.Numbers.{one_link, below_count}
 use Rattle.worm_theory.specs.Shape.{IsMesh}
 use Rattle.worm_theory.proofs.Places.{number_cases}
@@ -20,16 +20,15 @@ use Rattle.worm_parts.specs.Join.{Holds}
 use Rattle.worm_parts.specs.Region.{HasPart, Begins}
 use Rattle.worm_parts.specs.Openings.{past_of}
 use Rattle.worm_parts.proofs.RegionQueues.{first_part}
+use Rattle.worm_split.specs.declared.ends.End.TheVariants.{Inner}
+use Rattle.worm_split.specs.declared.ends.Line.{Line}
 use Rattle.worm_split.specs.Apart.{AreWays}
-use Rattle.worm_split.specs.Ends.{AreEndsMade, Inner, IsSameEnd, Line, end_made, returned_on, taken_on}
+use Rattle.worm_split.specs.Ends.{AreEndsMade, IsSameEnd, end_made, line_at, returned_on, taken_on}
 use Rattle.worm_split.specs.Exchange.{way_at}
 use Rattle.worm_split.specs.Joins.{AreParts, owner_of}
 use Rattle.worm_split.specs.PartState.{PartState, IsPart, end_of, part_network, returned_to, taken_by}
-use Rattle.worm_split.specs.Sides.{AreSides, SideView, end_to, line_by}
 use Rattle.worm_split.specs.Splits.{no_part, part_at}
-use Rattle.worm_split.proofs.LinesMade.{line_made}
 use Rattle.worm_split.proofs.Meeting.{Meet, ends_meet, still_inner}
-use Rattle.worm_split.proofs.SameEnds.{ends_same}
 
 -- the five that hold of a network
 pub net_holds : (s : NetState) → IsNet s → Holds (shape s) (network_of s)
@@ -65,10 +64,9 @@ way_is mesh ways large are y o x linked =
     (z : ℕ). Joins mesh z way.out_port way.to) same.0 ends.joined) in
     record { within = within; from = same.0; out_port = same.1; to = Joins-unique mesh y o way.to x large there joins }
 
--- who has nothing has no end
-no_end : (y o : ℕ) → Inner ≡ end_of no_part y o
-no_end y o = ap (λ (n : Option ℕ). end_to no_part.net.own no_part.side y o n)
-    (sym (neighbour_of-none [] y o (no_port [] y o (omega arith))))
+no_end : (b : Bool) → cond b Inner Inner ≡ Inner
+no_end true = refl
+no_end false = refl
 
 pub not_same : (a b : ℕ) → (a ≡ b → ⊥) → (a == b) ≡ false
 not_same a b apart = elim (number_cases a b) [ inl here ↦ absurd (apart here.1) | inr away ↦ away.0 ]
@@ -114,8 +112,9 @@ module _ (parts : List PartState) (are : AreParts parts) (hold : (w : ℕ) → w
       (λ y o. []) (λ y o. [])
       → HasPart (shape opening) (network_of opening) own (part_network no_part) (taken_by no_part) (returned_to no_part)
   has_nothing own h =
-      let takes : (λ (y o : ℕ). []) ≡ taken_by no_part = λ t y o. taken_on (no_end y o t) in
-      let returns : (λ (y o : ℕ). []) ≡ returned_to no_part = λ t y o. returned_on (no_end y o t) in
+      let takes : (λ (y o : ℕ). []) ≡ taken_by no_part = λ t y o. taken_on (sym (no_end (has_neighbour [] y o)) t) in
+      let returns : (λ (y o : ℕ). []) ≡ returned_to no_part = λ t y o. returned_on (sym (no_end
+      (has_neighbour [] y o)) t) in
       subst (λ (f : ℕ → ℕ → List ℕ). HasPart (shape opening) (network_of opening) own (part_network no_part)
       (taken_by no_part) f) returns
       (subst (λ (f : ℕ → ℕ → List Flit). HasPart (shape opening) (network_of opening) own (part_network no_part) f
@@ -157,39 +156,32 @@ module _ (parts : List PartState) (are : AreParts parts) (hold : (w : ℕ) → w
         (has_nothing own begun)
   ]
 
-  -- what each worker had by port, as it was made, and with it of a link the two ends
-  abbrev pub sides_made : List SideView
-  sides_made = (part_at parts 0).sides
-
-  abbrev pub made_line : ℕ → ℕ → Line
-  made_line y o = line_by (part_at parts 0).opening.mesh (length parts) (part_at parts 0).sides y o
-
-  pub all_made : AreSides opening workers sides_made
-  all_made = subst (λ (own : Own). AreSides opening own.workers sides_made) (are.owns 0 are.some) first.made
-
   -- both ends of a link between two workers, as they were made
   pub made : (y o x : ℕ) → (shape opening).neighbour y o ≡ Some x → (y % workers ≡ x % workers → ⊥)
-      → AreEndsMade opening.mesh opening.channels opening.depth y o (past_of (shape opening) (network_of opening) y o x)
-      (made_line y o).out (made_line y o).into
+      → let line = line_at (part_at parts 0).lines (links_before opening.mesh y o) in
+      AreEndsMade opening.mesh opening.channels opening.depth y o (past_of (shape opening)
+      (network_of opening) y o x) line.out line.into
   made y o x linked apart =
-      line_made opening first.opened.framed workers are.some sides_made all_made y o x linked apart
+      let all = ap (λ (own : Own). own.workers) (are.owns 0 are.some) in
+      first.made y o x linked (λ e. apart (subst (λ (n : ℕ). y % n ≡ x % n) all e))
 
   -- a worker's end of a link is one of them, whatever went over it
   pub same_end : (w : ℕ) → w < workers → (y o x : ℕ) → (shape opening).neighbour y o ≡ Some x
-      → IsSameEnd (end_made (y % workers == w) (x % workers == w) (made_line y o)) (end_of (part_at parts w) y o)
+      → IsSameEnd (end_made (y % workers == w) (x % workers == w) (line_at (part_at parts 0).lines
+      (links_before opening.mesh y o))) (end_of (part_at parts w) y o)
   same_end w below y o x linked =
       let p = part_at parts w in
+      let k = links_before opening.mesh y o in
       let back = are.one_opening w below in
       let then : (shape p.opening).neighbour y o ≡ Some x = subst (λ (z : NetState).
       (shape z).neighbour y o ≡ Some x) (sym back) linked in
-      let had = ends_same p (hold w below) y o x then in
+      let had = (hold w below).ends y o x then in
       let by_opening = subst (λ (z : NetState). IsSameEnd (end_made (owned_by p.net.own y) (owned_by p.net.own x)
-      (line_by z.mesh p.net.own.workers p.sides y o)) (end_of p y o)) back had in
-      let by_sides = subst (λ (sides : List SideView). IsSameEnd (end_made (owned_by p.net.own y)
-      (owned_by p.net.own x) (line_by opening.mesh p.net.own.workers sides y o)) (end_of p y o))
-      (are.one_split w below) by_opening in
-      subst (λ (own : Own). IsSameEnd (end_made (owned_by own y) (owned_by own x)
-      (line_by opening.mesh own.workers sides_made y o)) (end_of p y o)) (are.owns w below) by_sides
+      (line_at p.lines (links_before z.mesh y o))) (end_of p y o)) back had in
+      let by_lines = subst (λ (lines : List Line). IsSameEnd (end_made (owned_by p.net.own y) (owned_by p.net.own x)
+      (line_at lines k)) (end_of p y o)) (are.one_split w below) by_opening in
+      subst (λ (own : Own). IsSameEnd (end_made (owned_by own y) (owned_by own x) (line_at
+      (part_at parts 0).lines k)) (end_of p y o)) (are.owns w below) by_lines
 
   pub owner_below : (x : ℕ) → x % workers < workers
   owner_below x = let some = are.some in omega arith
@@ -198,7 +190,7 @@ module _ (parts : List PartState) (are : AreParts parts) (hold : (w : ℕ) → w
   pub ends_of_link : (y o x : ℕ) → (shape opening).neighbour y o ≡ Some x → (y % workers ≡ x % workers → ⊥)
       → Meet (end_of (owner_of parts y) y o) (end_of (owner_of parts x) y o)
   ends_of_link y o x linked apart =
-      let line = made_line y o in
+      let line = line_at (part_at parts 0).lines (links_before opening.mesh y o) in
       let near = same_end (y % workers) (owner_below y) y o x linked in
       let far = same_end (x % workers) (owner_below x) y o x linked in
       let here : (y % workers == y % workers) ≡ true = eq-eqb _ _ refl in

@@ -1,24 +1,22 @@
 -- A part put back: what is gathered is one worker's more.
 use Rattle.std.proofs.Common.{◌≡◌, ℕ, ◌+◌, ◌<◌, ◌≤◌, ◌%◌, Bool, true, false, cond, inl, inr, List, length}
 use Rattle.std.proofs.Common.{refl, arith, sym, ap, subst, ◌∙◌, eq-eqb}
-use Rattle.std.specs.Prelude.{slice_index_or, slice_set}
-use Rattle.std.proofs.Math.ListN.{length-set}
+use Rattle.std.specs.Prelude.{slice_index_or}
 use Rattle.std.proofs.lemmas.Bool.{cases_eq}
-use Rattle.std.proofs.lemmas.List.{get_or-set_other, get_or-set_same}
 use Rattle.worm_region.specs.Owned.{owned_by}
 use Rattle.worm_region.specs.State.{IsFramed, link_at}
 use Rattle.worm_node.specs.declared.node.Node.{Node}
 use Rattle.worm_region.specs.declared.own.Own.{Own}
-use Rattle.worm_split.specs.Ends.{End}
+use Rattle.worm_split.specs.declared.ends.End.{End}
 use Rattle.worm_split.specs.Apart.{Apart, IsPutBack}
+use Rattle.worm_split.specs.Ends.{end_at, line_at}
 use Rattle.worm_split.specs.Exchange.{way_at}
-use Rattle.worm_split.specs.Joins.{AreParts, IsGathered, owner_of}
+use Rattle.worm_split.specs.Joins.{AreParts, IsBetween, IsGathered, owner_of}
 use Rattle.worm_split.specs.PartState.{PartState, IsPart}
-use Rattle.worm_split.specs.Sides.{SideView, no_side, side_at}
 use Rattle.worm_split.specs.Splits.{part_at}
 use Rattle.worm_split.proofs.Exchanged.{config_then}
 use Rattle.worm_split.proofs.Gathered.{not_same}
-use Rattle.worm_split.proofs.Swapped.{link_in, links_now, nodes_now}
+use Rattle.worm_split.proofs.Swapped.{ends_now, link_in, links_now, nodes_now}
 
 pub either_way : (b : Bool) (a : End) → cond b a a ≡ a
 either_way true a = refl
@@ -28,7 +26,7 @@ module _ (parts : List PartState) (are : AreParts parts) (n : ℕ) (there : n < 
     (gathered : IsGathered parts (n + 1) kept)
     (part : IsPart (part_at parts n)) (framed : IsFramed (part_at parts n).net)
     (back : IsPutBack (part_at parts n).net.own kept new (part_at parts n).net.nodes (part_at parts n).net.links
-    (part_at parts n).side) where
+    (part_at parts n).ends) where
   abbrev p : PartState
   p = part_at parts n
 
@@ -80,17 +78,35 @@ module _ (parts : List PartState) (are : AreParts parts) (n : ℕ) (there : n < 
       (links_now p.net.own kept.ways kept.net.links p.net.links new.net.links back.1 back.3.links k).credits
       (gathered.credits k)
 
-  -- by port the part has what it had, and the others what was gathered
-  put_at : new.sides ≡ slice_set kept.sides n p.side
-  put_at = back.3.sides ∙ ap (λ (own : Own). slice_set kept.sides own.worker p.side) (are.owns n there)
-
-  new_side : (w : ℕ) → n ≤ w → w < length parts → side_at new.sides w ≡ (part_at parts w).side
-  new_side w from below =
-      let all = gathered.all_sides in
-      ap (λ (l : List SideView). side_at l w) put_at ∙ elim (cases_eq w n) [
-        | inl e ↦ rw e (get_or-set_same kept.sides n p.side no_side (omega arith))
+  new_out : (k : ℕ) → let way = way_at kept.ways k in IsBetween W kept.ways k → n ≤ way.from % W
+      → (line_at new.lines k).out ≡ end_at (owner_of parts way.from).ends k
+  new_out k between from =
+      let way = way_at kept.ways k in
+      let now = (ends_now p.net.own kept.ways kept.lines p.ends new.lines back.2 back.3.ends k).out in
+      elim (cases_eq (way.from % W) n) [
+        | inl e ↦
+            let near = owned_here way.from e in
+            let far = owned_not way.to (λ f. between (e ∙ sym f)) in
+            now ∙ (rw (near, far) refl ∙ ap (λ (q : PartState). end_at q.ends k) (sym (owner_here way.from e)))
         | inr apart ↦
-            get_or-set_other kept.sides n w p.side no_side apart ∙ gathered.sides w (omega arith) below
+            let near = owned_not way.from apart in
+            now ∙ (rw near refl ∙ gathered.outs k between (further_on way.from from apart))
+      ]
+
+  new_into : (k : ℕ) → let way = way_at kept.ways k in IsBetween W kept.ways k → n ≤ way.to % W
+      → (line_at new.lines k).into ≡ end_at (owner_of parts way.to).ends k
+  new_into k between from =
+      let way = way_at kept.ways k in
+      let now = (ends_now p.net.own kept.ways kept.lines p.ends new.lines back.2 back.3.ends k).into in
+      elim (cases_eq (way.to % W) n) [
+        | inl e ↦
+            let far = owned_here way.to e in
+            let near = owned_not way.from (λ f. between (f ∙ sym e)) in
+            now ∙ (rw (near, far) refl ∙ ap (λ (q : PartState). end_at q.ends k) (sym (owner_here way.to e)))
+        | inr apart ↦
+            let far = owned_not way.to apart in
+            now ∙ (rw far (either_way (owned_by p.net.own way.from) (line_at kept.lines k).into)
+            ∙ gathered.intos k between (further_on way.to from apart))
       ]
 
   holds_on : (w : ℕ) → n ≤ w → w < length parts → IsPart (part_at parts w) × IsFramed (part_at parts w).net
@@ -107,6 +123,6 @@ module _ (parts : List PartState) (are : AreParts parts) (n : ℕ) (there : n < 
     nodes = new_node;
     flits = rw back.3.ways new_flits;
     credits = rw back.3.ways new_credits;
-    all_sides = ap (λ (l : List SideView). length l) put_at ∙ (length-set kept.sides n p.side ∙ gathered.all_sides);
-    sides = new_side;
+    outs = rw back.3.ways new_out;
+    intos = rw back.3.ways new_into;
   }

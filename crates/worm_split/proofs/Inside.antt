@@ -1,10 +1,14 @@
 -- What a part's network does by itself, at one of the part's nodes, keeps it a part.
-use Rattle.std.proofs.Common.{◌≡◌, ℕ, ◌<◌, true, false, List, Option, Some, None, refl}
-use Rattle.std.proofs.Common.{arith, sym, subst, ◌∙◌}
-use Rattle.worm_mesh.specs.Address.{neighbour_of, node_count}
+use Rattle.std.proofs.Common.{◌≡◌, ℕ, ◌<◌, true, false, cond, inl, inr, List, Some, None, refl}
+use Rattle.std.proofs.Common.{arith, sym, ap, subst, ◌∙◌}
+use Rattle.worm_mesh.specs.Address.{has_neighbour, node_count}
+use Rattle.worm_mesh.specs.Links.{links_before, link_count}
+use Rattle.worm_mesh.proofs.Digits.{AreLarge-from_radices}
+use Rattle.worm_mesh.proofs.Neighbours.{IsLink-from_test, neighbour_of-some}
 use Rattle.worm_router.specs.Allocation.{after_allocate}
 use Rattle.worm_theory.specs.Network.{Network}
 use Rattle.worm_theory.specs.Steps.{Grant}
+use Rattle.worm_theory.proofs.Places.{bool_cases}
 use Rattle.worm_region.specs.Shape.{net_shape}
 use Rattle.worm_region.specs.State.{NetState, IsSameConfig, shape, network_of, router_at, with_router}
 use Rattle.worm_region.specs.Moves.{chosen_router}
@@ -18,13 +22,13 @@ use Rattle.worm_region.specs.declared.own.Own.{Own}
 use Rattle.worm_script.specs.declared.entry.Entry.{Entry}
 use Rattle.worm_region.proofs.PassIsGrants.{IsKeptByGrants, allocated_keeps, chosen_apart}
 use Rattle.worm_parts.specs.Region.{HasPart}
-use Rattle.worm_split.specs.Ends.{End, Inner, Leaving, Entering, seen_by, taken_on, returned_on}
+use Rattle.worm_split.specs.declared.ends.End.{End}
+use Rattle.worm_split.specs.declared.ends.End.TheVariants.{Inner, Leaving, Entering}
+use Rattle.worm_split.specs.Ends.{IsSameEnd, end_made, end_at, line_at, seen_by, taken_on, returned_on}
 use Rattle.worm_split.specs.PartState.{PartState, IsPart, end_of, owns, taken_by, returned_to}
 use Rattle.worm_split.proofs.Keeping.{IsOf, Keeps, keeps_answer, keeps_asking, keeps_credits, keeps_flits}
 use Rattle.worm_split.proofs.Keeping.{keeps_feeding, keeps_routing, keeps_then}
-use Rattle.worm_split.specs.Sides.{AreSides, IsSameSide, end_by, side_at}
-use Rattle.worm_split.proofs.PartFacts.{mesh_of_part, no_end_there, part_shape, is_leaving, is_entering}
-use Rattle.worm_split.proofs.SharedPorts.{link_then}
+use Rattle.worm_split.proofs.PartFacts.{mesh_of_part, part_shape, is_leaving, is_entering}
 use Rattle.worm_split.proofs.Within.{SeesFlits, SeesCredits}
 
 module _ (p : PartState) (part : IsPart p) where
@@ -40,7 +44,8 @@ module _ (p : PartState) (part : IsPart p) where
   pub part_with_net : (net : NetState) → IsInside net → IsSameConfig p.net net → IsPart (record p { net = net })
   part_with_net net inside config =
       let ends : end_of p ≡ end_of (record p { net = net }) =
-      λ t. end_by (sym config.mesh t) (sym config.own t) p.side in
+      λ t y o. cond (has_neighbour (sym config.mesh t) y o)
+      (end_at p.ends (links_before (sym config.mesh t) y o)) Inner in
       record {
         opened = part.opened;
         config = record {
@@ -50,8 +55,14 @@ module _ (p : PartState) (part : IsPart p) where
           names = config.names ∙ part.config.names;
         };
         worker = subst (λ (w : Own). w.worker < w.workers) (sym config.own) part.worker;
-        made = subst (λ (w : Own). AreSides p.opening w.workers p.sides) (sym config.own) part.made;
-        same = subst (λ (w : Own). IsSameSide (side_at p.sides w.worker) p.side) (sym config.own) part.same;
+        made = rw config.own part.made;
+        all_ends = part.all_ends ∙ ap link_count (sym config.mesh);
+        ends = λ y o x linked.
+            let line = line_at p.lines (links_before p.opening.mesh y o) in
+            let first = subst (λ (f : ℕ → ℕ → End). IsSameEnd (end_made (owns p y) (owns p x) line) (f y o)) ends
+            (part.ends y o x linked) in
+            subst (λ (w : Own). IsSameEnd (end_made (owned_by w y) (owned_by w x) line)
+            (end_of (record p { net = net }) y o)) (sym config.own) first;
         holds =
             let Holds : (ℕ → ℕ → End) → Type 0 =
             λ f. HasPart (shape p.opening) (network_of p.opening) (owns p) (seen_by f (network_of net))
@@ -100,13 +111,16 @@ module _ (p : PartState) (part : IsPart p) where
         let clash : true ≡ false = sym here ∙ is.near_elsewhere in
         absurd (cc)
 
-    out_sees_by : (o : ℕ) (n : Option ℕ) → neighbour_of p.net.mesh x o ≡ n → SeesCredits (end_of p x o)
-    unfolding net_shape
-    out_sees_by o None none = subst (λ (e : End). SeesCredits e) (sym (no_end_there p part x o none)) (λ credits. refl)
-    out_sees_by o (Some y) linked = by_out o y (link_then p part x o y linked) (end_of p x o) refl
-
     pub out_sees : (o : ℕ) → SeesCredits (end_of p x o)
-    out_sees o = out_sees_by o (neighbour_of p.net.mesh x o) refl
+    unfolding net_shape
+    out_sees o = elim (bool_cases (has_neighbour p.net.mesh x o)) [
+      | inl has ↦
+          let large = AreLarge-from_radices p.opening.mesh part.opened.framed.radices.radices in
+          let then : has_neighbour p.opening.mesh x o ≡ true = rw (← part.config.mesh) has in
+          let link = IsLink-from_test p.opening.mesh x o large then in
+          by_out o link.0 (neighbour_of-some p.opening.mesh x o link.0 large link.1) (end_of p x o) refl
+      | inr none ↦ rw none (λ credits. refl)
+    ]
 
     abbrev KeepsIt : Passage → Type 0
     KeepsIt P = Keeps (shape p.opening) (mesh_of_part p part) (network_of p.opening) (owns p) (end_of p) (taken_by p)

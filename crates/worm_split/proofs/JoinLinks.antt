@@ -1,29 +1,26 @@
 -- The links of the parts joined: what each has, and what its queues still held.
-use Rattle.std.proofs.Common.{◌≡◌, ℕ, ◌+◌, ◌<◌, ◌≤◌, ◌%◌, ◌==◌, true, inl, inr, List, []}
-use Rattle.std.proofs.Common.{◌++◌, length, Option, Some, refl, arith, sym, ap, subst, ◌∙◌, append-nil, eq-eqb}
+use Rattle.std.proofs.Common.{◌≡◌, ℕ, ◌+◌, ◌<◌, ◌≤◌, ◌%◌, true, inl, inr, List, []}
+use Rattle.std.proofs.Common.{◌++◌, length, Some, refl, arith, sym, ap, subst, ◌∙◌, append-nil}
 use Rattle.std.specs.Prelude.{slice_index_or}
 use Rattle.worm_flit.specs.declared.Flit.{Flit}
-use Rattle.worm_mesh.specs.Address.{has_neighbour, neighbour_of, opposite_of}
+use Rattle.worm_mesh.specs.Address.{has_neighbour, neighbour_of}
 use Rattle.worm_mesh.specs.Links.{links_before}
 use Rattle.worm_mesh.proofs.Neighbours.{Joins-from, has_neighbour-from_Joins}
 use Rattle.worm_theory.proofs.Places.{number_cases}
-use Rattle.worm_region.specs.Owned.{owned_by}
 use Rattle.worm_region.specs.Shape.{net_shape}
 use Rattle.worm_region.specs.State.{IsFramed, link_at, network_of, shape}
-use Rattle.worm_region.specs.declared.own.Own.{Own}
 use Rattle.worm_wires.specs.Links.{LinkView, blank_link}
 use Rattle.worm_region.proofs.LinkWritten.{credits_there, out_there}
-use Rattle.worm_split.specs.Ends.{End, Inner, Leaving, end_made, given_on, returned_on, sent_on, taken_on}
+use Rattle.worm_split.specs.declared.ends.End.{End}
+use Rattle.worm_split.specs.declared.ends.End.TheVariants.{Inner, Leaving}
 use Rattle.worm_split.specs.Apart.{Apart, AreWays}
+use Rattle.worm_split.specs.Ends.{end_at, given_on, line_at, returned_on, sent_on, taken_on}
 use Rattle.worm_split.specs.Exchange.{way_at}
-use Rattle.worm_split.specs.Joins.{AreEmptied, AreParts, IsBetween, IsEmptied, IsEmptiedOf, IsGathered, line_at}
+use Rattle.worm_split.specs.Joins.{AreEmptied, AreOfOne, AreParts, IsBetween, IsEmptied, IsEmptiedOf, IsGathered}
 use Rattle.worm_split.specs.Joins.{owner_of}
 use Rattle.worm_split.specs.PartState.{PartState, IsPart, end_of, part_network, returned_to, taken_by}
-use Rattle.worm_split.specs.Sides.{SideView, end_to, entering_at, inlet_at, leaving_at, line_between, outlet_at}
-use Rattle.worm_split.specs.Sides.{side_at}
 use Rattle.worm_split.specs.Splits.{part_at}
-use Rattle.worm_split.proofs.Gathered.{IsWay, ends_of_link, end_within, large, not_same, owner_below, part_mesh}
-use Rattle.worm_split.proofs.Gathered.{way_is}
+use Rattle.worm_split.proofs.Gathered.{IsWay, ends_of_link, end_within, large, owner_below, part_mesh, way_is}
 
 module _ (parts : List PartState) (are : AreParts parts) (kept : Apart) (gathered : IsGathered parts 0 kept) where
   pub hold : (w : ℕ) → w < length parts → IsPart (part_at parts w)
@@ -87,14 +84,8 @@ module _ (parts : List PartState) (are : AreParts parts) (kept : Apart) (gathere
       number : links_before p.net.mesh y o ≡ k
       number = ap (λ (m : List ℕ). links_before m y o) (part_mesh parts are hold w below)
 
-      linked_now : neighbour_of p.net.mesh y o ≡ Some x
-      linked_now = ap (λ (m : List ℕ). neighbour_of m y o) (part_mesh parts are hold w below) ∙ linked_by
-
-      pub end_here : end_of p y o ≡ end_made (y % length parts == w) (x % length parts == w)
-          (line_between p.side p.side y o)
-      end_here = ap (λ (n : Option ℕ). end_to p.net.own p.side y o n) linked_now
-          ∙ ap (λ (own : Own). end_made (owned_by own y) (owned_by own x) (line_between p.side p.side y o))
-          (are.owns w below)
+      pub end_here : end_of p y o ≡ end_at p.ends k
+      end_here = rw has_now (ap (λ (n : ℕ). end_at p.ends n) number)
 
       pub flits_here : (network_of p.net).out y o ≡ (link_at p.net k).flits
       flits_here = out_there p.net y o (framed w below) has_now ∙ ap (λ (n : ℕ). (link_at p.net n).flits) number
@@ -116,43 +107,28 @@ module _ (parts : List PartState) (are : AreParts parts) (kept : Apart) (gathere
         (owner_of parts z).net k).credits) way.from
         (gathered.credits k (omega arith)) ∙ sym (credits_here (y % length parts) (owner_below parts are hold y))
 
-    long : length kept.sides ≡ length parts
-    long = gathered.all_sides
+    between : (y % length parts ≡ x % length parts → ⊥) → IsBetween (length parts) kept.ways k
+    between apart e = apart (subst (λ (z : ℕ). y % length parts ≡ z % length parts) way.to
+        (subst (λ (z : ℕ). z % length parts ≡ (way_at kept.ways k).to % length parts) way.from e))
 
-    between : (y % length parts ≡ x % length parts → ⊥) → IsBetween (length kept.sides) kept.ways k
-    between apart = subst (λ (n : ℕ). IsBetween n kept.ways k) (sym long) (λ e. apart
-        (subst (λ (z : ℕ). y % length parts ≡ z % length parts) way.to
-        (subst (λ (z : ℕ). z % length parts ≡ (way_at kept.ways k).to % length parts) way.from e)))
-
-    same_owner : (z : ℕ) → (z % length parts == z % length parts) ≡ true
-    same_owner z = eq-eqb _ _ refl
-
-    -- the ends that were put back are those that the two parts have of the link
-    out_gathered : (y % length parts ≡ x % length parts → ⊥)
-        → (line_at kept.sides (way_at kept.ways k)).out ≡ end_of near y o
+    out_gathered : (y % length parts ≡ x % length parts → ⊥) → (line_at kept.lines k).out ≡ end_of near y o
     out_gathered apart =
-        let own = same_owner y in
-        let other = not_same (x % length parts) (y % length parts) (λ e. apart (sym e)) in
-        let end = end_here (y % length parts) (owner_below parts are hold y) in
-        let here : end_of near y o ≡ leaving_at y (outlet_at near.side o) = rw (own, other) at end in
-        let read : (line_at kept.sides (way_at kept.ways k)).out ≡
-        leaving_at y (outlet_at (side_at kept.sides (y % length parts)) o) = λ t. leaving_at (way.from t)
-        (outlet_at (side_at kept.sides (way.from t % long t)) (way.out_port t)) in
-        read ∙ (ap (λ (s : SideView). leaving_at y (outlet_at s o)) (gathered.sides (y % length parts) (omega arith)
-        (owner_below parts are hold y)) ∙ sym here)
+        subst (λ (z : ℕ). (line_at kept.lines k).out ≡ end_at (owner_of parts z).ends k) way.from
+        (gathered.outs k (between apart) (omega arith)) ∙ sym (end_here (y % length parts)
+        (owner_below parts are hold y))
 
-    into_gathered : (y % length parts ≡ x % length parts → ⊥)
-        → (line_at kept.sides (way_at kept.ways k)).into ≡ end_of far y o
+    into_gathered : (y % length parts ≡ x % length parts → ⊥) → (line_at kept.lines k).into ≡ end_of far y o
     into_gathered apart =
-        let own = same_owner x in
-        let other = not_same (y % length parts) (x % length parts) apart in
-        let end = end_here (x % length parts) (owner_below parts are hold x) in
-        let here : end_of far y o ≡ entering_at y (inlet_at far.side (opposite_of o)) = rw (own, other) at end in
-        let read : (line_at kept.sides (way_at kept.ways k)).into ≡
-        entering_at y (inlet_at (side_at kept.sides (x % length parts)) (opposite_of o)) = λ t. entering_at (way.from t)
-        (inlet_at (side_at kept.sides (way.to t % long t)) (opposite_of (way.out_port t))) in
-        read ∙ (ap (λ (s : SideView). entering_at y (inlet_at s (opposite_of o))) (gathered.sides (x % length parts)
-        (omega arith) (owner_below parts are hold x)) ∙ sym here)
+        subst (λ (z : ℕ). (line_at kept.lines k).into ≡ end_at (owner_of parts z).ends k) way.to
+        (gathered.intos k (between apart) (omega arith)) ∙ sym (end_here (x % length parts)
+        (owner_below parts are hold x))
+
+    -- the two ends that were put back are of one queue
+    pub of_one : (y % length parts ≡ x % length parts → ⊥) → AreOfOne (line_at kept.lines k).out
+        (line_at kept.lines k).into
+    of_one apart =
+        let meet = ends_of_link parts are hold y o x linked apart in
+        rw (out_gathered apart, into_gathered apart, meet.near_is, meet.far_is) (meet.queue, meet.line)
 
     -- a part sees of the link that enters it its own list, and of the credit line of one that leaves it, too
     pub far_sees : (part_network far).out y o ≡ (network_of far.net).out y o
@@ -174,11 +150,12 @@ module _ (parts : List PartState) (are : AreParts parts) (kept : Apart) (gathere
           (ends_of_link parts are hold y o x linked away.1).near_is
     ]
 
-    module _ (links : List LinkView) (emptied : AreEmptied kept.ways kept.sides kept.net.links links) where
+    module _ (links : List LinkView) (emptied : AreEmptied (length parts)
+        (length kept.ways) kept.ways kept.lines kept.net.links links) where
       rest_within : y % length parts ≡ x % length parts → IsRest y o x links [] []
       rest_within same =
-          let k_same : (way_at kept.ways k).from % length kept.sides ≡
-          (way_at kept.ways k).to % length kept.sides = rw (way.from, way.to, long) same in
+          let k_same : (way_at kept.ways k).from % length parts ≡
+          (way_at kept.ways k).to % length parts = rw (way.from, way.to) same in
           let stays = emptied.within k k_same in
           record {
             within = λ e. (refl, refl);
@@ -193,9 +170,9 @@ module _ (parts : List PartState) (are : AreParts parts) (kept : Apart) (gathere
           let meet = ends_of_link parts are hold y o x linked apart in
           let a = slice_index_or kept.net.links k blank_link in
           let b = slice_index_or links k blank_link in
-          let line = line_at kept.sides (way_at kept.ways k) in
-          let did = emptied.between k way.within (between apart) in
-          let did_near = subst (λ (e : End). IsEmptied e line.into a b) (out_gathered apart ∙ meet.near_is) did in
+          let did = emptied.done k way.within (between apart) in
+          let did_near = subst (λ (e : End). IsEmptied e (line_at kept.lines k).into a b) (out_gathered apart
+          ∙ meet.near_is) did in
           let is : IsEmptiedOf meet.tx meet.back meet.rx meet.give a b
           = subst (λ (e : End). IsEmptied (Leaving meet.tx meet.back) e a b) (into_gathered apart
           ∙ meet.far_is) did_near in (

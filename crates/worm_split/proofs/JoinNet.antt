@@ -39,7 +39,8 @@ no_link_there m y o e = elim (bool_cases (has_neighbour m y o)) [
 
 module _ (parts : List PartState) (are : AreParts parts) (kept : Apart) (gathered : IsGathered parts 0 kept)
     (links : List LinkView)
-    (emptied : AreEmptied kept.ways kept.sides kept.net.links links) where
+    (emptied : AreEmptied (length parts)
+    (length kept.ways) kept.ways kept.lines kept.net.links links) where
   abbrev O : NetState
   O = (part_at parts 0).opening
 

@@ -1,5 +1,8 @@
 -- What a join gives: a network, its places as their owners had them, later than the one that was split.
-use Rattle.std.proofs.Common.{◌≡◌, ℕ, ◌%◌, List, length, Some, sym, ap, subst, ◌∙◌}
+use Rattle.std.proofs.Common.{◌≡◌, ℕ, ◌%◌, inl, inr, List, length, Some, sym, ap, subst, ◌∙◌}
+use Rattle.std.proofs.lemmas.Bool.{cases_lt}
+use Rattle.std.proofs.lemmas.List.{get_or_past}
+use Rattle.worm_mesh.specs.declared.mesh.LinkEnds.{LinkEnds}
 use Rattle.worm_theory.specs.Growth.{SinksGrow, SourcesGrow}
 use Rattle.worm_theory.specs.Shape.{Shape}
 use Rattle.worm_theory.specs.Network.{Network}
@@ -12,17 +15,43 @@ use Rattle.worm_wires.specs.Links.{LinkView}
 use Rattle.worm_region.specs.declared.own.Own.{Own}
 use Rattle.worm_parts.proofs.Regions.{parts_sinks, parts_sources}
 use Rattle.worm_split.specs.Apart.{Apart}
-use Rattle.worm_split.specs.Joins.{AreEmptied, AreParts, IsGathered, IsJoinOf, IsLaterThan, IsLinkJoined, owner_of}
+use Rattle.worm_split.specs.Ends.{line_at}
+use Rattle.worm_split.specs.Exchange.{way_at}
+use Rattle.worm_split.specs.Joins.{AreEmptied, AreOfOne, AreParts, IsBetween, IsGathered, IsJoinOf, IsLaterThan}
+use Rattle.worm_split.specs.Joins.{IsLinkJoined, owner_of}
 use Rattle.worm_split.specs.PartState.{PartState}
 use Rattle.worm_split.specs.Splits.{part_at}
-use Rattle.worm_split.proofs.Gathered.{has_part, mesh, owner_below, was}
+use Rattle.worm_split.proofs.MadeSoFar.{linked_of}
+use Rattle.worm_split.proofs.JoinLinks.{hold, of_one, ways}
+use Rattle.worm_split.proofs.Gathered.{first, has_part, mesh, owner_below, was}
 use Rattle.worm_split.proofs.JoinNet.{credits_left, flits_left, holds, holds_each, joined, joined_line, joined_out}
 use Rattle.worm_split.proofs.JoinNet.{left, nets, owner, queues, returneds, takens}
 use Rattle.worm_split.proofs.JoinState.{network_same, new, new_framed, node_same, shape_same}
 
+-- the ends that were put back of each link between two workers are of one queue
+pub queues_meet : (parts : List PartState) (are : AreParts parts) (kept : Apart) (gathered : IsGathered parts 0 kept)
+    (k : ℕ) → IsBetween (length parts) kept.ways k
+    → AreOfOne (line_at kept.lines k).out (line_at kept.lines k).into
+queues_meet parts are kept gathered k between = elim (cases_lt k (length kept.ways)) [
+  | inl below ↦
+      let O = (part_at parts 0).opening in
+      let way = way_at kept.ways k in
+      let ends = (ways parts are kept gathered).each k below in
+      let frame = (first parts are (hold parts are kept gathered)).opened.framed in
+      let linked = linked_of O way.from way.out_port way.to frame ends.joined in
+      subst (λ (i : ℕ). AreOfOne (line_at kept.lines i).out (line_at kept.lines i).into) ends.numbered
+      (of_one parts are kept gathered way.from way.out_port way.to linked between)
+  | inr past ↦
+      let none : way_at kept.ways k ≡ record { from = 0; out_port = 0; to = 0; in_port = 0 } = get_or_past
+      kept.ways k _ past in
+      absurd (between (ap (λ (z : LinkEnds). z.from % length parts) none
+      ∙ sym (ap (λ (z : LinkEnds). z.to % length parts) none)))
+]
+
 module _ (parts : List PartState) (are : AreParts parts) (kept : Apart) (gathered : IsGathered parts 0 kept)
     (links : List LinkView)
-    (emptied : AreEmptied kept.ways kept.sides kept.net.links links) where
+    (emptied : AreEmptied (length parts)
+    (length kept.ways) kept.ways kept.lines kept.net.links links) where
   abbrev pub result : NetState
   result = new parts are kept gathered links emptied
 

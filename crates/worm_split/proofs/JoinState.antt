@@ -7,25 +7,28 @@ use Rattle.worm_mesh.specs.Links.{links_before}
 use Rattle.worm_theory.proofs.Bridge.{same_network}
 use Rattle.worm_term.specs.Source.{queue_at}
 use Rattle.worm_region.specs.Shape.{net_shape}
-use Rattle.worm_node.specs.NewNodes.{fresh_node}
 use Rattle.worm_region.specs.State.{NetState, IsFramed, input_of}
+use Rattle.worm_node.specs.NewNodes.{fresh_node}
 use Rattle.worm_wires.specs.Links.{LinkView}
 use Rattle.worm_region.specs.State.{link_at, network_of, node_at, output_of, shape, sink_at}
 use Rattle.worm_node.specs.declared.node.Node.{Node}
 use Rattle.worm_region.proofs.LinkWritten.{credits_there, out_there}
-use Rattle.worm_split.specs.Ends.{End, Inner, sent_on}
+use Rattle.worm_split.specs.declared.ends.End.{End}
+use Rattle.worm_split.specs.declared.ends.End.TheVariants.{Inner}
 use Rattle.worm_split.specs.Apart.{Apart, with_lists}
+use Rattle.worm_split.specs.Ends.{sent_on}
 use Rattle.worm_split.specs.Joins.{AreEmptied, AreParts, IsGathered, owner_of}
 use Rattle.worm_split.specs.PartState.{PartState, IsPart, end_of}
 use Rattle.worm_split.specs.Splits.{part_at}
 use Rattle.worm_split.proofs.Gathered.{owner_below, part_channels, part_depth, part_mesh}
 use Rattle.worm_split.proofs.JoinLinks.{has, hold}
 use Rattle.worm_split.proofs.JoinNet.{joined, line_put, no_link_there, out_put}
-use Rattle.worm_split.proofs.LinksEmptied.{emptied_framed}
+use Rattle.worm_split.proofs.LinesEmptied.{emptied_framed}
 
 module _ (parts : List PartState) (are : AreParts parts) (kept : Apart) (gathered : IsGathered parts 0 kept)
     (links : List LinkView)
-    (emptied : AreEmptied kept.ways kept.sides kept.net.links links) where
+    (emptied : AreEmptied (length parts)
+    (length kept.ways) kept.ways kept.lines kept.net.links links) where
   abbrev pub new : NetState
   new = with_lists kept.net kept.net.nodes links
 
@@ -64,7 +67,7 @@ module _ (parts : List PartState) (are : AreParts parts) (kept : Apart) (gathere
         ∙ ap (λ (n : Node). slice_index_or q.net.nodes x n) fresh
 
   pub new_framed : IsFramed new
-  new_framed = emptied_framed kept links gathered.fits emptied
+  new_framed = emptied_framed (length parts) kept links gathered.fits emptied
 
   -- where there is no link, a port has the sink's list, or nothing
   module _ (y o : ℕ) (none : (shape (part_at parts 0).opening).neighbour y o ≡ None) where

@@ -6,7 +6,7 @@ use Rattle.std.specs.List.{range_with_len}
 use Rattle.worm_flit.specs.declared.Flit.{Flit}
 use Rattle.worm_theory.specs.Shape.{Shape, IsMesh}
 use Rattle.worm_theory.specs.Network.{Network}
-use Rattle.worm_theory.specs.Steps.{Step, Feed, Route, Take, TakeCredit, after, node_of}
+use Rattle.worm_theory.specs.Steps.{Step, Feed, Route, Take, TakeCredit, after}
 use Rattle.worm_region.specs.Shape.{net_shape}
 use Rattle.worm_region.specs.State.{NetState, IsSameConfig, shape, network_of}
 use Rattle.worm_region.specs.Replies.{Attempts, Replies}
@@ -21,8 +21,9 @@ use Rattle.worm_region.specs.declared.step.Moved.TheVariants.{Done, Idle}
 use Rattle.worm_region.specs.declared.fault.StepFault.{StepFault}
 use Rattle.worm_region.specs.declared.fault.StepFault.TheVariants.{NoSuchPlace, Refused, NoMemory}
 use Rattle.worm_parts.specs.Region.{HasPart}
+use Rattle.worm_theory.specs.Steps.{node_of}
 use Rattle.worm_parts.proofs.Regions.{step_part}
-use Rattle.worm_split.specs.Ends.{End}
+use Rattle.worm_split.specs.declared.ends.End.{End}
 use Rattle.worm_split.specs.Ends.{seen_by}
 use Rattle.worm_split.proofs.Within.{Sees, seen_after, seen_enabled}
 

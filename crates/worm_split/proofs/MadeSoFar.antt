@@ -5,6 +5,11 @@ use Rattle.std.specs.Prelude.{slice_get, slice_set, slice_index_or}
 use Rattle.std.proofs.lemmas.Bool.{cases_lt}
 use Rattle.std.proofs.lemmas.List.{get_or_append_left, get_or_push}
 use Rattle.worm_flit.specs.Channels.{owner_of}
+use Rattle.worm_mesh.specs.Address.{Joins}
+use Rattle.worm_mesh.proofs.Digits.{AreLarge-from_radices}
+use Rattle.worm_mesh.proofs.Neighbours.{neighbour_of-some}
+use Rattle.worm_region.specs.Shape.{net_shape}
+use Rattle.worm_region.specs.State.{NetState, IsFramed, shape}
 
 get_set : (xs : List ℕ) (i v : ℕ) → i < length xs → slice_get (slice_set xs i v) i ≡ Some v
 get_set [] i v below = absurd (omega arith)
@@ -43,3 +48,9 @@ each_push {A} P d xs ys x n long is before here k below = elim (cases_lt k n) [
       let at : slice_index_or ys n d ≡ x = ap (λ (l : List A). slice_index_or l n d) is ∙ get_or_push xs x d n long in
       rw same (subst (P n) (sym at) here)
 ]
+
+-- a link as the theory has it
+pub linked_of : (net : NetState) (y o x : ℕ) → IsFramed net → Joins net.mesh y o x → (shape net).neighbour y o ≡ Some x
+unfolding net_shape
+linked_of net y o x framed joins = neighbour_of-some net.mesh y o x
+    (AreLarge-from_radices net.mesh framed.radices.radices) joins

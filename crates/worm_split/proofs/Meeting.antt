@@ -1,9 +1,9 @@
 -- The two ends of a link between two workers, each as its worker has it, are of one flit queue and of one credit line.
 use Rattle.std.proofs.Common.{◌≡◌, ℕ, List, refl, sym, ◌∙◌}
 use Rattle.worm_flit.specs.declared.Flit.{Flit}
-use Rattle.worm_split.specs.Ends.{TxView, RxView, CreditTxView, CreditRxView}
-use Rattle.worm_split.specs.Ends.{End}
-use Rattle.worm_split.specs.Ends.{Inner, Leaving, Entering}
+use Rattle.worm_links.specs.Links.{TxView, RxView, CreditTxView, CreditRxView}
+use Rattle.worm_split.specs.declared.ends.End.{End}
+use Rattle.worm_split.specs.declared.ends.End.TheVariants.{Inner, Leaving, Entering}
 use Rattle.worm_split.specs.Ends.{IsSameEnd, AreEndsMade}
 
 pub record Meet (near far : End) : Type 0 where

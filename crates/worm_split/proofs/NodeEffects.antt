@@ -8,23 +8,25 @@ use Rattle.worm_router.specs.Router.{after_gave}
 use Rattle.worm_term.specs.declared.fault.OfferFault.{OfferFault}
 use Rattle.worm_term.specs.Source.{SourceState}
 use Rattle.worm_region.specs.Replies.{Attempts}
-use Rattle.worm_script.specs.Script.{HasWords, HaveWords, begun_at, lane_of}
+use Rattle.worm_script.specs.Script.{begun_at, lane_of}
 use Rattle.worm_region.specs.State.{NetState, router_at, sink_at, source_at}
+use Rattle.worm_wires.specs.Links.{LinkView}
 use Rattle.worm_region.specs.Turns.{Allocates, ComesInBy, Passage, lowest_owed, mesh_ports}
 use Rattle.worm_region.specs.declared.fault.StepFault.{StepFault}
 use Rattle.worm_region.specs.declared.fault.StepFault.TheVariants.{Refused}
 use Rattle.worm_script.specs.declared.entry.Entry.{Entry}
 use Rattle.worm_split.specs.Effects.{HasAccepted, OneMore, Refuses, SourceTakes, after_entries}
+use Rattle.worm_script.specs.Script.{HaveWords}
+use Rattle.worm_script.specs.Script.{HasWords}
 use Rattle.worm_split.specs.PartState.{PartState}
 use Rattle.worm_split.specs.PartTurns.{◌then◌, Gives, GivesCredit, GivesCredits, NodeTurn, PartPassage}
-use Rattle.worm_split.specs.PartTurns.{SendsGranted, Within}
-use Rattle.worm_split.proofs.Accepted.{same_then}
+use Rattle.worm_split.specs.PartTurns.{PullsCredit, PullsCredits, PullsFlit, PullsFlits, SendsGranted, Within}
+use Rattle.worm_split.proofs.Accepted.{same_source, same_then}
 use Rattle.worm_split.proofs.Alone.{IsQuiet, Passed, Quiet, Touches, allocates_quietly, comes_in_quietly, gives_quietly}
 use Rattle.worm_split.proofs.Alone.{no_more, none_refuses, passed_quietly, quiet_on, quiet_then, router_quiet}
 use Rattle.worm_split.proofs.Alone.{still_quiet, then_quiet, touched_on}
 use Rattle.worm_split.proofs.FirstAccepted.{Asked, IsSeated, asked}
 use Rattle.worm_split.proofs.SinkSends.{sends_passed}
-use Rattle.worm_split.proofs.AcrossLinks.{given_or_not}
 use Rattle.worm_split.proofs.PassagesTell.{Tells, TellsOf, each_tells_of}
 
 abbrev IsPassed : ℕ → Passage
@@ -36,6 +38,15 @@ at_rest x s there = still_quiet x s None none_refuses
 within_tells : (R P : Passage) → Tells R P → TellsOf R (Within P)
 within_tells R P tells old new fault made = tells old.net new.net fault made.0
 
+-- other links
+links_quiet : (x : ℕ) (s : NetState) (links : List LinkView) → Quiet x s None (record s { links = links })
+links_quiet x s links = record {
+  touches = record { mesh = refl; channels = refl; depth = refl; own = refl; count = refl; others = λ y away. refl };
+  accepted = same_source (source_at s x);
+  delivered = refl;
+  unrefused = none_refuses;
+}
+
 -- a part that moved, or did not
 quiet_part : (x : ℕ) (old new mid : PartState) (fault : Option StepFault) → fault ≡ None → new ≡ mid →
     Quiet x old.net None mid.net → Quiet x old.net fault new.net
@@ -43,13 +54,35 @@ quiet_part x old new mid fault none same quiet =
     subst (λ (f : Option StepFault). Quiet x old.net f new.net) (sym none)
     (subst (λ (p : PartState). Quiet x old.net None p.net) (sym same) quiet)
 
+pulls_credit : (x o : ℕ) → TellsOf (IsQuiet x) (PullsCredit x o)
+pulls_credit x o old new fault made there = elim made.1 [
+  | inl same ↦ quiet_part x old new old fault made.0 same (at_rest x old.net there)
+  | inr comes ↦ quiet_part x old new new fault made.0 refl
+      (subst (λ (p : PartState). Quiet x old.net None p.net) (sym comes.exact) (links_quiet x old.net _))
+]
+
+pulls_flit : (x p : ℕ) → TellsOf (IsQuiet x) (PullsFlit x p)
+pulls_flit x p old new fault made there = elim made.1 [
+  | inl same ↦ quiet_part x old new old fault made.0 same (at_rest x old.net there)
+  | inr comes ↦ quiet_part x old new new fault made.0 refl
+      (subst (λ (q : PartState). Quiet x old.net None q.net) (sym comes.exact) (links_quiet x old.net _))
+]
+
+pulls_credits : (x : ℕ) → TellsOf (IsQuiet x) (PullsCredits x)
+pulls_credits x old =
+    each_tells_of (IsQuiet x) (at_rest x) (quiet_on x) (PullsCredit x) (pulls_credit x) (mesh_ports old.net) old
+
+pulls_flits : (x : ℕ) → TellsOf (IsQuiet x) (PullsFlits x)
+pulls_flits x old =
+    each_tells_of (IsQuiet x) (at_rest x) (quiet_on x) (PullsFlit x) (pulls_flit x) (mesh_ports old.net) old
+
 gives : (x p v : ℕ) → TellsOf (IsQuiet x) (Gives x p v)
 gives x p v old new fault made there = elim made [
-  | inl across ↦ elim (given_or_not x p v old new across.1) [
+  | inl across ↦ elim across.1.answer [
     | inl went ↦ quiet_part x old new new fault across.0 refl
-        (subst (λ (s : NetState). Quiet x old.net None s) (sym went)
+        (subst (λ (q : PartState). Quiet x old.net None q.net) (sym went)
         (router_quiet old.net x (after_gave (router_at old.net x) p v) old.net.links there))
-    | inr stayed ↦ quiet_part x old new old fault across.0 stayed (at_rest x old.net there)
+    | inr stayed ↦ quiet_part x old new old fault across.0 stayed.0 (at_rest x old.net there)
   ]
   | inr within ↦ gives_quietly x p v old.net new.net fault within.1.0 there
 ]
@@ -87,17 +120,21 @@ then_quietly x P Q passes quiet old new fault made there = elim made [
 -- what follows once the source was asked
 abbrev Follows : ℕ → PartPassage
 Follows x =
-    Within (ComesInBy Attempts x)
+    PullsCredits x
+    then PullsFlits x
+    then Within (ComesInBy Attempts x)
     then Within (Allocates x)
     then SendsGranted x
     then GivesCredits x
 
 follows : (x : ℕ) → TellsOf (IsPassed x) (Follows x)
 follows x =
-    quietly_then x (Within (ComesInBy Attempts x)) _
+    quietly_then x (PullsCredits x) _ (pulls_credits x)
+    (quietly_then x (PullsFlits x) _ (pulls_flits x)
+    (quietly_then x (Within (ComesInBy Attempts x)) _
     (within_tells (IsQuiet x) (ComesInBy Attempts x) (comes_in_quietly x))
     (quietly_then x (Within (Allocates x)) _ (within_tells (IsQuiet x) (Allocates x) (allocates_quietly x))
-    (then_quietly x (SendsGranted x) (GivesCredits x) (sends_passed x) (gives_credits x)))
+    (then_quietly x (SendsGranted x) (GivesCredits x) (sends_passed x) (gives_credits x)))))
 
 -- The turn of a node
 

@@ -8,7 +8,7 @@ use Rattle.std.proofs.lemmas.Bool.{cases_lt}
 use Rattle.worm_region.specs.declared.fault.StepFault.{StepFault}
 use Rattle.worm_region.proofs.Passages.{range_more, range_split}
 use Rattle.worm_split.specs.PartState.{PartState, IsSamePart}
-use Rattle.worm_split.specs.PartTurns.{EachOf, PartPassage}
+use Rattle.worm_split.specs.PartTurns.{PartPassage, EachOf}
 
 pub of_append : {A : Type 0} (P : A → PartPassage) (xs ys : List A) (a b c : PartState) (fault : Option StepFault)
     → EachOf P xs a None b → EachOf P ys b fault c → EachOf P (xs ++ ys) a fault c
@@ -87,7 +87,7 @@ pub same_still : (p : PartState) → IsSamePart p p
 same_still p = record {
   config = record { mesh = refl; channels = refl; depth = refl; names = refl; own = refl };
   opening = refl;
-  sides = refl;
+  lines = refl;
 }
 
 pub same_on : (a b c : PartState) → IsSamePart a b → IsSamePart b c → IsSamePart a c
@@ -103,20 +103,5 @@ same_on a b c h k =
         own = then.own ∙ first.own;
       };
       opening = k.opening ∙ h.opening;
-      sides = k.sides ∙ h.sides;
+      lines = k.lines ∙ h.lines;
     }
-
--- What was received, one thing after another
-
--- nothing yet, and one more
-pub receives_none : {A : Type 0} (P : A → PartPassage) (a : PartState) → (places : List A) × EachOf P places a None a
-receives_none P a = ([], (refl, refl))
-
-pub receives_more : {A : Type 0} (P : A → PartPassage) (a b c : PartState)
-    → ((places : List A) × EachOf P places a None b)
-    → ((places : List A) × EachOf P places b None c) → (places : List A) × EachOf P places a None c
-receives_more P a b c first then = (first.0 ++ then.0, of_append P first.0 then.0 a b c None first.1 then.1)
-
-pub receives_one : {A : Type 0} (P : A → PartPassage) (x : A) (a b : PartState) → P x a None b
-    → (places : List A) × EachOf P places a None b
-receives_one P x a b one = (x ∷ [], of_one P x a b None one)

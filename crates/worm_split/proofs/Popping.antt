@@ -2,8 +2,8 @@
 use Rattle.std.proofs.Common.{◌≡◌, ℕ, ◌+◌, ◌<◌, ◌%◌, List, [], ◌∷◌, ◌++◌, length, length-append, append_assoc}
 use Rattle.std.proofs.Common.{append-nil, refl, arith, sym, ap, subst, ◌∙◌}
 use Rattle.std.proofs.lemmas.List.{get_or_at}
+use Rattle.worm_mesh.specs.Links.{link_count}
 use Rattle.worm_region.specs.State.{NetState, IsFramed}
-use Rattle.worm_region.specs.declared.own.Own.{Own}
 use Rattle.worm_split.specs.Apart.{Apart, ArePaired, Fits, IsPutBack}
 use Rattle.worm_split.specs.Exchange.{way_at}
 use Rattle.worm_split.specs.Joins.{AreParts, IsGathered}
@@ -42,10 +42,10 @@ last_of parts left rest done p all popped =
 
 -- a part's lists fit those that it is put back to
 pub its_lists : (p : PartState) (kept : Apart) → IsPart p → IsFramed p.net → HasConfigOf p.opening kept.net
-    → length kept.sides ≡ p.net.own.workers → ArePaired p.net.own kept p.net.nodes p.net.links
-its_lists p kept part framed config all = record {
+    → ArePaired kept p.net.nodes p.net.links p.ends
+its_lists p kept part framed config = record {
   framed = framed_in p.opening p.net kept.net p.net.nodes p.net.links part.config config framed;
-  side = let worker = part.worker in omega arith;
+  ends = part.all_ends ∙ ap link_count (part.config.mesh ∙ sym config.mesh);
 }
 
 -- what the last part has and keeps
@@ -54,14 +54,10 @@ module _ (parts : List PartState) (are : AreParts parts) (rest : List PartState)
   pub its_opening : p.opening ≡ (part_at parts 0).opening
   its_opening = ap (λ (q : PartState). q.opening) (sym last.is) ∙ are.one_opening (length rest) last.there
 
-  pub its_workers : p.net.own.workers ≡ length parts
-  its_workers = ap (λ (q : PartState). q.net.own.workers) (sym last.is)
-      ∙ ap (λ (own : Own). own.workers) (are.owns (length rest) last.there)
-
   -- nothing is gathered yet where all parts are left but this one
-  pub begin : (kept : Apart) → Fits kept → HasConfigOf p.opening kept.net → length kept.sides ≡ p.net.own.workers
-      → length rest + 1 ≡ length parts → IsGathered parts (length rest + 1) kept
-  begin kept fits config sides all =
+  pub begin : (kept : Apart) → Fits kept → HasConfigOf p.opening kept.net → length rest + 1 ≡ length parts
+      → IsGathered parts (length rest + 1) kept
+  begin kept fits config all =
       let few : (x : ℕ) → x % length parts < length parts = λ x. let some = are.some in omega arith in
       record {
         fits = fits;
@@ -70,17 +66,17 @@ module _ (parts : List PartState) (are : AreParts parts) (rest : List PartState)
         nodes = λ x from n. absurd (let b = few x in omega arith);
         flits = λ k from. absurd (let b = few (way_at kept.ways k).to in omega arith);
         credits = λ k from. absurd (let b = few (way_at kept.ways k).from in omega arith);
-        all_sides = sides ∙ its_workers;
-        sides = λ w from below. absurd (omega arith);
+        outs = λ k between from. absurd (let b = few (way_at kept.ways k).from in omega arith);
+        intos = λ k between from. absurd (let b = few (way_at kept.ways k).to in omega arith);
       }
 
   pub put_on : (kept new : Apart) → IsGathered parts (length rest + 1) kept
-      → IsPutBack p.net.own kept new p.net.nodes p.net.links p.side → IsGathered parts (length rest) new
+      → IsPutBack p.net.own kept new p.net.nodes p.net.links p.ends → IsGathered parts (length rest) new
   put_on kept new gathered back =
       let is = sym last.is in
       gathered_more parts are (length rest) last.there kept new gathered (subst IsPart is part)
       (subst (λ (q : PartState). IsFramed q.net) is framed)
-      (subst (λ (q : PartState). IsPutBack q.net.own kept new q.net.nodes q.net.links q.side) is back)
+      (subst (λ (q : PartState). IsPutBack q.net.own kept new q.net.nodes q.net.links q.ends) is back)
 
 -- One part more is taken from the list and put back.
 module _ (parts : List PartState) (are : AreParts parts) (left rest done : List PartState) (p : PartState)
@@ -89,15 +85,14 @@ module _ (parts : List PartState) (are : AreParts parts) (left rest done : List 
   abbrev taken : IsLastOf parts rest p × (parts ≡ rest ++ p ∷ done) × (length left ≡ length rest + 1)
   taken = last_of parts left rest done p all popped
 
-  pub lists_step : (kept : Apart) → HasConfigOf (part_at parts 0).opening kept.net → length kept.sides ≡ length parts
-      → ArePaired p.net.own kept p.net.nodes p.net.links
-  lists_step kept config sides =
+  pub lists_step : (kept : Apart) → HasConfigOf (part_at parts 0).opening kept.net
+      → ArePaired kept p.net.nodes p.net.links p.ends
+  lists_step kept config =
       let opened = its_opening parts are rest p taken.0 part framed in
       its_lists p kept part framed (subst (λ (s : NetState). HasConfigOf s kept.net) (sym opened) config)
-      (sides ∙ sym (its_workers parts are rest p taken.0 part framed))
 
   pub gather_step : (kept new : Apart) → IsGathered parts (length left) kept
-      → IsPutBack p.net.own kept new p.net.nodes p.net.links p.side → GatherSoFar parts rest new
+      → IsPutBack p.net.own kept new p.net.nodes p.net.links p.ends → GatherSoFar parts rest new
   gather_step kept new gathered back = record {
     done = p ∷ done;
     all = taken.1;
@@ -108,13 +103,13 @@ module _ (parts : List PartState) (are : AreParts parts) (left rest done : List 
 -- The last part is put back to what it kept.
 pub gather_first : (parts : List PartState) (are : AreParts parts) (rest : List PartState) (p : PartState)
     → parts ≡ rest ++ p ∷ [] → IsPart p → IsFramed p.net
-    → (kept new : Apart) → Fits kept → HasConfigOf p.opening kept.net → length kept.sides ≡ p.net.own.workers
-    → IsPutBack p.net.own kept new p.net.nodes p.net.links p.side → GatherSoFar parts rest new
-gather_first parts are rest p popped part framed kept new fits config sides back =
+    → (kept new : Apart) → Fits kept → HasConfigOf p.opening kept.net
+    → IsPutBack p.net.own kept new p.net.nodes p.net.links p.ends → GatherSoFar parts rest new
+gather_first parts are rest p popped part framed kept new fits config back =
     let taken = last_of parts parts rest [] p (sym (append-nil parts)) popped in
     record {
       done = p ∷ [];
       all = popped;
       gathered = put_on parts are rest p taken.0 part framed kept new
-          (begin parts are rest p taken.0 part framed kept fits config sides (sym taken.2)) back;
+          (begin parts are rest p taken.0 part framed kept fits config (sym taken.2)) back;
     }

@@ -2,12 +2,12 @@
 -- change of what was sent, given or came.
 use Rattle.std.proofs.Common.{◌≡◌, ℕ, inl, inr, List, [], ◌∷◌, ◌++◌, refl, ap}
 use Rattle.worm_flit.specs.declared.Flit.{Flit}
-use Rattle.worm_split.specs.Ends.{TxView, RxView, CreditTxView, CreditRxView}
+use Rattle.worm_links.specs.Links.{TxView, RxView, CreditTxView, CreditRxView}
 use Rattle.worm_theory.specs.Network.{Network, put2}
 use Rattle.worm_theory.proofs.Places.{place_cases}
 use Rattle.worm_theory.proofs.Bridge.{same_network}
-use Rattle.worm_split.specs.Ends.{End}
-use Rattle.worm_split.specs.Ends.{Leaving, Entering}
+use Rattle.worm_split.specs.declared.ends.End.{End}
+use Rattle.worm_split.specs.declared.ends.End.TheVariants.{Leaving, Entering}
 use Rattle.worm_split.specs.Ends.{seen_by, sent_on, given_on, taken_on, returned_on}
 
 module _ (end : ℕ → ℕ → End) (net : Network) (x o : ℕ) where

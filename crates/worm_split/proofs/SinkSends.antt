@@ -12,8 +12,8 @@ use Rattle.worm_router.specs.Allocation.{switch_grants}
 use Rattle.worm_router.specs.Router.{RouterState, after_send, leaving}
 use Rattle.worm_term.specs.declared.fault.OfferFault.{OfferFault}
 use Rattle.worm_theory.specs.Steps.{Send}
-use Rattle.worm_node.specs.Node.{delivered_node}
 use Rattle.worm_region.specs.Moves.{after_ready, after_sending, chosen_router, link_out}
+use Rattle.worm_node.specs.Node.{delivered_node}
 use Rattle.worm_region.specs.Replies.{Replies}
 use Rattle.worm_region.specs.State.{NetState, link_at, node_at, router_at, sink_at, source_at, with_link, with_node}
 use Rattle.worm_region.specs.State.{with_router}
@@ -25,7 +25,6 @@ use Rattle.worm_node.specs.declared.node.Node.{Node}
 use Rattle.worm_region.specs.declared.step.Moved.{Moved}
 use Rattle.worm_region.specs.declared.step.Moved.TheVariants.{Done, Idle}
 use Rattle.worm_split.specs.Effects.{HaveTheSame, OneMore}
-use Rattle.worm_split.proofs.AcrossLinks.{sent_or_not}
 use Rattle.worm_split.specs.PartState.{PartState}
 use Rattle.worm_split.specs.PartTurns.{EachOf, PartPassage, Sends, SendsGrant, SendsGranted}
 use Rattle.worm_split.proofs.Accepted.{same_source}
@@ -127,11 +126,11 @@ one_sent x p g old new fault there holding sends =
     elim sends [
       | inl across ↦
           subst (λ (f : Option StepFault). OneSent x p g s f new.net) (sym across.0)
-          (elim (sent_or_not x p g.vc old new across.1) [
+          (elim across.1.answer [
             | inl went ↦
-                subst (λ (t : NetState). OneSent x p g s None t) (sym went) (link_sent x p g s s.links there)
+                subst (λ (t : PartState). OneSent x p g s None t.net) (sym went) (link_sent x p g s s.links there)
             | inr stayed ↦
-                subst (λ (t : PartState). OneSent x p g s None t.net) (sym stayed)
+                subst (λ (t : PartState). OneSent x p g s None t.net) (sym stayed.0)
                 (still_sent x p g s None none_refuses)
           ])
       | inr within ↦

@@ -9,7 +9,11 @@ use Rattle.worm_region.specs.Owned.{owned_by}
 use Rattle.worm_wires.specs.Links.{LinkView, blank_link}
 use Rattle.worm_node.specs.declared.node.Node.{Node}
 use Rattle.worm_region.specs.declared.own.Own.{Own}
-use Rattle.worm_split.specs.Exchange.{LinksSwapped, NodesSwapped, far_of, near_of}
+use Rattle.worm_split.specs.declared.ends.End.{End}
+use Rattle.worm_split.specs.declared.ends.End.TheVariants.{Inner}
+use Rattle.worm_split.specs.declared.ends.Line.{Line}
+use Rattle.worm_split.specs.Ends.{end_at, line_at, no_line}
+use Rattle.worm_split.specs.Exchange.{EndsSwapped, LinksSwapped, NodesSwapped, far_of, near_of}
 
 abbrev pub link_in : List LinkView → ℕ → LinkView
 link_in links k = slice_index_or links k blank_link
@@ -17,6 +21,22 @@ link_in links k = slice_index_or links k blank_link
 either : {A : Type 0} (b : Bool) (a : A) → cond b a a ≡ a
 either {A} true a = refl
 either {A} false a = refl
+
+all_inner : (near far : Bool) → Inner ≡ cond near (cond far Inner Inner) (cond far Inner Inner)
+all_inner true true = refl
+all_inner true false = refl
+all_inner false true = refl
+all_inner false false = refl
+
+all_inner_near : (near far : Bool) → Inner ≡ cond near (cond far Inner Inner) Inner
+all_inner_near true true = refl
+all_inner_near true false = refl
+all_inner_near false far = refl
+
+all_inner_far : (near far : Bool) → Inner ≡ cond near Inner (cond far Inner Inner)
+all_inner_far true far = refl
+all_inner_far false true = refl
+all_inner_far false false = refl
 
 module _ (own : Own) (xs ys us vs : List Node) (swapped : NodesSwapped own (length xs) xs ys us vs) where
   -- the two lists at a place: as the other had it, where the place is the worker's
@@ -78,3 +98,32 @@ module _ (own : Own) (ways : List LinkEnds) (xs ys us vs : List LinkView) (swapp
       let done = swapped.done k below blank_link blank_link in
       let one = swapped.one_length in
       (done.room m (mine k below) (other k (omega arith)), done.other_room m (mine k below) (other k (omega arith)))
+
+module _ (own : Own) (ways : List LinkEnds) (xs : List Line) (ys : List End) (us : List Line) (vs : List End)
+    (swapped : EndsSwapped own ways (length xs) xs ys us vs) where
+  pub record EndNow (k : ℕ) : Type 0 where
+    pub own_end : end_at vs k ≡ cond (near_of own ways k) (cond (far_of own ways k) (end_at ys k) (line_at xs k).out)
+        (cond (far_of own ways k) (line_at xs k).into (end_at ys k))
+    pub out : (line_at us k).out ≡ cond (near_of own ways k) (cond (far_of own ways k) (line_at xs k).out
+        (end_at ys k)) (line_at xs k).out
+    pub into : (line_at us k).into ≡ cond (near_of own ways k) (line_at xs k).into (cond (far_of own ways k)
+        (end_at ys k) (line_at xs k).into)
+
+  pub ends_now : (k : ℕ) → EndNow k
+  ends_now k = elim (cases_lt k (length xs)) [
+    | inl below ↦
+        let done = swapped.done k below no_line Inner in
+        record { own_end = done.own_end; out = done.out; into = done.into }
+    | inr past ↦
+        let one = swapped.one_length in
+        let was = swapped.rest k past no_line Inner in
+        let mine : line_at xs k ≡ no_line = get_or_past xs k no_line past in
+        let other : end_at ys k ≡ Inner = get_or_past ys k Inner (omega arith) in
+        let near = near_of own ways k in
+        let far = far_of own ways k in
+        record {
+          own_end = was.1 ∙ (other ∙ rw (mine, other) (all_inner near far));
+          out = ap (λ (l : Line). l.out) (was.0 ∙ mine) ∙ rw (mine, other) (all_inner_near near far);
+          into = ap (λ (l : Line). l.into) (was.0 ∙ mine) ∙ rw (mine, other) (all_inner_far near far);
+        }
+  ]

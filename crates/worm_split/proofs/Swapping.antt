@@ -10,8 +10,10 @@ use Rattle.worm_region.specs.Owned.{owned_by}
 use Rattle.worm_wires.specs.Links.{LinkView}
 use Rattle.worm_node.specs.declared.node.Node.{Node}
 use Rattle.worm_region.specs.declared.own.Own.{Own}
-use Rattle.worm_split.specs.Exchange.{AreSwapped, LinksSwapped, NodesSwapped, SwapsLink, SwapsNode, far_of, near_of}
-use Rattle.worm_split.specs.Exchange.{way_at}
+use Rattle.worm_split.specs.declared.ends.End.{End}
+use Rattle.worm_split.specs.declared.ends.Line.{Line}
+use Rattle.worm_split.specs.Exchange.{AreSwapped, EndsSwapped, LinksSwapped, NodesSwapped, SwapsEnd, SwapsLink}
+use Rattle.worm_split.specs.Exchange.{SwapsNode, far_of, near_of, way_at}
 
 module _ {A B : Type 0} (Swaps : ℕ → A → B → A → B → Type 0) where
   pub begun : (xs : List A) (ys : List B) → length ys ≡ length xs → AreSwapped Swaps 0 xs ys xs ys
@@ -97,3 +99,20 @@ module _ (own : Own) (ways : List LinkEnds) (k : ℕ) (way : LinkEnds) (way_in :
       (subst (λ (f : Bool). SwapsLink near f (slice_index_or us k d) (slice_index_or vs k e) new_a new_b) far_here
       (subst (λ (x : LinkView). SwapsLink near far x (slice_index_or vs k e) new_a new_b) (a_read d)
       (subst (λ (y : LinkView). SwapsLink near far a y new_a new_b) (b_read e) swaps))))
+
+  pub ends_further : (xs : List Line) (ys : List End) (us : List Line) (vs : List End) (a : Line) (b : End)
+      (new_a : Line) (new_b : End)
+      → EndsSwapped own ways k xs ys us vs → k < length xs
+      → a ≡ slice_index_or us k a → b ≡ slice_index_or vs k b → SwapsEnd near far a b new_a new_b
+      → EndsSwapped own ways (k + 1) xs ys (slice_set us k new_a) (slice_set vs k new_b)
+  ends_further xs ys us vs a b new_a new_b so_far there a_is b_is swaps =
+      let long = so_far.same_length in
+      let other_long = so_far.other_length in
+      let a_read = get_or_read us k a (omega arith) a_is in
+      let b_read = get_or_read vs k b (omega arith) b_is in
+      further (λ j. SwapsEnd (near_of own ways j) (far_of own ways j)) k xs ys us vs new_a new_b so_far there (λ d e.
+      subst (λ (n : Bool). SwapsEnd n (far_of own ways k) (slice_index_or us k d)
+      (slice_index_or vs k e) new_a new_b) near_here
+      (subst (λ (f : Bool). SwapsEnd near f (slice_index_or us k d) (slice_index_or vs k e) new_a new_b) far_here
+      (subst (λ (x : Line). SwapsEnd near far x (slice_index_or vs k e) new_a new_b) (a_read d)
+      (subst (λ (y : End). SwapsEnd near far a y new_a new_b) (b_read e) swaps))))

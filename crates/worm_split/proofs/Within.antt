@@ -12,7 +12,7 @@ use Rattle.worm_theory.specs.Steps.{Step, Offer, CloseLane, Feed, Route, Grant, 
 use Rattle.worm_theory.specs.Steps.{Accepts, Enabled, IsActiveAt, IsLinked, FrontIs, after, sent, sent_by}
 use Rattle.worm_theory.specs.Steps.{taken, taken_from, gave, gave_to, got, fed, routed, granted}
 use Rattle.worm_theory.proofs.Places.{place_cases}
-use Rattle.worm_split.specs.Ends.{End}
+use Rattle.worm_split.specs.declared.ends.End.{End}
 use Rattle.worm_split.specs.Ends.{seen_by, sent_on, given_on}
 
 -- the worker's list of the link is what it sees of it; the same of the credit line

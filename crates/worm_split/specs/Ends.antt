@@ -1,60 +1,35 @@
--- What a worker's end of a link knows: all that went over it since the network was split (Dally and Towles, chapter
--- 13).
-use Rattle.std.specs.Prelude.{◌≡◌, ℕ, ◌<◌, Bool, cond, List, [], sum, slice_get, Some}
+-- What a worker's end of a link knows: all that went over it since the network was split.
+use Rattle.std.specs.Prelude.{◌≡◌, ℕ, ◌≤◌, ◌<◌, Bool, true, false, cond, List, [], ◌∷◌, ◌++◌, length, sum, slice_get}
+use Rattle.std.specs.Prelude.{slice_index_or, Some}
 use Rattle.worm_flit.specs.declared.Flit.{Flit}
 use Rattle.worm_flit.specs.Channels.{owner_of}
-use Rattle.worm_links.specs.History.{QueueName}
+use Rattle.worm_flit.specs.Stamps.{on_channel}
+use Rattle.worm_flit.specs.Worms.{Continues}
 use Rattle.worm_links.specs.declared.LinkCfg.{LinkCfg}
+use Rattle.worm_links.specs.Links.{MayCross, link_capacity}
 use Rattle.worm_theory.specs.Network.{Network}
-
--- of the end where flits are sent: the link, what went before, the queue, and all that was sent
-pub record TxView : Type 0 where
-  pub link : LinkCfg
-  pub past : List Flit
-  pub queue : QueueName
-  pub sent : List Flit
-
--- of the end where they are taken: the same with all that was taken
-pub record RxView : Type 0 where
-  pub link : LinkCfg
-  pub past : List Flit
-  pub queue : QueueName
-  pub taken : List Flit
-
--- of the ends of the credits: channel numbers in place of flits
-pub record CreditTxView : Type 0 where
-  pub link : LinkCfg
-  pub queue : QueueName
-  pub sent : List ℕ
-
-pub record CreditRxView : Type 0 where
-  pub link : LinkCfg
-  pub queue : QueueName
-  pub taken : List ℕ
-
--- A worker's end of a link: none, where both of the link's nodes are the worker's, or neither is; where the link leaves
--- its nodes, the end of the flits that are sent and of the credits that come back; where it enters them, the end of the
--- flits that come and of the credits that are given.
-pub data End : Type 0 where
-  Inner : End
-  Leaving : TxView → CreditRxView → End
-  Entering : RxView → CreditTxView → End
-
--- the end of the worker whose node the link leaves, and of the one whose node it enters
-pub record Line : Type 0 where
-  pub out : End
-  pub into : End
-
-abbrev pub no_line : Line
-no_line = record { out = Inner; into = Inner }
+use Rattle.worm_split.specs.declared.ends.End.{End}
+use Rattle.worm_split.specs.declared.ends.End.TheVariants.{Inner, Leaving, Entering}
+use Rattle.worm_split.specs.declared.ends.Line.{Line}
 
 -- the link by port o of node y, in a mesh with these radices, whose classes own these numbers of channels
 pub record IsLinkOf (mesh channels : List ℕ) (y o : ℕ) (link : LinkCfg) : Type 0 where
   pub same_mesh : link.mesh ≡ mesh
   pub same_node : link.node ≡ y
   pub same_port : link.port ≡ o
-  pub same_channels : link.vcs ≡ sum channels
+  pub same_channels : link.channels ≡ sum channels
   pub owners : (v : ℕ) → v < sum channels → slice_get link.owners v ≡ Some (owner_of channels v)
+
+-- whether flits leave by the end; whether they enter by it
+abbrev pub leaves_by : End → Bool
+leaves_by Inner = false
+leaves_by (Leaving tx back) = true
+leaves_by (Entering rx give) = false
+
+abbrev pub enters_by : End → Bool
+enters_by Inner = false
+enters_by (Leaving tx back) = false
+enters_by (Entering rx give) = true
 
 -- what was sent by the end, or else what the worker's own list has; the same of the credits that were given
 abbrev pub sent_on : End → List Flit → List Flit
@@ -102,13 +77,13 @@ IsSameEnd (Entering rx give) (Entering rx2 give2) =
     (rx2.link ≡ rx.link) × (rx2.past ≡ rx.past) × (rx2.queue ≡ rx.queue) × (give2.link ≡ give.link)
     × (give2.queue ≡ give.queue)
 
--- The end of a link that a worker has, of the line's two: whether it owns the node that the link leaves, and the one
--- that the link enters.
+-- The end of a link that a worker has, of the two that were made: whether it owns the node that the link leaves, and
+-- the one that the link enters.
 abbrev pub end_made : Bool → Bool → Line → End
 end_made near far line = cond near (cond far Inner line.out) (cond far line.into Inner)
 
--- The two ends of the link by port o of node y, as they are made: of one flit queue with this past, and of one credit
--- queue, for buffers of this depth; nothing has gone over either.
+-- The two ends of the link by port o of node y, as they are made: of one flit queue with this past, which holds as many
+-- flits as buffers of this depth beyond it, and of one credit line; nothing has gone over either.
 abbrev pub AreEndsMade : (mesh channels : List ℕ) → (depth y o : ℕ) → (past : List Flit) → End → End → Type 0
 AreEndsMade mesh channels depth y o past (Leaving tx back) (Entering rx give) =
     (IsLinkOf mesh channels y o tx.link × (tx.past ≡ past) × (tx.sent ≡ []) × (tx.link.depth ≡ depth))
@@ -119,3 +94,58 @@ AreEndsMade mesh channels depth y o past Inner into = ⊥
 AreEndsMade mesh channels depth y o past (Entering rx give) into = ⊥
 AreEndsMade mesh channels depth y o past (Leaving tx back) Inner = ⊥
 AreEndsMade mesh channels depth y o past (Leaving tx back) (Leaving tx2 back2) = ⊥
+
+-- by number of the link, where it is there
+abbrev pub end_at : List End → ℕ → End
+end_at ends k = slice_index_or ends k Inner
+
+abbrev pub no_line : Line
+no_line = record { out = Inner; into = Inner }
+
+abbrev pub line_at : List Line → ℕ → Line
+line_at lines k = slice_index_or lines k no_line
+
+-- What goes over an end
+
+-- the credit came back by it
+abbrev pub CreditPopped : End → ℕ → End → Type 0
+CreditPopped Inner c new = ⊥
+CreditPopped (Leaving tx back) c new = (new ≡ Leaving tx (record back { taken = back.taken ++ c ∷ [] }))
+    × (c < back.link.channels)
+CreditPopped (Entering rx give) c new = ⊥
+
+-- the flit came by it: it continues what was taken on its channel, and may cross the link
+abbrev pub FlitPopped : End → Flit → End → Type 0
+FlitPopped Inner f new = ⊥
+FlitPopped (Leaving tx back) f new = ⊥
+FlitPopped (Entering rx give) f new =
+    (new ≡ Entering (record rx { taken = rx.taken ++ f ∷ [] }) give)
+    × Continues (on_channel f.vc (rx.past ++ rx.taken)) f × MayCross rx.link f
+
+-- the flit may be sent by it, and was, or was not
+abbrev pub MayGo : End → Flit → Type 0
+MayGo Inner f = Unit {0}
+MayGo (Leaving tx back) f = Continues (on_channel f.vc (tx.past ++ tx.sent)) f × MayCross tx.link f
+MayGo (Entering rx give) f = Unit {0}
+
+abbrev pub FlitPushed : End → Flit → Bool → End → Type 0
+FlitPushed Inner f true new = ⊥
+FlitPushed (Leaving tx back) f true new = new ≡ Leaving (record tx { sent = tx.sent ++ f ∷ [] }) back
+FlitPushed (Entering rx give) f true new = ⊥
+FlitPushed Inner f false new = new ≡ Inner
+FlitPushed (Leaving tx back) f false new = (new ≡ Leaving tx back) × (link_capacity tx.link ≤ length tx.sent)
+FlitPushed (Entering rx give) f false new = new ≡ Entering rx give
+
+-- the credit may be given by it, and was, or was not
+abbrev pub MayGive : End → ℕ → Type 0
+MayGive Inner c = Unit {0}
+MayGive (Leaving tx back) c = Unit {0}
+MayGive (Entering rx give) c = c < give.link.channels
+
+abbrev pub CreditPushed : End → ℕ → Bool → End → Type 0
+CreditPushed Inner c true new = ⊥
+CreditPushed (Leaving tx back) c true new = ⊥
+CreditPushed (Entering rx give) c true new = new ≡ Entering rx (record give { sent = give.sent ++ c ∷ [] })
+CreditPushed Inner c false new = new ≡ Inner
+CreditPushed (Leaving tx back) c false new = new ≡ Leaving tx back
+CreditPushed (Entering rx give) c false new = (new ≡ Entering rx give) × (link_capacity give.link ≤ length give.sent)

@@ -1,12 +1,14 @@
 -- What is exchanged between a network taken apart and a worker's own lists, at the split and again at the join: the
--- nodes that the worker owns, the flits on the links that enter them, the credits on their way back to them, and what
--- it has by port.
+-- nodes that the worker owns, the flits on the links that enter them, the credits on their way back to them, and its
+-- ends of links.
 use Rattle.std.specs.Prelude.{◌≡◌, ℕ, ◌<◌, ◌≤◌, Bool, cond, List, length, slice_index_or}
 use Rattle.worm_mesh.specs.declared.mesh.LinkEnds.{LinkEnds}
 use Rattle.worm_region.specs.Owned.{owned_by}
 use Rattle.worm_wires.specs.Links.{LinkView}
 use Rattle.worm_node.specs.declared.node.Node.{Node}
 use Rattle.worm_region.specs.declared.own.Own.{Own}
+use Rattle.worm_split.specs.declared.ends.End.{End}
+use Rattle.worm_split.specs.declared.ends.Line.{Line}
 
 -- by number of the link, its two nodes and its two ports
 abbrev pub way_at : List LinkEnds → ℕ → LinkEnds
@@ -33,6 +35,12 @@ pub record SwapsLink (near far : Bool) (a b new_a new_b : LinkView) : Type 0 whe
   pub room : (m : ℕ) → m ≤ a.room → m ≤ b.room → m ≤ new_a.room
   pub other_room : (m : ℕ) → m ≤ a.room → m ≤ b.room → m ≤ new_b.room
 
+-- a worker's end changes places with the one of the line that is the worker's, where just one node of the link is
+pub record SwapsEnd (near far : Bool) (line : Line) (end : End) (new_line : Line) (new_end : End) : Type 0 where
+  pub own_end : new_end ≡ cond near (cond far end line.out) (cond far line.into end)
+  pub out : new_line.out ≡ cond near (cond far line.out end) line.out
+  pub into : new_line.into ≡ cond near line.into (cond far end line.into)
+
 -- the items of two lists of one length changed by a rule, up to this place
 pub record AreSwapped {A B : Type 0} (Swaps : ℕ → A → B → A → B → Type 0) (count : ℕ)
     (xs : List A) (ys : List B) (new_xs : List A) (new_ys : List B) : Type 0 where
@@ -50,3 +58,6 @@ NodesSwapped own = AreSwapped (λ k. SwapsNode (owned_by own k))
 abbrev pub LinksSwapped : Own → List LinkEnds → ℕ → List LinkView → List LinkView → List LinkView → List LinkView
     → Type 0
 LinksSwapped own ways = AreSwapped (λ k. SwapsLink (near_of own ways k) (far_of own ways k))
+
+abbrev pub EndsSwapped : Own → List LinkEnds → ℕ → List Line → List End → List Line → List End → Type 0
+EndsSwapped own ways = AreSwapped (λ k. SwapsEnd (near_of own ways k) (far_of own ways k))

@@ -1,20 +1,24 @@
 -- The parts of a network joined again: each node as its owner has it, each link as the owner of its far end has it,
--- and then what of its bundle still is the link's.
+-- and then what the
+-- queue still held.
 use Rattle.std.specs.Prelude.{◌≡◌, ℕ, ◌+◌, ◌<◌, ◌≤◌, ◌%◌, List, [], ◌++◌, length, slice_index_or, Some}
 use Rattle.worm_mesh.specs.Address.{node_count}
 use Rattle.worm_mesh.specs.declared.mesh.LinkEnds.{LinkEnds}
 use Rattle.worm_flit.specs.declared.Flit.{Flit}
+use Rattle.worm_links.specs.Links.{TxView, RxView, CreditTxView, CreditRxView}
 use Rattle.worm_theory.specs.Growth.{SinksGrow, SourcesGrow}
 use Rattle.worm_core.specs.Headline.{NothingFollowsMarks}
 use Rattle.worm_region.specs.Owned.{sole}
 use Rattle.worm_region.specs.State.{NetState, IsFramed, link_at, network_of, node_at, shape}
 use Rattle.worm_wires.specs.Links.{LinkView, blank_link}
 use Rattle.worm_node.specs.declared.node.Node.{Node}
-use Rattle.worm_split.specs.Ends.{TxView, RxView, CreditTxView, CreditRxView, End, Inner, Leaving, Entering, Line}
+use Rattle.worm_split.specs.declared.ends.End.{End}
+use Rattle.worm_split.specs.declared.ends.End.TheVariants.{Inner, Leaving, Entering}
+use Rattle.worm_split.specs.declared.ends.Line.{Line}
+use Rattle.worm_split.specs.Ends.{end_at, line_at}
 use Rattle.worm_split.specs.PartState.{PartState, IsPart, HasConfigOf, part_network, returned_to, taken_by}
 use Rattle.worm_split.specs.Exchange.{way_at}
 use Rattle.worm_split.specs.Apart.{Apart, Fits}
-use Rattle.worm_split.specs.Sides.{SideView, line_between, side_at}
 use Rattle.worm_split.specs.Splits.{part_at}
 
 -- the parts of one split, one for each worker in rising number
@@ -22,7 +26,7 @@ pub record AreParts (parts : List PartState) : Type 0 where
   pub some : 0 < length parts
   pub owns : (w : ℕ) → w < length parts → (part_at parts w).net.own ≡ record { worker = w; workers = length parts }
   pub one_opening : (w : ℕ) → w < length parts → (part_at parts w).opening ≡ (part_at parts 0).opening
-  pub one_split : (w : ℕ) → w < length parts → (part_at parts w).sides ≡ (part_at parts 0).sides
+  pub one_split : (w : ℕ) → w < length parts → (part_at parts w).lines ≡ (part_at parts 0).lines
 
 -- the link's nodes are of two workers
 abbrev pub IsBetween : ℕ → List LinkEnds → ℕ → Type 0
@@ -43,10 +47,29 @@ pub record IsGathered (parts : List PartState) (from : ℕ) (kept : Apart) : Typ
       (slice_index_or kept.net.links k blank_link).flits ≡ (link_at (owner_of parts x).net k).flits
   pub credits : (k : ℕ) → let y = (way_at kept.ways k).from in from ≤ y % length parts →
       (slice_index_or kept.net.links k blank_link).credits ≡ (link_at (owner_of parts y).net k).credits
-  pub all_sides : length kept.sides ≡ length parts
-  pub sides : (w : ℕ) → from ≤ w → w < length parts → side_at kept.sides w ≡ (part_at parts w).side
+  pub outs : (k : ℕ) → let way = way_at kept.ways k in
+      IsBetween (length parts) kept.ways k → from ≤ way.from % length parts →
+      (line_at kept.lines k).out ≡ end_at (owner_of parts way.from).ends k
+  pub intos : (k : ℕ) → let way = way_at kept.ways k in
+      IsBetween (length parts) kept.ways k → from ≤ way.to % length parts →
+      (line_at kept.lines k).into ≡ end_at (owner_of parts way.to).ends k
 
--- what was sent over the link and not taken stands behind its flits, and the credits likewise, if there is room
+-- what a queue still held stands behind the link's flits, or its credits, if there is room
+pub record FlitsEmptied (sent taken : List Flit) (old new : LinkView) : Type 0 where
+  pub left : List Flit
+  pub in_queue : sent ≡ taken ++ left
+  pub behind : length old.flits + length left ≤ old.room → new.flits ≡ old.flits ++ left
+  pub credits : new.credits ≡ old.credits
+  pub room : new.room ≡ old.room
+
+pub record CreditsEmptied (sent taken : List ℕ) (old new : LinkView) : Type 0 where
+  pub left : List ℕ
+  pub in_line : sent ≡ taken ++ left
+  pub behind : length old.credits + length left ≤ old.room → new.credits ≡ old.credits ++ left
+  pub flits : new.flits ≡ old.flits
+  pub room : new.room ≡ old.room
+
+-- both of the link's queues
 pub record IsEmptiedOf (tx : TxView) (back : CreditRxView) (rx : RxView) (give : CreditTxView)
     (old new : LinkView) : Type 0 where
   pub flits_left : List Flit
@@ -64,22 +87,27 @@ IsEmptied (Leaving tx back) (Leaving tx2 back2) old new = new ≡ old
 IsEmptied (Leaving tx back) (Entering rx give) old new = IsEmptiedOf tx back rx give old new
 IsEmptied (Entering rx give) into old new = new ≡ old
 
--- the two ends of a link, as its nodes' workers have them
-abbrev pub line_at : List SideView → LinkEnds → Line
-line_at sides way = line_between (side_at sides (way.from % length sides)) (side_at sides (way.to % length sides))
-    way.from way.out_port
+-- the two ends are of the same queues
+abbrev pub AreOfOne : End → End → Type 0
+AreOfOne Inner into = Unit {0}
+AreOfOne (Leaving tx back) Inner = Unit {0}
+AreOfOne (Leaving tx back) (Leaving tx2 back2) = Unit {0}
+AreOfOne (Leaving tx back) (Entering rx give) = (tx.queue ≡ rx.queue) × (give.queue ≡ back.queue)
+AreOfOne (Entering rx give) into = Unit {0}
 
--- each link between two workers is emptied; a link within one worker's part stays
-pub record AreEmptied (ways : List LinkEnds) (sides : List SideView) (old new : List LinkView) : Type 0 where
+-- the links up to this one between two workers are emptied
+pub record AreEmptied (workers count : ℕ) (ways : List LinkEnds) (lines : List Line)
+    (old new : List LinkView) : Type 0 where
   pub same_length : length new ≡ length old
-  pub between : (k : ℕ) → k < length ways → let way = way_at ways k in IsBetween (length sides) ways k →
-      IsEmptied (line_at sides way).out (line_at sides way).into (slice_index_or old k blank_link)
+  pub done : (k : ℕ) → k < count → IsBetween workers ways k →
+      IsEmptied (line_at lines k).out (line_at lines k).into (slice_index_or old k blank_link)
       (slice_index_or new k blank_link)
-  pub within : (k : ℕ) → (way_at ways k).from % length sides ≡ (way_at ways k).to % length sides →
+  pub within : (k : ℕ) → (way_at ways k).from % workers ≡ (way_at ways k).to % workers →
       slice_index_or new k blank_link ≡ slice_index_or old k blank_link
 
--- The link by port o of node y: what the owner of its far end has of it, and then what its bundle still held of it; its
--- credits likewise. Within one worker's part there is no bundle.
+-- The link by port o of node y: what the owner of its far end has of it, and then what its queue still held; its
+-- credit line likewise. There
+-- is no queue within one worker's part.
 pub record IsLinkJoined (near far : PartState) (new : NetState) (y o : ℕ) : Type 0 where
   pub flits_left : List Flit
   pub credits_left : List ℕ

@@ -1,7 +1,4 @@
 pub mod Ends
-pub mod Sides
-pub mod Making
-pub mod Crossings
 pub mod PartState
 pub mod PartTurns
 pub mod Effects
@@ -9,5 +6,4 @@ pub mod Apart
 pub mod Exchange
 pub mod Splits
 pub mod Joins
-pub mod Emptying
-pub mod Landing
+pub mod Stops

@@ -1,36 +1,37 @@
 -- A worker's part of a network: the network of its own nodes and links, its ends of the links that it shares with other
 -- workers, and, for contracts alone, the network that was split.
-use Rattle.std.specs.Prelude.{◌≡◌, ℕ, ◌<◌, Bool, List}
+use Rattle.std.specs.Prelude.{◌≡◌, ℕ, ◌<◌, ◌%◌, Bool, cond, List, length, Some}
 use Rattle.worm_flit.specs.declared.Flit.{Flit}
+use Rattle.worm_mesh.specs.Address.{has_neighbour}
+use Rattle.worm_mesh.specs.Links.{links_before, link_count}
 use Rattle.worm_theory.specs.Network.{Network}
 use Rattle.worm_region.specs.State.{NetState, IsNet, IsSameConfig, network_of, shape}
 use Rattle.worm_region.specs.Workable.{owned}
 use Rattle.worm_parts.specs.Region.{HasPart}
-use Rattle.worm_split.specs.Ends.{End, Line, seen_by, taken_on, returned_on}
-use Rattle.worm_split.specs.Sides.{AreSides, IsSameSide, SideView, end_by, line_by, side_at}
+use Rattle.worm_parts.specs.Openings.{past_of}
+use Rattle.worm_split.specs.declared.ends.End.{End}
+use Rattle.worm_split.specs.declared.ends.End.TheVariants.{Inner}
+use Rattle.worm_split.specs.declared.ends.Line.{Line}
+use Rattle.worm_split.specs.Ends.{seen_by, taken_on, returned_on, IsSameEnd, end_made, AreEndsMade, end_at, line_at}
 
 pub record PartState : Type 0 where
   -- the network, of which the nodes of other workers say nothing
   pub net : NetState
-  -- what the worker has by port
-  pub side : SideView
-  -- the network at the split, and what each worker had by port as it was made then
+  -- the worker's ends by link number
+  pub ends : List End
+  -- the network at the split, and both ends of each link as they were made then
   pub opening : NetState
-  pub sides : List SideView
+  pub lines : List Line
 
-abbrev pub part_state : NetState → SideView → NetState → List SideView → PartState
-part_state net side opening sides = record { net = net; side = side; opening = opening; sides = sides }
+abbrev pub part_state : NetState → List End → NetState → List Line → PartState
+part_state net ends opening lines = record { net = net; ends = ends; opening = opening; lines = lines }
 
 abbrev pub owns : PartState → ℕ → Bool
 owns p = owned p.net
 
 -- the worker's end of the link by port o of node y
 abbrev pub end_of : PartState → ℕ → ℕ → End
-end_of p = end_by p.net.mesh p.net.own p.side
-
--- the two ends of the link by port o of node y, as they were made
-abbrev pub line_of : PartState → ℕ → ℕ → Line
-line_of p = line_by p.opening.mesh p.net.own.workers p.sides
+end_of p y o = cond (has_neighbour p.net.mesh y o) (end_at p.ends (links_before p.net.mesh y o)) Inner
 
 -- the network as the part has it
 abbrev pub part_network : PartState → Network
@@ -42,6 +43,19 @@ taken_by p y o = taken_on (end_of p y o)
 abbrev pub returned_to : PartState → ℕ → ℕ → List ℕ
 returned_to p y o = returned_on (end_of p y o)
 
+-- of each link between two workers the two ends that were made of it
+abbrev pub AreLines : NetState → ℕ → List Line → Type 0
+AreLines opening workers lines = (y o x : ℕ) → (shape opening).neighbour y o ≡ Some x
+    → (y % workers ≡ x % workers → ⊥) →
+    let line = line_at lines (links_before opening.mesh y o) in
+    AreEndsMade opening.mesh opening.channels opening.depth y o (past_of (shape opening) (network_of opening) y o x)
+    line.out line.into
+
+-- of each link the end that is the worker's, whatever has gone over it since
+abbrev pub HasItsEnds : PartState → Type 0
+HasItsEnds p = (y o x : ℕ) → (shape p.opening).neighbour y o ≡ Some x →
+    IsSameEnd (end_made (owns p y) (owns p x) (line_at p.lines (links_before p.opening.mesh y o))) (end_of p y o)
+
 -- the network has this configuration
 pub record HasConfigOf (opening net : NetState) : Type 0 where
   pub mesh : net.mesh ≡ opening.mesh
@@ -49,17 +63,18 @@ pub record HasConfigOf (opening net : NetState) : Type 0 where
   pub depth : net.depth ≡ opening.depth
   pub names : net.names ≡ opening.names
 
--- What holds of each part. By port it has what was made for its worker, whatever has gone over it since.
+-- What holds of each part.
 pub record IsPart (p : PartState) : Type 0 where
   pub opened : IsNet p.opening
   pub config : HasConfigOf p.opening p.net
   pub worker : p.net.own.worker < p.net.own.workers
-  pub made : AreSides p.opening p.net.own.workers p.sides
-  pub same : IsSameSide (side_at p.sides p.net.own.worker) p.side
+  pub made : AreLines p.opening p.net.own.workers p.lines
+  pub all_ends : length p.ends ≡ link_count p.net.mesh
+  pub ends : HasItsEnds p
   pub holds : HasPart (shape p.opening) (network_of p.opening) (owns p) (part_network p) (taken_by p) (returned_to p)
 
--- the configuration, the nodes that are owned, the network at the split and what was made then are the same
+-- the configuration, the nodes that are owned, the network at the split and its lines are the same
 pub record IsSamePart (old new : PartState) : Type 0 where
   pub config : IsSameConfig old.net new.net
   pub opening : new.opening ≡ old.opening
-  pub sides : new.sides ≡ old.sides
+  pub lines : new.lines ≡ old.lines

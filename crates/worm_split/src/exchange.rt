@@ -1,12 +1,12 @@
 //! A network taken apart, and what is exchanged between it and a worker's own lists. Done at the split it gives the
 //! worker its part; done again at the join it puts the part back.
 
-ghost use Rattle.std.specs.Prelude.{◌≡◌, ◌<◌, ◌%◌, length};
+ghost use Rattle.std.specs.Prelude.{◌≡◌, ◌<◌, length};
 ghost use Rattle.worm_region.specs.Owned.{owned_by};
 ghost use Rattle.worm_split.specs.Apart.{ArePaired, Fits, IsExchanged};
-ghost use Rattle.worm_split.specs.Exchange.{LinksSwapped, NodesSwapped, SwapsLink, SwapsNode};
+ghost use Rattle.worm_split.specs.Exchange.{EndsSwapped, LinksSwapped, NodesSwapped, SwapsEnd, SwapsLink, SwapsNode};
 
-use crate::sides::Side;
+use crate::ends::{End, Line};
 use std::marker::Model;
 use std::mem::swap;
 use worm_core::{Config, Inboxes, LinkState, Node, Own};
@@ -26,8 +26,8 @@ pub struct Kept {
     pub(crate) links: Vec<LinkState>,
     /// Memory for the inboxes of its nodes.
     pub(crate) inboxes: Inboxes,
-    /// What each worker has by port, by the worker's number.
-    pub(crate) sides: Vec<Side>,
+    /// Both ends of each link between two workers, by the link's number.
+    pub(crate) lines: Vec<Line>,
 }
 
 impl Model for Kept {
@@ -35,21 +35,9 @@ impl Model for Kept {
 
     ghost Value = { Apart };
 
-    ghost view = { λ k. taken_apart k.config k.ways.items k.nodes.items k.links.items k.sides.items };
+    ghost view = { λ k. taken_apart k.config k.ways.items k.nodes.items k.links.items k.lines.items };
 
-    ghost invariant = { λ k. Fits (taken_apart k.config k.ways.items k.nodes.items k.links.items k.sides.items) };
-}
-
-/// What is left of a number behind a division. Each item that comes is asked for its owner by it, and a division takes
-/// longest of that: where the divisor is a power of two a mask does.
-fn remainder(number: u16, divisor: u16) -> u16
-    requires { 0 < divisor }
-    ensures { result ≡ number % divisor }
-{
-    if 1 << divisor.trailing_zeros() == divisor {
-        return number & (divisor - 1);
-    }
-    number % divisor
+    ghost invariant = { λ k. Fits (taken_apart k.config k.ways.items k.nodes.items k.links.items k.lines.items) };
 }
 
 /// Whether the worker owns the node.
@@ -57,7 +45,7 @@ pub(crate) fn owns(own: Own, node: u8) -> bool
     requires { 0 < own.workers }
     ensures { result ≡ owned_by own node }
 {
-    remainder(u16::from(node), own.workers) == own.worker
+    u16::from(node) % own.workers == own.worker
 }
 
 /// Exchanges the two nodes where they are the worker's.
@@ -112,6 +100,36 @@ fn swap_links(kept: &mut Vec<LinkState>, links: &mut Vec<LinkState>, ways: &Vec<
     }
 }
 
+/// Exchanges the worker's end of a link, if just one of the link's nodes is the worker's.
+fn swap_end(line: &mut Line, end: &mut End, near: bool, far: bool)
+    ensures { SwapsEnd near far line.old end.old line.new end.new }
+{
+    if near && !far {
+        swap(&mut line.out, end);
+    } else if far && !near {
+        swap(&mut line.into, end);
+    }
+}
+
+/// Exchanges the worker's ends.
+fn swap_ends(lines: &mut Vec<Line>, ends: &mut Vec<End>, ways: &Vec<LinkEnds>, own: Own)
+    requires workers { 0 < own.workers }
+    requires length { length ends.old.items ≡ length lines.old.items }
+    requires ways { length ways.now.items ≡ length lines.old.items }
+    ensures { EndsSwapped own ways.now.items (length lines.old.items) lines.old.items ends.old.items lines.new.items
+        ends.new.items }
+{
+    for k in 0..ways.len() {
+        let way = ways[k];
+        swap_end(
+            &mut lines[k],
+            &mut ends[k],
+            owns(own, way.from),
+            owns(own, way.to),
+        );
+    }
+}
+
 impl Kept {
     /// Tells that the lists fit one another.
     pub(crate) fn recall(&self)
@@ -125,16 +143,16 @@ impl Kept {
         &mut self,
         nodes: &mut Vec<Node>,
         links: &mut Vec<LinkState>,
-        side: &mut Side,
+        ends: &mut Vec<End>,
         own: Own,
     )
         requires workers { 0 < own.workers }
-        requires paired { ArePaired own self.old nodes.old.items links.old.items }
+        requires paired { ArePaired self.old nodes.old.items links.old.items ends.old.items }
         ensures { IsExchanged own self.old self.new nodes.old.items nodes.new.items links.old.items links.new.items
-            side.old side.new }
+            ends.old.items ends.new.items }
     {
         swap_nodes(&mut self.nodes, nodes, own);
         swap_links(&mut self.links, links, &self.ways, own);
-        swap(&mut self.sides[usize::from(own.worker)], side);
+        swap_ends(&mut self.lines, ends, &self.ways, own);
     }
 }

@@ -1,28 +1,22 @@
 //! The parts of a network joined again.
 
-ghost use Rattle.std.specs.Prelude.{◌≡◌, ◌+◌, ◌*◌, ◌<◌, ◌≤◌, ◌++◌, ◌∷◌, [], IfSome, SomeIff, length};
-ghost use Rattle.worm_mesh.specs.Address.{AreRadices, opposite_of};
-ghost use Rattle.worm_mesh.specs.Links.{IsNumbering, link_count};
+ghost use Rattle.std.specs.Prelude.{◌≡◌, ◌<◌, ◌≤◌, ◌++◌, ◌∷◌, ◌%◌, ◌==◌, [], ℕ, false, length, true};
 ghost use Rattle.worm_core.specs.Headline.{DeliversInOrder};
+ghost use Rattle.worm_split.specs.Ends.{line_at};
 ghost use Rattle.worm_split.specs.Apart.{ArePaired, IsPutBack, with_lists};
-ghost use Rattle.worm_split.specs.Emptying.{AreBundle, AreBundles, AreBundlesAlong, AreBundlesBy, AreLinksEmptied};
-ghost use Rattle.worm_split.specs.Emptying.{CreditsEmptied, FlitsEmptied, IsBetweenEmptied, IsBundleEmptied};
-ghost use Rattle.worm_split.specs.Emptying.{IsDimEmptied, IsOver, IsPortEmptied, number_over};
-ghost use Rattle.worm_split.specs.Joins.{AreEmptied, AreParts, IsGathered, IsJoinOf, IsLaterThan};
-ghost use Rattle.worm_split.specs.Sides.{inlet_at, outlet_at, side_at};
+ghost use Rattle.worm_split.specs.Joins.{AreEmptied, AreOfOne, AreParts, CreditsEmptied, FlitsEmptied, IsBetween};
+ghost use Rattle.worm_split.specs.Joins.{IsEmptied, IsGathered, IsJoinOf, IsLaterThan};
 ghost use Rattle.worm_split.specs.Splits.{part_at};
 
+use crate::ends::{End, Line};
 use crate::exchange::Kept;
 use crate::part::Part;
-use crate::sides::{Inlet, Outlet, Side};
 use std::mem::replace;
 use std::sync::Wait;
-use worm_bundles::{
-    Carried, CreditRx, CreditTx, FlitRx, FlitTx, Returned, reunite, reunite_credits,
-};
 use worm_core::{LinkState, Net, NetParts, Region};
 use worm_flit::Flit;
-use worm_mesh::Mesh;
+use worm_links::{CreditRx, CreditTx, FlitRx, FlitTx, reunite, reunite_credits};
+use worm_mesh::LinkEnds;
 
 /// Puts the flit behind the link's, if there is room.
 fn put_behind(link: &mut LinkState, flit: Flit)
@@ -46,189 +40,75 @@ fn put_credit_behind(link: &mut LinkState, vc: u8)
     }
 }
 
-/// The links of one bundle: those that leave one worker's nodes, of so many workers, by one port.
-#[derive(Clone, Copy)]
-pub(crate) struct Span {
-    /// The mesh.
-    pub(crate) mesh: Mesh,
-    /// The port of each node that a link leaves.
-    pub(crate) port: u8,
-    /// The worker of those nodes.
-    pub(crate) worker: usize,
-    /// How many workers there are.
-    pub(crate) workers: usize,
-}
-
-impl Span {
-    /// The number of the link that leaves the node, if it is one of them.
-    fn number(&self, node: u8) -> Option<u16>
-        requires workers { 0 < self.now.workers }
-        ensures value { SomeIff result (IsOver self.now node) (number_over self.now node) }
-        ensures in_range { IfSome result (λ n. n < link_count self.now.mesh) }
-        ensures one_link { IsNumbering self.now.mesh }
-    {
-        // Asked of any node, since the call also tells that no two links have one number.
-        let number = self.mesh.link_number(node, self.port);
-        if usize::from(node) % self.workers != self.worker {
-            return None;
-        }
-        number
-    }
-}
-
-/// Puts what a bundle's queue still holds behind the flits of its links. There is room for it, but that is known only
-/// of all links together, once all queues are empty; so it is asked. What is for none of the links goes nowhere.
-fn empty_flits<R: Wait>(rt: &R, span: &Span, tx: FlitTx, rx: FlitRx, links: &mut Vec<LinkState>)
-    requires workers { 0 < span.now.workers }
-    requires length { length links.old.items ≡ link_count span.now.mesh }
-    requires queue { tx.queue ≡ rx.queue }
-    ensures { FlitsEmptied span.now tx.sent rx.taken links.old.items links.new.items }
+/// Puts what the queue still holds behind the link's flits. There is room for it, but that is known only of all links
+/// together, once all queues are empty; so it is asked.
+fn empty_flits<R: Wait>(rt: &R, tx: FlitTx, rx: FlitRx, link: &mut LinkState)
+    requires { tx.queue ≡ rx.queue }
+    ensures { FlitsEmptied tx.sent rx.taken link.old link.new }
 {
     let mut ends = reunite(tx, rx);
-    while let Some(Carried { node, flit }) = ends.pop_rest(rt) {
-        if let Some(number) = span.number(node) {
-            put_behind(&mut links[usize::from(number)], flit);
-        }
+    while let Some(flit) = ends.pop_rest(rt) {
+        put_behind(link, flit);
     }
 }
 
 /// The same of credits.
-fn empty_credits<R: Wait>(
-    rt: &R,
-    span: &Span,
-    tx: CreditTx,
-    rx: CreditRx,
-    links: &mut Vec<LinkState>,
-)
-    requires workers { 0 < span.now.workers }
-    requires length { length links.old.items ≡ link_count span.now.mesh }
-    requires queue { tx.queue ≡ rx.queue }
-    ensures { CreditsEmptied span.now tx.sent rx.taken links.old.items links.new.items }
+fn empty_credits<R: Wait>(rt: &R, tx: CreditTx, rx: CreditRx, link: &mut LinkState)
+    requires { tx.queue ≡ rx.queue }
+    ensures { CreditsEmptied tx.sent rx.taken link.old link.new }
 {
     let mut ends = reunite_credits(tx, rx);
-    while let Some(Returned { node, vc }) = ends.pop_rest(rt) {
-        if let Some(number) = span.number(node) {
-            put_credit_behind(&mut links[usize::from(number)], vc);
-        }
+    while let Some(vc) = ends.pop_rest(rt) {
+        put_credit_behind(link, vc);
     }
 }
 
-/// Puts what both queues of a bundle still hold onto its links.
-fn empty_bundle<R: Wait>(rt: &R, span: &Span, out: Outlet, into: Inlet, links: &mut Vec<LinkState>)
-    requires workers { 0 < span.now.workers }
-    requires length { length links.old.items ≡ link_count span.now.mesh }
-    requires bundle { AreBundle out into }
-    ensures { IsBundleEmptied span.now out into links.old.items links.new.items }
+/// Puts what the line's queues still hold onto the link, if it has ends.
+fn empty_line<R: Wait>(rt: &R, line: Line, link: &mut LinkState)
+    requires { AreOfOne line.out line.into }
+    ensures { IsEmptied line.out line.into link.old link.new }
 {
-    let Outlet { ends: near } = out;
-    let Some((tx, back)) = near else {
-        unreachable!()
+    let Line { out, into } = line;
+    let End::Leaving(tx, back) = out else {
+        return;
     };
-    let Inlet { ends: far } = into;
-    let Some((rx, give)) = far else {
-        unreachable!()
+    let End::Entering(rx, give) = into else {
+        return;
     };
-    empty_flits(rt, span, tx, rx, links);
-    empty_credits(rt, span, give, back, links);
+    empty_flits(rt, tx, rx, link);
+    empty_credits(rt, give, back, link);
 }
 
-/// Puts what the queues of the bundle to this worker still hold onto its links.
-fn empty_between<R: Wait>(
-    rt: &R,
-    span: &Span,
-    to: usize,
-    sides: &mut Vec<Side>,
-    links: &mut Vec<LinkState>,
-)
-    requires workers { span.now.workers ≡ length sides.old.items }
-    requires worker { (span.now.worker < length sides.old.items) × (to < length sides.old.items) }
-    requires port { span.now.port < 2 * length span.now.mesh }
-    requires length { length links.old.items ≡ link_count span.now.mesh }
-    requires bundle { AreBundle (outlet_at (side_at sides.old.items span.now.worker) span.now.port)
-        (inlet_at (side_at sides.old.items to) (opposite_of span.now.port)) }
-    ensures { IsBetweenEmptied span.now to sides.old.items sides.new.items links.old.items links.new.items }
+/// The same, unless both of the link's nodes are of one worker.
+fn empty_between<R: Wait>(rt: &R, line: &mut Line, link: &mut LinkState, within: bool)
+    requires { within ≡ false → AreOfOne line.old.out line.old.into }
+    ensures between { within ≡ false → IsEmptied line.old.out line.old.into link.old link.new }
+    ensures within { within ≡ true → link.new ≡ link.old }
 {
-    let left = &mut sides[span.worker].leaving[usize::from(span.port)];
-    let out = replace(left, Outlet { ends: None });
-    let entered = &mut sides[to].entering[usize::from(span.mesh.opposite(span.port))];
-    let into = replace(entered, Inlet { ends: None });
-    empty_bundle(rt, span, out, into, links);
-}
-
-/// The same of all bundles by a port, each to the worker so many further on.
-fn empty_port<R: Wait>(
-    rt: &R,
-    mesh: &Mesh,
-    port: u8,
-    step: usize,
-    sides: &mut Vec<Side>,
-    links: &mut Vec<LinkState>,
-)
-    requires some { 0 < length sides.old.items }
-    requires step { step < length sides.old.items }
-    requires mesh { AreRadices mesh.now }
-    requires port { port < 2 * length mesh.now }
-    requires length { length links.old.items ≡ link_count mesh.now }
-    requires bundles { AreBundlesBy port step sides.old.items }
-    ensures { IsPortEmptied mesh.now port step sides.old.items sides.new.items links.old.items links.new.items }
-{
-    let workers = sides.len();
-    for worker in 0..workers {
-        let span = Span {
-            mesh: *mesh,
-            port,
-            worker,
-            workers,
-        };
-        empty_between(rt, &span, (worker + step) % workers, sides, links);
+    if within {
+        return;
     }
-}
-
-/// The same of all bundles by both ports of a dimension.
-fn empty_dim<R: Wait>(
-    rt: &R,
-    mesh: &Mesh,
-    dim: u8,
-    sides: &mut Vec<Side>,
-    links: &mut Vec<LinkState>,
-)
-    requires some { 0 < length sides.old.items }
-    requires mesh { AreRadices mesh.now }
-    requires dim { dim < length mesh.now }
-    requires length { length links.old.items ≡ link_count mesh.now }
-    requires bundles { AreBundlesAlong mesh.now dim sides.old.items }
-    ensures { IsDimEmptied mesh.now dim sides.old.items sides.new.items links.old.items links.new.items }
-{
-    // What a step up adds to node 0's number, it adds to any node's.
-    let Some(beyond) = mesh.neighbour(0, 2 * dim + 1) else {
-        unreachable!()
+    let none = Line {
+        out: End::Inner,
+        into: End::Inner,
     };
-    let workers = sides.len();
-    let step = usize::from(beyond) % workers;
-    if step != 0 {
-        empty_port(rt, mesh, 2 * dim + 1, step, sides, links);
-        empty_port(rt, mesh, 2 * dim, workers - step, sides, links);
-    }
+    empty_line(rt, replace(line, none), link);
 }
 
-/// The same of all bundles.
-fn empty_sides<R: Wait>(rt: &R, mesh: &Mesh, sides: &mut Vec<Side>, links: &mut Vec<LinkState>)
-    requires some { 0 < length sides.old.items }
-    requires length { length links.old.items ≡ link_count mesh.now }
-    requires bundles { AreBundles mesh.now sides.old.items }
-    ensures { AreLinksEmptied mesh.now sides.old.items links.old.items links.new.items }
+/// Whether both of the link's nodes are of one worker.
+fn is_within(way: LinkEnds, workers: usize) -> bool
+    requires { 0 < workers }
+    ensures { result ≡ (way.from % workers == way.to % workers) }
 {
-    for dim in 0..mesh.dims() {
-        empty_dim(rt, mesh, dim, sides, links);
-    }
+    usize::from(way.from) % workers == usize::from(way.to) % workers
 }
 
 impl Kept {
-    /// Puts a part back: its nodes, what is on its links, and what it has by port.
-    fn put_back(&mut self, region: Region, mut side: Side)
+    /// Puts a part back: its nodes, what is on its links, and its ends.
+    fn put_back(&mut self, region: Region, mut ends: Vec<End>)
         requires workers { 0 < region.own.workers }
-        requires paired { ArePaired region.own self.old region.nodes region.links }
-        ensures { IsPutBack region.own self.old self.new region.nodes region.links side }
+        requires paired { ArePaired self.old region.nodes region.links ends.items }
+        ensures { IsPutBack region.own self.old self.new region.nodes region.links ends.items }
     {
         let own = region.own();
         let NetParts {
@@ -237,20 +117,22 @@ impl Kept {
             mut links,
             inboxes: _,
         } = region.into_parts();
-        self.exchange(&mut nodes, &mut links, &mut side, own);
+        self.exchange(&mut nodes, &mut links, &mut ends, own);
     }
 
     /// Puts what all queues still hold onto their links.
-    fn empty_bundles<R: Wait>(&mut self, rt: &R)
-        requires some { 0 < length self.old.sides }
-        requires bundles { AreBundles self.old.net.mesh self.old.sides }
-        ensures links { AreEmptied self.old.ways self.old.sides self.old.net.links self.new.net.links }
+    fn empty_lines<R: Wait>(&mut self, rt: &R, workers: usize)
+        requires workers { 0 < workers }
+        requires queues { (k : ℕ) → IsBetween workers self.old.ways k →
+            AreOfOne (line_at self.old.lines k).out (line_at self.old.lines k).into }
+        ensures links { AreEmptied workers (length self.old.ways) self.old.ways self.old.lines self.old.net.links
+            self.new.net.links }
         ensures rest { self.new.net ≡ with_lists self.old.net self.old.net.nodes self.new.net.links }
     {
-        let Ok(mesh) = Mesh::new(self.config.radices.as_slice()) else {
-            unreachable!()
-        };
-        empty_sides(rt, &mesh, &mut self.sides, &mut self.links);
+        for k in 0..self.ways.len() {
+            let within = is_within(self.ways[k], workers);
+            empty_between(rt, &mut self.lines[k], &mut self.links[k], within);
+        }
     }
 }
 
@@ -264,9 +146,9 @@ fn gather(mut parts: Vec<Part>) -> Kept
     };
     let Part {
         region,
-        side,
+        ends,
         opening: _,
-        sides: _,
+        lines: _,
         kept,
     } = last;
     let Some(mut whole) = kept else {
@@ -274,23 +156,23 @@ fn gather(mut parts: Vec<Part>) -> Kept
     };
     region.recall();
     whole.recall();
-    whole.put_back(region, side);
+    whole.put_back(region, ends);
     while let Some(part) = parts.pop() {
         let Part {
             region,
-            side,
+            ends,
             opening: _,
-            sides: _,
+            lines: _,
             kept: _,
         } = part;
         region.recall();
-        whole.put_back(region, side);
+        whole.put_back(region, ends);
     }
     whole
 }
 
 /// Joins all parts of one split, in rising number of their workers: each node as its owner has it, each link as the
-/// owner of its far end has it, and then what its bundle still held of it. It takes no memory.
+/// owner of its far end has it, and then what its queue still held. It takes no memory.
 ///
 /// ```text
 /// let parts = split(alloc, net, 4)?;
@@ -302,15 +184,16 @@ pub fn join<R: Wait>(rt: &R, parts: Vec<Part>) -> Net
     ensures later { IsLaterThan (part_at parts.items 0).opening result }
     ensures delivers { DeliversInOrder result }
 {
+    let workers = parts.len();
     let mut whole = gather(parts);
-    whole.empty_bundles(rt);
+    whole.empty_lines(rt, workers);
     let Kept {
         config,
         ways: _,
         nodes,
         links,
         inboxes,
-        sides: _,
+        lines: _,
     } = whole;
     let lists = NetParts {
         config,

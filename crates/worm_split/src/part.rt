@@ -1,7 +1,7 @@
-//! What one worker has of a network: its own nodes, and its ends of the bundles that it shares with other workers.
+//! What one worker has of a network: its own nodes, and its ends of the links that it shares with other workers.
 
+use crate::ends::{End, Line};
 use crate::exchange::Kept;
-use crate::sides::Side;
 use std::marker::Model;
 use std::snapshot::Snapshot;
 use worm_core::{Net, Region};
@@ -11,12 +11,12 @@ use worm_core::{Net, Region};
 pub struct Part {
     /// The network of its nodes. In the place of each node of another worker stands one that is not looked at.
     pub(crate) region: Region,
-    /// What it has by port: its ends of the bundles that it shares with other workers.
-    pub(crate) side: Side,
+    /// Its ends by link number.
+    pub(crate) ends: Vec<End>,
     /// The network that was split.
     pub(crate) opening: Snapshot<Net>,
-    /// What each worker had by port, as it was made.
-    pub(crate) sides: Snapshot<Vec<Side>>,
+    /// Both ends of each link, as they were made.
+    pub(crate) lines: Snapshot<Vec<Line>>,
     /// The network taken apart, which the last worker keeps till it is joined.
     pub(crate) kept: Option<Kept>,
 }
@@ -27,8 +27,8 @@ impl Model for Part {
 
     ghost Value = { PartState };
 
-    ghost view = { λ p. part_state p.region p.side p.opening.value p.sides.value.items };
+    ghost view = { λ p. part_state p.region p.ends.items p.opening.value p.lines.value.items };
 
-    ghost invariant = { λ p. IsPart (part_state p.region p.side p.opening.value p.sides.value.items) ×
+    ghost invariant = { λ p. IsPart (part_state p.region p.ends.items p.opening.value p.lines.value.items) ×
         IsKept p.opening.value p.region.own p.kept };
 }

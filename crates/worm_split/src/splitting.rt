@@ -1,34 +1,35 @@
 //! A network split at its links among workers.
 
-ghost use Rattle.std.specs.Prelude.{◌≡◌, ◌<◌, ◌≤◌, [], IfErr, IfOk, vec_capacity};
+ghost use Rattle.std.specs.Prelude.{◌≡◌, ◌<◌, ◌≤◌, IfErr, IfOk, vec_capacity};
 ghost use Rattle.worm_region.specs.State.{IsNet};
 ghost use Rattle.worm_region.specs.Workable.{IsWorkable};
 ghost use Rattle.worm_split.specs.PartState.{IsPart};
 ghost use Rattle.worm_split.specs.Apart.{IsKept};
 ghost use Rattle.worm_split.specs.Splits.{AreSeats, IsOpened, IsSplitOf, seat_state};
 
+use crate::ends::Line;
 use crate::exchange::Kept;
 use crate::making::{Rooms, Seat, make_rooms};
 use crate::part::Part;
-use crate::sides::Side;
 use std::alloc::Global;
 use std::snapshot::Snapshot;
 use worm_core::{Net, NetParts, NoMemory, Own, Region};
 
 /// The part that has these lists.
-fn part_of(seat: Seat, side: Side, own: Own, kept: Option<Kept>) -> Part
-    requires works { IsWorkable (seat_state seat own side).net }
-    requires part { IsPart (seat_state seat own side) }
+fn part_of(seat: Seat, own: Own, kept: Option<Kept>) -> Part
+    requires works { IsWorkable (seat_state seat own).net }
+    requires part { IsPart (seat_state seat own) }
     requires kept { IsKept seat.opening.value own kept }
-    ensures { result ≡ seat_state seat own side }
+    ensures { result ≡ seat_state seat own }
 {
     let Seat {
         config,
         nodes,
         links,
         inboxes,
+        ends,
         opening,
-        sides,
+        lines,
     } = seat;
     let parts = NetParts {
         config,
@@ -38,37 +39,26 @@ fn part_of(seat: Seat, side: Side, own: Own, kept: Option<Kept>) -> Part
     };
     Part {
         region: Region::from_parts(parts, own),
-        side,
+        ends,
         opening,
-        sides,
+        lines,
         kept,
-    }
-}
-
-/// Nothing by any port. It takes no memory.
-fn empty_side(alloc: Global) -> Side
-    ensures { result ≡ record { leaving = []; entering = [] } }
-{
-    Side {
-        leaving: Vec::new(alloc),
-        entering: Vec::new(alloc),
     }
 }
 
 /// The parts of the network that is taken apart, for the workers in rising number.
 fn deal(
-    alloc: Global,
     mut whole: Kept,
     mut seats: Vec<Seat>,
     mut parts: Vec<Part>,
     workers: u16,
     opening: &Snapshot<Net>,
-    sides: &Snapshot<Vec<Side>>,
+    lines: &Snapshot<Vec<Line>>,
 ) -> Vec<Part>
     requires workers { (0 < workers) × (workers ≤ 16) }
     requires net { IsNet opening.now.value }
-    requires whole { IsOpened opening.now.value workers sides.now.value.items whole }
-    requires seats { AreSeats opening.now.value sides.now.value.items workers seats.items parts.items (vec_capacity
+    requires whole { IsOpened opening.now.value workers lines.now.value.items whole }
+    requires seats { AreSeats opening.now.value lines.now.value.items workers seats.items parts.items (vec_capacity
         parts) }
     ensures { IsSplitOf opening.now.value workers result.items }
 {
@@ -77,9 +67,8 @@ fn deal(
             unreachable!()
         };
         let own = Own { worker, workers };
-        let mut side = empty_side(alloc);
-        whole.exchange(&mut seat.nodes, &mut seat.links, &mut side, own);
-        let _room = parts.push(part_of(seat, side, own, None));
+        whole.exchange(&mut seat.nodes, &mut seat.links, &mut seat.ends, own);
+        let _room = parts.push(part_of(seat, own, None));
     }
     let Some(mut seat) = seats.pop() else {
         unreachable!()
@@ -88,15 +77,14 @@ fn deal(
         worker: workers - 1,
         workers,
     };
-    let mut side = empty_side(alloc);
-    whole.exchange(&mut seat.nodes, &mut seat.links, &mut side, own);
-    let _room = parts.push(part_of(seat, side, own, Some(whole)));
+    whole.exchange(&mut seat.nodes, &mut seat.links, &mut seat.ends, own);
+    let _room = parts.push(part_of(seat, own, Some(whole)));
     parts
 }
 
 /// Splits the network at its links among so many workers, 1 to 16: a part for each, in rising number. The nodes go to
-/// them in turn, and a worker past the last node gets none. `Err` gives the network back as it was, where memory is
-/// refused.
+/// them in
+/// turn, and a worker past the last node gets none. `Err` gives the network back as it was, where memory is refused.
 ///
 /// ```text
 /// let parts = split(alloc, net, 4)?;
@@ -113,12 +101,12 @@ pub fn split(alloc: Global, net: Net, workers: usize) -> Result<Vec<Part>, (Net,
     };
     let Rooms {
         ways,
-        sides,
+        lines,
         seats,
         parts,
     } = rooms;
     let opening = Snapshot::of(&net);
-    let made = Snapshot::of(&sides);
+    let made = Snapshot::of(&lines);
     let NetParts {
         config,
         nodes,
@@ -131,7 +119,7 @@ pub fn split(alloc: Global, net: Net, workers: usize) -> Result<Vec<Part>, (Net,
         nodes,
         links,
         inboxes,
-        sides,
+        lines,
     };
-    Ok(deal(alloc, whole, seats, parts, workers as u16, &opening, &made))
+    Ok(deal(whole, seats, parts, workers as u16, &opening, &made))
 }

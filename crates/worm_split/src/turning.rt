@@ -1,9 +1,9 @@
-//! What a part does in a turn: it receives what came, and its nodes have their turns.
+//! What a part does in a turn of one of its nodes.
 
 ghost use Rattle.std.specs.Prelude.{◌≡◌, ◌<◌, ◌+◌, ◌*◌, ◌%◌, ◌↔◌, ◌∷◌, [], filter, true, None, Some, IsTrue};
-ghost use Rattle.std.specs.Prelude.{false, List, Option, IsSome, length, sum, ℕ};
+ghost use Rattle.std.specs.Prelude.{false, List, Option, IfErr, IsSome, length, sum};
 ghost use Rattle.std.specs.Result.{result_err};
-ghost use Rattle.worm_mesh.specs.Address.{node_count};
+ghost use Rattle.worm_mesh.specs.Address.{node_count, stride_of};
 ghost use Rattle.worm_region.specs.Replies.{Attempts};
 ghost use Rattle.worm_script.specs.Script.{due};
 ghost use Rattle.worm_region.specs.Prepared.{Prepares};
@@ -11,65 +11,124 @@ ghost use Rattle.worm_region.specs.Turns.{AreGrants, AreThere, AsksSourceBy, May
 ghost use Rattle.worm_region.specs.Workable.{owned};
 ghost use Rattle.worm_split.specs.Effects.{IsRefused, SinksTakeOne, SourcesTake};
 ghost use Rattle.worm_split.specs.PartState.{IsSamePart};
+ghost use Rattle.worm_split.specs.Stops.{IsMet, fault_told};
 ghost use Rattle.worm_region.specs.State.{router_at, shape};
 ghost use Rattle.worm_swalloc.specs.SwAlloc.{AreGranted};
 ghost use Rattle.worm_swalloc.specs.declared.grant.SwGrant.{SwGrant};
 ghost use Rattle.worm_router.specs.Router.{input_at, leaving};
 ghost use Rattle.worm_theory.specs.Steps.{IsThere, Step as Event};
-ghost use Rattle.worm_split.specs.PartTurns.{ComesBy, EachOf, Gives};
-ghost use Rattle.worm_split.specs.PartTurns.{GivesAcross, GivesCredits, LeavesBy, NodePasses, NodeTurn, NodeTurns};
-ghost use Rattle.worm_split.specs.PartTurns.{ReceivesCredits, ReceivesFlits, Sends, SendsAcross, SendsGrants};
-ghost use Rattle.worm_split.specs.PartTurns.{StaysWithin, Turn, Within};
+ghost use Rattle.worm_split.specs.PartTurns.{ComesBy, EachOf, Gives, GivesAcross, GivesCredits, LeavesBy};
+ghost use Rattle.worm_split.specs.PartTurns.{NodePasses, NodeTurn, Sends, SendsAcross, SendsGrants, StaysWithin, Turn};
+ghost use Rattle.worm_split.specs.PartTurns.{AreShared, PullsCredit, PullsCredits, PullsFlit, PullsFlits, Within};
 
+use crate::ends::{is_entering, is_leaving, pop_credit, pop_flit, push_credit, push_flit};
 use crate::part::Part;
+use crate::stop::{StopWhy, stopped_by};
 use std::sync::Wait;
 use worm_core::{Due, Script, StepFault, tried};
-use worm_flit::Flit;
+use worm_flit::{Flit, SmallSet};
 use worm_vcalloc::ChannelSet;
 
 impl Part {
-    /// Receives what flits came by the port: of each link one at most, so no more than there are nodes.
-    fn receive_flits_by(&mut self, port: u8)
-        requires { port < 2 * length self.old.net.mesh }
-        ensures came { ReceivesFlits self.old None self.new }
-        ensures same { IsSamePart self.old self.new }
+    /// Whether a step in this dimension leads to another worker's node. It adds the same to each node's number, so it
+    /// does so from all nodes or from none.
+    fn leads_away(&self, dim: u8) -> bool
+        requires { dim < length self.now.net.mesh }
+        ensures { result ≡ false → stride_of self.now.net.mesh dim % self.now.net.own.workers ≡ 0 }
     {
-        let out = self.region.mesh().opposite(port);
-        let Some(inlet) = self.side.entering.get_mut(usize::from(port)) else {
-            return;
+        self.region.recall();
+        let Some(beyond) = self.region.mesh().neighbour(0, 2 * dim + 1) else {
+            unreachable!()
         };
-        inlet.receive(&mut self.region, out);
+        u16::from(beyond) % self.region.own().workers != 0
     }
 
-    /// The same of credits.
-    fn receive_credits_by(&mut self, port: u8)
-        requires { port < 2 * length self.old.net.mesh }
-        ensures came { ReceivesCredits self.old None self.new }
-        ensures same { IsSamePart self.old self.new }
+    /// The mesh ports by which a link may lead to another worker's node. The links by the others stay within the part,
+    /// so their queues need not be asked.
+    fn shared_ports(&self) -> SmallSet
+        ensures { AreShared self.now.net result }
     {
-        let Some(outlet) = self.side.leaving.get_mut(usize::from(port)) else {
-            return;
-        };
-        outlet.receive(&mut self.region, port);
-    }
-
-    /// Receives what flits came by all ports.
-    fn receive_flits(&mut self)
-        ensures came { ReceivesFlits self.old None self.new }
-        ensures same { IsSamePart self.old self.new }
-    {
+        self.region.recall();
+        let mut shared = SmallSet::new();
         for port in 0..self.region.terminal() {
-            self.receive_flits_by(port);
+            shared.put(port, self.leads_away(port / 2));
+        }
+        shared
+    }
+
+    /// Asks for the next credit of the link out of the port, where the link leaves the worker's nodes and no credit of
+    /// it waits.
+    fn pull_credit(&mut self, node: u8, port: u8)
+        requires node { node < node_count self.old.net.mesh }
+        requires own { owned self.old.net node ≡ true }
+        ensures pulls { PullsCredit node port self.old None self.new }
+        ensures same { IsSamePart self.old self.new }
+    {
+        self.region.recall();
+        let Some(links) = self.region.links_at(node, port) else {
+            return;
+        };
+        let number = usize::from(links.out);
+        if !is_leaving(&self.ends[number]) {
+            return;
+        }
+        if self.region.has_credit_back(node, port) {
+            return;
+        }
+        let Some(vc) = pop_credit(&mut self.ends[number]) else {
+            return;
+        };
+        self.region.arrive_credit(node, port, vc);
+    }
+
+    /// Asks for the next flit of the link into the port, where the link enters the worker's nodes and no flit of it
+    /// waits.
+    fn pull_flit(&mut self, node: u8, port: u8)
+        requires node { node < node_count self.old.net.mesh }
+        requires own { owned self.old.net node ≡ true }
+        ensures pulls { PullsFlit node port self.old None self.new }
+        ensures same { IsSamePart self.old self.new }
+    {
+        self.region.recall();
+        let Some(links) = self.region.links_at(node, port) else {
+            return;
+        };
+        let number = usize::from(links.into);
+        if !is_entering(&self.ends[number]) {
+            return;
+        }
+        if self.region.has_flit_in(node, port) {
+            return;
+        }
+        let Some(flit) = pop_flit(&mut self.ends[number]) else {
+            return;
+        };
+        self.region.arrive(node, port, flit);
+    }
+
+    /// Asks for a credit of each link out of the node by one of these ports, rising.
+    fn pull_credits(&mut self, node: u8, shared: SmallSet)
+        requires node { node < node_count self.old.net.mesh }
+        requires own { owned self.old.net node ≡ true }
+        ensures pulls { PullsCredits node self.old None self.new }
+        ensures same { IsSamePart self.old self.new }
+    {
+        let mut left = shared;
+        while let Some(port) = left.pop_first() {
+            self.pull_credit(node, port);
         }
     }
 
-    /// The same of credits.
-    fn receive_credits(&mut self)
-        ensures came { ReceivesCredits self.old None self.new }
+    /// Asks for a flit of each link into the node by one of these ports, rising.
+    fn pull_flits(&mut self, node: u8, shared: SmallSet)
+        requires node { node < node_count self.old.net.mesh }
+        requires own { owned self.old.net node ≡ true }
+        ensures pulls { PullsFlits node self.old None self.new }
         ensures same { IsSamePart self.old self.new }
     {
-        for port in 0..self.region.terminal() {
-            self.receive_credits_by(port);
+        let mut left = shared;
+        while let Some(port) = left.pop_first() {
+            self.pull_flit(node, port);
         }
     }
 
@@ -98,18 +157,19 @@ impl Part {
         self.region.prepare(node)
     }
 
-    /// The ready flit leaves by this port, which leads to another worker's node, if its push lands.
+    /// The ready flit leaves over the link of this number, which leads to another worker's node, if its push lands.
     fn send_across<R: Wait>(&mut self, rt: &R, node: u8, port: u8, vc: u8, out: u8, flit: Flit)
         requires own { owned self.old.net node ≡ true }
         requires there { IsThere (shape self.old.net) (Event.Send node port vc) }
         requires ready { leaving (router_at self.old.net node) port vc ≡ Some (out, flit) }
-        requires leaves { LeavesBy self.old out }
+        requires leaves { LeavesBy self.old node out }
         ensures sends { SendsAcross node port vc self.old self.new }
         ensures others { OthersMaySend self.old.net node port vc self.new.net }
         ensures same { IsSamePart self.old self.new }
     {
         self.region.recall();
-        if self.side.send(rt, node, out, flit) {
+        let links = self.region.links_beyond(node, out);
+        if push_flit(rt, &mut self.ends[usize::from(links.out)], flit) {
             self.region.let_out(node, port, vc, out, flit);
         }
     }
@@ -119,13 +179,24 @@ impl Part {
         requires own { owned self.old.net node ≡ true }
         requires there { IsThere (shape self.old.net) (Event.Send node port vc) }
         requires ready { IsSome (leaving (router_at self.old.net node) port vc) }
-        requires stays { StaysWithin self.old (leaving (router_at self.old.net node) port vc) }
+        requires stays { StaysWithin self.old node (leaving (router_at self.old.net node) port vc) }
         ensures sends { Within (Attempts (Event.Send node port vc)) self.old (result_err result) self.new }
         ensures others { OthersMaySend self.old.net node port vc self.new.net }
         ensures same { IsSamePart self.old self.new }
     {
         self.region.recall();
         tried(self.region.send_next(node, port, vc))
+    }
+
+    /// Whether the link out of the port leads to another worker's node.
+    fn leaves(&self, node: u8, out: u8) -> bool
+        ensures { IsTrue result ↔ LeavesBy self.now node out }
+    {
+        self.region.recall();
+        let Some(links) = self.region.links_at(node, out) else {
+            return false;
+        };
+        is_leaving(&self.ends[usize::from(links.out)])
     }
 
     /// The node is not known to rest any more, so that a send within the part need not read its router anew.
@@ -148,7 +219,7 @@ impl Part {
     {
         self.wake(node);
         // Of what stays within the part no more than its port is read before it is sent.
-        if !self.side.leaves(self.region.port_out(node, port, vc)) {
+        if !self.leaves(node, self.region.port_out(node, port, vc)) {
             return self.send_within(node, port, vc);
         }
         let (out, flit) = self.region.next_out(node, port, vc);
@@ -185,13 +256,13 @@ impl Part {
         requires node { node < node_count self.old.net.mesh }
         requires channel { vc < sum self.old.net.channels }
         requires owed { 0 < (input_at (router_at self.old.net node) port vc).owed }
-        requires comes { ComesBy self.old port }
+        requires comes { ComesBy self.old node port }
         ensures gives { GivesAcross node port vc self.old self.new }
         ensures same { IsSamePart self.old self.new }
     {
         self.region.recall();
         let links = self.region.links_beyond(node, port);
-        if self.side.give(rt, links.beyond, port, vc) {
+        if push_credit(rt, &mut self.ends[usize::from(links.into)], vc) {
             self.region.gave(node, port, vc);
         }
     }
@@ -201,11 +272,10 @@ impl Part {
         requires own { owned self.old.net node ≡ true }
         requires channel { vc < sum self.old.net.channels }
         requires owed { 0 < (input_at (router_at self.old.net node) port vc).owed }
-        requires stays { ComesBy self.old port → ⊥ }
+        requires stays { ComesBy self.old node port → ⊥ }
         ensures gives { Within (Attempts (Event.GiveCredit node port vc)) self.old None self.new }
         ensures same { IsSamePart self.old self.new }
     {
-        self.region.recall();
         self.region.give_owed(node, port, vc);
     }
 
@@ -218,7 +288,10 @@ impl Part {
         ensures gives { Gives node port vc self.old None self.new }
         ensures same { IsSamePart self.old self.new }
     {
-        if self.side.comes(port) {
+        self.region.recall();
+        // A channel owes a credit only where its port has a link.
+        let links = self.region.links_beyond(node, port);
+        if is_entering(&self.ends[usize::from(links.into)]) {
             self.give_across(rt, node, port, vc);
         } else {
             self.give_within(node, port, vc);
@@ -251,7 +324,7 @@ impl Part {
         self.region.rests(node)
     }
 
-    /// What a node does in a turn once its source was asked, up to the first fault.
+    /// What a node does in a turn once its source and its links were asked, up to the first fault.
     fn node_passes<R: Wait>(&mut self, rt: &R, node: u8) -> Result<(), StepFault>
         requires node { node < node_count self.old.net.mesh }
         requires own { owned self.old.net node ≡ true }
@@ -268,38 +341,42 @@ impl Part {
     }
 
     /// The turn of a node, with these entries for all nodes, up to the first fault.
-    fn node_turn<R: Wait>(&mut self, rt: &R, node: u8, entries: &Due<'_>) -> Result<(), StepFault>
+    fn node_turn<R: Wait>(
+        &mut self,
+        rt: &R,
+        node: u8,
+        entries: &Due<'_>,
+        shared: SmallSet,
+    ) -> Result<(), StepFault>
         requires node { node < node_count self.old.net.mesh }
         requires own { owned self.old.net node ≡ true }
         ensures turn { NodeTurn entries.now node self.old (result_err result) self.new }
         ensures same { IsSamePart self.old self.new }
     {
         self.ask_source(node, entries)?;
+        self.pull_credits(node, shared);
+        self.pull_flits(node, shared);
         self.node_passes(rt, node)
     }
 
     /// The turns of the worker's nodes, in rising number, with these entries for all nodes, up to the first fault.
     fn node_turns<R: Wait>(&mut self, rt: &R, entries: &Due<'_>) -> Result<(), StepFault>
-        ensures turn { NodeTurns entries.now self.old (result_err result) self.new }
+        ensures turn { Turn entries.now self.old (result_err result) self.new }
         ensures same { IsSamePart self.old self.new }
     {
+        let shared = self.shared_ports();
         let own = self.region.own();
         let nodes = u32::from(self.region.nodes());
         let mut node = u32::from(own.worker);
         while node < nodes {
-            self.node_turn(rt, node as u8, entries)?;
+            self.node_turn(rt, node as u8, entries, shared)?;
             node += u32::from(own.workers);
         }
         Ok(())
     }
 
-    /// A turn: what came from other workers is received, of each link one flit and one credit at most; then the
-    /// worker's nodes, in rising number, have the turn of this number, with the script's entries for it, up to the
-    /// first fault; and what they sent and gave to other workers is let out. What leaves by a link to another worker
-    /// leaves by the bundle of its port, if its push lands. Each of its sources accepts in order what the script has
-    /// for it, each of its sinks gets one flit at most.
-    /// `Refused` where a source refuses an entry, `NoMemory` where there is none for an accepted or a delivered flit.
-    pub fn turn<R: Wait>(&mut self, rt: &R, turn: u64, script: &Script) -> Result<(), StepFault>
+    /// The turn of this number, with the script's entries for it, up to the first fault.
+    fn take_turn<R: Wait>(&mut self, rt: &R, turn: u64, script: &Script) -> Result<(), StepFault>
         ensures exact { Turn (due turn script.now) self.old (result_err result) self.new }
         ensures sources { SourcesTake (due turn script.now) self.old (result_err result) self.new }
         ensures sinks { SinksTakeOne self.old self.new }
@@ -308,26 +385,27 @@ impl Part {
     {
         let due = script.due(turn);
         due.recall();
-        self.fetch();
-        self.receive_flits();
-        self.receive_credits();
         self.region.recall();
-        let done = self.node_turns(rt, &due);
-        self.flush(rt);
-        done
+        self.node_turns(rt, &due)
     }
 
-    /// Looks for what came from other workers.
-    fn fetch(&mut self)
-        ensures { self.new ≡ self.old }
+    /// The turns of the worker's nodes, in rising number: the turn of this number, with the script's entries for it, up
+    /// to the first fault. What leaves by a link to another worker leaves by the link's queue, if its push lands; what
+    /// comes from another worker is what its queue gives. Each of its sources accepts in order what the script has for
+    /// it, each of its sinks gets one flit at most.
+    /// `Refused` where a source refuses an entry, `NoMemory` where there is none for an accepted or a delivered flit;
+    /// never `Gate`.
+    pub fn turn<R: Wait>(&mut self, rt: &R, turn: u64, script: &Script) -> Result<(), StopWhy>
+        ensures exact { Turn (due turn script.now) self.old (fault_told result) self.new }
+        ensures sources { SourcesTake (due turn script.now) self.old (fault_told result) self.new }
+        ensures sinks { SinksTakeOne self.old self.new }
+        ensures refused { IsRefused (due turn script.now) self.old (fault_told result) self.new }
+        ensures stop { IfErr result IsMet }
+        ensures same { IsSamePart self.old self.new }
     {
-        self.side.fetch();
-    }
-
-    /// Lets out what it sent and gave to other workers.
-    fn flush<R: Wait>(&mut self, rt: &R)
-        ensures { self.new ≡ self.old }
-    {
-        self.side.flush(rt);
+        match self.take_turn(rt, turn, script) {
+            Ok(()) => Ok(()),
+            Err(fault) => Err(stopped_by(fault)),
+        }
     }
 }

@@ -8,9 +8,9 @@ use Rattle.worm_split.proofs.splitting.deal.Goals.{After-exchange, After-exchang
 dealt : (c : After-exchange) →
     let s = c.loop-worker in
     let x = c.exchange.new in
-    Deals c.args.opening.now.value c.args.workers s.worker c.args.sides.now.value.items x.self c.pop.new.self.items
+    Deals c.args.opening.now.value c.args.workers s.worker c.args.lines.now.value.items x.self c.pop.new.self.items
     s.parts.items (vec_capacity s.parts) (dealt_state c.in-Some.seat
-    (record { worker = s.worker; workers = c.args.workers }) x.nodes.items x.links.items x.side)
+    (record { worker = s.worker; workers = c.args.workers }) x.nodes.items x.links.items x.ends.items)
 dealt c =
     deals c.pop.new.self.items c.in-Some.seat c.requires.net c.loop-worker.invariant (omega arith)
     c.in-Some.ensures.items c.exchange.ensures
@@ -29,25 +29,21 @@ loop-worker-preserved c =
 
 pub exchange-requires-clause-paired : goal.exchange-requires-clause-paired
 exchange-requires-clause-paired c =
-    seat_lists c.pop.new.self.items c.in-Some.seat c.requires.net c.loop-worker.invariant (omega arith)
-    c.in-Some.ensures.items
+    seat_lists c.pop.new.self.items c.in-Some.seat c.requires.net c.loop-worker.invariant c.in-Some.ensures.items
 
 pub exchange-requires-2-clause-paired : goal.exchange-requires-2-clause-paired
 exchange-requires-2-clause-paired c =
-    let rest = c.pop-2.new.self.items in
-    let seat = c.in-Some-pop.seat in
-    let popped = c.in-Some-pop.ensures.items in
-    seat_lists rest seat c.requires.net (one_left rest seat c.loop-worker.invariant popped (omega arith))
-    (omega arith) popped
+    seat_lists c.pop-2.new.self.items c.in-Some-pop.seat c.requires.net c.loop-worker.invariant
+    c.in-Some-pop.ensures.items
 
 -- what the last worker is dealt
 dealt_last : (c : After-exchange-2) →
     let s = c.loop-worker in
     let x = c.exchange-2.new in
     let W = c.args.workers in
-    Deals c.args.opening.now.value W (W - 1) c.args.sides.now.value.items x.self c.pop-2.new.self.items
+    Deals c.args.opening.now.value W (W - 1) c.args.lines.now.value.items x.self c.pop-2.new.self.items
     s.parts.items (vec_capacity s.parts) (dealt_state c.in-Some-pop.seat
-    (record { worker = W - 1; workers = W }) x.nodes.items x.links.items x.side)
+    (record { worker = W - 1; workers = W }) x.nodes.items x.links.items x.ends.items)
 dealt_last c =
     let rest = c.pop-2.new.self.items in
     let seat = c.in-Some-pop.seat in

@@ -12,21 +12,21 @@ use Rattle.worm_split.proofs.part.Part.give_within.Goals as goal
 pub give_owed-requires-clause-within : goal.give_owed-requires-clause-within
 give_owed-requires-clause-within c =
     let i = c.self.inside in
-    let p : PartState = part_state i.region i.side i.opening.value i.sides.value.items in
+    let p : PartState = part_state i.region i.ends.items i.opening.value i.lines.value.items in
     let here : owned p.net c.args.node ≡ true = (λ t. owned (c.self.view_is t).net c.args.node) ∙ c.requires.own in
-    let stays = subst (λ (q : PartState). ComesBy q c.args.port
+    let stays = subst (λ (q : PartState). ComesBy q c.args.node c.args.port
     → ⊥) (sym c.self.view_is) c.requires.stays in
-    credit_ends_within p c.self.invariant.0 c.args.node here c.args.port c.recall.ensures.framed stays
+    credit_ends_within p c.self.invariant.0 c.args.node here c.args.port stays
 
 pub invariant_of-self : goal.invariant_of-self
 invariant_of-self c =
     let i = c.self.inside in
-    let p : PartState = part_state i.region i.side i.opening.value i.sides.value.items in
+    let p : PartState = part_state i.region i.ends.items i.opening.value i.lines.value.items in
     let here : owned p.net c.args.node ≡ true = (λ t. owned (c.self.view_is t).net c.args.node) ∙ c.requires.own in
-    let stays = subst (λ (q : PartState). ComesBy q c.args.port
+    let stays = subst (λ (q : PartState). ComesBy q c.args.node c.args.port
     → ⊥) (sym c.self.view_is) c.requires.stays in
     let made = gave_within p c.self.invariant.0 c.args.node here c.args.port c.args.vc c.give_owed.new.self
-    (Ok Done) c.recall.ensures.framed stays c.give_owed.ensures in (
+    (Ok Done) stays c.give_owed.ensures in (
       part_with_net p c.self.invariant.0 c.give_owed.new.self made.0 made.1,
       subst (λ (w : Own). IsKept i.opening.value w i.kept) (sym made.1.own) c.self.invariant.1,
     )

@@ -14,9 +14,9 @@ use Rattle.worm_split.proofs.part.Part.send_within.Goals as goal
 pub send_next-requires-clause-within : goal.send_next-requires-clause-within
 send_next-requires-clause-within c =
     let i = c.self.inside in
-    let p : PartState = part_state i.region i.side i.opening.value i.sides.value.items in
+    let p : PartState = part_state i.region i.ends.items i.opening.value i.lines.value.items in
     let here : owned p.net c.args.node ≡ true = (λ t. owned (c.self.view_is t).net c.args.node) ∙ c.requires.own in
-    let stays = subst (λ (q : PartState). StaysWithin q
+    let stays = subst (λ (q : PartState). StaysWithin q c.args.node
     (leaving (router_at q.net c.args.node) c.args.port c.args.vc)) (sym c.self.view_is) c.requires.stays in
     sends_within p c.self.invariant.0 c.args.node here
     (leaving (router_at p.net c.args.node) c.args.port c.args.vc) stays
@@ -24,9 +24,9 @@ send_next-requires-clause-within c =
 pub invariant_of-self : goal.invariant_of-self
 invariant_of-self c =
     let i = c.self.inside in
-    let p : PartState = part_state i.region i.side i.opening.value i.sides.value.items in
+    let p : PartState = part_state i.region i.ends.items i.opening.value i.lines.value.items in
     let here : owned p.net c.args.node ≡ true = (λ t. owned (c.self.view_is t).net c.args.node) ∙ c.requires.own in
-    let stays = subst (λ (q : PartState). StaysWithin q
+    let stays = subst (λ (q : PartState). StaysWithin q c.args.node
     (leaving (router_at q.net c.args.node) c.args.port c.args.vc)) (sym c.self.view_is) c.requires.stays in
     let made = sent_within p c.self.invariant.0 c.args.node here c.args.port c.args.vc c.send_next.new.self
     c.recall.ensures.framed c.send_next.result stays c.send_next.ensures.sent in (

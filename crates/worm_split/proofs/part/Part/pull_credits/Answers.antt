@@ -1,0 +1,32 @@
+use Rattle.std.proofs.Common.{◌≡◌, ◌<◌, ℕ, List, true, sym, subst}
+use Rattle.worm_mesh.specs.Address.{node_count}
+use Rattle.worm_region.specs.Owned.{owned_by}
+use Rattle.worm_region.specs.declared.own.Own.{Own}
+use Rattle.worm_split.specs.PartTurns.{PullsCredit}
+use Rattle.worm_split.proofs.PortsAsked.{asked_all, asked_more, asked_start, asks_credits}
+use Rattle.worm_split.proofs.part.Part.pull_credits.Goals as goal
+
+pub loop-port-init : goal.loop-port-init
+loop-port-init c = asked_start (PullsCredit c.args.node) (asks_credits c.args.node) c.args.self.now c.args.shared
+
+pub pull_credit-requires-clause-node : goal.pull_credit-requires-clause-node
+pull_credit-requires-clause-node c = subst (λ (ks : List ℕ). c.args.node < node_count ks)
+    (sym c.loop-port.invariant.done.same.config.mesh) c.requires.node
+
+pub pull_credit-requires-clause-own : goal.pull_credit-requires-clause-own
+pull_credit-requires-clause-own c = subst (λ (w : Own). owned_by w c.args.node ≡ true)
+    (sym c.loop-port.invariant.done.same.config.own) c.requires.own
+
+pub loop-port-preserved : goal.loop-port-preserved
+loop-port-preserved c =
+    asked_more (PullsCredit c.args.node) (asks_credits c.args.node) c.args.self.now c.loop-port.self
+    c.pull_credit.new.self c.loop-port.left c.pop_first.new.self c.in-Some.port c.loop-port.invariant c.in-Some.ensures
+    c.pull_credit.ensures.pulls c.pull_credit.ensures.same
+
+pub returns-clause-pulls : goal.returns-clause-pulls
+returns-clause-pulls c =
+    asked_all (PullsCredit c.args.node) (asks_credits c.args.node) c.args.self.now c.loop-port.self c.loop-port.left
+    c.loop-port.invariant c.in_default.ensures.0
+
+pub returns-clause-same : goal.returns-clause-same
+returns-clause-same c = c.loop-port.invariant.done.same
