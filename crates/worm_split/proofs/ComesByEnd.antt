@@ -136,7 +136,7 @@ credit_put {p} {x} {o} {c} {links} {n} {new} hand net came =
     let N = network_of p.net in
     let y = links.beyond in
     let q = opposite_of o in
-    let comes : ComesBack p.net y q c net = of_beyond hand.has {λ z. ComesBack p.net z q c net} came in
+    let comes : ComesBack p.net y q c net = of_beyond hand.has (λ (z : ℕ). ComesBack p.net z q c net) came in
     let y_back : neighbour_of p.net.mesh y q ≡ Some x = back hand.has in
     let twice : opposite_of q ≡ o = Rattle.worm_mesh.proofs.Neighbours.opposite_twice o in
     let after_it : network_of net ≡ record N
@@ -178,7 +178,7 @@ flit_put {p} {x} {o} {f} {links} {n} {new} hand net came =
     let N = network_of p.net in
     let y = links.beyond in
     let q = opposite_of o in
-    let comes : Arrives p.net y q f net = of_beyond hand.has {λ z. Arrives p.net z q f net} came in
+    let comes : Arrives p.net y q f net = of_beyond hand.has (λ (z : ℕ). Arrives p.net z q f net) came in
     let after_it : network_of net ≡ record N
     { out = Rattle.worm_theory.specs.Network.put2 N.out y q (N.out y q ++ f ∷ []) } = comes.after_it in
     let config = same_when_linked p.net net _ _ comes.exact in

@@ -22,7 +22,8 @@ use Rattle.worm_split.specs.Splits.{IsFirstPart, IsSeat, IsSplitOf, no_part, par
 use Rattle.worm_split.proofs.Dealing.{IsDealt, credits_own, dealt_on, ends_own, flits_own}
 use Rattle.worm_split.proofs.Dealing.{node_other, node_own}
 use Rattle.worm_split.proofs.Exchanged.{framed_in, framed_with}
-use Rattle.worm_split.proofs.FirstPart.{IsDealtPart, first_begins, first_is_part, first_works, node_mine}
+use Rattle.worm_split.proofs.FirstPart.{IsDealtPart, end_linked, first_begins, first_is_part, first_works, line_made}
+use Rattle.worm_split.proofs.FirstPart.{node_mine}
 use Rattle.worm_split.proofs.MadeSoFar.{each_push}
 
 -- what is dealt, what is yet to deal, and the parts so far
@@ -152,6 +153,8 @@ module _ {O : NetState} {W w : ℕ} {lines : List Line} {kept new : Apart} {seat
     config = config;
     nodes = node_mine p0 net kept.ways ways dealt.made dealt_part;
     begins = first_begins p0 net kept.ways ways dealt.made dealt_part;
+    queues = λ y o x linked apart. line_made p0 net kept.ways ways dealt.made dealt_part y o x linked apart;
+    ends = λ y o x linked. end_linked p0 net kept.ways ways dealt.made dealt_part y o x linked;
   }
 
   deal_further : (more : List PartState) (new_room : ℕ) → more ≡ parts ++ part ∷ [] → room ≤ new_room

@@ -128,8 +128,8 @@ module _ {p : PartState} {x o : ℕ} {links : PortLinks} (has : HasLinks p x o l
   into_here = ap (λ (n : Option ℕ). into_from p.net.mesh o n) linked ∙ sym into_is
 
   -- what is said of the node beyond holds of the one that the port leads to, and the other way round
-  pub of_beyond : {P : ℕ → Type 0} → IsLinked (neighbour_of p.net.mesh x o) P → P links.beyond
-  of_beyond {P} h = subst (λ (n : Option ℕ). IsLinked n P) linked h
+  pub of_beyond : (P : ℕ → Type 0) → IsLinked (neighbour_of p.net.mesh x o) P → P links.beyond
+  of_beyond P h = subst (λ (n : Option ℕ). IsLinked n P) linked h
 
   pub port_linked : IsSome (neighbour_of p.net.mesh x o)
   port_linked = rw linked refl

@@ -252,7 +252,7 @@ module _ (p : PartState) (net : IsNet p.opening) (ways : List LinkEnds) (are : A
               (fresh.buffered x q v)
         ];
         out = λ x o. all_of (IsSent s) (N.out x o) (old.out x o) (out_either x o (s.neighbour x o) refl) (then.out x o);
-        entries = λ y o. all_of (λ (c : ℕ). c < s.channels) (N.credit_list y o) (old.credit_list y o)
+        entries = λ y o. all_of (λ (c : ℕ). c < s.vcs) (N.credit_list y o) (old.credit_list y o)
             (line_either y o (s.neighbour y o) refl) (then.entries y o);
         few = λ x o y c linked c_in. elim (bool_cases (owns p x)) [
           | inl e ↦ subst (λ (n : ℕ). n ≤ s.depth) (sym ((same_mine x e).credits o c)) (then.few x o y c linked c_in)

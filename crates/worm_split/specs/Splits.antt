@@ -1,8 +1,8 @@
 -- A network split among workers: what each has at first, and what the last of them keeps.
-use Rattle.std.specs.Prelude.{◌≡◌, ℕ, ◌*◌, ◌<◌, ◌≤◌, ◌%◌, List, [], length, sum, replicate, slice_index_or, All, true}
+use Rattle.std.specs.Prelude.{◌≡◌, ℕ, ◌*◌, ◌<◌, ◌≤◌, ◌%◌, List, [], length, sum, replicate, slice_index_or, All, Some, true}
 use Rattle.std.specs.Prelude.{vec_capacity}
 use Rattle.worm_mesh.specs.Address.{node_count}
-use Rattle.worm_mesh.specs.Links.{link_count}
+use Rattle.worm_mesh.specs.Links.{link_count, links_before}
 use Rattle.worm_mesh.specs.declared.mesh.LinkEnds.{LinkEnds}
 use Rattle.worm_node.specs.NewNodes.{AreFresh}
 use Rattle.worm_wires.specs.Links.{empty_link}
@@ -16,10 +16,10 @@ use Rattle.worm_split.specs.declared.ends.End.TheVariants.{Inner}
 use Rattle.worm_split.specs.declared.ends.Line.{Line}
 use Rattle.worm_split.specs.declared.making.Rooms.{Rooms}
 use Rattle.worm_split.specs.declared.making.Seat.{Seat}
-use Rattle.worm_split.specs.Ends.{AreEndsMade, line_at}
+use Rattle.worm_split.specs.Ends.{AreEndsMade, end_made, line_at}
 use Rattle.worm_split.specs.Apart.{Apart, AreWays}
 use Rattle.worm_split.specs.Exchange.{way_at}
-use Rattle.worm_split.specs.PartState.{PartState, HasConfigOf, owns, part_network}
+use Rattle.worm_split.specs.PartState.{PartState, AreLines, HasConfigOf, end_of, owns, part_network}
 
 -- both ends of a link as they are made, where its nodes are of two workers
 abbrev pub IsLineMade : NetState → ℕ → LinkEnds → Line → Type 0
@@ -82,16 +82,15 @@ no_part = record {
   net = net_state [] [] 0 [] [] [] sole;
   ends = [];
   opening = net_state [] [] 0 [] [] [] sole;
-  lines
-      = [];
+  lines = [];
 }
 
 abbrev pub part_at : List PartState → ℕ → PartState
 part_at parts w = slice_index_or parts w no_part
 
--- The part of a worker as it is at the split: the worker's own nodes and the links between them as they were; of a
--- link that it shares
--- what comes to it.
+-- The part of a worker as it is at the split: the worker's own nodes and the links between them as they were; of a link
+-- that it shares what comes to it. Of each link it has the end that is its own, of the two that were made, if the link
+-- leads from one worker to another, over which nothing has gone.
 pub record IsFirstPart (opening : NetState) (workers worker : ℕ) (lines : List Line) (p : PartState) : Type 0 where
   pub own : p.net.own ≡ record { worker = worker; workers = workers }
   pub opened : p.opening ≡ opening
@@ -99,6 +98,9 @@ pub record IsFirstPart (opening : NetState) (workers worker : ℕ) (lines : List
   pub config : HasConfigOf opening p.net
   pub nodes : (x : ℕ) → owns p x ≡ true → node_at p.net x ≡ node_at opening x
   pub begins : Begins (shape opening) (network_of opening) (owns p) (part_network p)
+  pub queues : AreLines opening workers lines
+  pub ends : (y o x : ℕ) → (shape opening).neighbour y o ≡ Some x →
+      end_of p y o ≡ end_made (owns p y) (owns p x) (line_at lines (links_before opening.mesh y o))
 
 -- a part for each worker, all with the same ends of links
 pub record IsSplitOf (opening : NetState) (workers : ℕ) (parts : List PartState) : Type 0 where

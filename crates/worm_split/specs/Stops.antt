@@ -1,5 +1,5 @@
 -- Why a worker takes no further turn, and the fault that this is of a turn.
-use Rattle.std.specs.Prelude.{◌≡◌, Option, Some, None, Result, Ok, Err, Unit}
+use Rattle.std.specs.Prelude.{◌≡◌, Option, Some, None, Result, Ok, Err}
 use Rattle.worm_region.specs.declared.fault.StepFault.{StepFault}
 use Rattle.worm_region.specs.declared.fault.StepFault.TheVariants.{Refused, NoMemory}
 use Rattle.worm_split.specs.declared.stop.StopWhy.{StopWhy}
