@@ -1,21 +1,22 @@
-//! What a link between neighbouring routers may carry, and the rule of a queue with one sender and one taker (Dally and
-//! Towles, chapters 12 and 13). No queue stands here: `worm_bundles` makes them.
+//! The two queues of a link between neighbouring routers, whose ends lie in any two threads: flits go one way, credits
+//! the other (Dally and Towles, chapters 12 and 13).
 //!
-//! A flit may cross a link where its channel is one of the link's, owned by its class, and its route goes that way.
-//! What was sent over a link is a history of it: each flit may cross it, and with those that went before they are on
-//! each channel a worm.
+//! One idea carries both: the sender's end knows all that was sent, the taker's end all that was taken, and one rule of
+//! the queue ties them, whoever runs when: what was sent is what was taken, and then what the queue holds. What was
+//! sent is a history of the link: each flit may cross it, and on each channel they are a worm. So the taker, who never
+//! sees what was sent, has that of what it took, with no check as it takes. Together again, the ends know both lists.
 //!
-//! The sender's end of a queue knows all that was sent, the taker's end all that was taken, and one rule of the queue
-//! ties them, whoever runs when: what was sent is what was taken, and then what the queue holds. What was sent is a
-//! history, and so is each beginning of it. So the taker, who never sees what was sent, has that of what it took, with
-//! no check as it takes. Together again, the ends know both lists.
-//!
-//! The rule is said of whatever a queue carries, and of whatever a history of that is. Each move of a queue (a push, a
-//! pop, the division of its ends and their reunion) is proved to keep it.
+//! The queues are lock-free and bounded, and hold a flit as one word of 128 bits. Only making them takes memory.
+//! Nothing here waits for room or for a flit; a push, and a pop of what is left at the end, may yet wait within its
+//! queue, so that they return is not claimed, nor that a flit is ever taken, nor when.
 #![tactic(auto)]
 
+mod credits;
+mod flits;
 mod history;
 
+pub use credits::{CreditEnds, CreditRx, CreditTx, credit_line, reunite_credits};
+pub use flits::{Ends, FlitRx, FlitTx, Opening, link, link_after, reunite};
 pub use history::Known;
 use std::alloc::AllocError;
 use worm_mesh::Mesh;
@@ -30,7 +31,7 @@ pub struct LinkCfg {
     /// The port of that node: `2d` on the minus side of dimension `d`, `2d + 1` on its plus side.
     pub port: u8,
     /// How many virtual channels it has: 1 to 8.
-    pub vcs: u8,
+    pub channels: u8,
     /// How many flits a channel's buffer at its far end holds: 1 to 17.
     pub depth: u8,
     /// The class that owns each channel; those past the last channel say nothing.

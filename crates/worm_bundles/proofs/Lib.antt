@@ -1,5 +1,0 @@
-pub mod Joined
-pub mod Batched
-pub mod OnBundles
-pub mod OnReturns
-pub mod Trials
