@@ -159,9 +159,9 @@ module _ {C X : Type 0} where
 
     pub reunites : (pass : ℕ) (v : Known C X) (other : ℕ) (u : Known C X) (nobody : C) → v.pops ≡ true →
         u.pushes ≡ true
-        → Merges Kept pass v other u (whole v.link u.sent v.taken) (known nobody false false [] [])
+        → Merges Kept pass v other u (whole u.link u.sent v.taken) (known nobody false false [] [])
     reunites pass v other u nobody a b items views h at two at' =
-        let both : Known C X = whole v.link u.sent v.taken in
+        let both : Known C X = whole u.link u.sent v.taken in
         let spent : Known C X = known nobody false false [] [] in
         let mine = h.fits pass v at in
         let m = mine.1 a in
@@ -171,7 +171,7 @@ module _ {C X : Type 0} where
         let theirs = (h.fits other u was).0 b in
         let Now : ℕ → Known C X → Type 0 = λ j y. j ≢ other → Fits pass h.reader h.link h.sent h.taken j y in
         let now : Each Now vs =
-        each_set Now views pass both (λ _. ((λ _. (refl, m.1, theirs.2)), (λ _. (m.0, m.1, m.2))))
+        each_set Now views pass both (λ _. ((λ _. (refl, theirs.1, theirs.2)), (λ _. (m.0, theirs.1, m.2))))
         (λ j y _ e apart. ((λ p. absurd (apart (((h.fits j y e).0 p).0 ∙ sym theirs.0))), (h.fits j y e).1)) in
         record {
           link = h.link;

@@ -1,5 +1,5 @@
 -- Which pass the ends of a queue hold.
-use Rattle.std.specs.Prelude.{◌≡◌, ℕ, Option, List}
+use Rattle.std.specs.Prelude.{◌≡◌, ℕ, Option, List, ◌++◌}
 use Rattle.crossbeam_queue.specs.declared.array_queue.Doing.{Doing}
 use Rattle.crossbeam_queue.specs.declared.array_queue.Slotted.{Slotted}
 use Rattle.crossbeam_queue.specs.Passes.{Pass, view, IsPassOf, ruled_capacity}
@@ -22,4 +22,5 @@ module _ {C T X Q A : Type 0} (IsHistory : C → List X → Type 0) (line : Slot
   pub record IsWhole : Type 0 where
     pub here : IsPassOf line pass
     pub role : view pass ≡ whole (view pass).link (view pass).sent (view pass).taken
-    pub history : IsHistory (view pass).link (view pass).taken
+    pub history : IsHistory (view pass).link (view pass).sent
+    pub rest : (rest : List X) × ((view pass).sent ≡ (view pass).taken ++ rest)

@@ -249,7 +249,7 @@ impl CreditRx {
 /// Both ends of one credit line, together again. They know what the sender knew and what the taker knew.
 pub fn reunite_credits(tx: CreditTx, rx: CreditRx) -> CreditEnds
     requires { tx.queue ≡ rx.queue }
-    ensures { result ≡ record { link = rx.link; queue = rx.queue; sent = tx.sent; taken = rx.taken } }
+    ensures { result ≡ record { link = tx.link; queue = rx.queue; sent = tx.sent; taken = rx.taken } }
 {
     let CreditTx {
         line: _,
@@ -260,13 +260,16 @@ pub fn reunite_credits(tx: CreditTx, rx: CreditRx) -> CreditEnds
         pass: mut taken,
     } = rx;
     line.absorb::<Reunion>(&mut taken, sent);
+    line.learn_as::<Takes>(&mut taken);
     CreditEnds { line, whole: taken }
 }
 
 impl CreditEnds {
-    /// Each credit that was taken is for a channel of the link. It costs nothing to ask.
+    /// Each credit that was sent is for a channel of the link, and what was taken is the beginning of that. It costs
+    /// nothing to ask.
     pub fn history(&self)
-        ensures { IsCreditHistory (opened self.now.link []) self.now.taken }
+        ensures sent { IsCreditHistory (opened self.now.link []) self.now.sent }
+        ensures taken { (rest : List _) × (self.now.sent ≡ self.now.taken ++ rest) }
     {
         let _ = &self.whole;
     }

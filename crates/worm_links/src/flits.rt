@@ -321,7 +321,7 @@ impl FlitRx {
 /// Both ends of one link, together again. They know what the sender knew and what the taker knew.
 pub fn reunite(tx: FlitTx, rx: FlitRx) -> Ends
     requires { tx.queue ≡ rx.queue }
-    ensures { result ≡ record { link = rx.link; past = rx.past; queue = rx.queue; sent = tx.sent; taken = rx.taken } }
+    ensures { result ≡ record { link = tx.link; past = tx.past; queue = rx.queue; sent = tx.sent; taken = rx.taken } }
 {
     let FlitTx {
         line: _,
@@ -332,13 +332,15 @@ pub fn reunite(tx: FlitTx, rx: FlitRx) -> Ends
         pass: mut taken,
     } = rx;
     line.absorb::<Reunion>(&mut taken, sent);
+    line.learn_as::<Takes>(&mut taken);
     Ends { line, whole: taken }
 }
 
 impl Ends {
-    /// What was taken is a history of the link. It costs nothing to ask.
+    /// What was sent is a history of the link, and what was taken is its beginning. It costs nothing to ask.
     pub fn history(&self)
-        ensures { IsLinkHistory (opened self.now.link self.now.past) self.now.taken }
+        ensures sent { IsLinkHistory (opened self.now.link self.now.past) self.now.sent }
+        ensures taken { (rest : List _) × (self.now.sent ≡ self.now.taken ++ rest) }
     {
         let _ = &self.whole;
     }

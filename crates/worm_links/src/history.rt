@@ -55,7 +55,7 @@ impl<B: Naming, X> Split<Known<Opened, X>> for Roles<B> {
     ghost right = { λ v. taker B.link [] };
 }
 
-/// The taker learns what was sent.
+/// The taker learns what was sent, and from the sender over which link.
 pub struct Reunion;
 
 impl<X> Join<Known<Opened, X>> for Reunion {
@@ -63,7 +63,7 @@ impl<X> Join<Known<Opened, X>> for Reunion {
     ghost use Rattle.worm_links.specs.History.{known, whole};
     ghost use Rattle.worm_links.specs.Links.{no_link};
 
-    ghost both = { λ v w. whole v.link w.sent v.taken };
+    ghost both = { λ v w. whole w.link w.sent v.taken };
 
     ghost spent = { known no_link false false [] [] };
 }
