@@ -6,11 +6,11 @@
 #![tactic(auto)]
 
 #[cfg(test)]
-mod bundles;
-#[cfg(test)]
 mod cases;
 #[cfg(test)]
 mod flit;
+#[cfg(test)]
+mod links;
 #[cfg(test)]
 mod term;
 #[cfg(test)]
