@@ -5,7 +5,6 @@ ghost use Rattle.worm_region.specs.declared.fault.StepFault.TheVariants.{NoSuchP
 ghost use Rattle.worm_run.specs.Working.{WorkedAs, fault_behind};
 
 use crate::gate::Gate;
-use crate::pace::{Beside, Pace};
 use crate::plan::StopWhy;
 use std::snapshot::Snapshot;
 use std::sync::Wait;
@@ -68,8 +67,7 @@ fn stopped_by(fault: StepFault) -> StopWhy
 }
 
 /// The turns of one worker with its part, each asked of its gate before, up to the first stop. None is begun but where
-/// the gate may answer true. Before each turn it waits a while for the workers beside it, and it tells them how far it
-/// is.
+/// the gate may answer true.
 pub fn work<R: Wait, G: Gate>(
     rt: &R,
     mut part: Part,
@@ -77,16 +75,12 @@ pub fn work<R: Wait, G: Gate>(
     turns: u64,
     script: &Script,
     gate: &G,
-    pace: &Pace,
 ) -> Worked
     ensures { WorkedAs (G.may_stop gate.now) (G.may_pass gate.now) script.now turns worker part result }
 {
     script.recall();
-    let mut beside = Beside::new(pace, worker);
     for turn in 0..turns {
-        beside.wait(turn);
         if !gate.pass(worker, turn) {
-            pace.leave(worker);
             return Worked {
                 part,
                 ended: turn,
@@ -94,14 +88,12 @@ pub fn work<R: Wait, G: Gate>(
             };
         }
         if let Err(fault) = part.turn(rt, turn, script) {
-            pace.leave(worker);
             return Worked {
                 part,
                 ended: turn,
                 stop: Some(stopped_by(fault)),
             };
         }
-        pace.tell(worker, turn + 1);
     }
     Worked {
         part,
