@@ -15,6 +15,6 @@ mod working;
 
 pub use gate::{FreeGate, Gate};
 pub use paced::Paced;
-pub use plan::{RunEnd, RunFault, RunPlan, Stop, StopWhy};
+pub use plan::{RunEnd, RunFault, RunPlan, Stop};
 pub use running::run;
-pub use worm_split::{Part, join, split};
+pub use worm_split::{Part, StopWhy, join, split};

@@ -1,10 +1,12 @@
-//! A gate by which no worker runs far ahead of those beside it.
+//! A gate by which no worker runs ahead of those beside it.
 //!
 //! While the workers beside it stand still a worker's turns bring little: nothing comes in, and what goes out runs out
-//! of credits. So before each turn it waits until they have ended the turn before the last: with that turn's room two
-//! need not end theirs at one moment. Whoever waits soon lets other threads run, and then sleeps until the other gets
-//! on. It waits only so long for one that stands still, since that one may have taken its last turn; and where that
-//! was in vain it waits for it again only once it has got on. Nothing that is proved rests on this.
+//! of credits. So before each turn it waits until they have ended the turn before. With a turn's room two take two
+//! turns each by turns, and where a buffer has room for a flit or two that halves what a turn brings.
+//!
+//! Whoever waits soon lets other threads run, and then sleeps until the other gets on. It waits only so long for one
+//! that stands still, a third of a second, since that one may take no further turn; and where that was in vain it
+//! waits for it again only once it has got on. Nothing that is proved rests on this.
 
 use crate::gate::Gate;
 use std::array;
@@ -17,10 +19,7 @@ use std::time::Duration;
 /// How many workers there may be.
 const WORKERS: usize = 16;
 
-/// How many turns a worker may have ended more than one beside it, as it begins its next.
-const AHEAD: u64 = 1;
-
-/// How often a worker looks at once whether one that stands still has got on: under a microsecond.
+/// How often a worker looks at once whether one that stands still has got on: a microsecond or two.
 const QUICK_LOOKS: u32 = 30;
 
 /// After so many looks it sleeps before each further one. Before each that is not quick other threads may run.
@@ -81,8 +80,11 @@ impl Progress {
     /// Sleeps until it has ended more turns than so many, or for a while.
     fn sleep<R: Wait>(&self, rt: &R, ended: u64) {
         self.sleepers.fetch_add(1, Ordering::SeqCst);
-        self.ended
-            .park_timeout(rt, (ended & 0xffff_ffff) as u32, Duration::from_millis(NAP_MILLIS));
+        self.ended.park_timeout(
+            rt,
+            (ended & 0xffff_ffff) as u32,
+            Duration::from_millis(NAP_MILLIS),
+        );
         self.sleepers.fetch_sub(1, Ordering::SeqCst);
     }
 
@@ -125,7 +127,7 @@ impl Progress {
 }
 
 /// A gate of one run that stops nobody. Before its turn a worker waits there for a while until each of the two workers
-/// beside it, to whose nodes the links of the first dimension lead from its own, has ended the turn before the last.
+/// beside it, to whose nodes the links of the first dimension lead from its own, has ended the turn before.
 #[derive(Drop)]
 pub struct Paced<'a, R> {
     rt: &'a R,
@@ -154,8 +156,6 @@ impl<'a, R: Wait> Paced<'a, R> {
 impl<'a, R: Wait> Gate for Paced<'a, R> {
     ghost may_stop = { λ _ _ _. ⊥ };
 
-    ghost may_pass = { λ _ _ _. Unit {0} };
-
     fn pass(&self, worker: usize, turn: u64) -> bool {
         let last = self.workers.saturating_sub(1);
         if worker > last {
@@ -163,12 +163,11 @@ impl<'a, R: Wait> Gate for Paced<'a, R> {
         }
         if let Some(own) = self.progress.get(worker) {
             own.tell(turn);
-            let turns = turn.saturating_sub(AHEAD);
             let next = if worker < last { worker + 1 } else { 0 };
             let previous = if worker == 0 { last } else { worker - 1 };
-            self.wait_for(next, turns, &own.next_stood);
+            self.wait_for(next, turn, &own.next_stood);
             if previous != next {
-                self.wait_for(previous, turns, &own.previous_stood);
+                self.wait_for(previous, turn, &own.previous_stood);
             }
         }
         true

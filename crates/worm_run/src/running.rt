@@ -7,7 +7,7 @@ ghost use Rattle.worm_run.specs.Working.{AllWorked, WorkedAs, stop_of};
 ghost use Rattle.worm_run.specs.Runs.{FailsAs, HasRooms, HasWorkers, IsEndOf, RanAs, IsRunOf, RunsTo};
 
 use crate::gate::Gate;
-use crate::plan::{RunEnd, RunFault, RunPlan, Stop, StopWhy};
+use crate::plan::{RunEnd, RunFault, RunPlan, Stop};
 use crate::working::{Worked, WorksAs, work};
 use std::alloc::{AllocError, Global};
 use std::snapshot::Snapshot;
@@ -15,7 +15,7 @@ use std::sync::Wait;
 use std::thread;
 use std::thread::{PromisedHandle, Scope, Threads};
 use worm_core::{Net, Script};
-use worm_split::{Part, join, split};
+use worm_split::{Part, StopWhy, join, split};
 
 /// The room that a run needs, made before a worker starts.
 #[derive(Drop)]
