@@ -14,8 +14,8 @@ use Rattle.worm_region.specs.declared.fault.StepFault.TheVariants.{NoMemory as N
 use Rattle.worm_core.proofs.SourceLedgers.{quiet_drains}
 use Rattle.worm_run.specs.declared.plan.RunPlan.{RunPlan}
 use Rattle.worm_run.specs.declared.plan.Stop.{Stop}
-use Rattle.worm_run.specs.declared.plan.StopWhy.{StopWhy}
-use Rattle.worm_run.specs.declared.plan.StopWhy.TheVariants.{Gate, NoMemory, Refused}
+use Rattle.worm_split.specs.declared.stop.StopWhy.{StopWhy}
+use Rattle.worm_split.specs.declared.stop.StopWhy.TheVariants.{Gate, NoMemory, Refused}
 use Rattle.worm_run.specs.Runs.{Ending, ending_at, stops_of}
 use Rattle.worm_run.specs.Working.{stop_of}
 use Rattle.worm_run.proofs.NeverRefused.{run_never_refuses}

@@ -18,8 +18,8 @@ use Rattle.worm_split.specs.Joins.{IsLaterThan}
 use Rattle.worm_run.specs.declared.plan.RunEnd.{RunEnd}
 use Rattle.worm_run.specs.declared.plan.RunPlan.{RunPlan}
 use Rattle.worm_run.specs.declared.plan.Stop.{Stop}
-use Rattle.worm_run.specs.declared.plan.StopWhy.{StopWhy}
-use Rattle.worm_run.specs.declared.plan.StopWhy.TheVariants.{Gate, NoMemory, Refused}
+use Rattle.worm_split.specs.declared.stop.StopWhy.{StopWhy}
+use Rattle.worm_split.specs.declared.stop.StopWhy.TheVariants.{Gate, NoMemory, Refused}
 use Rattle.worm_run.specs.Runs.{IsRunOf, RunsTo}
 use Rattle.worm_text.specs.Network.{Network}
 use Rattle.worm_text.specs.ScriptView.{said_of}

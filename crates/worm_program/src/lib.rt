@@ -30,7 +30,7 @@ use std::sync::Wait;
 use std::thread::Threads;
 use std::{fs, io};
 pub use words::{Options, Words, WordsFault, all_words, read_words};
-use worm_run::FreeGate;
+use worm_run::Paced;
 
 /// Opens both files, the network first, and runs on them.
 fn run_files<R: Files + Print + AllocGlobal, T: Threads + Wait + Sync>(
@@ -47,13 +47,14 @@ fn run_files<R: Files + Print + AllocGlobal, T: Threads + Wait + Sync>(
         return Err(ProgramFault::ReadTraffic);
     };
     let mut out = io::writer(rt);
+    let gate = Paced::new(threads, words.options.workers);
     run_texts(
         threads,
         rt.alloc(),
         &mut network,
         &mut traffic,
         &words.options,
-        &FreeGate,
+        &gate,
         &mut out,
     )
 }

@@ -16,8 +16,8 @@ use Rattle.worm_split.proofs.Accepted.{accepted-then}
 use Rattle.worm_split.proofs.PartLoops.{same_on}
 use Rattle.worm_run.specs.Working.{EndsIn, GrewBy, HasTurned, IsStopped, due_before, fault_of_stop, turns_begun}
 use Rattle.worm_run.specs.Runs.{SourceRan}
-use Rattle.worm_run.specs.declared.plan.StopWhy.{StopWhy}
-use Rattle.worm_run.specs.declared.plan.StopWhy.TheVariants.{Gate, NoMemory, Refused}
+use Rattle.worm_split.specs.declared.stop.StopWhy.{StopWhy}
+use Rattle.worm_split.specs.declared.stop.StopWhy.TheVariants.{Gate, NoMemory, Refused}
 use Rattle.worm_run.proofs.Turning.{grew_more, own_still, there_still}
 
 module _ (script : List Entry) (n : ℕ) (old new : PartState) where

@@ -1,6 +1,5 @@
 pub mod Entries
 pub mod Turning
-pub mod Placed
 pub mod Sent
 pub mod Stopping
 pub mod Workers

@@ -30,7 +30,7 @@ use Rattle.worm_run.specs.Runs.{RefusesItsNext, RunsTo, ending_at}
 use Rattle.worm_run.specs.Working.{due_before}
 use Rattle.worm_run.specs.declared.plan.RunEnd.{RunEnd}
 use Rattle.worm_run.specs.declared.plan.RunPlan.{RunPlan}
-use Rattle.worm_run.specs.declared.plan.StopWhy.TheVariants.{Refused}
+use Rattle.worm_split.specs.declared.stop.StopWhy.TheVariants.{Refused}
 use Rattle.worm_run.proofs.Entries.{begun-more}
 
 -- what some entries close others close too

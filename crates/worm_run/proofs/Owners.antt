@@ -79,7 +79,7 @@ module _ (stop pass : ℕ → ℕ → Type 0) (script : List Entry) (turns : ℕ
       (fault_of_stop (worked_at done w).stop)
       did.ends)
 
-  first_part : (w : ℕ) → w < workers → IsFirstPart old workers w split.sides (part_at parts w)
+  first_part : (w : ℕ) → w < workers → IsFirstPart old workers w split.lines (part_at parts w)
   first_part w below = split.each w below
 
   pub opened : (w : ℕ) → w < workers → (part_at moved w).opening ≡ old
@@ -98,5 +98,5 @@ module _ (stop pass : ℕ → ℕ → Type 0) (script : List Entry) (turns : ℕ
             opened w under ∙ sym (opened 0 some);
         one_split = λ w below.
             let under : w < workers = omega (arith, n) in
-            ((same w under).sides ∙ (first_part w under).made) ∙ sym ((same 0 some).sides ∙ (first_part 0 some).made);
+            ((same w under).lines ∙ (first_part w under).made) ∙ sym ((same 0 some).lines ∙ (first_part 0 some).made);
       }

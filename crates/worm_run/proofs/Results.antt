@@ -24,8 +24,8 @@ use Rattle.worm_run.specs.Working.{fault_of_stop, turns_begun}
 use Rattle.worm_run.specs.declared.plan.RunEnd.{RunEnd}
 use Rattle.worm_run.specs.declared.running.Ran.{Ran}
 use Rattle.worm_run.specs.declared.plan.RunPlan.{RunPlan}
-use Rattle.worm_run.specs.declared.plan.StopWhy.{StopWhy}
-use Rattle.worm_run.specs.declared.plan.StopWhy.TheVariants.{Refused}
+use Rattle.worm_split.specs.declared.stop.StopWhy.{StopWhy}
+use Rattle.worm_split.specs.declared.stop.StopWhy.TheVariants.{Refused}
 use Rattle.worm_run.specs.declared.working.Worked.{Worked}
 use Rattle.worm_run.proofs.Endings.{PartRefuses, ends_refused, ends_sink, ends_source}
 use Rattle.worm_run.proofs.Owners.{as_many, count, moved, moved_at, opened, worked, worked_at, no_work}

@@ -13,8 +13,8 @@ use Rattle.worm_split.specs.Joins.{IsJoinOf}
 use Rattle.worm_split.specs.Splits.{IsSplitOf}
 use Rattle.worm_run.specs.Working.{AllWorked, GrewBy, MayPassBelow, StopsAs, due_before, stop_of, turns_begun}
 use Rattle.worm_run.specs.declared.plan.Stop.{Stop}
-use Rattle.worm_run.specs.declared.plan.StopWhy.{StopWhy}
-use Rattle.worm_run.specs.declared.plan.StopWhy.TheVariants.{Gate, NoMemory as OutOfMemory, Refused as WasRefused}
+use Rattle.worm_split.specs.declared.stop.StopWhy.{StopWhy}
+use Rattle.worm_split.specs.declared.stop.StopWhy.TheVariants.{Gate, NoMemory as OutOfMemory, Refused as WasRefused}
 use Rattle.worm_run.specs.declared.plan.RunEnd.{RunEnd}
 use Rattle.worm_run.specs.declared.plan.RunPlan.{RunPlan}
 use Rattle.worm_run.specs.declared.plan.RunFault.{RunFault}

@@ -9,13 +9,13 @@ use Rattle.worm_region.specs.State.{source_at, sink_at}
 use Rattle.worm_region.specs.Workable.{owned}
 use Rattle.worm_script.specs.declared.entry.Entry.{Entry}
 use Rattle.worm_region.specs.declared.fault.StepFault.{StepFault}
-use Rattle.worm_region.specs.declared.fault.StepFault.TheVariants.{Refused, NoMemory}
 use Rattle.worm_split.specs.PartState.{PartState, IsSamePart}
 use Rattle.worm_split.specs.PartTurns.{PartPassage, EachOf, Turn}
+use Rattle.worm_split.specs.Stops.{fault_behind}
 use Rattle.worm_split.specs.Effects.{HasAccepted, SourcesTake, SinksTakeOne, IsRefused}
 use Rattle.worm_run.specs.declared.plan.Stop.{Stop}
-use Rattle.worm_run.specs.declared.plan.StopWhy.{StopWhy}
-use Rattle.worm_run.specs.declared.plan.StopWhy.TheVariants.{Gate, NoMemory as OutOfMemory, Refused as WasRefused}
+use Rattle.worm_split.specs.declared.stop.StopWhy.{StopWhy}
+use Rattle.worm_split.specs.declared.stop.StopWhy.TheVariants.{Gate, NoMemory as OutOfMemory, Refused as WasRefused}
 use Rattle.worm_run.specs.declared.working.Worked.{Worked}
 
 -- the entries of the turns below a number, in script order
@@ -47,12 +47,6 @@ pub record IsStopped (entries : List Entry) (fault : StepFault) (old new : PartS
   pub sources : SourcesTake entries old (Some fault) new
   pub sinks : SinksTakeOne old new
   pub refused : IsRefused entries old (Some fault) new
-
--- the fault that stopped a turn; a gate stops before a turn
-abbrev pub fault_behind : StopWhy → Option StepFault
-fault_behind Gate = None
-fault_behind OutOfMemory = Some NoMemory
-fault_behind (WasRefused why) = Some (Refused why)
 
 -- the turns below `ended` were taken, and of the next what there was before the fault, if one stopped it
 abbrev pub EndsIn : List Entry → ℕ → Option StepFault → PartState → PartState → Type 0

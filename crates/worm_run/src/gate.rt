@@ -8,8 +8,8 @@ pub trait Gate {
     /// For which worker and turn it may answer false.
     ghost may_stop: { Self → ℕ → ℕ → Type 0 };
 
-    /// For which worker and turn it may answer true.
-    ghost may_pass: { Self → ℕ → ℕ → Type 0 };
+    /// For which worker and turn it may answer true: for each, where an impl does not say.
+    ghost may_pass: { Self → ℕ → ℕ → Type 0 } = { λ _ _ _. Unit {0} };
 
     /// Whether the worker, counted from 0, may take the turn, counted from 0. Where not, it takes no further turn.
     fn pass(&self, worker: usize, turn: u64) -> bool
@@ -23,8 +23,6 @@ pub struct FreeGate;
 
 impl Gate for FreeGate {
     ghost may_stop = { λ _ _ _. ⊥ };
-
-    ghost may_pass = { λ _ _ _. Unit {0} };
 
     fn pass(&self, _worker: usize, _turn: u64) -> bool {
         true

@@ -2,17 +2,19 @@
 //! gives its part back with what it promised. Then the parts are joined.
 //!
 //! `worm_split` makes the parts and says what a turn of one does. Here they run beside each other: no lock, no
-//! channel, nothing shared but the queues of their bundles, what the caller lends, and how many turns each has ended,
-//! so that none runs far ahead of those beside it. What is proved holds if a call returns, whatever the pace: that
-//! workers get on is shown by tests.
+//! channel, nothing shared but the queues of their links and what the caller lends. How far workers are apart is the
+//! business of the gate alone. What is proved holds if a call returns, whatever the pace: that workers get on is shown
+//! by tests.
 #![tactic(auto)]
 
 mod gate;
-mod pace;
+mod paced;
 mod plan;
 mod running;
 mod working;
 
 pub use gate::{FreeGate, Gate};
-pub use plan::{RunEnd, RunFault, RunPlan, Stop, StopWhy};
+pub use paced::Paced;
+pub use plan::{RunEnd, RunFault, RunPlan, Stop};
 pub use running::run;
+pub use worm_split::{Part, StopWhy, join, split};

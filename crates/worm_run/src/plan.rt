@@ -1,6 +1,7 @@
 //! What a run is asked for, and what it gives back.
 
-use worm_core::{Net, OfferFault};
+use worm_core::Net;
+use worm_split::StopWhy;
 
 /// How many turns each worker takes, and how many workers there are.
 #[derive(Clone, Copy, Debug, PartialEq, Eq)]
@@ -9,17 +10,6 @@ pub struct RunPlan {
     pub turns: u64,
     /// 1 to 16, and at most the nodes.
     pub workers: usize,
-}
-
-/// Why a worker took no further turn.
-#[derive(Clone, Copy, Debug, PartialEq, Eq)]
-pub enum StopWhy {
-    /// Its gate answered false.
-    Gate,
-    /// There was no memory for an accepted or a delivered flit.
-    NoMemory,
-    /// A source refused an entry of the script.
-    Refused(OfferFault),
 }
 
 /// A worker that took fewer turns than planned.

@@ -7,8 +7,7 @@ ghost use Rattle.worm_run.specs.Working.{AllWorked, WorkedAs, stop_of};
 ghost use Rattle.worm_run.specs.Runs.{FailsAs, HasRooms, HasWorkers, IsEndOf, RanAs, IsRunOf, RunsTo};
 
 use crate::gate::Gate;
-use crate::pace::Pace;
-use crate::plan::{RunEnd, RunFault, RunPlan, Stop, StopWhy};
+use crate::plan::{RunEnd, RunFault, RunPlan, Stop};
 use crate::working::{Worked, WorksAs, work};
 use std::alloc::{AllocError, Global};
 use std::snapshot::Snapshot;
@@ -16,7 +15,7 @@ use std::sync::Wait;
 use std::thread;
 use std::thread::{PromisedHandle, Scope, Threads};
 use worm_core::{Net, Script};
-use worm_split::{Part, join, split};
+use worm_split::{Part, StopWhy, join, split};
 
 /// The room that a run needs, made before a worker starts.
 #[derive(Drop)]
@@ -53,19 +52,6 @@ struct Ran {
     ended: Vec<u64>,
 }
 
-/// What each worker of a run is told.
-#[derive(Drop)]
-struct Orders<'a, G> {
-    /// What its sources are asked.
-    script: &'a Script,
-    /// How many turns it may take.
-    turns: u64,
-    /// What it asks before each.
-    gate: &'a G,
-    /// How far each worker is.
-    pace: &'a Pace,
-}
-
 /// Starts the last part's worker. `Err` names it where its thread could not be started.
 ///
 /// This and `collect` are not inlined, so that no part lies on the stack while the workers of others are started.
@@ -73,14 +59,16 @@ struct Orders<'a, G> {
 fn start<'s, E, R: Threads + Wait + Sync, G: Gate + Sync>(
     scope: &Scope<'s, E>,
     rt: &'s R,
-    orders: &Orders<'s, G>,
+    script: &'s Script,
+    turns: u64,
+    gate: &'s G,
     parts: &mut Vec<Part>,
 ) -> Result<PromisedHandle<Worked, WorksAs<'s, G>>, usize>
     requires { 0 < vec_len parts.old }
     ensures taken { IfOk result (λ child. parts.old.items ≡ parts.new.items ++ child.promise.part.value ∷ []) }
-    ensures script { IfOk result (λ child. child.promise.script.now ≡ orders.now.script.now) }
-    ensures turns { IfOk result (λ child. child.promise.turns ≡ orders.now.turns) }
-    ensures gate { IfOk result (λ child. child.promise.gate.now ≡ orders.now.gate.now) }
+    ensures script { IfOk result (λ child. child.promise.script.now ≡ script.now) }
+    ensures turns { IfOk result (λ child. child.promise.turns ≡ turns) }
+    ensures gate { IfOk result (λ child. child.promise.gate.now ≡ gate.now) }
     ensures worker { IfOk result (λ child. child.promise.worker ≡ vec_len parts.new) }
     ensures fewer { vec_len parts.new + 1 ≡ vec_len parts.old }
     ensures refused { IfErr result (λ w. w < vec_len parts.old) }
@@ -90,12 +78,6 @@ fn start<'s, E, R: Threads + Wait + Sync, G: Gate + Sync>(
         unreachable!()
     };
     let worker = parts.len();
-    let Orders {
-        script,
-        turns,
-        gate,
-        pace,
-    } = *orders;
     let promise = WorksAs {
         script,
         turns,
@@ -103,10 +85,7 @@ fn start<'s, E, R: Threads + Wait + Sync, G: Gate + Sync>(
         worker,
         part: Snapshot::of(&part),
     };
-    match scope.spawn_with(
-        promise,
-        move || work(rt, part, worker, turns, script, gate, pace),
-    ) {
+    match scope.spawn_with(promise, move || work(rt, part, worker, turns, script, gate)) {
         Ok(child) => Ok(child),
         Err(_) => Err(worker),
     }
@@ -136,15 +115,16 @@ fn collect<'s, R: Threads, G: Gate>(
 fn run_parts<'s, E, R: Threads + Wait + Sync, G: Gate + Sync>(
     scope: &Scope<'s, E>,
     rt: &'s R,
-    orders: &Orders<'s, G>,
+    script: &'s Script,
+    turns: u64,
+    gate: &'s G,
     parts: &mut Vec<Part>,
     done: &mut Vec<Worked>,
 ) -> Result<(), usize>
     requires empty { vec_len done.old ≡ 0 }
     requires room { vec_len parts.old ≤ vec_capacity done.old }
     ensures worked { OnOk result
-        (AllWorked (G.may_stop orders.now.gate.now) (G.may_pass orders.now.gate.now)
-        orders.now.script.now orders.now.turns 0 parts.old.items done.new.items) }
+        (AllWorked (G.may_stop gate.now) (G.may_pass gate.now) script.now turns 0 parts.old.items done.new.items) }
     ensures all { OnOk result (vec_len done.new ≡ vec_len parts.old) }
     ensures taken { OnOk result (vec_len parts.new ≡ 0) }
     ensures refused { IfErr result (λ w. w < vec_len parts.old) }
@@ -154,8 +134,8 @@ fn run_parts<'s, E, R: Threads + Wait + Sync, G: Gate + Sync>(
     if parts.is_empty() {
         return Ok(());
     }
-    let child = start(scope, rt, orders, parts)?;
-    run_parts(scope, rt, orders, parts, done)?;
+    let child = start(scope, rt, script, turns, gate, parts)?;
+    run_parts(scope, rt, script, turns, gate, parts, done)?;
     collect(rt, child, done);
     Ok(())
 }
@@ -215,13 +195,14 @@ fn gather(done: Vec<Worked>, mut parts: Vec<Part>, mut stops: Vec<Stop>, mut end
 fn run_scoped<'s, E, R: Threads + Wait + Sync, G: Gate + Sync>(
     scope: &Scope<'s, E>,
     rt: &'s R,
-    orders: &Orders<'s, G>,
+    script: &'s Script,
+    turns: u64,
+    gate: &'s G,
     mut parts: Vec<Part>,
     rooms: Rooms,
 ) -> Result<Ran, usize>
     requires { HasRooms (vec_len parts) rooms }
-    ensures ran { IfOk result (RanAs (G.may_stop orders.now.gate.now) (G.may_pass orders.now.gate.now)
-        orders.now.script.now orders.now.turns parts.items) }
+    ensures ran { IfOk result (RanAs (G.may_stop gate.now) (G.may_pass gate.now) script.now turns parts.items) }
     ensures refused { IfErr result (λ w. w < vec_len parts) }
 {
     let Rooms {
@@ -229,28 +210,23 @@ fn run_scoped<'s, E, R: Threads + Wait + Sync, G: Gate + Sync>(
         stops,
         ended,
     } = rooms;
-    run_parts(scope, rt, orders, &mut parts, &mut done)?;
+    run_parts(scope, rt, script, turns, gate, &mut parts, &mut done)?;
     Ok(gather(done, parts, stops, ended))
 }
 
 /// Runs each part by a worker of its own, up to so many turns.
 fn run_all<R: Threads + Wait + Sync, G: Gate + Sync>(
     rt: &R,
-    orders: Orders<'_, G>,
+    script: &Script,
+    turns: u64,
+    gate: &G,
     parts: Vec<Part>,
     rooms: Rooms,
 ) -> Result<Ran, usize>
     requires { HasRooms (vec_len parts) rooms }
-    ensures ran { IfOk result (RanAs (G.may_stop orders.entry.gate.now) (G.may_pass orders.entry.gate.now)
-        orders.entry.script.now orders.entry.turns parts.items) }
+    ensures ran { IfOk result (RanAs (G.may_stop gate.now) (G.may_pass gate.now) script.now turns parts.items) }
     ensures refused { IfErr result (λ w. w < vec_len parts) }
 {
-    let Orders {
-        script,
-        turns,
-        gate,
-        pace,
-    } = orders;
     thread::scope(
         thread::scope_env(),
         rt,
@@ -259,15 +235,7 @@ fn run_all<R: Threads + Wait + Sync, G: Gate + Sync>(
             ensures ran { IfOk result
                 (RanAs (G.may_stop gate.entry.now) (G.may_pass gate.entry.now) script.entry.now turns parts.items) }
             ensures refused { IfErr result (λ w. w < vec_len parts) }
-        {
-            let orders = Orders {
-                script,
-                turns,
-                gate,
-                pace,
-            };
-            run_scoped(scope, rt, &orders, parts, rooms)
-        },
+        { run_scoped(scope, rt, script, turns, gate, parts, rooms) },
     )
 }
 
@@ -303,20 +271,11 @@ pub fn run<R: Threads + Wait + Sync, G: Gate + Sync>(
     let Ok(rooms) = Rooms::new(alloc, workers) else {
         return Err(RunFault::NoMemory(net));
     };
-    let Ok(pace) = Pace::new(alloc, workers) else {
-        return Err(RunFault::NoMemory(net));
-    };
     let parts = match split(alloc, net, workers) {
         Ok(parts) => parts,
         Err((net, _no_memory)) => return Err(RunFault::NoMemory(net)),
     };
-    let orders = Orders {
-        script,
-        turns: plan.turns,
-        gate,
-        pace: &pace,
-    };
-    match run_all(rt, orders, parts, rooms) {
+    match run_all(rt, script, plan.turns, gate, parts, rooms) {
         Ok(ran) => {
             let Ran {
                 parts,

@@ -1,17 +1,13 @@
 //! One worker: the turns that it takes with its part, and what it promises of them.
 
-ghost use Rattle.std.specs.Prelude.{Some, None, ◌≡◌};
-ghost use Rattle.worm_region.specs.declared.fault.StepFault.TheVariants.{NoSuchPlace};
-ghost use Rattle.worm_run.specs.Working.{WorkedAs, fault_behind};
+ghost use Rattle.worm_run.specs.Working.{WorkedAs};
 
 use crate::gate::Gate;
-use crate::pace::{Beside, Pace};
-use crate::plan::StopWhy;
 use std::snapshot::Snapshot;
 use std::sync::Wait;
 use std::thread::Promise;
-use worm_core::{Script, StepFault};
-use worm_split::Part;
+use worm_core::Script;
+use worm_split::{Part, StopWhy};
 
 /// A worker's part after its turns.
 #[derive(Drop)]
@@ -55,21 +51,8 @@ impl<'a, G: Gate> Promise<Worked> for WorksAs<'a, G> {
         WorkedAs (G.may_stop p.gate.now) (G.may_pass p.gate.now) p.script.now p.turns p.worker p.part.value w };
 }
 
-/// The stop that a turn's fault is.
-fn stopped_by(fault: StepFault) -> StopWhy
-    requires { fault ≡ NoSuchPlace → ⊥ }
-    ensures { fault_behind result ≡ Some fault }
-{
-    match fault {
-        StepFault::Refused(why) => StopWhy::Refused(why),
-        StepFault::NoMemory => StopWhy::NoMemory,
-        StepFault::NoSuchPlace => unreachable!(),
-    }
-}
-
 /// The turns of one worker with its part, each asked of its gate before, up to the first stop. None is begun but where
-/// the gate may answer true. Before each turn it waits a while for the workers beside it, and it tells them how far it
-/// is.
+/// the gate may answer true.
 pub fn work<R: Wait, G: Gate>(
     rt: &R,
     mut part: Part,
@@ -77,31 +60,25 @@ pub fn work<R: Wait, G: Gate>(
     turns: u64,
     script: &Script,
     gate: &G,
-    pace: &Pace,
 ) -> Worked
     ensures { WorkedAs (G.may_stop gate.now) (G.may_pass gate.now) script.now turns worker part result }
 {
     script.recall();
-    let mut beside = Beside::new(pace, worker);
     for turn in 0..turns {
-        beside.wait(turn);
         if !gate.pass(worker, turn) {
-            pace.leave(worker);
             return Worked {
                 part,
                 ended: turn,
                 stop: Some(StopWhy::Gate),
             };
         }
-        if let Err(fault) = part.turn(rt, turn, script) {
-            pace.leave(worker);
+        if let Err(why) = part.turn(rt, turn, script) {
             return Worked {
                 part,
                 ended: turn,
-                stop: Some(stopped_by(fault)),
+                stop: Some(why),
             };
         }
-        pace.tell(worker, turn + 1);
     }
     Worked {
         part,

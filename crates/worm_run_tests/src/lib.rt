@@ -10,6 +10,8 @@ mod channels;
 #[cfg(test)]
 mod gates;
 #[cfg(test)]
+mod paced;
+#[cfg(test)]
 mod parts;
 #[cfg(test)]
 mod runs;

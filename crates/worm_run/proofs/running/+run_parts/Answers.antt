@@ -6,9 +6,9 @@ use Rattle.worm_run.proofs.running.+run_parts.Goals as goal
 
 pub returns-clause-worked : goal.returns-clause-worked
 returns-clause-worked g t c =
-    let stop = g.G.Gate.may_stop c.args.orders.now.gate.now in
-    let pass = g.G.Gate.may_pass c.args.orders.now.gate.now in
-    let script = c.args.orders.now.script.now in
+    let stop = g.G.Gate.may_stop c.args.gate.now in
+    let pass = g.G.Gate.may_pass c.args.gate.now in
+    let script = c.args.script.now in
     let promise = c.in_ok-child.child.promise in
     let told = c.in_ok-child.ensures in
     let others = c.start.new.parts.items in
@@ -16,9 +16,9 @@ returns-clause-worked g t c =
     × WorkedAs (g.G.Gate.may_stop promise.gate.now) (g.G.Gate.may_pass promise.gate.now) promise.script.now
     promise.turns promise.worker promise.part.value worked
     = c.collect.ensures.worked in
-    let kept : WorkedAs stop pass script c.args.orders.now.turns promise.worker promise.part.value back.0
+    let kept : WorkedAs stop pass script c.args.turns promise.worker promise.part.value back.0
     = rw (told.gate, told.script, told.turns) at back.2 in
     let last : promise.worker ≡ 0 + length others = search rules in
     rw (told.taken, back.1)
-    (AllWorked-snoc stop pass script c.args.orders.now.turns 0 promise.worker others c.run_parts.new.done.items
+    (AllWorked-snoc stop pass script c.args.turns 0 promise.worker others c.run_parts.new.done.items
     promise.part.value back.0 last c.in_ok-run_parts.ensures.worked kept)

@@ -1,5 +1,4 @@
 use Rattle.worm_script.proofs.script.Script.TheSendSync.{the_sync as script_sync}
-use Rattle.worm_run.proofs.pace.Pace.TheSendSync.{the_sync as pace_sync}
 use Rattle.worm_run.proofs.Sent.{part_send, worked_send}
 use denote.Param.Send.{sendable}
 use Rattle.std.proofs.Crossing.{crosses}
@@ -9,7 +8,6 @@ pub spawn_with-requires-send-F : goal.spawn_with-requires-send-F
 spawn_with-requires-send-F g t c κs =
     let a = part_send in
     let b = script_sync in
-    let p = pace_sync in
     search (sendable, crosses) depth 60
 
 pub spawn_with-requires-send-T : goal.spawn_with-requires-send-T

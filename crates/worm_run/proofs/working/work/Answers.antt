@@ -1,8 +1,9 @@
-use Rattle.std.proofs.Common.{◌≡◌, ℕ, Some, refl, ap, subst, arith, rules}
+use Rattle.std.proofs.Common.{◌≡◌, ℕ, Option, refl, subst, arith, rules}
 use Rattle.worm_script.specs.Script.{due}
 use Rattle.worm_region.specs.declared.fault.StepFault.{StepFault}
+use Rattle.worm_split.specs.Effects.{SourcesTake, IsRefused}
+use Rattle.worm_split.specs.PartTurns.{Turn}
 use Rattle.worm_run.specs.Working.{HasTurned, MayPassBelow}
-use Rattle.worm_run.proofs.Placed.{turn_place}
 use Rattle.worm_run.proofs.Turning.{turned-none, turned-more}
 use Rattle.worm_run.proofs.Stopping.{passes_more, stopped_at}
 use Rattle.worm_run.proofs.working.work.Goals as goal
@@ -13,26 +14,24 @@ loop-turn-init g c = record {
   passed = λ turn below. absurd (omega arith);
 }
 
-pub stopped_by-requires : goal.stopped_by-requires
-stopped_by-requires g c =
-    λ same. turn_place (due c.loop-turn.turn c.args.script.now) c.loop-turn.part c.turn.new.self (Some c.in-Err.fault)
-    c.in-Err.ensures.exact (ap (λ (f : StepFault). Some f) same)
-
 pub returns-in-Err : goal.returns-in-Err
 returns-in-Err g c =
     let told = c.in-Err.ensures in
     let before = c.loop-turn.invariant in
     let pass = g.G.Gate.may_pass c.args.gate.now in
+    let entries = due c.loop-turn.turn c.args.script.now in
     stopped_at (g.G.Gate.may_stop c.args.gate.now) pass c.args.script.now c.args.turns c.args.worker c.loop-turn.turn
-    c.args.part c.loop-turn.part c.turn.new.self c.in-Err.fault c.stopped_by.result (omega arith)
+    c.args.part c.loop-turn.part c.turn.new.self c.in-Err.why (omega arith)
     (passes_more pass c.args.worker c.loop-turn.turn c.pass.result before.passed c.pass.ensures.goes (search rules))
-    c.stopped_by.ensures before.turned record {
-      exact = told.exact;
+    told.stop before.turned (λ fault behind. record {
+      exact = subst (λ (f : Option StepFault). Turn entries c.loop-turn.part f c.turn.new.self) behind told.exact;
       same = told.same;
-      sources = told.sources;
+      sources = subst (λ (f : Option StepFault). SourcesTake entries c.loop-turn.part f c.turn.new.self) behind
+          told.sources;
       sinks = told.sinks;
-      refused = told.refused;
-    }
+      refused = subst (λ (f : Option StepFault). IsRefused entries c.loop-turn.part f c.turn.new.self) behind
+          told.refused;
+    })
 
 pub loop-turn-preserved : goal.loop-turn-preserved
 loop-turn-preserved g c =
