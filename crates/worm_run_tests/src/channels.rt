@@ -158,3 +158,29 @@ fn two_workers_keep_each_packet_whole(rt: HostRuntime) {
     let trial = trial.settled();
     are_all(&rt, trial.flits_at(1), 1);
 }
+
+/// Two nodes of two workers, and 50 packets of three words, all of which cross the link between them: two a turn.
+fn crossing<R: Abort + AllocGlobal + Copy>(rt: R) -> Trial<R> {
+    let mut trial = Trial::new(rt, &[2], 2, 2);
+    for number in 0u16..50 {
+        trial.offer_at(u32::from(number / 2), lane(0, 1), &words_of(0, number));
+    }
+    trial
+}
+
+/// The flits are those of the 50 packets that cross, each whole, and no others.
+fn have_crossed(rt: &impl Abort, flits: &[Flit]) {
+    assert_eq!(rt; flits.len(), 150);
+    for number in 0u16..50 {
+        assert!(rt; came_whole(flits, lane(0, 1), number));
+    }
+}
+
+#[test]
+fn fifty_packets_cross_whole(rt: HostRuntime) {
+    let trial = crossing(rt).run(2, 30, &FreeGate).ended(&[], &[30, 30]);
+    trial.has_injected(150);
+    have_crossed(&rt, sent_to(&trial, 1).as_slice());
+    let trial = trial.settled();
+    have_crossed(&rt, trial.flits_at(1));
+}

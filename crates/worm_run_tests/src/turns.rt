@@ -33,21 +33,16 @@ fn take_turns<R: Wait>(
     true
 }
 
-/// The network after so many turns of the first of two workers alone.
-fn first_took<R: Abort + AllocGlobal + Copy + Wait>(trial: Trial<R>, turns: u64) -> Trial<R> {
+/// The network after so many turns of the first of two workers, and then so many of the second.
+fn took<R: Abort + AllocGlobal + Copy + Wait>(
+    trial: Trial<R>,
+    first: u64,
+    second: u64,
+) -> Trial<R> {
     let (rt, net, script) = trial.into_inner();
     let mut parts = parts_of(&rt, net, 2);
-    assert!(rt; take_turns(&rt, &mut parts, 0, turns, &script));
-    let net = joined(&rt, parts);
-    Trial { rt, net, script }
-}
-
-/// The network after so many turns of the first of two workers, and then as many of the second.
-fn both_took<R: Abort + AllocGlobal + Copy + Wait>(trial: Trial<R>, turns: u64) -> Trial<R> {
-    let (rt, net, script) = trial.into_inner();
-    let mut parts = parts_of(&rt, net, 2);
-    assert!(rt; take_turns(&rt, &mut parts, 0, turns, &script));
-    assert!(rt; take_turns(&rt, &mut parts, 1, turns, &script));
+    assert!(rt; take_turns(&rt, &mut parts, 0, first, &script));
+    assert!(rt; take_turns(&rt, &mut parts, 1, second, &script));
     let net = joined(&rt, parts);
     Trial { rt, net, script }
 }
@@ -64,7 +59,7 @@ fn credits<R: Abort + AllocGlobal + Copy>(trial: Trial<R>) -> (usize, Option<u8>
 
 #[test]
 fn a_part_alone_fills_the_link(rt: HostRuntime) {
-    let trial = first_took(pair(rt, 1, &[1, 2, 3, 4]), 3);
+    let trial = took(pair(rt, 1, &[1, 2, 3, 4]), 3, 0);
     let link = Place::Link {
         node: 0,
         port: 1,
@@ -87,7 +82,7 @@ fn a_part_alone_fills_the_link(rt: HostRuntime) {
 
 #[test]
 fn the_other_part_takes_what_came(rt: HostRuntime) {
-    let trial = both_took(pair(rt, 1, &[1, 2, 3, 4]), 3);
+    let trial = took(pair(rt, 1, &[1, 2, 3, 4]), 3, 3);
     let buffer = Place::Buffer {
         node: 0,
         port: 2,
@@ -97,4 +92,14 @@ fn the_other_part_takes_what_came(rt: HostRuntime) {
     trial.has_come(lane(0, 1), 1);
     trial.stands(lane(0, 1), &expected);
     assert_eq!(rt; credits(trial), (1, Some(0)));
+}
+
+#[test]
+fn links_by_one_port_do_not_hold_up_one_another(rt: HostRuntime) {
+    let mut trial = Trial::new(rt, &[2, 2], 2, 1);
+    trial.offer_at(0, lane(0, 1), &[5]);
+    trial.offer_at(1, lane(2, 3), &[6]);
+    let trial = took(trial, 2, 1);
+    trial.has_words(1, &[5]);
+    trial.has_words(3, &[6]);
 }

@@ -7,7 +7,7 @@
 //! sets of ports of an inbox stand apart from what comes in by them, beside those of all nodes, so that a node that
 //! rests costs one look.
 //!
-//! Nothing is said of routers or of threads: the queues between two threads are in `worm_bundles`.
+//! Nothing is said of routers or of threads: the queues between two threads are in `worm_links`.
 #![tactic(auto)]
 
 mod inbox;
