@@ -1,6 +1,6 @@
 ghost use Rattle.std.specs.Prelude.{◌≡◌, ◌==◌, ◌||◌, ◌+◌, ◌*◌, ◌≤◌, ◌<◌, ◌↔◌, length, IfOk, IfErr};
 ghost use Rattle.std.specs.Prelude.{OnOk, OnErr, IsOk, IsErr, IsSome, IfSome, IfNone, None, Some, ℕ, is_some, nat_lt};
-ghost use Rattle.std.specs.Prelude.{if◌then◌else◌};
+ghost use Rattle.std.specs.Prelude.{◌-◌, if◌then◌else◌};
 ghost use Rattle.worm_flit.specs.Channels.{AreChannels, class_bits};
 ghost use Rattle.worm_mesh.specs.Address.{node_count};
 ghost use Rattle.worm_records.specs.declared.InRecord.TheVariants.{Waiting};
@@ -74,6 +74,17 @@ impl Model for Router {
 
     ghost invariant = { λ r. IsKept (router_state r.mesh r.node r.classes r.depth r.inputs.items r.outputs.items
         r.channel_alloc r.switch_alloc) r.busy r.demand r.masks };
+}
+
+/// A flit goes out by a channel of a port at which it costs so many credits: one, or none where it leaves the network.
+fn spend(output: &mut OutRecord, cost: u8)
+    requires one { cost ≤ 1 }
+    requires there { cost ≤ output.old.credits }
+    ensures { output.new ≡ record output.old { credits = output.old.credits - cost } }
+{
+    if cost > 0 {
+        output.spend_credit();
+    }
 }
 
 impl Router {
@@ -337,7 +348,7 @@ impl Router {
         let channel = &mut self.inputs[i];
         channel.let_out(flit, more_owed);
         let output = &mut self.outputs[o];
-        output.spend(spent);
+        spend(output, spent);
         self.busy
             .occupied
             .remove_if(port, vc, !channel.is_occupied());
