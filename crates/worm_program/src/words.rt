@@ -43,10 +43,10 @@ pub struct Words<'a> {
 pub enum WordsFault {
     /// They are not those that the program knows, or a number is out of its range.
     Words(Error),
-    /// One of them is not UTF-8.
-    NotText,
     /// There was no memory.
     NoMemory,
+    /// One of them is not UTF-8.
+    NotText,
 }
 
 impl From<AllocError> for WordsFault {

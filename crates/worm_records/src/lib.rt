@@ -88,12 +88,12 @@ impl OutRecord {
         self.holder = None;
     }
 
-    /// A flit goes out and takes `count` places of the buffer at the far end: one, or none where it leaves the network.
-    pub fn spend(&mut self, count: u8)
-        requires { count ≤ self.old.credits }
-        ensures { self.new ≡ record self.old { credits = self.old.credits - count } }
+    /// A flit goes out and takes a place of the buffer at the far end.
+    pub fn spend_credit(&mut self)
+        requires { 0 < self.old.credits }
+        ensures { self.new ≡ record self.old { credits = self.old.credits - 1 } }
     {
-        self.credits -= count;
+        self.credits -= 1;
     }
 
     /// A credit comes back: the buffer at the far end, of `depth` places, has one more free.

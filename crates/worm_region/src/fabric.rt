@@ -141,14 +141,12 @@ impl Fabric {
 
     /// The packet at the front of an input channel's buffer finds its output port (Dally and Towles, chapter 8).
     pub(crate) fn route(&mut self, node: u8, port: u8, vc: u8) -> bool
-        requires place { IsNetPlace self.old node port vc }
-        requires mesh { (router_at self.old node).mesh ≡ self.old.mesh }
+        requires { IsNetPlace self.old node port vc }
         ensures enabled { result ≡ can_route (router_at self.old node) port vc }
         ensures after { self.new ≡ (if result then with_router self.old node
             (after_route (router_at self.old node) port vc) else self.old) }
     {
-        let addresses = self.links.wiring().addresses();
-        self.nodes.router_mut(node).route(port, vc, addresses)
+        self.nodes.router_mut(node).route(port, vc)
     }
 
     /// Whether the flit that is ready at this place is at home. The buffer is asked: were the flit itself read in part,

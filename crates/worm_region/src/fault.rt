@@ -5,10 +5,11 @@ use worm_term::OfferFault;
 /// Why no network was made.
 #[derive(Clone, Copy, Debug, PartialEq, Eq)]
 pub enum NetFault {
-    /// A number of the configuration is out of its range, or the names are not as many as the classes.
-    BadConfig,
     /// There was no memory for the network.
     NoMemory,
+    /// A number of the configuration is out of its range, or the names are not as many as the classes. It is looked for
+    /// before memory is taken.
+    BadConfig,
 }
 
 /// Why a step was not done, or a turn ended early.

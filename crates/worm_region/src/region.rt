@@ -155,7 +155,7 @@ impl Region {
         ensures after { self.new ≡ with_router self.old node (after_allocate (router_at self.old node)) }
         ensures reaches { ReachesAt node self.old self.new }
     {
-        let _grants = self.fabric.router_mut(node).allocate();
+        let _grants = self.fabric.router_mut(node).grant_waiting();
     }
 
     /// One pass of the node's switch allocator: the channels that it grants.
@@ -166,7 +166,7 @@ impl Region {
         ensures ready { MayAllSend self.new node result }
         ensures reaches { ReachesAt node self.old self.new }
     {
-        self.fabric.router_mut(node).choose().granted()
+        self.fabric.router_mut(node).grant_ready().granted()
     }
 
     /// The channels of the node with a flit that lack a route; no other has anything to route.

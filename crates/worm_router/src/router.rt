@@ -1,6 +1,6 @@
 ghost use Rattle.std.specs.Prelude.{◌≡◌, ◌==◌, ◌||◌, ◌+◌, ◌*◌, ◌≤◌, ◌<◌, ◌↔◌, length, IfOk, IfErr};
 ghost use Rattle.std.specs.Prelude.{OnOk, OnErr, IsOk, IsErr, IsSome, IfSome, IfNone, None, Some, ℕ, is_some, nat_lt};
-ghost use Rattle.std.specs.Prelude.{if◌then◌else◌};
+ghost use Rattle.std.specs.Prelude.{◌-◌, if◌then◌else◌};
 ghost use Rattle.worm_flit.specs.Channels.{AreChannels, class_bits};
 ghost use Rattle.worm_mesh.specs.Address.{node_count};
 ghost use Rattle.worm_records.specs.declared.InRecord.TheVariants.{Waiting};
@@ -20,12 +20,12 @@ use crate::channel::InputChannel;
 use crate::demand::Demand;
 use crate::fault::{RouterFault, TooMany};
 use crate::router::fresh::{class_masks, make_inputs, make_outputs};
+use crate::routes::Routes;
 use std::alloc::Global;
 use std::marker::Model;
 use worm_flit::{ClassChannels, Flit, is_closing, is_opening};
 use worm_mesh::Mesh;
 use worm_records::{InRecord, OutRecord};
-use worm_route::Addresses;
 use worm_swalloc::SwAlloc;
 use worm_vcalloc::{VcAlloc, VcRequest};
 
@@ -33,16 +33,14 @@ use worm_vcalloc::{VcAlloc, VcRequest};
 ///
 /// ```text
 /// router.accept(0, flit)?;            // a flit comes in by port 0
-/// router.route(0, flit.vc, &addresses); // the front packet's output port is found
+/// router.route(0, flit.vc);           // the front packet's output port is found
 /// let grants = router.allocate();     // it gets a channel there
 /// if let Some((out, flit)) = router.ready(0, 0) { router.sent(0, 0); .. }
 /// ```
 #[derive(Drop)]
 pub struct Router {
-    /// The mesh that it stands in.
-    mesh: Mesh,
-    /// Its node.
-    node: u8,
+    /// The routes from its node.
+    routes: Routes,
     /// The channels that classes own.
     classes: ClassChannels,
     /// The channels of each class, as `ClassChannels::mask` tells them.
@@ -69,11 +67,22 @@ impl Model for Router {
 
     ghost Value = { RouterState };
 
-    ghost view = { λ r. router_state r.mesh r.node r.classes r.depth r.inputs.items r.outputs.items r.channel_alloc
+    ghost view = { λ r. router_state r.routes.mesh r.routes.node r.classes r.depth r.inputs.items r.outputs.items r.channel_alloc
         r.switch_alloc };
 
-    ghost invariant = { λ r. IsKept (router_state r.mesh r.node r.classes r.depth r.inputs.items r.outputs.items
+    ghost invariant = { λ r. IsKept (router_state r.routes.mesh r.routes.node r.classes r.depth r.inputs.items r.outputs.items
         r.channel_alloc r.switch_alloc) r.busy r.demand r.masks };
+}
+
+/// A flit goes out by a channel of a port at which it costs so many credits: one, or none where it leaves the network.
+fn spend(output: &mut OutRecord, cost: u8)
+    requires one { cost ≤ 1 }
+    requires there { cost ≤ output.old.credits }
+    ensures { output.new ≡ record output.old { credits = output.old.credits - cost } }
+{
+    if cost > 0 {
+        output.spend_credit();
+    }
 }
 
 impl Router {
@@ -97,11 +106,11 @@ impl Router {
         let total = classes.total();
         let count = usize::from(ports) * usize::from(total);
         // The outputs come last: room is left behind them.
+        let routes = Routes::from_node(alloc, mesh, node)?;
         let inputs = make_inputs(alloc, count, depth)?;
         let outputs = make_outputs(alloc, count, depth)?;
         Ok(Router {
-            mesh: *mesh,
-            node,
+            routes,
             classes,
             masks,
             depth,
@@ -131,7 +140,7 @@ impl Router {
         ensures value { result ≡ terminal self.now }
         ensures bound { result ≤ 6 }
     {
-        2 * self.mesh.dims()
+        self.routes.terminal()
     }
 
     /// How many credits a flit costs that comes in or goes out by this port: one, and none at the terminal.
@@ -185,11 +194,9 @@ impl Router {
     }
 
     /// Route computation: an idle channel with an opening flit at its front comes to wait for the output port that the
-    /// packet's route takes, as the addresses of the router's mesh tell it. False, and nothing done, where it is not
-    /// idle or has no such flit.
-    pub fn route(&mut self, port: u8, vc: u8, addresses: &Addresses) -> bool
-        requires place { IsPlace self.old port vc }
-        requires mesh { addresses.now ≡ self.old.mesh }
+    /// packet's route takes. False, and nothing done, where it is not idle or has no such flit.
+    pub fn route(&mut self, port: u8, vc: u8) -> bool
+        requires { IsPlace self.old port vc }
         ensures enabled { result ≡ can_route self.old port vc }
         ensures after { self.new ≡ (if result then after_route self.old port vc else self.old) }
     {
@@ -204,7 +211,7 @@ impl Router {
         if !is_opening(front.kind) {
             return false;
         }
-        let out = addresses.port(self.node, front.lane.dst);
+        let out = self.routes.port(front.lane.dst);
         let allowed = self.mask(front.lane.class);
         let channel = &mut self.inputs[i];
         channel.route_to(out);
@@ -337,7 +344,7 @@ impl Router {
         let channel = &mut self.inputs[i];
         channel.let_out(flit, more_owed);
         let output = &mut self.outputs[o];
-        output.spend(spent);
+        spend(output, spent);
         self.busy
             .occupied
             .remove_if(port, vc, !channel.is_occupied());

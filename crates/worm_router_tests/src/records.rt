@@ -31,9 +31,7 @@ fn an_output_channel_is_used(rt: HostRuntime) {
         credits: 2,
     };
     output.grant(4, 1);
-    output.spend(1);
-    is_output(&rt, output, Some((4, 1)), 1);
-    output.spend(0);
+    output.spend_credit();
     is_output(&rt, output, Some((4, 1)), 1);
     output.release();
     output.add_credit(2);

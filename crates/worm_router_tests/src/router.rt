@@ -19,12 +19,26 @@ fn a_flit_passes_to_the_terminal(rt: HostRuntime) {
     trial.grants(0, 0, 0);
     trial.is_held(2, 0, (0, 0));
     trial.is_ready(0, 0, 2, flit(0, 0));
+    trial.left_last(0, 0, None);
     trial.sends(0, 0);
+    trial.left_last(0, 0, Some(flit(0, 0)));
     trial.owes(0, 0, 1);
     trial.owes_first(0, Some(0));
     trial.gives(0, 0);
     trial.owes_first(0, None);
     trial.takes_credit(0, 0, Err(TooMany));
+}
+
+/// It is granted the other channel of its class, and so is what stays behind.
+#[test]
+fn what_left_last_has_the_channel_that_it_was_granted(rt: HostRuntime) {
+    let mut trial = Trial::new(rt, 1, &[2], 1);
+    trial.accepts(0, flit(0, 0));
+    trial.routes(0, 0);
+    trial.grants(0, 0, 1);
+    trial.sends(0, 0);
+    trial.left_last(0, 0, Some(flit(0, 1)));
+    trial.left_last(0, 1, None);
 }
 
 #[test]

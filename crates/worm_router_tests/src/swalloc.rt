@@ -7,11 +7,11 @@ use std::process::Abort;
 use worm_swalloc::{Ready, ReadyOuts, SwAlloc, SwGrant, SwGrants};
 
 /// These input channels, each by port and channel, would send to these output ports.
-fn ready_of(rt: &impl Abort, senders: &[(u8, u8, u8)]) -> ReadyOuts {
-    let mut ready = ReadyOuts::new();
+fn ready_of(rt: &impl Abort, senders: &[(u8, u8, u8)]) -> [[Option<u8>; 8]; 7] {
+    let mut ready = [[None; 8]; 7];
     for (port, vc, out) in senders {
         assert!(rt; *port < 7 && *vc < 8);
-        ready.set(*port, *vc, Some(*out));
+        ready[usize::from(*port)][usize::from(*vc)] = Some(*out);
     }
     ready
 }
@@ -25,32 +25,47 @@ pub fn sends(vc: u8, out: u8) -> Option<SwGrant> {
 pub fn are_chosen(rt: &impl Abort, grants: &SwGrants, granted: &[(u8, Option<SwGrant>)]) {
     for (port, grant) in granted {
         assert!(rt; *port < 7);
-        assert_eq!(rt; grants.get(*port), *grant, "at {port}");
+        assert_eq!(rt; grants[usize::from(*port)], *grant, "at {port}");
     }
-}
-
-/// One pass in which every channel of the map may send.
-fn pass(alloc: &mut SwAlloc, ready: &ReadyOuts) -> SwGrants {
-    alloc.grant(&Ready::new(ready, ready.keys()))
 }
 
 /// In one pass each of these input ports is granted this, or nothing.
 fn passes(
     rt: &impl Abort,
     alloc: &mut SwAlloc,
-    ready: &ReadyOuts,
+    ready: &[[Option<u8>; 8]; 7],
     granted: &[(u8, Option<SwGrant>)],
 ) {
-    are_chosen(rt, &pass(alloc, ready), granted);
+    are_chosen(rt, &alloc.grant(ready), granted);
 }
 
+/// The grants of one port alone.
+fn alone(rt: &impl Abort, port: u8, grant: Option<SwGrant>) -> SwGrants {
+    assert!(rt; port < 7);
+    let mut grants = [None; 7];
+    grants[usize::from(port)] = grant;
+    grants
+}
+
+/// One pass grants this port alone.
+fn grants_one(
+    rt: &impl Abort,
+    alloc: &mut SwAlloc,
+    ready: &[[Option<u8>; 8]; 7],
+    port: u8,
+    grant: Option<SwGrant>,
+) {
+    assert!(rt; alloc.grant(ready) == alone(rt, port, grant));
+}
+
+/// Channels 0 and 1 of port 0 and channel 0 of port 2 are ready for output port 1, three times.
 #[test]
 fn grants_go_round(rt: HostRuntime) {
     let mut alloc = SwAlloc::new(3, 2);
     let ready = ready_of(&rt, &[(0, 0, 1), (0, 1, 1), (2, 0, 1)]);
-    passes(&rt, &mut alloc, &ready, &[(0, sends(0, 1)), (2, None)]);
-    passes(&rt, &mut alloc, &ready, &[(0, None), (2, sends(0, 1))]);
-    passes(&rt, &mut alloc, &ready, &[(0, sends(1, 1)), (2, None)]);
+    grants_one(&rt, &mut alloc, &ready, 0, sends(0, 1));
+    grants_one(&rt, &mut alloc, &ready, 2, sends(0, 1));
+    grants_one(&rt, &mut alloc, &ready, 0, sends(1, 1));
 }
 
 /// Ports 0 and 2 both ask for output port 1, and port 1 for output port 0.
@@ -58,12 +73,21 @@ fn grants_go_round(rt: HostRuntime) {
 fn each_output_port_is_granted_once(rt: HostRuntime) {
     let mut alloc = SwAlloc::new(3, 2);
     let ready = ready_of(&rt, &[(0, 1, 1), (1, 0, 0), (2, 0, 1)]);
-    let first = pass(&mut alloc, &ready);
     let granted = [(0, sends(1, 1)), (1, sends(0, 0)), (2, None)];
-    are_chosen(&rt, &first, &granted);
-    has_channels(&rt, first.granted(), &[(0, 1), (1, 0)]);
+    passes(&rt, &mut alloc, &ready, &granted);
     let granted = [(0, None), (1, sends(0, 0)), (2, sends(0, 1))];
     passes(&rt, &mut alloc, &ready, &granted);
+}
+
+/// The same pass over a map of output ports tells the granted channels as a set.
+#[test]
+fn a_pass_over_a_map_tells_a_set(rt: HostRuntime) {
+    let mut alloc = SwAlloc::new(3, 2);
+    let outs = ReadyOuts::from_rows(&ready_of(&rt, &[(0, 1, 1), (1, 0, 0), (2, 0, 1)]));
+    let first = alloc.grant_ready(&Ready::new(&outs, outs.keys()));
+    has_channels(&rt, first.granted(), &[(0, 1), (1, 0)]);
+    let granted = [(0, sends(1, 1)), (1, sends(0, 0)), (2, None)];
+    are_chosen(&rt, &first.to_array(), &granted);
 }
 
 /// Both arbiters move: after it output port 1 prefers port 2, and port 0 its channel 1.
@@ -95,6 +119,6 @@ fn an_ungranted_request_is_named_again(rt: HostRuntime) {
     prefers(&rt, alloc, 1);
     passes(&rt, &mut alloc, &ready, &[(0, None)]);
     prefers(&rt, alloc, 1);
-    ready.set(2, 0, None);
+    ready[2][0] = None;
     passes(&rt, &mut alloc, &ready, &[(0, sends(1, 1))]);
 }

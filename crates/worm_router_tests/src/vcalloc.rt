@@ -3,7 +3,9 @@
 ghost use Rattle.std.specs.Prelude.{◌<◌};
 
 use std::process::Abort;
-use worm_vcalloc::{Arbiter, ChannelSet, FreeChannels, VcAlloc, VcGrants, VcRequest, VcRequests};
+use worm_vcalloc::{
+    Arbiter, ChannelMap, ChannelSet, FreeChannels, VcAlloc, VcGrants, VcRequest, VcRequests,
+};
 
 /// Each channel comes into the set, or goes out of it where it is false.
 fn put_all(rt: &impl Abort, set: &mut ChannelSet, changes: &[(u8, u8, bool)]) {
@@ -119,12 +121,11 @@ fn winners_go_round(rt: HostRuntime) {
 }
 
 /// These input channels, each by port and channel, wait for one of the allowed channels of an output port.
-fn waiting_of(rt: &impl Abort, asks: &[(u8, u8, VcRequest)]) -> VcRequests {
-    let mut waiting = VcRequests::new();
+fn waiting_of(rt: &impl Abort, asks: &[(u8, u8, VcRequest)]) -> [[Option<VcRequest>; 8]; 7] {
+    let mut waiting = [[None; 8]; 7];
     for (port, vc, request) in asks {
         assert!(rt; *port < 7 && *vc < 8);
-        assert!(rt; waiting.get(*port, *vc).is_none());
-        waiting.add(*port, *vc, *request);
+        waiting[usize::from(*port)][usize::from(*vc)] = Some(*request);
     }
     waiting
 }
@@ -149,7 +150,8 @@ fn free_of(rt: &impl Abort, out: u8, numbers: &[u8]) -> FreeChannels {
 pub fn are_granted(rt: &impl Abort, grants: &VcGrants, granted: &[(u8, u8, Option<u8>)]) {
     for (port, vc, channel) in granted {
         assert!(rt; *port < 7 && *vc < 8);
-        assert_eq!(rt; grants.get(*port, *vc), *channel, "at {port} {vc}");
+        let row = &grants[usize::from(*port)];
+        assert_eq!(rt; row[usize::from(*vc)], *channel, "at {port} {vc}");
     }
 }
 
@@ -157,13 +159,11 @@ pub fn are_granted(rt: &impl Abort, grants: &VcGrants, granted: &[(u8, u8, Optio
 fn passes(
     rt: &impl Abort,
     alloc: &mut VcAlloc,
-    waiting: &VcRequests,
+    waiting: &[[Option<VcRequest>; 8]; 7],
     free: &FreeChannels,
     granted: &[(u8, u8, Option<u8>)],
 ) {
-    let mut grants = VcGrants::new();
-    alloc.grant(waiting, free, &mut grants);
-    are_granted(rt, &grants, granted);
+    are_granted(rt, &alloc.grant(waiting, free), granted);
 }
 
 #[test]
@@ -195,15 +195,42 @@ fn one_channel_a_port_is_enough(rt: HostRuntime) {
     );
 }
 
-/// What a table of grants holds already stays, and gets nothing more.
+/// A pass answers one array, which has each grant and nothing else.
+#[test]
+fn a_pass_answers_an_array(rt: HostRuntime) {
+    let mut alloc = VcAlloc::new(3, 2);
+    let waiting = waiting_of(&rt, &[(0, 1, asks(2, 0b10)), (1, 0, asks(2, 0b11))]);
+    let mut wanted = [[None; 8]; 7];
+    wanted[0][1] = Some(1);
+    wanted[1][0] = Some(0);
+    assert!(rt; alloc.grant(&waiting, &[[true; 8]; 7]) == wanted);
+}
+
+/// Of two classes with a channel each, a packet gets no channel but that of its own.
+#[test]
+fn no_channel_of_another_class_is_granted(rt: HostRuntime) {
+    let mut alloc = VcAlloc::new(3, 2);
+    let waiting = waiting_of(&rt, &[(0, 0, asks(1, 0b01)), (0, 1, asks(1, 0b10))]);
+    let free = free_of(&rt, 1, &[1]);
+    passes(
+        &rt,
+        &mut alloc,
+        &waiting,
+        &free,
+        &[(0, 0, None), (0, 1, Some(1))],
+    );
+}
+
+/// What a map of grants holds already stays, and gets nothing more.
 #[test]
 fn grants_stay(rt: HostRuntime) {
     let mut alloc = VcAlloc::new(3, 2);
     let waiting = waiting_of(&rt, &[(0, 0, asks(1, 1)), (2, 1, asks(1, 1))]);
-    let mut grants = VcGrants::new();
+    let mut grants = ChannelMap::new();
     grants.set(0, 0, Some(1));
-    alloc.grant(&waiting, &free_of(&rt, 1, &[0]), &mut grants);
-    are_granted(&rt, &grants, &[(0, 0, Some(1)), (2, 1, Some(0))]);
+    let requests = VcRequests::from_rows(&waiting);
+    alloc.grant_waiting(&requests, &free_of(&rt, 1, &[0]), &mut grants);
+    are_granted(&rt, &grants.to_rows(), &[(0, 0, Some(1)), (2, 1, Some(0))]);
 }
 
 #[test]
@@ -218,8 +245,8 @@ fn a_granted_channel_gets_no_second(rt: HostRuntime) {
 /// Of those that wait, a fresh allocator finds these for the free channels of the output port, and no others.
 fn finds(rt: &impl Abort, waiting: &VcRequests, out: u8, numbers: &[u8], found: &[(u8, u8)]) {
     let mut alloc = VcAlloc::new(7, 8);
-    let mut grants = VcGrants::new();
-    alloc.grant(waiting, &free_of(rt, out, numbers), &mut grants);
+    let mut grants = ChannelMap::new();
+    alloc.grant_waiting(waiting, &free_of(rt, out, numbers), &mut grants);
     has_channels(rt, grants.keys(), found);
 }
 
@@ -239,7 +266,8 @@ fn takes_back(rt: &impl Abort, waiting: &mut VcRequests, port: u8, vc: u8) {
 #[test]
 fn requests_are_found_by_what_they_ask(rt: HostRuntime) {
     let request = asks(2, 0b10);
-    let mut waiting = waiting_of(&rt, &[(1, 3, request), (0, 5, asks(2, 0b01))]);
+    let rows = waiting_of(&rt, &[(1, 3, request), (0, 5, asks(2, 0b01))]);
+    let mut waiting = VcRequests::from_rows(&rows);
     waits_for(&rt, &waiting, 1, 3, Some(request));
     finds(&rt, &waiting, 3, &[0, 1, 2, 3, 4, 5, 6, 7], &[]);
     finds(&rt, &waiting, 2, &[1], &[(1, 3)]);

@@ -14,7 +14,7 @@ use Rattle.worm_swalloc.proofs.FrontGiven.{length-with_front, slice_index_or-wit
 use Rattle.worm_swalloc.proofs.FrontGiven.{slice_index_or-with_front_past, with_front_kept}
 use Rattle.worm_swalloc.proofs.SwitchPass.{get_or-replicate_same}
 
-length-granted_of : (requests : List (Option SwGrant)) (set : ℕ) → length (granted_of requests set) ≡ 7
+pub length-granted_of : (requests : List (Option SwGrant)) (set : ℕ) → length (granted_of requests set) ≡ 7
 length-granted_of requests set = length-with_front 7 (granted_at requests set) (replicate 7 None) (omega arith)
 
 -- what a port is granted

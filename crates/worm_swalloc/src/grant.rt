@@ -17,7 +17,10 @@ pub struct SwGrant {
 /// The output port that each input channel would send to, by port and channel.
 pub type ReadyOuts = ChannelMap;
 
-/// What each input port may send: of what the ports named in a pass, that whose channel is in a set. So a grant is one
+/// What each input port is granted, if anything.
+pub type SwGrants = [Option<SwGrant>; 7];
+
+/// The grants of a pass as a set: of what the ports named in a pass, that whose channel is in a set. So a grant is one
 /// bit, and whoever sends takes the set alone and goes past all other ports.
 ///
 /// ```text
@@ -25,14 +28,14 @@ pub type ReadyOuts = ChannelMap;
 /// while let Some((port, vc)) = left.pop_first() { .. }
 /// ```
 #[derive(Drop)]
-pub struct SwGrants {
+pub struct SwMatching {
     /// What each input port named, granted or not.
     requests: [Option<SwGrant>; 7],
     /// The channels that may send, one of each port that has a grant.
     granted: ChannelSet,
 }
 
-impl Model for SwGrants {
+impl Model for SwMatching {
     ghost use Rattle.std.specs.Prelude.{List, Option};
     ghost use Rattle.worm_swalloc.specs.SwAlloc.{AreChannelsBelow, AreRequested, granted_of};
     ghost use Rattle.worm_swalloc.specs.declared.grant.SwGrant.{SwGrant};
@@ -44,29 +47,29 @@ impl Model for SwGrants {
     ghost invariant = { λ g. AreChannelsBelow 8 g.requests × AreRequested g.requests g.granted };
 }
 
-impl SwGrants {
+impl SwMatching {
     /// No input port may send anything.
-    pub fn new() -> SwGrants
+    pub fn new() -> SwMatching
         ensures { result ≡ replicate 7 None }
     {
         let granted = ChannelSet::new();
-        SwGrants {
+        SwMatching {
             requests: [None; 7],
             granted,
         }
     }
 
     /// Of these requests, one an input port, those whose channels are in the set.
-    pub(crate) fn among(requests: [Option<SwGrant>; 7], granted: ChannelSet) -> SwGrants
+    pub(crate) fn among(requests: [Option<SwGrant>; 7], granted: ChannelSet) -> SwMatching
         requires below { AreChannelsBelow 8 requests }
         requires requested { AreRequested requests granted }
         ensures { result ≡ granted_of requests granted }
     {
-        SwGrants { requests, granted }
+        SwMatching { requests, granted }
     }
 
     /// One input port alone is granted something.
-    pub(crate) fn sole(port: u8, grant: SwGrant) -> SwGrants
+    pub(crate) fn sole(port: u8, grant: SwGrant) -> SwMatching
         requires port { port < 7 }
         requires channel { grant.vc < 8 }
         ensures { result ≡ sole_named port (Some grant) }
@@ -75,7 +78,7 @@ impl SwGrants {
         requests[port as usize] = Some(grant);
         let mut granted = ChannelSet::new();
         granted.put(port, grant.vc, true);
-        SwGrants::among(requests, granted)
+        SwMatching::among(requests, granted)
     }
 
     /// What an input port may send, if anything.
@@ -85,6 +88,19 @@ impl SwGrants {
     {
         let request = self.requests[port as usize]?;
         self.granted.contains(port, request.vc).then_some(request)
+    }
+
+    /// What each input port may send, as an array.
+    pub fn to_array(&self) -> SwGrants
+        ensures { result ≡ self.now }
+    {
+        // The proof needs how many ports are kept.
+        let _ = &self.granted;
+        let mut grants = [None; 7];
+        for port in 0..7u8 {
+            grants[port as usize] = self.get(port);
+        }
+        grants
     }
 
     /// The channels that may send, at most one of each input port.

@@ -18,6 +18,9 @@
 //! What a pass grants is what the input ports named beside a set: the channels that are granted, a bit for each.
 //! Whoever asks for the set alone is given one word, and no table of grants is made.
 //!
+//! [`SwAlloc::grant`] takes a plain array by port and channel and answers one by port. It fills such a map and reads the
+//! grants off; a router keeps its map from turn to turn and calls [`SwAlloc::grant_ready`].
+//!
 //! It makes one pass and no second for the ports left over, so its matching need not be a largest one.
 #![tactic(auto)]
 
@@ -26,6 +29,6 @@ mod named;
 mod ready;
 mod sw_alloc;
 
-pub use grant::{ReadyOuts, SwGrant, SwGrants};
+pub use grant::{ReadyOuts, SwGrant, SwGrants, SwMatching};
 pub use ready::Ready;
 pub use sw_alloc::SwAlloc;

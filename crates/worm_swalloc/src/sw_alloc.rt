@@ -9,7 +9,7 @@ ghost use Rattle.worm_swalloc.specs.SwAlloc.{named, all_named, sole_named, IsSol
 ghost use Rattle.worm_swalloc.specs.SwAlloc.{granted, sw_grants, sw_after, output_after, after_grant, with_choice};
 ghost use Rattle.worm_swalloc.specs.SwAlloc.{with_move, AreApart, AreRequested, after_granting, granted_of};
 
-use crate::grant::{SwGrant, SwGrants};
+use crate::grant::{ReadyOuts, SwGrant, SwGrants, SwMatching};
 use crate::named::Named;
 use crate::ready::Ready;
 use std::marker::Model;
@@ -19,8 +19,8 @@ use worm_vcalloc::{Arbiter, ChannelSet};
 ///
 /// ```text
 /// let mut alloc = SwAlloc::new(5, 2);
-/// outs.set(0, 1, Some(3)); // channel 1 of input port 0 would send to output port 3
-/// let grants = alloc.grant(&Ready::new(&outs, outs.keys()));
+/// ready[0][1] = Some(3); // channel 1 of input port 0 would send to output port 3
+/// let grants = alloc.grant(&ready); // grants[0] is what input port 0 may send
 /// ```
 #[derive(Clone, Copy)]
 pub struct SwAlloc {
@@ -67,9 +67,20 @@ impl SwAlloc {
         }
     }
 
-    /// One pass over the ready channels: at most one grant for each input port and for each output
-    /// port.
-    pub fn grant(&mut self, ready: &Ready<'_>) -> SwGrants
+    /// One pass over an array by port and channel, which has the output port of each ready channel: at most one grant
+    /// for each input port and for each output port.
+    pub fn grant(&mut self, ready: &[[Option<u8>; 8]; 7]) -> SwGrants
+        ensures grants { result ≡ sw_grants self.old ready.now }
+        ensures after { self.new ≡ sw_after self.old ready.now }
+        ensures matching { IsSwitchMatching self.old ready.now result }
+    {
+        let outs = ReadyOuts::from_rows(ready);
+        let matching = self.grant_ready(&Ready::new(&outs, outs.keys()));
+        matching.to_array()
+    }
+
+    /// The same pass for a caller that keeps what is ready: it looks at no channel that is not.
+    pub fn grant_ready(&mut self, ready: &Ready<'_>) -> SwMatching
         ensures grants { result ≡ sw_grants self.old ready.now }
         ensures after { self.new ≡ sw_after self.old ready.now }
         ensures matching { IsSwitchMatching self.old ready.now result }
@@ -77,7 +88,7 @@ impl SwAlloc {
         // The proof of the first answer needs the widths of the arbiters.
         let _ = &self.ports;
         if ready.keys().is_empty() {
-            return SwGrants::new();
+            return SwMatching::new();
         }
         if let Some(port) = self.sole_port(ready) {
             let request = self.request(port, ready);
@@ -86,12 +97,12 @@ impl SwAlloc {
         let mut named = Named::new();
         self.gather(ready, &mut named);
         let granted = self.grant_named(&named);
-        SwGrants::among(named.into_requests(), granted)
+        SwMatching::among(named.into_requests(), granted)
     }
 
     /// A pass over ready channels of which no two share an input port or an output port, as where each port has one
     /// channel: no arbiter has a choice, so each of them is granted.
-    pub fn grant_each(&mut self, ready: &Ready<'_>) -> SwGrants
+    pub fn grant_each(&mut self, ready: &Ready<'_>) -> SwMatching
         requires apart { AreApart self.old ready.now }
         ensures grants { result ≡ sw_grants self.old ready.now }
         ensures after { self.new ≡ sw_after self.old ready.now }
@@ -108,7 +119,7 @@ impl SwAlloc {
             requests[port as usize] = Some(grant);
             self.move_past(port, grant);
         }
-        SwGrants::among(requests, among)
+        SwMatching::among(requests, among)
     }
 
     /// An input port is granted this: its arbiter moves past the channel, and that of the output port past the port.
@@ -201,7 +212,7 @@ impl SwAlloc {
 
     /// The second half of a pass in which one input port alone may name anything: it has no rival, so what it names is
     /// granted.
-    fn grant_sole(&mut self, port: u8, request: Option<SwGrant>) -> SwGrants
+    fn grant_sole(&mut self, port: u8, request: Option<SwGrant>) -> SwMatching
         requires port { port < self.old.ports }
         requires channel { IfSome request (λ g. g.vc < self.old.vcs) }
         ensures grants { result ≡ with_front self.old.ports (granted self.old (sole_named port request) self.old.ports)
@@ -213,13 +224,13 @@ impl SwAlloc {
     {
         let ports = self.ports;
         let Some(grant) = request else {
-            return SwGrants::new();
+            return SwMatching::new();
         };
         if grant.out >= ports {
-            return SwGrants::new();
+            return SwMatching::new();
         }
         self.move_past(port, grant);
-        SwGrants::sole(port, grant)
+        SwMatching::sole(port, grant)
     }
 
     /// The arbiter of one output port chooses, and that of the chosen input port moves.

@@ -10,7 +10,8 @@ impl From<AllocError> for NoMemory {
     }
 }
 
-/// Why a source accepts no packet or mark. Where several apply, the first in the order of this list is answered.
+/// Why a source accepts no packet or mark. Where several apply, the first in the order of this list is answered, but
+/// for the last one, which stands right behind `NoSuchClass` then.
 #[derive(Clone, Copy, Debug, PartialEq, Eq)]
 pub enum OfferFault {
     /// The lane begins at another node.
@@ -19,12 +20,13 @@ pub enum OfferFault {
     NoSuchNode,
     /// The network has no such class.
     NoSuchClass,
-    /// Of a close alone: the class owns several channels, so a mark would not be the last to arrive.
-    ManyChannels,
     /// The lane's mark was accepted before.
     LaneClosed,
     /// The lane has had 65,535 packets and marks.
     LaneFull,
     /// There was no memory for the flits.
     NoMemory,
+    /// Of a close alone: the class owns several channels, so a mark would not be the last to arrive. It is looked for
+    /// right after the class.
+    ManyChannels,
 }

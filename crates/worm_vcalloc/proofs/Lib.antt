@@ -13,3 +13,4 @@ pub mod PlacesInOrder
 pub mod PlacesKept
 pub mod RequestersHeard
 pub mod ChannelsAllowed
+pub mod RowsCopied

@@ -1,8 +1,9 @@
 ghost use Rattle.std.specs.Prelude.{◌≡◌, ℕ, ◌<◌, Some, None, is_some, replicate, true};
 ghost use Rattle.worm_vcalloc.specs.ChannelSet.{has};
-ghost use Rattle.worm_vcalloc.specs.Table.{cell, with_cell};
+ghost use Rattle.worm_vcalloc.specs.Table.{IsTable, cell, with_cell};
 
 use crate::channel_set::ChannelSet;
+use crate::rows::entry;
 use std::marker::Model;
 
 /// Numbers for some channels of a router, by port and channel.
@@ -40,6 +41,35 @@ impl ChannelMap {
             numbers: [[0; 8]; 7],
             keys: ChannelSet::new(),
         }
+    }
+
+    /// The numbers of an array by port and channel.
+    pub fn from_rows(rows: &[[Option<u8>; 8]; 7]) -> Self
+        ensures value { result ≡ rows.now }
+        ensures shape { IsTable result }
+    {
+        let mut map = ChannelMap::new();
+        for place in 0..56u8 {
+            let (port, channel) = (place / 8, place % 8);
+            let row = &rows[port as usize];
+            map.set(port, channel, entry(row, channel));
+        }
+        map
+    }
+
+    /// The numbers as an array by port and channel.
+    pub fn to_rows(&self) -> [[Option<u8>; 8]; 7]
+        ensures { result ≡ self.now }
+    {
+        // The proof needs the shape of the rows.
+        let _ = &self.keys;
+        let mut rows = [[None; 8]; 7];
+        for place in 0..56u8 {
+            let (port, channel) = (place / 8, place % 8);
+            let row = &mut rows[port as usize];
+            row[channel as usize] = self.get(port, channel);
+        }
+        rows
     }
 
     /// The number of a channel, if it has one.

@@ -11,6 +11,9 @@
 //! alone. What two files share are the requesters of an output channel, and its arbiter, kept as a place in such a
 //! word, chooses among them by a shift and a count of zeros. A [`ChannelMap`] likewise knows its keys without a scan.
 //!
+//! [`VcAlloc::grant`] takes plain arrays by port and channel and answers one. It fills such sets and reads the grants
+//! off a map; a router keeps its sets from turn to turn and calls [`VcAlloc::grant_waiting`].
+//!
 //! No allocator here is fair over several turns or finds a largest matching, and none claims it: what is
 //! promised is the exact pass, and that its grants are a matching.
 #![tactic(auto)]
@@ -20,6 +23,7 @@ mod asked;
 mod channel_map;
 mod channel_set;
 mod request;
+mod rows;
 mod vc_alloc;
 
 pub use arbiter::Arbiter;

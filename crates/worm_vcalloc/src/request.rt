@@ -3,6 +3,7 @@ ghost use Rattle.worm_vcalloc.specs.ChannelSet.{has};
 ghost use Rattle.worm_vcalloc.specs.Table.{cell, with_cell};
 
 use crate::channel_set::ChannelSet;
+use crate::rows::entry;
 use std::marker::Model;
 
 /// What an input channel waits for: one of some channels of an output port.
@@ -62,6 +63,31 @@ impl VcRequests {
             table: RequestTable {
                 rows: [[VcRequest { out: 0, allowed: 0 }; 8]; 7],
             },
+        }
+    }
+
+    /// The requests of an array by port and channel.
+    pub fn from_rows(rows: &[[Option<VcRequest>; 8]; 7]) -> Self
+        ensures { result ≡ rows.now }
+    {
+        let mut requests = VcRequests::new();
+        for place in 0..56u8 {
+            let (port, vc) = (place / 8, place % 8);
+            let row = &rows[port as usize];
+            requests.set(port, vc, entry(row, vc));
+        }
+        requests
+    }
+
+    /// From now on the input channel waits for this, or for nothing.
+    fn set(&mut self, port: u8, vc: u8, request: Option<VcRequest>)
+        requires port { port < 7 }
+        requires vc { vc < 8 }
+        ensures { self.new ≡ with_cell self.old port vc request }
+    {
+        match request {
+            Some(request) => self.add(port, vc, request),
+            None => self.remove(port, vc),
         }
     }
 

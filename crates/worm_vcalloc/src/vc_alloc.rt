@@ -5,14 +5,14 @@ ghost use Rattle.worm_vcalloc.specs.declared.request.VcRequest.{VcRequest};
 
 use crate::asked::Asked;
 use crate::channel_map::ChannelMap;
-use crate::request::VcRequests;
+use crate::request::{VcRequest, VcRequests};
 use std::marker::Model;
 
 /// Whether each output channel is free, by port and channel.
 pub type FreeChannels = [[bool; 8]; 7];
 
-/// The output channel that each input channel was granted, by port and channel.
-pub type VcGrants = ChannelMap;
+/// The output channel that each input channel is granted, if any, by port and channel.
+pub type VcGrants = [[Option<u8>; 8]; 7];
 
 /// The allocator of output channels to the input channels that wait for one (Dally and Towles,
 /// chapter 19).
@@ -24,8 +24,7 @@ pub type VcGrants = ChannelMap;
 ///
 /// ```text
 /// let mut alloc = VcAlloc::new(5, 2);
-/// let mut grants = VcGrants::new();
-/// alloc.grant(&waiting, &free, &mut grants);
+/// let grants = alloc.grant(&waiting, &free); // grants[0][1] is what channel 1 of input port 0 is granted
 /// ```
 #[derive(Clone, Copy)]
 pub struct VcAlloc {
@@ -83,10 +82,35 @@ impl VcAlloc {
         }
     }
 
-    /// One pass: each free output channel, by rising port and then channel, goes to the requester
-    /// that its arbiter picks among the input channels that may use it and have no grant yet. The grants are written
-    /// into a table of the caller's, mostly an empty one.
-    pub fn grant(&mut self, waiting: &VcRequests, free: &FreeChannels, grants: &mut VcGrants)
+    /// One pass: each free output channel, by rising port and then channel, goes to the requester that its arbiter
+    /// picks among the input channels that may use it and have no grant yet.
+    pub fn grant(
+        &mut self,
+        waiting: &[[Option<VcRequest>; 8]; 7],
+        free: &[[bool; 8]; 7],
+    ) -> VcGrants
+        ensures pass { record {
+          alloc = self.new;
+          grants = result;
+        } ≡ vc_pass waiting.now free.now (record { alloc = self.old; grants = replicate 7 (replicate 8 None) }) }
+        ensures matching { IsChannelMatching self.old.ports self.old.vcs waiting.now free.now result }
+        ensures ports { self.new.ports ≡ self.old.ports }
+        ensures vcs { self.new.vcs ≡ self.old.vcs }
+    {
+        let requests = VcRequests::from_rows(waiting);
+        let mut grants = ChannelMap::new();
+        self.grant_waiting(&requests, free, &mut grants);
+        grants.to_rows()
+    }
+
+    /// The same pass for a caller that keeps what waits: it looks at no channel that does not wait. The grants are
+    /// written into a map of the caller's, mostly an empty one.
+    pub fn grant_waiting(
+        &mut self,
+        waiting: &VcRequests,
+        free: &FreeChannels,
+        grants: &mut ChannelMap,
+    )
         ensures pass { record {
           alloc = self.new;
           grants = grants.new;
@@ -105,7 +129,7 @@ impl VcAlloc {
     }
 
     /// Offers the free channels of one output port, rising, whatever requests these are the files of.
-    fn grant_port(&mut self, out: u8, asked: &Asked, free: &FreeChannels, grants: &mut VcGrants)
+    fn grant_port(&mut self, out: u8, asked: &Asked, free: &FreeChannels, grants: &mut ChannelMap)
         requires out { out < self.old.ports }
         requires filed { (waiting : List (List (Option VcRequest)))
             × IsFiled waiting self.old.ports self.old.vcs asked.now }
@@ -125,7 +149,7 @@ impl VcAlloc {
     }
 
     /// Offers one free output channel to its requesters, whatever requests these are the files of.
-    fn offer(&mut self, out: u8, channel: u8, asked: &Asked, grants: &mut VcGrants)
+    fn offer(&mut self, out: u8, channel: u8, asked: &Asked, grants: &mut ChannelMap)
         requires out { out < self.old.ports }
         requires channel { channel < self.old.vcs }
         requires filed { (waiting : List (List (Option VcRequest)))

@@ -9,11 +9,11 @@ ghost use Rattle.worm_router.specs.Allocation.{AreHeld, LeavesRest, ready_outs, 
 
 use crate::router::Router;
 use worm_records::InRecord;
-use worm_swalloc::{Ready, SwAlloc, SwGrants};
-use worm_vcalloc::VcGrants;
+use worm_swalloc::{Ready, SwAlloc, SwGrants, SwMatching};
+use worm_vcalloc::{ChannelMap, VcGrants};
 
 /// One pass of the switch allocator over ready channels that are known to be `apart`, or are not known to be.
-fn pass(alloc: &mut SwAlloc, ready: &Ready<'_>, apart: bool) -> SwGrants
+fn pass(alloc: &mut SwAlloc, ready: &Ready<'_>, apart: bool) -> SwMatching
     requires { apart ≡ true → AreApart alloc.old ready.now }
     ensures grants { result ≡ sw_grants alloc.old ready.now }
     ensures after { alloc.new ≡ sw_after alloc.old ready.now }
@@ -22,7 +22,7 @@ fn pass(alloc: &mut SwAlloc, ready: &Ready<'_>, apart: bool) -> SwGrants
     if apart {
         alloc.grant_each(ready)
     } else {
-        alloc.grant(ready)
+        alloc.grant_ready(ready)
     }
 }
 
@@ -38,12 +38,26 @@ impl Router {
         ensures held { AreHeld self.old self.new result }
         ensures rest { LeavesRest self.old self.new result }
     {
+        self.grant_waiting().to_rows()
+    }
+
+    /// The same pass for a caller that goes over the granted channels alone.
+    pub fn grant_waiting(&mut self) -> ChannelMap
+        ensures grants { result ≡ (channel_pass self.old).grants }
+        ensures after { self.new ≡ after_allocate self.old }
+        ensures same { IsSameSize self.old self.new }
+        ensures matching { IsChannelMatching (terminal self.old + 1) (width self.old) (requests self.old)
+            (free_channels self.old) result }
+        ensures held { AreHeld self.old self.new result }
+        ensures rest { LeavesRest self.old self.new result }
+    {
         if self.allocates_nothing() {
-            return VcGrants::new();
+            return ChannelMap::new();
         }
-        let mut grants = VcGrants::new();
+        let mut grants = ChannelMap::new();
         let (requests, free) = (self.demand.requests(), self.demand.free());
-        self.channel_alloc.grant(requests, free, &mut grants);
+        self.channel_alloc
+            .grant_waiting(requests, free, &mut grants);
         let mut left = grants.keys();
         // A pass grants what is asked for and free, and nothing twice, so a grant is written without a test of that.
         while let Some((port, vc)) = left.pop_first() {
@@ -60,6 +74,15 @@ impl Router {
     /// One pass of the switch allocator over the channels that may send now (Dally and Towles, chapter 19). The
     /// arbiters of the granted ports move on; nothing is sent.
     pub fn choose(&mut self) -> SwGrants
+        ensures grants { result ≡ switch_grants self.old }
+        ensures after { self.new ≡ after_choose self.old }
+        ensures matching { IsSwitchMatching self.old.switch_alloc (ready_outs self.old) result }
+    {
+        self.grant_ready().to_array()
+    }
+
+    /// The same pass for a caller that goes over the granted channels alone.
+    pub fn grant_ready(&mut self) -> SwMatching
         ensures grants { result ≡ switch_grants self.old }
         ensures after { self.new ≡ after_choose self.old }
         ensures matching { IsSwitchMatching self.old.switch_alloc (ready_outs self.old) result }

@@ -87,6 +87,15 @@ impl Router {
         self.outputs[self.line(port, vc)]
     }
 
+    /// The flit that left this input channel last, as it left; none before any has.
+    pub fn last_out(&self, port: u8, vc: u8) -> Option<Flit>
+        requires { IsPlace self.now port vc }
+        ensures { result ≡ (input_at self.now port vc).last_out }
+    {
+        let channel = &self.inputs[self.line(port, vc)];
+        channel.last_out()
+    }
+
     /// How many credits this input channel owes.
     pub fn owed_count(&self, port: u8, vc: u8) -> u8
         requires { IsPlace self.now port vc }

@@ -2,7 +2,7 @@
 
 ghost use Rattle.std.specs.Prelude.{◌≡◌, ◌<◌, ◌≤◌};
 
-use crate::cases::{addresses_of, mesh_of};
+use crate::cases::mesh_of;
 use crate::swalloc::are_chosen;
 use crate::vcalloc::{are_granted, has_channels};
 use std::marker::Model;
@@ -90,8 +90,7 @@ impl<R: Abort + AllocGlobal + Copy> Trial<R> {
     /// The channel's packet gets its route.
     pub fn routes(&mut self, port: u8, vc: u8) {
         assert!(self.rt; port < 3 && vc < self.width);
-        let addresses = addresses_of(&self.rt, mesh_of(&self.rt, &[2]));
-        assert!(self.rt; self.router.route(port, vc, &addresses));
+        assert!(self.rt; self.router.route(port, vc));
     }
 
     /// The channel's packet is granted this channel of the port that it waits for.
@@ -132,6 +131,12 @@ impl<R: Abort + AllocGlobal + Copy> Trial<R> {
         let ready = self.router.ready(port, vc);
         let (out, flit) = ready.expect(&self.rt, "a flit that may leave");
         self.router.let_out(port, vc, out, flit);
+    }
+
+    /// The flit that left the channel last, as it left; none before any has.
+    pub fn left_last(&self, port: u8, vc: u8, flit: Option<Flit>) {
+        assert!(self.rt; port < 3 && vc < self.width);
+        assert_eq!(self.rt; self.router.last_out(port, vc), flit);
     }
 
     /// A credit that the channel owes goes out.

@@ -14,9 +14,9 @@ use Rattle.worm_region.proofs.region.Region.choose.Goals as goal
 
 -- the node's router after the pass
 chosen : (c : goal.After-granted) →
-    c.choose.new.self ≡ chosen_router (router_at c.self.inside.fabric c.args.node)
+    c.grant_ready.new.self ≡ chosen_router (router_at c.self.inside.fabric c.args.node)
 unfolding chosen_router
-chosen c = c.choose.ensures.after ∙ ap (λ (r : RouterState). chosen_router r) c.router_mut.ensures.value
+chosen c = c.grant_ready.ensures.after ∙ ap (λ (r : RouterState). chosen_router r) c.router_mut.ensures.value
 
 -- what was granted is ready
 ready : (c : goal.After-granted) →
@@ -26,15 +26,15 @@ ready c =
     (record {
       each = λ p g granted.
           named_ready c.router_mut.result.now p g.vc g.out
-          (c.choose.ensures.matching.requested p g
-          (ap (λ (gs : List (Option SwGrant)). slice_index_or gs p None) c.choose.ensures.grants ∙ granted)).0;
+          (c.grant_ready.ensures.matching.requested p g
+          (ap (λ (gs : List (Option SwGrant)). slice_index_or gs p None) c.grant_ready.ensures.grants ∙ granted)).0;
     })
 
 granted : (c : goal.After-granted) →
     AreGranted (switch_grants (router_at c.self.inside.fabric c.args.node)) c.granted.result
 granted c =
     subst (λ (r : RouterState). AreGranted (switch_grants r) c.granted.result) c.router_mut.ensures.value
-    (subst (λ (gs : List (Option SwGrant)). AreGranted gs c.granted.result) c.choose.ensures.grants c.granted.ensures)
+    (subst (λ (gs : List (Option SwGrant)). AreGranted gs c.granted.result) c.grant_ready.ensures.grants c.granted.ensures)
 
 pub invariant_of-self : goal.invariant_of-self
 invariant_of-self c =
@@ -48,7 +48,7 @@ returns-clause-reaches c =
 pub returns-clause-chooses : goal.returns-clause-chooses
 returns-clause-chooses c =
     subst (λ (s : NetState). Chooses c.args.node c.granted.result s
-    (with_router c.self.inside.fabric c.args.node c.choose.new.self)) c.self.view_is
+    (with_router c.self.inside.fabric c.args.node c.grant_ready.new.self)) c.self.view_is
     (granted c, ap (λ (r : RouterState). with_router c.self.inside.fabric c.args.node r) (chosen c))
 
 -- a channel of the set is ready, as it was before the pass
@@ -64,7 +64,7 @@ returns-clause-there c = λ p v p_in v_in is.
     let s = c.self.inside.fabric in
     let x = c.args.node in
     let here : x < node_count s.mesh = rw (c.self.view_is) c.requires in
-    let new = with_router s x c.choose.new.self in
+    let new = with_router s x c.grant_ready.new.self in
     let chosen : ReachesAt x s new = rw (chosen c) (chosen_in s x c.self.invariant here).1 in
     there_still s new x p v chosen.config (ready_there s x p v c.self.invariant here (ready_at c p v p_in v_in is))
 

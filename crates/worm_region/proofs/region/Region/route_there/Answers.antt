@@ -20,13 +20,8 @@ place : (c : After-self) → IsNetPlace c.self.inside.fabric c.args.node c.args.
 place c =
     place_inside _ c.args.self.now c.args.node c.args.port c.args.vc c.self.view_is c.self.invariant.framed c.requires
 
-pub route-requires-clause-place : goal.route-requires-clause-place
-route-requires-clause-place c = place (goal.at.route-requires-clause-place c).After-self
-
-pub route-requires-clause-mesh : goal.route-requires-clause-mesh
-route-requires-clause-mesh c =
-    (c.self.invariant.framed.each_node c.args.node
-    (place (goal.at.route-requires-clause-mesh c).After-self).node_in).same_mesh
+pub route-requires : goal.route-requires
+route-requires c = place (goal.at.route-requires c).After-self
 
 -- what it leaves, and what its answer means
 routed : (c : After-route) →

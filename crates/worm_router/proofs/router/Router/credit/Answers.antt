@@ -18,7 +18,7 @@ use Rattle.worm_router.proofs.router.Router.credit.Goals as goal
 credited : (c : After-add_credit) (no_credit : ℕ)
     → MatchOption c.add_credit.new.self.holder (no_credit ≡ c.self.inside.busy.no_credit)
     (λ place. IsFiled c.self.inside.busy.no_credit no_credit place.0 place.1 false)
-    → IsKept (router_state c.self.inside.mesh c.self.inside.node c.self.inside.classes c.self.inside.depth
+    → IsKept (router_state c.self.inside.routes.mesh c.self.inside.routes.node c.self.inside.classes c.self.inside.depth
     c.self.inside.inputs.items (slice_set c.self.inside.outputs.items c.line-o.result c.add_credit.new.self)
     c.self.inside.channel_alloc c.self.inside.switch_alloc) (record c.self.inside.busy { no_credit = no_credit })
     c.self.inside.demand c.self.inside.masks
@@ -35,7 +35,7 @@ credited c no_credit filed_so =
           all_outputs = grind (arith, common_steps);
           inputs_sound = c.self.invariant.router.lists.inputs_sound;
           credits_fit = grind (arith, elements);
-          terminal_full = full_after c.self.inside.outputs.items (2 * length c.self.inside.mesh)
+          terminal_full = full_after c.self.inside.outputs.items (2 * length c.self.inside.routes.mesh)
               (sum c.self.inside.classes) c.self.inside.depth c.line-o.result c.add_credit.new.self
               (free_output c.self.inside.depth) within c.self.invariant.router.lists.terminal_full
               (λ vc below same. absurd (let full = full_before c.self.inside.outputs.items _ _ _ _ _ within

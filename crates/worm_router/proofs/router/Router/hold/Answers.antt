@@ -45,12 +45,12 @@ invariant_of-self c =
           depth_in = c.self.invariant.router.lists.depth_in;
           all_inputs = rw length-set c.self.invariant.router.lists.all_inputs;
           all_outputs = rw length-set c.self.invariant.router.lists.all_outputs;
-          inputs_sound = All-set (IsChannel c.self.inside.mesh c.self.inside.classes c.self.inside.depth)
+          inputs_sound = All-set (IsChannel c.self.inside.routes.mesh c.self.inside.classes c.self.inside.depth)
               c.self.inside.inputs.items c.line-i.result c.activate.new.self
               (state_sound _ _ _ _ _ (Active c.args.out c.args.out_vc) had
               (output.place.port_in, output.place.channel_in) active) c.self.invariant.router.lists.inputs_sound;
           credits_fit = grind (arith, elements);
-          terminal_full = full_after c.self.inside.outputs.items (2 * length c.self.inside.mesh)
+          terminal_full = full_after c.self.inside.outputs.items (2 * length c.self.inside.routes.mesh)
               (sum c.self.inside.classes) c.self.inside.depth c.line-o.result c.grant.new.self
               (free_output c.self.inside.depth) within c.self.invariant.router.lists.terminal_full
               (λ vc below same. ap (λ (v : OutRecord). v.credits) c.grant.ensures

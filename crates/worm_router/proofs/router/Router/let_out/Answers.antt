@@ -14,7 +14,7 @@ use Rattle.worm_router.proofs.router.Router.let_out.Goals as goal
 
 abbrev was : After-index_mut-output → RouterState
 was c =
-    router_state c.self.inside.mesh c.self.inside.node c.self.inside.classes c.self.inside.depth
+    router_state c.self.inside.routes.mesh c.self.inside.routes.node c.self.inside.classes c.self.inside.depth
     c.self.inside.inputs.items c.self.inside.outputs.items c.self.inside.channel_alloc c.self.inside.switch_alloc
 
 -- what leaves, as it was read
@@ -39,6 +39,9 @@ line-o-requires c =
     c.requires.ready in
     record { port_in = there.out_in; channel_in = there.channel_in }
 
+pub spend-requires-clause-there : goal.spend-requires-clause-there
+spend-requires-clause-there c = (leaves (goal.at.spend-requires-clause-there c).After-index_mut-output).enough
+
 pub close-requires : goal.close-requires
 close-requires c =
     let it = leaves (goal.at.close-requires c).After-index_mut-output in
@@ -51,7 +54,7 @@ release-requires c =
 
 -- it is out, and filed so
 out : (c : After-make_room)
-    → IsLeaving (router_state c.self.inside.mesh c.self.inside.node c.self.inside.classes c.self.inside.depth
+    → IsLeaving (router_state c.self.inside.routes.mesh c.self.inside.routes.node c.self.inside.classes c.self.inside.depth
     c.self.inside.inputs.items c.self.inside.outputs.items c.self.inside.channel_alloc c.self.inside.switch_alloc)
     c.self.inside.busy c.args.port c.args.vc c.line-i.result c.args.out c.args.flit.vc c.line-o.result
     c.index_mut-channel.result.now c.index_mut-output.result.now c.credit_of-spent.result c.credit_of-more_owed.result

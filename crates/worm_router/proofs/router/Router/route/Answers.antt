@@ -1,5 +1,5 @@
 use Rattle.worm_flit.specs.Channels.{class_bits}
-use Rattle.std.proofs.Common.{ℕ, List, refl, slice_get, Some, sym, subst, ap, ◌∙◌, inr, ◌≡◌, ◌≤◌, ◌*◌, length}
+use Rattle.std.proofs.Common.{refl, slice_get, Some, sym, ap, ◌∙◌, inr, ◌≡◌}
 use Rattle.std.proofs.lemmas.List.Elements.{All-set}
 use Rattle.worm_router.specs.Allocation.{asking}
 use Rattle.worm_router.specs.Demand.{DemandView}
@@ -22,10 +22,10 @@ use Rattle.worm_router.proofs.router.Router.route.Goals.{in-Idle, in_default}
 pub route_to-requires : goal.route_to-requires
 route_to-requires c =
     let input = input_of _ c.args.self.now c.args.port c.args.vc c.line-i.result c.index_mut-channel.result.now
-    c.self.view_is c.requires.place c.line-i.ensures.value c.line-i.ensures.in_inputs
+    c.self.view_is c.requires c.line-i.ensures.value c.line-i.ensures.in_inputs
     c.index_mut-channel.ensures.value in
     let read = input_of _ c.args.self.now c.args.port c.args.vc c.line-i.result c.index-channel.result.now
-    c.self.view_is c.requires.place c.line-i.ensures.value c.line-i.ensures.in_inputs c.index-channel.ensures in
+    c.self.view_is c.requires c.line-i.ensures.value c.line-i.ensures.in_inputs c.index-channel.ensures in
     let idle : c.state.result ≡ Idle = elim c.match-matches.branch [
       | in-Idle w ↦ w.in-Idle.is
       | in_default w ↦ absurd (cc)
@@ -35,12 +35,12 @@ route_to-requires c =
 pub invariant_of-self : goal.invariant_of-self
 invariant_of-self c =
     let input = input_of _ c.args.self.now c.args.port c.args.vc c.line-i.result c.index_mut-channel.result.now
-    c.self.view_is c.requires.place c.line-i.ensures.value c.line-i.ensures.in_inputs
+    c.self.view_is c.requires c.line-i.ensures.value c.line-i.ensures.in_inputs
     c.index_mut-channel.ensures.value in
     let had = read_sound _ _ _ _ _ c.index_mut-channel.result.now c.index_mut-channel.ensures.value input.within
     c.self.invariant.router.lists.inputs_sound in
     let read = input_of _ c.args.self.now c.args.port c.args.vc c.line-i.result c.index-channel.result.now
-    c.self.view_is c.requires.place c.line-i.ensures.value c.line-i.ensures.in_inputs c.index-channel.ensures in
+    c.self.view_is c.requires c.line-i.ensures.value c.line-i.ensures.in_inputs c.index-channel.ensures in
     let idle : c.state.result ≡ Idle = elim c.match-matches.branch [
       | in-Idle w ↦ w.in-Idle.is
       | in_default w ↦ absurd (cc)
@@ -56,9 +56,7 @@ invariant_of-self c =
       router = record {
         lists = input_set_sound _ _ _ _ _ _ _ _ c.self.invariant.router.lists
             (state_sound _ _ _ _ _ (Waiting c.port-out.result) had
-            (subst (λ (r : RouterState). c.port-out.result ≤ 2 * length r.mesh) (sym c.self.view_is)
-            (subst (λ (mesh : List ℕ). c.port-out.result ≤ 2 * length mesh) c.requires.mesh
-            c.port-out.ensures.port)) c.route_to.ensures);
+            c.port-out.ensures.bound c.route_to.ensures);
         allocators = c.self.invariant.router.allocators;
       };
       arbiters = c.self.invariant.arbiters;

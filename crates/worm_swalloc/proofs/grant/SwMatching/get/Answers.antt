@@ -3,7 +3,7 @@ use Rattle.std.specs.Bool.{then_some}
 use Rattle.worm_swalloc.specs.declared.grant.SwGrant.{SwGrant}
 use Rattle.worm_swalloc.specs.SwAlloc.{if_in}
 use Rattle.worm_swalloc.proofs.GrantsOfSet.{grant_at}
-use Rattle.worm_swalloc.proofs.grant.SwGrants.get.Goals as goal
+use Rattle.worm_swalloc.proofs.grant.SwMatching.get.Goals as goal
 
 pub returns-in_err-request : goal.returns-in_err-request
 returns-in_err-request c =

@@ -1,5 +1,5 @@
 use Rattle.worm_swalloc.proofs.GrantsOfSet.{are_granted}
-use Rattle.worm_swalloc.proofs.grant.SwGrants.granted.Goals as goal
+use Rattle.worm_swalloc.proofs.grant.SwMatching.granted.Goals as goal
 
 pub returns : goal.returns
 returns c = rw (← c.self.view_is)

@@ -8,7 +8,7 @@ use Rattle.worm_router.proofs.GrantsWritten.{writing_begins, has_grant}
 use Rattle.worm_router.proofs.Grantable.{grantable}
 use Rattle.worm_router.proofs.GrantsHeld.{IsPassed, passed_by, next_place, next_held, next_waits, next_written}
 use Rattle.worm_router.proofs.NothingLeft.{nothing_left}
-use Rattle.worm_router.proofs.router.Router.allocate.Goals as goal
+use Rattle.worm_router.proofs.router.Router.grant_waiting.Goals as goal
 
 pub returns-then-allocates_nothing-clause-grants : goal.returns-then-allocates_nothing-clause-grants
 returns-then-allocates_nothing-clause-grants c =
@@ -26,8 +26,8 @@ loop-port-init c = writing_begins _ _ _ c.keys-left.ensures
 pub in_record-requires : goal.in_record-requires
 in_record-requires c =
     let given = grantable _ _ _ _ _ _ _ c.self.invariant c.requests-requests.ensures c.free-free.ensures
-    (c.grant.ensures.matching c.new-grants.ensures) in
-    next_place _ c.grant.new.self _ given _ _ _ _ _ c.loop-port.invariant c.in-Some.ensures
+    (c.grant_waiting.ensures.matching c.new-grants.ensures) in
+    next_place _ c.grant_waiting.new.self _ given _ _ _ _ _ c.loop-port.invariant c.in-Some.ensures
 
 pub number-out_vc-requires-clause-within : goal.number-out_vc-requires-clause-within
 number-out_vc-requires-clause-within c = has_grant _ _ _ _ c.loop-port.invariant _ _ _ c.in-Some.ensures
@@ -35,35 +35,35 @@ number-out_vc-requires-clause-within c = has_grant _ _ _ _ c.loop-port.invariant
 pub hold-requires-clause-place : goal.hold-requires-clause-place
 hold-requires-clause-place c =
     let given = grantable _ _ _ _ _ _ _ c.self.invariant c.requests-requests.ensures c.free-free.ensures
-    (c.grant.ensures.matching c.new-grants.ensures) in
-    next_place _ c.grant.new.self _ given _ _ _ _ _ c.loop-port.invariant c.in-Some.ensures
+    (c.grant_waiting.ensures.matching c.new-grants.ensures) in
+    next_place _ c.grant_waiting.new.self _ given _ _ _ _ _ c.loop-port.invariant c.in-Some.ensures
 
 pub hold-requires-clause-out_place : goal.hold-requires-clause-out_place
 hold-requires-clause-out_place c =
     let given = grantable _ _ _ _ _ _ _ c.self.invariant c.requests-requests.ensures c.free-free.ensures
-    (c.grant.ensures.matching c.new-grants.ensures) in
-    (next_held _ c.grant.new.self _ given _ _ _ _ _ c.loop-port.invariant c.in-Some.ensures _ _
+    (c.grant_waiting.ensures.matching c.new-grants.ensures) in
+    (next_held _ c.grant_waiting.new.self _ given _ _ _ _ _ c.loop-port.invariant c.in-Some.ensures _ _
     (sym c.number-out_vc.ensures) (sym c.in_record.ensures ∙ c.in-Waiting.is)).out_place
 
 pub hold-requires-clause-free : goal.hold-requires-clause-free
 hold-requires-clause-free c =
     let given = grantable _ _ _ _ _ _ _ c.self.invariant c.requests-requests.ensures c.free-free.ensures
-    (c.grant.ensures.matching c.new-grants.ensures) in
-    (next_held _ c.grant.new.self _ given _ _ _ _ _ c.loop-port.invariant c.in-Some.ensures _ _
+    (c.grant_waiting.ensures.matching c.new-grants.ensures) in
+    (next_held _ c.grant_waiting.new.self _ given _ _ _ _ _ c.loop-port.invariant c.in-Some.ensures _ _
     (sym c.number-out_vc.ensures) (sym c.in_record.ensures ∙ c.in-Waiting.is)).free
 
 pub loop-port-preserved-in-Waiting : goal.loop-port-preserved-in-Waiting
 loop-port-preserved-in-Waiting c =
     let given = grantable _ _ _ _ _ _ _ c.self.invariant c.requests-requests.ensures c.free-free.ensures
-    (c.grant.ensures.matching c.new-grants.ensures) in
-    next_written _ c.grant.new.self _ given _ _ _ _ _ c.loop-port.invariant c.in-Some.ensures _ _
+    (c.grant_waiting.ensures.matching c.new-grants.ensures) in
+    next_written _ c.grant_waiting.new.self _ given _ _ _ _ _ c.loop-port.invariant c.in-Some.ensures _ _
     (sym c.number-out_vc.ensures) (sym c.in_record.ensures ∙ c.in-Waiting.is) _ c.hold.ensures
 
 pub loop-port-preserved : goal.loop-port-preserved
 loop-port-preserved c =
     let given = grantable _ _ _ _ _ _ _ c.self.invariant c.requests-requests.ensures c.free-free.ensures
-    (c.grant.ensures.matching c.new-grants.ensures) in
-    let waits = next_waits _ c.grant.new.self _ given _ _ _ _ _ c.loop-port.invariant c.in-Some.ensures _
+    (c.grant_waiting.ensures.matching c.new-grants.ensures) in
+    let waits = next_waits _ c.grant_waiting.new.self _ given _ _ _ _ _ c.loop-port.invariant c.in-Some.ensures _
     (sym c.number-out_vc.ensures) in
     absurd (c.in_default-in_record.not-Waiting waits.0 (c.in_record.ensures ∙ waits.1))
 
@@ -77,17 +77,17 @@ from_none waiting free a grants = ap (λ g. vc_pass waiting free (record { alloc
 pub set_grants_nothing-requires : goal.set_grants_nothing-requires
 set_grants_nothing-requires c =
     let given = grantable _ _ _ _ _ _ _ c.self.invariant c.requests-requests.ensures c.free-free.ensures
-    (c.grant.ensures.matching c.new-grants.ensures) in
+    (c.grant_waiting.ensures.matching c.new-grants.ensures) in
     nothing_left _ _ _ _ _ given (passed_by _ _ _ _ _ _ _ _ _ _ _ refl c.self.invariant c.requests-requests.ensures
-    c.free-free.ensures (c.grant.ensures.pass ∙ from_none _ _ _ _ c.new-grants.ensures)
-    (c.grant.ensures.matching c.new-grants.ensures) c.loop-port.invariant
+    c.free-free.ensures (c.grant_waiting.ensures.pass ∙ from_none _ _ _ _ c.new-grants.ensures)
+    (c.grant_waiting.ensures.matching c.new-grants.ensures) c.loop-port.invariant
     c.in_default.ensures.0) c.self-2.view_is c.self-2.invariant.demand
 
-passed : (c : goal.After-set_grants_nothing) → IsPassed c.args.self.now c.loop-port.self c.grant.new.grants
+passed : (c : goal.After-set_grants_nothing) → IsPassed c.args.self.now c.loop-port.self c.grant_waiting.new.grants
 passed c =
     passed_by _ c.args.self.now _ _ _ _ _ _ _ _ _ c.self.view_is c.self.invariant c.requests-requests.ensures
-    c.free-free.ensures (c.grant.ensures.pass ∙ from_none _ _ _ _ c.new-grants.ensures)
-    (c.grant.ensures.matching c.new-grants.ensures) c.loop-port.invariant c.in_default.ensures.0
+    c.free-free.ensures (c.grant_waiting.ensures.pass ∙ from_none _ _ _ _ c.new-grants.ensures)
+    (c.grant_waiting.ensures.matching c.new-grants.ensures) c.loop-port.invariant c.in_default.ensures.0
 
 pub returns-clause-after : goal.returns-clause-after
 returns-clause-after c = c.self-2.view_is ∙ (passed c).after
@@ -97,9 +97,9 @@ returns-clause-same c = subst (IsSameSize c.args.self.now) (sym c.self-2.view_is
 
 pub returns-clause-held : goal.returns-clause-held
 returns-clause-held c =
-    subst (λ (r : RouterState). AreHeld c.args.self.now r c.grant.new.grants) (sym c.self-2.view_is) (passed c).held
+    subst (λ (r : RouterState). AreHeld c.args.self.now r c.grant_waiting.new.grants) (sym c.self-2.view_is) (passed c).held
 
 pub returns-clause-rest : goal.returns-clause-rest
 returns-clause-rest c =
-    subst (λ (r : RouterState). LeavesRest c.args.self.now r c.grant.new.grants) (sym c.self-2.view_is)
+    subst (λ (r : RouterState). LeavesRest c.args.self.now r c.grant_waiting.new.grants) (sym c.self-2.view_is)
     (passed c).rest

@@ -1,6 +1,6 @@
 use Rattle.std.proofs.Common.{◌∙◌}
 use Rattle.worm_swalloc.proofs.GrantsOfSet.{sole_below, sole_requested, sole_granted_of}
-use Rattle.worm_swalloc.proofs.grant.SwGrants.sole.Goals as goal
+use Rattle.worm_swalloc.proofs.grant.SwMatching.sole.Goals as goal
 
 pub among-requires-clause-below : goal.among-requires-clause-below
 among-requires-clause-below c = sole_below c.args.port c.args.grant c.requires.port c.requires.channel

@@ -5,7 +5,7 @@ use Rattle.worm_vcalloc.specs.VcAlloc.{VcAllocState, VcPass, vc_pass}
 use Rattle.worm_vcalloc.proofs.AskedPassed.{passed_start, passed_more, passed_all}
 use Rattle.worm_vcalloc.proofs.PassMatches.{matching_of}
 use Rattle.worm_vcalloc.proofs.PlacesKept.{IsVcAlloc-placed}
-use Rattle.worm_vcalloc.proofs.vc_alloc.VcAlloc.grant.Goals as goal
+use Rattle.worm_vcalloc.proofs.vc_alloc.VcAlloc.grant_waiting.Goals as goal
 
 pub loop-out-init : goal.loop-out-init
 loop-out-init c =

@@ -9,11 +9,11 @@ use Rattle.worm_router.proofs.FullBuffers.{full_as}
 use Rattle.worm_router.proofs.NothingReady.{arbiters_stay}
 use Rattle.worm_router.proofs.ReadyApart.{ready_apart}
 use Rattle.worm_router.proofs.ReadyOuts.{first_of, ready_table}
-use Rattle.worm_router.proofs.router.Router.choose.Goals as goal
+use Rattle.worm_router.proofs.router.Router.grant_ready.Goals as goal
 
 -- the router as the code has it
 abbrev here : goal.After-pass → RouterState
-here c = router_state c.self.inside.mesh c.self.inside.node c.self.inside.classes c.self.inside.depth
+here c = router_state c.self.inside.routes.mesh c.self.inside.routes.node c.self.inside.classes c.self.inside.depth
     c.self.inside.inputs.items c.self.inside.outputs.items c.self.inside.channel_alloc c.self.inside.switch_alloc
 
 pub invariant_of-self : goal.invariant_of-self
@@ -72,7 +72,7 @@ new-ready-requires c = λ p v p_in v_in there. first_of _ _ _ _ (sym (c.ready-am
 -- where each port has one channel, they are apart
 pub pass-requires : goal.pass-requires
 pass-requires c = λ one.
-    let r : RouterState = router_state c.self.inside.mesh c.self.inside.node c.self.inside.classes c.self.inside.depth
+    let r : RouterState = router_state c.self.inside.routes.mesh c.self.inside.routes.node c.self.inside.classes c.self.inside.depth
     c.self.inside.inputs.items c.self.inside.outputs.items c.self.inside.channel_alloc c.self.inside.switch_alloc in
     let ready : c.new-ready.result ≡ ready_outs r =
     c.new-ready.ensures ∙ ready_table r _ _ _ c.ready-among.result c.self.invariant c.ready-among.ensures in
