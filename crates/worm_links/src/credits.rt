@@ -5,6 +5,7 @@ ghost use Rattle.crossbeam_queue.specs.Passes.{view, IsPassOf, IsSamePass};
 ghost use Rattle.worm_links.specs.History.{sender, taker, whole};
 ghost use Rattle.worm_links.specs.Links.{no_link, opened, link_capacity, IsCreditHistory};
 
+use crate::apart::Apart;
 use crate::history::{Known, Naming, Opened, Reunion, Roles};
 use crate::{LinkCfg, LinkFault};
 use crossbeam_queue::protocol::{Lesson, Outcome, Protocol};
@@ -70,7 +71,7 @@ impl Lesson<u8, CreditKnown> for Takes {
     ghost fact = { HoldsRest (λ c. c) (λ c. ⊤) IsCreditHistory };
 }
 
-/// The sender's end of a credit line: it knows all that was sent. It may lie in a `Vec` and go to another thread.
+/// The sender's end of a credit line. It may lie in a `Vec` and go to another thread.
 ///
 /// ```
 /// let (mut tx, mut rx) = credit_line(alloc, cfg)?;
@@ -80,7 +81,7 @@ impl Lesson<u8, CreditKnown> for Takes {
 #[derive(Drop)]
 pub struct CreditTx {
     // The queue, which the other end shares.
-    line: Arc<CreditLine>,
+    line: Arc<Apart<CreditLine>>,
     // What this end may do with it, and knows of it.
     pass: CreditPass,
 }
@@ -100,11 +101,11 @@ impl Model for CreditTx {
       sent = (knows t.pass).sent;
     } };
 
-    ghost invariant = { λ t. IsSender IsCreditHistory (arc_value t.line) t.pass
+    ghost invariant = { λ t. IsSender IsCreditHistory (arc_value t.line).queue t.pass
         (link_capacity (knows t.pass).link.cfg) };
 }
 
-/// The taker's end of a credit line: it knows all that was taken. It may lie in a `Vec` and go to another thread.
+/// The taker's end of a credit line. It may lie in a `Vec` and go to another thread.
 ///
 /// ```
 /// while let Some(channel) = rx.pop() {
@@ -114,7 +115,7 @@ impl Model for CreditTx {
 #[derive(Drop)]
 pub struct CreditRx {
     // The queue, which the other end shares.
-    line: Arc<CreditLine>,
+    line: Arc<Apart<CreditLine>>,
     // What this end may do with it, and knows of it.
     pass: CreditPass,
 }
@@ -134,10 +135,10 @@ impl Model for CreditRx {
       taken = (knows t.pass).taken;
     } };
 
-    ghost invariant = { λ t. IsTaker IsCreditHistory (arc_value t.line) t.pass };
+    ghost invariant = { λ t. IsTaker IsCreditHistory (arc_value t.line).queue t.pass };
 }
 
-/// Both ends of a credit line, together again: they know all that was sent and all that was taken.
+/// Both ends of a credit line, together again.
 ///
 /// ```
 /// let mut ends = reunite_credits(tx, rx);
@@ -146,7 +147,7 @@ impl Model for CreditRx {
 #[derive(Drop)]
 pub struct CreditEnds {
     // The queue, which the other end shares.
-    line: Arc<CreditLine>,
+    line: Arc<Apart<CreditLine>>,
     // What the ends may do with it, and know of it.
     whole: CreditPass,
 }
@@ -167,7 +168,7 @@ impl Model for CreditEnds {
       taken = (knows t.whole).taken;
     } };
 
-    ghost invariant = { λ t. IsWhole IsCreditHistory (arc_value t.line) t.whole };
+    ghost invariant = { λ t. IsWhole IsCreditHistory (arc_value t.line).queue t.whole };
 }
 
 // Divides the first pass of a queue into those of a sender and a taker of the link that `B` names.
@@ -181,10 +182,7 @@ fn divide<B: Naming>(line: &CreditLine, pass: &mut CreditPass, cfg: LinkCfg) -> 
     line.another::<Roles<B>>(pass)
 }
 
-/// The ends of a new credit line of the link, whose queue has room for the link's channels times its depth of credits.
-/// A credit continues nothing, so there is no other way to open it.
-///
-/// There are 1 to 8 channels and 1 to 17 places of depth. `NoMemory` where memory is refused.
+/// The ends of a new credit line of the link, whose queue has room for channels times depth credits.
 pub fn credit_line(alloc: Global, cfg: LinkCfg) -> Result<(CreditTx, CreditRx), LinkFault>
     requires channels { (0 < cfg.channels) × (cfg.channels ≤ 8) }
     requires depth { (0 < cfg.depth) × (cfg.depth ≤ 17) }
@@ -195,7 +193,7 @@ pub fn credit_line(alloc: Global, cfg: LinkCfg) -> Result<(CreditTx, CreditRx), 
     let capacity = usize::from(cfg.channels) * usize::from(cfg.depth);
     let (line, mut tx) = CreditLine::ruled(alloc, capacity)?;
     let rx = divide::<Brand>(&line, &mut tx, cfg);
-    let Ok(line) = Arc::new(alloc, line) else {
+    let Ok(line) = Arc::new(alloc, Apart::new(line)) else {
         return Err(LinkFault::NoMemory);
     };
     let theirs = Arc::try_clone(&line)?;
@@ -215,15 +213,16 @@ impl CreditTx {
         let _ = &self.pass;
     }
 
-    /// Sends a credit for the channel. `Err` gives it back and changes nothing: the queue is full, so at least channels
-    /// times depth credits were sent.
+    /// Sends a credit for the channel. `Err` gives it back: the queue is full.
     pub fn push<R: Wait>(&mut self, rt: &R, channel: u8) -> Result<(), u8>
         requires { channel < self.old.link.channels }
         ensures sent { IfOk result (λ _. self.new ≡ record self.old { sent = self.old.sent ++ channel ∷ [] }) }
         ensures back { IfErr result (λ back. (back ≡ channel) × (self.new ≡ self.old)) }
         ensures full { IfErr result (λ _. link_capacity self.old.link ≤ length self.old.sent) }
     {
-        self.line.push_as::<Sends, R>(rt, &mut self.pass, channel)
+        self.line
+            .queue
+            .push_as::<Sends, R>(rt, &mut self.pass, channel)
     }
 }
 
@@ -242,11 +241,11 @@ impl CreditRx {
             ≡ record self.old { taken = self.old.taken ++ channel ∷ [] }) }
         ensures channel { IfSome result (λ channel. channel < self.old.link.channels) }
     {
-        self.line.try_pop_as::<Takes>(&mut self.pass)
+        self.line.queue.try_pop_as::<Takes>(&mut self.pass)
     }
 }
 
-/// Both ends of one credit line, together again. They know what the sender knew and what the taker knew.
+/// Both ends of one credit line, together again.
 pub fn reunite_credits(tx: CreditTx, rx: CreditRx) -> CreditEnds
     requires { tx.queue ≡ rx.queue }
     ensures { result ≡ record { link = tx.link; queue = rx.queue; sent = tx.sent; taken = rx.taken } }
@@ -259,8 +258,8 @@ pub fn reunite_credits(tx: CreditTx, rx: CreditRx) -> CreditEnds
         line,
         pass: mut taken,
     } = rx;
-    line.absorb::<Reunion>(&mut taken, sent);
-    line.learn_as::<Takes>(&mut taken);
+    line.queue.absorb::<Reunion>(&mut taken, sent);
+    line.queue.learn_as::<Takes>(&mut taken);
     CreditEnds { line, whole: taken }
 }
 
@@ -282,6 +281,6 @@ impl CreditEnds {
         ensures sent { IfSome result (λ channel. (rest : List _) × (self.old.sent ≡ self.new.taken ++ rest)) }
         ensures channel { IfSome result (λ channel. channel < self.old.link.channels) }
     {
-        self.line.pop_as::<Takes, R>(rt, &mut self.whole)
+        self.line.queue.pop_as::<Takes, R>(rt, &mut self.whole)
     }
 }

@@ -8,6 +8,7 @@ ghost use Rattle.worm_flit.specs.Worms.{Continues};
 ghost use Rattle.worm_links.specs.History.{sender, taker, whole};
 ghost use Rattle.worm_links.specs.Links.{no_link, opened, link_capacity, AreWorms, IsWord, MayCross, IsLinkHistory};
 
+use crate::apart::Apart;
 use crate::history::{Known, Naming, Opened, Reunion, Roles};
 use crate::{LinkCfg, LinkFault};
 use crossbeam_queue::protocol::{Lesson, Outcome, Protocol};
@@ -75,7 +76,7 @@ impl Lesson<u128, FlitKnown> for Takes {
     ghost fact = { HoldsRest flit_of IsWord IsLinkHistory };
 }
 
-/// The sender's end of a link: it knows all that was sent. It may lie in a `Vec` and go to another thread.
+/// The sender's end of a link. It may lie in a `Vec` and go to another thread.
 ///
 /// ```
 /// let (mut tx, mut rx) = link(alloc, cfg)?;
@@ -85,7 +86,7 @@ impl Lesson<u128, FlitKnown> for Takes {
 #[derive(Drop)]
 pub struct FlitTx {
     // The queue, which the other end shares.
-    line: Arc<FlitLine>,
+    line: Arc<Apart<FlitLine>>,
     // What this end may do with it, and knows of it.
     pass: FlitPass,
 }
@@ -106,10 +107,10 @@ impl Model for FlitTx {
       sent = (knows t.pass).sent;
     } };
 
-    ghost invariant = { λ t. IsSender IsLinkHistory (arc_value t.line) t.pass (link_capacity (knows t.pass).link.cfg) };
+    ghost invariant = { λ t. IsSender IsLinkHistory (arc_value t.line).queue t.pass (link_capacity (knows t.pass).link.cfg) };
 }
 
-/// The taker's end of a link: it knows all that was taken. It may lie in a `Vec` and go to another thread.
+/// The taker's end of a link. It may lie in a `Vec` and go to another thread.
 ///
 /// ```
 /// while let Some(flit) = rx.pop() {
@@ -119,7 +120,7 @@ impl Model for FlitTx {
 #[derive(Drop)]
 pub struct FlitRx {
     // The queue, which the other end shares.
-    line: Arc<FlitLine>,
+    line: Arc<Apart<FlitLine>>,
     // What this end may do with it, and knows of it.
     pass: FlitPass,
 }
@@ -140,10 +141,10 @@ impl Model for FlitRx {
       taken = (knows t.pass).taken;
     } };
 
-    ghost invariant = { λ t. IsTaker IsLinkHistory (arc_value t.line) t.pass };
+    ghost invariant = { λ t. IsTaker IsLinkHistory (arc_value t.line).queue t.pass };
 }
 
-/// Both ends of a link, together again: they know all that was sent and all that was taken.
+/// Both ends of a link, together again.
 ///
 /// ```
 /// let mut ends = reunite(tx, rx);
@@ -152,7 +153,7 @@ impl Model for FlitRx {
 #[derive(Drop)]
 pub struct Ends {
     // The queue, which the other end shares.
-    line: Arc<FlitLine>,
+    line: Arc<Apart<FlitLine>>,
     // What the ends may do with it, and know of it.
     whole: FlitPass,
 }
@@ -174,7 +175,7 @@ impl Model for Ends {
       taken = (knows t.whole).taken;
     } };
 
-    ghost invariant = { λ t. IsWhole IsLinkHistory (arc_value t.line) t.whole };
+    ghost invariant = { λ t. IsWhole IsLinkHistory (arc_value t.line).queue t.whole };
 }
 
 /// The flits that a link's first flits continue, channel by channel: the proof of a call of [`link_after`] picks them.
@@ -203,10 +204,7 @@ fn divide<B: Naming>(line: &FlitLine, pass: &mut FlitPass, cfg: LinkCfg) -> Flit
     line.another::<Roles<B>>(pass)
 }
 
-/// The ends of a new link, whose queue has room for the link's channels times its depth of flits. The first flit of a
-/// channel may be any.
-///
-/// There are 1 to 8 channels and 1 to 17 places of depth. `NoMemory` where memory is refused.
+/// The ends of a new link, whose queue has room for channels times depth flits. The first flit of a channel may be any.
 pub fn link(alloc: Global, cfg: LinkCfg) -> Result<(FlitTx, FlitRx), LinkFault>
     requires channels { (0 < cfg.channels) × (cfg.channels ≤ 8) }
     requires depth { (0 < cfg.depth) × (cfg.depth ≤ 17) }
@@ -221,8 +219,6 @@ pub fn link(alloc: Global, cfg: LinkCfg) -> Result<(FlitTx, FlitRx), LinkFault>
 /// The ends of a new link over which other flits are held to have gone before: on each channel the first flit continues
 /// the last of those. They exist for contracts alone, so nothing is pushed and no memory is taken for them. A call
 /// picks them in its proof, or is generic in `B` itself.
-///
-/// There are 1 to 8 channels and 1 to 17 places of depth. `NoMemory` where memory is refused.
 pub fn link_after<B: Opening>(alloc: Global, cfg: LinkCfg) -> Result<(FlitTx, FlitRx), LinkFault>
     requires channels { (0 < cfg.channels) × (cfg.channels ≤ 8) }
     requires depth { (0 < cfg.depth) × (cfg.depth ≤ 17) }
@@ -235,7 +231,7 @@ pub fn link_after<B: Opening>(alloc: Global, cfg: LinkCfg) -> Result<(FlitTx, Fl
     let capacity = usize::from(cfg.channels) * usize::from(cfg.depth);
     let (line, mut tx) = FlitLine::ruled(alloc, capacity)?;
     let rx = divide::<Brand>(&line, &mut tx, cfg);
-    let Ok(line) = Arc::new(alloc, line) else {
+    let Ok(line) = Arc::new(alloc, Apart::new(line)) else {
         return Err(LinkFault::NoMemory);
     };
     let theirs = Arc::try_clone(&line)?;
@@ -283,8 +279,7 @@ impl FlitTx {
         let _ = &self.pass;
     }
 
-    /// Sends the flit, which may cross the link and continues the last flit of its channel. `Err` gives it back and
-    /// changes nothing: the queue is full, so at least channels times depth flits were sent.
+    /// Sends the flit. `Err` gives it back: the queue is full.
     pub fn push<R: Wait>(&mut self, rt: &R, flit: Flit) -> Result<(), Flit>
         requires continues { Continues (on_channel flit.vc (self.old.past ++ self.old.sent)) flit }
         requires crossing { MayCross self.old.link flit }
@@ -292,7 +287,7 @@ impl FlitTx {
         ensures back { IfErr result (λ back. (back ≡ flit) × (self.new ≡ self.old)) }
         ensures full { IfErr result (λ _. link_capacity self.old.link ≤ length self.old.sent) }
     {
-        send(rt, &self.line, &mut self.pass, flit)
+        send(rt, &self.line.queue, &mut self.pass, flit)
     }
 }
 
@@ -304,8 +299,7 @@ impl FlitRx {
         let _ = &self.pass;
     }
 
-    /// The next flit that was sent; `None` where none stands in the queue yet. It continues what was taken on its
-    /// channel and may cross the link, as the sender proved: nothing is looked up, and it waits for nothing.
+    /// The next flit that was sent; `None` where none stands in the queue yet. It waits for nothing.
     pub fn pop(&mut self) -> Option<Flit>
         ensures none { IfNone result (self.new ≡ self.old) }
         ensures taken { IfSome result (λ flit. self.new ≡ record self.old { taken = self.old.taken ++ flit ∷ [] }) }
@@ -313,12 +307,12 @@ impl FlitRx {
             (on_channel flit.vc (self.old.past ++ self.old.taken)) flit) }
         ensures crossing { IfSome result (λ flit. MayCross self.old.link flit) }
     {
-        let word = self.line.try_pop_as::<Takes>(&mut self.pass)?;
+        let word = self.line.queue.try_pop_as::<Takes>(&mut self.pass)?;
         Some(flit_in(word))
     }
 }
 
-/// Both ends of one link, together again. They know what the sender knew and what the taker knew.
+/// Both ends of one link, together again.
 pub fn reunite(tx: FlitTx, rx: FlitRx) -> Ends
     requires { tx.queue ≡ rx.queue }
     ensures { result ≡ record { link = tx.link; past = tx.past; queue = rx.queue; sent = tx.sent; taken = rx.taken } }
@@ -331,8 +325,8 @@ pub fn reunite(tx: FlitTx, rx: FlitRx) -> Ends
         line,
         pass: mut taken,
     } = rx;
-    line.absorb::<Reunion>(&mut taken, sent);
-    line.learn_as::<Takes>(&mut taken);
+    line.queue.absorb::<Reunion>(&mut taken, sent);
+    line.queue.learn_as::<Takes>(&mut taken);
     Ends { line, whole: taken }
 }
 
@@ -354,7 +348,7 @@ impl Ends {
             (on_channel flit.vc (self.old.past ++ self.old.taken)) flit) }
         ensures crossing { IfSome result (λ flit. MayCross self.old.link flit) }
     {
-        let next = self.line.pop_as::<Takes, R>(rt, &mut self.whole)?;
+        let next = self.line.queue.pop_as::<Takes, R>(rt, &mut self.whole)?;
         Some(flit_in(next))
     }
 }

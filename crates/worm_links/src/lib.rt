@@ -1,16 +1,15 @@
-//! The two queues of a link between neighbouring routers, whose ends lie in any two threads: flits go one way, credits
+//! The two queues of a link between neighbouring routers, whose ends lie in any two threads. Flits go one way, credits
 //! the other (Dally and Towles, chapters 12 and 13).
 //!
-//! One idea carries both: the sender's end knows all that was sent, the taker's end all that was taken, and one rule of
-//! the queue ties them, whoever runs when: what was sent is what was taken, and then what the queue holds. What was
-//! sent is a history of the link: each flit may cross it, and on each channel they are a worm. So the taker, who never
-//! sees what was sent, has that of what it took, with no check as it takes. Together again, the ends know both lists.
+//! The sender's end knows all that was sent, the taker's end all that was taken. One rule of the queue ties them,
+//! whoever runs when: what was sent is what was taken, and then what the queue holds. The rule also says that what was
+//! sent is a history of the link. So the taker, who never sees what was sent, needs no check of what it takes.
 //!
-//! The queues are lock-free and bounded, and hold a flit as one word of 128 bits. Only making them takes memory.
-//! Nothing here waits for room or for a flit; a push, and a pop of what is left at the end, may yet wait within its
-//! queue, so that they return is not claimed, nor that a flit is ever taken, nor when.
+//! The queues are lock-free and bounded. Only making them takes memory. No call waits for room or for a flit. A push
+//! and a pop of what is left may wait within their queue, so it is not claimed that they return.
 #![tactic(auto)]
 
+mod apart;
 mod credits;
 mod flits;
 mod history;
