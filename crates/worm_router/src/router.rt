@@ -67,11 +67,11 @@ impl Model for Router {
 
     ghost Value = { RouterState };
 
-    ghost view = { λ r. router_state r.routes.mesh r.routes.node r.classes r.depth r.inputs.items r.outputs.items r.channel_alloc
-        r.switch_alloc };
+    ghost view = { λ r. router_state r.routes.mesh r.routes.node r.classes r.depth r.inputs.items r.outputs.items
+        r.channel_alloc r.switch_alloc };
 
-    ghost invariant = { λ r. IsKept (router_state r.routes.mesh r.routes.node r.classes r.depth r.inputs.items r.outputs.items
-        r.channel_alloc r.switch_alloc) r.busy r.demand r.masks };
+    ghost invariant = { λ r. IsKept (router_state r.routes.mesh r.routes.node r.classes r.depth r.inputs.items
+        r.outputs.items r.channel_alloc r.switch_alloc) r.busy r.demand r.masks };
 }
 
 /// A flit goes out by a channel of a port at which it costs so many credits: one, or none where it leaves the network.

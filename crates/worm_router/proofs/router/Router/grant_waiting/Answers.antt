@@ -97,7 +97,8 @@ returns-clause-same c = subst (IsSameSize c.args.self.now) (sym c.self-2.view_is
 
 pub returns-clause-held : goal.returns-clause-held
 returns-clause-held c =
-    subst (λ (r : RouterState). AreHeld c.args.self.now r c.grant_waiting.new.grants) (sym c.self-2.view_is) (passed c).held
+    subst (λ (r : RouterState). AreHeld c.args.self.now r c.grant_waiting.new.grants) (sym c.self-2.view_is)
+    (passed c).held
 
 pub returns-clause-rest : goal.returns-clause-rest
 returns-clause-rest c =

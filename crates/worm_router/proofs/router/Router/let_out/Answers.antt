@@ -54,7 +54,8 @@ release-requires c =
 
 -- it is out, and filed so
 out : (c : After-make_room)
-    → IsLeaving (router_state c.self.inside.routes.mesh c.self.inside.routes.node c.self.inside.classes c.self.inside.depth
+    → IsLeaving (router_state c.self.inside.routes.mesh c.self.inside.routes.node c.self.inside.classes
+    c.self.inside.depth
     c.self.inside.inputs.items c.self.inside.outputs.items c.self.inside.channel_alloc c.self.inside.switch_alloc)
     c.self.inside.busy c.args.port c.args.vc c.line-i.result c.args.out c.args.flit.vc c.line-o.result
     c.index_mut-channel.result.now c.index_mut-output.result.now c.credit_of-spent.result c.credit_of-more_owed.result

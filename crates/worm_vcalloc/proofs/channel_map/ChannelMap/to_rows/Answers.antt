@@ -10,9 +10,11 @@ loop-place-init c = copied_none None c.args.self.now (replicate 7 (replicate 8 N
 
 pub loop-place-preserved : goal.loop-place-preserved
 loop-place-preserved c =
-    subst (λ x. IsCopied None c.args.self.now (with_cell c.loop-place.rows (c.loop-place.place / 8) (c.loop-place.place % 8) x) (c.loop-place.place + 1))
+    let port = c.loop-place.place / 8 in
+    let channel = c.loop-place.place % 8 in
+    subst (λ x. IsCopied None c.args.self.now (with_cell c.loop-place.rows port channel x) (c.loop-place.place + 1))
     (sym c.get.ensures)
-    (copied_more None c.args.self.now c.loop-place.rows c.loop-place.place (c.loop-place.place / 8) (c.loop-place.place % 8) c.loop-place.invariant
+    (copied_more None c.args.self.now c.loop-place.rows c.loop-place.place port channel c.loop-place.invariant
     c.loop-place-test.true refl refl)
 
 pub returns : goal.returns

@@ -7,7 +7,8 @@ use Rattle.worm_vcalloc.proofs.request.VcRequests.from_rows.Goals as goal
 
 pub loop-place-init : goal.loop-place-init
 loop-place-init c = (
-  copied_none None c.args.rows.now c.new-requests.result (subst IsTable (sym c.new-requests.ensures) (IsTable-replicate None)),
+  copied_none None c.args.rows.now c.new-requests.result
+      (subst IsTable (sym c.new-requests.ensures) (IsTable-replicate None)),
   λ p below. absurd (omega (arith, below)),
 )
 
