@@ -1,6 +1,6 @@
 -- A network split among workers: what each has at first, and what the last of them keeps.
-use Rattle.std.specs.Prelude.{◌≡◌, ℕ, ◌*◌, ◌<◌, ◌≤◌, ◌%◌, List, [], length, sum, replicate, slice_index_or, All, Some, true}
-use Rattle.std.specs.Prelude.{vec_capacity}
+use Rattle.std.specs.Prelude.{◌≡◌, ℕ, ◌*◌, ◌<◌, ◌≤◌, ◌%◌, List, [], length, sum, replicate, slice_index_or, All}
+use Rattle.std.specs.Prelude.{Some, true, vec_capacity}
 use Rattle.worm_mesh.specs.Address.{node_count}
 use Rattle.worm_mesh.specs.Links.{link_count, links_before}
 use Rattle.worm_mesh.specs.declared.mesh.LinkEnds.{LinkEnds}
